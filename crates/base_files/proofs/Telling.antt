@@ -1,0 +1,42 @@
+-- Laws of what is told: adding and taking in steps, and what may have been added at most.
+use Rattle.std.proofs.Common.{◌≡◌, ℕ, ◌≤◌, List, [], ◌++◌, take, drop, length, Option, None, Some, refl, sym, ap, ◌∙◌, subst, append_assoc, append-nil, take-append-drop}
+use Rattle.base_files.specs.Told.{adds, before, Grew, IsPrefix}
+
+-- nothing added
+pub adds-nil : (told : Option (List ℕ)) → adds told [] ≡ told
+adds-nil None = refl
+adds-nil (Some told) = ap (λ (l : List ℕ). Some l) (append-nil told)
+
+-- bytes added one after the other are added together
+pub adds-append : (told : Option (List ℕ)) (xs ys : List ℕ) → adds told (xs ++ ys) ≡ adds (adds told xs) ys
+adds-append None xs ys = refl
+adds-append (Some told) xs ys = ap (λ (l : List ℕ). Some l) (sym (append_assoc told xs ys))
+
+-- nothing in front
+pub before-nil : (told : Option (List ℕ)) → before [] told ≡ told
+before-nil None = refl
+before-nil (Some told) = refl
+
+-- bytes in front, one after the other
+pub before-append : (xs ys : List ℕ) (told : Option (List ℕ)) → before (xs ++ ys) told ≡ before xs (before ys told)
+before-append xs ys None = refl
+before-append xs ys (Some told) = ap (λ (l : List ℕ). Some l) (append_assoc xs ys told)
+
+-- what is told grew where it is the same
+pub Grew-refl : (told : Option (List ℕ)) → Grew told told
+Grew-refl None = tt
+Grew-refl (Some told) = ([], sym (append-nil told))
+
+-- what is told grew where bytes were added
+pub Grew-adds : (told : Option (List ℕ)) (bytes : List ℕ) → Grew told (adds told bytes)
+Grew-adds None bytes = tt
+Grew-adds (Some told) bytes = (bytes, refl)
+
+-- what grew twice grew
+pub Grew-trans : (a b c : Option (List ℕ)) → Grew a b → Grew b c → Grew a c
+Grew-trans None None None p q = tt
+Grew-trans None None (Some z) p q = absurd q
+Grew-trans None (Some y) c p q = absurd p
+Grew-trans (Some x) None c p q = absurd p
+Grew-trans (Some x) (Some y) None p q = absurd q
+Grew-trans (Some x) (Some y) (Some z) p q = (p.0 ++ q.0, q.1 ∙ ap (λ (l : List ℕ). l ++ q.0) p.1 ∙ append_assoc x p.0 q.0)

@@ -1,0 +1,6 @@
+pub mod Counters
+pub mod Told
+pub mod Chosen
+pub mod Causes
+pub mod Parts
+pub mod Inputs
