@@ -1,5 +1,5 @@
 -- The index file `.si4`, as far as the games are found by it. Scid's format si4, version 400.
-use Rattle.std.specs.Prelude.{◌≡◌, ◌≤◌, ℕ, zero, suc, ◌+◌, ◌*◌, ◌/◌, ◌%◌, List, [], ◌∷◌, ◌++◌, All, length, take, drop, codes}
+use Rattle.std.specs.Prelude.{◌≡◌, ◌≤◌, ◌<◌, ℕ, zero, suc, ◌+◌, ◌*◌, ◌/◌, ◌%◌, List, [], ◌∷◌, ◌++◌, length, take, drop, codes}
 use Rattle.byteorder.specs.Endian.{big_number}
 use Rattle.shell_session.specs.declared.index_file.Extent.{Extent}
 
@@ -19,10 +19,9 @@ game_count index = field 14 3 index
 abbrev pub extent_of : List ℕ → Extent
 extent_of entry = record { offset = field 0 4 entry; len = field 4 2 entry + 65536 * (field 6 1 entry / 128) }
 
--- the extents of the first n games; the entries of 47 bytes follow the header of 182
-abbrev pub extents : List ℕ → ℕ → List Extent
-extents index zero = []
-extents index (suc n) = extents index n ++ extent_of (drop (182 + 47 * n) index) ∷ []
+-- where the record of game i stands; the entries of 47 bytes follow the header of 182
+abbrev pub extent_at : List ℕ → ℕ → Extent
+extent_at index i = extent_of (drop (182 + 47 * i) index)
 
 -- a record within the games file that crosses no end of a block of 131,072 bytes
 pub record IsPlaced (games_len : ℕ) (extent : Extent) : Type 0 where
@@ -39,8 +38,18 @@ pub record HasEntries (index : List ℕ) : Type 0 where
 -- an index that the program reads, beside a games file of so many bytes
 pub record IsIndex (index : List ℕ) (games_len : ℕ) : Type 0 where
   pub entries : HasEntries index
-  pub placed : All (IsPlaced games_len) (extents index (game_count index))
+  pub placed : (i : ℕ) → i < game_count index → IsPlaced games_len (extent_at index i)
 
--- the bytes of a record
-abbrev pub record_at : List ℕ → Extent → List ℕ
-record_at games extent = take extent.len (drop extent.offset games)
+-- the bytes of a record in the games file
+abbrev pub record_in : List ℕ → Extent → List ℕ
+record_in games extent = take extent.len (drop extent.offset games)
+
+-- the records of the first n games
+abbrev pub records : List ℕ → List ℕ → ℕ → List (List ℕ)
+records index games zero = []
+records index games (suc n) = records index games n ++ record_in games (extent_at index n) ∷ []
+
+-- the bytes of the records of the first n games, all told
+abbrev pub records_len : List ℕ → ℕ → ℕ
+records_len index zero = 0
+records_len index (suc n) = records_len index n + (extent_at index n).len

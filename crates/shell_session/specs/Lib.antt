@@ -1,2 +1,4 @@
-pub mod Words
+pub mod HitText
+pub mod ExitCodes
 pub mod IndexFile
+pub mod Words

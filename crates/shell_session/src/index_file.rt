@@ -1,7 +1,7 @@
 //! The index file `.si4`, as far as the games are found by it.
 
-ghost use Rattle.std.specs.Prelude.{◌≡◌, ◌↔◌, ◌≤◌, ◌<◌, ◌+◌, ◌*◌, ◌^◌, All, length, drop, IsTrue};
-ghost use Rattle.shell_session.specs.IndexFile.{HasEntries, IsIndex, IsPlaced, extent_of, extents, game_count};
+ghost use Rattle.std.specs.Prelude.{◌≡◌, ◌↔◌, ◌≤◌, ◌<◌, ℕ, ◌+◌, ◌*◌, ◌^◌, length, IsTrue};
+ghost use Rattle.shell_session.specs.IndexFile.{HasEntries, IsIndex, IsPlaced, extent_at, game_count};
 
 use byteorder::{BigEndian, ByteOrder};
 
@@ -53,10 +53,10 @@ fn has_entries(index: &[u8]) -> bool
 /// Whether each record lies in its place.
 fn are_placed(index: &[u8], games_len: u64) -> bool
     requires { HasEntries index.now }
-    ensures { IsTrue result ↔ All (IsPlaced games_len) (extents index.now (game_count index.now)) }
+    ensures { IsTrue result ↔ ((i : ℕ) → i < game_count index.now → IsPlaced games_len (extent_at index.now i)) }
 {
     for game in 0..count_of(index) {
-        if !is_placed(extent_at(index, game), games_len) {
+        if !is_placed(extent_of_game(index, game), games_len) {
             return false;
         }
     }
@@ -66,16 +66,15 @@ fn are_placed(index: &[u8], games_len: u64) -> bool
 /// The header's number of games.
 pub(crate) fn count_of(index: &[u8]) -> u32
     requires { 182 ≤ length index.now }
-    ensures count { result ≡ game_count index.now }
-    ensures three_bytes { result < 2 ^ 24 }
+    ensures { result ≡ game_count index.now }
 {
     BigEndian::read_u24(&index[14..])
 }
 
 /// Where the record of a game stands.
-pub(crate) fn extent_at(index: &[u8], game: u32) -> Extent
+pub(crate) fn extent_of_game(index: &[u8], game: u32) -> Extent
     requires { 229 + 47 * game ≤ length index.now }
-    ensures extent { result ≡ extent_of (drop (182 + 47 * game) index.now) }
+    ensures extent { result ≡ extent_at index.now game }
     ensures four_bytes { result.offset < 2 ^ 32 }
 {
     let entry = &index[HEADER_LEN + ENTRY_LEN * game as usize..];

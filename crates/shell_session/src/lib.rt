@@ -1,5 +1,7 @@
 //! The session of `scid_shell`: its words, its files and its input in, one text out.
 #![tactic(auto)]
 
+mod hit_text;
 mod index_file;
+pub mod status;
 mod words;
