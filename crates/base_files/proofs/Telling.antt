@@ -1,6 +1,6 @@
 -- Laws of what is told: adding and taking in steps, and what may have been added at most.
 use Rattle.std.proofs.Common.{◌≡◌, ℕ, ◌≤◌, List, [], ◌++◌, take, drop, length, Option, None, Some, refl, sym, ap, ◌∙◌, subst, append_assoc, append-nil, take-append-drop}
-use Rattle.base_files.specs.Told.{adds, before, Grew, IsPrefix}
+use Rattle.base_files.specs.Told.{adds, before, Grew, IsPrefix, Advanced}
 
 -- nothing added
 pub adds-nil : (told : Option (List ℕ)) → adds told [] ≡ told
@@ -40,3 +40,15 @@ Grew-trans None (Some y) c p q = absurd p
 Grew-trans (Some x) None c p q = absurd p
 Grew-trans (Some x) (Some y) None p q = absurd q
 Grew-trans (Some x) (Some y) (Some z) p q = (p.0 ++ q.0, q.1 ∙ ap (λ (l : List ℕ). l ++ q.0) p.1 ∙ append_assoc x p.0 q.0)
+
+-- what is told advanced where bytes were taken from its front
+pub advances : (bytes : List ℕ) (old new : Option (List ℕ)) → old ≡ before bytes new → Advanced old new
+advances bytes None None taken = tt
+advances bytes None (Some new) taken = cc
+advances bytes (Some old) None taken = cc
+advances bytes (Some old) (Some new) taken = (bytes, cc)
+
+-- what is told advanced where bytes were taken from its front twice
+pub advances_twice : (xs ys : List ℕ) (a b c : Option (List ℕ)) → a ≡ before xs b → b ≡ before ys c → Advanced a c
+advances_twice xs ys a b c first second =
+    advances (xs ++ ys) a c (first ∙ ap (before xs) second ∙ sym (before-append xs ys c))

@@ -4,3 +4,8 @@ pub mod Chosen
 pub mod Causes
 pub mod Parts
 pub mod Inputs
+pub mod Planned
+pub mod Feeds
+pub mod FeedStore
+pub mod Trays
+pub mod Shelves

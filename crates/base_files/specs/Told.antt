@@ -36,3 +36,10 @@ Grew None None = ⊤
 Grew None (Some new) = ⊥
 Grew (Some old) None = ⊥
 Grew (Some old) (Some new) = IsPrefix old new
+
+-- what is told now is the end of what was told before: an object that tells goes on telling
+abbrev pub Advanced : Option (List ℕ) → Option (List ℕ) → Type 0
+Advanced None None = ⊤
+Advanced None (Some new) = ⊥
+Advanced (Some old) None = ⊥
+Advanced (Some old) (Some new) = (front : List ℕ) × (old ≡ front ++ new)

@@ -1,6 +1,6 @@
 //! Reading a source to its end, up to a limit.
 ghost use Rattle.std.specs.Prelude.{◌≡◌, ◌+◌, ◌<◌, ◌≤◌, [], length, IfErr};
-ghost use Rattle.base_files.specs.Told.{before, Tells};
+ghost use Rattle.base_files.specs.Told.{before, Tells, Advanced};
 ghost use Rattle.base_files.specs.Causes.{HasCause};
 ghost use Rattle.base_files.specs.Inputs.{IfWhole, IfTooLong, MoreThan};
 
@@ -21,6 +21,7 @@ pub enum Input {
 const PIECE: usize = 4096;
 
 /// Reads the source to its end, where that comes within `limit` bytes. At most `limit + 1` bytes are read.
+#[tactic(auto, using(crate::proofs::Telling::advances))]
 pub fn read_to_limit<S: Source>(
     alloc: Global,
     source: &mut S,
@@ -32,6 +33,7 @@ pub fn read_to_limit<S: Source>(
     ensures within { IfWhole result (λ bytes. length bytes ≤ limit) }
     ensures too_long { IfTooLong result (MoreThan limit (S.left source.old)) }
     ensures spent_too_much { IfTooLong result (S.budget source.new + limit < S.budget source.old) }
+    ensures advanced { Advanced (S.left source.old) (S.left source.new) }
     ensures spends { S.budget source.new ≤ S.budget source.old }
     ensures counts { S.faults source.old ≤ S.faults source.new }
     ensures cause { IfErr result (λ e. HasCause e (S.faults source.old) (S.faults source.new)) }

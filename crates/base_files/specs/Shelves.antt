@@ -1,0 +1,26 @@
+-- The files of a base in memory (this project's own).
+use Rattle.std.specs.Prelude.{ℕ, List, [], length}
+use Rattle.base_files.specs.Planned.{Calls}
+use Rattle.base_files.specs.Chosen.{Choice}
+
+-- the three contents, the names that were chosen, the known length of the games file, the bytes asked of it, and the calls
+pub record Shelf : Type 0 where
+  pub index : List ℕ
+  pub names : List ℕ
+  pub games : List ℕ
+  pub choices : List Choice
+  pub known : ℕ
+  pub asked : ℕ
+  pub calls : Calls
+
+-- three contents of which nothing was asked yet, and the numbers of the calls that are to fail
+abbrev pub new_shelf : List ℕ → List ℕ → List ℕ → List ℕ → Shelf
+new_shelf index names games fails = record {
+  index = index;
+  names = names;
+  games = games;
+  choices = [];
+  known = 0;
+  asked = 0;
+  calls = record { planned = fails; made = 0; faults = 0 };
+}

@@ -1,0 +1,142 @@
+//! The files of a base in memory.
+ghost use Rattle.std.specs.Prelude.{◌≡◌, ℕ, ◌+◌, ◌<◌, ◌≤◌, [], ◌∷◌, ◌++◌, length, take, Some, IfOk, IfErr, OnOk, OnErr, IsErrOf, MatchResult};
+ghost use Rattle.base_files.specs.Counters.{Rose, raised};
+ghost use Rattle.base_files.specs.Told.{Tells, TellsLength, part_told};
+ghost use Rattle.base_files.specs.Chosen.{Choice, choice};
+ghost use Rattle.base_files.specs.Parts.{of_part};
+ghost use Rattle.base_files.specs.Causes.{HasCause};
+ghost use Rattle.base_files.specs.Planned.{Calls, Served, FailedAsPlanned, Refused};
+ghost use Rattle.base_files.specs.Shelves.{Shelf, new_shelf};
+
+use crate::chosen::Choices;
+use crate::faults::{DeviceError, Failed};
+use crate::files::Files;
+use crate::part::Part;
+use crate::plan::Plan;
+use std::alloc::Global;
+use std::marker::Model;
+
+/// Three contents in memory, which are always there.
+#[derive(Drop)]
+pub struct MemFiles {
+    index: Vec<u8>,
+    names: Vec<u8>,
+    games: Vec<u8>,
+    choices: Choices,
+    known: u64,
+    asked: u64,
+    plan: Plan,
+}
+
+impl Model for MemFiles {
+    ghost use Rattle.std.specs.Prelude.{◌≤◌, length};
+    ghost use Rattle.base_files.specs.Shelves.{Shelf};
+
+    ghost Value = { Shelf };
+
+    ghost view = { λ files. record {
+      index = files.index.items;
+      names = files.names.items;
+      games = files.games.items;
+      choices = files.choices;
+      known = files.known;
+      asked = files.asked;
+      calls = files.plan;
+    } };
+
+    ghost invariant = { λ files. files.known ≤ length files.games.items };
+}
+
+impl MemFiles {
+    /// Files of these contents. The calls of these numbers fail, counted from 0.
+    pub fn new(index: Vec<u8>, names: Vec<u8>, games: Vec<u8>, fails: Vec<u64>) -> MemFiles
+        ensures { result ≡ new_shelf index.items names.items games.items fails.items }
+    {
+        MemFiles {
+            choices: Choices::new(*index.allocator()),
+            index,
+            names,
+            games,
+            known: 0,
+            asked: 0,
+            plan: Plan::new(fails),
+        }
+    }
+
+    /// The contents of the index file.
+    pub fn index(&self) -> &[u8]
+        ensures { result.now ≡ self.now.index }
+    {
+        self.index.as_slice()
+    }
+
+    /// The contents of the names file.
+    pub fn names(&self) -> &[u8]
+        ensures { result.now ≡ self.now.names }
+    {
+        self.names.as_slice()
+    }
+
+    /// The contents of the games file.
+    pub fn games(&self) -> &[u8]
+        ensures { result.now ≡ self.now.games }
+    {
+        self.games.as_slice()
+    }
+
+    /// How many bytes of the games file were asked for, up to 18,446,744,073,709,551,615.
+    pub fn asked(&self) -> u64
+        ensures { result ≡ self.now.asked }
+    {
+        self.asked
+    }
+}
+
+impl Files for MemFiles {
+    ghost index = { λ files. Some files.index };
+
+    ghost names = { λ files. Some files.names };
+
+    ghost games = { λ files. Some files.games };
+
+    ghost faults = { λ files. files.calls.faults };
+
+    ghost asked = { λ files. files.asked };
+
+    ghost known = { λ files. files.known };
+
+    ghost choices = { λ files. files.choices };
+
+    fn choose(&mut self, name: &str, create: bool) -> Result<(), DeviceError> {
+        if self.choices.add(name, create).is_err() {
+            self.plan.pass();
+            return Err(DeviceError::Memory);
+        }
+        self.plan.begin()?;
+        Ok(())
+    }
+
+    fn load(&mut self, alloc: Global, part: Part) -> Result<Vec<u8>, DeviceError> {
+        self.plan.begin()?;
+        let bytes = match part {
+            Part::Index => &self.index,
+            Part::Names => &self.names,
+        };
+        Ok(Vec::from_slice(alloc, bytes)?)
+    }
+
+    fn games_len(&mut self) -> Result<u64, Failed> {
+        self.plan.begin()?;
+        self.known = self.games.len() as u64;
+        Ok(self.known)
+    }
+
+    fn read_games(&mut self, offset: u64, len: u32, into: &mut [u8]) -> Result<(), Failed> {
+        self.asked = self.asked.saturating_add(len as u64);
+        self.plan.begin()?;
+        let start = offset as usize;
+        let len = len as usize;
+        into[..len].copy_from_slice(&self.games[start..start + len]);
+        Ok(())
+    }
+}
