@@ -52,7 +52,8 @@ impl Board {
         ensures man { result ≡ man_at self.now s }
         ensures squares { length self.now ≡ 64 }
     {
-        self.cells[s.index() as usize]
+        let number = s.index() as usize;
+        self.cells[number]
     }
 
     /// Puts `man` on the square `s`, or empties it.

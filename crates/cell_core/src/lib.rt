@@ -15,3 +15,6 @@ pub use packed::{PackedBoard, pack, unpack};
 pub use square::Square;
 pub use step::Move;
 pub use text::Text;
+
+#[cfg(test)]
+mod tests;

@@ -1,0 +1,14 @@
+/// Why a text is no position in Forsyth-Edwards Notation.
+#[derive(Clone, Copy, Debug, PartialEq, Eq)]
+pub enum FenFault {
+    /// The field with this number, counted from 1, is malformed; a seventh field is `Field(7)`.
+    Field(u8),
+    /// A side has not exactly one king.
+    Kings,
+    /// A pawn stands on the first or the last rank.
+    Pawns,
+    /// A side has more than 16 men.
+    TooMany,
+    /// The side that is not to move is in check.
+    InCheck,
+}
