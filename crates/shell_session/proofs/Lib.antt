@@ -1,1 +1,3 @@
+pub mod FindLines
 pub mod HitLines
+pub mod Progress
