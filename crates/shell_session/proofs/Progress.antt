@@ -1,7 +1,7 @@
 -- How far a replay has come in a record, and how it goes on.
 use Rattle.std.proofs.lemmas.List.{drop_all}
 use Rattle.std.proofs.lemmas.Option.{slice_get_within}
-use Rattle.std.proofs.Common.{zero, suc, subst, sym, ◌≡◌, ◌≢◌, ℕ, ◌+◌, ◌<◌, option_and_then, List, [], ◌∷◌, ◌++◌, Option, Some, None, option_map, length, slice_get, refl, ap, ◌∙◌, append_assoc, arith, length-append, length-drop, drop, drop-cons, get_or, add-one}
+use Rattle.std.proofs.Common.{zero, suc, subst, sym, ◌≡◌, ℕ, ◌+◌, ◌<◌, option_and_then, List, [], ◌∷◌, ◌++◌, Option, Some, None, option_map, length, slice_get, refl, ap, ◌∙◌, append_assoc, arith, length-append, length-drop, drop, drop-cons, get_or, add-one}
 use Rattle.shell_session.specs.declared.placed.Placed.{Placed}
 use Rattle.shell_session.specs.Placed.{FirstPly, HitAt}
 use Rattle.shell_session.specs.PlainRecord.{after, placed, plain_move, positions_from, start}

@@ -1,6 +1,6 @@
 -- The replay by effects of a plain record: the moves of a game from the standard start, in the numbers and values of
 -- this project's own packed moves.
-use Rattle.std.specs.Prelude.{ℕ, ◌+◌, ◌-◌, ◌*◌, ◌/◌, ◌%◌, ◌==◌, ◌&&◌, ◌||◌, not, nat_lt, nat_le, Bool, true, false, if◌then◌else◌, List, [], ◌∷◌, ◌++◌, Option, Some, None, is_none, option_map, option_and_then, length, position, replicate, slice_get, slice_index_or, slice_set}
+use Rattle.std.specs.Prelude.{ℕ, ◌+◌, ◌-◌, ◌*◌, ◌/◌, ◌%◌, ◌==◌, ◌&&◌, ◌||◌, not, nat_lt, nat_le, Bool, true, false, if◌then◌else◌, List, [], ◌∷◌, ◌++◌, Option, Some, None, is_none, option_map, option_and_then, position, replicate, slice_get, slice_index_or, slice_set}
 use Rattle.std.specs.List.{swap_remove}
 use Rattle.std.specs.Option.{option_map_or}
 use Rattle.cell_core.specs.Board.{Men, man_at, put}

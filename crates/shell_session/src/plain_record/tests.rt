@@ -5,10 +5,10 @@ use cell_core::{Board, Colour, Kind, Man, Square};
 /// The board of the standard start with the white pawn on e4 and the black one on d5.
 fn e4_d5() -> Placed {
     let mut board = Replay::start().board;
-    put(&mut board, 12, None);
-    put(&mut board, 28, pawn(Colour::White));
-    put(&mut board, 51, None);
-    put(&mut board, 35, pawn(Colour::Black));
+    board.set(Square::at(12), None);
+    board.set(Square::at(28), pawn(Colour::White));
+    board.set(Square::at(51), None);
+    board.set(Square::at(35), pawn(Colour::Black));
     Placed {
         board,
         side: Colour::White,
@@ -20,12 +20,6 @@ fn pawn(colour: Colour) -> Option<Man> {
         colour,
         kind: Kind::Pawn,
     })
-}
-
-fn put(board: &mut Board, square: u8, man: Option<Man>)
-    requires { square < 64 }
-{
-    board.set(Square::at(square), man);
 }
 
 // The moves of each record are in the comment above it; the board sought stands after e4 d5.

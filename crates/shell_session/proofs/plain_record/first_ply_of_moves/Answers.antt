@@ -1,4 +1,4 @@
-use Rattle.std.proofs.Common.{◌+◌, ◌<◌, ◌≡◌, length, sym, ◌∙◌, arith}
+use Rattle.std.proofs.Common.{◌+◌, ◌<◌, length, sym, arith}
 use Rattle.shell_session.proofs.Progress.{Progress-last, Progress-next}
 use Rattle.shell_session.proofs.plain_record.first_ply_of_moves.Goals as goal
 
