@@ -12,11 +12,11 @@ abbrev pub magic : List ℕ
 magic = codes "Scid.si" ++ 0 ∷ []
 
 -- the header's number of games
-abbrev pub game_count : List ℕ → ℕ
+unfoldable pub game_count : List ℕ → ℕ
 game_count index = field 14 3 index
 
 -- where a game's record stands: the offset in bytes 0 to 3 of its entry; the length's low 16 bits in bytes 4 and 5, and its highest in bit 7 of byte 6
-abbrev pub extent_of : List ℕ → Extent
+unfoldable pub extent_of : List ℕ → Extent
 extent_of entry = record { offset = field 0 4 entry; len = field 4 2 entry + 65536 * (field 6 1 entry / 128) }
 
 -- where the record of game i stands; the entries of 47 bytes follow the header of 182

@@ -1,8 +1,11 @@
+pub mod Endings
 pub mod ExitCodes
 pub mod FindLine
 pub mod HitText
 pub mod IndexFile
 pub mod Placed
 pub mod PlainRecord
+pub mod Refusals
 pub mod Session
 pub mod Words
+pub mod Stops

@@ -1,9 +1,7 @@
 -- What a session answers, of what it was given, in terms of plain lists. This project's own.
-use Rattle.std.specs.Prelude.{◌≡◌, ◌≤◌, ◌<◌, ℕ, ◌+◌, ◌⊎◌, ⊤, List, [], ◌∷◌, ◌++◌, All, length, Option, Some, None, IsSome, true, false}
+use Rattle.std.specs.Prelude.{◌≡◌, ◌<◌, ℕ, ◌⊎◌, List, [], ◌∷◌, ◌++◌, All, length, Option, Some, None, IsSome, false}
 use Rattle.std.specs.List.{AllZip}
-use Rattle.base_files.specs.Causes.{Counts}
 use Rattle.base_files.specs.Chosen.{Choice, choice}
-use Rattle.base_files.specs.Counters.{Rose}
 use Rattle.base_files.specs.Told.{IsPrefix}
 use Rattle.shell_session.specs.declared.placed.Placed.{Placed}
 use Rattle.shell_session.specs.declared.status.Status.{Status}
@@ -23,19 +21,24 @@ pub record Given : Type 0 where
   pub games : List ℕ
   pub script : List ℕ
 
--- the records of the first n games
-abbrev pub records_of : Given → ℕ → List (List ℕ)
-records_of given n = records given.index given.games n
-
--- how many games the base has
-abbrev pub games_of : Given → ℕ
-games_of given = game_count given.index
+abbrev pub given : List (List ℕ) → List ℕ → List ℕ → List ℕ → Given
+given words index games script = record { words = words; index = index; games = games; script = script }
 
 -- a game's answer to a search: its first ply at which the board and side sought stand
 pub record Hit (sought : Placed) (bytes : List ℕ) (hit : Option ℕ) : Type 0 where
   pub plies : List Placed
   pub replayed : positions bytes ≡ Some plies
   pub first : FirstPly plies sought hit
+
+-- the answers of all games, in their order
+abbrev pub AreHits : Placed → List ℕ → List ℕ → List (Option ℕ) → Type 0
+AreHits sought index games hits = AllZip (Hit sought) (records index games (game_count index)) hits
+
+-- this game is the first whose record is not plain
+pub record IsFirstFaulty (index games : List ℕ) (game : ℕ) : Type 0 where
+  pub in_base : game < game_count index
+  pub plain_before : All (λ bytes. IsSome (positions bytes)) (records index games game)
+  pub faulty : positions (record_in games (extent_at index game)) ≡ None
 
 -- the words name a base, and its index can be read
 pub record Opens (given : Given) : Type 0 where
@@ -48,23 +51,19 @@ pub record Asks (given : Given) (sought : Placed) : Type 0 where
   pub opens : Opens given
   pub asked : FindScript given.script sought
 
--- the whole answer: the text of the hits, one of each game
+-- the whole answer: the text of the hits
 pub record Finds (given : Given) (text : List ℕ) : Type 0 where
   pub sought : Placed
   pub asks : Asks given sought
   pub hits : List (Option ℕ)
-  pub found : AllZip (Hit sought) (records_of given (games_of given)) hits
+  pub found : AreHits sought given.index given.games hits
   pub written : text ≡ find_text hits
 
--- this game is the first whose record is not plain
-pub record IsFirstFaulty (given : Given) (game : ℕ) : Type 0 where
-  pub in_base : game < games_of given
-  pub plain_before : All (λ bytes. IsSome (positions bytes)) (records_of given game)
-  pub faulty : positions (record_in given.games (extent_at given.index game)) ≡ None
-
 -- the text is a front part of the whole answer, which may be empty
-abbrev pub BeginsAnswer : Given → List ℕ → Type 0
-BeginsAnswer given text = (whole : List ℕ) × Finds given whole × IsPrefix text whole
+pub record BeginsAnswer (given : Given) (text : List ℕ) : Type 0 where
+  pub whole : List ℕ
+  pub finds : Finds given whole
+  pub begins : IsPrefix text whole
 
 -- what each status says of what was given, and of the text that was written. The words are looked at first, then the index, then the script, then the records
 abbrev pub Answers : Given → Status → List ℕ → Type 0
@@ -72,18 +71,11 @@ Answers given Done text = Finds given text
 Answers given (Later later.Words) text = ((name : List ℕ) → ¬ AreBase given.words name) × (text ≡ [])
 Answers given (Later later.Index) text = ((name : List ℕ) × AreBase given.words name) × ¬ IsIndex given.index (length given.games) × (text ≡ [])
 Answers given (Later later.Script) text = Opens given × ((sought : Placed) → ¬ FindScript given.script sought) × (text ≡ [])
-Answers given (Later (later.Record game)) text = ((sought : Placed) × Asks given sought) × IsFirstFaulty given game × (text ≡ [])
+Answers given (Later (later.Record game)) text = ((sought : Placed) × Asks given sought) × IsFirstFaulty given.index given.games game × (text ≡ [])
 Answers given ReadFault text = text ≡ []
 Answers given WriteFault text = BeginsAnswer given text
 Answers given FilesFault text = text ≡ []
 Answers given Memory text = (text ≡ []) ⊎ BeginsAnswer given text
-
--- when a status comes, where the counts of faults went from `old` to `new`: a device's status only where that device counted a fault
-abbrev pub HasCause : Status → Counts → Counts → Type 0
-HasCause ReadFault old new = Rose old.input new.input
-HasCause WriteFault old new = Rose old.output new.output
-HasCause FilesFault old new = Rose old.files new.files
-HasCause _ old new = ⊤
 
 -- the base of the words was chosen once, as it is, and nothing else
 abbrev pub ChoosesBase : List (List ℕ) → List Choice → List Choice → Type 0

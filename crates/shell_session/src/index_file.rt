@@ -12,7 +12,7 @@ pub(crate) const HEADER_LEN: usize = 182;
 pub(crate) const ENTRY_LEN: usize = 47;
 
 /// The bytes of a block of the games file.
-const BLOCK_LEN: u64 = 131_072;
+pub(crate) const BLOCK_LEN: usize = 131_072;
 
 /// Where a record stands in the games file: its first byte and its number of bytes.
 #[derive(Clone, Copy, Debug, PartialEq, Eq)]
@@ -64,6 +64,7 @@ fn are_placed(index: &[u8], games_len: u64) -> bool
 }
 
 /// The header's number of games.
+#[tactic(auto, unfolding(crate::specs::IndexFile::game_count))]
 pub(crate) fn count_of(index: &[u8]) -> u32
     requires { 182 ≤ length index.now }
     ensures { result ≡ game_count index.now }
@@ -72,6 +73,7 @@ pub(crate) fn count_of(index: &[u8]) -> u32
 }
 
 /// Where the record of a game stands.
+#[tactic(auto, unfolding(crate::specs::IndexFile::extent_of))]
 pub(crate) fn extent_of_game(index: &[u8], game: u32) -> Extent
     requires { 229 + 47 * game ≤ length index.now }
     ensures extent { result ≡ extent_at index.now game }
@@ -92,5 +94,5 @@ fn is_placed(extent: Extent, games_len: u64) -> bool
     ensures { IsTrue result ↔ IsPlaced games_len extent }
 {
     let len = u64::from(extent.len);
-    extent.offset % BLOCK_LEN + len <= BLOCK_LEN && extent.offset + len <= games_len
+    extent.offset % BLOCK_LEN as u64 + len <= BLOCK_LEN as u64 && extent.offset + len <= games_len
 }

@@ -1,7 +1,10 @@
 //! How a session ends.
 
 ghost use Rattle.std.specs.Prelude.{◌≡◌};
+ghost use Rattle.shell_session.specs.Stops.{status_of};
 ghost use Rattle.shell_session.specs.ExitCodes.{exit_code_of};
+
+use base_files::faults::Stop;
 
 /// How a session ended.
 #[derive(Clone, Copy, Debug, PartialEq, Eq)]
@@ -45,6 +48,21 @@ impl Status {
             Status::FilesFault => 5,
             Status::Memory => 8,
             Status::Later(_) => 9,
+        }
+    }
+}
+
+impl From<Stop> for Status {
+    ghost from_gives = { λ stop status. status ≡ status_of stop };
+
+    fn from(stop: Stop) -> Status
+        ensures { result ≡ status_of stop }
+    {
+        match stop {
+            Stop::Read => Status::ReadFault,
+            Stop::Write => Status::WriteFault,
+            Stop::Files => Status::FilesFault,
+            Stop::Memory => Status::Memory,
         }
     }
 }

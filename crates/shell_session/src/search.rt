@@ -1,0 +1,131 @@
+//! The search through all games of a base.
+
+ghost use Rattle.std.specs.Prelude.{◌≡◌, ◌≤◌, ◌<◌, ◌+◌, ◌^◌, ℕ, [], ◌∷◌, ◌++◌, Option, None, length, IfOk, IfErr, IfSome, OnOk};
+ghost use Rattle.base_files.specs.Counters.{Rose};
+ghost use Rattle.shell_session.specs.IndexFile.{IsIndex, IsPlaced, extent_at, game_count, record_in, records_len};
+ghost use Rattle.shell_session.specs.PlainRecord.{positions};
+ghost use Rattle.shell_session.specs.Refusals.{GameRefused, SearchRefused};
+ghost use Rattle.shell_session.specs.Session.{AreHits, Hit};
+
+use crate::index_file::{BLOCK_LEN, Extent, count_of, extent_of_game};
+use crate::placed::Placed;
+use crate::plain_record::first_ply;
+use crate::status::{LaterWhat, Status};
+use base_files::files::Files;
+use std::alloc::Global;
+
+/// Why a game has no answer.
+enum GameFault {
+    /// The files failed.
+    Files,
+    /// The record is not plain.
+    NotPlain,
+}
+
+/// The first ply of each game at which the board and side sought stand. Each record is read once.
+pub(crate) fn search<F: Files>(
+    alloc: Global,
+    files: &mut F,
+    index: &[u8],
+    sought: &Placed,
+) -> Result<Vec<Option<u32>>, Status>
+    requires { IsIndex index.now (F.known files.old) }
+    ensures found { IfOk result (λ hits. IfSome (F.games files.old) (λ games. AreHits sought.now index.now games hits.items)) }
+    ensures few { IfOk result (λ hits. length hits.items < 2 ^ 32) }
+    ensures refused { IfErr result (SearchRefused index.now (F.games files.old)) }
+    ensures asks { F.asked files.new ≤ F.asked files.old + records_len index.now (game_count index.now) }
+    ensures contents { (F.index files.new ≡ F.index files.old) × (F.names files.new ≡ F.names files.old) × (F.games files.new ≡ F.games files.old) }
+    ensures none_chosen { F.choices files.new ≡ F.choices files.old }
+    ensures counts { F.faults files.old ≤ F.faults files.new }
+    ensures cause { IfErr result (λ status. status ≡ Status.FilesFault → Rose (F.faults files.old) (F.faults files.new)) }
+{
+    let Ok(mut block) = vec![in alloc; 0u8; BLOCK_LEN] else {
+        return Err(Status::Memory);
+    };
+    let mut hits = Vec::new(alloc);
+    match add_all(files, index, sought, block.as_mut_slice(), &mut hits) {
+        Ok(()) => Ok(hits),
+        Err(status) => Err(status),
+    }
+}
+
+/// Adds the answers of all games to `hits`, which is empty. Each record is read into `block`.
+fn add_all<F: Files>(
+    files: &mut F,
+    index: &[u8],
+    sought: &Placed,
+    block: &mut [u8],
+    hits: &mut Vec<Option<u32>>,
+) -> Result<(), Status>
+    requires indexed { IsIndex index.now (F.known files.old) }
+    requires room { length block.old ≡ 131072 }
+    requires empty { hits.old.items ≡ [] }
+    ensures found { OnOk result (IfSome (F.games files.old) (λ games. AreHits sought.now index.now games hits.new.items)) }
+    ensures few { OnOk result (length hits.new.items < 2 ^ 32) }
+    ensures refused { IfErr result (SearchRefused index.now (F.games files.old)) }
+    ensures asks { F.asked files.new ≤ F.asked files.old + records_len index.now (game_count index.now) }
+    ensures contents { (F.index files.new ≡ F.index files.old) × (F.names files.new ≡ F.names files.old) × (F.games files.new ≡ F.games files.old) }
+    ensures none_chosen { F.choices files.new ≡ F.choices files.old }
+    ensures counts { F.faults files.old ≤ F.faults files.new }
+    ensures cause { IfErr result (λ status. status ≡ Status.FilesFault → Rose (F.faults files.old) (F.faults files.new)) }
+{
+    for game in 0..count_of(index) {
+        add_hit(files, index, game, sought, block, hits)?;
+    }
+    Ok(())
+}
+
+/// Adds the answer of one game to `hits`. Its record is read into `block`.
+fn add_hit<F: Files>(
+    files: &mut F,
+    index: &[u8],
+    game: u32,
+    sought: &Placed,
+    block: &mut [u8],
+    hits: &mut Vec<Option<u32>>,
+) -> Result<(), Status>
+    requires indexed { IsIndex index.now (F.known files.old) }
+    requires in_base { game < game_count index.now }
+    requires room { length block.old ≡ 131072 }
+    ensures added { OnOk result ((hit : Option ℕ) × (hits.new.items ≡ hits.old.items ++ hit ∷ []) × IfSome (F.games files.old) (λ games. Hit sought.now (record_in games (extent_at index.now game)) hit)) }
+    ensures refused { IfErr result (GameRefused index.now (F.games files.old) game) }
+    ensures asks { F.asked files.new ≤ F.asked files.old + (extent_at index.now game).len }
+    ensures contents { (F.index files.new ≡ F.index files.old) × (F.names files.new ≡ F.names files.old) × (F.games files.new ≡ F.games files.old) }
+    ensures none_chosen { F.choices files.new ≡ F.choices files.old }
+    ensures as_known { F.known files.new ≡ F.known files.old }
+    ensures counts { F.faults files.old ≤ F.faults files.new }
+    ensures cause { IfErr result (λ status. status ≡ Status.FilesFault → Rose (F.faults files.old) (F.faults files.new)) }
+{
+    match game_hit(files, extent_of_game(index, game), sought, block) {
+        Ok(hit) => hits.push(hit).map_err(|_| Status::Memory),
+        Err(GameFault::Files) => Err(Status::FilesFault),
+        Err(GameFault::NotPlain) => Err(Status::Later(LaterWhat::Record { game })),
+    }
+}
+
+/// The first ply of one game at which the board and side sought stand. Its record is read into `block`.
+fn game_hit<F: Files>(
+    files: &mut F,
+    extent: Extent,
+    sought: &Placed,
+    block: &mut [u8],
+) -> Result<Option<u32>, GameFault>
+    requires placed { IsPlaced (F.known files.old) extent }
+    requires room { length block.old ≡ 131072 }
+    ensures found { IfOk result (λ hit. IfSome (F.games files.old) (λ games. Hit sought.now (record_in games extent) hit)) }
+    ensures faulty { result ≡ Err GameFault.NotPlain → IfSome (F.games files.old) (λ games. positions (record_in games extent) ≡ None) }
+    ensures asks { F.asked files.new ≤ F.asked files.old + extent.len }
+    ensures contents { (F.index files.new ≡ F.index files.old) × (F.names files.new ≡ F.names files.old) × (F.games files.new ≡ F.games files.old) }
+    ensures none_chosen { F.choices files.new ≡ F.choices files.old }
+    ensures as_known { F.known files.new ≡ F.known files.old }
+    ensures counts { F.faults files.old ≤ F.faults files.new }
+    ensures cause { result ≡ Err GameFault.Files → Rose (F.faults files.old) (F.faults files.new) }
+{
+    if files.read_games(extent.offset, extent.len, block).is_err() {
+        return Err(GameFault::Files);
+    }
+    match first_ply(&block[..extent.len as usize], sought) {
+        Ok(hit) => Ok(hit),
+        Err(_) => Err(GameFault::NotPlain),
+    }
+}
