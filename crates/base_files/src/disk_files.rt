@@ -1,8 +1,9 @@
 //! The files of a base on a disk.
-ghost use Rattle.std.specs.Prelude.{◌≡◌, [], ◌∷◌, ◌++◌, None};
-ghost use Rattle.base_files.specs.Counters.{raised};
-ghost use Rattle.base_files.specs.Chosen.{Choice};
-ghost use Rattle.base_files.specs.Meters.{DiskMeter};
+ghost use Rattle.std.specs.Prelude.{◌≡◌, ◌+◌, ◌≤◌, [], ◌∷◌, ◌++◌, length, None, IfOk, IfErr, OnOk, OnErr, IsErrOf, MatchResult};
+ghost use Rattle.base_files.specs.Counters.{Rose, raised};
+ghost use Rattle.base_files.specs.Causes.{HasCause};
+ghost use Rattle.base_files.specs.Chosen.{choice};
+ghost use Rattle.base_files.specs.Meters.{after_error};
 
 use crate::chosen::Choices;
 use crate::fault_count::FaultCount;
@@ -77,7 +78,18 @@ impl<'r, R: FileSystem> Files for DiskFiles<'r, R> {
 
     ghost choices = { λ files. files.choices };
 
-    fn choose(&mut self, name: &str, create: bool) -> Result<(), DeviceError> {
+    fn choose(&mut self, name: &str, create: bool) -> Result<(), DeviceError>
+        ensures chosen { OnOk result (self.new.choices ≡ self.old.choices ++ choice name.now create ∷ []) }
+        ensures chosen_in_vain { IsErrOf result DeviceError.Failed → self.new.choices ≡ self.old.choices ++ choice name.now create ∷ [] }
+        ensures not_chosen { IsErrOf result DeviceError.Memory → self.new.choices ≡ self.old.choices }
+        ensures counts { self.old.faults ≤ self.new.faults }
+        ensures cause { IfErr result (λ e. HasCause e self.old.faults self.new.faults) }
+        ensures memory { IsErrOf result DeviceError.Memory → self.new.faults ≡ self.old.faults }
+
+        // More than all files promise: a fault is counted once, and nothing else changes.
+        ensures counted { MatchResult result (λ _. self.new.faults ≡ self.old.faults) (λ e. self.new.faults ≡ after_error e self.old.faults) }
+        ensures rest { self.new ≡ record self.old { choices = self.new.choices; faults = self.new.faults } }
+    {
         let paths = match Paths::new(self.alloc, name) {
             Ok(paths) => paths,
             Err(_) => return Err(DeviceError::Memory),
@@ -97,7 +109,15 @@ impl<'r, R: FileSystem> Files for DiskFiles<'r, R> {
         }
     }
 
-    fn load(&mut self, alloc: Global, part: Part) -> Result<Vec<u8>, DeviceError> {
+    fn load(&mut self, alloc: Global, part: Part) -> Result<Vec<u8>, DeviceError>
+        ensures counts { self.old.faults ≤ self.new.faults }
+        ensures cause { IfErr result (λ e. HasCause e self.old.faults self.new.faults) }
+        ensures memory { IsErrOf result DeviceError.Memory → self.new.faults ≡ self.old.faults }
+
+        // More than all files promise: a fault is counted once, and nothing else changes.
+        ensures counted { MatchResult result (λ _. self.new.faults ≡ self.old.faults) (λ e. self.new.faults ≡ after_error e self.old.faults) }
+        ensures rest { self.new ≡ record self.old { faults = self.new.faults } }
+    {
         let Some(base) = &self.base else {
             return Err(DeviceError::from(self.faults.fault()));
         };
@@ -111,7 +131,16 @@ impl<'r, R: FileSystem> Files for DiskFiles<'r, R> {
         }
     }
 
-    fn games_len(&mut self) -> Result<u64, Failed> {
+    fn games_len(&mut self) -> Result<u64, Failed>
+        ensures now_known { IfOk result (λ n. self.new.known ≡ n) }
+        ensures as_known { OnErr result (self.new.known ≡ self.old.known) }
+        ensures counts { self.old.faults ≤ self.new.faults }
+        ensures cause { OnErr result (Rose self.old.faults self.new.faults) }
+
+        // More than all files promise: a fault is counted once, and nothing else changes.
+        ensures counted { MatchResult result (λ _. self.new.faults ≡ self.old.faults) (λ _. self.new.faults ≡ raised self.old.faults 1) }
+        ensures rest { self.new ≡ record self.old { known = self.new.known; faults = self.new.faults } }
+    {
         let Some(base) = &self.base else {
             return Err(self.faults.fault());
         };
@@ -124,7 +153,17 @@ impl<'r, R: FileSystem> Files for DiskFiles<'r, R> {
         }
     }
 
-    fn read_games(&mut self, offset: u64, len: u32, into: &mut [u8]) -> Result<(), Failed> {
+    fn read_games(&mut self, offset: u64, len: u32, into: &mut [u8]) -> Result<(), Failed>
+        requires room { len ≤ length into.old }
+        requires within { offset + len ≤ self.old.known }
+        ensures asks { self.new.asked ≡ raised self.old.asked len }
+        ensures counts { self.old.faults ≤ self.new.faults }
+        ensures cause { OnErr result (Rose self.old.faults self.new.faults) }
+
+        // More than all files promise: a fault is counted once, and nothing else changes.
+        ensures counted { MatchResult result (λ _. self.new.faults ≡ self.old.faults) (λ _. self.new.faults ≡ raised self.old.faults 1) }
+        ensures rest { self.new ≡ record self.old { asked = self.new.asked; faults = self.new.faults } }
+    {
         self.asked = self.asked.saturating_add(len as u64);
         let Some(base) = &mut self.base else {
             return Err(self.faults.fault());

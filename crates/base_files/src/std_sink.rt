@@ -1,8 +1,7 @@
 //! A sink over a writer of the standard library.
-ghost use Rattle.std.specs.Prelude.{◌≡◌, ◌<◌, ◌≤◌, length, None, IfOk, OnOk, OnErr, IfErr, IsErrOf};
-ghost use Rattle.base_files.specs.Counters.{Rose};
+ghost use Rattle.std.specs.Prelude.{◌≡◌, ◌<◌, ◌≤◌, length, None, IfOk, IfErr, MatchResult};
 ghost use Rattle.base_files.specs.Causes.{HasCause};
-ghost use Rattle.base_files.specs.Meters.{OutputMeter};
+ghost use Rattle.base_files.specs.Meters.{OutputMeter, after_error};
 
 use crate::fault_count::FaultCount;
 use crate::faults::DeviceError;
@@ -43,8 +42,7 @@ impl<W: Write> StdSink<W> {
     pub fn flush(&mut self) -> Result<(), DeviceError>
         ensures counts { self.old.faults ≤ self.new.faults }
         ensures cause { IfErr result (λ e. HasCause e self.old.faults self.new.faults) }
-        ensures memory { IsErrOf result DeviceError.Memory → self.new ≡ self.old }
-        ensures flushed { OnOk result (self.new ≡ self.old) }
+        ensures counted { MatchResult result (λ _. self.new.faults ≡ self.old.faults) (λ e. self.new.faults ≡ after_error e self.old.faults) }
     {
         match self.writer.flush() {
             Ok(()) => Ok(()),
@@ -58,7 +56,16 @@ impl<W: Write> Sink for StdSink<W> {
 
     ghost faults = { λ sink. sink.faults };
 
-    fn write(&mut self, piece: &[u8]) -> Result<usize, DeviceError> {
+    fn write(&mut self, piece: &[u8]) -> Result<usize, DeviceError>
+        requires { 0 < length piece.now }
+        ensures some { IfOk result (λ n. 0 < n) }
+        ensures fits { IfOk result (λ n. n ≤ length piece.now) }
+        ensures counts { self.old.faults ≤ self.new.faults }
+        ensures cause { IfErr result (λ e. HasCause e self.old.faults self.new.faults) }
+
+        // More than every sink promises: a fault is counted once, and nothing else is.
+        ensures counted { MatchResult result (λ _. self.new.faults ≡ self.old.faults) (λ e. self.new.faults ≡ after_error e self.old.faults) }
+    {
         match write_uninterrupted(&mut self.writer, piece) {
             Ok(0) => Err(self.faults.error(ErrorKind::WriteZero)),
             Ok(n) => Ok(n),

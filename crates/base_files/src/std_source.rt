@@ -1,6 +1,6 @@
 //! A source over a reader of the standard library.
-ghost use Rattle.std.specs.Prelude.{◌≡◌, ◌≤◌, length, None, IfOk};
-ghost use Rattle.base_files.specs.Counters.{LAST};
+ghost use Rattle.std.specs.Prelude.{◌≡◌, ◌+◌, ◌<◌, ◌≤◌, length, None, IfOk, IsErr, OnErr, MatchResult};
+ghost use Rattle.base_files.specs.Counters.{LAST, Rose, raised};
 ghost use Rattle.base_files.specs.Meters.{InputMeter};
 
 use crate::fault_count::FaultCount;
@@ -47,7 +47,18 @@ impl<R: Read> Source for StdSource<R> {
 
     ghost faults = { λ source. source.faults };
 
-    fn read(&mut self, into: &mut [u8]) -> Result<usize, Failed> {
+    fn read(&mut self, into: &mut [u8]) -> Result<usize, Failed>
+        requires { 0 < length into.old }
+        ensures fits { IfOk result (λ n. n ≤ length into.old) }
+        ensures spent { IfOk result (λ n. self.new.budget + n ≡ self.old.budget) }
+        ensures none_spent { OnErr result (self.new.budget ≡ self.old.budget) }
+        ensures counts { self.old.faults ≤ self.new.faults }
+        ensures cause { OnErr result (Rose self.old.faults self.new.faults) }
+
+        // More than every source promises: a fault is counted once, nothing else is, and a spent budget is a fault.
+        ensures counted { MatchResult result (λ _. self.new.faults ≡ self.old.faults) (λ _. self.new.faults ≡ raised self.old.faults 1) }
+        ensures spent_up { self.old.budget ≡ 0 → IsErr result }
+    {
         if self.budget == 0 {
             return Err(self.faults.fault());
         }

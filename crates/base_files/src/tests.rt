@@ -14,7 +14,9 @@ use crate::source::Source;
 use crate::std_sink::StdSink;
 use crate::std_source::StdSource;
 use crate::writing::write_all;
+use std::alloc::Global;
 use std::io::{Error, ErrorKind, Read, Write};
+use std::rt::Files as FileSystem;
 use std::test::Fail;
 use std::{fs, io};
 
@@ -77,107 +79,141 @@ fn a_writer_that_fails_in_mid_stream_is_a_sink_that_fails(rt: HostRuntime) {
     assert_eq!(rt; sink.flush(), Err(DeviceError::Failed));
 }
 
+/// Writes the three files of a base, the games file with these bytes.
+fn write_base(rt: &impl FileSystem, games: &str, paths: [&str; 3]) -> io::Result<()> {
+    let [index_path, names_path, games_path] = paths;
+    fs::write(rt, index_path, "INDEX")?;
+    fs::write(rt, names_path, "NAMES")?;
+    fs::write(rt, games_path, games)
+}
+
+/// Removes the three files of a base.
+fn remove_base(rt: &impl FileSystem, paths: [&str; 3]) -> io::Result<()> {
+    let [index_path, names_path, games_path] = paths;
+    fs::remove_file(rt, index_path)?;
+    fs::remove_file(rt, names_path)?;
+    fs::remove_file(rt, games_path)
+}
+
+/// Whether the part of the base has these bytes.
+fn has<F: Files>(
+    alloc: Global,
+    files: &mut F,
+    part: Part,
+    want: &[u8],
+) -> Result<bool, DeviceError> {
+    let bytes = files.load(alloc, part)?;
+    Ok(bytes.as_slice() == want)
+}
+
 #[test]
-fn files_on_a_disk(rt: HostRuntime) -> Result<(), Fail> {
-    fs::write(&rt, "adapter.si4", "INDEX")?;
-    fs::write(&rt, "adapter.sn4", "NAMES")?;
-    fs::write(&rt, "adapter.sg4", "abcdefgh")?;
+fn a_base_on_a_disk_is_loaded(rt: HostRuntime) -> Result<(), Fail> {
+    let paths = ["loaded.si4", "loaded.sn4", "loaded.sg4"];
+    write_base(&rt, "", paths)?;
     let mut files = DiskFiles::new(rt.alloc(), &rt);
-    files.choose("adapter", true)?;
-    assert_eq!(rt;
-        files.load(rt.alloc(), Part::Index)?.as_slice(),
-        b"INDEX".as_slice()
-    );
-    assert_eq!(rt;
-        files.load(rt.alloc(), Part::Names)?.as_slice(),
-        b"NAMES".as_slice()
-    );
-    let len = files.games_len()?;
-    assert_eq!(rt; len, 8);
-    let mut into = *b"....";
-    files.read_games(5, 3, &mut into)?;
-    assert_eq!(rt; into, *b"fgh.");
-    files.read_games(0, 4, &mut into)?;
-    assert_eq!(rt; into, *b"abcd");
-
-    // The file becomes shorter than it is known to be.
-    fs::write(&rt, "adapter.sg4", "abc")?;
-    assert_eq!(rt; files.read_games(2, 3, &mut into), Err(Failed));
-
-    assert_eq!(rt; files.choose("absent", false), Err(DeviceError::Failed));
-    files.choose("absent", true)?;
-    assert_eq!(rt; files.load(rt.alloc(), Part::Index)?.len(), 0);
-    assert_eq!(rt; files.games_len()?, 0);
-    for path in [
-        "adapter.si4",
-        "adapter.sn4",
-        "adapter.sg4",
-        "absent.si4",
-        "absent.sn4",
-        "absent.sg4",
-    ] {
-        fs::remove_file(&rt, path)?;
-    }
+    files.choose("loaded", true)?;
+    assert!(rt; has(rt.alloc(), &mut files, Part::Index, b"INDEX")?);
+    assert!(rt; has(rt.alloc(), &mut files, Part::Names, b"NAMES")?);
+    remove_base(&rt, paths)?;
     Ok(())
 }
 
 #[test]
-fn files_in_memory(rt: HostRuntime) -> Result<(), Fail> {
-    let part = |text: &[u8]| text.to_vec(rt.alloc());
-    let mut files = MemFiles::new(
-        part(b"INDEX")?,
-        part(b"NAMES")?,
-        part(b"abcdefgh")?,
-        vec![in rt.alloc(); 2, 5]?,
-    );
-    files.choose("any", false)?;
+fn games_on_a_disk_are_read(rt: HostRuntime) -> Result<(), Fail> {
+    let paths = ["read.si4", "read.sn4", "read.sg4"];
+    write_base(&rt, "abcdefgh", paths)?;
+    let mut files = DiskFiles::new(rt.alloc(), &rt);
+    files.choose("read", false)?;
+    let len = files.games_len()?;
+    assert_eq!(rt; len, 8);
+    let mut into = [0u8; 3];
+    files.read_games(5, 3, &mut into)?;
+    assert_eq!(rt; into, *b"fgh");
+    write_base(&rt, "abc", paths)?;
     assert_eq!(rt;
-        files.load(rt.alloc(), Part::Names)?.as_slice(),
-        b"NAMES".as_slice()
+        files.read_games(2, 3, &mut into),
+        Err(Failed),
+        "the file became shorter"
     );
+    remove_base(&rt, paths)?;
+    Ok(())
+}
+
+#[test]
+fn an_absent_base_is_made_on_demand(rt: HostRuntime) -> Result<(), Fail> {
+    let mut files = DiskFiles::new(rt.alloc(), &rt);
+    assert_eq!(rt; files.choose("absent", false), Err(DeviceError::Failed));
+    files.choose("absent", true)?;
+    assert!(rt; has(rt.alloc(), &mut files, Part::Index, b"")?);
+    assert_eq!(rt; files.games_len(), Ok(0));
+    remove_base(&rt, ["absent.si4", "absent.sn4", "absent.sg4"])?;
+    Ok(())
+}
+
+#[test]
+fn planned_faults_of_files(rt: HostRuntime) -> Result<(), Fail> {
+    let index = b"INDEX".to_vec(rt.alloc())?;
+    let names = b"NAMES".to_vec(rt.alloc())?;
+    let games = b"abcdefgh".to_vec(rt.alloc())?;
+    let fails = vec![in rt.alloc(); 2, 5]?;
+    let mut files = MemFiles::new(index, names, games, fails);
+    files.choose("any", false)?;
+    assert!(rt; has(rt.alloc(), &mut files, Part::Names, b"NAMES")?);
     assert_eq!(rt; files.games_len(), Err(Failed), "call 2");
     let len = files.games_len()?;
     assert_eq!(rt; len, 8);
-    let mut into = *b"....";
+    let mut into = [0u8; 3];
     files.read_games(5, 3, &mut into)?;
-    assert_eq!(rt; into, *b"fgh.");
-    assert_eq!(rt; files.read_games(0, 4, &mut into), Err(Failed), "call 5");
-    assert_eq!(rt; files.asked(), 7);
+    assert_eq!(rt; into, *b"fgh");
+    assert_eq!(rt; files.read_games(0, 3, &mut into), Err(Failed), "call 5");
+    assert_eq!(rt; files.asked(), 6);
     Ok(())
 }
 
 #[test]
-fn streams_in_memory(rt: HostRuntime) -> Result<(), Fail> {
-    let mut endless = MemSource::endless(b"abc".to_vec(rt.alloc())?);
+fn an_endless_source_repeats_its_piece(rt: HostRuntime) -> Result<(), Fail> {
+    let piece = b"abc".to_vec(rt.alloc())?;
+    let mut source = MemSource::endless(piece);
     let mut into = [0u8; 2];
     for want in [*b"ab", *b"ca", *b"bc"] {
-        assert_eq!(rt; endless.read(&mut into), Ok(2));
+        assert_eq!(rt; source.read(&mut into), Ok(2));
         assert_eq!(rt; into, want);
     }
-    assert!(rt;
-        matches!(
-            read_to_limit(rt.alloc(), &mut endless, 10_000)?,
-            Input::TooLong
-        )
-    );
+    Ok(())
+}
 
-    for (limit, fits) in [(4, false), (5, true), (6, true)] {
-        let mut source = MemSource::new(b"lines".to_vec(rt.alloc())?, 2, Vec::new(rt.alloc()));
-        match read_to_limit(rt.alloc(), &mut source, limit)? {
-            Input::Whole(bytes) => {
-                assert!(rt; fits, "at limit {limit}");
-                assert_eq!(rt; bytes.as_slice(), b"lines".as_slice());
-            }
-            Input::TooLong => assert!(rt; !fits, "at limit {limit}"),
-        }
+/// The length of the whole input, if it is within the limit.
+fn length_within(alloc: Global, text: &[u8], limit: usize) -> Result<Option<usize>, DeviceError> {
+    let bytes = text.to_vec(alloc)?;
+    let mut source = MemSource::new(bytes, 2, Vec::new(alloc));
+    match read_to_limit(alloc, &mut source, limit)? {
+        Input::Whole(whole) => Ok(Some(whole.len())),
+        Input::TooLong => Ok(None),
     }
+}
 
-    let mut sink = MemSink::new(b">".to_vec(rt.alloc())?, 2, vec![in rt.alloc(); 3]?);
-    write_all(&mut sink, b"one")?;
+#[test]
+fn an_input_is_read_up_to_a_limit(rt: HostRuntime) -> Result<(), Fail> {
+    for (limit, want) in [(4, None), (5, Some(5)), (6, Some(5))] {
+        assert_eq!(rt;
+            length_within(rt.alloc(), b"lines", limit),
+            Ok(want),
+            "at limit {limit}"
+        );
+    }
+    Ok(())
+}
+
+#[test]
+fn a_planned_fault_of_a_sink_leaves_a_front_part(rt: HostRuntime) -> Result<(), Fail> {
+    let taken = b">".to_vec(rt.alloc())?;
+    let fails = vec![in rt.alloc(); 3]?;
+    let mut sink = MemSink::new(taken, 2, fails);
+    assert_eq!(rt; write_all(&mut sink, b"one"), Ok(()), "calls 0 and 1");
     assert_eq!(rt;
         write_all(&mut sink, b" two"),
         Err(DeviceError::Failed),
-        "its second call is call 3"
+        "calls 2 and 3"
     );
     assert_eq!(rt; sink.taken(), b">one t".as_slice());
     Ok(())
