@@ -1,6 +1,6 @@
 -- What the adapters over the standard library's streams and files count (this project's own).
-use Rattle.std.specs.Prelude.{ℕ, List, []}
-use Rattle.base_files.specs.Counters.{LAST, raised}
+use Rattle.std.specs.Prelude.{ℕ, List}
+use Rattle.base_files.specs.Counters.{raised}
 use Rattle.base_files.specs.Chosen.{Choice}
 use Rattle.base_files.specs.declared.faults.DeviceError.{DeviceError}
 use Rattle.base_files.specs.declared.faults.DeviceError.TheVariants as device
