@@ -1,6 +1,6 @@
 -- Laws of counts that rise.
-use Rattle.std.proofs.Common.{◌≡◌, ℕ, ◌<◌, ◌≤◌, ◌⊎◌, inl, inr, ⊎_elim, arith}
-use Rattle.base_files.specs.Counters.{Rose, LAST}
+use Rattle.std.proofs.Common.{ℕ, ◌≤◌, inl, inr, arith}
+use Rattle.base_files.specs.Counters.{Rose}
 use Rattle.base_files.specs.Causes.{Counts, Why}
 use Rattle.base_files.specs.declared.faults.Stop.{Stop}
 use Rattle.base_files.specs.declared.faults.Stop.TheVariants.{Read, Write, Files, Memory}

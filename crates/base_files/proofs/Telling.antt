@@ -1,6 +1,6 @@
 -- Laws of what is told: adding and taking in steps, and what may have been added at most.
-use Rattle.std.proofs.Common.{◌≡◌, ℕ, ◌≤◌, List, [], ◌++◌, take, drop, length, Option, None, Some, refl, sym, ap, ◌∙◌, subst, append_assoc, append-nil, take-append-drop}
-use Rattle.base_files.specs.Told.{adds, before, Grew, IsPrefix, Advanced}
+use Rattle.std.proofs.Common.{◌≡◌, ℕ, List, [], ◌++◌, Option, None, Some, refl, sym, ap, ◌∙◌, append_assoc, append-nil}
+use Rattle.base_files.specs.Told.{adds, before, Grew, Advanced}
 
 -- nothing added
 pub adds-nil : (told : Option (List ℕ)) → adds told [] ≡ told

@@ -1,5 +1,5 @@
 -- When an answer of the outside may come (this project's own).
-use Rattle.std.specs.Prelude.{◌≡◌, ℕ, ⊤, Option, List, None, Some}
+use Rattle.std.specs.Prelude.{ℕ, ⊤}
 use Rattle.base_files.specs.declared.faults.DeviceError.{DeviceError}
 use Rattle.base_files.specs.declared.faults.DeviceError.TheVariants as device
 use Rattle.base_files.specs.declared.faults.Stop.{Stop}

@@ -1,5 +1,5 @@
 -- Counters that stand still at the greatest u64: the faults of an object, the calls made of it, the bytes asked (this project's own).
-use Rattle.std.specs.Prelude.{◌≡◌, ℕ, ◌+◌, ◌-◌, ◌^◌, ◌<◌, ◌≤◌, ◌⊎◌, min}
+use Rattle.std.specs.Prelude.{ℕ, ◌+◌, ◌-◌, ◌^◌, ◌<◌, ◌≤◌, ◌⊎◌, min}
 
 -- the last value of a counter, the greatest u64
 abbrev pub LAST : ℕ

@@ -1,5 +1,5 @@
 -- What a source in memory shows of what it holds (this project's own).
-use Rattle.std.specs.Prelude.{◌≡◌, ℕ, ◌-◌, ◌<◌, ◌≤◌, List, drop, length, Option, None, Some}
+use Rattle.std.specs.Prelude.{ℕ, ◌-◌, ◌<◌, ◌≤◌, List, drop, length, Option, None, Some}
 use Rattle.base_files.specs.declared.mem_source.Store.{Store}
 use Rattle.base_files.specs.declared.mem_source.Store.TheVariants.{Once, Again}
 

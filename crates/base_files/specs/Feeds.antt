@@ -1,5 +1,5 @@
 -- A source in memory (this project's own).
-use Rattle.std.specs.Prelude.{◌≡◌, ℕ, ◌-◌, ◌==◌, Bool, ◌||◌, ◌&&◌, is_none, min, List, drop, length, Option, None, Some}
+use Rattle.std.specs.Prelude.{ℕ, ◌-◌, ◌==◌, Bool, ◌||◌, ◌&&◌, is_none, min, List, drop, Option, None, Some}
 use Rattle.base_files.specs.Planned.{Calls, is_planned, passed, failed}
 
 -- the bytes left where they are told, how many it gives still, how many it gives at most in one call, and its calls

@@ -9,3 +9,4 @@ pub mod Feeds
 pub mod FeedStore
 pub mod Trays
 pub mod Shelves
+pub mod Meters

@@ -1,5 +1,5 @@
 -- The files of a base in memory (this project's own).
-use Rattle.std.specs.Prelude.{ℕ, List, [], length}
+use Rattle.std.specs.Prelude.{ℕ, List, []}
 use Rattle.base_files.specs.Planned.{Calls}
 use Rattle.base_files.specs.Chosen.{Choice}
 

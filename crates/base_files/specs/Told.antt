@@ -1,5 +1,5 @@
 -- Contents that an object may tell: `Some` of the bytes where it tells them, `None` where it does not (this project's own).
-use Rattle.std.specs.Prelude.{◌≡◌, ℕ, List, [], ◌++◌, take, drop, length, ⊤, Option, None, Some}
+use Rattle.std.specs.Prelude.{◌≡◌, ℕ, List, ◌++◌, take, drop, length, ⊤, Option, None, Some}
 
 -- what is told after the bytes are added at its end: an object that tells nothing goes on telling nothing
 abbrev pub adds : Option (List ℕ) → List ℕ → Option (List ℕ)

@@ -2,6 +2,8 @@
 #![tactic(auto)]
 
 mod chosen;
+pub mod disk_files;
+mod fault_count;
 pub mod faults;
 pub mod files;
 pub mod mem_files;
@@ -12,4 +14,8 @@ mod plan;
 pub mod reading;
 pub mod sink;
 pub mod source;
+pub mod std_sink;
+pub mod std_source;
+#[cfg(test)]
+mod tests;
 pub mod writing;

@@ -1,5 +1,5 @@
 //! The files of a base in memory.
-ghost use Rattle.std.specs.Prelude.{◌≡◌, ℕ, ◌+◌, ◌<◌, ◌≤◌, [], ◌∷◌, ◌++◌, length, take, Some, IfOk, IfErr, OnOk, OnErr, IsErrOf, MatchResult};
+ghost use Rattle.std.specs.Prelude.{◌≡◌, ℕ, ◌+◌, ◌<◌, ◌≤◌, [], ◌∷◌, ◌++◌, length, take, drop, Some, IfOk, IfErr, OnOk, OnErr, IsErrOf, MatchResult};
 ghost use Rattle.base_files.specs.Counters.{Rose, raised};
 ghost use Rattle.base_files.specs.Told.{Tells, TellsLength, part_told};
 ghost use Rattle.base_files.specs.Chosen.{Choice, choice};
@@ -107,7 +107,18 @@ impl Files for MemFiles {
 
     ghost choices = { λ files. files.choices };
 
-    fn choose(&mut self, name: &str, create: bool) -> Result<(), DeviceError> {
+    fn choose(&mut self, name: &str, create: bool) -> Result<(), DeviceError>
+        ensures chosen { OnOk result (self.new.choices ≡ self.old.choices ++ choice name.now create ∷ []) }
+        ensures chosen_in_vain { IsErrOf result DeviceError.Failed → self.new.choices ≡ self.old.choices ++ choice name.now create ∷ [] }
+        ensures not_chosen { IsErrOf result DeviceError.Memory → self.new.choices ≡ self.old.choices }
+        ensures counts { self.old.calls.faults ≤ self.new.calls.faults }
+        ensures cause { IfErr result (λ e. HasCause e self.old.calls.faults self.new.calls.faults) }
+        ensures memory { IsErrOf result DeviceError.Memory → self.new.calls.faults ≡ self.old.calls.faults }
+
+        // More than all files promise: which calls fail, and that nothing else changes.
+        ensures planned { MatchResult result (λ _. Served self.old.calls self.new.calls) (λ e. Refused e self.old.calls self.new.calls) }
+        ensures rest { self.new ≡ record self.old { choices = self.new.choices; calls = self.new.calls } }
+    {
         if self.choices.add(name, create).is_err() {
             self.plan.pass();
             return Err(DeviceError::Memory);
@@ -116,7 +127,16 @@ impl Files for MemFiles {
         Ok(())
     }
 
-    fn load(&mut self, alloc: Global, part: Part) -> Result<Vec<u8>, DeviceError> {
+    fn load(&mut self, alloc: Global, part: Part) -> Result<Vec<u8>, DeviceError>
+        ensures loaded { IfOk result (λ bytes. bytes.items ≡ of_part part self.old.index self.old.names) }
+        ensures counts { self.old.calls.faults ≤ self.new.calls.faults }
+        ensures cause { IfErr result (λ e. HasCause e self.old.calls.faults self.new.calls.faults) }
+        ensures memory { IsErrOf result DeviceError.Memory → self.new.calls.faults ≡ self.old.calls.faults }
+
+        // More than all files promise: which calls fail, and that nothing else changes.
+        ensures planned { MatchResult result (λ _. Served self.old.calls self.new.calls) (λ e. Refused e self.old.calls self.new.calls) }
+        ensures rest { self.new ≡ record self.old { calls = self.new.calls } }
+    {
         self.plan.begin()?;
         let bytes = match part {
             Part::Index => &self.index,
@@ -125,13 +145,34 @@ impl Files for MemFiles {
         Ok(Vec::from_slice(alloc, bytes)?)
     }
 
-    fn games_len(&mut self) -> Result<u64, Failed> {
+    fn games_len(&mut self) -> Result<u64, Failed>
+        ensures length { IfOk result (λ n. n ≡ length self.old.games) }
+        ensures now_known { IfOk result (λ n. self.new.known ≡ n) }
+        ensures as_known { OnErr result (self.new.known ≡ self.old.known) }
+        ensures counts { self.old.calls.faults ≤ self.new.calls.faults }
+        ensures cause { OnErr result (Rose self.old.calls.faults self.new.calls.faults) }
+
+        // More than all files promise: which calls fail, and that nothing else changes.
+        ensures planned { MatchResult result (λ _. Served self.old.calls self.new.calls) (λ _. FailedAsPlanned self.old.calls self.new.calls) }
+        ensures rest { self.new ≡ record self.old { known = self.new.known; calls = self.new.calls } }
+    {
         self.plan.begin()?;
         self.known = self.games.len() as u64;
         Ok(self.known)
     }
 
-    fn read_games(&mut self, offset: u64, len: u32, into: &mut [u8]) -> Result<(), Failed> {
+    fn read_games(&mut self, offset: u64, len: u32, into: &mut [u8]) -> Result<(), Failed>
+        requires room { len ≤ length into.old }
+        requires within { offset + len ≤ self.old.known }
+        ensures bytes { OnOk result (take len into.new ≡ take len (drop offset self.old.games)) }
+        ensures asks { self.new.asked ≡ raised self.old.asked len }
+        ensures counts { self.old.calls.faults ≤ self.new.calls.faults }
+        ensures cause { OnErr result (Rose self.old.calls.faults self.new.calls.faults) }
+
+        // More than all files promise: which calls fail, and that nothing else changes.
+        ensures planned { MatchResult result (λ _. Served self.old.calls self.new.calls) (λ _. FailedAsPlanned self.old.calls self.new.calls) }
+        ensures rest { self.new ≡ record self.old { asked = self.new.asked; calls = self.new.calls } }
+    {
         self.asked = self.asked.saturating_add(len as u64);
         self.plan.begin()?;
         let start = offset as usize;

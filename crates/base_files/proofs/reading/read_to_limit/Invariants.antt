@@ -9,7 +9,7 @@ invariant-pieces g l = record {
   paid : g.S.Source.budget l.source + vec_len l.bytes ≡ g.S.Source.budget l.fn.source;
   within : vec_len l.bytes ≤ l.limit;
   size : length l.piece ≡ 4096;
-  faults : g.S.Source.faults l.fn.source ≤ g.S.Source.faults l.source
+  faults : g.S.Source.faults l.fn.source ≤ g.S.Source.faults l.source;
 }
 
 -- each piece that is not the last is paid from the budget

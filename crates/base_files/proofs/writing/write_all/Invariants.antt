@@ -7,7 +7,7 @@ abbrev pub invariant-loop-rest : goal.invariant-loop-rest
 invariant-loop-rest g l = record {
   whole : adds (g.S.Sink.taken l.sink) l.rest ≡ adds (g.S.Sink.taken l.fn.sink) l.bytes;
   grew : Grew (g.S.Sink.taken l.fn.sink) (g.S.Sink.taken l.sink);
-  faults : g.S.Sink.faults l.fn.sink ≤ g.S.Sink.faults l.sink
+  faults : g.S.Sink.faults l.fn.sink ≤ g.S.Sink.faults l.sink;
 }
 
 -- each write takes a byte

@@ -1,0 +1,220 @@
+//! What no clause says: that the calls succeed with ample memory, and what the adapters do with a real file or a failing stream.
+ghost use Rattle.std.specs.Prelude.{◌≤◌, IfOk};
+
+use crate::disk_files::DiskFiles;
+use crate::faults::{DeviceError, Failed};
+use crate::files::Files;
+use crate::mem_files::MemFiles;
+use crate::mem_sink::MemSink;
+use crate::mem_source::MemSource;
+use crate::part::Part;
+use crate::reading::{Input, read_to_limit};
+use crate::sink::Sink;
+use crate::source::Source;
+use crate::std_sink::StdSink;
+use crate::std_source::StdSource;
+use crate::writing::write_all;
+use std::alloc::Global;
+use std::io::{Error, ErrorKind, Read, Write};
+use std::rt::Files as FileSystem;
+use std::test::Fail;
+use std::{fs, io};
+
+/// A stream that is interrupted once, moves two bytes, fails, moves none, wants memory, and moves none from then on.
+#[derive(Drop)]
+struct Flaky {
+    calls: u32,
+}
+
+impl Flaky {
+    fn answer(&mut self, room: usize) -> io::Result<usize>
+        ensures { IfOk result (λ n. n ≤ room) }
+    {
+        self.calls = self.calls.saturating_add(1);
+        match self.calls {
+            1 => Err(Error::from(ErrorKind::Interrupted)),
+            2 => Ok(room.min(2)),
+            3 => Err(Error::from(ErrorKind::BrokenPipe)),
+            5 => Err(Error::from(ErrorKind::OutOfMemory)),
+            _ => Ok(0),
+        }
+    }
+}
+
+impl Read for Flaky {
+    fn read(&mut self, buf: &mut [u8]) -> io::Result<usize> {
+        self.answer(buf.len())
+    }
+}
+
+impl Write for Flaky {
+    fn write(&mut self, buf: &[u8]) -> io::Result<usize> {
+        self.answer(buf.len())
+    }
+
+    fn flush(&mut self) -> io::Result<()> {
+        Err(Error::from(ErrorKind::BrokenPipe))
+    }
+}
+
+#[test]
+fn a_reader_that_fails_in_mid_stream_is_a_source_that_fails(rt: HostRuntime) {
+    let mut source = StdSource::new(Flaky { calls: 0 });
+    let mut into = [0u8; 8];
+    for (call, want) in [Ok(2), Err(Failed), Ok(0), Err(Failed)].iter().enumerate() {
+        assert_eq!(rt; source.read(&mut into), *want, "at call {call}");
+    }
+}
+
+#[test]
+fn a_writer_that_fails_in_mid_stream_is_a_sink_that_fails(rt: HostRuntime) {
+    let mut sink = StdSink::new(Flaky { calls: 0 });
+    let fault = Err(DeviceError::Failed);
+    for (call, want) in [Ok(2), fault, fault, Err(DeviceError::Memory), fault]
+        .iter()
+        .enumerate()
+    {
+        assert_eq!(rt; sink.write(b"abc"), *want, "at call {call}");
+    }
+    assert_eq!(rt; sink.flush(), Err(DeviceError::Failed));
+}
+
+/// Writes the three files of a base, the games file with these bytes.
+fn write_base(rt: &impl FileSystem, games: &str, paths: [&str; 3]) -> io::Result<()> {
+    let [index_path, names_path, games_path] = paths;
+    fs::write(rt, index_path, "INDEX")?;
+    fs::write(rt, names_path, "NAMES")?;
+    fs::write(rt, games_path, games)
+}
+
+/// Removes the three files of a base.
+fn remove_base(rt: &impl FileSystem, paths: [&str; 3]) -> io::Result<()> {
+    let [index_path, names_path, games_path] = paths;
+    fs::remove_file(rt, index_path)?;
+    fs::remove_file(rt, names_path)?;
+    fs::remove_file(rt, games_path)
+}
+
+/// Whether the part of the base has these bytes.
+fn has<F: Files>(
+    alloc: Global,
+    files: &mut F,
+    part: Part,
+    want: &[u8],
+) -> Result<bool, DeviceError> {
+    let bytes = files.load(alloc, part)?;
+    Ok(bytes.as_slice() == want)
+}
+
+#[test]
+fn a_base_on_a_disk_is_loaded(rt: HostRuntime) -> Result<(), Fail> {
+    let paths = ["loaded.si4", "loaded.sn4", "loaded.sg4"];
+    write_base(&rt, "", paths)?;
+    let mut files = DiskFiles::new(rt.alloc(), &rt);
+    files.choose("loaded", true)?;
+    assert!(rt; has(rt.alloc(), &mut files, Part::Index, b"INDEX")?);
+    assert!(rt; has(rt.alloc(), &mut files, Part::Names, b"NAMES")?);
+    remove_base(&rt, paths)?;
+    Ok(())
+}
+
+#[test]
+fn games_on_a_disk_are_read(rt: HostRuntime) -> Result<(), Fail> {
+    let paths = ["read.si4", "read.sn4", "read.sg4"];
+    write_base(&rt, "abcdefgh", paths)?;
+    let mut files = DiskFiles::new(rt.alloc(), &rt);
+    files.choose("read", false)?;
+    let len = files.games_len()?;
+    assert_eq!(rt; len, 8);
+    let mut into = [0u8; 3];
+    files.read_games(5, 3, &mut into)?;
+    assert_eq!(rt; into, *b"fgh");
+    write_base(&rt, "abc", paths)?;
+    assert_eq!(rt;
+        files.read_games(2, 3, &mut into),
+        Err(Failed),
+        "the file became shorter"
+    );
+    remove_base(&rt, paths)?;
+    Ok(())
+}
+
+#[test]
+fn an_absent_base_is_made_on_demand(rt: HostRuntime) -> Result<(), Fail> {
+    let mut files = DiskFiles::new(rt.alloc(), &rt);
+    assert_eq!(rt; files.choose("absent", false), Err(DeviceError::Failed));
+    files.choose("absent", true)?;
+    assert!(rt; has(rt.alloc(), &mut files, Part::Index, b"")?);
+    assert_eq!(rt; files.games_len(), Ok(0));
+    remove_base(&rt, ["absent.si4", "absent.sn4", "absent.sg4"])?;
+    Ok(())
+}
+
+#[test]
+fn planned_faults_of_files(rt: HostRuntime) -> Result<(), Fail> {
+    let index = b"INDEX".to_vec(rt.alloc())?;
+    let names = b"NAMES".to_vec(rt.alloc())?;
+    let games = b"abcdefgh".to_vec(rt.alloc())?;
+    let fails = vec![in rt.alloc(); 2, 5]?;
+    let mut files = MemFiles::new(index, names, games, fails);
+    files.choose("any", false)?;
+    assert!(rt; has(rt.alloc(), &mut files, Part::Names, b"NAMES")?);
+    assert_eq!(rt; files.games_len(), Err(Failed), "call 2");
+    let len = files.games_len()?;
+    assert_eq!(rt; len, 8);
+    let mut into = [0u8; 3];
+    files.read_games(5, 3, &mut into)?;
+    assert_eq!(rt; into, *b"fgh");
+    assert_eq!(rt; files.read_games(0, 3, &mut into), Err(Failed), "call 5");
+    assert_eq!(rt; files.asked(), 6);
+    Ok(())
+}
+
+#[test]
+fn an_endless_source_repeats_its_piece(rt: HostRuntime) -> Result<(), Fail> {
+    let piece = b"abc".to_vec(rt.alloc())?;
+    let mut source = MemSource::endless(piece);
+    let mut into = [0u8; 2];
+    for want in [*b"ab", *b"ca", *b"bc"] {
+        assert_eq!(rt; source.read(&mut into), Ok(2));
+        assert_eq!(rt; into, want);
+    }
+    Ok(())
+}
+
+/// The length of the whole input, if it is within the limit.
+fn length_within(alloc: Global, text: &[u8], limit: usize) -> Result<Option<usize>, DeviceError> {
+    let bytes = text.to_vec(alloc)?;
+    let mut source = MemSource::new(bytes, 2, Vec::new(alloc));
+    match read_to_limit(alloc, &mut source, limit)? {
+        Input::Whole(whole) => Ok(Some(whole.len())),
+        Input::TooLong => Ok(None),
+    }
+}
+
+#[test]
+fn an_input_is_read_up_to_a_limit(rt: HostRuntime) -> Result<(), Fail> {
+    for (limit, want) in [(4, None), (5, Some(5)), (6, Some(5))] {
+        assert_eq!(rt;
+            length_within(rt.alloc(), b"lines", limit),
+            Ok(want),
+            "at limit {limit}"
+        );
+    }
+    Ok(())
+}
+
+#[test]
+fn a_planned_fault_of_a_sink_leaves_a_front_part(rt: HostRuntime) -> Result<(), Fail> {
+    let taken = b">".to_vec(rt.alloc())?;
+    let fails = vec![in rt.alloc(); 3]?;
+    let mut sink = MemSink::new(taken, 2, fails);
+    assert_eq!(rt; write_all(&mut sink, b"one"), Ok(()), "calls 0 and 1");
+    assert_eq!(rt;
+        write_all(&mut sink, b" two"),
+        Err(DeviceError::Failed),
+        "calls 2 and 3"
+    );
+    assert_eq!(rt; sink.taken(), b">one t".as_slice());
+    Ok(())
+}
