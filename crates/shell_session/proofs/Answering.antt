@@ -43,13 +43,15 @@ front_begins words index games script taken (Some now) opens wrote =
     let text : List ℕ = wrote.none_lost.0 in
     let rest : List ℕ = wrote.no_more.0 in
     let whole : List ℕ = find_text wrote.hits in
-    let e : taken ++ whole ≡ taken ++ (text ++ rest) = wrote.no_more.1 ∙ ap (λ (l : List ℕ). l ++ rest) wrote.none_lost.1 ∙ append_assoc taken text rest in
-    (text, ap (λ (l : List ℕ). Some l) wrote.none_lost.1,
+    let e : taken ++ whole ≡ taken ++ (text ++ rest) = wrote.no_more.1 ∙ ap (λ (l : List ℕ). l ++ rest) wrote.none_lost.1 ∙ append_assoc taken text rest in (
+      text,
+      ap (λ (l : List ℕ). Some l) wrote.none_lost.1,
       record {
         whole = whole;
         finds = record { sought = wrote.sought; asks = record { opens = opens; asked = wrote.finds.asked }; hits = wrote.hits; found = wrote.finds.found; written = refl };
-        begins = (rest, append_cancel_left taken whole (text ++ rest) e)
-      })
+        begins = (rest, append_cancel_left taken whole (text ++ rest) e);
+      },
+    )
 
 -- the answer of a session whose search ends early
 pub early_answers : (words : List (List ℕ)) (index games script taken : List ℕ) (after : Option (List ℕ)) (status : Status) → Opens (given words index games script) →
@@ -63,9 +65,9 @@ early_answers words index games script taken after FilesFault opens ends = ([], 
 early_answers words index games script taken after WriteFault opens ends = front_begins words index games script taken after opens ends
 early_answers words index games script taken after Memory opens ends =
     elim ends [
-      inl same ↦ ([], none_added taken after same, inl refl)
-    | inr wrote ↦ let front : (text : List ℕ) × (after ≡ Some (taken ++ text)) × BeginsAnswer (given words index games script) text = front_begins words index games script taken after opens wrote in
-        (front.0, front.1, inr front.2)
+      | inl same ↦ ([], none_added taken after same, inl refl)
+      | inr wrote ↦ let front : (text : List ℕ) × (after ≡ Some (taken ++ text)) × BeginsAnswer (given words index games script) text = front_begins words index games script taken after opens wrote in
+          (front.0, front.1, inr front.2)
     ]
 early_answers words index games script taken after (Later later.Words) opens ends = absurd ends
 early_answers words index games script taken after (Later later.Index) opens ends = absurd ends

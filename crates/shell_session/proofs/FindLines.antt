@@ -23,16 +23,16 @@ words_end line front last sought split words is_end =
 pub words_before_end : (script line : List ℕ) (last : ℕ) (sought : Placed) → script ≡ line ++ last ∷ [] → last ≡ 10 → FindScript script sought → FindWords line sought
 words_before_end script line last sought split is_end found =
     elim found.ended [
-      inl same ↦ absurd (words_end found.line line last sought (sym same ∙ split) found.words is_end)
-    | inr ended ↦
-        let P : List ℕ → Type 0 = λ l. FindWords l sought in
-        subst P (same_from_push found.line line 10 last (sym ended ∙ split)).0 found.words
+      | inl same ↦ absurd (words_end found.line line last sought (sym same ∙ split) found.words is_end)
+      | inr ended ↦
+          let P : List ℕ → Type 0 = λ l. FindWords l sought in
+          subst P (same_from_push found.line line 10 last (sym ended ∙ split)).0 found.words
     ]
 
 -- a script that does not is the words
 pub words_alone : (script line : List ℕ) (last : ℕ) (sought : Placed) → script ≡ line ++ last ∷ [] → last ≢ 10 → FindScript script sought → FindWords script sought
 words_alone script line last sought split no_end found =
     elim found.ended [
-      inl same ↦ let P : List ℕ → Type 0 = λ l. FindWords l sought in subst P (sym same) found.words
-    | inr ended ↦ absurd (no_end (same_from_push line found.line last 10 (sym split ∙ ended)).1)
+      | inl same ↦ let P : List ℕ → Type 0 = λ l. FindWords l sought in subst P (sym same) found.words
+      | inr ended ↦ absurd (no_end (same_from_push line found.line last 10 (sym split ∙ ended)).1)
     ]

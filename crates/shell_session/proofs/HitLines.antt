@@ -50,7 +50,7 @@ pub begun : (told taken taken' : Option (List ℕ)) (text : List ℕ) (hits : Li
 begun told taken taken' text hits i game below numbered before grew =
     let P : Option (List ℕ) → Type 0 = λ t. Grew taken' t in
     let e : adds taken (text ++ hit_lines game (get_or hits i None ∷ [])) ≡ adds told (hit_lines 0 (take (i + 1) hits)) =
-        lines_put told taken taken text (text ++ hit_lines game (get_or hits i None ∷ [])) hits i game below numbered before refl in
+    lines_put told taken taken text (text ++ hit_lines game (get_or hits i None ∷ [])) hits i game below numbered before refl in
     Grew-trans taken' (adds told (hit_lines 0 (take (i + 1) hits))) (adds told (find_text hits)) (subst P e grew) (find_text-begins told hits (i + 1))
 
 -- what was taken before the text that waits is a front part of the whole text

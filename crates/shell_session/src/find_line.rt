@@ -33,8 +33,14 @@ fn words_of(line: &[u8]) -> Option<Placed>
     ensures only { (sought : Placed) → FindWords line.now sought → IsSome result }
 {
     match line {
-        [b'f', b'i', b'n', b'd', b' ', placement @ .., b' ', b'w'] => placed(placement, Colour::White),
-        [b'f', b'i', b'n', b'd', b' ', placement @ .., b' ', b'b'] => placed(placement, Colour::Black),
+        [b'f', b'i', b'n', b'd', b' ', placement @ .., b' ', b'w'] => placed(
+            placement,
+            Colour::White,
+        ),
+        [b'f', b'i', b'n', b'd', b' ', placement @ .., b' ', b'b'] => placed(
+            placement,
+            Colour::Black,
+        ),
         _ => None,
     }
 }

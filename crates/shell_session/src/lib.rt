@@ -16,3 +16,6 @@ mod words;
 
 pub use run::session;
 pub use status::{LaterWhat, Status};
+
+#[cfg(test)]
+mod tests;

@@ -18,7 +18,7 @@ loop-hit-preserved g c = record {
   lines = lines_put _ _ _ _ _ c.args.hits.now c.loop-hit.hit-index c.loop-hit.game c.loop-hit-test.true c.loop-hit.invariant.game c.loop-hit.invariant.lines c.in_ok-put_game.ensures.put;
   none_lost = Grew-trans _ _ _ c.loop-hit.invariant.none_lost c.put_game.ensures.none_lost;
   counts = omega (arith, c.loop-hit.invariant.counts, c.put_game.ensures.counts);
-  game = omega (arith, c.loop-hit.invariant.game)
+  game = omega (arith, c.loop-hit.invariant.game);
 }
 
 pub returns-in_err-put_count-clause-no_more : goal.returns-in_err-put_count-clause-no_more

@@ -9,5 +9,5 @@ invariant-loop-hit g l = record {
   lines : adds (g.K.Sink.taken l.out) (string_bytes l.text) ≡ adds (g.K.Sink.taken l.fn.out) (hit_lines 0 (take l.hit-index l.hits));
   none_lost : Grew (g.K.Sink.taken l.fn.out) (g.K.Sink.taken l.out);
   counts : g.K.Sink.faults l.fn.out ≤ g.K.Sink.faults l.out;
-  game : l.game ≡ l.hit-index
+  game : l.game ≡ l.hit-index;
 }

@@ -25,7 +25,7 @@ returns-clause-answers g c index games script taken told_index told_games told_s
     let B : ℕ → Type 0 = λ n. IsIndex index n in
     let opens : Opens (given words index games script) = record { name = c.in-Some.name.now; named = c.in-Some.ensures.none; indexed = subst B same_len (subst A same_index c.in-Ok.ensures.indexed) } in
     let ends : EndsEarly index (Some games) (Some script) (g.K.Sink.taken c.args.out.now) (g.K.Sink.taken c.find.new.out) c.in-Err-find.status =
-        ends_told c.as_slice.result.now index games script _ _ _ _ _ (c.as_slice.ensures.value ∙ same_index) (c.open.ensures.contents.2 ∙ told_games) told_script c.in-Err-find.ensures.early in
+    ends_told c.as_slice.result.now index games script _ _ _ _ _ (c.as_slice.ensures.value ∙ same_index) (c.open.ensures.contents.2 ∙ told_games) told_script c.in-Err-find.ensures.early in
     let T : Option (List ℕ) → Type 0 = λ o. EndsEarly index (Some games) (Some script) o (g.K.Sink.taken c.find.new.out) c.in-Err-find.status in
     early_answers words index games script taken _ c.in-Err-find.status opens (subst T told_taken ends)
 
@@ -33,8 +33,8 @@ pub returns-clause-completes : goal.returns-clause-completes
 returns-clause-completes g c index games script text told_index told_games told_script finds no_files no_input no_output =
     let same_index : c.in-Ok.index.items ≡ index = told_is _ _ index told_index c.in-Ok.ensures.index_told in
     let ends : EndsEarly index (Some games) (Some script) (g.K.Sink.taken c.args.out.now) (g.K.Sink.taken c.find.new.out) c.in-Err-find.status =
-        ends_told c.as_slice.result.now index games script _ _ _ _ _ (c.as_slice.ensures.value ∙ same_index) (c.open.ensures.contents.2 ∙ told_games) told_script c.in-Err-find.ensures.early in
+    ends_told c.as_slice.result.now index games script _ _ _ _ _ (c.as_slice.ensures.value ∙ same_index) (c.open.ensures.contents.2 ∙ told_games) told_script c.in-Err-find.ensures.early in
     inr (ends_for_memory _ index games script text _ _ c.in-Err-find.status finds ends
-      (λ is. no_input (c.in-Err-find.ensures.read_fault is))
-      (λ is. no_output (c.in-Err-find.ensures.write_fault is))
-      (λ is. no_files (Rose-earlier _ _ _ c.open.ensures.counts (c.in-Err-find.ensures.files_fault is))))
+    (λ is. no_input (c.in-Err-find.ensures.read_fault is))
+    (λ is. no_output (c.in-Err-find.ensures.write_fault is))
+    (λ is. no_files (Rose-earlier _ _ _ c.open.ensures.counts (c.in-Err-find.ensures.files_fault is))))

@@ -9,7 +9,7 @@ pub returns-in_err-add_hit-clause-refused : goal.returns-in_err-add_hit-clause-r
 returns-in_err-add_hit-clause-refused g c =
     let below : c.loop-game.game < game_count c.args.index.now = omega (arith, c.loop-game-test.true, c.count_of-game-end.ensures) in
     let refused : SearchRefused c.args.index.now (g.F.Files.games c.args.files.now) c.in_err-add_hit.field-0.0 =
-        search_refused _ _ c.args.sought.now _ c.loop-game.game _ c.in_err-add_hit.field-0.0 c.loop-game.invariant.games_told below c.loop-game.invariant.found c.in_err-add_hit.ensures.refused in
+    search_refused _ _ c.args.sought.now _ c.loop-game.game _ c.in_err-add_hit.field-0.0 c.loop-game.invariant.games_told below c.loop-game.invariant.found c.in_err-add_hit.ensures.refused in
     search rules
 
 pub returns-in_err-add_hit-clause-asks : goal.returns-in_err-add_hit-clause-asks
@@ -28,5 +28,5 @@ loop-game-preserved g c = record {
   names_told = c.add_hit.ensures.contents.1 ∙ c.loop-game.invariant.names_told;
   games_told = c.add_hit.ensures.contents.2 ∙ c.loop-game.invariant.games_told;
   none_chosen = c.add_hit.ensures.none_chosen ∙ c.loop-game.invariant.none_chosen;
-  counts = omega (arith, c.loop-game.invariant.counts, c.add_hit.ensures.counts)
+  counts = omega (arith, c.loop-game.invariant.counts, c.add_hit.ensures.counts);
 }

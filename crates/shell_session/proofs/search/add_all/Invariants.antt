@@ -15,5 +15,5 @@ invariant-loop-game g l = record {
   names_told : g.F.Files.names l.files ≡ g.F.Files.names l.fn.files;
   games_told : g.F.Files.games l.files ≡ g.F.Files.games l.fn.files;
   none_chosen : g.F.Files.choices l.files ≡ g.F.Files.choices l.fn.files;
-  counts : g.F.Files.faults l.fn.files ≤ g.F.Files.faults l.files
+  counts : g.F.Files.faults l.fn.files ≤ g.F.Files.faults l.files;
 }

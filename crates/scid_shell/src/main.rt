@@ -1,0 +1,71 @@
+//! `scid_shell BASE`: runs the script on standard input over a Scid base, and writes its text on standard output.
+#![tactic(auto)]
+
+mod messages;
+
+use base_files::disk_files::DiskFiles;
+use base_files::faults::DeviceError;
+use base_files::std_sink::StdSink;
+use base_files::std_source::StdSource;
+use messages::{HELP, VERSION, message};
+use shell_session::{LaterWhat, Status, session};
+use std::io::ErrorKind;
+use std::process::ExitCode;
+use std::{env, io};
+
+fn main(rt: HostRuntime) -> ExitCode {
+    match words(&rt) {
+        Ok(words) => answer(&rt, words.as_slice()),
+        Err(status) => end(&rt, status),
+    }
+}
+
+/// The words after the program's name. A word that is no text is a faulty command line.
+fn words(rt: &HostRuntime) -> Result<Vec<String>, Status> {
+    match env::args(rt) {
+        Ok(args) => args
+            .skip(1)
+            .collect(rt.alloc())
+            .map_err(|_| Status::Memory),
+        Err(error) if error.kind() == ErrorKind::OutOfMemory => Err(Status::Memory),
+        Err(_) => Err(Status::Later(LaterWhat::Words)),
+    }
+}
+
+/// Answers the single words `--help` and `--version`, and runs the session for all others.
+fn answer(rt: &HostRuntime, words: &[String]) -> ExitCode {
+    match words {
+        [word] if word.as_str() == "--help" => end(rt, printed(print!(rt; "{HELP}"))),
+        [word] if word.as_str() == "--version" => end(rt, printed(print!(rt; "{VERSION}"))),
+        _ => end(rt, run(rt, words)),
+    }
+}
+
+/// The status after a text was printed.
+fn printed(outcome: io::Result<()>) -> Status {
+    match outcome {
+        Ok(()) => Status::Done,
+        Err(_) => Status::WriteFault,
+    }
+}
+
+/// Runs the session over the real files and streams.
+fn run(rt: &HostRuntime, words: &[String]) -> Status {
+    let mut files = DiskFiles::new(rt.alloc(), rt);
+    let mut input = StdSource::new(rt.stdin());
+    let mut out = StdSink::new(rt.stdout());
+    let status = session(rt.alloc(), words, &mut files, &mut input, &mut out);
+    match (status, out.flush()) {
+        (Status::Done, Err(DeviceError::Memory)) => Status::Memory,
+        (Status::Done, Err(DeviceError::Failed)) => Status::WriteFault,
+        _ => status,
+    }
+}
+
+/// Says on standard error how the session ended, unless it is done, and gives the exit code.
+fn end(rt: &HostRuntime, status: Status) -> ExitCode {
+    if let Some(line) = message(status) {
+        let _ = eprintln!(rt; "{line}");
+    }
+    ExitCode::from(status.exit_code())
+}
