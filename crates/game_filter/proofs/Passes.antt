@@ -1,5 +1,6 @@
 -- A pass over a filter that has come to game n: the games below n are changed, the others are not yet.
-use Rattle.std.proofs.Common.{◌≡◌, ℕ, ◌+◌, ◌<◌, suc, zero, List, [], ◌∷◌, Option, Some, None, length, get_or, set, refl, ap, arith, add-one, zero-add}
+use Rattle.std.proofs.Common.{◌≡◌, ℕ, ◌+◌, ◌<◌, suc, zero, List, [], ◌∷◌, Option, Some, None, length, get_or, set, slice_get, refl, ap, arith, add-one}
+use Rattle.std.proofs.lemmas.Option.{get_or_from_slice_get}
 use Rattle.game_filter.specs.Filter.{joined, entry_within, restricted_from}
 
 abbrev pub joined_below : (Option ℕ → Option ℕ → Option ℕ) → ℕ → List (Option ℕ) → List (Option ℕ) → List (Option ℕ)
@@ -75,3 +76,12 @@ pub restricted_step : (n first last : ℕ) (plies now : List (Option ℕ)) (ply 
     → ply ≡ entry_within first last n (get_or now n None) → set now n ply ≡ restricted_below (n + 1) 0 first last plies
 restricted_step n first last plies now ply within is read =
     rw (read, is, get_or-restricted_below, add-one) (restricted_below_more n 0 n first last plies None within (omega arith))
+
+-- the same for a loop over a `Filter`, whose `get` gave the old entry: a search's step
+pub joined_step_at : (join : Option ℕ → Option ℕ → Option ℕ) (n : ℕ) (owns others now : List (Option ℕ)) (old first : Option ℕ)
+    → n < length owns → n < length others → now ≡ joined_below join n owns others
+    → slice_get now n ≡ Some old → slice_get others n ≡ Some first → set now n (join old first) ≡ joined_below join (n + 1) owns others
+joined_step_at join n owns others now old first within there is own other =
+    let read : join old first ≡ join (get_or now n None) (get_or others n None) =
+    rw (get_or_from_slice_get now n old None own, get_or_from_slice_get others n first None other) refl in
+    joined_step join n owns others now (join old first) within there is read

@@ -1,7 +1,7 @@
 -- A filter is a list of optional plies, one per game: the ply at which the game is in, or none where
 -- it is out. Each operation on filters is a function of such lists. This project's own; the
 -- operations are those of Scid's filters.
-use Rattle.std.specs.Prelude.{ℕ, ◌+◌, Bool, nat_le, ◌&&◌, if◌then◌else◌, List, [], ◌∷◌, Option, Some, None, map, length, replicate, count_by, is_some}
+use Rattle.std.specs.Prelude.{ℕ, ◌+◌, nat_le, ◌&&◌, if◌then◌else◌, List, [], ◌∷◌, Option, Some, None, map, replicate, count_by, is_some}
 
 -- the number of games that are in
 abbrev pub count_in : List (Option ℕ) → ℕ

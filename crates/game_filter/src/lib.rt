@@ -7,6 +7,8 @@
 mod filter;
 mod op;
 mod plies;
+#[cfg(test)]
+mod tests;
 
 pub use filter::Filter;
 pub use op::Op;

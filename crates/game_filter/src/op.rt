@@ -1,5 +1,3 @@
-ghost use Rattle.std.specs.Prelude.{◌≡◌};
-
 /// How a search joins its matches with the filter that it finds.
 #[derive(Clone, Copy, Debug, PartialEq, Eq, Hash)]
 pub enum Op {
@@ -12,7 +10,23 @@ pub enum Op {
 }
 
 impl Op {
-    ghost use Rattle.game_filter.specs.Search.{entry_after};
+    ghost use Rattle.std.specs.Prelude.{◌≡◌, ℕ, Option, false};
+    ghost use Rattle.game_filter.specs.Search.{entry_after, looks_at};
+
+    /// Whether a search has to know the first matching ply of a game whose entry is `old`: of all
+    /// games, of those that are in, or of those that are out.
+    ///
+    /// A game that is not looked at keeps its entry.
+    pub fn looks_at(self, old: Option<u32>) -> bool
+        ensures looks { result ≡ looks_at self old }
+        ensures kept { (first : Option ℕ) → result ≡ false → entry_after self old first ≡ old }
+    {
+        match self {
+            Op::Ignore => true,
+            Op::And => old.is_some(),
+            Op::Or => old.is_none(),
+        }
+    }
 
     /// The entry of a game after a search, from its entry `old` and its first matching ply.
     pub fn entry(self, old: Option<u32>, first: Option<u32>) -> Option<u32>

@@ -1,5 +1,5 @@
 use Rattle.std.proofs.Common.{◌≡◌, arith, length, ◌∙◌}
-use Rattle.game_filter.specs.Filter.{in_either, count_in}
+use Rattle.game_filter.specs.Filter.{in_either}
 use Rattle.game_filter.proofs.Counts.{count_in_more}
 use Rattle.game_filter.proofs.Passes.{joined_step, joined_below_all}
 use Rattle.game_filter.proofs.plies.unite.Goals as goal
