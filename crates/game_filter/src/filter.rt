@@ -1,0 +1,142 @@
+use crate::plies;
+use std::alloc::{AllocError, Global};
+use std::marker::Model;
+
+/// The games of a base that are in, each with the ply at which it matched.
+///
+/// Contracts see a filter as the list of its optional plies, one per game: a ply where the game is
+/// in, none where it is out. It takes 8 bytes a game, and its number of games in is kept beside them.
+#[derive(Debug, Drop)]
+pub struct Filter {
+    plies: Vec<Option<u32>>,
+    count: u32,
+}
+
+impl Model for Filter {
+    ghost use Rattle.std.specs.Prelude.{◌≡◌, ◌^◌, ◌<◌, ℕ, List, Option, vec_len};
+    ghost use Rattle.game_filter.specs.Filter.{count_in};
+
+    ghost Value = { List (Option ℕ) };
+
+    ghost view = { λ f. f.plies.items };
+
+    ghost invariant = { λ f. (vec_len f.plies < 2 ^ 32) × (f.count ≡ count_in f.plies.items) };
+}
+
+impl Filter {
+    ghost use Rattle.std.specs.Prelude.{◌≡◌, ◌<◌, [], ◌∷◌, ◌++◌, Some, length, map, slice_get, slice_set, IfOk, OnOk, OnErr};
+    ghost use Rattle.game_filter.specs.Filter.{all_in, all_out, count_in, negated, intersection, union, restricted};
+
+    /// The filter of `n` games that has every one of them in, at ply 0.
+    pub fn new(alloc: Global, n: u32) -> Result<Filter, AllocError>
+        ensures all { IfOk result (λ filter. filter ≡ all_in n) }
+    {
+        let mut plies = Vec::with_capacity(alloc, n as usize)?;
+        plies.resize(n as usize, Some(0))?;
+        Ok(Filter { plies, count: n })
+    }
+
+    /// A filter with the same entries.
+    pub fn copy(&self, alloc: Global) -> Result<Filter, AllocError>
+        ensures same { IfOk result (λ filter. filter ≡ self.now) }
+    {
+        let plies = Vec::from_slice(alloc, self.plies.as_slice())?;
+        Ok(Filter {
+            plies,
+            count: self.count,
+        })
+    }
+
+    /// Adds the entry of one more game. After an error the filter is as it was.
+    ///
+    /// The entries grow by the allocator that they were made with.
+    pub fn push(&mut self, _alloc: Global, ply: Option<u32>) -> Result<(), AllocError>
+        requires room { length self.old < u32.MAX }
+        ensures added { OnOk result (self.new ≡ self.old ++ ply ∷ []) }
+        ensures unchanged { OnErr result (self.new ≡ self.old) }
+    {
+        self.plies.push(ply)?;
+        self.count += u32::from(ply.is_some());
+        Ok(())
+    }
+
+    /// The number of games.
+    pub fn len(&self) -> u32
+        ensures len { result ≡ length self.now }
+    {
+        self.plies.len() as u32
+    }
+
+    /// The number of games that are in.
+    pub fn count(&self) -> u32
+        ensures count { result ≡ count_in self.now }
+    {
+        self.count
+    }
+
+    /// The ply at which game `i` is in, or none where it is out.
+    pub fn get(&self, i: u32) -> Option<u32>
+        requires game { i < length self.now }
+        ensures entry { slice_get self.now i ≡ Some result }
+    {
+        self.plies[i as usize]
+    }
+
+    /// Puts game `i` in at a ply, or out.
+    pub fn set(&mut self, i: u32, ply: Option<u32>)
+        requires game { i < length self.old }
+        ensures changed { self.new ≡ slice_set self.old i ply }
+    {
+        let entry = &mut self.plies[i as usize];
+        let was_in = entry.is_some();
+        *entry = ply;
+        self.count = self.count - u32::from(was_in) + u32::from(ply.is_some());
+    }
+
+    /// Puts every game in, at ply 0.
+    pub fn reset(&mut self)
+        ensures all { self.new ≡ all_in (length self.old) }
+    {
+        let games = self.len();
+        self.plies.as_mut_slice().fill(Some(0));
+        self.count = games;
+    }
+
+    /// Puts every game out.
+    pub fn clear(&mut self)
+        ensures none { self.new ≡ all_out (length self.old) }
+    {
+        self.plies.as_mut_slice().fill(None);
+        self.count = 0;
+    }
+
+    /// Puts the games that are in out, and those that are out in at ply 0.
+    pub fn negate(&mut self)
+        ensures negated { self.new ≡ negated self.old }
+    {
+        self.count = plies::negate(self.plies.as_mut_slice(), self.count);
+    }
+
+    /// Keeps the games that are in both filters, at their own plies.
+    pub fn and(&mut self, other: &Filter)
+        requires same_games { length self.old ≡ length other.now }
+        ensures both { self.new ≡ intersection self.old other.now }
+    {
+        self.count = plies::intersect(self.plies.as_mut_slice(), other.plies.as_slice());
+    }
+
+    /// Adds the games that are in `other` alone, at the plies that they have there.
+    pub fn or(&mut self, other: &Filter)
+        requires same_games { length self.old ≡ length other.now }
+        ensures either { self.new ≡ union self.old other.now }
+    {
+        self.count = plies::unite(self.plies.as_mut_slice(), other.plies.as_slice());
+    }
+
+    /// Puts out every game whose number is below `first` or above `last`.
+    pub fn restrict(&mut self, first: u32, last: u32)
+        ensures restricted { self.new ≡ restricted first last self.old }
+    {
+        self.count = plies::restrict(self.plies.as_mut_slice(), first, last);
+    }
+}

@@ -1,0 +1,14 @@
+//! Filters: which games of a base are looked at, and at which ply each of them matched.
+//!
+//! A [`Filter`] has one entry per game: the ply at which the game is in, or none where it is out.
+//! Every search and every filter command works on one.
+#![tactic(auto)]
+
+mod filter;
+mod op;
+mod plies;
+#[cfg(test)]
+mod tests;
+
+pub use filter::Filter;
+pub use op::Op;
