@@ -1,6 +1,0 @@
-pub mod Geometry
-pub mod Attacks
-pub mod Castling
-pub mod Position
-pub mod Step
-pub mod Counts
