@@ -1,5 +1,5 @@
 //! What is counted on a board.
-ghost use Rattle.std.specs.Prelude.{◌≡◌, ◌↔◌, ℕ, ◌<◌, IsTrue, IsBitSet, count_by, MatchOption, ◌≢◌};
+ghost use Rattle.std.specs.Prelude.{◌≡◌, ◌↔◌, ℕ, ◌<◌, ◌≤◌, IsTrue, IsBitSet, count_by, MatchOption, ◌≢◌};
 ghost use Rattle.std.specs.List.{position_or_len};
 ghost use Rattle.cell_core.specs.Man.{is_of, is_man};
 ghost use Rattle.cell_core.specs.declared.man.Kind.TheVariants.{King};

@@ -192,7 +192,7 @@ fn place(
     if attacks(board, side, resting_king) {
         return Err(PlaceFault::InCheck);
     }
-    if !has_fit_en_passant(side, en_passant) {
+    if !has_fit_en_passant(side, &en_passant) {
         return Err(PlaceFault::EnPassant);
     }
     let rights = standing_rights(board, rights);

@@ -21,8 +21,8 @@ fn is_pawn(cell: &Option<Man>) -> bool {
 }
 
 /// Whether the en passant square, if there is one, stands on the rank that fits the side to move.
-pub fn has_fit_en_passant(side: Colour, square: Option<Square>) -> bool
-    ensures { IsTrue result ↔ HasFitEnPassant side square }
+pub fn has_fit_en_passant(side: Colour, square: &Option<Square>) -> bool
+    ensures { IsTrue result ↔ HasFitEnPassant side square.now }
 {
     let rank = match side {
         Colour::White => 5,
