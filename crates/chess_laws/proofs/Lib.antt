@@ -1,3 +1,4 @@
 pub mod Shifts
 pub mod Kings
 pub mod Walks
+pub mod Attackers
