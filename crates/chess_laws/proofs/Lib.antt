@@ -2,3 +2,4 @@ pub mod Shifts
 pub mod Kings
 pub mod Walks
 pub mod Attackers
+pub mod Home
