@@ -3,3 +3,4 @@ pub mod Kings
 pub mod Walks
 pub mod Attackers
 pub mod Home
+pub mod Pawns
