@@ -24,11 +24,8 @@ use Rattle.chess_laws.specs.Castling.{king_home, king_target, rook_home, rook_ta
 use Rattle.chess_laws.specs.Position.{Sound, HasKings, HasPawnsInside, HasFewMen, HasFitRights, HasFitEnPassant, en_passant_rank}
 use Rattle.chess_laws.specs.Step
 use Rattle.chess_laws.specs.Step.{effect_as, effect_on, effect_of, HasNoOwn, GoesPlainly, may_become, promotes_rightly, last_rank, pawn_rank, PlainCase, DoubleCase, PassingCase, CastleCase, NullCase, Case, arriving, moved, passed_square, board_after, rights_left, crossed_square, en_passant_after, after}
+use Rattle.chess_laws.proofs.Shifts.{shift-Some}
 use Rattle.chess_laws.proofs.Boards.{put-same, put-other, length-put, other-other, colour_cases, on_board, relocate, Goes, Kept, Kept-goes, Kept-away}
-
--- a step leads that many ranks up or down
-shift-ranks : (o : Offset) (a b : ℕ) → shift o a ≡ Some b → rank_of b + o.down ≡ rank_of a + o.up
-shift-ranks o a b h = ?
 
 other-apart : (c : Colour) → other c ≡ c → ⊥
 other-apart White h = cc
@@ -93,8 +90,8 @@ Ahead White n a b = rank_of b ≡ rank_of a + n
 Ahead Black n a b = rank_of b + n ≡ rank_of a
 
 forward-ahead : (c : Colour) (a b : ℕ) → Leaps a b (forward c) → Ahead c 1 a b
-forward-ahead White a b h = let ranks = shift-ranks (forward White) a b h in omega arith
-forward-ahead Black a b h = let ranks = shift-ranks (forward Black) a b h in omega arith
+forward-ahead White a b h = let ranks = (shift-Some (forward White) a b h).ranks in omega arith
+forward-ahead Black a b h = let ranks = (shift-Some (forward Black) a b h).ranks in omega arith
 
 one_of_two : (P : Offset → Type 0) (x y : Offset) → Any P (x ∷ y ∷ []) → P x ⊎ P y
 one_of_two P x y (zero, z, less, is, holds) = inl (rw (← is) at holds)
@@ -103,12 +100,12 @@ one_of_two P x y (suc (suc n), z, less, is, holds) = absurd (omega arith)
 
 captures-ahead : (c : Colour) (a b : ℕ) → Any (Leaps a b) (pawn_captures c) → Ahead c 1 a b
 captures-ahead White a b h = elim (one_of_two (Leaps a b) (by 1 0 1 0) (by 0 1 1 0) h) [
-    | inl right ↦ let ranks = shift-ranks (by 1 0 1 0) a b right in omega arith
-    | inr left ↦ let ranks = shift-ranks (by 0 1 1 0) a b left in omega arith
+    | inl right ↦ let ranks = (shift-Some (by 1 0 1 0) a b right).ranks in omega arith
+    | inr left ↦ let ranks = (shift-Some (by 0 1 1 0) a b left).ranks in omega arith
   ]
 captures-ahead Black a b h = elim (one_of_two (Leaps a b) (by 1 0 0 1) (by 0 1 0 1) h) [
-    | inl right ↦ let ranks = shift-ranks (by 1 0 0 1) a b right in omega arith
-    | inr left ↦ let ranks = shift-ranks (by 0 1 0 1) a b left in omega arith
+    | inl right ↦ let ranks = (shift-Some (by 1 0 0 1) a b right).ranks in omega arith
+    | inr left ↦ let ranks = (shift-Some (by 0 1 0 1) a b left).ranks in omega arith
   ]
 
 ahead-inside : (c : Colour) (a b : ℕ) → Ahead c 1 a b → b < 64 → (0 < rank_of a) × (rank_of a < 7) → (rank_of b ≡ last_rank c → ⊥) →
