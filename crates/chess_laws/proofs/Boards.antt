@@ -4,7 +4,7 @@ use Rattle.std.proofs.Math.ListN.{length-set}
 use Rattle.std.proofs.lemmas.Bool.{cases_eq, cases_lt, and_parts, false_from_ne_true}
 use Rattle.std.proofs.lemmas.Grind.{common_steps}
 use Rattle.std.proofs.lemmas.List.{get_or-set_same, get_or-set_other, get_or_past}
-use Rattle.std.proofs.lemmas.List.Sums.{sum_by-set}
+use Rattle.std.proofs.lemmas.List.Sums.{sum_by-set, position_or_len_is}
 use Rattle.cell_core.specs.declared.man.Colour.{Colour}
 use Rattle.cell_core.specs.declared.man.Colour.TheVariants.{White, Black}
 use Rattle.cell_core.specs.declared.man.Kind.{Kind}
@@ -13,7 +13,8 @@ use Rattle.cell_core.specs.declared.man.Man.{Man}
 use Rattle.cell_core.specs.Board.{Men, man_at, put}
 use Rattle.cell_core.specs.Man.{man, other, kind_number, same_colour, same_kind, is_man, is_of}
 use Rattle.chess_laws.specs.Geometry.{rank_of}
-use Rattle.chess_laws.specs.Position.{HasKings, HasPawnsInside, HasFewMen}
+use Rattle.chess_laws.specs.Position.{HasKings, HasPawnsInside, HasFewMen, king_square}
+use Rattle.chess_laws.specs.Legal.{IsOnlyKing}
 
 pub put-same : (men : Men) (s : ℕ) (x : Option Man) → length men ≡ 64 → s < 64 → man_at (put men s x) s ≡ x
 put-same men s x l h = get_or-set_same men s x None (omega arith)
@@ -106,9 +107,9 @@ colour_cases Black Black = inl refl
 -- no square past the last holds a man
 pub on_board : (men : Men) (s : ℕ) (m : Man) → length men ≡ 64 → man_at men s ≡ Some m → s < 64
 on_board men s m l h = elim (cases_lt s 64) [
-    | inl less ↦ less
-    | inr past ↦ let none : man_at men s ≡ None = get_or_past men s None (omega arith) in absurd (cc)
-  ]
+  | inl less ↦ less
+  | inr past ↦ let none : man_at men s ≡ None = get_or_past men s None (omega arith) in absurd (cc)
+]
 
 -- the board after a man has gone from one square to another, where it may become another
 abbrev pub relocate : Men → ℕ → ℕ → Option Man → Men
@@ -156,27 +157,27 @@ Goes-few men a b c k j g few d =
 Goes-stands : (men : Men) (a b : ℕ) (c : Colour) (k j : Kind) → Goes men a b c k j → (s : ℕ) (x : Man) →
     man_at (relocate men a b (Some (man c j))) s ≡ Some x → ((s ≡ b) × (x ≡ man c j)) ⊎ (man_at men s ≡ Some x)
 Goes-stands men a b c k j g s x h = elim (cases_eq s b) [
-    | inl same ↦
+  | inl same ↦
       let here = put-same (put men a None) b (Some (man c j)) (length-put men a None g.squares) g.target in
       let h' = rw same at h in
       inl (same, cc)
-    | inr apart ↦
+  | inr apart ↦
       let first = put-other (put men a None) b s (Some (man c j)) apart in
       elim (cases_eq s a) [
         | inl same ↦
-          let gone = put-same men a None g.squares (on_board men a (man c k) g.squares g.from) in
-          let h' = rw (first, same, gone) at h in
-          absurd (cc)
+            let gone = put-same men a None g.squares (on_board men a (man c k) g.squares g.from) in
+            let h' = rw (first, same, gone) at h in
+            absurd (cc)
         | inr away ↦ inr (sym (first ∙ put-other men a s None away) ∙ h)
       ]
-  ]
+]
 
 Goes-pawns : (men : Men) (a b : ℕ) (c : Colour) (k j : Kind) → Goes men a b c k j → (j ≡ Pawn → (0 < rank_of b) × (rank_of b < 7)) →
     HasPawnsInside men → HasPawnsInside (relocate men a b (Some (man c j)))
 Goes-pawns men a b c k j g inside pawns s d h = elim (Goes-stands men a b c k j g s (man d Pawn) h) [
-    | inl here ↦ let e : s ≡ b = here.0 in rw e (inside (sym (ap (λ m. m.kind) here.1)))
-    | inr before ↦ pawns s d before
-  ]
+  | inl here ↦ let e : s ≡ b = here.0 in rw e (inside (sym (ap (λ m. m.kind) here.1)))
+  | inr before ↦ pawns s d before
+]
 
 -- a man that is no king is taken away
 Goes-away-kings : (men : Men) (s : ℕ) (m : Man) → length men ≡ 64 → man_at men s ≡ Some m → ((d : Colour) → man_at men s ≡ Some (man d King) → ⊥) →
@@ -196,9 +197,9 @@ Goes-away-few men s l h few d =
 
 Goes-away-pawns : (men : Men) (s : ℕ) → length men ≡ 64 → s < 64 → HasPawnsInside men → HasPawnsInside (put men s None)
 Goes-away-pawns men s l h pawns t d stands = elim (cases_eq t s) [
-    | inl same ↦ let gone = put-same men s None l h in let e = rw same at stands in absurd (cc)
-    | inr apart ↦ pawns t d (sym (put-other men s t None apart) ∙ stands)
-  ]
+  | inl same ↦ let gone = put-same men s None l h in let e = rw same at stands in absurd (cc)
+  | inr apart ↦ pawns t d (sym (put-other men s t None apart) ∙ stands)
+]
 
 -- what a board keeps in every move: its 64 squares, one king a side, no pawn on the first or last rank, at most 16 men a side
 pub record Kept (men : Men) : Type 0 where
@@ -210,11 +211,11 @@ pub record Kept (men : Men) : Type 0 where
 pub Kept-goes : (men : Men) (a b : ℕ) (c : Colour) (k j : Kind) → Kept men → Goes men a b c k j → (j ≡ Pawn → (0 < rank_of b) × (rank_of b < 7)) →
     Kept (relocate men a b (Some (man c j)))
 Kept-goes men a b c k j kept g inside = record {
-    squares = length-put (put men a None) b (Some (man c j)) (length-put men a None kept.squares);
-    kings = Goes-kings men a b c k j g kept.kings;
-    pawns = Goes-pawns men a b c k j g inside kept.pawns;
-    few = Goes-few men a b c k j g kept.few
-  }
+  squares = length-put (put men a None) b (Some (man c j)) (length-put men a None kept.squares);
+  kings = Goes-kings men a b c k j g kept.kings;
+  pawns = Goes-pawns men a b c k j g inside kept.pawns;
+  few = Goes-few men a b c k j g kept.few;
+}
 
 pub Kept-away : (men : Men) (s : ℕ) (m : Man) → Kept men → man_at men s ≡ Some m → ((d : Colour) → man_at men s ≡ Some (man d King) → ⊥) →
     Kept (put men s None)
@@ -224,5 +225,34 @@ Kept-away men s m kept stands kingless =
       squares = length-put men s None kept.squares;
       kings = Goes-away-kings men s m kept.squares stands kingless kept.kings;
       pawns = Goes-away-pawns men s kept.squares here kept.pawns;
-      few = Goes-away-few men s kept.squares here kept.few
+      few = Goes-away-few men s kept.squares here kept.few;
     }
+
+-- where one man passes a test, each square with such a man is that one
+pub one-place : (p : Option Man → Bool) (men : Men) (s t : ℕ) → p None ≡ false → length men ≡ 64 → count_by p men ≡ 1 → s < 64 → t < 64 →
+    p (man_at men s) ≡ true → p (man_at men t) ≡ true → t ≡ s
+one-place p men s t none l one less below here there = elim (cases_eq t s) [
+    | inl same ↦ same
+    | inr apart ↦
+      let first = rw (here, none) at (count-put p men s None l less) in
+      let still : p (man_at (put men s None) t) ≡ true = rw (put-other men s t None apart) there in
+      let second = rw (still, none) at (count-put p (put men s None) t None (length-put men s None l) below) in
+      absurd (omega arith)
+  ]
+
+-- the one king of a colour stands on no other square
+pub only-king : (men : Men) (c : Colour) (s : ℕ) → length men ≡ 64 → HasKings men → man_at men s ≡ Some (man c King) → IsOnlyKing men c s
+only-king men c s l kings stands = record {
+    stands = stands;
+    only = λ t other. one-place (is_man c King) men s t refl l (kings c) (on_board men s (man c King) l stands) (on_board men t (man c King) l other)
+        (is_man-stands c King (man_at men s) stands) (is_man-stands c King (man_at men t) other)
+  }
+
+-- so the first square with such a king is that one
+pub king_square-is : (men : Men) (c : Colour) (s : ℕ) → length men ≡ 64 → HasKings men → man_at men s ≡ Some (man c King) → s ≡ king_square men c
+king_square-is men c s l kings stands =
+    let only = only-king men c s l kings stands in
+    let less = on_board men s (man c King) l stands in
+    let before : (k : ℕ) → k < s → is_man c King (man_at men k) ≡ false =
+        λ k below. is_man-not c King (man_at men k) (λ h. let e : k ≡ s = only.only k h in omega arith) in
+    sym (position_or_len_is (is_man c King) men s None (omega arith) before (λ _. is_man-stands c King (man_at men s) stands))

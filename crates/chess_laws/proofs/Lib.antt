@@ -1,3 +1,5 @@
 pub mod Shifts
 pub mod Boards
 pub mod Keeping
+pub mod Paths
+pub mod Running

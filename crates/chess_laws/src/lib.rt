@@ -3,9 +3,12 @@
 #![tactic(auto)]
 
 pub mod attack;
+mod cases;
+mod castling;
 mod census;
 pub mod effect;
 pub mod fault;
+mod next;
 pub mod offset;
 pub mod position;
 mod rules;
