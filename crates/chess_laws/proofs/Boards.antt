@@ -232,21 +232,21 @@ Kept-away men s m kept stands kingless =
 pub one-place : (p : Option Man → Bool) (men : Men) (s t : ℕ) → p None ≡ false → length men ≡ 64 → count_by p men ≡ 1 → s < 64 → t < 64 →
     p (man_at men s) ≡ true → p (man_at men t) ≡ true → t ≡ s
 one-place p men s t none l one less below here there = elim (cases_eq t s) [
-    | inl same ↦ same
-    | inr apart ↦
+  | inl same ↦ same
+  | inr apart ↦
       let first = rw (here, none) at (count-put p men s None l less) in
       let still : p (man_at (put men s None) t) ≡ true = rw (put-other men s t None apart) there in
       let second = rw (still, none) at (count-put p (put men s None) t None (length-put men s None l) below) in
       absurd (omega arith)
-  ]
+]
 
 -- the one king of a colour stands on no other square
 pub only-king : (men : Men) (c : Colour) (s : ℕ) → length men ≡ 64 → HasKings men → man_at men s ≡ Some (man c King) → IsOnlyKing men c s
 only-king men c s l kings stands = record {
-    stands = stands;
-    only = λ t other. one-place (is_man c King) men s t refl l (kings c) (on_board men s (man c King) l stands) (on_board men t (man c King) l other)
-        (is_man-stands c King (man_at men s) stands) (is_man-stands c King (man_at men t) other)
-  }
+  stands = stands;
+  only = λ t other. one-place (is_man c King) men s t refl l (kings c) (on_board men s (man c King) l stands) (on_board men t (man c King) l other)
+      (is_man-stands c King (man_at men s) stands) (is_man-stands c King (man_at men t) other);
+}
 
 -- so the first square with such a king is that one
 pub king_square-is : (men : Men) (c : Colour) (s : ℕ) → length men ≡ 64 → HasKings men → man_at men s ≡ Some (man c King) → s ≡ king_square men c
@@ -254,5 +254,5 @@ king_square-is men c s l kings stands =
     let only = only-king men c s l kings stands in
     let less = on_board men s (man c King) l stands in
     let before : (k : ℕ) → k < s → is_man c King (man_at men k) ≡ false =
-        λ k below. is_man-not c King (man_at men k) (λ h. let e : k ≡ s = only.only k h in omega arith) in
+    λ k below. is_man-not c King (man_at men k) (λ h. let e : k ≡ s = only.only k h in omega arith) in
     sym (position_or_len_is (is_man c King) men s None (omega arith) before (λ _. is_man-stands c King (man_at men s) stands))

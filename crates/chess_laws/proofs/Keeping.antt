@@ -541,19 +541,19 @@ king-stays king m h = rw (ne_eqb m.from king h)
 plain-king : (p : Setup) (m : Move) (king : ℕ) → Sound p → man_at p.board king ≡ Some (man p.side King) → PlainCase p m →
     man_at (moved p m) (king_after king m) ≡ Some (man p.side King)
 plain-king p m king sound stands case = elim (cases_eq m.from king) [
-    | inl moves ↦
+  | inl moves ↦
       let k = case.kind in
       let is : k ≡ King = man-kind p.side p.side k King (sym case.stands ∙ ap (man_at p.board) moves ∙ stands) in
       let lands : Lands k (lands_as k m.promo) (eqb (rank_of m.to) (last_rank p.side)) =
-          lands k (eqb (rank_of m.to) (last_rank p.side)) m.promo case.promotes in
+      lands k (eqb (rank_of m.to) (last_rank p.side)) m.promo case.promotes in
       let same : same_kind (lands_as k m.promo) King ≡ true = lands.same_king ∙ ap (λ j. same_kind j King) is in
       let becomes : lands_as k m.promo ≡ King = same_kind-true (lands_as k m.promo) King same in
       rw (king-moves king m moves)
-          (moved-lands p m sound.squares (plain-on_board p m k case.goes) ∙ arriving-lands p m k m.promo case.stands ∙ ap (λ j. Some (man p.side j)) becomes)
-    | inr away ↦
+      (moved-lands p m sound.squares (plain-on_board p m k case.goes) ∙ arriving-lands p m k m.promo case.stands ∙ ap (λ j. Some (man p.side j)) becomes)
+  | inr away ↦
       rw (king-stays king m away)
-          (moved-king p m king case.kind p.side stands case.stands (λ e. away (sym e)) (plain-no_king p m case.kind sound case.stands case.goes))
-  ]
+      (moved-king p m king case.kind p.side stands case.stands (λ e. away (sym e)) (plain-no_king p m case.kind sound case.stands case.goes))
+]
 
 -- a pawn's move leaves each king
 pawn-apart : (p : Setup) (m : Move) (king : ℕ) (c : Colour) → man_at p.board king ≡ Some (man c King) → man_at p.board m.from ≡ Some (man p.side Pawn) → m.from ≡ king → ⊥
@@ -569,7 +569,7 @@ passing-king : (p : Setup) (m : Move) (king : ℕ) (c : Colour) → man_at p.boa
     man_at (put (moved p m) (passed_square m) None) king ≡ Some (man c King)
 passing-king p m king c stands case =
     let away : king ≡ passed_square m → ⊥ = λ e.
-        let k = man-kind (other p.side) c Pawn King (sym case.passed ∙ ap (man_at p.board) (sym e) ∙ stands) in absurd (cc) in
+    let k = man-kind (other p.side) c Pawn King (sym case.passed ∙ ap (man_at p.board) (sym e) ∙ stands) in absurd (cc) in
     put-other (moved p m) (passed_square m) king None away ∙ pawn-king p m king c stands case.stands case.empty
 
 castle-king : (p : Setup) (m : Move) (w : Wing) → Sound p → CastleSquares p m w → CastleCase p m w →
@@ -579,7 +579,7 @@ castle-king p m w sound at case =
     let first = put (moved p m) (rook_home p.side w) None in
     let less : m.to < 64 = rw at.to (target-on_board p.side w) in
     let here : man_at (moved p m) m.to ≡ Some (man p.side King) =
-        moved-lands p m sound.squares less ∙ ap (arriving p m) case.promo ∙ case.stands in
+    moved-lands p m sound.squares less ∙ ap (arriving p m) case.promo ∙ case.stands in
     put-other first (rook_target p.side w) m.to (Some (man p.side Rook)) (λ e. apart.rook_to_to (sym e ∙ at.to))
     ∙ put-other (moved p m) (rook_home p.side w) m.to None (λ e. apart.rook_from_to (sym e ∙ at.to))
     ∙ here
@@ -604,13 +604,13 @@ resting-castle p m w king sound stands at case =
     let home = sound.rights p.side w case.right in
     let first = put (moved p m) (rook_home p.side w) None in
     let from : king ≡ m.from → ⊥ = λ e.
-        other-apart p.side (man-colour p.side (other p.side) King King (sym case.stands ∙ ap (man_at p.board) (sym e) ∙ stands)) in
+    other-apart p.side (man-colour p.side (other p.side) King King (sym case.stands ∙ ap (man_at p.board) (sym e) ∙ stands)) in
     let to : king ≡ m.to → ⊥ = λ e.
-        let gone : man_at p.board king ≡ None = rw (e, at.to) apart.king_to in cc stands in
+    let gone : man_at p.board king ≡ None = rw (e, at.to) apart.king_to in cc stands in
     let rook_from : king ≡ rook_home p.side w → ⊥ = λ e.
-        other-apart p.side (man-colour p.side (other p.side) Rook King (sym home.rook ∙ ap (man_at p.board) (sym e) ∙ stands)) in
+    other-apart p.side (man-colour p.side (other p.side) Rook King (sym home.rook ∙ ap (man_at p.board) (sym e) ∙ stands)) in
     let rook_to : king ≡ rook_target p.side w → ⊥ = λ e.
-        let gone : man_at p.board king ≡ None = rw e apart.rook_to in cc stands in
+    let gone : man_at p.board king ≡ None = rw e apart.rook_to in cc stands in
     put-other first (rook_target p.side w) king (Some (man p.side Rook)) rook_to
     ∙ put-other (moved p m) (rook_home p.side w) king None rook_from
     ∙ moved-other p m king from to
@@ -620,7 +620,7 @@ resting-king : (p : Setup) (m : Move) (e : Effect) (king : ℕ) → Sound p → 
     man_at (board_after p m e) king ≡ Some (man (other p.side) King)
 resting-king p m Plain king sound stands is case =
     let away : king ≡ m.from → ⊥ = λ e.
-        other-apart p.side (man-colour p.side (other p.side) case.kind King (sym case.stands ∙ ap (man_at p.board) (sym e) ∙ stands)) in
+    other-apart p.side (man-colour p.side (other p.side) case.kind King (sym case.stands ∙ ap (man_at p.board) (sym e) ∙ stands)) in
     moved-king p m king case.kind (other p.side) stands case.stands away (plain-no_king p m case.kind sound case.stands case.goes)
 resting-king p m Double king sound stands is case = pawn-king p m king (other p.side) stands case.stands case.target
 resting-king p m Passing king sound stands is case = passing-king p m king (other p.side) stands case
@@ -634,7 +634,7 @@ only-king-after p m king sound only case =
     let less = case-on_board p m (effect_of p m) sound refl case in
     let follow = follows p m (effect_of p m) sound less refl case in
     only-king (board_after p m (effect_of p m)) p.side (king_after king m) follow.board.squares follow.board.kings
-        (mover-king p m (effect_of p m) king sound only refl case)
+    (mover-king p m (effect_of p m) king sound only refl case)
 
 -- a move is legal where it is allowed and leaves the mover's king safe
 pub legal-from : (p : Setup) (m : Move) → Case p m (effect_of p m) → (IsInCheck (board_after p m (effect_of p m)) p.side → ⊥) → Legal p m

@@ -3,3 +3,5 @@ pub mod Boards
 pub mod Keeping
 pub mod Paths
 pub mod Running
+pub mod Kings
+pub mod Walks

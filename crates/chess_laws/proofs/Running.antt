@@ -65,11 +65,11 @@ run-from : (men : Men) (o : Offset) (n a b : ℕ) (next : Option ℕ) → shift 
     ((c d : ℕ) → run men o n d c ≡ true → Runs men c d o) → Runs men a b o
 run-from men o n a b None edge h rest = absurd (let e = rw (run-one men o n a b, edge) at h in false≢true e)
 run-from men o n a b (Some c) step h rest = elim (run-on men o n a b c step h) [
-    | inl here ↦ (zero, (step ∙ ap Some here))
-    | inr onward ↦
+  | inl here ↦ (zero, (step ∙ ap Some here))
+  | inr onward ↦
       let further : Runs men c b o = rest c b onward.1 in
       (suc further.0, (c, step, onward.0, further.1))
-  ]
+]
 
 run-walks : (men : Men) (o : Offset) (n a b : ℕ) → run men o n b a ≡ true → Runs men a b o
 run-walks men o zero a b h = absurd (run-none men o a b h)
@@ -144,20 +144,20 @@ still men o (suc n) a b files ranks walk =
 
 runs-run : (men : Men) (o : Offset) (a b : ℕ) → Runs men a b o → run men o 8 b a ≡ true
 runs-run men o a b (n, walk) = elim (cases_order o.left o.right) [
-    | inl files ↦ elim (cases_order o.down o.up) [
-        | inl ranks ↦
-          let here = still men o n a b files ranks walk in
-          walk-run men o 8 zero a b (omega arith) (here.1 ∙ ap Some (sym here.0))
-        | inr apart ↦ elim apart [
-            | inl up ↦ walk-run men o 8 n a b (up-short men o n a b up walk) walk
-            | inr down ↦ walk-run men o 8 n a b (down-short men o n a b down walk) walk
-          ]
-      ]
+  | inl files ↦ elim (cases_order o.down o.up) [
+    | inl ranks ↦
+        let here = still men o n a b files ranks walk in
+        walk-run men o 8 zero a b (omega arith) (here.1 ∙ ap Some (sym here.0))
     | inr apart ↦ elim apart [
-        | inl right ↦ walk-run men o 8 n a b (right-short men o n a b right walk) walk
-        | inr left ↦ walk-run men o 8 n a b (left-short men o n a b left walk) walk
-      ]
+      | inl up ↦ walk-run men o 8 n a b (up-short men o n a b up walk) walk
+      | inr down ↦ walk-run men o 8 n a b (down-short men o n a b down walk) walk
+    ]
   ]
+  | inr apart ↦ elim apart [
+    | inl right ↦ walk-run men o 8 n a b (right-short men o n a b right walk) walk
+    | inr left ↦ walk-run men o 8 n a b (left-short men o n a b left walk) walk
+  ]
+]
 
 -- the code's walk of at most eight steps finds each walk, and nothing else
 pub run_is : (men : Men) (o : Offset) (a b : ℕ) → IsTrue (run men o 8 b a) ↔ Runs men a b o

@@ -8,6 +8,7 @@ mod castling;
 mod census;
 pub mod effect;
 pub mod fault;
+mod legal;
 mod next;
 pub mod offset;
 pub mod position;

@@ -4,13 +4,16 @@ ghost use Rattle.cell_core.specs.Man.{man};
 ghost use Rattle.cell_core.specs.declared.man.Kind.TheVariants.{King};
 ghost use Rattle.chess_laws.specs.Attacks.{Attacks, IsInCheck};
 ghost use Rattle.chess_laws.specs.Counts.{counts_of, is_home};
+ghost use Rattle.chess_laws.specs.Position.{Sound, Breaks, setup_of};
 
 use super::attack::attacks;
 use super::census::{count_side, counts, home_set, only_king};
 use super::fault::PlaceFault;
+use super::legal::{is_legal, king_after};
+use super::next::after;
 use super::rules::{has_fit_en_passant, has_pawns_inside, standing_rights, start_board};
 use super::setup::{Rights, Setup};
-use cell_core::{Board, Colour, Square};
+use cell_core::{Board, Colour, Move, Square};
 use std::marker::Model;
 
 /// A position that keeps the rules: one king a side, no pawn on the first or last rank, at most 16 men a side, the side
@@ -77,39 +80,7 @@ impl Position {
         ensures sound { IfOk result (λ p. Sound p) }
         ensures fault { IfErr result (λ fault. Breaks (setup_of board side rights en_passant) fault) }
     {
-        let Some(white_king) = only_king(&board, Colour::White) else {
-            return Err(PlaceFault::Kings);
-        };
-        let Some(black_king) = only_king(&board, Colour::Black) else {
-            return Err(PlaceFault::Kings);
-        };
-        if !has_pawns_inside(&board) {
-            return Err(PlaceFault::Pawns);
-        }
-        if count_side(&board, Colour::White) > 16 || count_side(&board, Colour::Black) > 16 {
-            return Err(PlaceFault::TooMany);
-        }
-        let resting_king = match side {
-            Colour::White => black_king,
-            Colour::Black => white_king,
-        };
-        if attacks(&board, side, resting_king) {
-            return Err(PlaceFault::InCheck);
-        }
-        if !has_fit_en_passant(side, en_passant) {
-            return Err(PlaceFault::EnPassant);
-        }
-        let rights = standing_rights(&board, rights);
-        Ok(Position {
-            inner: Setup {
-                board,
-                side,
-                rights,
-                en_passant,
-            },
-            white_king,
-            black_king,
-        })
+        place(&board, side, rights, en_passant)
     }
 
     /// The board.
@@ -190,5 +161,82 @@ impl Position {
         ensures bits { (v : ℕ) → v < 16 → (IsBitSet result v ↔ IsTrue (is_home self.now.board v)) }
     {
         home_set(&self.inner.board)
+    }
+}
+
+/// The position of a board that is tested rule by rule.
+fn place(
+    board: &Board,
+    side: Colour,
+    rights: u8,
+    en_passant: Option<Square>,
+) -> Result<Position, PlaceFault>
+    ensures ok { IfOk result (λ p. p ≡ setup_of board.now side rights en_passant) }
+    ensures sound { IfOk result (λ p. Sound p) }
+    ensures fault { IfErr result (λ fault. Breaks (setup_of board.now side rights en_passant) fault) }
+{
+    let Some(white_king) = only_king(board, Colour::White) else {
+        return Err(PlaceFault::Kings);
+    };
+    let Some(black_king) = only_king(board, Colour::Black) else {
+        return Err(PlaceFault::Kings);
+    };
+    if !has_pawns_inside(board) {
+        return Err(PlaceFault::Pawns);
+    }
+    if count_side(board, Colour::White) > 16 || count_side(board, Colour::Black) > 16 {
+        return Err(PlaceFault::TooMany);
+    }
+    let resting_king = match side {
+        Colour::White => black_king,
+        Colour::Black => white_king,
+    };
+    if attacks(board, side, resting_king) {
+        return Err(PlaceFault::InCheck);
+    }
+    if !has_fit_en_passant(side, &en_passant) {
+        return Err(PlaceFault::EnPassant);
+    }
+    let rights = standing_rights(board, rights);
+    Ok(Position {
+        inner: Setup {
+            board: *board,
+            side,
+            rights,
+            en_passant,
+        },
+        white_king,
+        black_king,
+    })
+}
+
+impl Position {
+    ghost use Rattle.chess_laws.specs.Step.{Legal, Step};
+
+    /// Whether the move is legal. The null move is legal where the side to move is not in check.
+    pub fn is_legal(&self, m: Move) -> bool
+        ensures legal { IsTrue result ↔ Legal self.now m }
+    {
+        is_legal(self.setup(), self.king(self.side()), &m)
+    }
+
+    /// Plays a legal move.
+    pub fn play(&mut self, m: Move)
+        requires legal { Legal self.old m }
+        ensures step { Step self.old m self.new }
+    {
+        let side = self.side();
+        let mover = king_after(self.king(side), &m);
+        let resting = self.king(side.other());
+        let next = after(self.setup(), &m);
+        let (white_king, black_king) = match side {
+            Colour::White => (mover, resting),
+            Colour::Black => (resting, mover),
+        };
+        *self = Position {
+            inner: next,
+            white_king,
+            black_king,
+        };
     }
 }
