@@ -5,3 +5,4 @@ pub mod Paths
 pub mod Running
 pub mod Kings
 pub mod Walks
+pub mod Attackers

@@ -1,5 +1,6 @@
 ghost use Rattle.std.specs.Prelude.{◌<◌, Some, ◌≡◌, ◌↔◌, ◌⊎◌, IsTrue, Any};
-ghost use Rattle.chess_laws.specs.Attacks.{Attacks, AttacksAs};
+ghost use Rattle.chess_laws.specs.Attacks.{Attacks};
+ghost use Rattle.chess_laws.specs.Geometry.{pawn_captures};
 ghost use Rattle.chess_laws.specs.Rays.{met, LeapsFrom, SlidesFrom};
 ghost use Rattle.cell_core.specs.Board.{man_at};
 ghost use Rattle.cell_core.specs.Man.{man};
@@ -204,16 +205,24 @@ pub const BLACK_CAPTURES: [Offset; 2] = [
 pub fn attacks(board: &Board, by: Colour, s: Square) -> bool
     ensures { IsTrue result ↔ Attacks board.now by s }
 {
-    pawn_attacks(board, by, s)
-        || leaps(board, by, Kind::Knight, &KNIGHT_STEPS, s)
-        || leaps(board, by, Kind::King, &KING_STEPS, s)
-        || slides(board, by, Kind::Rook, &ROOK_STEPS, s)
-        || slides(board, by, Kind::Bishop, &BISHOP_STEPS, s)
+    if slides(board, by, Kind::Rook, &ROOK_STEPS, s) {
+        return true;
+    }
+    if slides(board, by, Kind::Bishop, &BISHOP_STEPS, s) {
+        return true;
+    }
+    if leaps(board, by, Kind::Knight, &KNIGHT_STEPS, s) {
+        return true;
+    }
+    if pawn_attacks(board, by, s) {
+        return true;
+    }
+    leaps(board, by, Kind::King, &KING_STEPS, s)
 }
 
 /// Whether a pawn of the colour attacks the square.
 fn pawn_attacks(board: &Board, by: Colour, s: Square) -> bool
-    ensures { IsTrue result ↔ AttacksAs board.now by Pawn s }
+    ensures { IsTrue result ↔ Any (LeapsFrom board.now (man by Pawn) s) (pawn_captures by) }
 {
     match by {
         Colour::White => leaps(board, by, Kind::Pawn, &WHITE_CAPTURES, s),
