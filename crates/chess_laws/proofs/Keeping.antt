@@ -21,12 +21,12 @@ use Rattle.chess_laws.specs.declared.effect.Effect.TheVariants.{Plain, Double, P
 use Rattle.chess_laws.specs.Geometry.{file_of, rank_of, square, shift, forward, pawn_captures, rook_steps, bishop_steps, knight_steps, king_steps, Leaps, Walk, Runs, by}
 use Rattle.chess_laws.specs.Attacks.{Attacks, AttacksAs, Reaches, IsInCheck}
 use Rattle.chess_laws.specs.Castling.{king_home, king_target, rook_home, rook_target, between, king_path, has_right, touches, keeps, rights_after, StandAtHome}
-use Rattle.chess_laws.specs.Position.{Sound, HasKings, HasPawnsInside, HasFewMen, HasFitRights, HasFitEnPassant, en_passant_rank}
+use Rattle.chess_laws.specs.Position.{Sound, Keeps, HasKings, HasPawnsInside, HasFewMen, HasFitRights, HasFitEnPassant, en_passant_rank}
 use Rattle.chess_laws.specs.Step.{effect_as, effect_on, effect_of, HasNoOwn, GoesPlainly, may_become, promotes_rightly, last_rank, pawn_rank, PlainCase, DoubleCase, PassingCase, CastleCase, NullCase, Case, arriving, moved, passed_square, board_after, rights_left, crossed_square, en_passant_after, after, Step, Legal}
 use Rattle.chess_laws.specs.Legal.{IsOnlyKing, king_after}
 use Rattle.chess_laws.proofs.Shifts.{shift-Some}
 use Rattle.chess_laws.proofs.Running.{walk-ends}
-use Rattle.chess_laws.proofs.Boards.{only-king, same_kind-true, put-same, put-other, length-put, other-other, colour_cases, on_board, relocate, Goes, Kept, Kept-goes, Kept-away}
+use Rattle.chess_laws.proofs.Boards.{only-king, king_square-is, same_kind-true, put-same, put-other, length-put, other-other, colour_cases, on_board, relocate, Goes, Kept, Kept-goes, Kept-away}
 
 other-apart : (c : Colour) → other c ≡ c → ⊥
 other-apart White h = cc
@@ -652,3 +652,32 @@ legal-step p m legal = record { allowed = legal-allowed p m legal; becomes = ref
 
 pub Sound-after : (p : Setup) (m : Move) → Sound p → Legal p m → Sound (after p m (effect_of p m))
 Sound-after p m sound legal = Sound-step p m sound (legal-allowed p m legal) (legal-safe p m legal)
+
+-- what is kept beside the position follows it
+pub Keeps-white : (p : Setup) (m : Move) (king resting : ℕ) → p.side ≡ White → Sound p → Legal p m → IsOnlyKing p.board p.side king →
+    man_at p.board resting ≡ Some (man (other p.side) King) → Keeps (after p m (effect_of p m)) (king_after king m) resting
+Keeps-white p m king resting side sound legal only stands =
+    let case = legal-allowed p m legal in
+    let next = Sound-after p m sound legal in
+    let board = board_after p m (effect_of p m) in
+    record {
+      sound = next;
+      white_king = king_square-is board White (king_after king m) next.squares next.kings
+          (mover-king p m (effect_of p m) king sound only refl case ∙ ap (λ c. Some (man c King)) side);
+      black_king = king_square-is board Black resting next.squares next.kings
+          (resting-king p m (effect_of p m) resting sound stands refl case ∙ ap (λ c. Some (man (other c) King)) side)
+    }
+
+pub Keeps-black : (p : Setup) (m : Move) (king resting : ℕ) → p.side ≡ Black → Sound p → Legal p m → IsOnlyKing p.board p.side king →
+    man_at p.board resting ≡ Some (man (other p.side) King) → Keeps (after p m (effect_of p m)) resting (king_after king m)
+Keeps-black p m king resting side sound legal only stands =
+    let case = legal-allowed p m legal in
+    let next = Sound-after p m sound legal in
+    let board = board_after p m (effect_of p m) in
+    record {
+      sound = next;
+      white_king = king_square-is board White resting next.squares next.kings
+          (resting-king p m (effect_of p m) resting sound stands refl case ∙ ap (λ c. Some (man (other c) King)) side);
+      black_king = king_square-is board Black (king_after king m) next.squares next.kings
+          (mover-king p m (effect_of p m) king sound only refl case ∙ ap (λ c. Some (man c King)) side)
+    }
