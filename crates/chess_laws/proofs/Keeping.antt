@@ -665,7 +665,7 @@ Keeps-white p m king resting side sound legal only stands =
       white_king = king_square-is board White (king_after king m) next.squares next.kings
           (mover-king p m (effect_of p m) king sound only refl case ∙ ap (λ c. Some (man c King)) side);
       black_king = king_square-is board Black resting next.squares next.kings
-          (resting-king p m (effect_of p m) resting sound stands refl case ∙ ap (λ c. Some (man (other c) King)) side)
+          (resting-king p m (effect_of p m) resting sound stands refl case ∙ ap (λ c. Some (man (other c) King)) side);
     }
 
 pub Keeps-black : (p : Setup) (m : Move) (king resting : ℕ) → p.side ≡ Black → Sound p → Legal p m → IsOnlyKing p.board p.side king →
@@ -679,5 +679,5 @@ Keeps-black p m king resting side sound legal only stands =
       white_king = king_square-is board White resting next.squares next.kings
           (resting-king p m (effect_of p m) resting sound stands refl case ∙ ap (λ c. Some (man (other c) King)) side);
       black_king = king_square-is board Black (king_after king m) next.squares next.kings
-          (mover-king p m (effect_of p m) king sound only refl case ∙ ap (λ c. Some (man c King)) side)
+          (mover-king p m (effect_of p m) king sound only refl case ∙ ap (λ c. Some (man c King)) side);
     }

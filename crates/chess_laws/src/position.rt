@@ -211,6 +211,7 @@ fn place(
 }
 
 impl Position {
+    ghost use Rattle.chess_laws.specs.declared.setup.Setup.{Setup};
     ghost use Rattle.chess_laws.specs.Step.{Legal, Step};
 
     /// Whether the move is legal. The null move is legal where the side to move is not in check.
@@ -220,10 +221,11 @@ impl Position {
         is_legal(self.setup(), self.king(self.side()), &m)
     }
 
-    /// Plays a legal move.
+    /// Plays a legal move. What it leads to is the one position that it can lead to.
     pub fn play(&mut self, m: Move)
         requires legal { Legal self.old m }
         ensures step { Step self.old m self.new }
+        ensures only { (q : Setup) → Step self.old m q → q ≡ self.new }
     {
         let side = self.side();
         let mover = king_after(self.king(side), &m);
