@@ -6,3 +6,4 @@ pub mod Running
 pub mod Kings
 pub mod Walks
 pub mod Attackers
+pub mod Home
