@@ -26,27 +26,12 @@ use Rattle.chess_laws.specs.Step.{effect_as, effect_on, effect_of, HasNoOwn, Goe
 use Rattle.chess_laws.specs.Legal.{IsOnlyKing, king_after}
 use Rattle.chess_laws.proofs.Shifts.{shift-Some}
 use Rattle.chess_laws.proofs.Running.{walk-ends}
-use Rattle.chess_laws.proofs.Boards.{only-king, king_square-is, same_kind-true, put-same, put-other, length-put, other-other, colour_cases, on_board, relocate, Goes, Kept, Kept-goes, Kept-away}
+use Rattle.chess_laws.proofs.Kings.{king-only}
+use Rattle.chess_laws.proofs.Boards.{only-king, man-colour, man-kind, same_kind-true, put-same, put-other, length-put, other-other, colour_cases, on_board, relocate, Goes, Kept, Kept-goes, Kept-away}
 
 other-apart : (c : Colour) → other c ≡ c → ⊥
 other-apart White h = cc
 other-apart Black h = cc
-
-colour_or : Option Man → Colour → Colour
-colour_or None c = c
-colour_or (Some m) c = m.colour
-
-man-colour : (c d : Colour) (k j : Kind) → Some (man c k) ≡ Some (man d j) → d ≡ c
-unfolding colour_or
-man-colour c d k j h = sym (ap (λ x. colour_or x c) h)
-
-kind_or : Option Man → Kind → Kind
-kind_or None k = k
-kind_or (Some m) k = m.kind
-
-man-kind : (c d : Colour) (k j : Kind) → Some (man c k) ≡ Some (man d j) → k ≡ j
-unfolding kind_or
-man-kind c d k j h = ap (λ x. kind_or x k) h
 
 -- the kind that arrives
 abbrev pub lands_as : Kind → Option Kind → Kind
@@ -633,7 +618,7 @@ pub only-king-after : (p : Setup) (m : Move) (king : ℕ) → Sound p → IsOnly
 only-king-after p m king sound only case =
     let less = case-on_board p m (effect_of p m) sound refl case in
     let follow = follows p m (effect_of p m) sound less refl case in
-    only-king (board_after p m (effect_of p m)) p.side (king_after king m) follow.board.squares follow.board.kings
+    only-king (board_after p m (effect_of p m)) p.side (king_after king m) follow.board.kings
     (mover-king p m (effect_of p m) king sound only refl case)
 
 -- a move is legal where it is allowed and leaves the mover's king safe
@@ -662,9 +647,9 @@ Keeps-white p m king resting side sound legal only stands =
     let board = board_after p m (effect_of p m) in
     record {
       sound = next;
-      white_king = king_square-is board White (king_after king m) next.squares next.kings
+      white_king = king-only board White (king_after king m) (next.kings White)
           (mover-king p m (effect_of p m) king sound only refl case ∙ ap (λ c. Some (man c King)) side);
-      black_king = king_square-is board Black resting next.squares next.kings
+      black_king = king-only board Black resting (next.kings Black)
           (resting-king p m (effect_of p m) resting sound stands refl case ∙ ap (λ c. Some (man (other c) King)) side);
     }
 
@@ -676,8 +661,8 @@ Keeps-black p m king resting side sound legal only stands =
     let board = board_after p m (effect_of p m) in
     record {
       sound = next;
-      white_king = king_square-is board White resting next.squares next.kings
+      white_king = king-only board White resting (next.kings White)
           (resting-king p m (effect_of p m) resting sound stands refl case ∙ ap (λ c. Some (man (other c) King)) side);
-      black_king = king_square-is board Black (king_after king m) next.squares next.kings
+      black_king = king-only board Black (king_after king m) (next.kings Black)
           (mover-king p m (effect_of p m) king sound only refl case ∙ ap (λ c. Some (man c King)) side);
     }
