@@ -7,3 +7,4 @@ pub mod Kings
 pub mod Walks
 pub mod Attackers
 pub mod Home
+pub mod Pawns

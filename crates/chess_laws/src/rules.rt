@@ -1,5 +1,9 @@
 //! The rules of a position, one by one.
-ghost use Rattle.std.specs.Prelude.{◌≡◌, ◌↔◌, IsTrue};
+ghost use Rattle.std.specs.Prelude.{◌≡◌, ◌↔◌, IsTrue, MatchBool, Some, length};
+ghost use Rattle.cell_core.specs.Board.{man_at};
+ghost use Rattle.cell_core.specs.Man.{man};
+ghost use Rattle.cell_core.specs.declared.man.Colour.{Colour};
+ghost use Rattle.cell_core.specs.declared.man.Kind.TheVariants.{Pawn};
 ghost use Rattle.chess_laws.specs.Position.{HasFitEnPassant, HasPawnsInside, is_at_home, rights_of, start_men};
 
 use super::setup::{Rights, Wing};
@@ -9,12 +13,23 @@ use cell_core::{Board, Colour, Kind, Man, Square};
 pub fn has_pawns_inside(board: &Board) -> bool
     ensures { IsTrue result ↔ HasPawnsInside board.now }
 {
-    let cells = board.cells();
-    (0..8).all(|file| !is_pawn(&cells[file]) && !is_pawn(&cells[56 + file]))
+    for file in 0..8u8 {
+        if has_pawn(board, Square::at(file)) {
+            return false;
+        }
+        if has_pawn(board, Square::at(56 + file)) {
+            return false;
+        }
+    }
+    true
 }
 
-fn is_pawn(cell: &Option<Man>) -> bool {
-    match cell {
+/// Whether a pawn stands on the square.
+fn has_pawn(board: &Board, s: Square) -> bool
+    ensures pawn { MatchBool result ((c : Colour) × (man_at board.now s ≡ Some (man c Pawn))) ((c : Colour) → man_at board.now s ≡ Some (man c Pawn) → ⊥) }
+    ensures squares { length board.now ≡ 64 }
+{
+    match board.at(s) {
         Some(man) => man.kind == Kind::Pawn,
         None => false,
     }
