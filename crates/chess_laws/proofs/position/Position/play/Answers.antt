@@ -7,7 +7,7 @@ use Rattle.cell_core.specs.Man.{man, other}
 use Rattle.chess_laws.specs.declared.setup.Setup.{Setup}
 use Rattle.chess_laws.specs.Legal.{IsOnlyKing, king_after}
 use Rattle.chess_laws.specs.Step.{after, effect_of}
-use Rattle.chess_laws.proofs.Keeping.{Keeps-white, Keeps-black}
+use Rattle.chess_laws.proofs.MovedKings.{Keeps-white, Keeps-black}
 use Rattle.chess_laws.proofs.position.Position.play.Goals as goal
 use Rattle.chess_laws.proofs.position.Position.play.Goals.{in-White, in-Black}
 
