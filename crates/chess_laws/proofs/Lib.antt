@@ -10,3 +10,4 @@ pub mod Walks
 pub mod Attackers
 pub mod Home
 pub mod Pawns
+pub mod Soundness

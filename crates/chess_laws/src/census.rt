@@ -32,7 +32,8 @@ fn first_king(board: &Board, colour: Colour) -> Option<usize>
 
 /// How many men of this colour there are.
 pub fn count_side(board: &Board, colour: Colour) -> usize
-    ensures { result ≡ count_by (is_of colour) board.now }
+    ensures number { result ≡ count_by (is_of colour) board.now }
+    ensures squares { length board.now ≡ 64 }
 {
     let cells = board.cells();
     cells.iter().filter(|cell| holds_side(cell, colour)).count()
