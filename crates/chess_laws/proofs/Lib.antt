@@ -1,3 +1,4 @@
+pub mod Bits
 pub mod Shifts
 pub mod Boards
 pub mod Keeping
@@ -6,3 +7,4 @@ pub mod Running
 pub mod Kings
 pub mod Walks
 pub mod Attackers
+pub mod Collecting

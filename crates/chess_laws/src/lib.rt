@@ -9,11 +9,13 @@ mod census;
 pub mod effect;
 pub mod fault;
 mod legal;
+mod moves;
 mod next;
 pub mod offset;
 pub mod position;
 mod rules;
 pub mod setup;
+mod targets;
 
 pub use effect::Effect;
 pub use fault::PlaceFault;
