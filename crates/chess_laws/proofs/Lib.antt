@@ -8,3 +8,4 @@ pub mod Kings
 pub mod Walks
 pub mod Attackers
 pub mod Collecting
+pub mod Listing
