@@ -44,7 +44,7 @@ kind_or : Option Man → Kind → Kind
 kind_or None k = k
 kind_or (Some m) k = m.kind
 
-pub man-kind : (c d : Colour) (k j : Kind) → Some (man c k) ≡ Some (man d j) → k ≡ j
+man-kind : (c d : Colour) (k j : Kind) → Some (man c k) ≡ Some (man d j) → k ≡ j
 unfolding kind_or
 man-kind c d k j h = ap (λ x. kind_or x k) h
 
@@ -243,9 +243,9 @@ passing-kept p m sound less case =
     (λ d h. let e = man-kind (other p.side) d Pawn King (sym stands ∙ h) in absurd (cc))
 
 -- which squares castling uses
-pub record CastleSquares (p : Setup) (m : Move) (w : Wing) : Type 0 where
-  pub from : m.from ≡ king_home p.side
-  pub to : m.to ≡ king_target p.side w
+record CastleSquares (p : Setup) (m : Move) (w : Wing) : Type 0 where
+  from : m.from ≡ king_home p.side
+  to : m.to ≡ king_target p.side w
 
 castling : (stays near far : Bool) (w : Wing) → cond stays Null (cond near (Castle KingSide) (cond far (Castle QueenSide) Plain)) ≡ Castle w →
     ((w ≡ KingSide) × (near ≡ true)) ⊎ ((w ≡ QueenSide) × (far ≡ true))
@@ -254,7 +254,7 @@ castling false true far w h = inl (cc, refl)
 castling false false true w h = inr (cc, refl)
 castling false false false w h = absurd (cc)
 
-pub castle-squares : (p : Setup) (m : Move) (w : Wing) → man_at p.board m.from ≡ Some (man p.side King) → effect_of p m ≡ Castle w → CastleSquares p m w
+castle-squares : (p : Setup) (m : Move) (w : Wing) → man_at p.board m.from ≡ Some (man p.side King) → effect_of p m ≡ Castle w → CastleSquares p m w
 castle-squares p m w stands e =
     let home = eqb m.from (king_home p.side) in
     let near = eqb m.to (king_target p.side KingSide) in
@@ -499,7 +499,7 @@ target-on_board White QueenSide = lit< tt
 target-on_board Black KingSide = lit< tt
 target-on_board Black QueenSide = lit< tt
 
-pub case-on_board : (p : Setup) (m : Move) (e : Effect) → Sound p → effect_of p m ≡ e → Case p m e → m.to < 64
+case-on_board : (p : Setup) (m : Move) (e : Effect) → Sound p → effect_of p m ≡ e → Case p m e → m.to < 64
 case-on_board p m Plain sound is case = plain-on_board p m case.kind case.goes
 case-on_board p m Double sound is case = walk-ends p.board (forward p.side) 1 m.from m.to case.walks
 case-on_board p m Passing sound is case = any-on_board (pawn_captures p.side) m.from m.to case.goes
