@@ -4,7 +4,7 @@ use Rattle.std.proofs.Math.ListN.{length-set}
 use Rattle.std.proofs.lemmas.Bool.{cases_eq, cases_lt, and_parts, false_from_ne_true}
 use Rattle.std.proofs.lemmas.Grind.{common_steps}
 use Rattle.std.proofs.lemmas.List.{get_or-set_same, get_or-set_other, get_or_past}
-use Rattle.std.proofs.lemmas.List.Sums.{sum_by-set, position_or_len_is}
+use Rattle.std.proofs.lemmas.List.Sums.{sum_by-set}
 use Rattle.cell_core.specs.declared.man.Colour.{Colour}
 use Rattle.cell_core.specs.declared.man.Colour.TheVariants.{White, Black}
 use Rattle.cell_core.specs.declared.man.Kind.{Kind}
@@ -13,8 +13,9 @@ use Rattle.cell_core.specs.declared.man.Man.{Man}
 use Rattle.cell_core.specs.Board.{Men, man_at, put}
 use Rattle.cell_core.specs.Man.{man, other, kind_number, same_colour, same_kind, is_man, is_of}
 use Rattle.chess_laws.specs.Geometry.{rank_of}
-use Rattle.chess_laws.specs.Position.{HasKings, HasPawnsInside, HasFewMen, king_square}
+use Rattle.chess_laws.specs.Position.{HasKings, HasPawnsInside, HasFewMen}
 use Rattle.chess_laws.specs.Legal.{IsOnlyKing}
+use Rattle.chess_laws.proofs.Kings.{is_man-Some, king-only}
 
 pub put-same : (men : Men) (s : ℕ) (x : Option Man) → length men ≡ 64 → s < 64 → man_at (put men s x) s ≡ x
 put-same men s x l h = get_or-set_same men s x None (omega arith)
@@ -34,64 +35,28 @@ pub count-put : (p : Option Man → Bool) (men : Men) (s : ℕ) (x : Option Man)
     count_by p (put men s x) + one_if (p (man_at men s)) ≡ count_by p men + one_if (p x)
 count-put p men s x l h = sum_by-set (λ y. cond (p y) 1 0) men s x None (omega arith)
 
--- the kind of a number, to tell kinds apart by their numbers
-kind_of : ℕ → Kind
-kind_of zero = King
-kind_of (suc zero) = Queen
-kind_of (suc (suc zero)) = Rook
-kind_of (suc (suc (suc zero))) = Bishop
-kind_of (suc (suc (suc (suc zero)))) = Knight
-kind_of (suc (suc (suc (suc (suc n))))) = Pawn
+colour_or : Option Man → Colour → Colour
+colour_or None c = c
+colour_or (Some m) c = m.colour
 
-kind_of-number : (k : Kind) → kind_of (kind_number k) ≡ k
-unfolding kind_of
-kind_of-number King = refl
-kind_of-number Queen = refl
-kind_of-number Rook = refl
-kind_of-number Bishop = refl
-kind_of-number Knight = refl
-kind_of-number Pawn = refl
+kind_or : Option Man → Kind → Kind
+kind_or None k = k
+kind_or (Some m) k = m.kind
+
+-- men are the same only where their colours and their kinds are
+pub man-colour : (c d : Colour) (k j : Kind) → Some (man c k) ≡ Some (man d j) → d ≡ c
+unfolding colour_or
+man-colour c d k j h = sym (ap (λ x. colour_or x c) h)
+
+pub man-kind : (c d : Colour) (k j : Kind) → Some (man c k) ≡ Some (man d j) → k ≡ j
+unfolding kind_or
+man-kind c d k j h = ap (λ x. kind_or x k) h
 
 pub same_kind-true : (a b : Kind) → same_kind a b ≡ true → a ≡ b
-same_kind-true a b h =
-    let e : kind_number a ≡ kind_number b = grind (arith, common_steps) in
-    sym (kind_of-number a) ∙ ap kind_of e ∙ kind_of-number b
+same_kind-true a b h = man-kind White White a b (is_man-Some White b (Some (man White a)) h)
 
-pub same_colour-true : (a b : Colour) → same_colour a b ≡ true → a ≡ b
-same_colour-true White White h = refl
-same_colour-true White Black h = cc
-same_colour-true Black White h = cc
-same_colour-true Black Black h = refl
-
-pub same_kind-refl : (k : Kind) → same_kind k k ≡ true
-same_kind-refl King = refl
-same_kind-refl Queen = refl
-same_kind-refl Rook = refl
-same_kind-refl Bishop = refl
-same_kind-refl Knight = refl
-same_kind-refl Pawn = refl
-
-pub same_colour-refl : (c : Colour) → same_colour c c ≡ true
-same_colour-refl White = refl
-same_colour-refl Black = refl
-
--- the test passes exactly where this man stands
-pub is_man-true : (c : Colour) (k : Kind) (x : Option Man) → is_man c k x ≡ true → x ≡ Some (man c k)
-is_man-true c k None h = cc
-is_man-true c k (Some m) h =
-    let both = and_parts (same_colour m.colour c) (same_kind m.kind k) h in
-    let colours : m.colour ≡ c = same_colour-true m.colour c both.0 in
-    let kinds : m.kind ≡ k = same_kind-true m.kind k both.1 in
-    ap (λ d. Some (man d m.kind)) colours ∙ ap (λ j. Some (man c j)) kinds
-
-pub is_man-same : (c : Colour) (k : Kind) → is_man c k (Some (man c k)) ≡ true
-is_man-same c k = rw (same_colour-refl c, same_kind-refl k)
-
-pub is_man-stands : (c : Colour) (k : Kind) (x : Option Man) → x ≡ Some (man c k) → is_man c k x ≡ true
-is_man-stands c k x h = rw h (is_man-same c k)
-
-pub is_man-not : (c : Colour) (k : Kind) (x : Option Man) → (x ≡ Some (man c k) → ⊥) → is_man c k x ≡ false
-is_man-not c k x not = false_from_ne_true (is_man c k x) (λ h. not (is_man-true c k x h))
+is_man-not : (c : Colour) (k : Kind) (x : Option Man) → (x ≡ Some (man c k) → ⊥) → is_man c k x ≡ false
+is_man-not c k x not = false_from_ne_true (is_man c k x) (λ h. not (is_man-Some c k x h))
 
 -- a colour is one of the two
 pub other-other : (c : Colour) → other (other c) ≡ c
@@ -228,31 +193,8 @@ Kept-away men s m kept stands kingless =
       few = Goes-away-few men s kept.squares here kept.few;
     }
 
--- where one man passes a test, each square with such a man is that one
-pub one-place : (p : Option Man → Bool) (men : Men) (s t : ℕ) → p None ≡ false → length men ≡ 64 → count_by p men ≡ 1 → s < 64 → t < 64 →
-    p (man_at men s) ≡ true → p (man_at men t) ≡ true → t ≡ s
-one-place p men s t none l one less below here there = elim (cases_eq t s) [
-  | inl same ↦ same
-  | inr apart ↦
-      let first = rw (here, none) at (count-put p men s None l less) in
-      let still : p (man_at (put men s None) t) ≡ true = rw (put-other men s t None apart) there in
-      let second = rw (still, none) at (count-put p (put men s None) t None (length-put men s None l) below) in
-      absurd (omega arith)
-]
-
 -- the one king of a colour stands on no other square
-pub only-king : (men : Men) (c : Colour) (s : ℕ) → length men ≡ 64 → HasKings men → man_at men s ≡ Some (man c King) → IsOnlyKing men c s
-only-king men c s l kings stands = record {
-  stands = stands;
-  only = λ t other. one-place (is_man c King) men s t refl l (kings c) (on_board men s (man c King) l stands) (on_board men t (man c King) l other)
-      (is_man-stands c King (man_at men s) stands) (is_man-stands c King (man_at men t) other);
-}
-
--- so the first square with such a king is that one
-pub king_square-is : (men : Men) (c : Colour) (s : ℕ) → length men ≡ 64 → HasKings men → man_at men s ≡ Some (man c King) → s ≡ king_square men c
-king_square-is men c s l kings stands =
-    let only = only-king men c s l kings stands in
-    let less = on_board men s (man c King) l stands in
-    let before : (k : ℕ) → k < s → is_man c King (man_at men k) ≡ false =
-    λ k below. is_man-not c King (man_at men k) (λ h. let e : k ≡ s = only.only k h in omega arith) in
-    sym (position_or_len_is (is_man c King) men s None (omega arith) before (λ _. is_man-stands c King (man_at men s) stands))
+pub only-king : (men : Men) (c : Colour) (s : ℕ) → HasKings men → man_at men s ≡ Some (man c King) → IsOnlyKing men c s
+only-king men c s kings stands =
+    let here = king-only men c s (kings c) stands in
+    record { stands = stands; only = λ t other. king-only men c t (kings c) other ∙ sym here }

@@ -2,6 +2,8 @@ pub mod Bits
 pub mod Shifts
 pub mod Boards
 pub mod Keeping
+pub mod Following
+pub mod MovedKings
 pub mod Paths
 pub mod Running
 pub mod Kings
@@ -9,3 +11,6 @@ pub mod Walks
 pub mod Attackers
 pub mod Collecting
 pub mod Listing
+pub mod Home
+pub mod Pawns
+pub mod Soundness

@@ -1,11 +1,12 @@
 -- A walk over empty squares is at most seven steps long, and the code's walk finds it.
 use Rattle.std.proofs.Common.{◌≡◌, ◌↔◌, ℕ, zero, suc, ◌+◌, ◌-◌, ◌*◌, ◌/◌, ◌%◌, ◌<◌, ◌≤◌, ◌≢◌, ◌⊎◌, inl, inr, Bool, true, false, ◌&&◌, ◌||◌, eqb, IsTrue, Option, Some, None, is_none, is_some, refl, sym, ◌∙◌, ap, arith}
+use Rattle.std.proofs.lemmas.Bool.Decides.{nat_tests}
 use Rattle.std.proofs.lemmas.Bool.{eqb-true, eqb-false, eq-eqb, cases_Bool, cases_order, false≢true}
 use Rattle.cell_core.specs.declared.man.Man.{Man}
 use Rattle.cell_core.specs.Board.{Men, man_at}
 use Rattle.chess_laws.specs.declared.offset.Offset.{Offset}
 use Rattle.chess_laws.specs.Geometry.{file_of, rank_of, shift, Walk, Runs}
-use Rattle.chess_laws.specs.Legal.{run, run_on}
+use Rattle.chess_laws.specs.Legal.{run, run_on, leads, aims}
 use Rattle.chess_laws.proofs.Shifts.{Differ, shift-Some}
 
 -- one step of the code's walk
@@ -111,26 +112,59 @@ pub walk-ends : (men : Men) (o : Offset) (n a b : ℕ) → Walk men o n a b → 
 walk-ends men o zero a b walk = (shift-Some o a b walk).on_board
 walk-ends men o (suc n) a b walk = walk-ends men o n walk.0 b walk.3
 
-right-short : (men : Men) (o : Offset) (n a b : ℕ) → o.left < o.right → Walk men o n a b → n < 8
-right-short men o n a b net walk =
-    let far = rises men o (λ x. file_of x) (λ x y h. let d = shift-Some o x y h in omega arith) n a b walk in
+right : (men : Men) (o : Offset) (n a b : ℕ) → o.left < o.right → Walk men o n a b → file_of a + n + 1 ≤ file_of b
+right men o n a b net walk = rises men o (λ x. file_of x) (λ x y h. let d = shift-Some o x y h in omega arith) n a b walk
+
+left : (men : Men) (o : Offset) (n a b : ℕ) → o.right < o.left → Walk men o n a b → file_of b + n + 1 ≤ file_of a
+left men o n a b net walk = falls men o (λ x. file_of x) (λ x y h. let d = shift-Some o x y h in omega arith) n a b walk
+
+up : (men : Men) (o : Offset) (n a b : ℕ) → o.down < o.up → Walk men o n a b → rank_of a + n + 1 ≤ rank_of b
+up men o n a b net walk = rises men o (λ x. rank_of x) (λ x y h. let d = shift-Some o x y h in omega arith) n a b walk
+
+down : (men : Men) (o : Offset) (n a b : ℕ) → o.up < o.down → Walk men o n a b → rank_of b + n + 1 ≤ rank_of a
+down men o n a b net walk = falls men o (λ x. rank_of x) (λ x y h. let d = shift-Some o x y h in omega arith) n a b walk
+
+level : (men : Men) (o : Offset) (n a b : ℕ) → o.left ≡ o.right → Walk men o n a b → file_of a ≡ file_of b
+level men o zero a b net walk = let d = shift-Some o a b walk in omega arith
+level men o (suc n) a b net walk =
+    let d = shift-Some o a walk.0 walk.1 in
+    let rest = level men o n walk.0 b net walk.3 in
     omega arith
 
-left-short : (men : Men) (o : Offset) (n a b : ℕ) → o.right < o.left → Walk men o n a b → n < 8
-left-short men o n a b net walk =
-    let far = falls men o (λ x. file_of x) (λ x y h. let d = shift-Some o x y h in omega arith) n a b walk in
+upright : (men : Men) (o : Offset) (n a b : ℕ) → o.down ≡ o.up → Walk men o n a b → rank_of a ≡ rank_of b
+upright men o zero a b net walk = let d = shift-Some o a b walk in omega arith
+upright men o (suc n) a b net walk =
+    let d = shift-Some o a walk.0 walk.1 in
+    let rest = upright men o n walk.0 b net walk.3 in
     omega arith
 
-up-short : (men : Men) (o : Offset) (n a b : ℕ) → o.down < o.up → Walk men o n a b → n < 8
-up-short men o n a b net walk =
-    let far = rises men o (λ x. rank_of x) (λ x y h. let d = shift-Some o x y h in omega arith) n a b walk in
-    let end = walk-ends men o n a b walk in
-    omega arith
+-- a walk comes where its step aims
+leads-true : (a b low high : ℕ) → (low < high → a < b) → (high < low → b < a) → (low ≡ high → a ≡ b) → leads a b low high ≡ true
+leads-true a b low high above below same = elim (cases_order low high) [
+    | inl level ↦ let h = same level in grind (arith, nat_tests)
+    | inr apart ↦ elim apart [
+        | inl less ↦ let h = above less in grind (arith, nat_tests)
+        | inr more ↦ let h = below more in grind (arith, nat_tests)
+      ]
+  ]
+
+aims-true : (men : Men) (o : Offset) (a b : ℕ) → Runs men a b o → aims o a b ≡ true
+unfolding aims
+aims-true men o a b (n, walk) =
+    let files = leads-true (file_of a) (file_of b) o.left o.right
+        (λ h. let far = right men o n a b h walk in omega arith)
+        (λ h. let far = left men o n a b h walk in omega arith)
+        (λ h. level men o n a b h walk) in
+    let ranks = leads-true (rank_of a) (rank_of b) o.down o.up
+        (λ h. let far = up men o n a b h walk in omega arith)
+        (λ h. let far = down men o n a b h walk in omega arith)
+        (λ h. upright men o n a b h walk) in
+    rw (files, ranks)
 
 down-short : (men : Men) (o : Offset) (n a b : ℕ) → o.up < o.down → Walk men o n a b → n < 8
 down-short men o zero a b net walk = omega arith
 down-short men o (suc n) a b net walk =
-    let far = falls men o (λ x. rank_of x) (λ x y h. let d = shift-Some o x y h in omega arith) n walk.0 b walk.3 in
+    let far = down men o n walk.0 b net walk.3 in
     let first = (shift-Some o a walk.0 walk.1).on_board in
     omega arith
 
@@ -153,16 +187,20 @@ runs-run men o a b (n, walk) = elim (cases_order o.left o.right) [
         let here = still men o n a b files ranks walk in
         walk-run men o 8 zero a b (omega arith) (here.1 ∙ ap Some (sym here.0))
     | inr apart ↦ elim apart [
-      | inl up ↦ walk-run men o 8 n a b (up-short men o n a b up walk) walk
-      | inr down ↦ walk-run men o 8 n a b (down-short men o n a b down walk) walk
+      | inl net ↦ walk-run men o 8 n a b (let far = up men o n a b net walk in let end = walk-ends men o n a b walk in omega arith) walk
+      | inr net ↦ walk-run men o 8 n a b (down-short men o n a b net walk) walk
     ]
   ]
   | inr apart ↦ elim apart [
-    | inl right ↦ walk-run men o 8 n a b (right-short men o n a b right walk) walk
-    | inr left ↦ walk-run men o 8 n a b (left-short men o n a b left walk) walk
+    | inl net ↦ walk-run men o 8 n a b (let far = right men o n a b net walk in omega arith) walk
+    | inr net ↦ walk-run men o 8 n a b (let far = left men o n a b net walk in omega arith) walk
   ]
 ]
 
 -- the code's walk of at most eight steps finds each walk, and nothing else
 pub run_is : (men : Men) (o : Offset) (a b : ℕ) → IsTrue (run men o 8 b a) ↔ Runs men a b o
 run_is men o a b = (run-walks men o 8 a b, runs-run men o a b)
+
+-- and there is none where the step does not aim at the target
+pub runs_not : (men : Men) (o : Offset) (a b : ℕ) → aims o a b ≡ false → Runs men a b o → ⊥
+runs_not men o a b not runs = false≢true (sym not ∙ aims-true men o a b runs)

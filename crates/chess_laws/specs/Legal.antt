@@ -1,5 +1,5 @@
 -- What the code of legal moves tests on its way. No public contract cites these words.
-use Rattle.std.specs.Prelude.{◌≡◌, ℕ, zero, suc, ◌==◌, ◌&&◌, ◌||◌, if◌then◌else◌, Bool, false, IsTrue, All, Option, Some, None, is_none}
+use Rattle.std.specs.Prelude.{◌≡◌, ℕ, zero, suc, ◌==◌, ◌&&◌, ◌||◌, if◌then◌else◌, Bool, false, nat_lt, IsTrue, All, Option, Some, None, is_none}
 use Rattle.cell_core.specs.declared.man.Colour.{Colour}
 use Rattle.cell_core.specs.declared.man.Kind.{Kind}
 use Rattle.cell_core.specs.declared.man.Kind.TheVariants.{King}
@@ -7,7 +7,7 @@ use Rattle.cell_core.specs.declared.step.Move.{Move}
 use Rattle.cell_core.specs.Board.{Men, man_at}
 use Rattle.cell_core.specs.Man.{man, other}
 use Rattle.chess_laws.specs.declared.offset.Offset.{Offset}
-use Rattle.chess_laws.specs.Geometry.{shift}
+use Rattle.chess_laws.specs.Geometry.{shift, file_of, rank_of}
 use Rattle.chess_laws.specs.Attacks.{Attacks}
 use Rattle.chess_laws.specs.Castling.{between, has_right}
 use Rattle.chess_laws.specs.declared.setup.Setup.{Setup}
@@ -47,3 +47,11 @@ pub record MayCastle (p : Setup) (m : Move) (wing : Wing) : Type 0 where
   pub right : IsTrue (has_right p.rights p.side wing)
   pub empty : All (λ s. man_at p.board s ≡ None) (between p.side wing)
   pub promo : m.promo ≡ None
+
+-- whether one number leads to another by a change of so much down and up: it lies below it, above it or is the same
+abbrev pub leads : ℕ → ℕ → ℕ → ℕ → Bool
+leads a b down up = if nat_lt down up then nat_lt a b else if nat_lt up down then nat_lt b a else a == b
+
+-- whether the target lies on the side to which the step leads
+unfoldable pub aims : Offset → ℕ → ℕ → Bool
+aims o a b = leads (file_of a) (file_of b) o.left o.right && leads (rank_of a) (rank_of b) o.down o.up

@@ -5,7 +5,7 @@ ghost use Rattle.cell_core.specs.Man.{man, other};
 ghost use Rattle.cell_core.specs.declared.man.Kind.TheVariants.{Pawn};
 ghost use Rattle.chess_laws.specs.Geometry.{forward, pawn_captures, rook_steps, Leaps, Runs, Walk};
 ghost use Rattle.chess_laws.specs.Attacks.{Reaches, IsInCheck};
-ghost use Rattle.chess_laws.specs.Legal.{IsOnlyKing, MayCastle, run, IsEnemyOn};
+ghost use Rattle.chess_laws.specs.Legal.{IsOnlyKing, MayCastle, aims, leads, run, IsEnemyOn};
 ghost use Rattle.chess_laws.specs.Step.{Case, CastleCase, DoubleCase, GoesPlainly, HasNoOwn, NullCase, PassingCase, PlainCase, may_become, promotes_rightly};
 
 use super::attack::{
@@ -270,11 +270,35 @@ fn runs(board: &Board, steps: &[Offset], from: Square, to: Square) -> bool
 }
 
 /// Whether equal steps, of this one, lead from one square to the other over empty squares.
-#[tactic(auto, using(crate::proofs::Running::run_is))]
 fn runs_by(board: &Board, step: &Offset, from: Square, to: Square) -> bool
     ensures { IsTrue result ↔ Runs board.now from to step.now }
 {
+    if !aims(step, from, to) {
+        return false;
+    }
     run(board, step, from, to)
+}
+
+/// Whether the target lies on the side to which the step leads, so that a walk may come there.
+#[tactic(auto, unfolding(crate::specs::Legal::aims))]
+fn aims(step: &Offset, from: Square, to: Square) -> bool
+    ensures { result ≡ aims step.now from to }
+{
+    let (from, to) = (from.index(), to.index());
+    leads(from % 8, to % 8, step.left, step.right) && leads(from / 8, to / 8, step.down, step.up)
+}
+
+/// Whether one number leads to another by a change of so much down and up.
+fn leads(from: u8, to: u8, down: u8, up: u8) -> bool
+    ensures { result ≡ leads from to down up }
+{
+    if down < up {
+        from < to
+    } else if up < down {
+        to < from
+    } else {
+        from == to
+    }
 }
 
 /// Walks by this step from one square, until it comes to the other, to a man or to the edge.

@@ -21,3 +21,6 @@ pub use effect::Effect;
 pub use fault::PlaceFault;
 pub use position::Position;
 pub use setup::{Rights, Setup, Wing};
+
+#[cfg(test)]
+mod play_tests;
