@@ -20,23 +20,23 @@ pub bits_yes : (test : ℕ → Bool) (n k : ℕ) → k < 16 → test k ≡ true 
 bits_yes test n k less passes b =
     record {
       done = λ v within below.
-        elim (cases_eq v k) [
-          inl e ↦ rw (e, passes) (bit_at_set_same w16 n k less)
-        | inr d ↦ bit_at_set_other w16 n k less v d ∙ b.done v within (omega arith)
-        ];
+          elim (cases_eq v k) [
+            | inl e ↦ rw (e, passes) (bit_at_set_same w16 n k less)
+            | inr d ↦ bit_at_set_other w16 n k less v d ∙ b.done v within (omega arith)
+          ];
       rest = λ v within above.
-        let d : v ≢ k = omega arith in
-        bit_at_set_other w16 n k less v d ∙ b.rest v within (omega arith);
+          let d : v ≢ k = omega arith in
+          bit_at_set_other w16 n k less v d ∙ b.rest v within (omega arith);
     }
 
 pub bits_no : (test : ℕ → Bool) (n k : ℕ) → k < 16 → test k ≡ false → Bits test n k → Bits test n (k + 1)
 bits_no test n k less fails b =
     record {
       done = λ v within below.
-        elim (cases_eq v k) [
-          inl e ↦ rw (e, fails) (b.rest k less (omega arith))
-        | inr d ↦ b.done v within (omega arith)
-        ];
+          elim (cases_eq v k) [
+            | inl e ↦ rw (e, fails) (b.rest k less (omega arith))
+            | inr d ↦ b.done v within (omega arith)
+          ];
       rest = λ v within above. b.rest v within (omega arith);
     }
 

@@ -14,3 +14,4 @@ pub mod Listing
 pub mod Home
 pub mod Pawns
 pub mod Soundness
+pub mod Start

@@ -22,12 +22,12 @@ pub pawns-inside : (men : Men) → Clear men 8 → HasPawnsInside men
 pawns-inside men b s c e =
     let len = b.squares (omega arith) in
     elim (cases_lt s 8) [
-      inl low ↦ absurd (b.first s low c e)
-    | inr above ↦ elim (cases_lt s 56) [
-        inl below ↦ (omega arith, omega arith)
-      | inr high ↦ elim (cases_lt s 64) [
-          inl within ↦ let same : 56 + (s - 56) ≡ s = omega arith in absurd (b.last (s - 56) (omega arith) c (rw same e))
-        | inr past ↦ let empty : man_at men s ≡ None = get_or_past men s None (omega arith) in absurd (cc)
+      | inl low ↦ absurd (b.first s low c e)
+      | inr above ↦ elim (cases_lt s 56) [
+        | inl below ↦ (omega arith, omega arith)
+        | inr high ↦ elim (cases_lt s 64) [
+          | inl within ↦ let same : 56 + (s - 56) ≡ s = omega arith in absurd (b.last (s - 56) (omega arith) c (rw same e))
+          | inr past ↦ let empty : man_at men s ≡ None = get_or_past men s None (omega arith) in absurd (cc)
         ]
       ]
     ]

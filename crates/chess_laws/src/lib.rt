@@ -24,3 +24,5 @@ pub use setup::{Rights, Setup, Wing};
 
 #[cfg(test)]
 mod play_tests;
+#[cfg(test)]
+mod position_tests;
