@@ -1,5 +1,5 @@
 -- What the code of legal moves collects on its way. No public contract cites these words.
-use Rattle.std.specs.Prelude.{◌≡◌, ℕ, ◌<◌, ◌⊎◌, List, All, Any, Contains, ◌++◌, Some}
+use Rattle.std.specs.Prelude.{◌≡◌, ℕ, ◌<◌, ◌≤◌, ◌⊎◌, List, length, All, Any, Contains, ◌++◌, Some}
 use Rattle.std.specs.Int.{bit_at}
 use Rattle.cell_core.specs.declared.man.Kind.{Kind}
 use Rattle.cell_core.specs.declared.man.Kind.TheVariants.{King, Queen, Rook, Bishop, Knight, Pawn}
@@ -35,16 +35,17 @@ Comes p Bishop a b = Any (Runs p.board a b) bishop_steps
 Comes p Knight a b = Any (Leaps a b) knight_steps
 Comes p Pawn a b = PawnComes p a b
 
--- the list has the moves whose place is below n, each once and in order, and nothing else
-pub record ListsBelow (p : Setup) (n : ℕ) (ms : List Move) : Type 0 where
+-- the list has the moves whose place is below n, each once and in order, and nothing else, and at most so many fit
+pub record ListsBelow (p : Setup) (room n : ℕ) (ms : List Move) : Type 0 where
+  pub fits : length ms ≤ room
   pub only : All (IsMove p) ms
   pub below : All (λ m. place_of m < n) ms
   pub all : (m : Move) → IsMove p m → place_of m < n → Contains ms m
   pub in_order : Ascends ms
 
 -- the list has the moves that stand before this one in the order of moves
-abbrev pub ListsBefore : Setup → Move → List Move → Type 0
-ListsBefore p m ms = ListsBelow p (place_of m) ms
+abbrev pub ListsBefore : Setup → ℕ → Move → List Move → Type 0
+ListsBefore p room m ms = ListsBelow p room (place_of m) ms
 
 -- a pawn of the side to move stands on a, and b is on the last rank of its way
 pub record MayPromote (p : Setup) (a b : ℕ) : Type 0 where

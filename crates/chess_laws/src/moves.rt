@@ -1,6 +1,8 @@
 //! Every legal move of a position, in order.
 ghost use Rattle.std.specs.Prelude.{◌≡◌, ◌↔◌, ◌+◌, ◌*◌, ◌<◌, ◌≤◌, IsTrue, []};
 ghost use Rattle.std.specs.Bool.{OnTrue, OnFalse};
+ghost use Rattle.chess_laws.specs.Legal.{IsOnlyKing};
+ghost use Rattle.chess_laws.specs.Position.{Sound};
 ghost use Rattle.chess_laws.specs.Moves.{HasMoreMoves, IsMove, ListsMoves, promotion_number};
 ghost use Rattle.chess_laws.specs.Targets.{ListsBelow, ListsBefore, MayPromote};
 
@@ -20,7 +22,7 @@ impl Position {
         ensures many { OnFalse result (HasMoreMoves self.now 256) }
         ensures room { OnTrue result (HasMoreMoves self.now 256 → ⊥) }
     {
-        let fits = list_moves(self, into);
+        let fits = list_moves(self.setup(), self.king(self.side()), into);
         if !fits {
             into.clear();
         }
@@ -32,19 +34,22 @@ impl Position {
         ensures some { IsTrue result ↔ ((m : Move) × IsMove self.now m) }
     {
         let mut none: ArrayVec<Move, 0> = ArrayVec::new();
-        !list_moves(self, &mut none)
+        !list_moves(self.setup(), self.king(self.side()), &mut none)
     }
 }
 
-/// Lists every legal move but the null move, or answers false at the first for which there is no room.
-fn list_moves<const N: usize>(p: &Position, into: &mut ArrayVec<Move, N>) -> bool
+/// Lists every legal move but the null move, or answers false at the first for which there is no room. The king of the
+/// side to move stands on the square `king`.
+fn list_moves<const N: usize>(p: &Setup, king: Square, into: &mut ArrayVec<Move, N>) -> bool
+    requires sound { Sound p.now }
+    requires king { IsOnlyKing p.now.board p.now.side king }
     ensures listed { OnTrue result (ListsMoves p.now into.new.items) }
     ensures room { OnTrue result (HasMoreMoves p.now N → ⊥) }
     ensures many { OnFalse result (HasMoreMoves p.now N) }
 {
     into.clear();
     for from in 0..64u8 {
-        if !list_from(p, Square::at(from), into) {
+        if !list_from(p, king, Square::at(from), into) {
             return false;
         }
     }
@@ -52,15 +57,22 @@ fn list_moves<const N: usize>(p: &Position, into: &mut ArrayVec<Move, N>) -> boo
 }
 
 /// Lists the moves from this square behind those from the squares before it.
-fn list_from<const N: usize>(p: &Position, from: Square, into: &mut ArrayVec<Move, N>) -> bool
-    requires { ListsBelow p.now (512 * from) into.old.items }
-    ensures listed { OnTrue result (ListsBelow p.now (512 * (from + 1)) into.new.items) }
+fn list_from<const N: usize>(
+    p: &Setup,
+    king: Square,
+    from: Square,
+    into: &mut ArrayVec<Move, N>,
+) -> bool
+    requires sound { Sound p.now }
+    requires king { IsOnlyKing p.now.board p.now.side king }
+    requires before { ListsBelow p.now N (512 * from) into.old.items }
+    ensures listed { OnTrue result (ListsBelow p.now N (512 * (from + 1)) into.new.items) }
     ensures many { OnFalse result (HasMoreMoves p.now N) }
 {
-    let targets = targets(p.setup(), from);
+    let targets = targets(p, from);
     let mut at = 0u8;
     while let Some(to) = targets.next(at) {
-        if !list_to(p, from, to, into) {
+        if !list_to(p, king, from, to, into) {
             return false;
         }
         at = to.index() + 1;
@@ -70,45 +82,53 @@ fn list_from<const N: usize>(p: &Position, from: Square, into: &mut ArrayVec<Mov
 
 /// Lists the moves from one square to another behind those before them.
 fn list_to<const N: usize>(
-    p: &Position,
+    p: &Setup,
+    king: Square,
     from: Square,
     to: Square,
     into: &mut ArrayVec<Move, N>,
 ) -> bool
-    requires { ListsBelow p.now (512 * from + 8 * to) into.old.items }
-    ensures listed { OnTrue result (ListsBelow p.now (512 * from + 8 * (to + 1)) into.new.items) }
+    requires sound { Sound p.now }
+    requires king { IsOnlyKing p.now.board p.now.side king }
+    requires on_board { to < 64 }
+    requires before { ListsBelow p.now N (512 * from + 8 * to) into.old.items }
+    ensures listed { OnTrue result (ListsBelow p.now N (512 * from + 8 * (to + 1)) into.new.items) }
     ensures many { OnFalse result (HasMoreMoves p.now N) }
 {
-    if !add(p, from, to, None, into) {
+    if !add(p, king, from, to, None, into) {
         return false;
     }
-    if may_promote(p.setup(), from, to) {
-        return list_promotions(p, from, to, into);
+    if may_promote(p, from, to) {
+        return list_promotions(p, king, from, to, into);
     }
     true
 }
 
 /// Lists the promotions of a pawn behind the moves before them.
 fn list_promotions<const N: usize>(
-    p: &Position,
+    p: &Setup,
+    king: Square,
     from: Square,
     to: Square,
     into: &mut ArrayVec<Move, N>,
 ) -> bool
-    requires { ListsBelow p.now (512 * from + (8 * to + 1)) into.old.items }
-    ensures listed { OnTrue result (ListsBelow p.now (512 * from + 8 * (to + 1)) into.new.items) }
+    requires sound { Sound p.now }
+    requires king { IsOnlyKing p.now.board p.now.side king }
+    requires on_board { to < 64 }
+    requires before { ListsBelow p.now N (512 * from + (8 * to + 1)) into.old.items }
+    ensures listed { OnTrue result (ListsBelow p.now N (512 * from + 8 * (to + 1)) into.new.items) }
     ensures many { OnFalse result (HasMoreMoves p.now N) }
 {
-    if !add(p, from, to, Some(Kind::Queen), into) {
+    if !add(p, king, from, to, Some(Kind::Queen), into) {
         return false;
     }
-    if !add(p, from, to, Some(Kind::Rook), into) {
+    if !add(p, king, from, to, Some(Kind::Rook), into) {
         return false;
     }
-    if !add(p, from, to, Some(Kind::Bishop), into) {
+    if !add(p, king, from, to, Some(Kind::Bishop), into) {
         return false;
     }
-    add(p, from, to, Some(Kind::Knight), into)
+    add(p, king, from, to, Some(Kind::Knight), into)
 }
 
 /// Whether a pawn of the side to move stands on `from` and `to` is on its last rank.
@@ -128,18 +148,22 @@ fn may_promote(p: &Setup, from: Square, to: Square) -> bool
 
 /// Adds the move if it is a legal one besides the null move, or answers false where there is no room for it.
 fn add<const N: usize>(
-    p: &Position,
+    p: &Setup,
+    king: Square,
     from: Square,
     to: Square,
     promo: Option<Kind>,
     into: &mut ArrayVec<Move, N>,
 ) -> bool
-    requires { ListsBefore p.now (record { from = from; to = to; promo = promo }) into.old.items }
-    ensures listed { OnTrue result (ListsBelow p.now (512 * from + (8 * to + (promotion_number promo + 1))) into.new.items) }
+    requires sound { Sound p.now }
+    requires king { IsOnlyKing p.now.board p.now.side king }
+    requires on_board { to < 64 }
+    requires before { ListsBefore p.now N (record { from = from; to = to; promo = promo }) into.old.items }
+    ensures listed { OnTrue result (ListsBelow p.now N (512 * from + (8 * to + (promotion_number promo + 1))) into.new.items) }
     ensures many { OnFalse result (HasMoreMoves p.now N) }
 {
     let m = Move { from, to, promo };
-    if !is_move(p, &m) {
+    if !is_move(p, king, &m) {
         return true;
     }
     if into.is_full() {
@@ -150,8 +174,10 @@ fn add<const N: usize>(
 }
 
 /// Whether the move is a legal one besides the null move.
-fn is_move(p: &Position, m: &Move) -> bool
+fn is_move(p: &Setup, king: Square, m: &Move) -> bool
+    requires sound { Sound p.now }
+    requires king { IsOnlyKing p.now.board p.now.side king }
     ensures { IsTrue result ↔ IsMove p.now m.now }
 {
-    m.to != m.from && is_legal(p.setup(), p.king(p.side()), m)
+    m.to != m.from && is_legal(p, king, m)
 }
