@@ -15,3 +15,4 @@ pub mod Home
 pub mod Pawns
 pub mod Soundness
 pub mod Start
+pub mod Climbing

@@ -1,7 +1,8 @@
 -- The list of moves grows in order, and nothing stands between.
-use Rattle.std.proofs.Common.{◌≡◌, ℕ, zero, suc, ◌+◌, ◌*◌, ◌/◌, ◌%◌, ◌<◌, ◌≤◌, ◌⊎◌, inl, inr, Bool, true, false, ◌&&◌, cond, eqb, List, [], ◌∷◌, ◌++◌, Option, Some, None, is_none, IsTrue, length, get_or, refl, sym, ◌∙◌, ap, subst, arith, lit<, length-append}
+use Rattle.std.proofs.Common.{◌≡◌, ℕ, zero, suc, ◌+◌, ◌*◌, ◌/◌, ◌%◌, ◌<◌, ◌≤◌, ◌⊎◌, inl, inr, Bool, true, false, ◌&&◌, not, cond, eqb, List, [], ◌∷◌, ◌++◌, Option, Some, None, is_none, IsTrue, length, get_or, refl, sym, ◌∙◌, ap, subst, arith, lit<, length-append}
 use Rattle.std.specs.Prelude.{Any, All, AllPairs, Contains}
-use Rattle.std.proofs.lemmas.Bool.{eqb-true, cases_Bool, cases_lt, and_parts}
+use Rattle.std.proofs.lemmas.Bool.{eqb-true, cases_lt, and_parts, false≢true}
+use Rattle.std.specs.Bool.{OnTrue, OnFalse}
 use Rattle.std.proofs.lemmas.List.Elements.{All-push, All-cons, All-weaker, All-nil, Contains-append_left, Contains-push}
 use Rattle.std.proofs.lemmas.List.Quantifiers.{all_pairs_push}
 use Rattle.cell_core.specs.declared.man.Kind.{Kind}
@@ -277,3 +278,9 @@ more-one p m is = record {
 -- and the other way round
 pub one-more : (p : Setup) → HasMoreMoves p 0 → (m : Move) × IsMove p m
 one-more p h = let none : Move = record { from = 0; to = 0; promo = None } in (get_or h.moves 0 none, h.only 0 none h.many)
+
+-- whether there is room for none tells whether there is some move
+pub some-move : (p : Setup) (none : Bool) → OnTrue none (HasMoreMoves p 0 → ⊥) → OnFalse none (HasMoreMoves p 0) →
+    (IsTrue (not none) → (m : Move) × IsMove p m) × (((m : Move) × IsMove p m) → IsTrue (not none))
+some-move p true room many = (λ h. absurd (false≢true h), λ s. absurd (room (more-one p s.0 s.1)))
+some-move p false room many = (λ h. one-more p many, λ s. refl)
