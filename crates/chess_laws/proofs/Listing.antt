@@ -160,12 +160,12 @@ pub lists-skip : (p : Setup) (room : ℕ) (ms : List Move) (m : Move) → Sound 
 lists-skip p room ms m sound less h not_one =
     lists-gap p room (place_of m) (place_of m + 1) ms h (omega arith)
     (λ x it low high.
-        let tx = move-to p x sound it in
-        let px = promo-less x.promo in
-        let pm = promo-less m.promo in
-        let promo : promotion_number x.promo ≡ promotion_number m.promo = omega arith in
-        let same : x ≡ m = same-move x m (omega arith) (omega arith) (sym (promo-number x.promo) ∙ ap promo_at promo ∙ promo-number m.promo) in
-        not_one (subst (IsMove p) same it))
+    let tx = move-to p x sound it in
+    let px = promo-less x.promo in
+    let pm = promo-less m.promo in
+    let promo : promotion_number x.promo ≡ promotion_number m.promo = omega arith in
+    let same : x ≡ m = same-move x m (omega arith) (omega arith) (sym (promo-number x.promo) ∙ ap promo_at promo ∙ promo-number m.promo) in
+    not_one (subst (IsMove p) same it))
 
 -- a move for which there is no room shows that there are more
 pub lists-many : (p : Setup) (room : ℕ) (ms : List Move) (m : Move) → ListsBelow p room (place_of m) ms → IsMove p m → length ms ≡ room → HasMoreMoves p room
@@ -191,10 +191,10 @@ pub lists-all : (p : Setup) (room : ℕ) (ms : List Move) → Sound p → ListsB
 lists-all p room ms sound h = record {
   only = h.only;
   all = λ m is.
-    let f = move-from p m sound is in
-    let t = move-to p m sound is in
-    let x = promo-less m.promo in
-    h.all m is (omega arith);
+      let f = move-from p m sound is in
+      let t = move-to p m sound is in
+      let x = promo-less m.promo in
+      h.all m is (omega arith);
   in_order = h.in_order;
 }
 
@@ -221,13 +221,13 @@ pub lists-plain : (p : Setup) (room f t : ℕ) (ms : List Move) → Sound p → 
 lists-plain p room f t ms sound less never h =
     lists-gap p room (512 * f + (8 * t + 1)) (512 * f + 8 * (t + 1)) ms h (omega arith)
     (λ m is low high.
-        let squares = among p f t m sound less is (omega arith) high in
-        elim (move-fits p m is).promotes [
-          | inl none ↦
-              let zero_number : promotion_number m.promo ≡ 0 = ap promotion_number none in
-              omega arith
-          | inr may ↦ never (record { stands = ap (man_at p.board) (sym squares.0) ∙ may.0.stands; last = ap rank_of (sym squares.1) ∙ may.0.last })
-        ])
+    let squares = among p f t m sound less is (omega arith) high in
+    elim (move-fits p m is).promotes [
+      | inl none ↦
+          let zero_number : promotion_number m.promo ≡ 0 = ap promotion_number none in
+          omega arith
+      | inr may ↦ never (record { stands = ap (man_at p.board) (sym squares.0) ∙ may.0.stands; last = ap rank_of (sym squares.1) ∙ may.0.last })
+    ])
 
 number-cases : (p : Setup) (m : Move) → IsMove p m → (promotion_number m.promo ≡ 0) ⊎ ((1 < promotion_number m.promo) × (promotion_number m.promo < 6))
 number-cases p m is = elim (move-fits p m is).promotes [
@@ -240,16 +240,16 @@ pub lists-no_king : (p : Setup) (room f t : ℕ) (ms : List Move) → Sound p �
 lists-no_king p room f t ms sound less h =
     lists-gap p room (512 * f + (8 * t + 1)) (512 * f + (8 * t + 2)) ms h (omega arith)
     (λ m is low high.
-        let squares = among p f t m sound less is (omega arith) (omega arith) in
-        elim (number-cases p m is) [ inl none ↦ omega arith | inr some ↦ omega arith ])
+    let squares = among p f t m sound less is (omega arith) (omega arith) in
+    elim (number-cases p m is) [ inl none ↦ omega arith | inr some ↦ omega arith ])
 
 -- and none a pawn
 pub lists-no_pawn : (p : Setup) (room f t : ℕ) (ms : List Move) → Sound p → t < 64 → ListsBelow p room (512 * f + (8 * t + 6)) ms → ListsBelow p room (512 * f + 8 * (t + 1)) ms
 lists-no_pawn p room f t ms sound less h =
     lists-gap p room (512 * f + (8 * t + 6)) (512 * f + 8 * (t + 1)) ms h (omega arith)
     (λ m is low high.
-        let squares = among p f t m sound less is (omega arith) high in
-        elim (number-cases p m is) [ inl none ↦ omega arith | inr some ↦ omega arith ])
+    let squares = among p f t m sound less is (omega arith) high in
+    elim (number-cases p m is) [ inl none ↦ omega arith | inr some ↦ omega arith ])
 
 -- no move goes to a square that is not among the targets
 pub lists-targets : (p : Setup) (room f at t : ℕ) (ms : List Move) (set : SquareSet) → Sound p → at ≤ t → t ≤ 64 →
@@ -259,12 +259,12 @@ pub lists-targets : (p : Setup) (room f at t : ℕ) (ms : List Move) (set : Squa
 lists-targets p room f at t ms set sound more less has none h =
     lists-gap p room (512 * f + 8 * at) (512 * f + 8 * t) ms h (omega arith)
     (λ m is low high.
-        let tm = move-to p m sound is in
-        let pm = promo-less m.promo in
-        let from : m.from ≡ f = omega arith in
-        let fits = move-fits p m is in
-        none m.to (omega arith) (omega arith)
-        (has fits.kind m.to (ap (man_at p.board) (sym from) ∙ fits.stands) (subst (λ a. Comes p fits.kind a m.to) from fits.comes)))
+    let tm = move-to p m sound is in
+    let pm = promo-less m.promo in
+    let from : m.from ≡ f = omega arith in
+    let fits = move-fits p m is in
+    none m.to (omega arith) (omega arith)
+    (has fits.kind m.to (ap (man_at p.board) (sym from) ∙ fits.stands) (subst (λ a. Comes p fits.kind a m.to) from fits.comes)))
 
 -- some move shows that there are more than none
 pub more-one : (p : Setup) (m : Move) → IsMove p m → HasMoreMoves p 0

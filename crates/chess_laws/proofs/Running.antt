@@ -141,24 +141,24 @@ upright men o (suc n) a b net walk =
 -- a walk comes where its step aims
 leads-true : (a b low high : ℕ) → (low < high → a < b) → (high < low → b < a) → (low ≡ high → a ≡ b) → leads a b low high ≡ true
 leads-true a b low high above below same = elim (cases_order low high) [
-    | inl level ↦ let h = same level in grind (arith, nat_tests)
-    | inr apart ↦ elim apart [
-        | inl less ↦ let h = above less in grind (arith, nat_tests)
-        | inr more ↦ let h = below more in grind (arith, nat_tests)
-      ]
+  | inl level ↦ let h = same level in grind (arith, nat_tests)
+  | inr apart ↦ elim apart [
+    | inl less ↦ let h = above less in grind (arith, nat_tests)
+    | inr more ↦ let h = below more in grind (arith, nat_tests)
   ]
+]
 
 aims-true : (men : Men) (o : Offset) (a b : ℕ) → Runs men a b o → aims o a b ≡ true
 unfolding aims
 aims-true men o a b (n, walk) =
     let files = leads-true (file_of a) (file_of b) o.left o.right
-        (λ h. let far = right men o n a b h walk in omega arith)
-        (λ h. let far = left men o n a b h walk in omega arith)
-        (λ h. level men o n a b h walk) in
+    (λ h. let far = right men o n a b h walk in omega arith)
+    (λ h. let far = left men o n a b h walk in omega arith)
+    (λ h. level men o n a b h walk) in
     let ranks = leads-true (rank_of a) (rank_of b) o.down o.up
-        (λ h. let far = up men o n a b h walk in omega arith)
-        (λ h. let far = down men o n a b h walk in omega arith)
-        (λ h. upright men o n a b h walk) in
+    (λ h. let far = up men o n a b h walk in omega arith)
+    (λ h. let far = down men o n a b h walk in omega arith)
+    (λ h. upright men o n a b h walk) in
     rw (files, ranks)
 
 down-short : (men : Men) (o : Offset) (n a b : ℕ) → o.up < o.down → Walk men o n a b → n < 8

@@ -23,6 +23,8 @@ pub use position::Position;
 pub use setup::{Rights, Setup, Wing};
 
 #[cfg(test)]
+mod moves_tests;
+#[cfg(test)]
 mod play_tests;
 #[cfg(test)]
 mod position_tests;

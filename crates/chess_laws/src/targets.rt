@@ -106,7 +106,8 @@ fn castling_targets(p: &Setup, from: Square, set: SquareSet) -> SquareSet
     if from != king_home(p.side) {
         return set;
     }
-    set.with(king_target(p.side, Wing::KingSide)).with(king_target(p.side, Wing::QueenSide))
+    set.with(king_target(p.side, Wing::KingSide))
+        .with(king_target(p.side, Wing::QueenSide))
 }
 
 /// The set, and where one and two steps forward lead a pawn from this square.

@@ -27,14 +27,14 @@ pub loop-i-preserved : goal.loop-i-preserved
 loop-i-preserved c = record {
   kept = λ b was. c.with-set.ensures.kept b (c.loop-i.invariant.kept b was);
   ahead = λ b found.
-    elim (c.loop-i.invariant.ahead b found) [
-      | inl here ↦ inl (c.with-set.ensures.kept b here)
-      | inr ahead ↦
-          elim (run-next c.args.board.now c.args.step.now c.loop-i._i c.loop-i.at b c.in-Some.next (omega arith) (sym c.target.ensures ∙ c.in-Some.is) ahead) [
-            | inl same ↦ inl (subst (λ s. Has c.with-set.result s) same c.with-set.ensures.added)
-            | inr further ↦ inr further.1
-          ]
-    ];
+      elim (c.loop-i.invariant.ahead b found) [
+        | inl here ↦ inl (c.with-set.ensures.kept b here)
+        | inr ahead ↦
+            elim (run-next c.args.board.now c.args.step.now c.loop-i._i c.loop-i.at b c.in-Some.next (omega arith) (sym c.target.ensures ∙ c.in-Some.is) ahead) [
+              | inl same ↦ inl (subst (λ s. Has c.with-set.result s) same c.with-set.ensures.added)
+              | inr further ↦ inr further.1
+            ]
+      ];
 }
 
 pub returns-clause-runs : goal.returns-clause-runs

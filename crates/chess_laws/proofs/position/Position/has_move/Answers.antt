@@ -8,7 +8,7 @@ use Rattle.chess_laws.proofs.position.Position.has_move.Goals as goal
 pub returns : goal.returns
 returns c = record {
   some =
-    subst (λ p. (IsTrue (not c.list_moves.result) → (m : Move) × IsMove p m) × (((m : Move) × IsMove p m) → IsTrue (not c.list_moves.result)))
-    c.setup.ensures.setup
-    (some-move c.setup.result.now c.list_moves.result c.list_moves.ensures.room c.list_moves.ensures.many);
+      subst (λ p. (IsTrue (not c.list_moves.result) → (m : Move) × IsMove p m) × (((m : Move) × IsMove p m) → IsTrue (not c.list_moves.result)))
+      c.setup.ensures.setup
+      (some-move c.setup.result.now c.list_moves.result c.list_moves.ensures.room c.list_moves.ensures.many);
 }
