@@ -1,3 +1,4 @@
+pub mod Bits
 pub mod Shifts
 pub mod Boards
 pub mod Keeping
@@ -8,7 +9,10 @@ pub mod Running
 pub mod Kings
 pub mod Walks
 pub mod Attackers
+pub mod Collecting
+pub mod Listing
 pub mod Home
 pub mod Pawns
 pub mod Soundness
 pub mod Start
+pub mod Climbing

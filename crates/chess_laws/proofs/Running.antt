@@ -49,18 +49,22 @@ or-true : (x : Bool) → (x || true) ≡ true
 or-true true = refl
 or-true false = refl
 
-run-none : (men : Men) (o : Offset) (a b : ℕ) → run men o zero b a ≡ true → ⊥
+pub run-none : (men : Men) (o : Offset) (a b : ℕ) → run men o zero b a ≡ true → ⊥
 unfolding run
 run-none men o a b h = false≢true h
 
 -- what the code's walk finds is a walk
-run-on : (men : Men) (o : Offset) (n a b c : ℕ) → shift o a ≡ Some c → run men o (suc n) b a ≡ true → (c ≡ b) ⊎ ((man_at men c ≡ None) × (run men o n b c ≡ true))
+pub run-on : (men : Men) (o : Offset) (n a b c : ℕ) → shift o a ≡ Some c → run men o (suc n) b a ≡ true → (c ≡ b) ⊎ ((man_at men c ≡ None) × (run men o n b c ≡ true))
 run-on men o n a b c step h =
     let h' = rw (run-one men o n a b, step) at h in
     elim (cases_Bool (eqb c b)) [
       | inl here ↦ inl (eqb-true c b here)
       | inr other ↦ inr (and-none (man_at men c) (run men o n b c) (rw other at h'))
     ]
+
+-- a walk finds nothing beyond the edge
+pub run-edge : (men : Men) (o : Offset) (n a b : ℕ) → shift o a ≡ None → run men o (suc n) b a ≡ true → ⊥
+run-edge men o n a b edge h = let e = rw (run-one men o n a b, edge) at h in false≢true e
 
 run-from : (men : Men) (o : Offset) (n a b : ℕ) (next : Option ℕ) → shift o a ≡ next → run men o (suc n) b a ≡ true →
     ((c d : ℕ) → run men o n d c ≡ true → Runs men c d o) → Runs men a b o

@@ -6,3 +6,5 @@ pub mod Step
 pub mod Counts
 pub mod Rays
 pub mod Legal
+pub mod Moves
+pub mod Targets

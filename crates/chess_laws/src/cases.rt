@@ -205,7 +205,7 @@ fn has_own(p: &Setup, kind: Kind, s: Square) -> bool
 }
 
 /// A pawn's way.
-fn forward(colour: Colour) -> Offset
+pub fn forward(colour: Colour) -> Offset
     ensures { result ≡ forward colour }
 {
     match colour {

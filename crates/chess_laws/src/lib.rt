@@ -9,17 +9,21 @@ mod census;
 pub mod effect;
 pub mod fault;
 mod legal;
+mod moves;
 mod next;
 pub mod offset;
 pub mod position;
 mod rules;
 pub mod setup;
+mod targets;
 
 pub use effect::Effect;
 pub use fault::PlaceFault;
 pub use position::Position;
 pub use setup::{Rights, Setup, Wing};
 
+#[cfg(test)]
+mod moves_tests;
 #[cfg(test)]
 mod play_tests;
 #[cfg(test)]

@@ -65,7 +65,7 @@ fn kind(letter: u8) -> Option<Kind> {
     }
 }
 
-fn board(text: &str) -> Board {
+pub fn board(text: &str) -> Board {
     let mut board = Board::empty();
     let mut rank_start = 56u8;
     let mut file = 0u8;
@@ -106,7 +106,7 @@ fn square_of(text: &str) -> Option<Square> {
     }
 }
 
-fn move_of(text: &str) -> Option<Move> {
+pub fn move_of(text: &str) -> Option<Move> {
     match text.as_bytes() {
         [file, rank, to_file, to_rank, promo @ ..] => Some(Move {
             from: square(*file, *rank)?,

@@ -1,0 +1,27 @@
+-- The walk that collects its squares has every square that the walk of the same steps finds.
+use Rattle.std.proofs.Common.{◌≡◌, ℕ, suc, ◌+◌, ◌-◌, ◌<◌, ◌≤◌, ◌⊎◌, inl, inr, Bool, true, false, ◌&&◌, ◌||◌, eqb, Option, Some, None, is_none, is_some, sym, arith}
+use Rattle.std.proofs.lemmas.Bool.{false≢true}
+use Rattle.cell_core.specs.Board.{Men, man_at}
+use Rattle.chess_laws.specs.declared.offset.Offset.{Offset}
+use Rattle.chess_laws.specs.Geometry.{shift}
+use Rattle.chess_laws.specs.Legal.{run, run_on}
+use Rattle.chess_laws.proofs.Running.{run-on, run-edge, run-none}
+
+pub run-next : (men : Men) (o : Offset) (i a b c : ℕ) → i < 8 → shift o a ≡ Some c → run men o (8 - i) b a ≡ true →
+    (c ≡ b) ⊎ ((man_at men c ≡ None) × (run men o (8 - (i + 1)) b c ≡ true))
+run-next men o i a b c less step h =
+    let left : 8 - i ≡ suc (8 - (i + 1)) = omega arith in
+    run-on men o (8 - (i + 1)) a b c step (rw left at h)
+
+pub run-at_edge : (men : Men) (o : Offset) (i a b : ℕ) → i < 8 → shift o a ≡ None → run men o (8 - i) b a ≡ true → ⊥
+run-at_edge men o i a b less edge h =
+    let left : 8 - i ≡ suc (8 - (i + 1)) = omega arith in
+    run-edge men o (8 - (i + 1)) a b edge (rw left at h)
+
+pub run-at_end : (men : Men) (o : Offset) (i a b : ℕ) → 8 ≤ i → run men o (8 - i) b a ≡ true → ⊥
+run-at_end men o i a b more h =
+    let none : 8 - i ≡ 0 = omega arith in
+    run-none men o a b (rw none at h)
+
+pub some≢none : {A : Type 0} (x : Option A) → is_some x ≡ true → x ≡ None → ⊥
+some≢none x full empty = false≢true (rw empty at full)

@@ -1,0 +1,9 @@
+-- Each step before this one has its walk in the set.
+use Rattle.std.proofs.Common.{◌≡◌, ℕ, ◌<◌, get_or}
+use Rattle.chess_laws.specs.declared.offset.Offset.{Offset}
+use Rattle.chess_laws.specs.Geometry.{Runs}
+use Rattle.chess_laws.specs.Targets.{Has}
+use Rattle.chess_laws.proofs.targets.run_targets.Given as goal
+
+abbrev pub invariant-loop-step : goal.invariant-loop-step
+invariant-loop-step l = (b k : ℕ) (o : Offset) → k < l.step-index → get_or l.steps k o ≡ o → Runs l.board l.from b o → Has l.set b

@@ -1,0 +1,183 @@
+//! Every legal move of a position, in order.
+ghost use Rattle.std.specs.Prelude.{◌≡◌, ◌↔◌, ◌+◌, ◌*◌, ◌<◌, ◌≤◌, IsTrue, []};
+ghost use Rattle.std.specs.Bool.{OnTrue, OnFalse};
+ghost use Rattle.chess_laws.specs.Legal.{IsOnlyKing};
+ghost use Rattle.chess_laws.specs.Position.{Sound};
+ghost use Rattle.chess_laws.specs.Moves.{HasMoreMoves, IsMove, ListsMoves, promotion_number};
+ghost use Rattle.chess_laws.specs.Targets.{ListsBelow, ListsBefore, MayPromote};
+
+use super::legal::is_legal;
+use super::position::Position;
+use super::setup::Setup;
+use super::targets::targets;
+use arrayvec::ArrayVec;
+use cell_core::{Colour, Kind, Man, Move, Square};
+
+impl Position {
+    /// Lists every legal move but the null move in `into`, in the order of moves. Where there are more than 256, it
+    /// answers false and leaves `into` empty.
+    pub fn legal_moves(&self, into: &mut ArrayVec<Move, 256>) -> bool
+        ensures listed { OnTrue result (ListsMoves self.now into.new.items) }
+        ensures emptied { OnFalse result (into.new.items ≡ []) }
+        ensures many { OnFalse result (HasMoreMoves self.now 256) }
+        ensures room { OnTrue result (HasMoreMoves self.now 256 → ⊥) }
+    {
+        let fits = list_moves(self.setup(), self.king(self.side()), into);
+        if !fits {
+            into.clear();
+        }
+        fits
+    }
+
+    /// Whether there is a legal move besides the null move. It stops at the first.
+    pub fn has_move(&self) -> bool
+        ensures some { IsTrue result ↔ ((m : Move) × IsMove self.now m) }
+    {
+        let mut none: ArrayVec<Move, 0> = ArrayVec::new();
+        !list_moves(self.setup(), self.king(self.side()), &mut none)
+    }
+}
+
+/// Lists every legal move but the null move, or answers false at the first for which there is no room. The king of the
+/// side to move stands on the square `king`.
+fn list_moves<const N: usize>(p: &Setup, king: Square, into: &mut ArrayVec<Move, N>) -> bool
+    requires sound { Sound p.now }
+    requires king { IsOnlyKing p.now.board p.now.side king }
+    ensures listed { OnTrue result (ListsMoves p.now into.new.items) }
+    ensures room { OnTrue result (HasMoreMoves p.now N → ⊥) }
+    ensures many { OnFalse result (HasMoreMoves p.now N) }
+{
+    into.clear();
+    for from in 0..64u8 {
+        if !list_from(p, king, Square::at(from), into) {
+            return false;
+        }
+    }
+    true
+}
+
+/// Lists the moves from this square behind those from the squares before it.
+fn list_from<const N: usize>(
+    p: &Setup,
+    king: Square,
+    from: Square,
+    into: &mut ArrayVec<Move, N>,
+) -> bool
+    requires sound { Sound p.now }
+    requires king { IsOnlyKing p.now.board p.now.side king }
+    requires before { ListsBelow p.now N (512 * from) into.old.items }
+    ensures listed { OnTrue result (ListsBelow p.now N (512 * (from + 1)) into.new.items) }
+    ensures many { OnFalse result (HasMoreMoves p.now N) }
+{
+    let targets = targets(p, from);
+    let mut at = 0u8;
+    while let Some(to) = targets.next(at) {
+        if !list_to(p, king, from, to, into) {
+            return false;
+        }
+        at = to.index() + 1;
+    }
+    true
+}
+
+/// Lists the moves from one square to another behind those before them.
+fn list_to<const N: usize>(
+    p: &Setup,
+    king: Square,
+    from: Square,
+    to: Square,
+    into: &mut ArrayVec<Move, N>,
+) -> bool
+    requires sound { Sound p.now }
+    requires king { IsOnlyKing p.now.board p.now.side king }
+    requires on_board { to < 64 }
+    requires before { ListsBelow p.now N (512 * from + 8 * to) into.old.items }
+    ensures listed { OnTrue result (ListsBelow p.now N (512 * from + 8 * (to + 1)) into.new.items) }
+    ensures many { OnFalse result (HasMoreMoves p.now N) }
+{
+    if !add(p, king, from, to, None, into) {
+        return false;
+    }
+    if may_promote(p, from, to) {
+        return list_promotions(p, king, from, to, into);
+    }
+    true
+}
+
+/// Lists the promotions of a pawn behind the moves before them.
+fn list_promotions<const N: usize>(
+    p: &Setup,
+    king: Square,
+    from: Square,
+    to: Square,
+    into: &mut ArrayVec<Move, N>,
+) -> bool
+    requires sound { Sound p.now }
+    requires king { IsOnlyKing p.now.board p.now.side king }
+    requires on_board { to < 64 }
+    requires before { ListsBelow p.now N (512 * from + (8 * to + 1)) into.old.items }
+    ensures listed { OnTrue result (ListsBelow p.now N (512 * from + 8 * (to + 1)) into.new.items) }
+    ensures many { OnFalse result (HasMoreMoves p.now N) }
+{
+    if !add(p, king, from, to, Some(Kind::Queen), into) {
+        return false;
+    }
+    if !add(p, king, from, to, Some(Kind::Rook), into) {
+        return false;
+    }
+    if !add(p, king, from, to, Some(Kind::Bishop), into) {
+        return false;
+    }
+    add(p, king, from, to, Some(Kind::Knight), into)
+}
+
+/// Whether a pawn of the side to move stands on `from` and `to` is on its last rank.
+fn may_promote(p: &Setup, from: Square, to: Square) -> bool
+    ensures { IsTrue result ↔ MayPromote p.now from to }
+{
+    let last_rank = match p.side {
+        Colour::White => 7,
+        Colour::Black => 0,
+    };
+    let pawn = Man {
+        colour: p.side,
+        kind: Kind::Pawn,
+    };
+    to.index() / 8 == last_rank && p.board.at(from) == Some(pawn)
+}
+
+/// Adds the move if it is a legal one besides the null move, or answers false where there is no room for it.
+fn add<const N: usize>(
+    p: &Setup,
+    king: Square,
+    from: Square,
+    to: Square,
+    promo: Option<Kind>,
+    into: &mut ArrayVec<Move, N>,
+) -> bool
+    requires sound { Sound p.now }
+    requires king { IsOnlyKing p.now.board p.now.side king }
+    requires on_board { to < 64 }
+    requires before { ListsBefore p.now N (record { from = from; to = to; promo = promo }) into.old.items }
+    ensures listed { OnTrue result (ListsBelow p.now N (512 * from + (8 * to + (promotion_number promo + 1))) into.new.items) }
+    ensures many { OnFalse result (HasMoreMoves p.now N) }
+{
+    let m = Move { from, to, promo };
+    if !is_move(p, king, &m) {
+        return true;
+    }
+    if into.is_full() {
+        return false;
+    }
+    into.push(m);
+    true
+}
+
+/// Whether the move is a legal one besides the null move.
+fn is_move(p: &Setup, king: Square, m: &Move) -> bool
+    requires sound { Sound p.now }
+    requires king { IsOnlyKing p.now.board p.now.side king }
+    ensures { IsTrue result ↔ IsMove p.now m.now }
+{
+    m.to != m.from && is_legal(p, king, m)
+}

@@ -1,0 +1,190 @@
+//! Where the geometry of a man may lead it, before the other rules are asked.
+ghost use Rattle.std.specs.Prelude.{◌≡◌, ℕ, ◌<◌, ◌≤◌, Any, MatchOption, Some, true};
+ghost use Rattle.std.specs.Int.{bit_at};
+ghost use Rattle.cell_core.specs.Board.{man_at};
+ghost use Rattle.cell_core.specs.Man.{man};
+ghost use Rattle.chess_laws.specs.Geometry.{Leaps, Runs, Walk, forward, pawn_captures};
+ghost use Rattle.chess_laws.specs.Legal.{run};
+ghost use Rattle.chess_laws.specs.Targets.{CastlesTo, Comes, Has};
+
+use super::attack::{
+    BISHOP_STEPS, BLACK_CAPTURES, KING_STEPS, KNIGHT_STEPS, ROOK_STEPS, WHITE_CAPTURES,
+};
+use super::cases::forward;
+use super::castling::{king_home, king_target};
+use super::offset::Offset;
+use super::setup::{Setup, Wing};
+use cell_core::{Board, Colour, Kind, Square};
+
+/// A set of squares.
+#[derive(Clone, Copy, Debug, PartialEq, Eq)]
+pub struct SquareSet {
+    bits: u64,
+}
+
+impl SquareSet {
+    /// The set with no square.
+    fn empty() -> SquareSet {
+        SquareSet { bits: 0 }
+    }
+
+    /// The set with this square too.
+    fn with(self, s: Square) -> SquareSet
+        ensures added { Has result s }
+        ensures kept { (k : ℕ) → Has self k → Has result k }
+    {
+        SquareSet {
+            bits: with_bit(self.bits, s.index()),
+        }
+    }
+
+    /// The first square of the set from the number `at` on.
+    pub fn next(&self, at: u8) -> Option<Square>
+        requires { at ≤ 64 }
+        ensures from { MatchOption result (Unit {0}) (λ s. at ≤ s × s < 64) }
+        ensures first { MatchOption result ((k : ℕ) → k < 64 → at ≤ k → Has self.now k → ⊥) (λ s. (k : ℕ) → at ≤ k → k < s → Has self.now k → ⊥) }
+    {
+        if at == 64 {
+            return None;
+        }
+        let place = first_bit(self.bits >> at)?;
+        Some(Square::at(at + place))
+    }
+}
+
+/// The word with the bit `k`.
+fn with_bit(word: u64, k: u8) -> u64
+    requires { k < 64 }
+    ensures set { bit_at result k ≡ 1 }
+    ensures kept { (i : ℕ) → bit_at word i ≡ 1 → bit_at result i ≡ 1 }
+{
+    word | (1 << k)
+}
+
+/// The lowest bit of the word.
+fn first_bit(word: u64) -> Option<u8>
+    ensures none { MatchOption result (word ≡ 0) (λ k. k < 64) }
+    ensures first { MatchOption result (Unit {0}) (λ k. (i : ℕ) → i < k → bit_at word i ≡ 0) }
+    ensures set { MatchOption result (Unit {0}) (λ k. bit_at word k ≡ 1) }
+{
+    if word == 0 {
+        None
+    } else {
+        Some(word.trailing_zeros() as u8)
+    }
+}
+
+/// Where a man of the side to move may come from this square: among others to every target of a legal move.
+pub fn targets(p: &Setup, from: Square) -> SquareSet
+    ensures { (k : Kind) (b : ℕ) → man_at p.now.board from ≡ Some (man p.now.side k) → Comes p.now k from b → Has result b }
+{
+    match p.board.at(from) {
+        Some(standing) if standing.colour == p.side => targets_of(p, standing.kind, from),
+        _ => SquareSet::empty(),
+    }
+}
+
+/// Where a man of this kind may come from this square.
+fn targets_of(p: &Setup, kind: Kind, from: Square) -> SquareSet
+    ensures { (b : ℕ) → Comes p.now kind from b → Has result b }
+{
+    match kind {
+        Kind::King => castling_targets(p, from, leap_targets(&KING_STEPS, from)),
+        Kind::Queen => run_targets(&p.board, &KING_STEPS, from),
+        Kind::Rook => run_targets(&p.board, &ROOK_STEPS, from),
+        Kind::Bishop => run_targets(&p.board, &BISHOP_STEPS, from),
+        Kind::Knight => leap_targets(&KNIGHT_STEPS, from),
+        Kind::Pawn => way_targets(p, from, capture_targets(p.side, from)),
+    }
+}
+
+/// The set, and where castling may lead a king from this square.
+fn castling_targets(p: &Setup, from: Square, set: SquareSet) -> SquareSet
+    ensures castles { (b : ℕ) → CastlesTo p.now from b → Has result b }
+    ensures kept { (b : ℕ) → Has set b → Has result b }
+{
+    if from != king_home(p.side) {
+        return set;
+    }
+    set.with(king_target(p.side, Wing::KingSide))
+        .with(king_target(p.side, Wing::QueenSide))
+}
+
+/// The set, and where one and two steps forward lead a pawn from this square.
+fn way_targets(p: &Setup, from: Square, set: SquareSet) -> SquareSet
+    ensures one { (b : ℕ) → Leaps from b (forward p.now.side) → Has result b }
+    ensures two { (b : ℕ) → Walk p.now.board (forward p.now.side) 1 from b → Has result b }
+    ensures kept { (b : ℕ) → Has set b → Has result b }
+{
+    let step = forward(p.side);
+    let Some(next) = step.target(from) else {
+        return set;
+    };
+    match step.target(next) {
+        Some(second) => set.with(next).with(second),
+        None => set.with(next),
+    }
+}
+
+/// The squares diagonally in front of a pawn.
+fn capture_targets(side: Colour, from: Square) -> SquareSet
+    ensures { (b : ℕ) → Any (Leaps from b) (pawn_captures side) → Has result b }
+{
+    match side {
+        Colour::White => leap_targets(&WHITE_CAPTURES, from),
+        Colour::Black => leap_targets(&BLACK_CAPTURES, from),
+    }
+}
+
+/// Where one of the steps leads.
+fn leap_targets(steps: &[Offset], from: Square) -> SquareSet
+    ensures { (b : ℕ) → Any (Leaps from b) steps.now → Has result b }
+{
+    let mut set = SquareSet::empty();
+    for step in steps {
+        if let Some(to) = step.target(from) {
+            set = set.with(to);
+        }
+    }
+    set
+}
+
+/// Where equal steps, of one of these, lead over empty squares.
+fn run_targets(board: &Board, steps: &[Offset], from: Square) -> SquareSet
+    ensures { (b : ℕ) → Any (Runs board.now from b) steps.now → Has result b }
+{
+    let mut set = SquareSet::empty();
+    for step in steps {
+        set = add_run(board, step, from, set);
+    }
+    set
+}
+
+/// The set, and where equal steps of this one lead over empty squares.
+#[tactic(auto, using(crate::proofs::Running::run_is))]
+fn add_run(board: &Board, step: &Offset, from: Square, set: SquareSet) -> SquareSet
+    ensures runs { (b : ℕ) → Runs board.now from b step.now → Has result b }
+    ensures kept { (b : ℕ) → Has set b → Has result b }
+{
+    walk_run(board, step, from, set)
+}
+
+/// The set, and each square on the way by this step to a man or to the edge.
+fn walk_run(board: &Board, step: &Offset, from: Square, set: SquareSet) -> SquareSet
+    ensures runs { (b : ℕ) → run board.now step.now 8 b from ≡ true → Has result b }
+    ensures kept { (b : ℕ) → Has set b → Has result b }
+{
+    let mut set = set;
+    let mut at = from;
+    for _i in 0..8u8 {
+        let Some(next) = step.target(at) else {
+            return set;
+        };
+        set = set.with(next);
+        if board.at(next).is_some() {
+            return set;
+        }
+        at = next;
+    }
+    set
+}
