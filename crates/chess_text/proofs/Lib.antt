@@ -1,1 +1,5 @@
 pub mod PlacementLaws
+pub mod FieldLaws
+pub mod WordLaws
+pub mod FenLaws
+pub mod WritingLaws
