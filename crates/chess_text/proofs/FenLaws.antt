@@ -58,9 +58,9 @@ bind_same (Err fault) f g same = refl
 -- the counters as tests one after another
 counters_flags : (b c d : Bool) (r : Result Setup FenFault)
     → (cond b (cond c (cond d (Ok tt) (Err (Field 7))) (Err (Field 6))) (Err (Field 5)) >>= λ (counters : Unit {0}). r)
-      ≡ (ok_or (flag b) (Field 5) >>= λ (counter : Unit {0}).
-        (ok_or (flag c) (Field 6) >>= λ (counter : Unit {0}).
-        (ok_or (flag d) (Field 7) >>= λ (counter : Unit {0}). r)))
+    ≡ (ok_or (flag b) (Field 5) >>= λ (counter : Unit {0}).
+    (ok_or (flag c) (Field 6) >>= λ (counter : Unit {0}).
+    (ok_or (flag d) (Field 7) >>= λ (counter : Unit {0}). r)))
 unfolding flag
 counters_flags true true true r = refl
 counters_flags true true false r = refl
@@ -68,7 +68,6 @@ counters_flags true false d r = refl
 counters_flags false c d r = refl
 
 module _ (words : List (List ℕ)) (text : List ℕ) (spaced : Spaced words text) where
-
   word_at : (n : ℕ) → word_of (rests n text) ≡ get_or words n []
   word_at n = word_of-rests n words text spaced
 
@@ -78,25 +77,28 @@ module _ (words : List (List ℕ)) (text : List ℕ) (spaced : Spaced words text
   counters_spaced : (r : Setup) → (counters_named (rests 4 text) >>= λ (counters : Unit {0}). Ok r) ≡ counters_then words (Ok r)
   unfolding counters_named counters_then rests
   counters_spaced r =
-      rw (or_word_at 4 (48 ∷ []), or_word_at 5 (49 ∷ []),
-        ap (λ (word : List ℕ). length word == 0) (word_at 6) ∙ no_word-spaced words text 6 spaced)
+      rw (
+        or_word_at 4 (48 ∷ []),
+        or_word_at 5 (49 ∷ []),
+        ap (λ (word : List ℕ). length word == 0) (word_at 6) ∙ no_word-spaced words text 6 spaced,
+      )
       (counters_flags _ _ _ _)
 
   rights_spaced : (board : Men) (side : Colour) → rights_from (rests 2 text) board side ≡ rights_then words board side
   unfolding rights_from rights_then square_then rests
   rights_spaced board side =
       let setup : Rights → Option ℕ → Setup
-        = λ rights square. record { board = board; side = side; rights = rights; en_passant = square } in
+      = λ rights square. record { board = board; side = side; rights = rights; en_passant = square } in
       rw (or_word_at 2 (45 ∷ [])) (bind_same _ _ (square_then words board side) (λ rights.
-        rw (or_word_at 3 (45 ∷ [])) (bind_same _ _
-        (λ (square : Option ℕ). counters_then words (Ok (setup rights square)))
-        (λ square. counters_spaced (setup rights square)))))
+      rw (or_word_at 3 (45 ∷ [])) (bind_same _ _
+      (λ (square : Option ℕ). counters_then words (Ok (setup rights square)))
+      (λ square. counters_spaced (setup rights square)))))
 
   pub setup_named-spaced : setup_named text ≡ fields_named words
   unfolding setup_named fields_named side_then rests
   setup_named-spaced =
       rw (word_at 0) (bind_same _ _ (side_then words) (λ board.
-        rw (word_at 1) (bind_same _ _ (rights_then words board) (λ side. rights_spaced board side))))
+      rw (word_at 1) (bind_same _ _ (rights_then words board) (λ side. rights_spaced board side))))
 
 -- ---- one field
 
@@ -148,53 +150,53 @@ first_fault_found : (words : List (List ℕ)) (fault : FenFault) → Ends (Broke
 unfolding fields_named side_then rights_then square_then counters_then Broken Ends
 first_fault_found words fault h =
     fault_found 1 _ _ fault _ (Broken fault) _
-      (λ board. placement_filled (placement_field words) board) (λ board. placement_fills (placement_field words) board) h
-      (λ board h₁. fault_found 2 _ _ fault _ (Broken fault) _
-      (λ side. side_text_named (side_field words) side) (λ side e. rw e (side_named-side_text side)) h₁
-      (λ side h₂. fault_found 3 _ _ fault _ (Broken fault) _
-      (λ rights. rights_text_named (rights_field words) rights) (λ rights. rights_named-rights_text (rights_field words) rights) h₂
-      (λ rights h₃. fault_found 4 _ _ fault _ (Broken fault) _
-      (λ square. en_passant_text_named side (en_passant_field words) square)
-      (λ square. en_passant_named-en_passant_text side (en_passant_field words) square) h₃
-      (λ square h₄. fault_found 5 _ _ fault _ (Broken fault) _
-      (λ x e. counter_text_named (half_moves_field words) (flag_true _ x e))
-      (λ x text. true_flag _ x (is_counter-counter_text (half_moves_field words) text)) h₄
-      (λ _ h₅. fault_found 6 _ _ fault _ (Broken fault) _
-      (λ x e. counter_text_named (moves_field words) (flag_true _ x e))
-      (λ x text. true_flag _ x (is_counter-counter_text (moves_field words) text)) h₅
-      (λ _ h₆. fault_found 7 _ _ fault _ (Broken fault) _
-      (λ x e. leb-true (length words) 6 (flag_true _ x e))
-      (λ x few. true_flag _ x (le-leb (length words) 6 few)) h₆
-      (λ _ h₇. h₇)))))))
+    (λ board. placement_filled (placement_field words) board) (λ board. placement_fills (placement_field words) board) h
+    (λ board h₁. fault_found 2 _ _ fault _ (Broken fault) _
+    (λ side. side_text_named (side_field words) side) (λ side e. rw e (side_named-side_text side)) h₁
+    (λ side h₂. fault_found 3 _ _ fault _ (Broken fault) _
+    (λ rights. rights_text_named (rights_field words) rights) (λ rights. rights_named-rights_text (rights_field words) rights) h₂
+    (λ rights h₃. fault_found 4 _ _ fault _ (Broken fault) _
+    (λ square. en_passant_text_named side (en_passant_field words) square)
+    (λ square. en_passant_named-en_passant_text side (en_passant_field words) square) h₃
+    (λ square h₄. fault_found 5 _ _ fault _ (Broken fault) _
+    (λ x e. counter_text_named (half_moves_field words) (flag_true _ x e))
+    (λ x text. true_flag _ x (is_counter-counter_text (half_moves_field words) text)) h₄
+    (λ _ h₅. fault_found 6 _ _ fault _ (Broken fault) _
+    (λ x e. counter_text_named (moves_field words) (flag_true _ x e))
+    (λ x text. true_flag _ x (is_counter-counter_text (moves_field words) text)) h₅
+    (λ _ h₆. fault_found 7 _ _ fault _ (Broken fault) _
+    (λ x e. leb-true (length words) 6 (flag_true _ x e))
+    (λ x few. true_flag _ x (le-leb (length words) 6 few)) h₆
+    (λ _ h₇. h₇)))))))
 
 first_fault_only : (words : List (List ℕ)) (fault : FenFault) → FirstFault words fault
     → Ends (Broken fault) fault (fields_named words)
 unfolding fields_named side_then rights_then square_then counters_then Broken Ends
 first_fault_only words fault h =
     fault_only 1 _ _ fault _ (Broken fault) _
-      (λ board. placement_filled (placement_field words) board) (λ board. placement_fills (placement_field words) board) h
-      (λ board h₁. fault_only 2 _ _ fault _ (Broken fault) _
-      (λ side. side_text_named (side_field words) side) (λ side e. rw e (side_named-side_text side)) h₁
-      (λ side h₂. fault_only 3 _ _ fault _ (Broken fault) _
-      (λ rights. rights_text_named (rights_field words) rights) (λ rights. rights_named-rights_text (rights_field words) rights) h₂
-      (λ rights h₃. fault_only 4 _ _ fault _ (Broken fault) _
-      (λ square. en_passant_text_named side (en_passant_field words) square)
-      (λ square. en_passant_named-en_passant_text side (en_passant_field words) square) h₃
-      (λ square h₄. fault_only 5 _ _ fault _ (Broken fault) _
-      (λ x e. counter_text_named (half_moves_field words) (flag_true _ x e))
-      (λ x text. true_flag _ x (is_counter-counter_text (half_moves_field words) text)) h₄
-      (λ _ h₅. fault_only 6 _ _ fault _ (Broken fault) _
-      (λ x e. counter_text_named (moves_field words) (flag_true _ x e))
-      (λ x text. true_flag _ x (is_counter-counter_text (moves_field words) text)) h₅
-      (λ _ h₆. fault_only 7 _ _ fault _ (Broken fault) _
-      (λ x e. leb-true (length words) 6 (flag_true _ x e))
-      (λ x few. true_flag _ x (le-leb (length words) 6 few)) h₆
-      (λ _ h₇. h₇)))))))
+    (λ board. placement_filled (placement_field words) board) (λ board. placement_fills (placement_field words) board) h
+    (λ board h₁. fault_only 2 _ _ fault _ (Broken fault) _
+    (λ side. side_text_named (side_field words) side) (λ side e. rw e (side_named-side_text side)) h₁
+    (λ side h₂. fault_only 3 _ _ fault _ (Broken fault) _
+    (λ rights. rights_text_named (rights_field words) rights) (λ rights. rights_named-rights_text (rights_field words) rights) h₂
+    (λ rights h₃. fault_only 4 _ _ fault _ (Broken fault) _
+    (λ square. en_passant_text_named side (en_passant_field words) square)
+    (λ square. en_passant_named-en_passant_text side (en_passant_field words) square) h₃
+    (λ square h₄. fault_only 5 _ _ fault _ (Broken fault) _
+    (λ x e. counter_text_named (half_moves_field words) (flag_true _ x e))
+    (λ x text. true_flag _ x (is_counter-counter_text (half_moves_field words) text)) h₄
+    (λ _ h₅. fault_only 6 _ _ fault _ (Broken fault) _
+    (λ x e. counter_text_named (moves_field words) (flag_true _ x e))
+    (λ x text. true_flag _ x (is_counter-counter_text (moves_field words) text)) h₅
+    (λ _ h₆. fault_only 7 _ _ fault _ (Broken fault) _
+    (λ x e. leb-true (length words) 6 (flag_true _ x e))
+    (λ x few. true_flag _ x (le-leb (length words) 6 few)) h₆
+    (λ _ h₇. h₇)))))))
 
 -- the first fault of a text, where its fields have one or what they say is no position
 pub fen_fault_found : (text : List ℕ) (fault : FenFault)
     → MatchResult (setup_named text)
-      (λ says. (broken : PlaceFault) × (fault ≡ fault_of broken) × Breaks (kept says) broken) (λ first. first ≡ fault)
+    (λ says. (broken : PlaceFault) × (fault ≡ fault_of broken) × Breaks (kept says) broken) (λ first. first ≡ fault)
     → FenFaultOf text fault
 unfolding Broken Ends
 fen_fault_found text fault h =
@@ -203,7 +205,7 @@ fen_fault_found text fault h =
 
 pub fen_fault_only : (text : List ℕ) (fault : FenFault) → FenFaultOf text fault
     → MatchResult (setup_named text)
-      (λ says. (broken : PlaceFault) × (fault ≡ fault_of broken) × Breaks (kept says) broken) (λ first. first ≡ fault)
+    (λ says. (broken : PlaceFault) × (fault ≡ fault_of broken) × Breaks (kept says) broken) (λ first. first ≡ fault)
 unfolding Broken Ends
 fen_fault_only text fault (words, spaced, first) =
     rw (setup_named-spaced words text spaced) (first_fault_only words fault first)
@@ -229,28 +231,31 @@ text_of_fields words text says spaced h =
     field_ok 5 _ _ says P h₄ (λ half_moves e₅ h₅.
     field_ok 6 _ _ says P h₅ (λ moves e₆ h₆.
     field_ok 7 _ _ says P h₆ (λ seventh e₇ h₇.
-      subst (λ (s : Setup). FenText text s) (same_Ok _ _ h₇) (record {
-        words = words;
-        spaced = spaced;
-        placement = placement_filled (placement_field words) board e₁;
-        side = side_text_named (side_field words) side e₂;
-        rights = rights_text_named (rights_field words) rights e₃;
-        en_passant = en_passant_text_named side (en_passant_field words) square e₄;
-        half_moves = counter_text_named (half_moves_field words) (flag_true _ half_moves e₅);
-        moves = counter_text_named (moves_field words) (flag_true _ moves e₆);
-        no_seventh = leb-true (length words) 6 (flag_true _ seventh e₇)
-      }))))))))
+    subst (λ (s : Setup). FenText text s) (same_Ok _ _ h₇) (record {
+      words = words;
+      spaced = spaced;
+      placement = placement_filled (placement_field words) board e₁;
+      side = side_text_named (side_field words) side e₂;
+      rights = rights_text_named (rights_field words) rights e₃;
+      en_passant = en_passant_text_named side (en_passant_field words) square e₄;
+      half_moves = counter_text_named (half_moves_field words) (flag_true _ half_moves e₅);
+      moves = counter_text_named (moves_field words) (flag_true _ moves e₆);
+      no_seventh = leb-true (length words) 6 (flag_true _ seventh e₇);
+    }))))))))
 
 fields_of_text : (text : List ℕ) (says : Setup) (t : FenText text says) → fields_named t.words ≡ Ok says
 unfolding fields_named side_then rights_then square_then counters_then
 fields_of_text text says t =
-    rw (placement_fills (placement_field t.words) says.board t.placement,
-      t.side, side_named-side_text says.side,
+    rw (
+      placement_fills (placement_field t.words) says.board t.placement,
+      t.side,
+      side_named-side_text says.side,
       rights_named-rights_text (rights_field t.words) says.rights t.rights,
       en_passant_named-en_passant_text says.side (en_passant_field t.words) says.en_passant t.en_passant,
       true_flag _ tt (is_counter-counter_text (half_moves_field t.words) t.half_moves),
       true_flag _ tt (is_counter-counter_text (moves_field t.words) t.moves),
-      true_flag _ tt (le-leb (length t.words) 6 t.no_seventh)) refl
+      true_flag _ tt (le-leb (length t.words) 6 t.no_seventh),
+    ) refl
 
 pub fen_text_found : (text : List ℕ) (says : Setup) → setup_named text ≡ Ok says → FenText text says
 fen_text_found text says h =
@@ -354,7 +359,7 @@ broken_from says (Err other) fault broken (found, stands', breaks') stands break
 first_from : (text : List ℕ) (fields : Result Setup FenFault) (answer : Result Setup FenFault) (fault : FenFault)
     → MatchResult fields (λ says. Placed says answer) (λ fault. answer ≡ Err fault)
     → MatchResult fields
-      (λ says. (broken : PlaceFault) × (fault ≡ fault_of broken) × Breaks (kept says) broken) (λ first. first ≡ fault)
+    (λ says. (broken : PlaceFault) × (fault ≡ fault_of broken) × Breaks (kept says) broken) (λ first. first ≡ fault)
     → answer ≡ Err fault
 first_from text (Ok says) answer fault h (broken, stands, breaks) = broken_from says answer fault broken h stands breaks
 first_from text (Err first) answer fault h is = h ∙ ap Err is

@@ -25,10 +25,10 @@ pub side_text_named : (word : List ℕ) (side : Colour) → side_named word ≡ 
 side_text_named [] side h = cc
 side_text_named (byte ∷ []) side h =
     elim (chosen (byte == 119) _ _ (Some side) h) [
-      inl white ↦ rw (eqb-true byte 119 white.0, ← same_Some _ _ white.1) refl
-    | inr other ↦ elim (chosen (byte == 98) _ _ (Some side) other.1) [
-        inl black ↦ rw (eqb-true byte 98 black.0, ← same_Some _ _ black.1) refl
-      | inr none ↦ cc (none.1)
+      | inl white ↦ rw (eqb-true byte 119 white.0, ← same_Some _ _ white.1) refl
+      | inr other ↦ elim (chosen (byte == 98) _ _ (Some side) other.1) [
+        | inl black ↦ rw (eqb-true byte 98 black.0, ← same_Some _ _ black.1) refl
+        | inr none ↦ cc (none.1)
       ]
     ]
 side_text_named (first ∷ second ∷ word) side h = cc
@@ -66,7 +66,7 @@ adds_white_king r h = record {
   white_queen_side = omega arith;
   black_king_side = omega arith;
   black_queen_side = omega arith;
-  one = refl
+  one = refl;
 }
 
 adds_white_queen : (r : Rights) → r.white_queen_side ≡ false → Adds 81 r (record r { white_queen_side = true })
@@ -76,7 +76,7 @@ adds_white_queen r h = record {
   white_queen_side = rw h refl;
   black_king_side = omega arith;
   black_queen_side = omega arith;
-  one = refl
+  one = refl;
 }
 
 adds_black_king : (r : Rights) → r.black_king_side ≡ false → Adds 107 r (record r { black_king_side = true })
@@ -86,7 +86,7 @@ adds_black_king r h = record {
   white_queen_side = omega arith;
   black_king_side = rw h refl;
   black_queen_side = omega arith;
-  one = refl
+  one = refl;
 }
 
 adds_black_queen : (r : Rights) → r.black_queen_side ≡ false → Adds 113 r (record r { black_queen_side = true })
@@ -96,7 +96,7 @@ adds_black_queen r h = record {
   white_queen_side = omega arith;
   black_king_side = omega arith;
   black_queen_side = rw h refl;
-  one = refl
+  one = refl;
 }
 
 -- a letter that passed its test is that letter, and its right was not there
@@ -109,14 +109,14 @@ with_right_adds : (r s : Rights) (letter : ℕ) → with_right r letter ≡ Some
 unfolding with_right
 with_right_adds r s letter h =
     elim (chosen (letter == 75 && not r.white_king_side) _ _ (Some s) h) [
-      inl wk ↦ let new = new_right letter 75 _ wk.0 in rw (new.0, ← same_Some _ _ wk.1) (adds_white_king r new.1)
-    | inr h₁ ↦ elim (chosen (letter == 81 && not r.white_queen_side) _ _ (Some s) (h₁.1)) [
-        inl wq ↦ let new = new_right letter 81 _ wq.0 in rw (new.0, ← same_Some _ _ wq.1) (adds_white_queen r new.1)
-      | inr h₂ ↦ elim (chosen (letter == 107 && not r.black_king_side) _ _ (Some s) (h₂.1)) [
-          inl bk ↦ let new = new_right letter 107 _ bk.0 in rw (new.0, ← same_Some _ _ bk.1) (adds_black_king r new.1)
-        | inr h₃ ↦ elim (chosen (letter == 113 && not r.black_queen_side) _ _ (Some s) (h₃.1)) [
-            inl bq ↦ let new = new_right letter 113 _ bq.0 in rw (new.0, ← same_Some _ _ bq.1) (adds_black_queen r new.1)
-          | inr none ↦ cc (none.1)
+      | inl wk ↦ let new = new_right letter 75 _ wk.0 in rw (new.0, ← same_Some _ _ wk.1) (adds_white_king r new.1)
+      | inr h₁ ↦ elim (chosen (letter == 81 && not r.white_queen_side) _ _ (Some s) (h₁.1)) [
+        | inl wq ↦ let new = new_right letter 81 _ wq.0 in rw (new.0, ← same_Some _ _ wq.1) (adds_white_queen r new.1)
+        | inr h₂ ↦ elim (chosen (letter == 107 && not r.black_king_side) _ _ (Some s) (h₂.1)) [
+          | inl bk ↦ let new = new_right letter 107 _ bk.0 in rw (new.0, ← same_Some _ _ bk.1) (adds_black_king r new.1)
+          | inr h₃ ↦ elim (chosen (letter == 113 && not r.black_queen_side) _ _ (Some s) (h₃.1)) [
+            | inl bq ↦ let new = new_right letter 113 _ bq.0 in rw (new.0, ← same_Some _ _ bq.1) (adds_black_queen r new.1)
+            | inr none ↦ cc (none.1)
           ]
         ]
       ]
@@ -132,7 +132,7 @@ tallies_more letter word r t s a l =
       white_queen_side = omega arith;
       black_king_side = omega arith;
       black_queen_side = omega arith;
-      no_other = omega arith
+      no_other = omega arith;
     }
 
 tallies_rest : (letter : ℕ) (word : List ℕ) (r t s : Rights) → Adds letter r t → Tallies (letter ∷ word) r s
@@ -145,7 +145,7 @@ tallies_rest letter word r t s a l =
       white_queen_side = omega arith;
       black_king_side = omega arith;
       black_queen_side = omega arith;
-      no_other = omega arith
+      no_other = omega arith;
     }
 
 with_rights_tallies : (word : List ℕ) (r s : Rights) → with_rights word r ≡ Some s → Tallies word r s
@@ -156,11 +156,11 @@ with_rights_tallies [] r s h =
       white_queen_side = omega arith;
       black_king_side = omega arith;
       black_queen_side = omega arith;
-      no_other = refl
+      no_other = refl;
     })
 with_rights_tallies (letter ∷ word) r s h =
     option_and_then_some (with_rights word) (with_right r letter) s h (λ t first later.
-      tallies_more letter word r t s (with_right_adds r t letter first) (with_rights_tallies word t s later))
+    tallies_more letter word r t s (with_right_adds r t letter first) (with_rights_tallies word t s later))
 
 -- a letter is one of the four, or none of them
 data Which (letter : ℕ) : Type 0 where
@@ -174,14 +174,14 @@ which : (letter : ℕ) → Which letter
 unfolding is
 which letter =
     elim (cases_Bool (letter == 75)) [
-      inl h₁ ↦ white_king (eqb-true letter 75 h₁)
-    | inr h₁ ↦ elim (cases_Bool (letter == 81)) [
-        inl h₂ ↦ white_queen (eqb-true letter 81 h₂)
-      | inr h₂ ↦ elim (cases_Bool (letter == 107)) [
-          inl h₃ ↦ black_king (eqb-true letter 107 h₃)
-        | inr h₃ ↦ elim (cases_Bool (letter == 113)) [
-            inl h₄ ↦ black_queen (eqb-true letter 113 h₄)
-          | inr h₄ ↦ no_letter (rw (h₁, h₂, h₃, h₄) refl)
+      | inl h₁ ↦ white_king (eqb-true letter 75 h₁)
+      | inr h₁ ↦ elim (cases_Bool (letter == 81)) [
+        | inl h₂ ↦ white_queen (eqb-true letter 81 h₂)
+        | inr h₂ ↦ elim (cases_Bool (letter == 107)) [
+          | inl h₃ ↦ black_king (eqb-true letter 107 h₃)
+          | inr h₃ ↦ elim (cases_Bool (letter == 113)) [
+            | inl h₄ ↦ black_queen (eqb-true letter 113 h₄)
+            | inr h₄ ↦ no_letter (rw (h₁, h₂, h₃, h₄) refl)
           ]
         ]
       ]
@@ -191,11 +191,11 @@ one_at_most : (letter : ℕ) → is 75 letter + is 81 letter + (is 107 letter + 
 unfolding is
 one_at_most letter =
     elim (which letter) [
-      white_king e ↦ rw e (omega arith)
-    | white_queen e ↦ rw e (omega arith)
-    | black_king e ↦ rw e (omega arith)
-    | black_queen e ↦ rw e (omega arith)
-    | no_letter e ↦ omega arith
+      | white_king e ↦ rw e (omega arith)
+      | white_queen e ↦ rw e (omega arith)
+      | black_king e ↦ rw e (omega arith)
+      | black_queen e ↦ rw e (omega arith)
+      | no_letter e ↦ omega arith
     ]
 
 times_bound : (word : List ℕ) → times 75 word + times 81 word + (times 107 word + times 113 word) ≤ length word
@@ -240,29 +240,29 @@ was_free code letter word b c e h =
 with_rights-tallies : (word : List ℕ) (r s : Rights) → Tallies word r s → with_rights word r ≡ Some s
 with_rights-tallies [] r s t =
     ap Some (same_rights r s
-      (once_same _ _ (let h = t.white_king_side in omega arith))
-      (once_same _ _ (let h = t.white_queen_side in omega arith))
-      (once_same _ _ (let h = t.black_king_side in omega arith))
-      (once_same _ _ (let h = t.black_queen_side in omega arith)))
+    (once_same _ _ (let h = t.white_king_side in omega arith))
+    (once_same _ _ (let h = t.white_queen_side in omega arith))
+    (once_same _ _ (let h = t.black_king_side in omega arith))
+    (once_same _ _ (let h = t.black_queen_side in omega arith)))
 with_rights-tallies (letter ∷ word) r s t =
     let goes_on : (q : Rights) → with_right r letter ≡ Some q → with_rights (letter ∷ word) r ≡ Some s
-        = λ q first. rw first (with_rights-tallies word q s
-          (tallies_rest letter word r q s (with_right_adds r q letter first) t)) in
+    = λ q first. rw first (with_rights-tallies word q s
+    (tallies_rest letter word r q s (with_right_adds r q letter first) t)) in
     elim (which letter) [
-      white_king e ↦
-        goes_on (record r { white_king_side = true })
-        (unfold with_right in rw (e, was_free 75 letter word _ _ e t.white_king_side) refl)
-    | white_queen e ↦
-        goes_on (record r { white_queen_side = true })
-        (unfold with_right in rw (e, was_free 81 letter word _ _ e t.white_queen_side) refl)
-    | black_king e ↦
-        goes_on (record r { black_king_side = true })
-        (unfold with_right in rw (e, was_free 107 letter word _ _ e t.black_king_side) refl)
-    | black_queen e ↦
-        goes_on (record r { black_queen_side = true })
-        (unfold with_right in rw (e, was_free 113 letter word _ _ e t.black_queen_side) refl)
-    | no_letter e ↦
-        absurd (
+      | white_king e ↦
+          goes_on (record r { white_king_side = true })
+          (unfold with_right in rw (e, was_free 75 letter word _ _ e t.white_king_side) refl)
+      | white_queen e ↦
+          goes_on (record r { white_queen_side = true })
+          (unfold with_right in rw (e, was_free 81 letter word _ _ e t.white_queen_side) refl)
+      | black_king e ↦
+          goes_on (record r { black_king_side = true })
+          (unfold with_right in rw (e, was_free 107 letter word _ _ e t.black_king_side) refl)
+      | black_queen e ↦
+          goes_on (record r { black_queen_side = true })
+          (unfold with_right in rw (e, was_free 113 letter word _ _ e t.black_queen_side) refl)
+      | no_letter e ↦
+          absurd (
           let all = t.no_other in let few = times_bound word in
           let c₁ = times-cons 75 letter word in let c₂ = times-cons 81 letter word in
           let c₃ = times-cons 107 letter word in let c₄ = times-cons 113 letter word in
@@ -278,19 +278,19 @@ unfolding rights_named
 rights_text_named [] r h = cc
 rights_text_named (letter ∷ word) r h =
     elim (chosen (letter == 45 && length word == 0) _ _ (Some r) h) [
-      inl dash ↦
-        let both = and_parts (letter == 45) (length word == 0) dash.0 in
-        inl (rw (eqb-true letter 45 both.0, no_length word (eqb-true _ _ both.1)) refl, sym (same_Some _ _ dash.1))
-    | inr letters ↦
-        let t : Tallies (letter ∷ word) no_rights r = with_rights_tallies (letter ∷ word) no_rights r letters.1 in
-        inr (record {
-          some = omega arith;
-          white_king_side = omega (arith, t.white_king_side);
-          white_queen_side = omega (arith, t.white_queen_side);
-          black_king_side = omega (arith, t.black_king_side);
-          black_queen_side = omega (arith, t.black_queen_side);
-          no_other = t.no_other
-        })
+      | inl dash ↦
+          let both = and_parts (letter == 45) (length word == 0) dash.0 in
+          inl (rw (eqb-true letter 45 both.0, no_length word (eqb-true _ _ both.1)) refl, sym (same_Some _ _ dash.1))
+      | inr letters ↦
+          let t : Tallies (letter ∷ word) no_rights r = with_rights_tallies (letter ∷ word) no_rights r letters.1 in
+          inr (record {
+            some = omega arith;
+            white_king_side = omega (arith, t.white_king_side);
+            white_queen_side = omega (arith, t.white_queen_side);
+            black_king_side = omega (arith, t.black_king_side);
+            black_queen_side = omega (arith, t.black_queen_side);
+            no_other = t.no_other;
+          })
     ]
 
 -- a dash alone is no word of letters
@@ -303,16 +303,16 @@ rights_named-rights_text word r (inl (dash, none)) = rw (dash, none) refl
 rights_named-rights_text [] r (inr names) = absurd (let some = names.some in omega arith)
 rights_named-rights_text (letter ∷ word) r (inr names) =
     elim (cases_Bool (letter == 45 && length word == 0)) [
-      inl dash ↦
-        let both = and_parts (letter == 45) (length word == 0) dash in
-        let e : letter ∷ word ≡ 45 ∷ [] = rw (eqb-true letter 45 both.0, no_length word (eqb-true _ _ both.1)) refl in
-        absurd (dash_names r (subst (λ (w : List ℕ). NamesRights w r) e names))
-    | inr other ↦ rw other (with_rights-tallies (letter ∷ word) no_rights r (record {
+      | inl dash ↦
+          let both = and_parts (letter == 45) (length word == 0) dash in
+          let e : letter ∷ word ≡ 45 ∷ [] = rw (eqb-true letter 45 both.0, no_length word (eqb-true _ _ both.1)) refl in
+          absurd (dash_names r (subst (λ (w : List ℕ). NamesRights w r) e names))
+      | inr other ↦ rw other (with_rights-tallies (letter ∷ word) no_rights r (record {
         white_king_side = omega (arith, names.white_king_side);
         white_queen_side = omega (arith, names.white_queen_side);
         black_king_side = omega (arith, names.black_king_side);
         black_queen_side = omega (arith, names.black_queen_side);
-        no_other = names.no_other
+        no_other = names.no_other;
       }))
     ]
 
@@ -330,24 +330,25 @@ pub en_passant_text_named : (side : Colour) (word : List ℕ) (square : Option �
 en_passant_text_named side [] square h = cc
 en_passant_text_named side (byte ∷ []) square h =
     elim (chosen (byte == 45) _ _ (Some square) h) [
-      inl dash ↦
-        subst (λ (o : Option ℕ). EnPassantText side (byte ∷ []) o) (same_Some _ _ dash.1) (rw (eqb-true byte 45 dash.0) refl)
-    | inr none ↦ cc (none.1)
+      | inl dash ↦
+          subst (λ (o : Option ℕ). EnPassantText side (byte ∷ []) o) (same_Some _ _ dash.1) (rw (eqb-true byte 45 dash.0) refl)
+      | inr none ↦ cc (none.1)
     ]
 en_passant_text_named side (file ∷ rank ∷ []) square h =
     elim (chosen (nat_le 97 file && nat_lt file 105 && rank == 49 + en_passant_rank side) _ _ (Some square) h) [
-      inl square_named ↦
-        let both = and_parts _ (rank == 49 + en_passant_rank side) square_named.0 in
-        let range = and_parts (nat_le 97 file) (nat_lt file 105) both.0 in
-        let low : 97 ≤ file = leb-true 97 file range.0 in
-        let high : file < 105 = ltb-true file 105 range.1 in
-        let fits : file - 97 < 8 = omega arith in
-        let r = en_passant_rank side in
-        let back : 97 + (file - 97) ≡ file = omega arith in
-        subst (λ (o : Option ℕ). EnPassantText side (file ∷ rank ∷ []) o) (same_Some _ _ square_named.1)
-        (rank_of_square r (file - 97) fits,
-          rw (rank_of_square r (file - 97) fits, file_of_square r (file - 97) fits, back, eqb-true _ _ both.1) refl)
-    | inr none ↦ cc (none.1)
+      | inl square_named ↦
+          let both = and_parts _ (rank == 49 + en_passant_rank side) square_named.0 in
+          let range = and_parts (nat_le 97 file) (nat_lt file 105) both.0 in
+          let low : 97 ≤ file = leb-true 97 file range.0 in
+          let high : file < 105 = ltb-true file 105 range.1 in
+          let fits : file - 97 < 8 = omega arith in
+          let r = en_passant_rank side in
+          let back : 97 + (file - 97) ≡ file = omega arith in
+          subst (λ (o : Option ℕ). EnPassantText side (file ∷ rank ∷ []) o) (same_Some _ _ square_named.1) (
+            rank_of_square r (file - 97) fits,
+            rw (rank_of_square r (file - 97) fits, file_of_square r (file - 97) fits, back, eqb-true _ _ both.1) refl,
+          )
+      | inr none ↦ cc (none.1)
     ]
 en_passant_text_named side (file ∷ rank ∷ third ∷ word) square h = cc
 
@@ -360,7 +361,7 @@ en_passant_named-en_passant_text side word (Some s) (on_rank, text) =
     let high : nat_lt (97 + f) 105 ≡ true = lt-ltb _ _ (omega arith) in
     let rank : (49 + rank_of s == 49 + en_passant_rank side) ≡ true = eq-eqb _ _ (omega arith) in
     let test : (nat_le 97 (97 + f) && nat_lt (97 + f) 105 && 49 + rank_of s == 49 + en_passant_rank side) ≡ true
-        = and_from _ _ (and_from _ _ low high) rank in
+    = and_from _ _ (and_from _ _ low high) rank in
     let back : 8 * en_passant_rank side + (97 + f - 97) ≡ s = omega arith in
     rw text (rw (test, back) refl)
 

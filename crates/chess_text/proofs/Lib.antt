@@ -3,3 +3,4 @@ pub mod FieldLaws
 pub mod WordLaws
 pub mod FenLaws
 pub mod WritingLaws
+pub mod DigitLaws

@@ -23,9 +23,10 @@ joined : (byte c : ℕ) (text : List ℕ) → byte ≢ 32 → c ≢ 32 → (word
 unfolding Words
 joined byte c text no_space no_space' [] (zero, e) = absurd (cc)
 joined byte c text no_space no_space' [] (suc n, e) = absurd (no_space' (cc))
-joined byte c text no_space no_space' (word ∷ words) (zero, rest, e, is_word, ends, more) =
-    ((byte ∷ word) ∷ words,
-      (0, rest, ap (λ (bytes : List ℕ). byte ∷ bytes) e, (omega arith, (no_space, is_word.1)), ends, more))
+joined byte c text no_space no_space' (word ∷ words) (zero, rest, e, is_word, ends, more) = (
+  (byte ∷ word) ∷ words,
+  (0, rest, ap (λ (bytes : List ℕ). byte ∷ bytes) e, (omega arith, (no_space, is_word.1)), ends, more),
+)
 joined byte c text no_space no_space' (word ∷ words) (suc n, rest, e, is_word, ends, more) = absurd (no_space' (cc))
 
 -- a byte before what has words
@@ -35,9 +36,9 @@ byte_before byte [] no_space (words, spaced) =
     ((byte ∷ []) ∷ [], (0, [], refl, (omega arith, (no_space, tt)), tt, (0, refl)))
 byte_before byte (c ∷ text) no_space (words, spaced) =
     elim (cases_Bool (c == 32)) [
-      inl space ↦
-        ((byte ∷ []) ∷ words, (0, c ∷ text, refl, (omega arith, (no_space, tt)), eqb-true c 32 space, spaced))
-    | inr other ↦ joined byte c text no_space (eqb-false c 32 other) words spaced
+      | inl space ↦
+          ((byte ∷ []) ∷ words, (0, c ∷ text, refl, (omega arith, (no_space, tt)), eqb-true c 32 space, spaced))
+      | inr other ↦ joined byte c text no_space (eqb-false c 32 other) words spaced
     ]
 
 pub words_of : (text : List ℕ) → (words : List (List ℕ)) × Spaced words text
@@ -45,10 +46,10 @@ unfolding Words
 words_of [] = ([], (0, refl))
 words_of (byte ∷ text) =
     elim (cases_Bool (byte == 32)) [
-      inl space ↦
-        let w = words_of text in
-        (w.0, subst (λ (b : ℕ). Spaced w.0 (b ∷ text)) (sym (eqb-true byte 32 space)) (spaced_space w.0 text w.1))
-    | inr other ↦ byte_before byte text (eqb-false byte 32 other) (words_of text)
+      | inl space ↦
+          let w = words_of text in
+          (w.0, subst (λ (b : ℕ). Spaced w.0 (b ∷ text)) (sym (eqb-true byte 32 space)) (spaced_space w.0 text w.1))
+      | inr other ↦ byte_before byte text (eqb-false byte 32 other) (words_of text)
     ]
 
 -- ---- reading the first word
@@ -96,7 +97,7 @@ unfolding rest_of
 spaced-rest_of [] text (n, e) = (0, rw (e, skipped_all n) refl)
 spaced-rest_of (word ∷ words) text (n, rest, e, is_word, ends, more) =
     let same : behind_word (skipped text) ≡ rest
-        = rw (e, skipped_spaces n (word ++ rest), skipped_word word rest is_word) (behind_whole word rest is_word.1 ends) in
+    = rw (e, skipped_spaces n (word ++ rest), skipped_word word rest is_word) (behind_whole word rest is_word.1 ends) in
     rw same more
 
 -- ---- the words by their numbers

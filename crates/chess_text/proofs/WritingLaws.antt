@@ -79,10 +79,17 @@ ranks_read zero board room =
 ranks_read (suc n) board room =
     let rank = take 8 (drop (8 * suc n) board) in
     let len : length rank ≡ 8 = simp (length-take, length-drop) (omega arith) in
-    let next : 8 * suc n ≡ 8 * n + 8 = omega arith in
-    (row_text 0 rank, ranks_text n board, rank, take (8 * n + 8) board, refl,
+    let next : 8 * suc n ≡ 8 * n + 8 = omega arith in (
+      row_text 0 rank,
+      ranks_text n board,
+      rank,
+      take (8 * n + 8) board,
+      refl,
       take-add (8 * suc n) 8 board ∙ ap (λ (k : ℕ). take k board ++ rank) next,
-      row_reads 0 rank (omega arith), len, ranks_read n board (omega arith))
+      row_reads 0 rank (omega arith),
+      len,
+      ranks_read n board (omega arith),
+    )
 
 placement_reads : (board : Men) → length board ≡ 64 → PlacementText (placement_text board) board
 unfolding PlacementText
@@ -196,7 +203,7 @@ spaced_word word words text is_word spaced = (0, 32 ∷ text, refl, is_word, ref
 
 rights_read : (a b c d : Bool)
     → let r : Rights = record { white_king_side = a; white_queen_side = b; black_king_side = c; black_queen_side = d } in
-      RightsText (rights_text r) r
+    RightsText (rights_text r) r
 unfolding rights_text
 rights_read true true true true =
     inr (record { some = lit< tt; white_king_side = refl; white_queen_side = refl; black_king_side = refl; black_queen_side = refl; no_other = refl })
@@ -235,7 +242,7 @@ rights_read false false false false = inl (refl, refl)
 -- the bits of rights give each right back
 bits_back : (a b c d : Bool)
     → let bits : ℕ = bits_of (record { white_king_side = a; white_queen_side = b; black_king_side = c; black_queen_side = d }) in
-      (has_bit bits 0 ≡ a) × (has_bit bits 1 ≡ b) × (has_bit bits 2 ≡ c) × (has_bit bits 3 ≡ d)
+    (has_bit bits 0 ≡ a) × (has_bit bits 1 ≡ b) × (has_bit bits 2 ≡ c) × (has_bit bits 3 ≡ d)
 bits_back true true true true = (refl, refl, refl, refl)
 bits_back true true true false = (refl, refl, refl, refl)
 bits_back true true false true = (refl, refl, refl, refl)
@@ -268,10 +275,10 @@ rights_kept p fit =
     let r = p.rights in
     let back = bits_back r.white_king_side r.white_queen_side r.black_king_side r.black_queen_side in
     same_rights (rights_of p.board (bits_of r)) r
-      (right_kept _ _ _ back.0 (λ h. at_home p.board White KingSide (fit White KingSide h)))
-      (right_kept _ _ _ back.1 (λ h. at_home p.board White QueenSide (fit White QueenSide h)))
-      (right_kept _ _ _ back.2 (λ h. at_home p.board Black KingSide (fit Black KingSide h)))
-      (right_kept _ _ _ back.3 (λ h. at_home p.board Black QueenSide (fit Black QueenSide h)))
+    (right_kept _ _ _ back.0 (λ h. at_home p.board White KingSide (fit White KingSide h)))
+    (right_kept _ _ _ back.1 (λ h. at_home p.board White QueenSide (fit White QueenSide h)))
+    (right_kept _ _ _ back.2 (λ h. at_home p.board Black KingSide (fit Black KingSide h)))
+    (right_kept _ _ _ back.3 (λ h. at_home p.board Black QueenSide (fit Black QueenSide h)))
 
 setup_kept : (p : Setup) → Sound p → p ≡ kept p
 setup_kept p sound = ap (λ (r : Rights). record p { rights = r }) (sym (rights_kept p sound.rights))
@@ -294,26 +301,25 @@ text_says p sound =
     record {
       words = placement_text p.board ∷ side_text p.side ∷ rights ∷ square ∷ counters;
       spaced = spaced_word (placement_text p.board) (side_text p.side ∷ rights ∷ square ∷ counters)
-        (side_text p.side ++ 32 ∷ (rights ++ 32 ∷ (square ++ 32 ∷ counters_text))) (placement_word p.board sound.squares)
-        (spaced_word (side_text p.side) (rights ∷ square ∷ counters)
-        (rights ++ 32 ∷ (square ++ 32 ∷ counters_text)) (side_word p.side)
-        (spaced_word rights (square ∷ counters) (square ++ 32 ∷ counters_text) (rights_word r)
-        (spaced_word square counters counters_text (en_passant_word p.en_passant)
-        (spaced_word (48 ∷ []) ((49 ∷ []) ∷ []) (49 ∷ []) (lit< tt, (λ e. omega (arith, e), tt))
-        (0, [], refl, (lit< tt, (λ e. omega (arith, e), tt)), tt, (0, refl))))));
+          (side_text p.side ++ 32 ∷ (rights ++ 32 ∷ (square ++ 32 ∷ counters_text))) (placement_word p.board sound.squares)
+          (spaced_word (side_text p.side) (rights ∷ square ∷ counters)
+          (rights ++ 32 ∷ (square ++ 32 ∷ counters_text)) (side_word p.side)
+          (spaced_word rights (square ∷ counters) (square ++ 32 ∷ counters_text) (rights_word r)
+          (spaced_word square counters counters_text (en_passant_word p.en_passant)
+          (spaced_word (48 ∷ []) ((49 ∷ []) ∷ []) (49 ∷ []) (lit< tt, (λ e. omega (arith, e), tt))
+          (0, [], refl, (lit< tt, (λ e. omega (arith, e), tt)), tt, (0, refl))))));
       placement = placement_reads p.board sound.squares;
       side = refl;
       rights = rights_read r.white_king_side r.white_queen_side r.black_king_side r.black_queen_side;
       en_passant = en_passant_reads p.side p.en_passant sound.en_passant;
       half_moves = (lit< tt, ((lit≤ tt, lit≤ tt), tt));
       moves = (lit< tt, ((lit≤ tt, lit≤ tt), tt));
-      no_seventh = lit≤ tt
+      no_seventh = lit≤ tt;
     }
 
 -- what is written is read again
 pub written_reads : (p : Setup) → Sound p → FenReads (fen_text p) p
 written_reads p sound = record { says = p; fields = text_says p sound; position = setup_kept p sound; sound = sound }
-
 
 zero_free_word : (word text : List ℕ) → Shown word → NoZero text → NoZero (word ++ 32 ∷ text)
 unfolding NoZero
@@ -326,8 +332,8 @@ unfolding fen_text
 written_zero_free p sound =
     All-from_recursion (λ byte. byte ≢ 0) (fen_text p)
     (unfold NoZero in
-      zero_free_word (placement_text p.board) _ (shown_placement p.board sound.squares)
-      (zero_free_word (side_text p.side) _ (shown_side p.side)
-      (zero_free_word (rights_text p.rights) _ (shown_rights p.rights)
-      (zero_free_word (en_passant_text p.en_passant) _ (shown_en_passant p.en_passant)
-      ((λ e. omega (arith, e)), ((λ e. omega (arith, e)), ((λ e. omega (arith, e)), tt)))))))
+    zero_free_word (placement_text p.board) _ (shown_placement p.board sound.squares)
+    (zero_free_word (side_text p.side) _ (shown_side p.side)
+    (zero_free_word (rights_text p.rights) _ (shown_rights p.rights)
+    (zero_free_word (en_passant_text p.en_passant) _ (shown_en_passant p.en_passant)
+    ((λ e. omega (arith, e)), ((λ e. omega (arith, e)), ((λ e. omega (arith, e)), tt)))))))

@@ -111,5 +111,5 @@ abbrev pub Answers : List ℕ → Result Setup FenFault → Type 0
 Answers text answer =
     MatchResult (setup_named text)
     (λ says. MatchResult answer (λ p. (p ≡ kept says) × Sound p)
-      (λ fault. (broken : PlaceFault) × (fault ≡ fault_of broken) × Breaks (kept says) broken))
+    (λ fault. (broken : PlaceFault) × (fault ≡ fault_of broken) × Breaks (kept says) broken))
     (λ fault. answer ≡ Err fault)

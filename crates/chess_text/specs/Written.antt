@@ -1,5 +1,6 @@
 -- The written form of Forsyth-Edwards Notation: one text for each position (PGN standard, 16.1).
 use Rattle.std.specs.Prelude.{ℕ, zero, suc, ◌+◌, ◌*◌, List, [], ◌∷◌, ◌++◌, Option, Some, None, take, drop, cond, Bool}
+use Rattle.std.specs.Char.{IsAsciiDigit}
 use Rattle.cell_core.specs.declared.man.Man.{Man}
 use Rattle.cell_core.specs.Board.{Men}
 use Rattle.chess_laws.specs.declared.setup.Rights.{Rights}
@@ -52,3 +53,13 @@ unfoldable pub fen_text : Setup → List ℕ
 fen_text p =
     placement_text p.board ++ 32 ∷ (side_text p.side ++ 32 ∷ (rights_text p.rights ++ 32 ∷ (en_passant_text p.en_passant
     ++ 32 ∷ 48 ∷ 32 ∷ 49 ∷ [])))
+
+-- A byte and the one behind it are not both digits.
+abbrev pub NotBothDigits : ℕ → List ℕ → Type 0
+NotBothDigits byte [] = Unit {0}
+NotBothDigits byte (next ∷ text) = IsAsciiDigit byte → IsAsciiDigit next → ⊥
+
+-- No two digits stand side by side: each run of empty squares is written whole.
+abbrev pub HasDigitsApart : List ℕ → Type 0
+HasDigitsApart [] = Unit {0}
+HasDigitsApart (byte ∷ text) = NotBothDigits byte text × HasDigitsApart text

@@ -43,7 +43,12 @@ fn placed(says: &Setup) -> Result<Position, FenFault>
     ensures sound { IfOk result Sound }
     ensures fault { IfErr result (λ fault. (broken : PlaceFault) × (fault ≡ fault_of broken) × Breaks (kept says.now) broken) }
 {
-    match Position::try_new(says.board, says.side, bits_of(&says.rights), says.en_passant) {
+    match Position::try_new(
+        says.board,
+        says.side,
+        bits_of(&says.rights),
+        says.en_passant,
+    ) {
         Ok(position) => Ok(position),
         Err(broken) => Err(FenFault::from(broken)),
     }
@@ -103,5 +108,9 @@ fn read_counters(text: &[u8]) -> Result<(), FenFault>
         return Err(FenFault::Field(6));
     }
     let (seventh, _) = next_word(text);
-    if seventh.is_empty() { Ok(()) } else { Err(FenFault::Field(7)) }
+    if seventh.is_empty() {
+        Ok(())
+    } else {
+        Err(FenFault::Field(7))
+    }
 }

@@ -87,10 +87,22 @@ fn add_right(rights: Rights, letter: u8) -> Option<Rights>
     ensures { result ≡ with_right rights letter }
 {
     match letter {
-        b'K' if !rights.white_king_side => Some(Rights { white_king_side: true, ..rights }),
-        b'Q' if !rights.white_queen_side => Some(Rights { white_queen_side: true, ..rights }),
-        b'k' if !rights.black_king_side => Some(Rights { black_king_side: true, ..rights }),
-        b'q' if !rights.black_queen_side => Some(Rights { black_queen_side: true, ..rights }),
+        b'K' if !rights.white_king_side => Some(Rights {
+            white_king_side: true,
+            ..rights
+        }),
+        b'Q' if !rights.white_queen_side => Some(Rights {
+            white_queen_side: true,
+            ..rights
+        }),
+        b'k' if !rights.black_king_side => Some(Rights {
+            black_king_side: true,
+            ..rights
+        }),
+        b'q' if !rights.black_queen_side => Some(Rights {
+            black_queen_side: true,
+            ..rights
+        }),
         _ => None,
     }
 }

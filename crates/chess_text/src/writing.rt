@@ -2,7 +2,7 @@ ghost use Rattle.std.specs.Prelude.{◌≡◌, ◌<◌, ◌≤◌, ◌++◌, ◌
 ghost use Rattle.chess_text.specs.Letters.{capital_of, letter_of};
 ghost use Rattle.chess_text.specs.Fields.{side_text, square_text};
 ghost use Rattle.chess_text.specs.Fen.{FenReads};
-ghost use Rattle.chess_text.specs.Written.{run_text, row_text, placement_text, letter_where, rights_text, en_passant_text, fen_text};
+ghost use Rattle.chess_text.specs.Written.{run_text, row_text, placement_text, letter_where, rights_text, en_passant_text, fen_text, HasDigitsApart};
 
 use cell_core::{Board, Colour, Kind, Man, Square, Text};
 use chess_laws::{Position, Rights, Setup};
@@ -14,6 +14,7 @@ use std::alloc::{AllocError, Global};
 pub fn write_fen(alloc: Global, p: &Position) -> Result<Text, AllocError>
     ensures written { IfOk result (λ text. text ≡ fen_text p.now) }
     ensures read_again { IfOk result (λ text. FenReads text p.now) }
+    ensures whole_runs { IfOk result HasDigitsApart }
 {
     let bytes = fen_bytes(alloc, p.setup())?;
     Ok(Text::from_zero_free(bytes))
