@@ -1,0 +1,7 @@
+pub mod Shifts
+pub mod Kings
+pub mod Walks
+pub mod Attackers
+pub mod Home
+pub mod Pawns
+pub mod Soundness

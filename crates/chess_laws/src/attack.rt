@@ -1,0 +1,294 @@
+ghost use Rattle.std.specs.Prelude.{◌<◌, Some, ◌≡◌, ◌↔◌, ◌⊎◌, IsTrue, Any};
+ghost use Rattle.chess_laws.specs.Attacks.{Attacks};
+ghost use Rattle.chess_laws.specs.Geometry.{pawn_captures};
+ghost use Rattle.chess_laws.specs.Rays.{met, LeapsFrom, SlidesFrom};
+ghost use Rattle.cell_core.specs.Board.{man_at};
+ghost use Rattle.cell_core.specs.Man.{man};
+ghost use Rattle.cell_core.specs.declared.man.Kind.TheVariants.{Pawn, Queen};
+
+use super::offset::Offset;
+use cell_core::{Board, Colour, Kind, Man, Square};
+
+/// Along a file or a rank.
+pub const ROOK_STEPS: [Offset; 4] = [
+    Offset {
+        right: 1,
+        left: 0,
+        up: 0,
+        down: 0,
+    },
+    Offset {
+        right: 0,
+        left: 1,
+        up: 0,
+        down: 0,
+    },
+    Offset {
+        right: 0,
+        left: 0,
+        up: 1,
+        down: 0,
+    },
+    Offset {
+        right: 0,
+        left: 0,
+        up: 0,
+        down: 1,
+    },
+];
+
+/// Along a diagonal.
+pub const BISHOP_STEPS: [Offset; 4] = [
+    Offset {
+        right: 1,
+        left: 0,
+        up: 1,
+        down: 0,
+    },
+    Offset {
+        right: 0,
+        left: 1,
+        up: 1,
+        down: 0,
+    },
+    Offset {
+        right: 1,
+        left: 0,
+        up: 0,
+        down: 1,
+    },
+    Offset {
+        right: 0,
+        left: 1,
+        up: 0,
+        down: 1,
+    },
+];
+
+/// To any adjoining square.
+pub const KING_STEPS: [Offset; 8] = [
+    Offset {
+        right: 1,
+        left: 0,
+        up: 0,
+        down: 0,
+    },
+    Offset {
+        right: 0,
+        left: 1,
+        up: 0,
+        down: 0,
+    },
+    Offset {
+        right: 0,
+        left: 0,
+        up: 1,
+        down: 0,
+    },
+    Offset {
+        right: 0,
+        left: 0,
+        up: 0,
+        down: 1,
+    },
+    Offset {
+        right: 1,
+        left: 0,
+        up: 1,
+        down: 0,
+    },
+    Offset {
+        right: 0,
+        left: 1,
+        up: 1,
+        down: 0,
+    },
+    Offset {
+        right: 1,
+        left: 0,
+        up: 0,
+        down: 1,
+    },
+    Offset {
+        right: 0,
+        left: 1,
+        up: 0,
+        down: 1,
+    },
+];
+
+/// To the nearest squares that are not on the same rank, file or diagonal.
+pub const KNIGHT_STEPS: [Offset; 8] = [
+    Offset {
+        right: 1,
+        left: 0,
+        up: 2,
+        down: 0,
+    },
+    Offset {
+        right: 2,
+        left: 0,
+        up: 1,
+        down: 0,
+    },
+    Offset {
+        right: 2,
+        left: 0,
+        up: 0,
+        down: 1,
+    },
+    Offset {
+        right: 1,
+        left: 0,
+        up: 0,
+        down: 2,
+    },
+    Offset {
+        right: 0,
+        left: 1,
+        up: 2,
+        down: 0,
+    },
+    Offset {
+        right: 0,
+        left: 2,
+        up: 1,
+        down: 0,
+    },
+    Offset {
+        right: 0,
+        left: 2,
+        up: 0,
+        down: 1,
+    },
+    Offset {
+        right: 0,
+        left: 1,
+        up: 0,
+        down: 2,
+    },
+];
+
+/// Diagonally in front of a white pawn.
+pub const WHITE_CAPTURES: [Offset; 2] = [
+    Offset {
+        right: 1,
+        left: 0,
+        up: 1,
+        down: 0,
+    },
+    Offset {
+        right: 0,
+        left: 1,
+        up: 1,
+        down: 0,
+    },
+];
+
+/// Diagonally in front of a black pawn.
+pub const BLACK_CAPTURES: [Offset; 2] = [
+    Offset {
+        right: 1,
+        left: 0,
+        up: 0,
+        down: 1,
+    },
+    Offset {
+        right: 0,
+        left: 1,
+        up: 0,
+        down: 1,
+    },
+];
+
+/// Whether some man of the colour `by` attacks the square `s`.
+pub fn attacks(board: &Board, by: Colour, s: Square) -> bool
+    ensures { IsTrue result ↔ Attacks board.now by s }
+{
+    if slides(board, by, Kind::Rook, &ROOK_STEPS, s) {
+        return true;
+    }
+    if slides(board, by, Kind::Bishop, &BISHOP_STEPS, s) {
+        return true;
+    }
+    if leaps(board, by, Kind::Knight, &KNIGHT_STEPS, s) {
+        return true;
+    }
+    if pawn_attacks(board, by, s) {
+        return true;
+    }
+    leaps(board, by, Kind::King, &KING_STEPS, s)
+}
+
+/// Whether a pawn of the colour attacks the square.
+fn pawn_attacks(board: &Board, by: Colour, s: Square) -> bool
+    ensures { IsTrue result ↔ Any (LeapsFrom board.now (man by Pawn) s) (pawn_captures by) }
+{
+    match by {
+        Colour::White => leaps(board, by, Kind::Pawn, &WHITE_CAPTURES, s),
+        Colour::Black => leaps(board, by, Kind::Pawn, &BLACK_CAPTURES, s),
+    }
+}
+
+/// Whether such a man stands where one of the steps leads to `s`.
+fn leaps(board: &Board, by: Colour, kind: Kind, steps: &[Offset], s: Square) -> bool
+    ensures { IsTrue result ↔ Any (LeapsFrom board.now (man by kind) s) steps.now }
+{
+    steps.iter().any(|step| leaps_by(board, by, kind, step, s))
+}
+
+/// Whether such a man stands where this step leads to `s`.
+fn leaps_by(board: &Board, by: Colour, kind: Kind, step: &Offset, s: Square) -> bool
+    ensures { IsTrue result ↔ LeapsFrom board.now (man by kind) s step.now }
+{
+    match step.origin(s) {
+        Some(from) => stands(board, from, by, kind),
+        None => false,
+    }
+}
+
+/// Whether such a man stands on the square.
+fn stands(board: &Board, from: Square, colour: Colour, kind: Kind) -> bool
+    ensures { IsTrue result ↔ (man_at board.now from ≡ Some (man colour kind)) }
+{
+    board.at(from) == Some(Man { colour, kind })
+}
+
+/// Whether such a man, or a queen, stands where equal steps lead to `s` over empty squares.
+fn slides(board: &Board, by: Colour, kind: Kind, steps: &[Offset], s: Square) -> bool
+    ensures { IsTrue result ↔ Any (SlidesFrom board.now by kind s) steps.now }
+{
+    steps.iter().any(|step| slides_by(board, by, kind, step, s))
+}
+
+/// Whether such a man, or a queen, stands where equal steps of this one lead to `s` over empty squares.
+fn slides_by(board: &Board, by: Colour, kind: Kind, step: &Offset, s: Square) -> bool
+    ensures { IsTrue result ↔ SlidesFrom board.now by kind s step.now }
+{
+    match first_met(board, step, s) {
+        Some(standing) => is_slider(standing, by, kind),
+        None => false,
+    }
+}
+
+/// Whether this is such a man, or a queen.
+fn is_slider(standing: Man, by: Colour, kind: Kind) -> bool
+    ensures { IsTrue result ↔ ((standing ≡ man by kind) ⊎ (standing ≡ man by Queen)) }
+{
+    standing.colour == by && (standing.kind == kind || standing.kind == Kind::Queen)
+}
+
+/// The first man that is met from `s` on, going back by equal steps. At most six squares lie between two others.
+fn first_met(board: &Board, step: &Offset, s: Square) -> Option<Man>
+    ensures met { result ≡ met board.now step.now 7 s }
+    ensures on_board { s < 64 }
+{
+    let mut at = step.origin(s)?;
+    for _i in 0..6u8 {
+        if let Some(standing) = board.at(at) {
+            return Some(standing);
+        }
+        at = step.origin(at)?;
+    }
+    board.at(at)
+}
