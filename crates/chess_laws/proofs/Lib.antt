@@ -5,3 +5,4 @@ pub mod Attackers
 pub mod Home
 pub mod Pawns
 pub mod Soundness
+pub mod Start

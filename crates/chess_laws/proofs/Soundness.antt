@@ -1,5 +1,5 @@
 -- A setup that passes the tests keeps the rules of a position.
-use Rattle.std.proofs.Common.{◌<◌, leb, ◌≡◌, ℕ, ◌≤◌, Bool, true, false, ◌&&◌, IsTrue, ◌↔◌, count_by, Some, refl, sym, ◌∙◌, arith, ap}
+use Rattle.std.proofs.Common.{Option, length, ◌<◌, leb, ◌≡◌, ℕ, ◌≤◌, Bool, true, false, ◌&&◌, IsTrue, ◌↔◌, count_by, Some, refl, sym, ◌∙◌, arith, ap}
 use Rattle.std.proofs.lemmas.Bool.{false≢true}
 use Rattle.std.proofs.lemmas.Bool.Decides.{nat_tests}
 use Rattle.cell_core.specs.declared.man.Colour.{Colour}
@@ -10,9 +10,11 @@ use Rattle.cell_core.specs.Board.{Men, man_at}
 use Rattle.cell_core.specs.Man.{man, other, is_man, is_of}
 use Rattle.chess_laws.specs.declared.setup.Wing.{Wing}
 use Rattle.chess_laws.specs.declared.setup.Wing.TheVariants.{KingSide, QueenSide}
+use Rattle.chess_laws.specs.declared.setup.Rights.{Rights}
+use Rattle.chess_laws.specs.declared.setup.Setup.{Setup}
 use Rattle.chess_laws.specs.Attacks.{Attacks, IsInCheck}
 use Rattle.chess_laws.specs.Castling.{StandAtHome, has_right, king_home, rook_home}
-use Rattle.chess_laws.specs.Position.{HasFewMen, HasKings, king_square, is_at_home, rights_of, has_bit}
+use Rattle.chess_laws.specs.Position.{Sound, HasPawnsInside, HasFitEnPassant, HasFewMen, HasKings, king_square, is_at_home, rights_of, has_bit}
 use Rattle.chess_laws.proofs.Kings.{king-stands, king-only, is_man-Some}
 
 pub few_men : (men : Men) → count_by (is_of White) men ≤ 16 → count_by (is_of Black) men ≤ 16 → HasFewMen men
@@ -62,3 +64,13 @@ rights_fit men bits White KingSide h = at-home men White KingSide (has_bit bits 
 rights_fit men bits White QueenSide h = at-home men White QueenSide (has_bit bits 1) h
 rights_fit men bits Black KingSide h = at-home men Black KingSide (has_bit bits 2) h
 rights_fit men bits Black QueenSide h = at-home men Black QueenSide (has_bit bits 3) h
+
+-- all together
+pub sound_of : (men : Men) (c : Colour) (bits : ℕ) (r : Rights) (square : Option ℕ) → length men ≡ 64 → HasKings men → HasPawnsInside men → HasFewMen men
+  → (IsInCheck men (other c) → ⊥) → r ≡ rights_of men bits → HasFitEnPassant c square → Sound (record { board = men; side = c; rights = r; en_passant = square })
+sound_of men c bits r square len kings pawns few quiet is fit =
+    record {
+      squares = len; kings = kings; pawns = pawns; few = few; not_in_check = quiet;
+      rights = λ d w h. rights_fit men bits d w (rw is at h);
+      en_passant = fit;
+    }

@@ -133,7 +133,7 @@ leaps_some men m s a o less h =
      (λ e. record { from = a; on_board = shift-on_board (reversed o) s a (sym h); stands = e; leaps = fore o a s less (sym h) }))
 
 -- and a slide
-slide-met : (men : Men) (s : ℕ) (o : Offset) (m : Man) (a : ℕ) → a < 64 → man_at men a ≡ Some m → Runs men a s o → met men o 7 s ≡ Some m
+pub slide-met : (men : Men) (s : ℕ) (o : Offset) (m : Man) (a : ℕ) → a < 64 → man_at men a ≡ Some m → Runs men a s o → met men o 7 s ≡ Some m
 slide-met men s o m a on_board e (n, w) =
     walk-met men o m 7 n s a (walk-back men o n a s on_board w) e (walk-short men o m n a s on_board (walk-on_board men o n a s w) e w)
 
