@@ -33,8 +33,10 @@ pub fn read_fen(text: &[u8]) -> Result<Position, FenFault>
 fn read(text: &[u8]) -> Result<Position, FenFault>
     ensures answers { Answers text.now result }
 {
-    let says = read_fields(text)?;
-    placed(&says)
+    match read_fields(text) {
+        Ok(says) => placed(&says),
+        Err(fault) => Err(fault),
+    }
 }
 
 /// The position of what the fields say, where it keeps the rules.
