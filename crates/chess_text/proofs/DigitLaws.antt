@@ -1,5 +1,5 @@
 -- In the written form of a FEN no two digits stand side by side.
-use Rattle.std.proofs.Common.{◌≡◌, ℕ, zero, suc, ◌+◌, ◌*◌, ◌<◌, ◌≤◌, Bool, true, false, List, [], ◌∷◌, ◌++◌, Option, Some, None, length, take, drop, ap, sym, ◌∙◌, subst, arith, append_assoc}
+use Rattle.std.proofs.Common.{ℕ, zero, suc, ◌+◌, ◌*◌, ◌<◌, Bool, true, false, List, [], ◌∷◌, ◌++◌, Option, Some, None, take, drop, sym, subst, arith, append_assoc}
 use Rattle.std.specs.List.{AllByRecursion}
 use Rattle.std.specs.Char.{IsAsciiDigit}
 use Rattle.cell_core.specs.declared.man.Colour.{Colour}
@@ -9,7 +9,7 @@ use Rattle.chess_laws.specs.declared.setup.Rights.{Rights}
 use Rattle.chess_laws.specs.declared.setup.Setup.{Setup}
 use Rattle.chess_text.specs.Letters.{letter_of}
 use Rattle.chess_text.specs.Fields.{side_text}
-use Rattle.chess_text.specs.Written.{run_text, row_text, ranks_text, placement_text, letter_where, or_dash, rights_text, en_passant_text, fen_text, NotBothDigits, HasDigitsApart}
+use Rattle.chess_text.specs.Written.{run_text, row_text, ranks_text, letter_where, or_dash, rights_text, en_passant_text, fen_text, NotBothDigits, HasDigitsApart}
 use Rattle.chess_text.proofs.PlacementLaws.{letter_above}
 
 -- a text that begins with no digit, and has its digits apart

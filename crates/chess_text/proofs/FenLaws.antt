@@ -1,25 +1,23 @@
 -- Reading the fields one after another gives what the grammar of a FEN says, and its first fault.
-use Rattle.std.proofs.Common.{◌≡◌, ◌≢◌, ℕ, zero, suc, ◌+◌, ◌-◌, ◌<◌, ◌≤◌, ◌⊎◌, inl, inr, Bool, true, false, cond, ◌==◌, nat_le, List, [], ◌∷◌, ◌++◌, Option, Some, None, Result, Ok, Err, ok_or, MatchResult, IfOk, IfErr, get_or, drop, length, refl, sym, ◌∙◌, ap, subst, arith}
+use Rattle.std.proofs.Common.{◌≡◌, ℕ, inl, inr, Bool, true, false, cond, ◌==◌, nat_le, List, [], ◌∷◌, Option, Some, None, Result, Ok, Err, ok_or, MatchResult, IfOk, IfErr, get_or, length, refl, sym, ◌∙◌, ap, subst}
 use Rattle.std.proofs.lemmas.Bool.{leb-true, le-leb}
-use Rattle.std.proofs.lemmas.Option.{same_Some}
 use Rattle.cell_core.specs.declared.man.Colour.{Colour}
 use Rattle.cell_core.specs.Board.{Men}
 use Rattle.chess_laws.specs.declared.setup.Rights.{Rights}
 use Rattle.chess_laws.specs.declared.setup.Setup.{Setup}
 use Rattle.chess_laws.specs.declared.fault.PlaceFault.{PlaceFault}
 use Rattle.chess_laws.specs.declared.fault.PlaceFault.TheVariants.{Kings, Pawns, TooMany, InCheck, EnPassant}
-use Rattle.chess_laws.specs.Position.{Sound, Breaks, bits_of, setup_of}
+use Rattle.chess_laws.specs.Position.{Sound, Breaks}
 use Rattle.chess_text.specs.declared.fault.FenFault.{FenFault}
 use Rattle.chess_text.specs.declared.fault.FenFault.TheVariants.{Field}
-use Rattle.chess_text.specs.Placement.{PlacementText}
 use Rattle.chess_text.specs.Filling.{board_named}
-use Rattle.chess_text.specs.Fields.{Spaced, side_text, RightsText, EnPassantText, CounterText}
-use Rattle.chess_text.specs.FieldReading.{word_of, rest_of, or_word, side_named, rights_named, en_passant_named, is_counter, ◌>>=◌, counters_named, rights_from, setup_named, Answers}
+use Rattle.chess_text.specs.Fields.{Spaced}
+use Rattle.chess_text.specs.FieldReading.{word_of, or_word, side_named, rights_named, en_passant_named, is_counter, ◌>>=◌, counters_named, rights_from, setup_named, Answers}
 use Rattle.chess_text.specs.Fault.{fault_of}
 use Rattle.chess_text.specs.Fen.{placement_field, side_field, rights_field, en_passant_field, half_moves_field, moves_field, FenText, FenReads, kept, FaultFrom, FirstFault, FenFaultOf}
 use Rattle.chess_text.proofs.PlacementLaws.{placement_fills, placement_filled}
 use Rattle.chess_text.proofs.FieldLaws.{side_named-side_text, side_text_named, rights_text_named, rights_named-rights_text, en_passant_text_named, en_passant_named-en_passant_text, counter_text_named, is_counter-counter_text}
-use Rattle.chess_text.proofs.WordLaws.{words_of, word_of-spaced, spaced-rest_of, or_word-spaced, no_word-spaced, rests, word_of-rests}
+use Rattle.chess_text.proofs.WordLaws.{words_of, or_word-spaced, no_word-spaced, rests, word_of-rests}
 
 -- ---- the fields by the words
 

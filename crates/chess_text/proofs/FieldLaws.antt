@@ -1,9 +1,8 @@
 -- Each reader of a field names exactly what the grammar of the field says.
-use Rattle.std.proofs.Common.{◌≡◌, ◌≢◌, ℕ, zero, suc, ◌+◌, ◌-◌, ◌*◌, ◌/◌, ◌%◌, ◌<◌, ◌≤◌, ◌⊎◌, inl, inr, Bool, true, false, cond, not, ◌==◌, nat_lt, nat_le, ◌&&◌, List, [], ◌∷◌, ◌++◌, Option, Some, None, option_and_then, length, refl, sym, ◌∙◌, ap, subst, arith, rules, count_by}
+use Rattle.std.proofs.Common.{◌≡◌, ℕ, ◌+◌, ◌-◌, ◌*◌, ◌<◌, ◌≤◌, inl, inr, Bool, true, false, cond, not, ◌==◌, nat_lt, nat_le, ◌&&◌, List, [], ◌∷◌, Option, Some, None, length, refl, sym, ◌∙◌, ap, subst, arith}
 use Rattle.std.specs.List.{list_all, AllByRecursion}
 use Rattle.std.specs.Char.{is_ascii_digit, IsAsciiDigit}
-use Rattle.std.proofs.lemmas.Bool.{eqb-true, eqb-false, eq-eqb, ltb-true, ltb-false, leb-true, lt-ltb, le-leb, le-ltb, and_parts, and_from, cases_Bool, cases_eq, not-true}
-use Rattle.std.proofs.lemmas.Bool.Decides.{nat_tests}
+use Rattle.std.proofs.lemmas.Bool.{eqb-true, eq-eqb, ltb-true, leb-true, lt-ltb, le-leb, and_parts, and_from, cases_Bool, not-true}
 use Rattle.std.proofs.lemmas.List.Sums.{sum_by-cons}
 use Rattle.std.proofs.lemmas.Option.{same_Some, option_and_then_some}
 use Rattle.cell_core.specs.declared.man.Colour.{Colour}
@@ -11,7 +10,7 @@ use Rattle.cell_core.specs.declared.man.Colour.TheVariants.{White, Black}
 use Rattle.chess_laws.specs.declared.setup.Rights.{Rights}
 use Rattle.chess_laws.specs.Geometry.{file_of, rank_of}
 use Rattle.chess_laws.specs.Position.{en_passant_rank}
-use Rattle.chess_text.specs.Fields.{side_text, times, once, NamesRights, no_rights, RightsText, square_text, EnPassantText, CounterText}
+use Rattle.chess_text.specs.Fields.{side_text, times, once, NamesRights, no_rights, RightsText, EnPassantText, CounterText}
 use Rattle.chess_text.specs.FieldReading.{side_named, with_right, with_rights, rights_named, square_named, en_passant_named, is_counter}
 use Rattle.chess_text.proofs.PlacementLaws.{chosen}
 

@@ -1,7 +1,7 @@
 -- Each text is words with spaces between, and the words that are read one after another are these.
-use Rattle.std.proofs.Common.{◌≡◌, ◌≢◌, ℕ, zero, suc, ◌+◌, ◌-◌, ◌<◌, ◌≤◌, ◌⊎◌, inl, inr, Bool, true, false, cond, ◌==◌, nat_le, List, [], ◌∷◌, ◌++◌, get_or, drop, replicate, length, refl, sym, ◌∙◌, ap, subst, arith}
+use Rattle.std.proofs.Common.{◌≡◌, ◌≢◌, ℕ, zero, suc, inl, inr, ◌==◌, nat_le, List, [], ◌∷◌, ◌++◌, get_or, drop, replicate, length, refl, sym, ◌∙◌, ap, subst, arith}
 use Rattle.std.specs.List.{AllByRecursion}
-use Rattle.std.proofs.lemmas.Bool.{eqb-true, eqb-false, eq-eqb, ne_eqb, lt-leb, le-leb, cases_Bool}
+use Rattle.std.proofs.lemmas.Bool.{eqb-true, eqb-false, ne_eqb, lt-leb, le-leb, cases_Bool}
 use Rattle.std.proofs.lemmas.Bool.Decides.{nat_tests}
 use Rattle.chess_text.specs.Fields.{IsWord, EndsWord, Spaced}
 use Rattle.chess_text.specs.FieldReading.{skipped, front_word, behind_word, word_of, rest_of, or_word}

@@ -1,28 +1,24 @@
 -- The written form of a FEN is in the grammar, and reads as the position that was written.
-use Rattle.std.proofs.Common.{◌≡◌, ◌≢◌, ℕ, zero, suc, ◌+◌, ◌-◌, ◌*◌, ◌/◌, ◌%◌, ◌<◌, ◌≤◌, ◌⊎◌, inl, inr, Bool, true, false, cond, not, ◌==◌, nat_lt, nat_le, ◌&&◌, List, [], ◌∷◌, ◌++◌, Option, Some, None, length, take, drop, replicate, refl, sym, ◌∙◌, ap, subst, arith, append_assoc, lit<, lit≤, IsTrue, length-append}
+use Rattle.std.proofs.Common.{◌≡◌, ◌≢◌, ℕ, zero, suc, ◌+◌, ◌-◌, ◌*◌, ◌<◌, ◌≤◌, inl, inr, Bool, true, false, ◌&&◌, List, [], ◌∷◌, ◌++◌, Option, Some, None, length, take, drop, replicate, refl, sym, ◌∙◌, ap, subst, arith, append_assoc, lit<, lit≤, IsTrue, length-append}
 use Rattle.std.specs.List.{AllByRecursion}
-use Rattle.std.specs.Char.{IsAsciiDigit}
-use Rattle.std.proofs.lemmas.Bool.{eqb-true, and_parts}
-use Rattle.std.proofs.lemmas.List.{append-nil, replicate_more, take_all, length-take, length-drop}
+use Rattle.std.proofs.lemmas.List.{append-nil, take_all, length-take, length-drop}
 use Rattle.std.proofs.Math.Seq.{take-add}
 use Rattle.std.proofs.lemmas.List.Elements.{All-from_recursion}
 use Rattle.cell_core.specs.declared.man.Colour.{Colour}
 use Rattle.cell_core.specs.declared.man.Colour.TheVariants.{White, Black}
-use Rattle.cell_core.specs.declared.man.Kind.TheVariants.{King, Rook}
 use Rattle.cell_core.specs.declared.man.Man.{Man}
-use Rattle.cell_core.specs.Board.{Men, man_at}
-use Rattle.cell_core.specs.Man.{man, is_man}
+use Rattle.cell_core.specs.Board.{Men}
+use Rattle.cell_core.specs.Man.{man}
 use Rattle.cell_core.specs.Text.{IsZeroFree}
 use Rattle.chess_laws.specs.declared.setup.Rights.{Rights}
 use Rattle.chess_laws.specs.declared.setup.Setup.{Setup}
 use Rattle.chess_laws.specs.declared.setup.Wing.{Wing}
 use Rattle.chess_laws.specs.declared.setup.Wing.TheVariants.{KingSide, QueenSide}
-use Rattle.chess_laws.specs.Geometry.{file_of, rank_of}
-use Rattle.chess_laws.specs.Castling.{StandAtHome, has_right, king_home, rook_home}
-use Rattle.chess_laws.specs.Position.{Sound, HasFitRights, HasFitEnPassant, en_passant_rank, has_bit, bits_of, is_at_home, rights_of, setup_of}
+use Rattle.chess_laws.specs.Castling.{StandAtHome}
+use Rattle.chess_laws.specs.Position.{Sound, HasFitRights, HasFitEnPassant, has_bit, bits_of, is_at_home, rights_of}
 use Rattle.chess_text.specs.Letters.{letter_of}
 use Rattle.chess_text.specs.Placement.{Stands, RankText, RanksText, PlacementText}
-use Rattle.chess_text.specs.Fields.{IsWord, EndsWord, Spaced, side_text, times, once, NamesRights, no_rights, RightsText, square_text, EnPassantText, CounterText}
+use Rattle.chess_text.specs.Fields.{IsWord, Spaced, side_text, RightsText, EnPassantText}
 use Rattle.chess_text.specs.Fen.{FenText, FenReads, kept}
 use Rattle.chess_text.specs.Written.{run_text, row_text, ranks_text, placement_text, letter_where, or_dash, rights_text, en_passant_text, fen_text}
 use Rattle.chess_text.proofs.PlacementLaws.{letter_above}

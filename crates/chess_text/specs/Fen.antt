@@ -1,5 +1,5 @@
 -- Forsyth-Edwards Notation: which texts are positions, and which fault is the first (PGN standard, 16.1).
-use Rattle.std.specs.Prelude.{◌≡◌, ℕ, ◌≤◌, ◌⊎◌, List, [], ◌∷◌, ◌++◌, Option, length, slice_index_or}
+use Rattle.std.specs.Prelude.{◌≡◌, ℕ, ◌≤◌, ◌⊎◌, List, [], ◌∷◌, Option, length, slice_index_or}
 use Rattle.cell_core.specs.declared.man.Colour.{Colour}
 use Rattle.cell_core.specs.Board.{Men}
 use Rattle.chess_laws.specs.declared.setup.Rights.{Rights}

@@ -1,5 +1,5 @@
 -- What the readers of the fields answer: functions on lists, which the grammar of the fields is proved to agree with.
-use Rattle.std.specs.Prelude.{◌≡◌, ℕ, ◌+◌, ◌-◌, ◌*◌, ◌==◌, ◌&&◌, not, nat_lt, nat_le, Bool, true, false, cond, List, [], ◌∷◌, Option, Some, None, option_and_then, ok_or, Result, Ok, Err, MatchResult, replicate, length}
+use Rattle.std.specs.Prelude.{◌≡◌, ℕ, ◌+◌, ◌-◌, ◌*◌, ◌==◌, ◌&&◌, not, nat_lt, nat_le, Bool, true, cond, List, [], ◌∷◌, Option, Some, None, option_and_then, ok_or, Result, Ok, Err, MatchResult, length}
 use Rattle.std.specs.List.{list_all}
 use Rattle.std.specs.Char.{is_ascii_digit}
 use Rattle.cell_core.specs.declared.man.Colour.{Colour}

@@ -1,7 +1,6 @@
 -- The written form of Forsyth-Edwards Notation: one text for each position (PGN standard, 16.1).
 use Rattle.std.specs.Prelude.{ℕ, zero, suc, ◌+◌, ◌*◌, List, [], ◌∷◌, ◌++◌, Option, Some, None, take, drop, cond, Bool}
 use Rattle.std.specs.Char.{IsAsciiDigit}
-use Rattle.cell_core.specs.declared.man.Man.{Man}
 use Rattle.cell_core.specs.Board.{Men}
 use Rattle.chess_laws.specs.declared.setup.Rights.{Rights}
 use Rattle.chess_laws.specs.declared.setup.Setup.{Setup}

@@ -1,4 +1,4 @@
-use Rattle.std.proofs.Common.{◌≡◌, ◌++◌, ℕ, List, length, take, drop}
+use Rattle.std.proofs.Common.{◌≡◌, ◌++◌, ℕ, List, take, drop}
 use Rattle.chess_text.specs.FieldReading.{front_word, behind_word}
 use Rattle.chess_text.proofs.fields.split_word.Given as goal
 

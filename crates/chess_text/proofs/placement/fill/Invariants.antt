@@ -1,4 +1,4 @@
-use Rattle.std.proofs.Common.{◌≡◌, ℕ, List, replicate, None, ◌<◌, ◌≤◌, length, drop}
+use Rattle.std.proofs.Common.{◌≡◌, ℕ, List, ◌<◌, ◌≤◌, length, drop}
 use Rattle.cell_core.specs.Board.{Men}
 use Rattle.chess_text.specs.Filling.{board_named, filled}
 use Rattle.chess_text.proofs.placement.fill.Given as goal

@@ -1,7 +1,7 @@
-use Rattle.std.proofs.Common.{ℕ, List, IfOk, replicate, ◌≡◌, Option, Some, None, Ok, ok_or, refl, sym, ◌∙◌}
+use Rattle.std.proofs.Common.{ℕ, List, IfOk, ◌≡◌, Option, Some, None, Ok, ok_or, refl, sym, ◌∙◌}
 use Rattle.cell_core.specs.Board.{Men}
 use Rattle.chess_text.specs.Placement.{PlacementText}
-use Rattle.chess_text.specs.Filling.{board_named, filled}
+use Rattle.chess_text.specs.Filling.{board_named}
 use Rattle.chess_text.proofs.PlacementLaws.{placement_fills, placement_filled}
 use Rattle.chess_text.proofs.placement.read_board.Goals as goal
 
