@@ -1,1 +1,6 @@
 pub mod PlacementLaws
+pub mod FieldLaws
+pub mod WordLaws
+pub mod FenLaws
+pub mod WritingLaws
+pub mod DigitLaws

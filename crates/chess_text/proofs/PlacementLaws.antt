@@ -13,7 +13,7 @@ use Rattle.cell_core.specs.declared.man.Man.{Man}
 use Rattle.cell_core.specs.Board.{Men}
 use Rattle.chess_text.specs.Letters.{capital_of, letter_in, letter_of, kind_named, man_in, man_named}
 use Rattle.chess_text.specs.Placement.{Stands, RankText, RanksText, PlacementText}
-use Rattle.chess_text.specs.Filling.{Place, after, after_man, after_empty, after_slash, after_letter, filled}
+use Rattle.chess_text.specs.Filling.{board_named, Place, after, after_man, after_empty, after_slash, after_letter, filled}
 
 -- ---- letters
 
@@ -254,8 +254,8 @@ ranks_fill (suc n) text squares upper (top, below, rank, lower, parts, ranks, re
     ∙ ap Some (sym (append_assoc lower rank upper) ∙ ap (λ (s : Men). s ++ upper) (sym ranks))
 
 pub placement_fills : (text : List ℕ) (board : Men) → PlacementText text board
-    → filled text (record { rank = 7; file = 0; board = replicate 64 None }) ≡ Some board
-unfolding PlacementText filled_to place_at
+    → board_named text ≡ Some board
+unfolding board_named PlacementText filled_to place_at
 placement_fills text board placement = ranks_fill 7 text board [] placement ∙ ap Some (append-nil board)
 
 -- ---- what is filled is in the grammar
@@ -412,8 +412,8 @@ filled_added (byte ∷ text) r front upper board room h =
     ])
 
 pub placement_filled : (text : List ℕ) (board : Men)
-    → filled text (record { rank = 7; file = 0; board = replicate 64 None }) ≡ Some board → PlacementText text board
-unfolding PlacementText filled_to place_at
+    → board_named text ≡ Some board → PlacementText text board
+unfolding board_named PlacementText filled_to place_at
 placement_filled text board h =
     let all : Added 7 [] [] text board = filled_added text 7 [] [] board (omega arith) h in
     let all_full = all.full in

@@ -1,4 +1,4 @@
-use Rattle.std.specs.Prelude.{ℕ, ◌+◌, ◌-◌, ◌*◌, ◌==◌, ◌&&◌, List, [], ◌∷◌, Option, Some, None, cond, nat_lt, nat_le, option_and_then, slice_set}
+use Rattle.std.specs.Prelude.{ℕ, ◌+◌, ◌-◌, ◌*◌, ◌==◌, ◌&&◌, List, [], ◌∷◌, Option, Some, None, cond, nat_lt, nat_le, option_and_then, slice_set, replicate}
 use Rattle.cell_core.specs.declared.man.Man.{Man}
 use Rattle.cell_core.specs.Board.{Men}
 use Rattle.chess_text.specs.Letters.{man_named}
@@ -45,3 +45,7 @@ after byte place = cond (byte == 47) (after_slash place) (after_letter (man_name
 abbrev pub filled : List ℕ → Place → Option Men
 filled [] place = cond (place.rank == 0 && place.file == 8) (Some place.board) None
 filled (byte ∷ text) place = option_and_then (filled text) (after byte place)
+
+-- The board that a text fills from the eighth rank down.
+unfoldable pub board_named : List ℕ → Option Men
+board_named text = filled text (record { rank = 7; file = 0; board = replicate 64 None })

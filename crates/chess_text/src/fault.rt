@@ -1,3 +1,8 @@
+ghost use Rattle.std.specs.Prelude.{◌≡◌};
+ghost use Rattle.chess_text.specs.Fault.{fault_of};
+
+use chess_laws::PlaceFault;
+
 /// Why a text is no position in Forsyth-Edwards Notation.
 #[derive(Clone, Copy, Debug, PartialEq, Eq)]
 pub enum FenFault {
@@ -11,4 +16,20 @@ pub enum FenFault {
     TooMany,
     /// The side that is not to move is in check.
     InCheck,
+}
+
+impl From<PlaceFault> for FenFault {
+    ghost from_gives = { λ place fault. fault ≡ fault_of place };
+
+    fn from(place: PlaceFault) -> FenFault
+        ensures { result ≡ fault_of place }
+    {
+        match place {
+            PlaceFault::Kings => FenFault::Kings,
+            PlaceFault::Pawns => FenFault::Pawns,
+            PlaceFault::TooMany => FenFault::TooMany,
+            PlaceFault::InCheck => FenFault::InCheck,
+            PlaceFault::EnPassant => FenFault::Field(4),
+        }
+    }
 }

@@ -2,11 +2,16 @@
 #![tactic(auto)]
 
 pub mod fault;
+mod fen;
+mod fields;
 mod letters;
 mod placement;
+mod writing;
 
 pub use fault::FenFault;
+pub use fen::read_fen;
 pub use placement::read_board;
+pub use writing::write_fen;
 
 #[cfg(test)]
 mod tests;

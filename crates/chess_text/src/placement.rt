@@ -1,7 +1,7 @@
-ghost use Rattle.std.specs.Prelude.{◌≡◌, replicate, None, IfOk, IfErr};
+ghost use Rattle.std.specs.Prelude.{◌≡◌, IfOk, IfErr};
 ghost use Rattle.cell_core.specs.Board.{Men};
 ghost use Rattle.chess_text.specs.Placement.{PlacementText};
-ghost use Rattle.chess_text.specs.Filling.{filled};
+ghost use Rattle.chess_text.specs.Filling.{board_named};
 
 use super::fault::FenFault;
 use super::letters::man_of;
@@ -18,9 +18,9 @@ pub fn read_board(text: &[u8]) -> Result<Board, FenFault>
 }
 
 /// The board that the text fills from the eighth rank down, or `None` where it is no placement.
-#[tactic(auto, unfolding(crate::specs::Filling::after, crate::specs::Filling::after_man, crate::specs::Filling::after_slash, crate::specs::Filling::after_empty))]
-fn fill(text: &[u8]) -> Option<Board>
-    ensures exact { result ≡ filled text.now (record { rank = 7; file = 0; board = replicate 64 None }) }
+#[tactic(auto, unfolding(crate::specs::Filling::board_named, crate::specs::Filling::after, crate::specs::Filling::after_man, crate::specs::Filling::after_slash, crate::specs::Filling::after_empty))]
+pub fn fill(text: &[u8]) -> Option<Board>
+    ensures exact { result ≡ board_named text.now }
 {
     let mut board = Board::empty();
     let mut rank = 7u8;

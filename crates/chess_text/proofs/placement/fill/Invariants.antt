@@ -1,6 +1,6 @@
-use Rattle.std.proofs.Common.{◌≡◌, ℕ, List, replicate, None, ◌<◌, ◌≤◌, length, drop}
+use Rattle.std.proofs.Common.{◌≡◌, ℕ, List, ◌<◌, ◌≤◌, length, drop}
 use Rattle.cell_core.specs.Board.{Men}
-use Rattle.chess_text.specs.Filling.{filled}
+use Rattle.chess_text.specs.Filling.{board_named, filled}
 use Rattle.chess_text.proofs.placement.fill.Given as goal
 
 -- what is left of the text fills the rest of the board as the whole text fills the empty one
@@ -9,7 +9,7 @@ pub record Fills (rank file : ℕ) (board : Men) (left text : List ℕ) : Type 0
   pub in_rank : file ≤ 8
   pub squares : length board ≡ 64
   pub same : filled left (record { rank = rank; file = file; board = board })
-      ≡ filled text (record { rank = 7; file = 0; board = replicate 64 None })
+      ≡ board_named text
 
 abbrev pub invariant-loop-byte : goal.invariant-loop-byte
 invariant-loop-byte l = Fills l.rank l.file l.board (drop l.byte-index l.text) l.fn.text

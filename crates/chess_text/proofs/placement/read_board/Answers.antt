@@ -1,12 +1,12 @@
-use Rattle.std.proofs.Common.{ℕ, List, IfOk, replicate, ◌≡◌, Option, Some, None, Ok, ok_or, refl, sym, ◌∙◌}
+use Rattle.std.proofs.Common.{ℕ, List, IfOk, ◌≡◌, Option, Some, None, Ok, ok_or, refl, sym, ◌∙◌}
 use Rattle.cell_core.specs.Board.{Men}
 use Rattle.chess_text.specs.Placement.{PlacementText}
-use Rattle.chess_text.specs.Filling.{filled}
+use Rattle.chess_text.specs.Filling.{board_named}
 use Rattle.chess_text.proofs.PlacementLaws.{placement_fills, placement_filled}
 use Rattle.chess_text.proofs.placement.read_board.Goals as goal
 
 found : {E : Type 0} (text : List ℕ) (o : Option Men) (e : E)
-    → o ≡ filled text (record { rank = 7; file = 0; board = replicate 64 None })
+    → o ≡ board_named text
     → IfOk (ok_or o e) (λ board. PlacementText text board)
 found text None e h = tt
 found text (Some board) e h = placement_filled text board (sym h)
@@ -15,7 +15,7 @@ pub returns-clause-found : goal.returns-clause-found
 returns-clause-found c = rw c.ok_or.ensures.value (found c.args.text.now c.fill.result _ c.fill.ensures.exact)
 
 only : {E : Type 0} (text : List ℕ) (o : Option Men) (e : E) (board : Men)
-    → o ≡ filled text (record { rank = 7; file = 0; board = replicate 64 None }) → PlacementText text board
+    → o ≡ board_named text → PlacementText text board
     → ok_or o e ≡ Ok board
 only text o e board h placement = rw (h, placement_fills text board placement) refl
 
