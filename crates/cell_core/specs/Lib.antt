@@ -1,3 +1,4 @@
 pub mod Board
+pub mod Man
 pub mod Packed
 pub mod Text

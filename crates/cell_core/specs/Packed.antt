@@ -6,6 +6,7 @@ use Rattle.cell_core.specs.declared.man.Kind.{Kind}
 use Rattle.cell_core.specs.declared.man.Kind.TheVariants.{King, Queen, Rook, Bishop, Knight, Pawn}
 use Rattle.cell_core.specs.declared.man.Man.{Man}
 use Rattle.cell_core.specs.Board.{Men}
+use Rattle.cell_core.specs.Man.{kind_number}
 
 -- 32 bytes, and the side to move
 pub record Packed : Type 0 where
@@ -33,15 +34,6 @@ nibble_men =
 -- the man of a nibble, and none of a nibble above 12
 unfoldable pub man_of : ℕ → Option Man
 man_of nibble = slice_index_or nibble_men nibble None
-
--- the number of a kind from king to pawn, from 0
-abbrev pub kind_number : Kind → ℕ
-kind_number King = 0
-kind_number Queen = 1
-kind_number Rook = 2
-kind_number Bishop = 3
-kind_number Knight = 4
-kind_number Pawn = 5
 
 -- the nibble of the white king, or of the black one
 abbrev pub first_nibble : Colour → ℕ

@@ -1,0 +1,31 @@
+-- How many men of each kind there are, and which pawns stand at home.
+use Rattle.std.specs.Prelude.{ℕ, ◌-◌, nat_lt, if◌then◌else◌, Bool, List, [], ◌∷◌, count_by}
+use Rattle.cell_core.specs.declared.man.Colour.{Colour}
+use Rattle.cell_core.specs.declared.man.Colour.TheVariants.{White, Black}
+use Rattle.cell_core.specs.declared.man.Kind.{Kind}
+use Rattle.cell_core.specs.declared.man.Kind.TheVariants.{Queen, Rook, Bishop, Knight, Pawn}
+use Rattle.cell_core.specs.Board.{Men, man_at}
+use Rattle.cell_core.specs.Man.{is_man}
+
+-- how many men of this colour and kind stand on the board
+abbrev pub count_of : Men → Colour → Kind → ℕ
+count_of men c k = count_by (is_man c k) men
+
+-- the ten counts in their order: queens, rooks, bishops, knights and pawns of White, then of Black (this project's own)
+abbrev pub counts_of : Men → List ℕ
+counts_of men =
+    count_of men White Queen ∷ count_of men White Rook ∷ count_of men White Bishop ∷ count_of men White Knight ∷ count_of men White Pawn
+    ∷ count_of men Black Queen ∷ count_of men Black Rook ∷ count_of men Black Bishop ∷ count_of men Black Knight ∷ count_of men Black Pawn
+    ∷ []
+
+-- the home value of a pawn is 15 down to 8 for a2 to h2, and 7 down to 0 for a7 to h7: the side and the square of a value
+-- (this project's own)
+abbrev pub home_colour : ℕ → Colour
+home_colour value = if nat_lt value 8 then Black else White
+
+abbrev pub home_square : ℕ → ℕ
+home_square value = if nat_lt value 8 then 55 - value else 23 - value
+
+-- whether the pawn with this home value stands on its own square
+abbrev pub is_home : Men → ℕ → Bool
+is_home men value = is_man (home_colour value) Pawn (man_at men (home_square value))
