@@ -1,0 +1,12 @@
+//! Packed moves: a half-move in one byte or two, by the number of the man that moves.
+#![tactic(auto)]
+
+pub mod fault;
+pub mod numbers;
+pub mod numbered;
+mod targets;
+mod values;
+
+pub use fault::MoveFault;
+pub use numbered::Numbered;
+pub use numbers::{NumberedMen, Numbers};

@@ -1,0 +1,102 @@
+ghost use Rattle.std.specs.Prelude.{◌≡◌, ◌<◌, length, slice_get};
+ghost use Rattle.move_codec.specs.Packed.{diagonal_move, named, named_value, to_square};
+
+use super::fault::MoveFault;
+use super::numbers::Numbers;
+use super::targets::{diagonal_square, king_square, knight_square, on_diagonal, on_line, pawn_square, promotion};
+use cell_core::{Colour, Kind, Move, Square};
+use chess_laws::Position;
+use std::marker::Model;
+
+/// A position with the numbers of its men. Contracts see the position and the numbered squares of both sides, which are
+/// exactly the squares of its men.
+#[derive(Drop)]
+pub struct Numbered {
+    position: Position,
+    numbers: Numbers,
+}
+
+impl Model for Numbered {
+    ghost use Rattle.move_codec.specs.Numbers.{Numbered as Men, AreNumbers};
+
+    ghost Value = { Men };
+
+    ghost view = { λ n. record { position = n.position; numbers = n.numbers } };
+
+    ghost invariant = { λ n. AreNumbers n.position.board n.numbers };
+}
+
+impl Numbered {
+    /// The position.
+    pub fn position(&self) -> &Position
+        ensures position { result.now ≡ self.now.position }
+    {
+        &self.position
+    }
+
+    /// The numbers of the men.
+    pub fn numbers(&self) -> &Numbers
+        ensures numbers { result.now ≡ self.now.numbers }
+    {
+        &self.numbers
+    }
+
+    /// The move that the first bytes name and how many they are, or why they name none: legality apart.
+    fn named(&self, bytes: &[u8]) -> Result<(Move, u8), MoveFault>
+        ensures { result ≡ named self.now bytes.now }
+    {
+        let [byte, rest @ ..] = bytes else {
+            return Err(MoveFault::Short);
+        };
+        let side = self.position.side();
+        let Some(from) = self.numbers.of(side).get(*byte / 16) else {
+            return Err(MoveFault::NoMan);
+        };
+        let Some(man) = self.position.board().at(from) else {
+            return Err(MoveFault::NoMan);
+        };
+        named_value(man.kind, side, from, *byte % 16, rest)
+    }
+}
+
+/// The move of a man of this kind and side, by its value and the bytes after it.
+#[tactic(auto, unfolding(crate::specs::Packed::named_value))]
+fn named_value(kind: Kind, side: Colour, from: Square, value: u8, rest: &[u8]) -> Result<(Move, u8), MoveFault>
+    requires { value < 16 }
+    ensures { result ≡ named_value kind side from value rest.now }
+{
+    match kind {
+        Kind::King => to_square(from, None, 1, king_square(from, value)),
+        Kind::Queen => {
+            if value == from.index() % 8 {
+                diagonal_move(from, rest)
+            } else {
+                to_square(from, None, 1, on_line(from, value))
+            }
+        }
+        Kind::Rook => to_square(from, None, 1, on_line(from, value)),
+        Kind::Bishop => to_square(from, None, 1, on_diagonal(from, value)),
+        Kind::Knight => to_square(from, None, 1, knight_square(from, value)),
+        Kind::Pawn => to_square(from, promotion(value), 1, pawn_square(side, from, value)),
+    }
+}
+
+/// A queen's diagonal move, by the bytes after its first.
+fn diagonal_move(from: Square, rest: &[u8]) -> Result<(Move, u8), MoveFault>
+    ensures { result ≡ diagonal_move from rest.now }
+{
+    match rest {
+        [] => Err(MoveFault::Short),
+        [byte, ..] => to_square(from, None, 2, diagonal_square(from, *byte)),
+    }
+}
+
+/// A move to the square that a value names, with the number of its bytes.
+fn to_square(from: Square, promo: Option<Kind>, bytes: u8, to: Option<Square>) -> Result<(Move, u8), MoveFault>
+    ensures { result ≡ to_square from promo bytes to }
+{
+    match to {
+        None => Err(MoveFault::Value),
+        Some(to) => Ok((Move { from, to, promo }, bytes)),
+    }
+}

@@ -1,0 +1,149 @@
+ghost use Rattle.std.specs.Prelude.{◌≡◌, ◌<◌, ◌≤◌, ◌==◌, [], ◌∷◌, ◌++◌, length, position, slice_get, IfSome};
+ghost use Rattle.cell_core.specs.declared.man.Colour.TheVariants.{White, Black};
+ghost use Rattle.move_codec.specs.Numbers.{number_of, squares_of, standard_numbers, start_ranks, went, without};
+
+use arrayvec::ArrayVec;
+use cell_core::{Colour, Square};
+use std::marker::Model;
+
+/// The squares of one side's men, in the order of the men's numbers: at most 16. Contracts see the list of the squares.
+#[derive(Drop)]
+pub struct NumberedMen {
+    squares: ArrayVec<Square, 16>,
+}
+
+impl Model for NumberedMen {
+    ghost use Rattle.std.specs.Prelude.{ℕ, List};
+
+    ghost Value = { List ℕ };
+
+    ghost view = { λ m. m.squares.items };
+}
+
+/// The numbered squares of both sides.
+#[derive(Drop)]
+pub struct Numbers {
+    pub white: NumberedMen,
+    pub black: NumberedMen,
+}
+
+impl NumberedMen {
+    /// The men on these squares, numbered in their order.
+    fn from_squares(squares: [Square; 16]) -> NumberedMen
+        ensures squares { result ≡ squares }
+    {
+        NumberedMen {
+            squares: ArrayVec::from_array_in((), squares),
+        }
+    }
+
+    /// The squares in the order of the numbers.
+    pub fn squares(&self) -> &[Square]
+        ensures squares { result.now ≡ self.now }
+        ensures few { length self.now ≤ 16 }
+    {
+        self.squares.as_slice()
+    }
+
+    /// The square of the man with this number, or `None` where the side has no such man.
+    pub fn get(&self, number: u8) -> Option<Square>
+        ensures square { result ≡ slice_get self.now number }
+    {
+        self.squares.as_slice().get(number as usize).copied()
+    }
+
+    /// The number of the man on this square, or how many men there are where none of them stands there.
+    pub fn number_of(&self, square: Square) -> usize
+        ensures number { result ≡ number_of self.now square }
+        ensures few { length self.now ≤ 16 }
+    {
+        number_on(self.squares.as_slice(), square)
+    }
+
+    /// The man on a square goes to another, and keeps its number.
+    pub(crate) fn go(&mut self, from: Square, to: Square)
+        ensures after { self.new ≡ went self.old from to }
+    {
+        let number = self.number_of(from);
+        if number < self.squares.len() {
+            self.squares.as_mut_slice()[number] = to;
+        }
+    }
+
+    /// The man on this square is captured, if there is one: the last man of the list takes its number.
+    pub(crate) fn remove(&mut self, captured: Square)
+        ensures after { self.new ≡ without self.old captured }
+    {
+        let number = self.number_of(captured);
+        if number < self.squares.len() {
+            self.squares.swap_remove(number);
+        }
+    }
+}
+
+impl Numbers {
+    /// The numbers at the standard start.
+    pub fn standard() -> Numbers
+        ensures numbers { result ≡ standard_numbers }
+    {
+        Numbers {
+            white: NumberedMen::from_squares(start_ranks(0, 8)),
+            black: NumberedMen::from_squares(start_ranks(56, 48)),
+        }
+    }
+
+    /// The numbered squares of a side.
+    pub fn of(&self, side: Colour) -> &NumberedMen
+        ensures squares { result.now ≡ squares_of side self.now }
+    {
+        match side {
+            Colour::White => &self.white,
+            Colour::Black => &self.black,
+        }
+    }
+}
+
+/// The place of a square in a list, or the list's length.
+#[tactic(auto, using(crate::proofs::Places::place_within))]
+fn number_on(squares: &[Square], square: Square) -> usize
+    ensures { result ≡ number_of squares.now square }
+{
+    match find(squares, square) {
+        Some(number) => number,
+        None => squares.len(),
+    }
+}
+
+/// The place of a square in a list, or `None` where it is not there.
+fn find(squares: &[Square], square: Square) -> Option<usize>
+    ensures { result ≡ position (λ s. s == square) squares.now }
+{
+    squares.iter().position(|s| *s == square)
+}
+
+/// The squares of the ranks that begin with these two squares: the king's, then the rest of the first rank, then the
+/// second rank, each from file a.
+fn start_ranks(back: u8, pawns: u8) -> [Square; 16]
+    requires back { back < 57 }
+    requires pawns { pawns < 57 }
+    ensures { result ≡ start_ranks back pawns }
+{
+    [
+        Square::at(back + 4),
+        Square::at(back),
+        Square::at(back + 1),
+        Square::at(back + 2),
+        Square::at(back + 3),
+        Square::at(back + 5),
+        Square::at(back + 6),
+        Square::at(back + 7),
+        Square::at(pawns),
+        Square::at(pawns + 1),
+        Square::at(pawns + 2),
+        Square::at(pawns + 3),
+        Square::at(pawns + 4),
+        Square::at(pawns + 5),
+        Square::at(pawns + 6),
+        Square::at(pawns + 7),
+    ]
+}
