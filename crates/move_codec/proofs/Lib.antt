@@ -2,3 +2,5 @@ pub mod Places
 pub mod Lists
 pub mod Numbering
 pub mod Boards
+pub mod Strides
+pub mod Spelling
