@@ -4,3 +4,4 @@ pub mod Numbering
 pub mod Boards
 pub mod Strides
 pub mod Spelling
+pub mod Cases

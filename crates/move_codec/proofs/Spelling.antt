@@ -1,9 +1,10 @@
 -- A move's value names its target.
 use Rattle.std.proofs.Common.{◌≡◌, ◌≢◌, ℕ, zero, suc, ◌+◌, ◌-◌, ◌*◌, ◌/◌, ◌%◌, ◌<◌, ◌≤◌, Bool, true, false, not, cond, eqb, ltb, leb, ◌&&◌, ◌||◌, List, [], ◌∷◌, ◌++◌, Option, Some, None, Ok, Err, length, get_or, slice_get, ◌⊎◌, inl, inr, refl, sym, ◌∙◌, ap, subst, arith}
 use Rattle.std.specs.Prelude.{Any, Result}
-use Rattle.std.proofs.lemmas.Bool.{cases_Bool, ltb-true, leb-true, eqb-true}
+use Rattle.std.proofs.lemmas.Bool.{cases_Bool, cases_lt, ltb-true, leb-true, eqb-true}
 use Rattle.std.proofs.lemmas.Bool.Decides.{nat_tests, eqb_tells}
 use Rattle.std.proofs.lemmas.Option.{slice_get-get_or}
+use Rattle.std.proofs.lemmas.List.{get_or_append_left, get_or-append_right}
 use Rattle.std.proofs.lemmas.List.Sums.{passes_at_first}
 use Rattle.std.specs.List.{list_all, position_or_len}
 use Rattle.std.specs.Option.{option_and_then}
@@ -16,7 +17,7 @@ use Rattle.cell_core.specs.Board.{Men, man_at}
 use Rattle.chess_laws.specs.declared.offset.Offset.{Offset}
 use Rattle.chess_laws.specs.Geometry.{by, file_of, rank_of, shift, Leaps, Runs, Walk, king_steps, knight_steps, rook_steps, bishop_steps, forward, pawn_captures}
 use Rattle.chess_laws.proofs.Shifts.{Differ, shift-Some}
-use Rattle.move_codec.specs.Packed.{at_difference, by_difference, difference_value, king_differences, knight_differences, on_line, on_diagonal, on_file, other_square, line_value, diagonal_value}
+use Rattle.move_codec.specs.Packed.{ahead, gap, pawn_square, pawn_value, promotion, promotion_value, at_difference, by_difference, difference_value, king_differences, knight_differences, on_line, on_diagonal, on_file, other_square, line_value, diagonal_value}
 use Rattle.move_codec.proofs.Strides.{any_passes, and_true, Any-each, Strides, Walk-strides}
 
 -- the place of a difference in a list
@@ -139,7 +140,7 @@ diagonal_names m diagonal =
     ]
 
 -- what equal steps over empty squares reach
-rook_line : (men : Men) (m : Move) → Any (Runs men m.from m.to) rook_steps → Line m
+pub rook_line : (men : Men) (m : Move) → Any (Runs men m.from m.to) rook_steps → Line m
 rook_line men m any =
     Any-each (Runs men m.from m.to) (Line m) rook_steps any
     ( λ runs. let far = Walk-strides men (by 1 0 0 0) runs.0 m.from m.to runs.1 in
@@ -152,7 +153,7 @@ rook_line men m any =
       record { on_board = far.on_board; other = λ same. absurd (omega (arith, far.ranks)); along = inr (omega (arith, far.files)) }
     , tt ))))
 
-bishop_diagonal : (men : Men) (m : Move) → Any (Runs men m.from m.to) bishop_steps → Diagonal m
+pub bishop_diagonal : (men : Men) (m : Move) → Any (Runs men m.from m.to) bishop_steps → Diagonal m
 bishop_diagonal men m any =
     Any-each (Runs men m.from m.to) (Diagonal m) bishop_steps any
     ( λ runs. let far = Walk-strides men (by 1 0 1 0) runs.0 m.from m.to runs.1 in
@@ -164,3 +165,114 @@ bishop_diagonal men m any =
     , ( λ runs. let far = Walk-strides men (by 0 1 0 1) runs.0 m.from m.to runs.1 in
       record { on_board = far.on_board; other = λ same. absurd (omega (arith, far.files)); along = inl (omega (arith, far.files, far.ranks)) }
     , tt ))))
+
+-- a queen goes along a line or a diagonal
+pub queen_ray : (men : Men) (m : Move) → Any (Runs men m.from m.to) (rook_steps ++ bishop_steps) → Line m ⊎ Diagonal m
+queen_ray men m any = parts any.0 any.1 any.2 any.3 any.4
+  where
+  parts : (k : ℕ) (x : Offset) → k < 8 → get_or (rook_steps ++ bishop_steps) k x ≡ x → Runs men m.from m.to x → Line m ⊎ Diagonal m
+  parts k x h is runs =
+      elim (cases_lt k 4) [
+        inl line ↦ inl (rook_line men m (k, x, line, sym (get_or_append_left rook_steps bishop_steps x k line) ∙ is, runs))
+      | inr diagonal ↦ inr (bishop_diagonal men m (k - 4, x, omega arith, sym (get_or-append_right rook_steps bishop_steps 4 k x refl diagonal) ∙ is, runs))
+      ]
+
+-- Pawns
+
+-- a square lies so far ahead of another
+abbrev Ahead : Colour → ℕ → ℕ → ℕ → Type 0
+Ahead White from to c = to ≡ from + c
+Ahead Black from to c = to + c ≡ from
+
+ahead_names : (side : Colour) (from to c : ℕ) → Ahead side from to c → from < 64 → to < 64 → ahead side from c ≡ Some to
+ahead_names White from to c is origin target =
+    let d : 64 + c ≡ 64 + to - from = omega arith in
+    rw d (at_difference-to from to origin target)
+ahead_names Black from to c is origin target =
+    let d : 64 - c ≡ 64 + to - from = omega arith in
+    rw d (at_difference-to from to origin target)
+
+ahead_gap : (side : Colour) (from to c : ℕ) → Ahead side from to c → gap from to ≡ c
+ahead_gap White from to c is = omega arith
+ahead_gap Black from to c is = omega arith
+
+-- what a value says of a pawn's move: its bytes give the move back
+pub record PawnNames (side : Colour) (m : Move) : Type 0 where
+  pub square : pawn_square side m.from (pawn_value m) ≡ Some m.to
+  pub becomes : promotion (pawn_value m) ≡ m.promo
+  pub small : pawn_value m < 16
+
+-- one square ahead, or diagonally: c is 7, 8 or 9, and v the value
+pawn_at : (side : Colour) (m : Move) (c v : ℕ) → Ahead side m.from m.to c → m.from < 64 → m.to < 64 → eqb c 16 ≡ false
+    → c - 7 + promotion_value m.promo ≡ v → eqb v 15 ≡ false → 7 + v % 3 ≡ c → promotion v ≡ m.promo → v < 16 → PawnNames side m
+pawn_at side m c v is origin target one value single step becomes small =
+    let same : pawn_value m ≡ v = rw (ahead_gap side m.from m.to c is, one) value in
+    record {
+      square = rw (same, single, step) (ahead_names side m.from m.to c is origin target);
+      becomes = rw same becomes;
+      small = rw same small;
+    }
+
+pub pawn_two : (side : Colour) (m : Move) → Ahead side m.from m.to 16 → m.from < 64 → m.to < 64 → m.promo ≡ None → PawnNames side m
+pawn_two side m is origin target none =
+    let same : pawn_value m ≡ 15 = rw (ahead_gap side m.from m.to 16 is) refl in
+    record {
+      square = rw same (ahead_names side m.from m.to 16 is origin target);
+      becomes = rw same (sym none);
+      small = rw same (omega arith);
+    }
+
+-- the kinds of man that a pawn may become, and none
+abbrev pub IsPromotion : Option Kind → Type 0
+IsPromotion None = Unit {0}
+IsPromotion (Some King) = ⊥
+IsPromotion (Some Queen) = Unit {0}
+IsPromotion (Some Rook) = Unit {0}
+IsPromotion (Some Bishop) = Unit {0}
+IsPromotion (Some Knight) = Unit {0}
+IsPromotion (Some Pawn) = ⊥
+
+-- every step of one square, with every promotion
+module _ (side : Colour) (m : Move) (origin : m.from < 64) (target : m.to < 64) where
+  pub pawn_7 : (promo : Option Kind) → m.promo ≡ promo → IsPromotion promo → Ahead side m.from m.to 7 → PawnNames side m
+  pawn_7 None same good is =
+      pawn_at side m 7 0 is origin target refl (rw same refl) refl refl (sym same) (omega arith)
+  pawn_7 (Some Queen) same good is =
+      pawn_at side m 7 3 is origin target refl (rw same refl) refl refl (sym same) (omega arith)
+  pawn_7 (Some Rook) same good is =
+      pawn_at side m 7 6 is origin target refl (rw same refl) refl refl (sym same) (omega arith)
+  pawn_7 (Some Bishop) same good is =
+      pawn_at side m 7 9 is origin target refl (rw same refl) refl refl (sym same) (omega arith)
+  pawn_7 (Some Knight) same good is =
+      pawn_at side m 7 12 is origin target refl (rw same refl) refl refl (sym same) (omega arith)
+  pawn_7 (Some King) same good is = absurd good
+  pawn_7 (Some Pawn) same good is = absurd good
+
+  pub pawn_8 : (promo : Option Kind) → m.promo ≡ promo → IsPromotion promo → Ahead side m.from m.to 8 → PawnNames side m
+  pawn_8 None same good is =
+      pawn_at side m 8 1 is origin target refl (rw same refl) refl refl (sym same) (omega arith)
+  pawn_8 (Some Queen) same good is =
+      pawn_at side m 8 4 is origin target refl (rw same refl) refl refl (sym same) (omega arith)
+  pawn_8 (Some Rook) same good is =
+      pawn_at side m 8 7 is origin target refl (rw same refl) refl refl (sym same) (omega arith)
+  pawn_8 (Some Bishop) same good is =
+      pawn_at side m 8 10 is origin target refl (rw same refl) refl refl (sym same) (omega arith)
+  pawn_8 (Some Knight) same good is =
+      pawn_at side m 8 13 is origin target refl (rw same refl) refl refl (sym same) (omega arith)
+  pawn_8 (Some King) same good is = absurd good
+  pawn_8 (Some Pawn) same good is = absurd good
+
+  pub pawn_9 : (promo : Option Kind) → m.promo ≡ promo → IsPromotion promo → Ahead side m.from m.to 9 → PawnNames side m
+  pawn_9 None same good is =
+      pawn_at side m 9 2 is origin target refl (rw same refl) refl refl (sym same) (omega arith)
+  pawn_9 (Some Queen) same good is =
+      pawn_at side m 9 5 is origin target refl (rw same refl) refl refl (sym same) (omega arith)
+  pawn_9 (Some Rook) same good is =
+      pawn_at side m 9 8 is origin target refl (rw same refl) refl refl (sym same) (omega arith)
+  pawn_9 (Some Bishop) same good is =
+      pawn_at side m 9 11 is origin target refl (rw same refl) refl refl (sym same) (omega arith)
+  pawn_9 (Some Knight) same good is =
+      pawn_at side m 9 14 is origin target refl (rw same refl) refl refl (sym same) (omega arith)
+  pawn_9 (Some King) same good is = absurd good
+  pawn_9 (Some Pawn) same good is = absurd good
+

@@ -1,0 +1,151 @@
+-- In every case of a legal move its bytes name it, and its target is a square that its side has free.
+use Rattle.std.proofs.Common.{◌≡◌, ◌≢◌, ℕ, zero, suc, ◌+◌, ◌-◌, ◌*◌, ◌/◌, ◌%◌, ◌<◌, ◌≤◌, Bool, true, false, not, cond, eqb, ltb, leb, ◌&&◌, ◌||◌, List, [], ◌∷◌, ◌++◌, Option, Some, None, Ok, Err, IsTrue, length, get_or, slice_get, ◌⊎◌, inl, inr, refl, sym, ◌∙◌, ap, subst, arith}
+use Rattle.std.specs.Prelude.{Any, Result, is_none}
+use Rattle.std.proofs.lemmas.Bool.{cases_Bool, or_cases, eq-eqb, false≢true, ltb-true, eqb-true}
+use Rattle.std.proofs.lemmas.Bool.Decides.{nat_tests, eqb_tells}
+use Rattle.std.specs.List.{list_all}
+use Rattle.cell_core.specs.declared.man.Colour.{Colour}
+use Rattle.cell_core.specs.declared.man.Colour.TheVariants.{White, Black}
+use Rattle.cell_core.specs.declared.man.Kind.{Kind}
+use Rattle.cell_core.specs.declared.man.Kind.TheVariants.{King, Queen, Rook, Bishop, Knight, Pawn}
+use Rattle.cell_core.specs.declared.man.Man.{Man}
+use Rattle.cell_core.specs.declared.step.Move.{Move}
+use Rattle.cell_core.specs.Board.{Men, man_at}
+use Rattle.cell_core.specs.Man.{man, other, is_of}
+use Rattle.chess_laws.specs.declared.setup.Setup.{Setup}
+use Rattle.chess_laws.specs.declared.setup.Wing.{Wing}
+use Rattle.chess_laws.specs.declared.setup.Wing.TheVariants.{KingSide, QueenSide}
+use Rattle.chess_laws.specs.declared.effect.Effect.{Effect}
+use Rattle.chess_laws.specs.declared.effect.Effect.TheVariants.{Plain, Double, Passing, Castle, Null}
+use Rattle.chess_laws.specs.declared.offset.Offset.{Offset}
+use Rattle.chess_laws.specs.Geometry.{by, file_of, rank_of, shift, Leaps, Runs, Walk, king_steps, knight_steps, rook_steps, bishop_steps, forward, pawn_captures}
+use Rattle.chess_laws.specs.Attacks.{Reaches}
+use Rattle.chess_laws.specs.Castling.{king_home, king_target, rook_home, rook_target, between}
+use Rattle.chess_laws.specs.Step.{GoesPlainly, HasNoOwn, PlainCase, DoubleCase, PassingCase, CastleCase, NullCase, Case, effect_of, effect_on, effect_as, may_become, promotes_rightly, goes_two, changes_file}
+use Rattle.chess_laws.proofs.Shifts.{Differ, shift-Some}
+use Rattle.move_codec.specs.Packed.{difference_value, named_value, value_of, rest_of, to_square, king_differences, knight_differences, line_value, diagonal_value, is_line, is_diagonal, diagonal_square, gap}
+use Rattle.move_codec.specs.declared.fault.MoveFault.{MoveFault}
+use Rattle.move_codec.proofs.Strides.{any_passes, and_true, Any-each, Strides, Walk-strides}
+use Rattle.move_codec.proofs.Spelling.{Line, Diagonal, PawnNames, IsPromotion, difference_names, king_listed, knight_listed, line_names, line_value-within, diagonal_names, diagonal_value-within, rook_line, bishop_diagonal, queen_ray, pawn_7, pawn_8, pawn_9, pawn_two}
+
+-- the value of a move and the bytes after it name the move, whatever follows
+pub record Spelled (side : Colour) (kind : Kind) (m : Move) : Type 0 where
+  pub small : value_of kind m < 16
+  pub names : (rest : List ℕ) → named_value kind side m.from (value_of kind m) (rest_of kind m ++ rest) ≡ Ok (m, suc (length (rest_of kind m)))
+
+-- a move of these parts
+abbrev built : ℕ → ℕ → Option Kind → Move
+built a b promo = record { «from» = a; to = b; promo = promo }
+
+abbrev decoded : Move → ℕ → Result (Move × ℕ) MoveFault
+decoded m bytes = Ok (m, bytes)
+
+-- the move to the square that was named
+named_to : (m : Move) (promo : Option Kind) (bytes : ℕ) (square : Option ℕ) → square ≡ Some m.to → promo ≡ m.promo
+    → to_square m.from promo bytes square ≡ Ok (m, bytes)
+named_to m promo bytes square is same =
+    rw is (ap (λ (p : Option Kind). decoded (built m.from m.to p) bytes) same)
+
+leaps_on_board : (a b : ℕ) (steps : List Offset) → list_all (λ o. true) steps ≡ true → Any (Leaps a b) steps → b < 64
+leaps_on_board a b steps all any =
+    let some = any_passes (Leaps a b) (λ o. true) steps all any in
+    (shift-Some some.0 a b some.1.1).on_board
+
+same_gaps : (fa ra fb rb : ℕ) → (rb + fa ≡ ra + fb) ⊎ (rb + fb ≡ ra + fa) → gap fa fb ≡ gap ra rb
+same_gaps fa ra fb rb (inl rises) = omega arith
+same_gaps fa ra fb rb (inr falls) = omega arith
+
+is_line-along : (m : Move) → is_line m ≡ true → (rank_of m.to ≡ rank_of m.from) ⊎ (file_of m.to ≡ file_of m.from)
+is_line-along m h =
+    elim (or_cases (eqb (rank_of m.to) (rank_of m.from)) (eqb (file_of m.to) (file_of m.from)) h) [
+      inl rank ↦ inl (eqb-true (rank_of m.to) (rank_of m.from) rank)
+    | inr file ↦ inr (eqb-true (file_of m.to) (file_of m.from) file)
+    ]
+
+module _ (side : Colour) (m : Move) (origin : m.from < 64) (none : m.promo ≡ None) where
+  pub spelled_king : m.to < 64 → difference_value king_differences m < 11 → Spelled side King m
+  unfolding named_value value_of rest_of
+  spelled_king target listed = record {
+      small = omega arith;
+      names = λ rest. named_to m None 1 _ (difference_names king_differences m origin target listed) (sym none);
+    }
+
+  pub spelled_knight : m.to < 64 → difference_value knight_differences m < 9 → Spelled side Knight m
+  unfolding named_value value_of rest_of
+  spelled_knight target listed = record {
+      small = omega arith;
+      names = λ rest. named_to m None 1 _ (difference_names knight_differences m origin target listed) (sym none);
+    }
+
+  pub spelled_rook : Line m → Spelled side Rook m
+  unfolding named_value value_of rest_of
+  spelled_rook line = record {
+      small = line_value-within m line.on_board;
+      names = λ rest. named_to m None 1 _ (line_names m line) (sym none);
+    }
+
+  pub spelled_bishop : Diagonal m → Spelled side Bishop m
+  unfolding named_value value_of rest_of
+  spelled_bishop diagonal = record {
+      small = diagonal_value-within m;
+      names = λ rest. named_to m None 1 _ (diagonal_names m diagonal) (sym none);
+    }
+
+  -- along a line the value is not her own file, since she leaves it or it is more than a file
+  line_not_file : Line m → eqb (line_value m) (file_of m.from) ≡ false
+  line_not_file line =
+      elim (eqb_tells (rank_of m.to) (rank_of m.from)) [
+        inl same ↦ rw same.0 (grind (arith, nat_tests))
+      | inr apart ↦ rw apart.0 (grind (arith, nat_tests))
+      ]
+
+  is_line-Line : Line m → is_line m ≡ true
+  is_line-Line line = elim line.along [ inl rank ↦ grind (arith, nat_tests) | inr file ↦ grind (arith, nat_tests) ]
+
+  queen_line : Line m → is_line m ≡ true → Spelled side Queen m
+  unfolding named_value value_of rest_of
+  queen_line line along = record {
+      small = rw along (line_value-within m line.on_board);
+      names = λ rest. rw (along, line_not_file line) (named_to m None 1 _ (line_names m line) (sym none));
+    }
+
+  diagonal-square : Diagonal m → diagonal_square m.from (64 + m.to) ≡ Some m.to
+  diagonal-square diagonal =
+      let low : leb 64 (64 + m.to) ≡ true = grind (arith, nat_tests) in
+      let high : ltb (64 + m.to) 128 ≡ true = grind (arith, nat_tests) in
+      let to : 64 + m.to - 64 ≡ m.to = omega arith in
+      let apart : eqb m.to m.from ≡ false = grind (arith, nat_tests) in
+      let same : gap (file_of m.from) (file_of m.to) ≡ gap (rank_of m.from) (rank_of m.to) =
+        same_gaps (file_of m.from) (rank_of m.from) (file_of m.to) (rank_of m.to) diagonal.along in
+      let gaps : eqb (gap (file_of m.from) (file_of m.to)) (gap (rank_of m.from) (rank_of m.to)) ≡ true = eq-eqb _ _ same in
+      rw (low, high, to, apart, gaps) refl
+
+  own_file : eqb (file_of m.from) (file_of m.from) ≡ true
+  own_file = eq-eqb (file_of m.from) (file_of m.from) refl
+
+  queen_diagonal : Diagonal m → is_line m ≡ false → Spelled side Queen m
+  unfolding named_value value_of rest_of
+  queen_diagonal diagonal across = record {
+      small = rw across (omega arith);
+      names = λ rest. rw (across, own_file) (named_to m None 2 _ (diagonal-square diagonal) (sym none));
+    }
+
+  pub spelled_queen : Line m ⊎ Diagonal m → Spelled side Queen m
+  spelled_queen ray =
+      elim (cases_Bool (is_line m)) [
+        inl along ↦ elim ray [
+          inl line ↦ queen_line line along
+        | inr diagonal ↦ queen_line (record { on_board = diagonal.on_board; other = diagonal.other; along = is_line-along m along }) along
+        ]
+      | inr across ↦ elim ray [
+          inl line ↦ absurd (false≢true (sym across ∙ is_line-Line line))
+        | inr diagonal ↦ queen_diagonal diagonal across
+        ]
+      ]
+
+pub spelled_pawn : (side : Colour) (m : Move) → PawnNames side m → Spelled side Pawn m
+unfolding named_value value_of rest_of
+spelled_pawn side m pawn = record {
+    small = pawn.small;
+    names = λ rest. named_to m _ 1 _ pawn.square pawn.becomes;
+  }
