@@ -1,5 +1,5 @@
 -- In every case of a legal move its bytes name it, and its target is a square that its side has free.
-use Rattle.std.proofs.Common.{◌≡◌, ◌≢◌, ℕ, zero, suc, ◌+◌, ◌-◌, ◌*◌, ◌/◌, ◌%◌, ◌<◌, ◌≤◌, Bool, true, false, not, cond, eqb, ltb, leb, ◌&&◌, ◌||◌, List, [], ◌∷◌, ◌++◌, Option, Some, None, Ok, Err, IsTrue, length, get_or, slice_get, ◌⊎◌, inl, inr, refl, sym, ◌∙◌, ap, subst, arith}
+use Rattle.std.proofs.Common.{◌≡◌, ◌≢◌, ℕ, zero, suc, ◌+◌, ◌-◌, ◌*◌, ◌/◌, ◌%◌, ◌<◌, ◌≤◌, Bool, true, false, not, cond, eqb, ltb, leb, ◌&&◌, ◌||◌, ◌==◌, List, [], ◌∷◌, ◌++◌, Option, Some, None, Ok, Err, IsTrue, length, get_or, slice_get, ◌⊎◌, inl, inr, refl, sym, ◌∙◌, ap, subst, arith}
 use Rattle.std.specs.Prelude.{Any, Result, is_none}
 use Rattle.std.proofs.lemmas.Bool.{cases_Bool, or_cases, eq-eqb, false≢true, ltb-true, eqb-true}
 use Rattle.std.proofs.lemmas.Bool.Decides.{nat_tests, eqb_tells}
@@ -25,8 +25,9 @@ use Rattle.chess_laws.specs.Step.{GoesPlainly, HasNoOwn, PlainCase, DoubleCase, 
 use Rattle.chess_laws.proofs.Shifts.{Differ, shift-Some}
 use Rattle.move_codec.specs.Packed.{difference_value, named_value, value_of, rest_of, to_square, king_differences, knight_differences, line_value, diagonal_value, is_line, is_diagonal, diagonal_square, gap}
 use Rattle.move_codec.specs.declared.fault.MoveFault.{MoveFault}
+use Rattle.move_codec.proofs.Boards.{stands_within}
 use Rattle.move_codec.proofs.Strides.{any_passes, and_true, Any-each, Strides, Walk-strides}
-use Rattle.move_codec.proofs.Spelling.{Line, Diagonal, PawnNames, IsPromotion, difference_names, king_listed, knight_listed, line_names, line_value-within, diagonal_names, diagonal_value-within, rook_line, bishop_diagonal, queen_ray, pawn_7, pawn_8, pawn_9, pawn_two}
+use Rattle.move_codec.proofs.Spelling.{Ahead, Line, Diagonal, PawnNames, IsPromotion, difference_names, king_listed, knight_listed, line_names, line_value-within, diagonal_names, diagonal_value-within, rook_line, bishop_diagonal, queen_ray, pawn_7, pawn_8, pawn_9, pawn_two}
 
 -- the value of a move and the bytes after it name the move, whatever follows
 pub record Spelled (side : Colour) (kind : Kind) (m : Move) : Type 0 where
@@ -149,3 +150,130 @@ spelled_pawn side m pawn = record {
     small = pawn.small;
     names = λ rest. named_to m _ 1 _ pawn.square pawn.becomes;
   }
+
+-- What each case says of the move's squares
+
+none_promo : (o : Option Kind) → IsTrue (is_none o) → o ≡ None
+none_promo None h = refl
+none_promo (Some k) h = absurd (cc)
+
+pawn_promo : (last : Bool) (o : Option Kind) → IsTrue (cond last (may_become o) (is_none o)) → IsPromotion o
+pawn_promo true None h = tt
+pawn_promo true (Some King) h = absurd (cc)
+pawn_promo true (Some Queen) h = tt
+pawn_promo true (Some Rook) h = tt
+pawn_promo true (Some Bishop) h = tt
+pawn_promo true (Some Knight) h = tt
+pawn_promo true (Some Pawn) h = absurd (cc)
+pawn_promo false None h = tt
+pawn_promo false (Some k) h = absurd (cc)
+
+pub pawn_forward : (side : Colour) (a b : ℕ) → Leaps a b (forward side) → Ahead side a b 8
+pawn_forward White a b leaps = let step = shift-Some (by 0 0 1 0) a b leaps in omega (arith, step.files, step.ranks)
+pawn_forward Black a b leaps = let step = shift-Some (by 0 0 0 1) a b leaps in omega (arith, step.files, step.ranks)
+
+pub pawn_across : (side : Colour) (a b : ℕ) → Any (Leaps a b) (pawn_captures side) → Ahead side a b 7 ⊎ Ahead side a b 9
+pawn_across White a b any =
+    Any-each (Leaps a b) (Ahead White a b 7 ⊎ Ahead White a b 9) (pawn_captures White) any
+    ( λ leaps. (let step = shift-Some (by 1 0 1 0) a b leaps in inr (omega (arith, step.files, step.ranks)))
+    , ( λ leaps. (let step = shift-Some (by 0 1 1 0) a b leaps in inl (omega (arith, step.files, step.ranks)))
+    , tt ))
+pawn_across Black a b any =
+    Any-each (Leaps a b) (Ahead Black a b 7 ⊎ Ahead Black a b 9) (pawn_captures Black) any
+    ( λ leaps. (let step = shift-Some (by 1 0 0 1) a b leaps in inl (omega (arith, step.files, step.ranks)))
+    , ( λ leaps. (let step = shift-Some (by 0 1 0 1) a b leaps in inr (omega (arith, step.files, step.ranks)))
+    , tt ))
+
+pub pawn_double : (side : Colour) (men : Men) (a b : ℕ) → Walk men (forward side) 1 a b → Ahead side a b 16 × (b < 64)
+pawn_double White men a b walk = let far = Walk-strides men (by 0 0 1 0) 1 a b walk in (omega (arith, far.files, far.ranks), far.on_board)
+pawn_double Black men a b walk = let far = Walk-strides men (by 0 0 0 1) 1 a b walk in (omega (arith, far.files, far.ranks), far.on_board)
+
+pub captures_on_board : (side : Colour) (a b : ℕ) → Any (Leaps a b) (pawn_captures side) → b < 64
+captures_on_board White a b any = leaps_on_board a b (pawn_captures White) refl any
+captures_on_board Black a b any = leaps_on_board a b (pawn_captures Black) refl any
+
+pub across_names : (side : Colour) (m : Move) → m.from < 64 → IsPromotion m.promo → Any (Leaps m.from m.to) (pawn_captures side) → PawnNames side m
+across_names side m origin good any =
+    elim (pawn_across side m.from m.to any) [
+      inl left ↦ pawn_7 side m origin (captures_on_board side m.from m.to any) m.promo refl good left
+    | inr right ↦ pawn_9 side m origin (captures_on_board side m.from m.to any) m.promo refl good right
+    ]
+
+-- the effect of a king's move that castles
+castle_tests : (stays short long : Bool) (wing : Wing)
+    → cond stays Null (cond short (Castle KingSide) (cond long (Castle QueenSide) Plain)) ≡ Castle wing
+    → ((short ≡ true) × (wing ≡ KingSide)) ⊎ ((long ≡ true) × (wing ≡ QueenSide))
+castle_tests true short long wing h = absurd (cc)
+castle_tests false true long KingSide h = inl (refl, refl)
+castle_tests false true long QueenSide h = absurd (cc)
+castle_tests false false true KingSide h = absurd (cc)
+castle_tests false false true QueenSide h = inr (refl, refl)
+castle_tests false false false wing h = absurd (cc)
+
+home_and_target : (m : Move) (a b : ℕ) → ((m.from == a) && (m.to == b)) ≡ true → (m.from ≡ a) × (m.to ≡ b)
+home_and_target m a b h =
+    let parts = and_true (eqb m.from a) (eqb m.to b) h in
+    (eqb-true m.from a parts.0, eqb-true m.to b parts.1)
+
+-- castling goes from the king's home to his target on the wing
+pub castle_squares : (p : Setup) (m : Move) (wing : Wing) → man_at p.board m.from ≡ Some (man p.side King)
+    → effect_of p m ≡ Castle wing → (m.from ≡ king_home p.side) × (m.to ≡ king_target p.side wing)
+castle_squares p m wing stands is =
+    let tests = castle_tests (m.to == m.from) ((m.from == king_home p.side) && (m.to == king_target p.side KingSide)) ((m.from == king_home p.side) && (m.to == king_target p.side QueenSide)) wing
+      (sym (ap (λ (o : Option Man). effect_on o p m) stands) ∙ is) in
+    elim tests [
+      inl short ↦ rw short.1 (home_and_target m (king_home p.side) (king_target p.side KingSide) short.0)
+    | inr long ↦ rw long.1 (home_and_target m (king_home p.side) (king_target p.side QueenSide) long.0)
+    ]
+
+castle_listed : (side : Colour) (wing : Wing) (m : Move) → m.from ≡ king_home side → m.to ≡ king_target side wing
+    → (m.to < 64) × (difference_value king_differences m < 11)
+castle_listed White KingSide m from to = rw (from, to) (omega arith, omega arith)
+castle_listed White QueenSide m from to = rw (from, to) (omega arith, omega arith)
+castle_listed Black KingSide m from to = rw (from, to) (omega arith, omega arith)
+castle_listed Black QueenSide m from to = rw (from, to) (omega arith, omega arith)
+
+null_listed : (m : Move) → m.to ≡ m.from → difference_value king_differences m < 11
+null_listed m stays = let none : 64 + m.to - m.from ≡ 64 = omega arith in rw none (omega arith)
+
+within : (p : Setup) (m : Move) (kind : Kind) → length p.board ≡ 64 → man_at p.board m.from ≡ Some (man p.side kind) → m.from < 64
+within p m kind squares stands = rw squares at (stands_within p.board m.from (man p.side kind) stands)
+
+-- the man that moves and what spells its move
+pub record Mover (p : Setup) (m : Move) : Type 0 where
+  pub kind : Kind
+  pub stands : man_at p.board m.from ≡ Some (man p.side kind)
+  pub spelled : Spelled p.side kind m
+
+plain_spelled : (p : Setup) (kind : Kind) (m : Move) → m.from < 64 → GoesPlainly p kind m → IsTrue (promotes_rightly p.side kind m) → Spelled p.side kind m
+plain_spelled p King m origin goes promo = spelled_king p.side m origin (none_promo m.promo promo) (leaps_on_board m.from m.to king_steps refl goes.0) (king_listed m goes.0)
+plain_spelled p Queen m origin goes promo = spelled_queen p.side m origin (none_promo m.promo promo) (queen_ray p.board m goes.0)
+plain_spelled p Rook m origin goes promo = spelled_rook p.side m origin (none_promo m.promo promo) (rook_line p.board m goes.0)
+plain_spelled p Bishop m origin goes promo = spelled_bishop p.side m origin (none_promo m.promo promo) (bishop_diagonal p.board m goes.0)
+plain_spelled p Knight m origin goes promo = spelled_knight p.side m origin (none_promo m.promo promo) (leaps_on_board m.from m.to knight_steps refl goes.0) (knight_listed m goes.0)
+plain_spelled p Pawn m origin goes promo =
+    let good : IsPromotion m.promo = pawn_promo _ m.promo promo in
+    elim goes [
+      inl ahead ↦ spelled_pawn p.side m (pawn_8 p.side m origin (shift-Some (forward p.side) m.from m.to ahead.0).on_board m.promo refl good (pawn_forward p.side m.from m.to ahead.0))
+    | inr captures ↦ spelled_pawn p.side m (across_names p.side m origin good captures.0)
+    ]
+
+pub mover : (p : Setup) (m : Move) (e : Effect) → length p.board ≡ 64 → effect_of p m ≡ e → Case p m e → Mover p m
+mover p m Plain squares is c =
+    let origin : m.from < 64 = within p m c.kind squares c.stands in
+    record { kind = c.kind; stands = c.stands; spelled = plain_spelled p c.kind m origin c.goes c.promotes }
+mover p m Double squares is c =
+    let origin : m.from < 64 = within p m Pawn squares c.stands in
+    let two = pawn_double p.side p.board m.from m.to c.walks in
+    record { kind = Pawn; stands = c.stands; spelled = spelled_pawn p.side m (pawn_two p.side m two.0 origin two.1 c.promo) }
+mover p m Passing squares is c =
+    let origin : m.from < 64 = within p m Pawn squares c.stands in
+    record { kind = Pawn; stands = c.stands; spelled = spelled_pawn p.side m (across_names p.side m origin (rw c.promo tt) c.goes) }
+mover p m (Castle wing) squares is c =
+    let origin : m.from < 64 = within p m King squares c.stands in
+    let ends = castle_squares p m wing c.stands is in
+    let listed = castle_listed p.side wing m ends.0 ends.1 in
+    record { kind = King; stands = c.stands; spelled = spelled_king p.side m origin c.promo listed.0 listed.1 }
+mover p m Null squares is c =
+    let origin : m.from < 64 = within p m King squares c.stands in
+    record { kind = King; stands = c.stands; spelled = spelled_king p.side m origin c.promo (rw c.stays origin) (null_listed m c.stays) }

@@ -180,7 +180,7 @@ queen_ray men m any = parts any.0 any.1 any.2 any.3 any.4
 -- Pawns
 
 -- a square lies so far ahead of another
-abbrev Ahead : Colour → ℕ → ℕ → ℕ → Type 0
+abbrev pub Ahead : Colour → ℕ → ℕ → ℕ → Type 0
 Ahead White from to c = to ≡ from + c
 Ahead Black from to c = to + c ≡ from
 
