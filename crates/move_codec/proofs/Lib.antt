@@ -5,3 +5,5 @@ pub mod Boards
 pub mod Strides
 pub mod Spelling
 pub mod Cases
+pub mod RoundTrip
+pub mod Steps
