@@ -47,7 +47,7 @@ named_to : (m : Move) (promo : Option Kind) (bytes : ℕ) (square : Option ℕ) 
 named_to m promo bytes square is same =
     rw is (ap (λ (p : Option Kind). decoded (built m.from m.to p) bytes) same)
 
-leaps_on_board : (a b : ℕ) (steps : List Offset) → list_all (λ o. true) steps ≡ true → Any (Leaps a b) steps → b < 64
+pub leaps_on_board : (a b : ℕ) (steps : List Offset) → list_all (λ o. true) steps ≡ true → Any (Leaps a b) steps → b < 64
 leaps_on_board a b steps all any =
     let some = any_passes (Leaps a b) (λ o. true) steps all any in
     (shift-Some some.0 a b some.1.1).on_board
