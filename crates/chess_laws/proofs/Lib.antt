@@ -1,1 +1,4 @@
 pub mod Shifts
+pub mod Kings
+pub mod Walks
+pub mod Attackers

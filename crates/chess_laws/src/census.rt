@@ -1,5 +1,5 @@
 //! What is counted on a board.
-ghost use Rattle.std.specs.Prelude.{◌≡◌, ◌↔◌, ℕ, ◌<◌, IsTrue, IsBitSet, count_by, MatchOption, ◌≢◌};
+ghost use Rattle.std.specs.Prelude.{◌≡◌, ◌↔◌, ℕ, ◌<◌, ◌≤◌, IsTrue, IsBitSet, count_by, MatchOption, ◌≢◌};
 ghost use Rattle.std.specs.List.{position_or_len};
 ghost use Rattle.cell_core.specs.Man.{is_of, is_man};
 ghost use Rattle.cell_core.specs.declared.man.Kind.TheVariants.{King};
@@ -34,13 +34,21 @@ pub fn count_side(board: &Board, colour: Colour) -> usize
 
 /// How many men of this colour and kind there are.
 fn count(board: &Board, colour: Colour, kind: Kind) -> usize
-    ensures { result ≡ count_of board.now colour kind }
+    ensures number { result ≡ count_of board.now colour kind }
+    ensures squares { result ≤ 64 }
 {
     let cells = board.cells();
     cells
         .iter()
         .filter(|cell| holds(cell, colour, kind))
         .count()
+}
+
+/// How many men of this colour and kind there are, which is at most the 64 squares.
+fn tally(board: &Board, colour: Colour, kind: Kind) -> u8
+    ensures { result ≡ count_of board.now colour kind }
+{
+    count(board, colour, kind) as u8
 }
 
 /// Whether a man of this colour stands on a square.
@@ -67,12 +75,42 @@ fn holds(cell: &Option<Man>, colour: Colour, kind: Kind) -> bool
 pub fn counts(board: &Board) -> [u8; 10]
     ensures { result ≡ counts_of board.now }
 {
-    [0; 10]
+    [
+        tally(board, Colour::White, Kind::Queen),
+        tally(board, Colour::White, Kind::Rook),
+        tally(board, Colour::White, Kind::Bishop),
+        tally(board, Colour::White, Kind::Knight),
+        tally(board, Colour::White, Kind::Pawn),
+        tally(board, Colour::Black, Kind::Queen),
+        tally(board, Colour::Black, Kind::Rook),
+        tally(board, Colour::Black, Kind::Bishop),
+        tally(board, Colour::Black, Kind::Knight),
+        tally(board, Colour::Black, Kind::Pawn),
+    ]
 }
 
 /// The home values of the pawns that stand on their own squares, as bits.
 pub fn home_set(board: &Board) -> u16
     ensures { (v : ℕ) → v < 16 → (IsBitSet result v ↔ IsTrue (is_home board.now v)) }
 {
-    0
+    let mut set: u16 = 0;
+    for value in 0..16u8 {
+        if stands_at_home(board, value) {
+            set |= 1 << value;
+        }
+    }
+    set
+}
+
+/// Whether the pawn with this home value stands on its own square.
+fn stands_at_home(board: &Board, value: u8) -> bool
+    requires { value < 16 }
+    ensures { result ≡ is_home board.now value }
+{
+    let (colour, square) = if value < 8 {
+        (Colour::Black, Square::at(55 - value))
+    } else {
+        (Colour::White, Square::at(23 - value))
+    };
+    holds(&board.at(square), colour, Kind::Pawn)
 }

@@ -4,6 +4,7 @@ ghost use Rattle.cell_core.specs.Man.{man};
 ghost use Rattle.cell_core.specs.declared.man.Kind.TheVariants.{King};
 ghost use Rattle.chess_laws.specs.Attacks.{Attacks, IsInCheck};
 ghost use Rattle.chess_laws.specs.Counts.{counts_of, is_home};
+ghost use Rattle.chess_laws.specs.Position.{Sound, Breaks, setup_of};
 
 use super::attack::attacks;
 use super::census::{count_side, counts, home_set, only_king};
@@ -77,39 +78,7 @@ impl Position {
         ensures sound { IfOk result (λ p. Sound p) }
         ensures fault { IfErr result (λ fault. Breaks (setup_of board side rights en_passant) fault) }
     {
-        let Some(white_king) = only_king(&board, Colour::White) else {
-            return Err(PlaceFault::Kings);
-        };
-        let Some(black_king) = only_king(&board, Colour::Black) else {
-            return Err(PlaceFault::Kings);
-        };
-        if !has_pawns_inside(&board) {
-            return Err(PlaceFault::Pawns);
-        }
-        if count_side(&board, Colour::White) > 16 || count_side(&board, Colour::Black) > 16 {
-            return Err(PlaceFault::TooMany);
-        }
-        let resting_king = match side {
-            Colour::White => black_king,
-            Colour::Black => white_king,
-        };
-        if attacks(&board, side, resting_king) {
-            return Err(PlaceFault::InCheck);
-        }
-        if !has_fit_en_passant(side, en_passant) {
-            return Err(PlaceFault::EnPassant);
-        }
-        let rights = standing_rights(&board, rights);
-        Ok(Position {
-            inner: Setup {
-                board,
-                side,
-                rights,
-                en_passant,
-            },
-            white_king,
-            black_king,
-        })
+        place(&board, side, rights, en_passant)
     }
 
     /// The board.
@@ -191,4 +160,50 @@ impl Position {
     {
         home_set(&self.inner.board)
     }
+}
+
+/// The position of a board that is tested rule by rule.
+fn place(
+    board: &Board,
+    side: Colour,
+    rights: u8,
+    en_passant: Option<Square>,
+) -> Result<Position, PlaceFault>
+    ensures ok { IfOk result (λ p. p ≡ setup_of board.now side rights en_passant) }
+    ensures sound { IfOk result (λ p. Sound p) }
+    ensures fault { IfErr result (λ fault. Breaks (setup_of board.now side rights en_passant) fault) }
+{
+    let Some(white_king) = only_king(board, Colour::White) else {
+        return Err(PlaceFault::Kings);
+    };
+    let Some(black_king) = only_king(board, Colour::Black) else {
+        return Err(PlaceFault::Kings);
+    };
+    if !has_pawns_inside(board) {
+        return Err(PlaceFault::Pawns);
+    }
+    if count_side(board, Colour::White) > 16 || count_side(board, Colour::Black) > 16 {
+        return Err(PlaceFault::TooMany);
+    }
+    let resting_king = match side {
+        Colour::White => black_king,
+        Colour::Black => white_king,
+    };
+    if attacks(board, side, resting_king) {
+        return Err(PlaceFault::InCheck);
+    }
+    if !has_fit_en_passant(side, &en_passant) {
+        return Err(PlaceFault::EnPassant);
+    }
+    let rights = standing_rights(board, rights);
+    Ok(Position {
+        inner: Setup {
+            board: *board,
+            side,
+            rights,
+            en_passant,
+        },
+        white_king,
+        black_king,
+    })
 }

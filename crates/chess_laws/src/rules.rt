@@ -21,8 +21,8 @@ fn is_pawn(cell: &Option<Man>) -> bool {
 }
 
 /// Whether the en passant square, if there is one, stands on the rank that fits the side to move.
-pub fn has_fit_en_passant(side: Colour, square: Option<Square>) -> bool
-    ensures { IsTrue result ↔ HasFitEnPassant side square }
+pub fn has_fit_en_passant(side: Colour, square: &Option<Square>) -> bool
+    ensures { IsTrue result ↔ HasFitEnPassant side square.now }
 {
     let rank = match side {
         Colour::White => 5,
@@ -72,5 +72,130 @@ fn is_home(board: &Board, colour: Colour, wing: Wing) -> bool
 pub fn start_board() -> Board
     ensures { result ≡ start_men }
 {
-    Board::empty()
+    Board::from_cells([
+        WHITE_ROOK,
+        WHITE_KNIGHT,
+        WHITE_BISHOP,
+        WHITE_QUEEN,
+        WHITE_KING,
+        WHITE_BISHOP,
+        WHITE_KNIGHT,
+        WHITE_ROOK,
+        WHITE_PAWN,
+        WHITE_PAWN,
+        WHITE_PAWN,
+        WHITE_PAWN,
+        WHITE_PAWN,
+        WHITE_PAWN,
+        WHITE_PAWN,
+        WHITE_PAWN,
+        None,
+        None,
+        None,
+        None,
+        None,
+        None,
+        None,
+        None,
+        None,
+        None,
+        None,
+        None,
+        None,
+        None,
+        None,
+        None,
+        None,
+        None,
+        None,
+        None,
+        None,
+        None,
+        None,
+        None,
+        None,
+        None,
+        None,
+        None,
+        None,
+        None,
+        None,
+        None,
+        BLACK_PAWN,
+        BLACK_PAWN,
+        BLACK_PAWN,
+        BLACK_PAWN,
+        BLACK_PAWN,
+        BLACK_PAWN,
+        BLACK_PAWN,
+        BLACK_PAWN,
+        BLACK_ROOK,
+        BLACK_KNIGHT,
+        BLACK_BISHOP,
+        BLACK_QUEEN,
+        BLACK_KING,
+        BLACK_BISHOP,
+        BLACK_KNIGHT,
+        BLACK_ROOK,
+    ])
 }
+
+const WHITE_KING: Option<Man> = Some(Man {
+    colour: Colour::White,
+    kind: Kind::King,
+});
+
+const WHITE_QUEEN: Option<Man> = Some(Man {
+    colour: Colour::White,
+    kind: Kind::Queen,
+});
+
+const WHITE_ROOK: Option<Man> = Some(Man {
+    colour: Colour::White,
+    kind: Kind::Rook,
+});
+
+const WHITE_BISHOP: Option<Man> = Some(Man {
+    colour: Colour::White,
+    kind: Kind::Bishop,
+});
+
+const WHITE_KNIGHT: Option<Man> = Some(Man {
+    colour: Colour::White,
+    kind: Kind::Knight,
+});
+
+const WHITE_PAWN: Option<Man> = Some(Man {
+    colour: Colour::White,
+    kind: Kind::Pawn,
+});
+
+const BLACK_KING: Option<Man> = Some(Man {
+    colour: Colour::Black,
+    kind: Kind::King,
+});
+
+const BLACK_QUEEN: Option<Man> = Some(Man {
+    colour: Colour::Black,
+    kind: Kind::Queen,
+});
+
+const BLACK_ROOK: Option<Man> = Some(Man {
+    colour: Colour::Black,
+    kind: Kind::Rook,
+});
+
+const BLACK_BISHOP: Option<Man> = Some(Man {
+    colour: Colour::Black,
+    kind: Kind::Bishop,
+});
+
+const BLACK_KNIGHT: Option<Man> = Some(Man {
+    colour: Colour::Black,
+    kind: Kind::Knight,
+});
+
+const BLACK_PAWN: Option<Man> = Some(Man {
+    colour: Colour::Black,
+    kind: Kind::Pawn,
+});
