@@ -7,3 +7,4 @@ pub mod Spelling
 pub mod Cases
 pub mod RoundTrip
 pub mod Steps
+pub mod Standard
