@@ -1,9 +1,12 @@
-ghost use Rattle.std.specs.Prelude.{◌≡◌, ◌<◌, length, slice_get};
-ghost use Rattle.move_codec.specs.Packed.{diagonal_move, named, named_value, to_square};
+ghost use Rattle.std.specs.Prelude.{◌≡◌, ℕ, ◌+◌, ◌*◌, ◌<◌, List, ◌∷◌, ◌++◌, Ok, length};
+ghost use Rattle.chess_laws.specs.Step.{Legal};
+ghost use Rattle.move_codec.specs.Packed.{Decodes, diagonal_move, encoding, named, named_value, rest_of, to_square, value_of};
 
 use super::fault::MoveFault;
 use super::numbers::Numbers;
 use super::targets::{diagonal_square, king_square, knight_square, on_diagonal, on_line, pawn_square, promotion};
+use super::values::{is_line, value_of};
+use arrayvec::ArrayVec;
 use cell_core::{Colour, Kind, Move, Square};
 use chess_laws::Position;
 use std::marker::Model;
@@ -41,6 +44,30 @@ impl Numbered {
         &self.numbers
     }
 
+    /// The bytes of a legal move: two of a queen's diagonal move, one of any other. They decode to the move, whatever
+    /// follows them.
+    pub fn encode_move(&self, m: Move) -> ArrayVec<u8, 2>
+        requires { Legal self.now.position m }
+        ensures bytes { result.items ≡ encoding self.now m }
+        ensures decodes { (rest : List ℕ) → Decodes self.now (result.items ++ rest) (Ok (m, length result.items)) }
+    {
+        self.encode(&m)
+    }
+
+    /// `encode_move` of a lent move.
+    fn encode(&self, m: &Move) -> ArrayVec<u8, 2>
+        requires { Legal self.now.position m.now }
+        ensures bytes { result.items ≡ encoding self.now m.now }
+        ensures decodes { (rest : List ℕ) → Decodes self.now (result.items ++ rest) (Ok (m.now, length result.items)) }
+    {
+        let side = self.position.side();
+        let number = self.numbers.of(side).number_of(m.from);
+        match self.position.board().at(m.from) {
+            None => ArrayVec::new(),
+            Some(man) => packed(number, man.kind, m),
+        }
+    }
+
     /// The move that the first bytes name and how many they are, or why they name none: legality apart.
     fn named(&self, bytes: &[u8]) -> Result<(Move, u8), MoveFault>
         ensures { result ≡ named self.now bytes.now }
@@ -57,6 +84,21 @@ impl Numbered {
         };
         named_value(man.kind, side, from, *byte % 16, rest)
     }
+}
+
+/// The bytes of a move of the man with this number and kind.
+#[tactic(auto, unfolding(crate::specs::Packed::rest_of))]
+fn packed(number: usize, kind: Kind, m: &Move) -> ArrayVec<u8, 2>
+    requires number { number < 16 }
+    requires value { value_of kind m.now < 16 }
+    ensures { result.items ≡ (16 * number + value_of kind m.now) ∷ rest_of kind m.now }
+{
+    let mut bytes = ArrayVec::new();
+    bytes.push(16 * number as u8 + value_of(kind, m));
+    if kind == Kind::Queen && !is_line(m) {
+        bytes.push(64 + m.to.index());
+    }
+    bytes
 }
 
 /// The move of a man of this kind and side, by its value and the bytes after it.
