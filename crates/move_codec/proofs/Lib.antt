@@ -8,3 +8,4 @@ pub mod Cases
 pub mod RoundTrip
 pub mod Steps
 pub mod Standard
+pub mod Text

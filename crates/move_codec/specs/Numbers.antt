@@ -1,11 +1,12 @@
 -- Men's numbers (this project's own): a man's number is its place in the list of its side's squares.
-use Rattle.std.specs.Prelude.{◌≡◌, ℕ, ◌+◌, ◌≤◌, ◌==◌, nat_lt, if◌then◌else◌, Bool, IsTrue, List, [], ◌∷◌, Option, Some, length, slice_get, slice_set}
+use Rattle.std.specs.Prelude.{◌≡◌, ℕ, ◌+◌, ◌*◌, ◌≤◌, ◌==◌, nat_lt, if◌then◌else◌, Bool, IsTrue, List, [], ◌∷◌, ◌++◌, Option, Some, length, slice_get, slice_set}
 use Rattle.std.specs.List.{position_or_len, swap_remove}
 use Rattle.cell_core.specs.declared.man.Colour.{Colour}
 use Rattle.cell_core.specs.declared.man.Colour.TheVariants.{White, Black}
+use Rattle.cell_core.specs.declared.man.Kind.TheVariants.{King}
 use Rattle.cell_core.specs.declared.step.Move.{Move}
 use Rattle.cell_core.specs.Board.{Men, man_at}
-use Rattle.cell_core.specs.Man.{other, is_of}
+use Rattle.cell_core.specs.Man.{is_man, is_of}
 use Rattle.chess_laws.specs.declared.setup.Setup.{Setup}
 use Rattle.chess_laws.specs.declared.effect.Effect.{Effect}
 use Rattle.chess_laws.specs.declared.effect.Effect.TheVariants.{Plain, Double, Passing, Castle, Null}
@@ -37,6 +38,40 @@ start_ranks back pawns =
 -- the numbers at the standard start
 abbrev pub standard_numbers : Numbers
 standard_numbers = record { white = start_ranks 0 8; black = start_ranks 56 48 }
+
+-- the squares of a rank from file a, and all squares in the order of a FEN's placement: the eighth rank first
+abbrev pub rank_squares : ℕ → List ℕ
+rank_squares rank =
+    8 * rank ∷ (8 * rank + 1) ∷ (8 * rank + 2) ∷ (8 * rank + 3)
+    ∷ (8 * rank + 4) ∷ (8 * rank + 5) ∷ (8 * rank + 6) ∷ (8 * rank + 7) ∷ []
+
+abbrev pub text_squares : List ℕ
+text_squares =
+    rank_squares 7 ++ (rank_squares 6 ++ (rank_squares 5 ++ (rank_squares 4
+    ++ (rank_squares 3 ++ (rank_squares 2 ++ (rank_squares 1 ++ rank_squares 0))))))
+
+-- a king is added: it takes the number 0, and the man that had it takes the next number
+abbrev pub with_king : List ℕ → ℕ → List ℕ
+with_king [] square = square ∷ []
+with_king (first ∷ rest) square = square ∷ (rest ++ first ∷ [])
+
+-- what stands on the next square of the text is added, if it is of the side; any other man takes the next number
+abbrev pub with_square : Men → Colour → List ℕ → ℕ → List ℕ
+with_square men side squares square =
+    if is_man side King (man_at men square) then with_king squares square
+    else if is_of side (man_at men square) then squares ++ square ∷ []
+    else squares
+
+unfoldable pub with_squares : Men → Colour → List ℕ → List ℕ → List ℕ
+with_squares men side squares [] = squares
+with_squares men side squares (next ∷ later) = with_squares men side (with_square men side squares next) later
+
+-- the numbers of a side from a FEN, and of both sides
+abbrev pub text_numbers_of : Men → Colour → List ℕ
+text_numbers_of men side = with_squares men side [] text_squares
+
+abbrev pub text_numbers : Men → Numbers
+text_numbers men = record { white = text_numbers_of men White; black = text_numbers_of men Black }
 
 -- a man goes from a square to another, and keeps its number
 abbrev pub went : List ℕ → ℕ → ℕ → List ℕ
