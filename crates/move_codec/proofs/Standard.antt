@@ -22,11 +22,11 @@ passes test (y ∷ ys) zero x all e = ap test (sym (same_Some y x e)) ∙ (and_t
 passes test (y ∷ ys) (suc k) x all e = passes test ys k x (and_true (test y) (list_all test ys) all).1 e
 
 -- whether each element of a list, from a place on, is found at its own place
-abbrev own_places : List ℕ → ℕ → List ℕ → Bool
+abbrev pub own_places : List ℕ → ℕ → List ℕ → Bool
 own_places xs i [] = true
 own_places xs i (y ∷ ys) = eqb (number_of xs y) i && own_places xs (suc i) ys
 
-own_place : (xs : List ℕ) (i : ℕ) (ys : List ℕ) (k x : ℕ) → own_places xs i ys ≡ true → slice_get ys k ≡ Some x → number_of xs x ≡ i + k
+pub own_place : (xs : List ℕ) (i : ℕ) (ys : List ℕ) (k x : ℕ) → own_places xs i ys ≡ true → slice_get ys k ≡ Some x → number_of xs x ≡ i + k
 own_place xs i [] k x all e = absurd (none-some x e)
 own_place xs i (y ∷ ys) zero x all e =
     let here = eqb-true (number_of xs y) i (and_true (eqb (number_of xs y) i) (own_places xs (suc i) ys) all).0 in
@@ -35,11 +35,11 @@ own_place xs i (y ∷ ys) (suc k) x all e =
     own_place xs (suc i) ys k x (and_true (eqb (number_of xs y) i) (own_places xs (suc i) ys) all).1 e ∙ omega arith
 
 -- a test of every number below n
-abbrev all_below : (ℕ → Bool) → ℕ → Bool
+abbrev pub all_below : (ℕ → Bool) → ℕ → Bool
 all_below test zero = true
 all_below test (suc n) = test n && all_below test n
 
-below : (test : ℕ → Bool) (n k : ℕ) → all_below test n ≡ true → k < n → test k ≡ true
+pub below : (test : ℕ → Bool) (n k : ℕ) → all_below test n ≡ true → k < n → test k ≡ true
 below test zero k all h = absurd (omega arith)
 below test (suc n) k all h =
     let parts = and_true (test n) (all_below test n) all in
@@ -52,7 +52,7 @@ below test (suc n) k all h =
 abbrev is_listed : Colour → Men → List ℕ → ℕ → Bool
 is_listed c men squares s = cond (holds c men s) (ltb (number_of squares s) (length squares)) true
 
-held_within : (c : Colour) (men : Men) (s : ℕ) → holds c men s ≡ true → s < length men
+pub held_within : (c : Colour) (men : Men) (s : ℕ) → holds c men s ≡ true → s < length men
 held_within c men s h = by_man (man_at men s) refl
   where
   by_man : (o : Option Man) → man_at men s ≡ o → s < length men

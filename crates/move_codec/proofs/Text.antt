@@ -2,7 +2,7 @@
 use Rattle.std.proofs.Common.{◌≡◌, ◌≢◌, ℕ, zero, suc, ◌+◌, ◌-◌, ◌*◌, ◌<◌, ◌≤◌, Bool, true, false, not, cond, eqb, ltb, ◌&&◌, List, [], ◌∷◌, ◌++◌, Option, Some, None, length, get_or, slice_get, ◌⊎◌, inl, inr, refl, sym, ◌∙◌, ap, subst, arith, length-append, zero-add}
 use Rattle.std.specs.Prelude.{count_by, sum_by}
 use Rattle.std.proofs.lemmas.List.Sums.{sum_by-cons, sum_by-append}
-use Rattle.std.proofs.lemmas.Bool.{false≢true, cases_Bool, cases_lt}
+use Rattle.std.proofs.lemmas.Bool.{false≢true, cases_Bool, cases_lt, ltb-true}
 use Rattle.std.proofs.lemmas.Option.{slice_get_within, same_Some, none-some}
 use Rattle.cell_core.specs.declared.man.Colour.{Colour}
 use Rattle.cell_core.specs.declared.man.Kind.TheVariants.{King}
@@ -11,7 +11,8 @@ use Rattle.cell_core.specs.Board.{Men, man_at}
 use Rattle.cell_core.specs.Man.{is_of, is_man, same_colour, same_kind}
 use Rattle.move_codec.proofs.Strides.{and_true}
 use Rattle.move_codec.specs.Numbers.{IsNumbering, number_of, text_squares, rank_squares, with_king, with_square, with_squares, text_numbers_of}
-use Rattle.move_codec.proofs.Lists.{found, same_or_not}
+use Rattle.move_codec.proofs.Lists.{found, found-within, same_or_not}
+use Rattle.move_codec.proofs.Standard.{all_below, below, held_within, own_place}
 use Rattle.move_codec.proofs.Numbering.{holds}
 
 -- a list with one more square: where it stands, and where the others went
@@ -241,3 +242,33 @@ pub count-text : (men : Men) (c : Colour) → length men ≡ 64 → count_by (ho
 count-text men c size =
     board_order (count_at men c) ∙ ap (λ n. sum_by (count_at men c) (upto 0 n)) (sym size)
     ∙ count_upto men (λ o. cond (is_of c o) 1 0) (count_at men c) 0 (λ i. ap (count_at men c) (zero-add i))
+
+text_distinct : Distinct text_squares
+text_distinct i j s ei ej =
+    let first = own_place text_squares 0 text_squares i s refl ei in
+    let second = own_place text_squares 0 text_squares j s refl ej in
+    omega arith
+
+-- each square of the board is in the text
+text_whole : (s : ℕ) → s < 64 → slice_get text_squares (number_of text_squares s) ≡ Some s
+text_whole s on_board =
+    found-within text_squares s (ltb-true (number_of text_squares s) 64 (below (λ k. ltb (number_of text_squares k) 64) 64 s refl on_board))
+
+Partial-none : (men : Men) (c : Colour) → Partial men c text_squares []
+Partial-none men c = record {
+    held = λ k s e. absurd (none-some s e);
+    once = λ j k s ej ek. absurd (none-some s ej);
+    fresh = λ k j s e f. none-some s e;
+    whole = λ s on_board t none. absurd (none (number_of text_squares s) (text_whole s on_board));
+  }
+
+-- the numbers from a placement text are those of a side's men, of which there are at most sixteen
+pub IsNumbering-text : (men : Men) (c : Colour) → length men ≡ 64 → count_by (is_of c) men ≤ 16 → IsNumbering men c (text_numbers_of men c)
+IsNumbering-text men c size few =
+    let all = Partial-all men c text_squares [] text_distinct (Partial-none men c) in
+    record {
+      few = omega (arith, length-with_squares men c [] text_squares, count-text men c size);
+      held = all.held;
+      once = all.once;
+      whole = λ s t. all.whole s (subst (λ n. s < n) size (held_within c men s t)) t (λ j e. none-some s e);
+    }
