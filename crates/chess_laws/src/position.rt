@@ -7,9 +7,11 @@ ghost use Rattle.chess_laws.specs.Counts.{counts_of, is_home};
 ghost use Rattle.chess_laws.specs.Position.{Sound, Breaks, setup_of};
 
 use super::attack::attacks;
-use super::census::{count_side, counts, home_set, only_king};
+use super::census::{counts, home_set, only_king};
 use super::fault::PlaceFault;
-use super::rules::{has_fit_en_passant, has_pawns_inside, standing_rights, start_board};
+use super::rules::{
+    has_few_men, has_fit_en_passant, has_pawns_inside, rests_in_check, standing_rights, start_board,
+};
 use super::setup::{Rights, Setup};
 use cell_core::{Board, Colour, Square};
 use std::marker::Model;
@@ -182,14 +184,10 @@ fn place(
     if !has_pawns_inside(board) {
         return Err(PlaceFault::Pawns);
     }
-    if count_side(board, Colour::White) > 16 || count_side(board, Colour::Black) > 16 {
+    if !has_few_men(board) {
         return Err(PlaceFault::TooMany);
     }
-    let resting_king = match side {
-        Colour::White => black_king,
-        Colour::Black => white_king,
-    };
-    if attacks(board, side, resting_king) {
+    if rests_in_check(board, side, white_king, black_king) {
         return Err(PlaceFault::InCheck);
     }
     if !has_fit_en_passant(side, &en_passant) {
