@@ -1,8 +1,8 @@
 -- The numbers from a placement text are those of the men.
-use Rattle.std.proofs.Common.{◌≡◌, ◌≢◌, ℕ, zero, suc, ◌+◌, ◌-◌, ◌*◌, ◌<◌, ◌≤◌, Bool, true, false, not, cond, eqb, ltb, ◌&&◌, List, [], ◌∷◌, ◌++◌, Option, Some, None, length, get_or, slice_get, ◌⊎◌, inl, inr, refl, sym, ◌∙◌, ap, subst, arith, length-append, zero-add}
+use Rattle.std.proofs.Common.{◌≡◌, ◌≢◌, ℕ, zero, suc, ◌+◌, ◌-◌, ◌*◌, ◌<◌, ◌≤◌, Bool, true, false, not, cond, eqb, ltb, ◌&&◌, List, [], ◌∷◌, ◌++◌, Option, Some, None, length, get_or, slice_get, ◌⊎◌, inl, inr, refl, sym, ◌∙◌, ap, subst, arith, length-append, zero-add, add-one, drop, drop-cons, ◌/◌, ◌%◌}
 use Rattle.std.specs.Prelude.{count_by, sum_by}
 use Rattle.std.proofs.lemmas.List.Sums.{sum_by-cons, sum_by-append}
-use Rattle.std.proofs.lemmas.Bool.{false≢true, cases_Bool, cases_lt, ltb-true}
+use Rattle.std.proofs.lemmas.Bool.{false≢true, cases_Bool, cases_lt, ltb-true, eqb-true}
 use Rattle.std.proofs.lemmas.Option.{slice_get_within, same_Some, none-some}
 use Rattle.cell_core.specs.declared.man.Colour.{Colour}
 use Rattle.cell_core.specs.declared.man.Kind.TheVariants.{King}
@@ -10,7 +10,8 @@ use Rattle.cell_core.specs.declared.man.Man.{Man}
 use Rattle.cell_core.specs.Board.{Men, man_at}
 use Rattle.cell_core.specs.Man.{is_of, is_man, same_colour, same_kind}
 use Rattle.move_codec.proofs.Strides.{and_true}
-use Rattle.move_codec.specs.Numbers.{IsNumbering, number_of, text_squares, rank_squares, with_king, with_square, with_squares, text_numbers_of}
+use Rattle.cell_core.specs.declared.man.Colour.TheVariants.{White, Black}
+use Rattle.move_codec.specs.Numbers.{AreNumbers, text_numbers, IsNumbering, number_of, text_squares, rank_squares, with_king, with_square, with_squares, text_numbers_of}
 use Rattle.move_codec.proofs.Lists.{found, found-within, same_or_not}
 use Rattle.move_codec.proofs.Standard.{all_below, below, held_within, own_place}
 use Rattle.move_codec.proofs.Numbering.{holds}
@@ -272,3 +273,49 @@ IsNumbering-text men c size few =
       once = all.once;
       whole = λ s t. all.whole s (subst (λ n. s < n) size (held_within c men s t)) t (λ j e. none-some s e);
     }
+
+-- How far a loop over the places of the text has come: what is left gives the same as all, and there is room for it.
+pub record InText (men : Men) (c : Colour) (place : ℕ) (squares : List ℕ) : Type 0 where
+  pub same : with_squares men c squares (drop place text_squares) ≡ text_numbers_of men c
+  pub room : length squares + count_by (holds c men) (drop place text_squares) ≤ 16
+
+pub InText-start : (men : Men) (c : Colour) → length men ≡ 64 → count_by (is_of c) men ≤ 16 → InText men c 0 []
+InText-start men c size few = record { same = refl; room = omega (arith, count-text men c size) }
+
+-- the square at a place of the text
+text_square : (place : ℕ) → place < 64 → get_or text_squares place 0 ≡ 8 * (7 - place / 8) + place % 8
+text_square place h =
+    eqb-true (get_or text_squares place 0) (8 * (7 - place / 8) + place % 8)
+    (below (λ k. eqb (get_or text_squares k 0) (8 * (7 - k / 8) + k % 8)) 64 place refl h)
+
+at_place : (xs : List ℕ) (i x : ℕ) → i < length xs → get_or xs i 0 ≡ x → drop i xs ≡ x ∷ drop (i + 1) xs
+at_place xs i x h is = drop-cons xs i 0 h ∙ rw (is, add-one) refl
+
+next_square : (place : ℕ) → place < 64 → drop place text_squares ≡ (8 * (7 - place / 8) + place % 8) ∷ drop (place + 1) text_squares
+next_square place h = at_place text_squares place (8 * (7 - place / 8) + place % 8) h (text_square place h)
+
+pub InText-room : (men : Men) (c : Colour) (place : ℕ) (squares : List ℕ) → place < 64 → InText men c place squares
+    → length squares + cond (is_of c (man_at men (8 * (7 - place / 8) + place % 8))) 1 0 ≤ 16
+InText-room men c place squares h so_far =
+    let next = next_square place h in
+    let room : length squares + count_by (holds c men) ((8 * (7 - place / 8) + place % 8) ∷ drop (place + 1) text_squares) ≤ 16 = rw next at so_far.room in
+    omega (arith, room, sum_by-cons (count_at men c) (8 * (7 - place / 8) + place % 8) (drop (place + 1) text_squares))
+
+pub InText-next : (men : Men) (c : Colour) (place : ℕ) (squares next : List ℕ) → place < 64
+    → next ≡ with_square men c squares (8 * (7 - place / 8) + place % 8) → InText men c place squares → InText men c (place + 1) next
+unfolding with_squares
+InText-next men c place squares next h is so_far =
+    let here = next_square place h in
+    record {
+      same = rw is (rw here at so_far.same);
+      room =
+        let room : length squares + count_by (holds c men) ((8 * (7 - place / 8) + place % 8) ∷ drop (place + 1) text_squares) ≤ 16 = rw here at so_far.room in
+        rw is (omega (arith, room, length-with_square men c squares (8 * (7 - place / 8) + place % 8), sum_by-cons (count_at men c) (8 * (7 - place / 8) + place % 8) (drop (place + 1) text_squares)));
+    }
+
+pub InText-end : (men : Men) (c : Colour) (squares : List ℕ) → InText men c 64 squares → squares ≡ text_numbers_of men c
+unfolding with_squares
+InText-end men c squares so_far = so_far.same
+
+pub AreNumbers-text : (men : Men) → length men ≡ 64 → ((c : Colour) → count_by (is_of c) men ≤ 16) → AreNumbers men (text_numbers men)
+AreNumbers-text men size few = record { white = IsNumbering-text men White size (few White); black = IsNumbering-text men Black size (few Black) }

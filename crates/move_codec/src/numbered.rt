@@ -1,5 +1,7 @@
 ghost use Rattle.std.specs.Prelude.{◌≡◌, ℕ, ◌+◌, ◌*◌, ◌<◌, List, ◌∷◌, ◌++◌, Ok, length};
+ghost use Rattle.chess_laws.specs.Position.{start_setup};
 ghost use Rattle.chess_laws.specs.Step.{Legal};
+ghost use Rattle.move_codec.specs.Numbers.{standard_numbers, text_numbers};
 ghost use Rattle.move_codec.specs.Packed.{Decodes, diagonal_move, encoding, named, named_value, rest_of, to_square, value_of};
 
 use super::fault::MoveFault;
@@ -30,6 +32,26 @@ impl Model for Numbered {
 }
 
 impl Numbered {
+    /// The initial position with the numbers of the standard start.
+    pub fn standard() -> Numbered
+        ensures position { result.position ≡ start_setup }
+        ensures numbers { result.numbers ≡ standard_numbers }
+    {
+        Numbered {
+            position: Position::start(),
+            numbers: Numbers::standard(),
+        }
+    }
+
+    /// A position with the numbers that its men have from a FEN.
+    pub fn from_start(position: Position) -> Numbered
+        ensures position { result.position ≡ position }
+        ensures numbers { result.numbers ≡ text_numbers position.board }
+    {
+        let numbers = Numbers::in_text(&position.setup().board);
+        Numbered { position, numbers }
+    }
+
     /// The position.
     pub fn position(&self) -> &Position
         ensures position { result.now ≡ self.now.position }

@@ -1,9 +1,11 @@
-ghost use Rattle.std.specs.Prelude.{◌≡◌, ◌<◌, ◌≤◌, ◌==◌, [], ◌∷◌, ◌++◌, length, position, slice_get, IfSome};
-ghost use Rattle.cell_core.specs.declared.man.Colour.TheVariants.{White, Black};
-ghost use Rattle.move_codec.specs.Numbers.{number_of, squares_of, standard_numbers, start_ranks, went, without};
+ghost use Rattle.std.specs.Prelude.{◌≡◌, ◌+◌, ◌<◌, ◌≤◌, ◌==◌, if◌then◌else◌, length, position, slice_get, count_by};
+ghost use Rattle.cell_core.specs.Board.{man_at};
+ghost use Rattle.cell_core.specs.Man.{is_of};
+ghost use Rattle.cell_core.specs.declared.man.Colour.{Colour};
+ghost use Rattle.move_codec.specs.Numbers.{number_of, squares_of, standard_numbers, start_ranks, text_numbers, text_numbers_of, went, with_square, without};
 
 use arrayvec::ArrayVec;
-use cell_core::{Colour, Square};
+use cell_core::{Board, Colour, Kind, Square};
 use std::marker::Model;
 
 /// The squares of one side's men, in the order of the men's numbers: at most 16. Contracts see the list of the squares.
@@ -34,6 +36,39 @@ impl NumberedMen {
     {
         NumberedMen {
             squares: ArrayVec::from_array_in((), squares),
+        }
+    }
+
+    /// The numbers of a side's men from a FEN: men are added in the order of its placement, the eighth rank first and file
+    /// a first. A king takes the number 0, and the man that had it the next number.
+    pub(crate) fn in_text(board: &Board, side: Colour) -> NumberedMen
+        requires squares { length board.now ≡ 64 }
+        requires few { count_by (is_of side) board.now ≤ 16 }
+        ensures numbers { result ≡ text_numbers_of board.now side }
+    {
+        let mut men = NumberedMen {
+            squares: ArrayVec::new(),
+        };
+        for place in 0..64u8 {
+            men.add(board, side, Square::at(8 * (7 - place / 8) + place % 8));
+        }
+        men
+    }
+
+    /// Adds what stands on a square, if it is a man of the side.
+    fn add(&mut self, board: &Board, side: Colour, square: Square)
+        requires { length self.old + (if is_of side (man_at board.now square) then 1 else 0) ≤ 16 }
+        ensures { self.new ≡ with_square board.now side self.old square }
+    {
+        match board.at(square) {
+            Some(man) if man.colour == side => {
+                self.squares.push(square);
+                if man.kind == Kind::King {
+                    let last = self.squares.len() - 1;
+                    self.squares.as_mut_slice().swap(0, last);
+                }
+            }
+            _ => {}
         }
     }
 
@@ -89,6 +124,18 @@ impl Numbers {
         Numbers {
             white: NumberedMen::from_squares(start_ranks(0, 8)),
             black: NumberedMen::from_squares(start_ranks(56, 48)),
+        }
+    }
+
+    /// The numbers from a FEN with this board.
+    pub(crate) fn in_text(board: &Board) -> Numbers
+        requires squares { length board.now ≡ 64 }
+        requires few { (side : Colour) → count_by (is_of side) board.now ≤ 16 }
+        ensures numbers { result ≡ text_numbers board.now }
+    {
+        Numbers {
+            white: NumberedMen::in_text(board, Colour::White),
+            black: NumberedMen::in_text(board, Colour::Black),
         }
     }
 
