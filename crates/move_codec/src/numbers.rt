@@ -2,10 +2,12 @@ ghost use Rattle.std.specs.Prelude.{◌≡◌, ◌+◌, ◌<◌, ◌≤◌, ◌=
 ghost use Rattle.cell_core.specs.Board.{man_at};
 ghost use Rattle.cell_core.specs.Man.{is_of};
 ghost use Rattle.cell_core.specs.declared.man.Colour.{Colour};
-ghost use Rattle.move_codec.specs.Numbers.{number_of, squares_of, standard_numbers, start_ranks, text_numbers, text_numbers_of, went, with_square, without};
+ghost use Rattle.chess_laws.specs.Castling.{rook_home, rook_target};
+ghost use Rattle.move_codec.specs.Numbers.{capture_square, movers_after, number_of, numbers_by, squares_of, standard_numbers, start_ranks, text_numbers, text_numbers_of, went, with_square, without};
 
 use arrayvec::ArrayVec;
-use cell_core::{Board, Colour, Kind, Square};
+use cell_core::{Board, Colour, Kind, Move, Square};
+use chess_laws::{Effect, Wing};
 use std::marker::Model;
 
 /// The squares of one side's men, in the order of the men's numbers: at most 16. Contracts see the list of the squares.
@@ -105,6 +107,16 @@ impl NumberedMen {
         }
     }
 
+    /// The mover's squares after a move of this effect: castling takes the rook along.
+    fn follow(&mut self, side: Colour, m: &Move, effect: Effect)
+        ensures after { self.new ≡ movers_after side m.now effect self.old }
+    {
+        self.go(m.from, m.to);
+        if let Effect::Castle(wing) = effect {
+            self.go(rook_home(side, wing), rook_target(side, wing));
+        }
+    }
+
     /// The man on this square is captured, if there is one: the last man of the list takes its number.
     pub(crate) fn remove(&mut self, captured: Square)
         ensures after { self.new ≡ without self.old captured }
@@ -136,6 +148,23 @@ impl Numbers {
         Numbers {
             white: NumberedMen::in_text(board, Colour::White),
             black: NumberedMen::in_text(board, Colour::Black),
+        }
+    }
+
+    /// The numbers after a move of this side and effect.
+    pub(crate) fn follow(&mut self, side: Colour, m: &Move, effect: Effect)
+        ensures after { self.new ≡ numbers_by side m.now effect self.old }
+    {
+        let captured = capture_square(m, effect);
+        match side {
+            Colour::White => {
+                self.white.follow(side, m, effect);
+                self.black.remove(captured);
+            }
+            Colour::Black => {
+                self.black.follow(side, m, effect);
+                self.white.remove(captured);
+            }
         }
     }
 
@@ -193,4 +222,38 @@ fn start_ranks(back: u8, pawns: u8) -> [Square; 16]
         Square::at(pawns + 6),
         Square::at(pawns + 7),
     ]
+}
+
+/// The square on which a move captures, if it captures.
+fn capture_square(m: &Move, effect: Effect) -> Square
+    ensures { result ≡ capture_square m.now effect }
+{
+    match effect {
+        Effect::Passing => Square::at(8 * (m.from.index() / 8) + m.to.index() % 8),
+        _ => m.to,
+    }
+}
+
+/// The home square of the rook with which a side castles.
+fn rook_home(side: Colour, wing: Wing) -> Square
+    ensures { result ≡ rook_home side wing }
+{
+    match (side, wing) {
+        (Colour::White, Wing::KingSide) => Square::at(7),
+        (Colour::White, Wing::QueenSide) => Square::at(0),
+        (Colour::Black, Wing::KingSide) => Square::at(63),
+        (Colour::Black, Wing::QueenSide) => Square::at(56),
+    }
+}
+
+/// Where that rook goes.
+fn rook_target(side: Colour, wing: Wing) -> Square
+    ensures { result ≡ rook_target side wing }
+{
+    match (side, wing) {
+        (Colour::White, Wing::KingSide) => Square::at(5),
+        (Colour::White, Wing::QueenSide) => Square::at(3),
+        (Colour::Black, Wing::KingSide) => Square::at(61),
+        (Colour::Black, Wing::QueenSide) => Square::at(59),
+    }
 }
