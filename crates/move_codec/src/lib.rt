@@ -1,6 +1,7 @@
 //! Packed moves: a half-move in one byte or two, by the number of the man that moves.
 #![tactic(auto)]
 
+mod effect;
 pub mod fault;
 pub mod numbers;
 pub mod numbered;
