@@ -1,8 +1,7 @@
 -- Lists by their places: after a write, cut off at the end, and where an element stands.
-use Rattle.std.proofs.Common.{◌≡◌, ◌≢◌, ◌⊎◌, ℕ, zero, suc, ◌+◌, ◌-◌, ◌<◌, ◌≤◌, Bool, true, false, not, eqb, List, [], ◌∷◌, Option, Some, None, length, slice_get, take, set, inl, inr, refl, sym, ◌∙◌, ap, subst, one-add, arith}
-use Rattle.std.proofs.lemmas.Bool.Decides.{nat_tests, eqb_tells}
-use Rattle.std.specs.List.{position_or_len}
-use Rattle.std.proofs.lemmas.Option.{slice_get_within, same_Some, none-some}
+use Rattle.std.proofs.Common.{◌≡◌, ◌≢◌, ◌⊎◌, ℕ, zero, suc, ◌<◌, false, eqb, List, [], ◌∷◌, Some, length, slice_get, take, set, inl, inr, refl, ap, one-add, arith}
+use Rattle.std.proofs.lemmas.Bool.Decides.{eqb_tells}
+use Rattle.std.proofs.lemmas.Option.{same_Some, none-some}
 use Rattle.move_codec.specs.Numbers.{number_of}
 
 pub get-set_same : (xs : List ℕ) (k x : ℕ) → k < length xs → slice_get (set xs k x) k ≡ Some x
@@ -33,8 +32,8 @@ pub found : (xs : List ℕ) (j x : ℕ) → slice_get xs j ≡ Some x → slice_
 found [] j x h = absurd (none-some x h)
 found (y ∷ ys) j x h =
     elim (eqb_tells y x) [
-      inl same ↦ rw same.0 (ap (λ (v : ℕ). Some v) same.1)
-    | inr other ↦ rw (other.0, one-add) (let later = get-tail y ys j x h other.1 in found ys later.0 x later.1)
+      | inl same ↦ rw same.0 (ap (λ (v : ℕ). Some v) same.1)
+      | inr other ↦ rw (other.0, one-add) (let later = get-tail y ys j x h other.1 in found ys later.0 x later.1)
     ]
 
 rest_within : (y : ℕ) (ys : List ℕ) (x : ℕ) → eqb y x ≡ false → number_of (y ∷ ys) x < length (y ∷ ys)
@@ -46,8 +45,8 @@ pub found-within : (xs : List ℕ) (x : ℕ) → number_of xs x < length xs → 
 found-within [] x h = absurd (omega arith)
 found-within (y ∷ ys) x h =
     elim (eqb_tells y x) [
-      inl same ↦ rw same.0 (ap (λ (v : ℕ). Some v) same.1)
-    | inr other ↦ rw (other.0, one-add) (found-within ys x (rest_within y ys x other.0 h))
+      | inl same ↦ rw same.0 (ap (λ (v : ℕ). Some v) same.1)
+      | inr other ↦ rw (other.0, one-add) (found-within ys x (rest_within y ys x other.0 h))
     ]
 
 pub same_or_not : (a b : ℕ) → (a ≡ b) ⊎ (a ≢ b)

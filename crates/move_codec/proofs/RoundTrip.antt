@@ -1,5 +1,5 @@
 -- The bytes of a legal move decode to it, whatever follows.
-use Rattle.std.proofs.Common.{◌≡◌, ℕ, suc, ◌+◌, ◌*◌, ◌/◌, ◌%◌, ◌<◌, ◌≤◌, true, List, [], ◌∷◌, ◌++◌, Option, Some, None, Ok, length, slice_get, refl, sym, ◌∙◌, ap, subst, arith}
+use Rattle.std.proofs.Common.{◌≡◌, ℕ, ◌+◌, ◌*◌, ◌/◌, ◌%◌, ◌<◌, List, ◌∷◌, ◌++◌, Option, Some, Ok, length, slice_get, refl, sym, ◌∙◌, ap, subst, arith}
 use Rattle.cell_core.specs.declared.man.Colour.{Colour}
 use Rattle.cell_core.specs.declared.man.Colour.TheVariants.{White, Black}
 use Rattle.cell_core.specs.declared.man.Man.{Man}
@@ -9,9 +9,9 @@ use Rattle.cell_core.specs.Man.{man, is_of}
 use Rattle.chess_laws.specs.Step.{Legal, effect_of}
 use Rattle.move_codec.specs.declared.numbers.Numbers.{Numbers}
 use Rattle.move_codec.specs.Numbers.{Numbered, AreNumbers, IsNumbering, number_of, squares_of}
-use Rattle.move_codec.specs.Packed.{Decodes, encoding, encoding_by, named, named_from, named_by, named_value, value_of, rest_of}
+use Rattle.move_codec.specs.Packed.{Decodes, encoding, encoding_by, named, value_of, rest_of}
 use Rattle.move_codec.proofs.Boards.{own_man}
-use Rattle.move_codec.proofs.Cases.{Mover, Spelled, mover}
+use Rattle.move_codec.proofs.Cases.{Mover, mover}
 use Rattle.std.proofs.lemmas.Option.{same_Some, slice_get_within}
 
 pub numbering_of : (men : Men) (numbers : Numbers) → AreNumbers men numbers → (c : Colour) → IsNumbering men c (squares_of c numbers)
@@ -25,7 +25,7 @@ value_part : (k v : ℕ) → v < 16 → (16 * k + v) % 16 ≡ v
 value_part k v small = omega arith
 
 module _ (n : Numbered) (m : Move) (squares : length n.position.board ≡ 64) (numbers : AreNumbers n.position.board n.numbers)
-  (moves : Mover n.position m) where
+    (moves : Mover n.position m) where
   -- the mover's number
   abbrev number : ℕ
   number = number_of (squares_of n.position.side n.numbers) m.from
@@ -52,9 +52,10 @@ module _ (n : Numbered) (m : Move) (squares : length n.position.board ≡ 64) (n
 
 pub round_trip : (n : Numbered) (m : Move) → length n.position.board ≡ 64 → AreNumbers n.position.board n.numbers
     → Legal n.position m → (rest : List ℕ) → Decodes n (encoding n m ++ rest) (Ok (m, length (encoding n m)))
-round_trip n m squares numbers legal rest =
-    ( named-encoding n m squares numbers (mover n.position m (effect_of n.position m) squares refl legal.1.allowed) rest
-    , legal )
+round_trip n m squares numbers legal rest = (
+  named-encoding n m squares numbers (mover n.position m (effect_of n.position m) squares refl legal.1.allowed) rest,
+  legal,
+)
 
 -- a value that is there is the mover's
 same_man : (n : Numbered) (m : Move) (x : Man) (moves : Mover n.position m) → man_at n.position.board m.from ≡ Some x
@@ -70,7 +71,7 @@ encode-small n now is m board x squares same at legal =
     let size : length now.position.board ≡ 64 = ap (λ (k : Numbered). length k.position.board) (sym is) ∙ ap length (sym same) ∙ squares in
     let moves = mover now.position m (effect_of now.position m) size refl legal.1.allowed in
     let there : man_at now.position.board m.from ≡ Some x =
-      ap (λ (k : Numbered). man_at k.position.board m.from) (sym is) ∙ ap (λ (men : Men). man_at men m.from) (sym same) ∙ sym at in
+    ap (λ (k : Numbered). man_at k.position.board m.from) (sym is) ∙ ap (λ (men : Men). man_at men m.from) (sym same) ∙ sym at in
     rw (same_man now m x moves there) moves.spelled.small
 
 pub encode-decodes : (n now : Numbered) → n ≡ now → (m : Move) (board : Men) → length board ≡ 64 → board ≡ n.position.board

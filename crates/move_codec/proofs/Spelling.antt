@@ -1,6 +1,6 @@
 -- A move's value names its target.
-use Rattle.std.proofs.Common.{◌≡◌, ◌≢◌, ℕ, zero, suc, ◌+◌, ◌-◌, ◌*◌, ◌/◌, ◌%◌, ◌<◌, ◌≤◌, Bool, true, false, not, cond, eqb, ltb, leb, ◌&&◌, ◌||◌, List, [], ◌∷◌, ◌++◌, Option, Some, None, Ok, Err, length, get_or, slice_get, ◌⊎◌, inl, inr, refl, sym, ◌∙◌, ap, subst, arith}
-use Rattle.std.specs.Prelude.{Any, Result}
+use Rattle.std.proofs.Common.{◌≡◌, ◌≢◌, ℕ, ◌+◌, ◌-◌, ◌*◌, ◌%◌, ◌<◌, ◌≤◌, Bool, true, false, eqb, ltb, leb, ◌&&◌, List, ◌++◌, Option, Some, None, length, get_or, slice_get, ◌⊎◌, inl, inr, refl, sym, ◌∙◌, ap, arith}
+use Rattle.std.specs.Prelude.{Any}
 use Rattle.std.proofs.lemmas.Bool.{cases_Bool, cases_lt, ltb-true, leb-true, eqb-true}
 use Rattle.std.proofs.lemmas.Bool.Decides.{nat_tests, eqb_tells}
 use Rattle.std.proofs.lemmas.Option.{slice_get-get_or}
@@ -13,12 +13,12 @@ use Rattle.cell_core.specs.declared.man.Colour.TheVariants.{White, Black}
 use Rattle.cell_core.specs.declared.man.Kind.{Kind}
 use Rattle.cell_core.specs.declared.man.Kind.TheVariants.{King, Queen, Rook, Bishop, Knight, Pawn}
 use Rattle.cell_core.specs.declared.step.Move.{Move}
-use Rattle.cell_core.specs.Board.{Men, man_at}
+use Rattle.cell_core.specs.Board.{Men}
 use Rattle.chess_laws.specs.declared.offset.Offset.{Offset}
-use Rattle.chess_laws.specs.Geometry.{by, file_of, rank_of, shift, Leaps, Runs, Walk, king_steps, knight_steps, rook_steps, bishop_steps, forward, pawn_captures}
-use Rattle.chess_laws.proofs.Shifts.{Differ, shift-Some}
+use Rattle.chess_laws.specs.Geometry.{by, file_of, rank_of, Leaps, Runs, king_steps, knight_steps, rook_steps, bishop_steps}
+use Rattle.chess_laws.proofs.Shifts.{shift-Some}
 use Rattle.move_codec.specs.Packed.{ahead, gap, pawn_square, pawn_value, promotion, promotion_value, at_difference, by_difference, difference_value, king_differences, knight_differences, on_line, on_diagonal, on_file, other_square, line_value, diagonal_value}
-use Rattle.move_codec.proofs.Strides.{any_passes, and_true, Any-each, Strides, Walk-strides}
+use Rattle.move_codec.proofs.Strides.{any_passes, and_true, Any-each, Walk-strides}
 
 -- the place of a difference in a list
 abbrev place : List ℕ → ℕ → ℕ
@@ -89,33 +89,33 @@ pub record Diagonal (m : Move) : Type 0 where
   pub on_board : m.to < 64
   pub other : m.to ≢ m.from
   pub along : (rank_of m.to + file_of m.from ≡ rank_of m.from + file_of m.to)
-    ⊎ (rank_of m.to + file_of m.to ≡ rank_of m.from + file_of m.from)
+      ⊎ (rank_of m.to + file_of m.to ≡ rank_of m.from + file_of m.from)
 
 pub line_value-within : (m : Move) → m.to < 64 → line_value m < 16
 line_value-within m target =
     elim (cases_Bool (eqb (rank_of m.to) (rank_of m.from))) [
-      inl same ↦ rw same (omega arith)
-    | inr other ↦ rw other (omega arith)
+      | inl same ↦ rw same (omega arith)
+      | inr other ↦ rw other (omega arith)
     ]
 
 pub line_names : (m : Move) → Line m → on_line m.from (line_value m) ≡ Some m.to
 line_names m line =
     elim (eqb_tells (rank_of m.to) (rank_of m.from)) [
-      inl same ↦
-        let file : ltb (file_of m.to) 8 ≡ true = grind (arith, nat_tests) in
-        rw (same.0, file, ← same.1) (other_square-names m.from m.to line.on_board line.other)
-    | inr apart ↦
-        let file : file_of m.to ≡ file_of m.from = elim line.along [ inl rank ↦ absurd (apart.1 rank) | inr file ↦ file ] in
-        let high : ltb (8 + rank_of m.to) 8 ≡ false = grind (arith, nat_tests) in
-        let less : 8 + rank_of m.to - 8 ≡ rank_of m.to = omega arith in
-        rw (apart.0, high, less, ← file) (other_square-names m.from m.to line.on_board line.other)
+      | inl same ↦
+          let file : ltb (file_of m.to) 8 ≡ true = grind (arith, nat_tests) in
+          rw (same.0, file, ← same.1) (other_square-names m.from m.to line.on_board line.other)
+      | inr apart ↦
+          let file : file_of m.to ≡ file_of m.from = elim line.along [ inl rank ↦ absurd (apart.1 rank) | inr file ↦ file ] in
+          let high : ltb (8 + rank_of m.to) 8 ≡ false = grind (arith, nat_tests) in
+          let less : 8 + rank_of m.to - 8 ≡ rank_of m.to = omega arith in
+          rw (apart.0, high, less, ← file) (other_square-names m.from m.to line.on_board line.other)
     ]
 
 pub diagonal_value-within : (m : Move) → diagonal_value m < 16
 diagonal_value-within m =
     elim (cases_Bool (eqb (rank_of m.to + file_of m.from) (rank_of m.from + file_of m.to))) [
-      inl same ↦ rw same (omega arith)
-    | inr other ↦ rw other (omega arith)
+      | inl same ↦ rw same (omega arith)
+      | inr other ↦ rw other (omega arith)
     ]
 
 on_file-names : (from to file sum less : ℕ) → to < 64 → to ≢ from → file ≡ file_of to → rank_of to + less ≡ sum
@@ -128,54 +128,68 @@ on_file-names from to file sum less target other same rank =
 pub diagonal_names : (m : Move) → Diagonal m → on_diagonal m.from (diagonal_value m) ≡ Some m.to
 diagonal_names m diagonal =
     elim (eqb_tells (rank_of m.to + file_of m.from) (rank_of m.from + file_of m.to)) [
-      inl rising ↦
-        let file : ltb (file_of m.to) 8 ≡ true = grind (arith, nat_tests) in
-        rw (rising.0, file) (on_file-names m.from m.to (file_of m.to) (rank_of m.from + file_of m.to) (file_of m.from) diagonal.on_board diagonal.other refl rising.1)
-    | inr falling ↦
-        let along : rank_of m.to + file_of m.to ≡ rank_of m.from + file_of m.from =
+      | inl rising ↦
+          let file : ltb (file_of m.to) 8 ≡ true = grind (arith, nat_tests) in
+          rw (rising.0, file) (on_file-names m.from m.to (file_of m.to) (rank_of m.from + file_of m.to) (file_of m.from) diagonal.on_board diagonal.other refl rising.1)
+      | inr falling ↦
+          let along : rank_of m.to + file_of m.to ≡ rank_of m.from + file_of m.from =
           elim diagonal.along [ inl rises ↦ absurd (falling.1 rises) | inr falls ↦ falls ] in
-        let high : ltb (8 + file_of m.to) 8 ≡ false = grind (arith, nat_tests) in
-        let less : 8 + file_of m.to - 8 ≡ file_of m.to = omega arith in
-        rw (falling.0, high, less) (on_file-names m.from m.to (file_of m.to) (rank_of m.from + file_of m.from) (file_of m.to) diagonal.on_board diagonal.other refl along)
+          let high : ltb (8 + file_of m.to) 8 ≡ false = grind (arith, nat_tests) in
+          let less : 8 + file_of m.to - 8 ≡ file_of m.to = omega arith in
+          rw (falling.0, high, less) (on_file-names m.from m.to (file_of m.to) (rank_of m.from + file_of m.from) (file_of m.to) diagonal.on_board diagonal.other refl along)
     ]
 
 -- what equal steps over empty squares reach
 pub rook_line : (men : Men) (m : Move) → Any (Runs men m.from m.to) rook_steps → Line m
 rook_line men m any =
-    Any-each (Runs men m.from m.to) (Line m) rook_steps any
-    ( λ runs. let far = Walk-strides men (by 1 0 0 0) runs.0 m.from m.to runs.1 in
-      record { on_board = far.on_board; other = λ same. absurd (omega (arith, far.files)); along = inl (omega (arith, far.ranks)) }
-    , ( λ runs. let far = Walk-strides men (by 0 1 0 0) runs.0 m.from m.to runs.1 in
-      record { on_board = far.on_board; other = λ same. absurd (omega (arith, far.files)); along = inl (omega (arith, far.ranks)) }
-    , ( λ runs. let far = Walk-strides men (by 0 0 1 0) runs.0 m.from m.to runs.1 in
-      record { on_board = far.on_board; other = λ same. absurd (omega (arith, far.ranks)); along = inr (omega (arith, far.files)) }
-    , ( λ runs. let far = Walk-strides men (by 0 0 0 1) runs.0 m.from m.to runs.1 in
-      record { on_board = far.on_board; other = λ same. absurd (omega (arith, far.ranks)); along = inr (omega (arith, far.files)) }
-    , tt ))))
+    Any-each (Runs men m.from m.to) (Line m) rook_steps any (
+      λ runs. let far = Walk-strides men (by 1 0 0 0) runs.0 m.from m.to runs.1 in
+          record { on_board = far.on_board; other = λ same. absurd (omega (arith, far.files)); along = inl (omega (arith, far.ranks)) },
+      (
+        λ runs. let far = Walk-strides men (by 0 1 0 0) runs.0 m.from m.to runs.1 in
+            record { on_board = far.on_board; other = λ same. absurd (omega (arith, far.files)); along = inl (omega (arith, far.ranks)) },
+        (
+          λ runs. let far = Walk-strides men (by 0 0 1 0) runs.0 m.from m.to runs.1 in
+              record { on_board = far.on_board; other = λ same. absurd (omega (arith, far.ranks)); along = inr (omega (arith, far.files)) },
+          (
+            λ runs. let far = Walk-strides men (by 0 0 0 1) runs.0 m.from m.to runs.1 in
+                record { on_board = far.on_board; other = λ same. absurd (omega (arith, far.ranks)); along = inr (omega (arith, far.files)) },
+            tt,
+          ),
+        ),
+      ),
+    )
 
 pub bishop_diagonal : (men : Men) (m : Move) → Any (Runs men m.from m.to) bishop_steps → Diagonal m
 bishop_diagonal men m any =
-    Any-each (Runs men m.from m.to) (Diagonal m) bishop_steps any
-    ( λ runs. let far = Walk-strides men (by 1 0 1 0) runs.0 m.from m.to runs.1 in
-      record { on_board = far.on_board; other = λ same. absurd (omega (arith, far.files)); along = inl (omega (arith, far.files, far.ranks)) }
-    , ( λ runs. let far = Walk-strides men (by 0 1 1 0) runs.0 m.from m.to runs.1 in
-      record { on_board = far.on_board; other = λ same. absurd (omega (arith, far.files)); along = inr (omega (arith, far.files, far.ranks)) }
-    , ( λ runs. let far = Walk-strides men (by 1 0 0 1) runs.0 m.from m.to runs.1 in
-      record { on_board = far.on_board; other = λ same. absurd (omega (arith, far.files)); along = inr (omega (arith, far.files, far.ranks)) }
-    , ( λ runs. let far = Walk-strides men (by 0 1 0 1) runs.0 m.from m.to runs.1 in
-      record { on_board = far.on_board; other = λ same. absurd (omega (arith, far.files)); along = inl (omega (arith, far.files, far.ranks)) }
-    , tt ))))
+    Any-each (Runs men m.from m.to) (Diagonal m) bishop_steps any (
+      λ runs. let far = Walk-strides men (by 1 0 1 0) runs.0 m.from m.to runs.1 in
+          record { on_board = far.on_board; other = λ same. absurd (omega (arith, far.files)); along = inl (omega (arith, far.files, far.ranks)) },
+      (
+        λ runs. let far = Walk-strides men (by 0 1 1 0) runs.0 m.from m.to runs.1 in
+            record { on_board = far.on_board; other = λ same. absurd (omega (arith, far.files)); along = inr (omega (arith, far.files, far.ranks)) },
+        (
+          λ runs. let far = Walk-strides men (by 1 0 0 1) runs.0 m.from m.to runs.1 in
+              record { on_board = far.on_board; other = λ same. absurd (omega (arith, far.files)); along = inr (omega (arith, far.files, far.ranks)) },
+          (
+            λ runs. let far = Walk-strides men (by 0 1 0 1) runs.0 m.from m.to runs.1 in
+                record { on_board = far.on_board; other = λ same. absurd (omega (arith, far.files)); along = inl (omega (arith, far.files, far.ranks)) },
+            tt,
+          ),
+        ),
+      ),
+    )
 
 -- a queen goes along a line or a diagonal
 pub queen_ray : (men : Men) (m : Move) → Any (Runs men m.from m.to) (rook_steps ++ bishop_steps) → Line m ⊎ Diagonal m
 queen_ray men m any = parts any.0 any.1 any.2 any.3 any.4
   where
-  parts : (k : ℕ) (x : Offset) → k < 8 → get_or (rook_steps ++ bishop_steps) k x ≡ x → Runs men m.from m.to x → Line m ⊎ Diagonal m
-  parts k x h is runs =
-      elim (cases_lt k 4) [
-        inl line ↦ inl (rook_line men m (k, x, line, sym (get_or_append_left rook_steps bishop_steps x k line) ∙ is, runs))
-      | inr diagonal ↦ inr (bishop_diagonal men m (k - 4, x, omega arith, sym (get_or-append_right rook_steps bishop_steps 4 k x refl diagonal) ∙ is, runs))
-      ]
+    parts : (k : ℕ) (x : Offset) → k < 8 → get_or (rook_steps ++ bishop_steps) k x ≡ x → Runs men m.from m.to x → Line m ⊎ Diagonal m
+    parts k x h is runs =
+        elim (cases_lt k 4) [
+          | inl line ↦ inl (rook_line men m (k, x, line, sym (get_or_append_left rook_steps bishop_steps x k line) ∙ is, runs))
+          | inr diagonal ↦ inr (bishop_diagonal men m (k - 4, x, omega arith, sym (get_or-append_right rook_steps bishop_steps 4 k x refl diagonal) ∙ is, runs))
+        ]
 
 -- Pawns
 
@@ -275,4 +289,3 @@ module _ (side : Colour) (m : Move) (origin : m.from < 64) (target : m.to < 64) 
       pawn_at side m 9 14 is origin target refl (rw same refl) refl refl (sym same) (omega arith)
   pawn_9 (Some King) same good is = absurd good
   pawn_9 (Some Pawn) same good is = absurd good
-

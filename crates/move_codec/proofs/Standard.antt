@@ -1,5 +1,5 @@
 -- The numbers at the standard start are those of its men.
-use Rattle.std.proofs.Common.{◌≡◌, ◌≢◌, ℕ, zero, suc, ◌+◌, ◌<◌, ◌≤◌, Bool, true, false, not, cond, eqb, ltb, ◌&&◌, List, [], ◌∷◌, Option, Some, None, length, slice_get, inl, inr, refl, sym, ◌∙◌, ap, subst, arith}
+use Rattle.std.proofs.Common.{◌≡◌, ℕ, zero, suc, ◌+◌, ◌<◌, ◌≤◌, Bool, true, cond, eqb, ltb, ◌&&◌, List, [], ◌∷◌, Option, Some, None, length, slice_get, inl, inr, refl, sym, ◌∙◌, ap, arith}
 use Rattle.std.specs.List.{list_all}
 use Rattle.std.proofs.lemmas.Bool.{eqb-true, ltb-true, false≢true, cases_lt}
 use Rattle.std.proofs.lemmas.Option.{same_Some, none-some}
@@ -44,8 +44,8 @@ below test zero k all h = absurd (omega arith)
 below test (suc n) k all h =
     let parts = and_true (test n) (all_below test n) all in
     elim (cases_lt k n) [
-      inl before ↦ below test n k parts.1 before
-    | inr last ↦ let same : k ≡ n = omega arith in rw same parts.0
+      | inl before ↦ below test n k parts.1 before
+      | inr last ↦ let same : k ≡ n = omega arith in rw same parts.0
     ]
 
 -- whether a man of the side on a square is in the list
@@ -55,28 +55,28 @@ is_listed c men squares s = cond (holds c men s) (ltb (number_of squares s) (len
 pub held_within : (c : Colour) (men : Men) (s : ℕ) → holds c men s ≡ true → s < length men
 held_within c men s h = by_man (man_at men s) refl
   where
-  by_man : (o : Option Man) → man_at men s ≡ o → s < length men
-  by_man None is = absurd (false≢true (sym (ap (is_of c) is) ∙ h))
-  by_man (Some x) is = stands_within men s x is
+    by_man : (o : Option Man) → man_at men s ≡ o → s < length men
+    by_man None is = absurd (false≢true (sym (ap (is_of c) is) ∙ h))
+    by_man (Some x) is = stands_within men s x is
 
 IsNumbering-by_tests : (men : Men) (c : Colour) (squares : List ℕ) → length squares ≤ 16 → length men ≡ 64
     → list_all (holds c men) squares ≡ true → own_places squares 0 squares ≡ true → all_below (is_listed c men squares) 64 ≡ true
     → IsNumbering men c squares
 IsNumbering-by_tests men c squares few size held own listed = record {
-    few = few;
-    held = λ k s e. passes (holds c men) squares k s held e;
-    once = λ j k s ej ek.
+  few = few;
+  held = λ k s e. passes (holds c men) squares k s held e;
+  once = λ j k s ej ek.
       let first = own_place squares 0 squares j s own ej in
       let second = own_place squares 0 squares k s own ek in
       omega arith;
-    whole = λ s t.
+  whole = λ s t.
       let on_board : s < 64 = rw size at (held_within c men s t) in
       let test : cond (holds c men s) (ltb (number_of squares s) (length squares)) true ≡ true = below (is_listed c men squares) 64 s listed on_board in
       found-within squares s (ltb-true (number_of squares s) (length squares) (rw t at test));
-  }
+}
 
 pub AreNumbers-standard : AreNumbers start_men standard_numbers
 AreNumbers-standard = record {
-    white = IsNumbering-by_tests start_men White (start_ranks 0 8) (omega arith) refl refl refl refl;
-    black = IsNumbering-by_tests start_men Black (start_ranks 56 48) (omega arith) refl refl refl refl;
-  }
+  white = IsNumbering-by_tests start_men White (start_ranks 0 8) (omega arith) refl refl refl refl;
+  black = IsNumbering-by_tests start_men Black (start_ranks 56 48) (omega arith) refl refl refl refl;
+}

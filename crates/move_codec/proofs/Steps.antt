@@ -1,6 +1,6 @@
 -- The numbered squares after a legal move are those of the men after it.
-use Rattle.std.proofs.Common.{◌≡◌, ◌≢◌, ℕ, ◌+◌, ◌<◌, ◌≤◌, Bool, true, false, List, [], ◌∷◌, Option, Some, None, IsTrue, length, get_or, slice_get, set, ◌⊎◌, inl, inr, refl, sym, ◌∙◌, ap, subst, arith, length-set}
-use Rattle.std.specs.Prelude.{Any, All}
+use Rattle.std.proofs.Common.{◌≡◌, ◌≢◌, ℕ, ◌<◌, true, false, List, Option, Some, None, length, slice_get, set, inl, inr, refl, sym, ◌∙◌, ap, subst, arith, length-set}
+use Rattle.std.specs.Prelude.{All}
 use Rattle.std.proofs.lemmas.Bool.{false≢true}
 use Rattle.cell_core.specs.declared.man.Colour.{Colour}
 use Rattle.cell_core.specs.declared.man.Colour.TheVariants.{White, Black}
@@ -15,18 +15,18 @@ use Rattle.chess_laws.specs.declared.setup.Wing.{Wing}
 use Rattle.chess_laws.specs.declared.setup.Wing.TheVariants.{KingSide, QueenSide}
 use Rattle.chess_laws.specs.declared.effect.Effect.{Effect}
 use Rattle.chess_laws.specs.declared.effect.Effect.TheVariants.{Plain, Double, Passing, Castle, Null}
-use Rattle.chess_laws.specs.Geometry.{forward, pawn_captures, king_steps, knight_steps, Leaps}
-use Rattle.chess_laws.specs.Castling.{king_home, king_target, rook_home, rook_target, between, StandAtHome}
+use Rattle.chess_laws.specs.Geometry.{forward, king_steps, knight_steps}
+use Rattle.chess_laws.specs.Castling.{king_home, king_target, rook_home, rook_target, between}
 use Rattle.chess_laws.specs.Position.{Sound}
-use Rattle.chess_laws.specs.Step.{Case, PlainCase, DoubleCase, PassingCase, CastleCase, NullCase, GoesPlainly, HasNoOwn, arriving, moved, board_after, effect_of, passed_square, Step}
+use Rattle.chess_laws.specs.Step.{Case, NullCase, GoesPlainly, arriving, moved, board_after, effect_of, passed_square, Step}
 use Rattle.move_codec.specs.declared.numbers.Numbers.{Numbers}
-use Rattle.move_codec.specs.Numbers.{AreNumbers, IsNumbering, number_of, squares_of, went, without, movers_after, capture_square, numbers_by, numbers_after}
+use Rattle.move_codec.specs.Numbers.{AreNumbers, IsNumbering, number_of, went, without, movers_after, capture_square, numbers_by, numbers_after}
 use Rattle.move_codec.proofs.Numbering.{Goes, Loses, holds, IsNumbering-went, IsNumbering-without}
-use Rattle.move_codec.proofs.Boards.{own_man, enemy_man, own_of_enemy, no_own, stands_within, holds-put_same, holds-put_other, Goes-moved, Loses-moved, Same, Same-lost, Loses-same, Same-then, Goes-cleared, Loses-cleared}
+use Rattle.move_codec.proofs.Boards.{own_man, enemy_man, own_of_enemy, no_own, stands_within, Goes-moved, Loses-moved, Same, Same-lost, Loses-same, Same-then, Goes-cleared, Loses-cleared}
 use Rattle.chess_laws.proofs.Shifts.{shift-Some}
 use Rattle.std.proofs.lemmas.Option.{none-some, get_or_from_slice_get}
 use Rattle.std.proofs.lemmas.List.{set-get_or}
-use Rattle.move_codec.proofs.Spelling.{Line, Diagonal, rook_line, bishop_diagonal, queen_ray}
+use Rattle.move_codec.proofs.Spelling.{rook_line, bishop_diagonal, queen_ray}
 use Rattle.move_codec.proofs.Cases.{leaps_on_board, castle_squares, captures_on_board, pawn_double}
 
 -- what a move of a man from one square to another, free of its side, has of facts
@@ -66,15 +66,15 @@ module _ (p : Setup) (m : Move) (h : Moved p m) where
 -- both sides' squares after a move
 record Both (p : Setup) (m : Move) (e : Effect) : Type 0 where
   pub movers : (squares : List ℕ) → IsNumbering p.board p.side squares
-    → IsNumbering (board_after p m e) p.side (movers_after p.side m e squares)
+      → IsNumbering (board_after p m e) p.side (movers_after p.side m e squares)
   pub others : (squares : List ℕ) → IsNumbering p.board (other p.side) squares
-    → IsNumbering (board_after p m e) (other p.side) (without squares (capture_square m e))
+      → IsNumbering (board_after p m e) (other p.side) (without squares (capture_square m e))
 
 both_moved : (p : Setup) (m : Move) → Moved p m → Both p m Plain
 both_moved p m h = record {
-    movers = λ squares. IsNumbering-went p.side p.board (moved p m) squares m.from m.to (goes p m h);
-    others = λ squares. IsNumbering-without (other p.side) p.board (moved p m) squares m.to (loses p m h);
-  }
+  movers = λ squares. IsNumbering-went p.side p.board (moved p m) squares m.from m.to (goes p m h);
+  others = λ squares. IsNumbering-without (other p.side) p.board (moved p m) squares m.to (loses p m h);
+}
 
 -- a plain move's target is on the board and free of the side
 plain_target_within : (p : Setup) (kind : Kind) (m : Move) → GoesPlainly p kind m → m.to < 64
@@ -85,8 +85,8 @@ plain_target_within p Bishop m goes = (bishop_diagonal p.board m goes.0).on_boar
 plain_target_within p Knight m goes = leaps_on_board m.from m.to knight_steps refl goes.0
 plain_target_within p Pawn m goes =
     elim goes [
-      inl ahead ↦ (shift-Some (forward p.side) m.from m.to ahead.0).on_board
-    | inr captures ↦ captures_on_board p.side m.from m.to captures.0
+      | inl ahead ↦ (shift-Some (forward p.side) m.from m.to ahead.0).on_board
+      | inr captures ↦ captures_on_board p.side m.from m.to captures.0
     ]
 
 plain_free : (p : Setup) (kind : Kind) (m : Move) → GoesPlainly p kind m → holds p.side p.board m.to ≡ false
@@ -97,13 +97,13 @@ plain_free p Bishop m goes = no_own (man_at p.board m.to) p.side goes.1
 plain_free p Knight m goes = no_own (man_at p.board m.to) p.side goes.1
 plain_free p Pawn m goes =
     elim goes [
-      inl ahead ↦ ap (is_of p.side) ahead.1
-    | inr captures ↦ ap (is_of p.side) captures.1.1 ∙ own_of_enemy p.side captures.1.0
+      | inl ahead ↦ ap (is_of p.side) ahead.1
+      | inr captures ↦ ap (is_of p.side) captures.1.1 ∙ own_of_enemy p.side captures.1.0
     ]
 
 -- en passant: the passed pawn's square is emptied too
 module _ (p : Setup) (m : Move) (h : Moved p m) (empty : man_at p.board m.to ≡ None)
-  (passed : man_at p.board (passed_square m) ≡ Some (man (other p.side) Pawn)) where
+    (passed : man_at p.board (passed_square m) ≡ Some (man (other p.side) Pawn)) where
   passed_within : passed_square m < length (moved p m)
   passed_within =
       rw (length-set (put p.board m.from None) m.to (arriving p m m.promo), length-set {A = Option Man} p.board m.from None)
@@ -114,13 +114,13 @@ module _ (p : Setup) (m : Move) (h : Moved p m) (empty : man_at p.board m.to ≡
 
   both_passing : Both p m Passing
   both_passing = record {
-      movers = λ squares. IsNumbering-went p.side p.board (put (moved p m) (passed_square m) None) squares m.from m.to
+    movers = λ squares. IsNumbering-went p.side p.board (put (moved p m) (passed_square m) None) squares m.from m.to
         (Goes-cleared p.side p.board (moved p m) m.from m.to (passed_square m) (goes p m h) passed_within passed_not_to
         (ap (is_of p.side) passed ∙ own_of_enemy p.side Pawn));
-      others = λ squares. IsNumbering-without (other p.side) p.board (put (moved p m) (passed_square m) None) squares (passed_square m)
+    others = λ squares. IsNumbering-without (other p.side) p.board (put (moved p m) (passed_square m) None) squares (passed_square m)
         (Loses-cleared (other p.side) p.board (moved p m) (passed_square m)
         (Same-lost (other p.side) p.board (moved p m) m.to (loses p m h) (ap (is_of (other p.side)) empty)) passed_within);
-    }
+  }
 
 -- castling: the squares are apart and on the board, and what is between is empty
 record CastleSquares (c : Colour) (w : Wing) : Type 0 where
@@ -147,8 +147,8 @@ castle_empty men Black KingSide all = (all 1 0 (omega arith), all 0 0 (omega ari
 castle_empty men Black QueenSide all = (all 1 0 (omega arith), all 2 0 (omega arith))
 
 module _ (p : Setup) (m : Move) (wing : Wing) (h : Moved p m) (squares : length p.board ≡ 64) (from : m.from ≡ king_home p.side)
-  (to : m.to ≡ king_target p.side wing) (empty : man_at p.board m.to ≡ None) (goal : man_at p.board (rook_target p.side wing) ≡ None)
-  (rook : man_at p.board (rook_home p.side wing) ≡ Some (man p.side Rook)) where
+    (to : m.to ≡ king_target p.side wing) (empty : man_at p.board m.to ≡ None) (goal : man_at p.board (rook_target p.side wing) ≡ None)
+    (rook : man_at p.board (rook_home p.side wing) ≡ Some (man p.side Rook)) where
   ends : CastleSquares p.side wing
   ends = castle_apart p.side wing
 
@@ -200,11 +200,11 @@ module _ (p : Setup) (m : Move) (wing : Wing) (h : Moved p m) (squares : length 
   both_castle : Both p m (Castle wing)
   unfolding castled
   both_castle = record {
-      movers = λ men numbers. IsNumbering-went p.side (moved p m) castled (went men m.from m.to) (rook_home p.side wing) (rook_target p.side wing) rook_goes
+    movers = λ men numbers. IsNumbering-went p.side (moved p m) castled (went men m.from m.to) (rook_home p.side wing) (rook_target p.side wing) rook_goes
         (IsNumbering-went p.side p.board (moved p m) men m.from m.to (goes p m h) numbers);
-      others = λ men. IsNumbering-without (other p.side) p.board castled men m.to
+    others = λ men. IsNumbering-without (other p.side) p.board castled men m.to
         (Loses-same (other p.side) p.board castled m.to others_same (ap (is_of (other p.side)) empty));
-    }
+  }
 
 -- a null move: the king keeps his square
 went_nowhere : (squares : List ℕ) (s : ℕ) → slice_get squares (number_of squares s) ≡ Some s → went squares s s ≡ squares
@@ -214,13 +214,13 @@ went_nowhere squares s here =
 
 both_null : (p : Setup) (m : Move) → NullCase p m → Both p m Null
 both_null p m c = record {
-    movers = λ squares h.
+  movers = λ squares h.
       let here : slice_get squares (number_of squares m.from) ≡ Some m.from = h.whole m.from (ap (is_of p.side) c.stands ∙ own_man p.side King) in
       rw (c.stays, went_nowhere squares m.from here) h;
-    others = λ squares. IsNumbering-without (other p.side) p.board p.board squares m.to
+  others = λ squares. IsNumbering-without (other p.side) p.board p.board squares m.to
       (Loses-same (other p.side) p.board p.board m.to (record { all = λ s. refl })
       (ap (holds (other p.side) p.board) c.stays ∙ ap (is_of (other p.side)) c.stands ∙ enemy_man p.side King));
-  }
+}
 
 -- every effect of a legal move
 both : (p : Setup) (m : Move) (e : Effect) → Sound p → effect_of p m ≡ e → Case p m e → Both p m e
@@ -235,13 +235,13 @@ both p m Plain sound is c =
     })
 both p m Double sound is c =
     let same = both_moved p m
-      (record {
-        kind = Pawn;
-        stands = c.stands;
-        origin = stands_within p.board m.from (man p.side Pawn) c.stands;
-        target = rw sound.squares (pawn_double p.side p.board m.from m.to c.walks).1;
-        free = ap (is_of p.side) c.target;
-      }) in
+    (record {
+      kind = Pawn;
+      stands = c.stands;
+      origin = stands_within p.board m.from (man p.side Pawn) c.stands;
+      target = rw sound.squares (pawn_double p.side p.board m.from m.to c.walks).1;
+      free = ap (is_of p.side) c.target;
+    }) in
     record { movers = same.movers; others = same.others }
 both p m Passing sound is c =
     both_passing p m
@@ -273,17 +273,17 @@ both p m Null sound is c = both_null p m c
 numbers_both : (p : Setup) (m : Move) (e : Effect) (side : Colour) → p.side ≡ side → Both p m e → (numbers : Numbers)
     → AreNumbers p.board numbers → AreNumbers (board_after p m e) (numbers_by side m e numbers)
 numbers_both p m e White is h numbers before = record {
-    white = subst (λ c. IsNumbering (board_after p m e) c (movers_after c m e numbers.white)) is
+  white = subst (λ c. IsNumbering (board_after p m e) c (movers_after c m e numbers.white)) is
       (h.movers numbers.white (subst (λ c. IsNumbering p.board c numbers.white) (sym is) before.white));
-    black = subst (λ c. IsNumbering (board_after p m e) (other c) (without numbers.black (capture_square m e))) is
+  black = subst (λ c. IsNumbering (board_after p m e) (other c) (without numbers.black (capture_square m e))) is
       (h.others numbers.black (subst (λ c. IsNumbering p.board (other c) numbers.black) (sym is) before.black));
-  }
+}
 numbers_both p m e Black is h numbers before = record {
-    black = subst (λ c. IsNumbering (board_after p m e) c (movers_after c m e numbers.black)) is
+  black = subst (λ c. IsNumbering (board_after p m e) c (movers_after c m e numbers.black)) is
       (h.movers numbers.black (subst (λ c. IsNumbering p.board c numbers.black) (sym is) before.black));
-    white = subst (λ c. IsNumbering (board_after p m e) (other c) (without numbers.white (capture_square m e))) is
+  white = subst (λ c. IsNumbering (board_after p m e) (other c) (without numbers.white (capture_square m e))) is
       (h.others numbers.white (subst (λ c. IsNumbering p.board (other c) numbers.white) (sym is) before.white));
-  }
+}
 
 -- a legal move keeps the numbers those of the men
 pub AreNumbers-step : (p : Setup) (m : Move) (q : Setup) (numbers : Numbers) → Sound p → Step p m q → AreNumbers p.board numbers

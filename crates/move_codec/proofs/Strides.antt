@@ -1,11 +1,11 @@
 -- Where steps lead, as equations of files and ranks.
-use Rattle.std.proofs.Common.{◌≡◌, ◌≢◌, ℕ, zero, suc, ◌+◌, ◌*◌, ◌/◌, ◌%◌, ◌<◌, ◌≤◌, List, [], ◌∷◌, Option, Some, None, length, get_or, refl, sym, ◌∙◌, ap, subst, arith}
+use Rattle.std.proofs.Common.{◌≡◌, ℕ, zero, suc, ◌+◌, ◌*◌, ◌<◌, List, [], ◌∷◌, length, get_or, refl, sym, subst, arith}
 use Rattle.std.specs.Prelude.{Any, Bool, true, false, ◌&&◌}
 use Rattle.std.specs.List.{list_all}
-use Rattle.cell_core.specs.Board.{Men, man_at}
+use Rattle.cell_core.specs.Board.{Men}
 use Rattle.chess_laws.specs.declared.offset.Offset.{Offset}
-use Rattle.chess_laws.specs.Geometry.{file_of, rank_of, shift, Leaps, Runs, Walk}
-use Rattle.chess_laws.proofs.Shifts.{Differ, shift-Some}
+use Rattle.chess_laws.specs.Geometry.{file_of, rank_of, Walk}
+use Rattle.chess_laws.proofs.Shifts.{shift-Some}
 
 pub and_true : (a b : Bool) → (a && b) ≡ true → (a ≡ true) × (b ≡ true)
 and_true true b h = (refl, h)
@@ -46,8 +46,8 @@ pub any_passes : (P : Offset → Type 0) (test : Offset → Bool) (os : List Off
     → (o : Offset) × ((test o ≡ true) × P o)
 any_passes P test os all any = passes os any.0 any.1 any.2 any.3 any.4 all
   where
-  passes : (os : List Offset) (k : ℕ) (x : Offset) → k < length os → get_or os k x ≡ x → P x → list_all test os ≡ true
-      → (o : Offset) × ((test o ≡ true) × P o)
-  passes [] k x h is p all = absurd (omega arith)
-  passes (o ∷ os) zero x h is p all = (o, ((and_true (test o) (list_all test os) all).0, subst P (sym is) p))
-  passes (o ∷ os) (suc k) x h is p all = passes os k x (omega arith) is p (and_true (test o) (list_all test os) all).1
+    passes : (os : List Offset) (k : ℕ) (x : Offset) → k < length os → get_or os k x ≡ x → P x → list_all test os ≡ true
+        → (o : Offset) × ((test o ≡ true) × P o)
+    passes [] k x h is p all = absurd (omega arith)
+    passes (o ∷ os) zero x h is p all = (o, ((and_true (test o) (list_all test os) all).0, subst P (sym is) p))
+    passes (o ∷ os) (suc k) x h is p all = passes os k x (omega arith) is p (and_true (test o) (list_all test os) all).1

@@ -1,5 +1,5 @@
 -- Men's numbers (this project's own): a man's number is its place in the list of its side's squares.
-use Rattle.std.specs.Prelude.{◌≡◌, ℕ, ◌+◌, ◌*◌, ◌≤◌, ◌==◌, nat_lt, if◌then◌else◌, Bool, IsTrue, List, [], ◌∷◌, ◌++◌, Option, Some, length, slice_get, slice_set}
+use Rattle.std.specs.Prelude.{◌≡◌, ℕ, ◌+◌, ◌*◌, ◌≤◌, ◌==◌, nat_lt, if◌then◌else◌, IsTrue, List, [], ◌∷◌, ◌++◌, Some, length, slice_get, slice_set}
 use Rattle.std.specs.List.{position_or_len, swap_remove}
 use Rattle.cell_core.specs.declared.man.Colour.{Colour}
 use Rattle.cell_core.specs.declared.man.Colour.TheVariants.{White, Black}
@@ -121,9 +121,9 @@ pub record IsNumbering (men : Men) (colour : Colour) (squares : List ℕ) : Type
   pub few : length squares ≤ 16
   pub held : (number square : ℕ) → slice_get squares number ≡ Some square → IsTrue (is_of colour (man_at men square))
   pub once : (first second square : ℕ) → slice_get squares first ≡ Some square → slice_get squares second ≡ Some square
-    → first ≡ second
+      → first ≡ second
   pub whole : (square : ℕ) → IsTrue (is_of colour (man_at men square))
-    → slice_get squares (number_of squares square) ≡ Some square
+      → slice_get squares (number_of squares square) ≡ Some square
 
 -- both lists have exactly the squares of their side's men
 pub record AreNumbers (men : Men) (numbers : Numbers) : Type 0 where

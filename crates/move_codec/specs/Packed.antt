@@ -8,7 +8,7 @@ use Rattle.cell_core.specs.declared.man.Kind.{Kind}
 use Rattle.cell_core.specs.declared.man.Kind.TheVariants.{King, Queen, Rook, Bishop, Knight, Pawn}
 use Rattle.cell_core.specs.declared.man.Man.{Man}
 use Rattle.cell_core.specs.declared.step.Move.{Move}
-use Rattle.cell_core.specs.Board.{Men, man_at}
+use Rattle.cell_core.specs.Board.{man_at}
 use Rattle.chess_laws.specs.Geometry.{file_of, rank_of, square}
 use Rattle.chess_laws.specs.Step.{Legal}
 use Rattle.move_codec.specs.Numbers.{Numbered, squares_of, number_of}

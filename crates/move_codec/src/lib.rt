@@ -3,8 +3,8 @@
 
 mod effect;
 pub mod fault;
-pub mod numbers;
 pub mod numbered;
+pub mod numbers;
 mod targets;
 mod values;
 

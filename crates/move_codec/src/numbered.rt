@@ -6,7 +6,9 @@ ghost use Rattle.move_codec.specs.Packed.{Decodes, diagonal_move, encoding, name
 
 use super::fault::MoveFault;
 use super::numbers::Numbers;
-use super::targets::{diagonal_square, king_square, knight_square, on_diagonal, on_line, pawn_square, promotion};
+use super::targets::{
+    diagonal_square, king_square, knight_square, on_diagonal, on_line, pawn_square, promotion,
+};
 use super::values::{is_line, value_of};
 use arrayvec::ArrayVec;
 use cell_core::{Colour, Kind, Move, Square};
@@ -64,6 +66,16 @@ impl Numbered {
         ensures numbers { result.now ≡ self.now.numbers }
     {
         &self.numbers
+    }
+
+    /// A copy, as at the start of a variation. It takes no memory beyond itself.
+    pub fn copy(&self) -> Numbered
+        ensures same { result ≡ self.now }
+    {
+        Numbered {
+            position: self.position,
+            numbers: self.numbers.copy(),
+        }
     }
 
     /// The bytes of a legal move: two of a queen's diagonal move, one of any other. They decode to the move, whatever
@@ -125,7 +137,13 @@ fn packed(number: usize, kind: Kind, m: &Move) -> ArrayVec<u8, 2>
 
 /// The move of a man of this kind and side, by its value and the bytes after it.
 #[tactic(auto, unfolding(crate::specs::Packed::named_value))]
-fn named_value(kind: Kind, side: Colour, from: Square, value: u8, rest: &[u8]) -> Result<(Move, u8), MoveFault>
+fn named_value(
+    kind: Kind,
+    side: Colour,
+    from: Square,
+    value: u8,
+    rest: &[u8],
+) -> Result<(Move, u8), MoveFault>
     requires { value < 16 }
     ensures { result ≡ named_value kind side from value rest.now }
 {
@@ -156,7 +174,12 @@ fn diagonal_move(from: Square, rest: &[u8]) -> Result<(Move, u8), MoveFault>
 }
 
 /// A move to the square that a value names, with the number of its bytes.
-fn to_square(from: Square, promo: Option<Kind>, bytes: u8, to: Option<Square>) -> Result<(Move, u8), MoveFault>
+fn to_square(
+    from: Square,
+    promo: Option<Kind>,
+    bytes: u8,
+    to: Option<Square>,
+) -> Result<(Move, u8), MoveFault>
     ensures { result ≡ to_square from promo bytes to }
 {
     match to {

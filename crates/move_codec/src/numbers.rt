@@ -97,6 +97,17 @@ impl NumberedMen {
         number_on(self.squares.as_slice(), square)
     }
 
+    /// A copy, which takes no memory beyond itself.
+    pub(crate) fn copy(&self) -> NumberedMen
+        ensures same { result ≡ self.now }
+    {
+        let mut squares = ArrayVec::new();
+        for square in self.squares() {
+            squares.push(*square);
+        }
+        NumberedMen { squares }
+    }
+
     /// The man on a square goes to another, and keeps its number.
     pub(crate) fn go(&mut self, from: Square, to: Square)
         ensures after { self.new ≡ went self.old from to }
@@ -148,6 +159,16 @@ impl Numbers {
         Numbers {
             white: NumberedMen::in_text(board, Colour::White),
             black: NumberedMen::in_text(board, Colour::Black),
+        }
+    }
+
+    /// A copy, which takes no memory beyond itself.
+    pub(crate) fn copy(&self) -> Numbers
+        ensures same { result ≡ self.now }
+    {
+        Numbers {
+            white: self.white.copy(),
+            black: self.black.copy(),
         }
     }
 

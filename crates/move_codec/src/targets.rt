@@ -17,7 +17,11 @@ fn at_difference(from: Square, difference: u8) -> Option<Square>
     ensures { result ≡ at_difference from difference }
 {
     let sum = from.index() + difference;
-    if sum < 64 { None } else { Square::new(sum - 64) }
+    if sum < 64 {
+        None
+    } else {
+        Square::new(sum - 64)
+    }
 }
 
 /// The square that a king's value names.
@@ -92,7 +96,11 @@ pub(crate) fn diagonal_square(from: Square, byte: u8) -> Option<Square>
         return None;
     }
     let to = Square::at(byte - 64);
-    if is_diagonal(from, to) { Some(to) } else { None }
+    if is_diagonal(from, to) {
+        Some(to)
+    } else {
+        None
+    }
 }
 
 /// Whether a square is another one on one of the diagonals of the first.

@@ -22,7 +22,9 @@ fn difference_value(differences: &[u8], m: &Move) -> u8
 fn find(differences: &[u8], sought: u8) -> Option<usize>
     ensures { result ≡ position (λ difference. difference == sought) differences.now }
 {
-    differences.iter().position(|difference| *difference == sought)
+    differences
+        .iter()
+        .position(|difference| *difference == sought)
 }
 
 /// The value of a move along a line.
@@ -30,7 +32,11 @@ fn line_value(m: &Move) -> u8
     ensures { result ≡ line_value m.now }
 {
     let (from, to) = (m.from.index(), m.to.index());
-    if to / 8 == from / 8 { to % 8 } else { 8 + to / 8 }
+    if to / 8 == from / 8 {
+        to % 8
+    } else {
+        8 + to / 8
+    }
 }
 
 /// The value of a move along a diagonal.
@@ -38,7 +44,11 @@ fn diagonal_value(m: &Move) -> u8
     ensures { result ≡ diagonal_value m.now }
 {
     let (from, to) = (m.from.index(), m.to.index());
-    if to / 8 + from % 8 == from / 8 + to % 8 { to % 8 } else { 8 + to % 8 }
+    if to / 8 + from % 8 == from / 8 + to % 8 {
+        to % 8
+    } else {
+        8 + to % 8
+    }
 }
 
 /// What a promotion adds to a pawn's value.

@@ -1,6 +1,5 @@
 use Rattle.std.proofs.Common.{◌≡◌, arith}
 use Rattle.std.proofs.lemmas.Grind.{common_steps}
-use Rattle.move_codec.specs.Numbers.{Numbered}
 use Rattle.move_codec.specs.Packed.{encoding}
 use Rattle.move_codec.proofs.RoundTrip.{encode-small, encode-decodes}
 use Rattle.move_codec.proofs.numbered.Numbered.encode.Goals as goal
