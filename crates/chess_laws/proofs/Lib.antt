@@ -1,4 +1,10 @@
 pub mod Shifts
+pub mod Boards
+pub mod Keeping
+pub mod Following
+pub mod MovedKings
+pub mod Paths
+pub mod Running
 pub mod Kings
 pub mod Walks
 pub mod Attackers

@@ -3,9 +3,13 @@
 #![tactic(auto)]
 
 pub mod attack;
+mod cases;
+mod castling;
 mod census;
 pub mod effect;
 pub mod fault;
+mod legal;
+mod next;
 pub mod offset;
 pub mod position;
 mod rules;
@@ -16,5 +20,7 @@ pub use fault::PlaceFault;
 pub use position::Position;
 pub use setup::{Rights, Setup, Wing};
 
+#[cfg(test)]
+mod play_tests;
 #[cfg(test)]
 mod position_tests;

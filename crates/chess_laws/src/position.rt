@@ -9,11 +9,13 @@ ghost use Rattle.chess_laws.specs.Position.{Sound, Breaks, setup_of};
 use super::attack::attacks;
 use super::census::{counts, home_set, only_king};
 use super::fault::PlaceFault;
+use super::legal::{is_legal, king_after};
+use super::next::after;
 use super::rules::{
     has_few_men, has_fit_en_passant, has_pawns_inside, rests_in_check, standing_rights, start_board,
 };
 use super::setup::{Rights, Setup};
-use cell_core::{Board, Colour, Square};
+use cell_core::{Board, Colour, Move, Square};
 use std::marker::Model;
 
 /// A position that keeps the rules: one king a side, no pawn on the first or last rank, at most 16 men a side, the side
@@ -204,4 +206,37 @@ fn place(
         white_king,
         black_king,
     })
+}
+
+impl Position {
+    ghost use Rattle.chess_laws.specs.declared.setup.Setup.{Setup};
+    ghost use Rattle.chess_laws.specs.Step.{Legal, Step};
+
+    /// Whether the move is legal. The null move is legal where the side to move is not in check.
+    pub fn is_legal(&self, m: Move) -> bool
+        ensures legal { IsTrue result ↔ Legal self.now m }
+    {
+        is_legal(self.setup(), self.king(self.side()), &m)
+    }
+
+    /// Plays a legal move. What it leads to is the one position that it can lead to.
+    pub fn play(&mut self, m: Move)
+        requires legal { Legal self.old m }
+        ensures step { Step self.old m self.new }
+        ensures only { (q : Setup) → Step self.old m q → q ≡ self.new }
+    {
+        let side = self.side();
+        let mover = king_after(self.king(side), &m);
+        let resting = self.king(side.other());
+        let next = after(self.setup(), &m);
+        let (white_king, black_king) = match side {
+            Colour::White => (mover, resting),
+            Colour::Black => (resting, mover),
+        };
+        *self = Position {
+            inner: next,
+            white_king,
+            black_king,
+        };
+    }
 }
