@@ -1,0 +1,11 @@
+pub mod Places
+pub mod Lists
+pub mod Numbering
+pub mod Boards
+pub mod Strides
+pub mod Spelling
+pub mod Cases
+pub mod RoundTrip
+pub mod Steps
+pub mod Standard
+pub mod Text

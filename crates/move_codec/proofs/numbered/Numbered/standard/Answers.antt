@@ -1,0 +1,5 @@
+use Rattle.move_codec.proofs.Standard.{AreNumbers-standard}
+use Rattle.move_codec.proofs.numbered.Numbered.standard.Goals as goal
+
+pub invariant_of-result : goal.invariant_of-result
+invariant_of-result c = rw (c.start.ensures.start, c.standard.ensures.numbers) AreNumbers-standard

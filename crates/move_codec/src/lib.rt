@@ -1,0 +1,13 @@
+//! Packed moves: a half-move in one byte or two, by the number of the man that moves.
+#![tactic(auto)]
+
+mod effect;
+pub mod fault;
+pub mod numbered;
+pub mod numbers;
+mod targets;
+mod values;
+
+pub use fault::MoveFault;
+pub use numbered::Numbered;
+pub use numbers::{NumberedMen, Numbers};

@@ -1,0 +1,189 @@
+ghost use Rattle.std.specs.Prelude.{◌≡◌, ℕ, ◌+◌, ◌*◌, ◌<◌, List, ◌∷◌, ◌++◌, Ok, length};
+ghost use Rattle.chess_laws.specs.Position.{start_setup};
+ghost use Rattle.chess_laws.specs.Step.{Legal};
+ghost use Rattle.move_codec.specs.Numbers.{standard_numbers, text_numbers};
+ghost use Rattle.move_codec.specs.Packed.{Decodes, diagonal_move, encoding, named, named_value, rest_of, to_square, value_of};
+
+use super::fault::MoveFault;
+use super::numbers::Numbers;
+use super::targets::{
+    diagonal_square, king_square, knight_square, on_diagonal, on_line, pawn_square, promotion,
+};
+use super::values::{is_line, value_of};
+use arrayvec::ArrayVec;
+use cell_core::{Colour, Kind, Move, Square};
+use chess_laws::Position;
+use std::marker::Model;
+
+/// A position with the numbers of its men. Contracts see the position and the numbered squares of both sides, which are
+/// exactly the squares of its men.
+#[derive(Drop)]
+pub struct Numbered {
+    position: Position,
+    numbers: Numbers,
+}
+
+impl Model for Numbered {
+    ghost use Rattle.move_codec.specs.Numbers.{Numbered as Men, AreNumbers};
+
+    ghost Value = { Men };
+
+    ghost view = { λ n. record { position = n.position; numbers = n.numbers } };
+
+    ghost invariant = { λ n. AreNumbers n.position.board n.numbers };
+}
+
+impl Numbered {
+    /// The initial position with the numbers of the standard start.
+    pub fn standard() -> Numbered
+        ensures position { result.position ≡ start_setup }
+        ensures numbers { result.numbers ≡ standard_numbers }
+    {
+        Numbered {
+            position: Position::start(),
+            numbers: Numbers::standard(),
+        }
+    }
+
+    /// A position with the numbers that its men have from a FEN.
+    pub fn from_start(position: Position) -> Numbered
+        ensures position { result.position ≡ position }
+        ensures numbers { result.numbers ≡ text_numbers position.board }
+    {
+        let numbers = Numbers::in_text(&position.setup().board);
+        Numbered { position, numbers }
+    }
+
+    /// The position.
+    pub fn position(&self) -> &Position
+        ensures position { result.now ≡ self.now.position }
+    {
+        &self.position
+    }
+
+    /// The numbers of the men.
+    pub fn numbers(&self) -> &Numbers
+        ensures numbers { result.now ≡ self.now.numbers }
+    {
+        &self.numbers
+    }
+
+    /// A copy, as at the start of a variation. It takes no memory beyond itself.
+    pub fn copy(&self) -> Numbered
+        ensures same { result ≡ self.now }
+    {
+        Numbered {
+            position: self.position,
+            numbers: self.numbers.copy(),
+        }
+    }
+
+    /// The bytes of a legal move: two of a queen's diagonal move, one of any other. They decode to the move, whatever
+    /// follows them.
+    pub fn encode_move(&self, m: Move) -> ArrayVec<u8, 2>
+        requires { Legal self.now.position m }
+        ensures bytes { result.items ≡ encoding self.now m }
+        ensures decodes { (rest : List ℕ) → Decodes self.now (result.items ++ rest) (Ok (m, length result.items)) }
+    {
+        self.encode(&m)
+    }
+
+    /// `encode_move` of a lent move.
+    fn encode(&self, m: &Move) -> ArrayVec<u8, 2>
+        requires { Legal self.now.position m.now }
+        ensures bytes { result.items ≡ encoding self.now m.now }
+        ensures decodes { (rest : List ℕ) → Decodes self.now (result.items ++ rest) (Ok (m.now, length result.items)) }
+    {
+        let side = self.position.side();
+        let number = self.numbers.of(side).number_of(m.from);
+        match self.position.board().at(m.from) {
+            None => ArrayVec::new(),
+            Some(man) => packed(number, man.kind, m),
+        }
+    }
+
+    /// The move that the first bytes name and how many they are, or why they name none: legality apart.
+    fn named(&self, bytes: &[u8]) -> Result<(Move, u8), MoveFault>
+        ensures { result ≡ named self.now bytes.now }
+    {
+        let [byte, rest @ ..] = bytes else {
+            return Err(MoveFault::Short);
+        };
+        let side = self.position.side();
+        let Some(from) = self.numbers.of(side).get(*byte / 16) else {
+            return Err(MoveFault::NoMan);
+        };
+        let Some(man) = self.position.board().at(from) else {
+            return Err(MoveFault::NoMan);
+        };
+        named_value(man.kind, side, from, *byte % 16, rest)
+    }
+}
+
+/// The bytes of a move of the man with this number and kind.
+#[tactic(auto, unfolding(crate::specs::Packed::rest_of))]
+fn packed(number: usize, kind: Kind, m: &Move) -> ArrayVec<u8, 2>
+    requires number { number < 16 }
+    requires value { value_of kind m.now < 16 }
+    ensures { result.items ≡ (16 * number + value_of kind m.now) ∷ rest_of kind m.now }
+{
+    let mut bytes = ArrayVec::new();
+    bytes.push(16 * number as u8 + value_of(kind, m));
+    if kind == Kind::Queen && !is_line(m) {
+        bytes.push(64 + m.to.index());
+    }
+    bytes
+}
+
+/// The move of a man of this kind and side, by its value and the bytes after it.
+#[tactic(auto, unfolding(crate::specs::Packed::named_value))]
+fn named_value(
+    kind: Kind,
+    side: Colour,
+    from: Square,
+    value: u8,
+    rest: &[u8],
+) -> Result<(Move, u8), MoveFault>
+    requires { value < 16 }
+    ensures { result ≡ named_value kind side from value rest.now }
+{
+    match kind {
+        Kind::King => to_square(from, None, 1, king_square(from, value)),
+        Kind::Queen => {
+            if value == from.index() % 8 {
+                diagonal_move(from, rest)
+            } else {
+                to_square(from, None, 1, on_line(from, value))
+            }
+        }
+        Kind::Rook => to_square(from, None, 1, on_line(from, value)),
+        Kind::Bishop => to_square(from, None, 1, on_diagonal(from, value)),
+        Kind::Knight => to_square(from, None, 1, knight_square(from, value)),
+        Kind::Pawn => to_square(from, promotion(value), 1, pawn_square(side, from, value)),
+    }
+}
+
+/// A queen's diagonal move, by the bytes after its first.
+fn diagonal_move(from: Square, rest: &[u8]) -> Result<(Move, u8), MoveFault>
+    ensures { result ≡ diagonal_move from rest.now }
+{
+    match rest {
+        [] => Err(MoveFault::Short),
+        [byte, ..] => to_square(from, None, 2, diagonal_square(from, *byte)),
+    }
+}
+
+/// A move to the square that a value names, with the number of its bytes.
+fn to_square(
+    from: Square,
+    promo: Option<Kind>,
+    bytes: u8,
+    to: Option<Square>,
+) -> Result<(Move, u8), MoveFault>
+    ensures { result ≡ to_square from promo bytes to }
+{
+    match to {
+        None => Err(MoveFault::Value),
+        Some(to) => Ok((Move { from, to, promo }, bytes)),
+    }
+}
