@@ -1,0 +1,11 @@
+//! The names of a base: players, events, sites and rounds, and the file that keeps them.
+//!
+//! Each kind is a set of byte strings without repeats, and a name's place in its set is its id.
+#![tactic(auto)]
+
+mod kind;
+mod name_lists;
+mod name_set;
+
+pub use kind::NameKind;
+pub use name_lists::{AddError, Names};
