@@ -1,1 +1,5 @@
 pub mod NameLists
+pub mod NamesFile
+pub mod Reading
+pub mod KindRead
+pub mod KindReading

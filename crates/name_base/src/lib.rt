@@ -3,9 +3,14 @@
 //! Each kind is a set of byte strings without repeats, and a name's place in its set is its id.
 #![tactic(auto)]
 
+mod fault;
+mod field;
+mod header;
 mod kind;
+mod kind_reader;
 mod name_lists;
 mod name_set;
 
+pub use fault::{NameFault, NameWhat, NamesError};
 pub use kind::NameKind;
 pub use name_lists::{AddError, Names};

@@ -1,0 +1,9 @@
+-- A number of at most three bytes fits 32 bits.
+use Rattle.std.proofs.Common.{arith}
+use Rattle.name_base.proofs.FieldLemmas.{big_number-small}
+use Rattle.name_base.proofs.field.number_at.Goals as goal
+
+pub overflow_cast-result : goal.overflow_cast-result
+overflow_cast-result c =
+    let small = big_number-small c.args.width c.args.bytes.now c.requires.few (λ i. omega (arith, c.type_inv.bytes i)) in
+    omega (arith, small)
