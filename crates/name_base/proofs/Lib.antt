@@ -1,3 +1,6 @@
 pub mod NameLemmas
 pub mod FieldLemmas
 pub mod MetLemmas
+pub mod PieceLemmas
+pub mod ByIdLemmas
+pub mod KindLemmas

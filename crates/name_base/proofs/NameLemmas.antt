@@ -58,10 +58,10 @@ with_name-present names name id some = sym (ap (λ b. if b then names else names
 pub with_name-absent : (names : List (List ℕ)) (name : List ℕ) → id_in names name ≡ None → with_name names name ≡ names ++ name ∷ []
 with_name-absent names name none = ap (λ b. if b then names else names ++ name ∷ []) (absent names name none)
 
-bytes_equiv : IsEquivalence bytes_eq
+pub bytes_equiv : IsEquivalence bytes_eq
 bytes_equiv = lists_equiv nat_eq_equiv
 
-AllByRecursion-push : {X : Type 0} (P : X → Type 0) (xs : List X) (x : X) → AllByRecursion P xs → P x → AllByRecursion P (xs ++ x ∷ [])
+pub AllByRecursion-push : {X : Type 0} (P : X → Type 0) (xs : List X) (x : X) → AllByRecursion P xs → P x → AllByRecursion P (xs ++ x ∷ [])
 AllByRecursion-push P [] x h p = (p, tt)
 AllByRecursion-push P (y ∷ ys) x h p = (h.0, AllByRecursion-push P ys x h.1 p)
 

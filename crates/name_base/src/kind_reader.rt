@@ -1,13 +1,15 @@
 //! Reading the names of one kind.
-ghost use Rattle.std.specs.Prelude.{◌≡◌, ◌≤◌, ◌<◌, ◌++◌, ◌∷◌, [], false, Some, unwrap_or, length, take, IfOk, IfErr, OnOk};
+ghost use Rattle.std.specs.Prelude.{◌≡◌, ◌≤◌, ◌<◌, ◌++◌, ◌∷◌, [], false, Some, unwrap_or, length, map, take, replicate, IfOk, IfErr, OnOk};
 ghost use Rattle.std.specs.Option.{option_copied};
 ghost use Rattle.name_base.specs.NameLists.{is_in};
 ghost use Rattle.name_base.specs.NamesFile.{id_width, frequency_width};
-ghost use Rattle.name_base.specs.Reading.{Gives, Answers, blamed, has_id, last_name, names_of, id_at, piece_at, entry_at};
-ghost use Rattle.name_base.specs.KindRead.{KindRead};
+ghost use Rattle.name_base.specs.Reading.{Gives, Answers, blamed, has_id, last_name, names_of, id_at, piece_at, entry_at, entries_at, by_id, kind_at};
+ghost use Rattle.name_base.specs.KindRead.{KindRead, AreMet};
+ghost use Rattle.std.specs.List.{AllByRecursion};
 
 use crate::field::{byte_at, number_at, own_at, shared_at, skip_at};
 use crate::header::Shape;
+use crate::name_set::NameSet;
 use crate::{NameFault, NameKind, NameWhat, NamesError};
 use indexmap::IndexMap;
 use std::alloc::{AllocError, Global};
@@ -171,6 +173,16 @@ impl KindReader {
         })
     }
 
+    /// The names by id, once all were read.
+    fn into_set(self, alloc: Global) -> Result<NameSet, AllocError>
+        requires met { AreMet self.count self.entries }
+        requires all { length self.entries ≡ self.count }
+        ensures { IfOk result (λ set. set ≡ by_id self.count self.entries) }
+    {
+        let KindReader { taken, met } = self;
+        NameSet::from_names(alloc, by_id(alloc, taken.len(), met)?)
+    }
+
     /// Reads the next name, the one with this index, and gives the bytes after it.
     #[tactic(auto, unfolding(crate::specs::Reading::entry_at))]
     pub(crate) fn read<'a>(
@@ -200,6 +212,34 @@ impl KindReader {
     }
 }
 
+/// As many names without bytes.
+fn empty_names(alloc: Global, count: usize) -> Result<Vec<Vec<u8>>, AllocError>
+    ensures { IfOk result (λ names. map (λ v. v.items) names.items ≡ replicate count []) }
+{
+    let mut names = Vec::with_capacity(alloc, count)?;
+    for _ in 0..count {
+        names.push(Vec::new(alloc))?;
+    }
+    Ok(names)
+}
+
+/// The names, each at the place of its id.
+fn by_id(
+    alloc: Global,
+    count: usize,
+    mut met: IndexMap<Vec<u8>, u32>,
+) -> Result<Vec<Vec<u8>>, AllocError>
+    requires { AllByRecursion (λ p. p.1 < count) met.entries }
+    ensures { IfOk result (λ names. map (λ v. v.items) names.items
+        ≡ by_id count (map (λ p. record { id = p.1; name = p.0.items }) met.entries)) }
+{
+    let mut names = empty_names(alloc, count)?;
+    while let Some((name, id)) = met.pop() {
+        names[id as usize] = name;
+    }
+    Ok(names)
+}
+
 fn fault(kind: NameKind, index: u32, what: NameWhat) -> NamesError
     ensures { result ≡ NamesError.Bad (record { kind = Some kind; index = index; what = what }) }
 {
@@ -208,4 +248,43 @@ fn fault(kind: NameKind, index: u32, what: NameWhat) -> NamesError
         index,
         what,
     })
+}
+
+/// Reads all names of a kind, and gives the bytes after them.
+fn read_all<'a>(
+    reader: &mut KindReader,
+    alloc: Global,
+    kind: NameKind,
+    shape: Shape,
+    bytes: &'a [u8],
+) -> Result<&'a [u8], NamesError>
+    requires count { shape.count ≡ reader.old.count }
+    requires none { reader.old.entries ≡ [] }
+    ensures gives { Answers (λ rest. (reader.new.entries, rest.now)) result
+        (entries_at kind shape shape.count [] bytes.now) }
+    ensures count { reader.new.count ≡ shape.count }
+    ensures met { OnOk result (AreMet shape.count reader.new.entries) }
+    ensures all { OnOk result (length reader.new.entries ≡ shape.count) }
+{
+    let mut rest = bytes;
+    for index in 0..shape.count {
+        rest = reader.read(alloc, kind, index, shape, rest)?;
+    }
+    Ok(rest)
+}
+
+/// Reads the names of a kind, and gives the bytes after them.
+#[tactic(auto, unfolding(crate::specs::Reading::kind_at))]
+pub(crate) fn read_kind<'a>(
+    alloc: Global,
+    kind: NameKind,
+    shape: Shape,
+    bytes: &'a [u8],
+) -> Result<(NameSet, &'a [u8]), NamesError>
+    requires { shape.count ≤ 1048576 }
+    ensures { Answers (λ x. (x.0, x.1.now)) result (kind_at kind shape bytes.now) }
+{
+    let mut reader = KindReader::new(alloc, shape.count)?;
+    let rest = read_all(&mut reader, alloc, kind, shape, bytes)?;
+    Ok((reader.into_set(alloc)?, rest))
 }

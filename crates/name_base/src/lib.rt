@@ -10,7 +10,9 @@ mod kind;
 mod kind_reader;
 mod name_lists;
 mod name_set;
+mod reading;
 
 pub use fault::{NameFault, NameWhat, NamesError};
 pub use kind::NameKind;
 pub use name_lists::{AddError, Names};
+pub use reading::read_names;

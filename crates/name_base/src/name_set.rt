@@ -1,10 +1,10 @@
 //! The names of one kind.
-ghost use Rattle.std.specs.Prelude.{ℕ, ◌≡◌, ◌≤◌, ◌<◌, ◌↔◌, ◌+◌, [], ◌∷◌, ◌++◌, Some, None, length, take, slice_get, unwrap_or, IfOk, OnOk, OnErr, IsErrOf, IsSome};
+ghost use Rattle.std.specs.Prelude.{ℕ, ◌≡◌, ◌≤◌, ◌<◌, ◌↔◌, ◌+◌, [], ◌∷◌, ◌++◌, Some, None, length, map, take, slice_get, unwrap_or, IfOk, OnOk, OnErr, IsErrOf, IsSome};
 ghost use Rattle.name_base.specs.NameLists.{AreNames, IsName, id_in, with_name};
 
 use crate::AddError;
 use indexmap::IndexSet;
-use std::alloc::Global;
+use std::alloc::{AllocError, Global};
 use std::marker::Model;
 
 /// Names without repeats; a name's place is its id.
@@ -32,6 +32,18 @@ impl NameSet {
         NameSet {
             names: IndexSet::new(alloc),
         }
+    }
+
+    /// The names, each with its place as its id.
+    pub(crate) fn from_names(alloc: Global, names: Vec<Vec<u8>>) -> Result<Self, AllocError>
+        requires { AreNames 1048576 (map (λ v. v.items) names.items) }
+        ensures { IfOk result (λ set. set ≡ map (λ v. v.items) names.items) }
+    {
+        let mut set = IndexSet::with_capacity(alloc, names.len())?;
+        for name in names {
+            set.insert(name)?;
+        }
+        Ok(NameSet { names: set })
     }
 
     /// The number of names.

@@ -1,0 +1,31 @@
+//! Reading a names file.
+ghost use Rattle.std.specs.Prelude.{◌≡◌, Ok, IfOk};
+ghost use Rattle.name_base.specs.NameLists.{NameLists};
+ghost use Rattle.name_base.specs.NamesFile.{NameFile};
+ghost use Rattle.name_base.specs.Reading.{Answers, names_at};
+
+use crate::header::header_at;
+use crate::kind_reader::read_kind;
+use crate::{NameFault, NameKind, Names, NamesError};
+use std::alloc::Global;
+
+/// The names of a names file. The time stamp, the frequencies, the order of the names and bytes after the last one do not count.
+pub fn read_names(alloc: Global, bytes: &[u8]) -> Result<Names, NamesError>
+    ensures exact { Answers (λ names. names) result (names_at bytes.now) }
+{
+    let (header, rest) = match header_at(bytes) {
+        Ok(found) => found,
+        Err(what) => {
+            return Err(NamesError::Bad(NameFault {
+                kind: None,
+                index: 0,
+                what,
+            }));
+        }
+    };
+    let (players, rest) = read_kind(alloc, NameKind::Player, header.players, rest)?;
+    let (events, rest) = read_kind(alloc, NameKind::Event, header.events, rest)?;
+    let (sites, rest) = read_kind(alloc, NameKind::Site, header.sites, rest)?;
+    let (rounds, _) = read_kind(alloc, NameKind::Round, header.rounds, rest)?;
+    Ok(Names::from_sets(players, events, sites, rounds))
+}
