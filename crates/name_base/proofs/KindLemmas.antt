@@ -106,7 +106,7 @@ length-entries : (before : Option (List ℕ)) (stored : List Stored) → length 
 length-entries before [] = refl
 length-entries before (s ∷ stored) = ap suc (length-entries (Some (name_after before s)) stored)
 
-AreMet-none : (count : ℕ) → AreMet count []
+pub AreMet-none : (count : ℕ) → AreMet count []
 unfolding IsDistinct
 AreMet-none count = record { ids = tt; once = tt; below = tt; each = tt }
 

@@ -4,3 +4,4 @@ pub mod MetLemmas
 pub mod PieceLemmas
 pub mod ByIdLemmas
 pub mod KindLemmas
+pub mod LoopLemmas

@@ -91,7 +91,7 @@ AreNames-take limit n names are = record {
 }
 
 -- what an insert into a set of keys leaves, seen as names
-names_inserted : {X : Type 0} (f : X → List ℕ) (keys : List X) (k : X) → map f (insert_key (λ x y. bytes_eq (f x) (f y)) keys k) ≡ with_name (map f keys) (f k)
+pub names_inserted : {X : Type 0} (f : X → List ℕ) (keys : List X) (k : X) → map f (insert_key (λ x y. bytes_eq (f x) (f y)) keys k) ≡ with_name (map f keys) (f k)
 names_inserted f keys k =
     ap (λ b. map f (if b then keys else keys ++ k ∷ [])) (sym (list_any-map f (bytes_eq (f k)) keys))
     ∙ by (is_in (map f keys) (f k))
@@ -113,3 +113,7 @@ AreNames-with_name limit names name are is none room =
 pub names_cut : {X : Type 0} (f : X → List ℕ) (keys after : List X) (n : ℕ) (names : List (List ℕ))
     → map f keys ≡ names → after ≡ take n keys → map f after ≡ take n names
 names_cut f keys after n names seen done = ap (map f) done ∙ sym (take-map f n keys) ∙ ap (take n) seen
+
+-- a greater limit
+pub AreNames-wider : (count limit : ℕ) (names : List (List ℕ)) → count ≤ limit → AreNames count names → AreNames limit names
+AreNames-wider count limit names le are = record { each = are.each; once = are.once; within = omega (arith, are.within) }

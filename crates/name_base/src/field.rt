@@ -1,5 +1,5 @@
 //! The fields of a names file: each reader gives its value and the bytes after it.
-ghost use Rattle.std.specs.Prelude.{◌≡◌, ◌≤◌, [], Option, unwrap_or, length, IfOk};
+ghost use Rattle.std.specs.Prelude.{◌≡◌, ◌≤◌, ◌<◌, [], Option, unwrap_or, length, IfOk};
 ghost use Rattle.std.specs.Option.{option_copied};
 ghost use Rattle.name_base.specs.Reading.{Gives, number_at, skip_at, byte_at, shared_at, own_at};
 
@@ -11,7 +11,8 @@ use byteorder::{BigEndian, ByteOrder};
 pub(crate) fn number_at(width: usize, bytes: &[u8]) -> Result<(u32, &[u8]), NameWhat>
     requires some { 1 ≤ width }
     requires few { width ≤ 3 }
-    ensures { Gives (λ x. (x.0, x.1.now)) result (number_at width bytes.now) }
+    ensures gives { Gives (λ x. (x.0, x.1.now)) result (number_at width bytes.now) }
+    ensures small { IfOk result (λ x. x.0 < 16777216) }
 {
     if bytes.len() < width {
         return Err(NameWhat::Short);

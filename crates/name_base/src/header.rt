@@ -1,4 +1,7 @@
 //! The header of a names file.
+ghost use Rattle.std.specs.Prelude.{◌≤◌, IfOk};
+ghost use Rattle.name_base.specs.NameLists.{limit_of};
+ghost use Rattle.name_base.specs.NamesFile.{IsHeader};
 ghost use Rattle.name_base.specs.Reading.{Gives, magic_at, count_at, header_at};
 
 use crate::{NameKind, NameWhat};
@@ -40,7 +43,8 @@ fn magic_at(bytes: &[u8]) -> Result<&[u8], NameWhat>
 /// The number of names of a kind.
 #[tactic(auto, unfolding(crate::specs::Reading::count_at))]
 fn count_at(kind: NameKind, bytes: &[u8]) -> Result<(u32, &[u8]), NameWhat>
-    ensures { Gives (λ x. (x.0, x.1.now)) result (count_at kind bytes.now) }
+    ensures gives { Gives (λ x. (x.0, x.1.now)) result (count_at kind bytes.now) }
+    ensures within { IfOk result (λ x. x.0 ≤ limit_of kind) }
 {
     let (count, rest) = number_at(3, bytes)?;
     if kind.limit() < count {
@@ -52,7 +56,8 @@ fn count_at(kind: NameKind, bytes: &[u8]) -> Result<(u32, &[u8]), NameWhat>
 /// The header and the bytes after it.
 #[tactic(auto, unfolding(crate::specs::Reading::header_at))]
 pub(crate) fn header_at(bytes: &[u8]) -> Result<(Header, &[u8]), NameWhat>
-    ensures { Gives (λ x. (x.0, x.1.now)) result (header_at bytes.now) }
+    ensures gives { Gives (λ x. (x.0, x.1.now)) result (header_at bytes.now) }
+    ensures headed { IfOk result (λ x. IsHeader x.0) }
 {
     let stamp = magic_at(bytes)?;
     let counts = skip_at(4, stamp)?;

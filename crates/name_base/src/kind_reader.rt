@@ -1,7 +1,7 @@
 //! Reading the names of one kind.
-ghost use Rattle.std.specs.Prelude.{◌≡◌, ◌≤◌, ◌<◌, ◌++◌, ◌∷◌, [], false, Some, unwrap_or, length, map, take, replicate, IfOk, IfErr, OnOk};
+ghost use Rattle.std.specs.Prelude.{ℕ, ◌≡◌, ◌≤◌, ◌<◌, ◌++◌, ◌∷◌, [], false, Some, unwrap_or, length, map, take, replicate, IfOk, IfErr, OnOk};
 ghost use Rattle.std.specs.Option.{option_copied};
-ghost use Rattle.name_base.specs.NameLists.{is_in};
+ghost use Rattle.name_base.specs.NameLists.{AreNames, is_in};
 ghost use Rattle.name_base.specs.NamesFile.{id_width, frequency_width};
 ghost use Rattle.name_base.specs.Reading.{Gives, Answers, blamed, has_id, last_name, names_of, id_at, piece_at, entry_at, entries_at, by_id, kind_at};
 ghost use Rattle.name_base.specs.KindRead.{KindRead, AreMet};
@@ -177,10 +177,12 @@ impl KindReader {
     fn into_set(self, alloc: Global) -> Result<NameSet, AllocError>
         requires met { AreMet self.count self.entries }
         requires all { length self.entries ≡ self.count }
-        ensures { IfOk result (λ set. set ≡ by_id self.count self.entries) }
+        ensures names { IfOk result (λ set. set ≡ by_id self.count self.entries) }
+        ensures sound { (limit : ℕ) → self.count ≤ limit → IfOk result (λ set. AreNames limit set) }
     {
         let KindReader { taken, met } = self;
-        NameSet::from_names(alloc, by_id(alloc, taken.len(), met)?)
+        let names = by_id(alloc, taken.as_slice().len(), met)?;
+        NameSet::from_names(alloc, names)
     }
 
     /// Reads the next name, the one with this index, and gives the bytes after it.
@@ -282,7 +284,8 @@ pub(crate) fn read_kind<'a>(
     bytes: &'a [u8],
 ) -> Result<(NameSet, &'a [u8]), NamesError>
     requires { shape.count ≤ 1048576 }
-    ensures { Answers (λ x. (x.0, x.1.now)) result (kind_at kind shape bytes.now) }
+    ensures gives { Answers (λ x. (x.0, x.1.now)) result (kind_at kind shape bytes.now) }
+    ensures sound { (limit : ℕ) → shape.count ≤ limit → IfOk result (λ x. AreNames limit x.0) }
 {
     let mut reader = KindReader::new(alloc, shape.count)?;
     let rest = read_all(&mut reader, alloc, kind, shape, bytes)?;

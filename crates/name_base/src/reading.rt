@@ -1,27 +1,32 @@
 //! Reading a names file.
-ghost use Rattle.std.specs.Prelude.{◌≡◌, Ok, IfOk};
+ghost use Rattle.std.specs.Prelude.{◌≡◌, None, Ok, IfOk};
 ghost use Rattle.name_base.specs.NameLists.{NameLists};
 ghost use Rattle.name_base.specs.NamesFile.{NameFile};
 ghost use Rattle.name_base.specs.Reading.{Answers, names_at};
 
 use crate::header::header_at;
 use crate::kind_reader::read_kind;
-use crate::{NameFault, NameKind, Names, NamesError};
+use crate::{NameFault, NameKind, NameWhat, Names, NamesError};
 use std::alloc::Global;
 
+fn header_fault(what: NameWhat) -> NamesError
+    ensures { result ≡ NamesError.Bad (record { kind = None; index = 0; what = what }) }
+{
+    NamesError::Bad(NameFault {
+        kind: None,
+        index: 0,
+        what,
+    })
+}
+
 /// The names of a names file. The time stamp, the frequencies, the order of the names and bytes after the last one do not count.
+#[tactic(auto, unfolding(crate::specs::Reading::names_at))]
 pub fn read_names(alloc: Global, bytes: &[u8]) -> Result<Names, NamesError>
     ensures exact { Answers (λ names. names) result (names_at bytes.now) }
 {
     let (header, rest) = match header_at(bytes) {
         Ok(found) => found,
-        Err(what) => {
-            return Err(NamesError::Bad(NameFault {
-                kind: None,
-                index: 0,
-                what,
-            }));
-        }
+        Err(what) => return Err(header_fault(what)),
     };
     let (players, rest) = read_kind(alloc, NameKind::Player, header.players, rest)?;
     let (events, rest) = read_kind(alloc, NameKind::Event, header.events, rest)?;
