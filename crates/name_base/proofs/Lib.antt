@@ -5,3 +5,4 @@ pub mod PieceLemmas
 pub mod ByIdLemmas
 pub mod KindLemmas
 pub mod LoopLemmas
+pub mod FileLemmas

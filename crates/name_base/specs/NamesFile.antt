@@ -4,6 +4,7 @@ use Rattle.std.specs.List.{AllByRecursion, IsDistinct}
 use Rattle.std.specs.Str.{bytes_eq}
 use Rattle.byteorder.specs.Endian.{big_bytes}
 use Rattle.name_base.specs.declared.header.Shape.{Shape}
+use Rattle.name_base.specs.declared.header.PerKind.{PerKind}
 use Rattle.name_base.specs.declared.header.Header.{Header}
 use Rattle.name_base.specs.declared.kind.NameKind.TheVariants.{Player, Event, Site, Round}
 use Rattle.name_base.specs.NameLists.{NameLists, IsName, limit_of}
@@ -82,24 +83,40 @@ pub record StoresKind (shape : Shape) (stored : List Stored) (names : List (List
 abbrev pub magic : List ℕ
 magic = 83 ∷ 99 ∷ 105 ∷ 100 ∷ 46 ∷ 115 ∷ 110 ∷ 0 ∷ []
 
+-- A number for each kind in three bytes, and what follows them.
+unfoldable pub four_bytes : PerKind → List ℕ → List ℕ
+four_bytes n rest = big_bytes 3 n.players ++ (big_bytes 3 n.events ++ (big_bytes 3 n.sites ++ (big_bytes 3 n.rounds ++ rest)))
+
 -- The bytes of the header, and what follows it: the magic, the time stamp, the four counts, the four greatest frequencies.
 unfoldable pub header_bytes : List ℕ → Header → List ℕ → List ℕ
-header_bytes stamp h rest =
-    magic ++ (stamp
-    ++ (big_bytes 3 h.players.count ++ (big_bytes 3 h.events.count ++ (big_bytes 3 h.sites.count ++ (big_bytes 3 h.rounds.count
-    ++ (big_bytes 3 h.players.greatest ++ (big_bytes 3 h.events.greatest ++ (big_bytes 3 h.sites.greatest ++ (big_bytes 3 h.rounds.greatest ++ rest)))))))))
+header_bytes stamp h rest = magic ++ (stamp ++ four_bytes h.counts (four_bytes h.greatest rest))
 
--- A count within its limit, and a greatest frequency that three bytes hold.
-pub record IsShape (limit : ℕ) (shape : Shape) : Type 0 where
-  pub count : shape.count ≤ limit
-  pub greatest : shape.greatest < 2 ^ 24
+-- Counts within the limits.
+pub record AreCounts (n : PerKind) : Type 0 where
+  pub players : n.players ≤ limit_of Player
+  pub events : n.events ≤ limit_of Event
+  pub sites : n.sites ≤ limit_of Site
+  pub rounds : n.rounds ≤ limit_of Round
 
--- What holds of a header.
-pub record IsHeader (h : Header) : Type 0 where
-  pub players : IsShape (limit_of Player) h.players
-  pub events : IsShape (limit_of Event) h.events
-  pub sites : IsShape (limit_of Site) h.sites
-  pub rounds : IsShape (limit_of Round) h.rounds
+-- Numbers that three bytes hold.
+pub record AreSmall (n : PerKind) : Type 0 where
+  pub players : n.players < 2 ^ 24
+  pub events : n.events < 2 ^ 24
+  pub sites : n.sites < 2 ^ 24
+  pub rounds : n.rounds < 2 ^ 24
+
+-- What a header says of a kind.
+abbrev pub player_shape : Header → Shape
+player_shape h = record { count = h.counts.players; greatest = h.greatest.players }
+
+abbrev pub event_shape : Header → Shape
+event_shape h = record { count = h.counts.events; greatest = h.greatest.events }
+
+abbrev pub site_shape : Header → Shape
+site_shape h = record { count = h.counts.sites; greatest = h.greatest.sites }
+
+abbrev pub round_shape : Header → Shape
+round_shape h = record { count = h.counts.rounds; greatest = h.greatest.rounds }
 
 -- The bytes are a names file with these lists: a header, the stored names of the four kinds, and then whatever bytes.
 pub record NameFile (bytes : List ℕ) (lists : NameLists) : Type 0 where
@@ -111,10 +128,12 @@ pub record NameFile (bytes : List ℕ) (lists : NameLists) : Type 0 where
   pub rounds : List Stored
   pub rest : List ℕ
   pub spelled : bytes ≡ header_bytes stamp header
-      (kind_bytes header.players None players (kind_bytes header.events None events (kind_bytes header.sites None sites (kind_bytes header.rounds None rounds rest))))
+      (kind_bytes (player_shape header) None players (kind_bytes (event_shape header) None events
+      (kind_bytes (site_shape header) None sites (kind_bytes (round_shape header) None rounds rest))))
   pub stamped : length stamp ≡ 4
-  pub headed : IsHeader header
-  pub player_names : StoresKind header.players players lists.players
-  pub event_names : StoresKind header.events events lists.events
-  pub site_names : StoresKind header.sites sites lists.sites
-  pub round_names : StoresKind header.rounds rounds lists.rounds
+  pub counts : AreCounts header.counts
+  pub greatest : AreSmall header.greatest
+  pub player_names : StoresKind (player_shape header) players lists.players
+  pub event_names : StoresKind (event_shape header) events lists.events
+  pub site_names : StoresKind (site_shape header) sites lists.sites
+  pub round_names : StoresKind (round_shape header) rounds lists.rounds

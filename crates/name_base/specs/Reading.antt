@@ -4,6 +4,7 @@ use Rattle.std.specs.List.{list_any}
 use Rattle.std.specs.Str.{bytes_eq}
 use Rattle.byteorder.specs.Endian.{big_number}
 use Rattle.name_base.specs.declared.header.Shape.{Shape}
+use Rattle.name_base.specs.declared.header.PerKind.{PerKind}
 use Rattle.name_base.specs.declared.header.Header.{Header}
 use Rattle.name_base.specs.declared.kind.NameKind.{NameKind}
 use Rattle.name_base.specs.declared.kind.NameKind.TheVariants.{Player, Event, Site, Round}
@@ -13,7 +14,7 @@ use Rattle.name_base.specs.declared.fault.NameFault.{NameFault}
 use Rattle.name_base.specs.declared.fault.NamesError.{NamesError}
 use Rattle.name_base.specs.declared.fault.NamesError.TheVariants.{Bad, Memory}
 use Rattle.name_base.specs.NameLists.{NameLists, is_in, has_zero, limit_of}
-use Rattle.name_base.specs.NamesFile.{Entry, id_width, frequency_width, magic}
+use Rattle.name_base.specs.NamesFile.{Entry, id_width, frequency_width, magic, player_shape, event_shape, site_shape, round_shape}
 
 infixl 10 ◌>>=◌
 
@@ -62,25 +63,32 @@ count_at kind bytes = do
   count ← number_at 3 bytes
   if nat_lt (limit_of kind) count.0 then Err Count else Ok count
 
+-- The number of names of each kind.
+unfoldable pub counts_at : List ℕ → Result (PerKind × List ℕ) NameWhat
+counts_at bytes = do
+  players ← count_at Player bytes
+  events ← count_at Event players.1
+  sites ← count_at Site events.1
+  rounds ← count_at Round sites.1
+  Ok (record { players = players.0; events = events.0; sites = sites.0; rounds = rounds.0 }, rounds.1)
+
+-- The greatest frequency of each kind.
+unfoldable pub greatest_at : List ℕ → Result (PerKind × List ℕ) NameWhat
+greatest_at bytes = do
+  players ← number_at 3 bytes
+  events ← number_at 3 players.1
+  sites ← number_at 3 events.1
+  rounds ← number_at 3 sites.1
+  Ok (record { players = players.0; events = events.0; sites = sites.0; rounds = rounds.0 }, rounds.1)
+
 -- The header, and the bytes after it.
 unfoldable pub header_at : List ℕ → Result (Header × List ℕ) NameWhat
 header_at bytes = do
   stamp ← magic_at bytes
-  counts ← skip_at 4 stamp
-  players ← count_at Player counts
-  events ← count_at Event players.1
-  sites ← count_at Site events.1
-  rounds ← count_at Round sites.1
-  player ← number_at 3 rounds.1
-  event ← number_at 3 player.1
-  site ← number_at 3 event.1
-  round ← number_at 3 site.1
-  Ok (record {
-    players = record { count = players.0; greatest = player.0 };
-    events = record { count = events.0; greatest = event.0 };
-    sites = record { count = sites.0; greatest = site.0 };
-    rounds = record { count = rounds.0; greatest = round.0 }
-  }, round.1)
+  rest ← skip_at 4 stamp
+  counts ← counts_at rest
+  greatest ← greatest_at counts.1
+  Ok (record { counts = counts.0; greatest = greatest.0 }, greatest.1)
 
 -- ---- one name, after those of its kind that were met before it
 
@@ -172,8 +180,8 @@ kind_at kind shape bytes = do
 unfoldable pub names_at : List ℕ → Result NameLists NameFault
 names_at bytes = do
   header ← blamed None 0 (header_at bytes)
-  players ← kind_at Player header.0.players header.1
-  events ← kind_at Event header.0.events players.1
-  sites ← kind_at Site header.0.sites events.1
-  rounds ← kind_at Round header.0.rounds sites.1
+  players ← kind_at Player (player_shape header.0) header.1
+  events ← kind_at Event (event_shape header.0) players.1
+  sites ← kind_at Site (site_shape header.0) events.1
+  rounds ← kind_at Round (round_shape header.0) sites.1
   Ok (record { players = players.0; events = events.0; sites = sites.0; rounds = rounds.0 })

@@ -28,9 +28,9 @@ pub fn read_names(alloc: Global, bytes: &[u8]) -> Result<Names, NamesError>
         Ok(found) => found,
         Err(what) => return Err(header_fault(what)),
     };
-    let (players, rest) = read_kind(alloc, NameKind::Player, header.players, rest)?;
-    let (events, rest) = read_kind(alloc, NameKind::Event, header.events, rest)?;
-    let (sites, rest) = read_kind(alloc, NameKind::Site, header.sites, rest)?;
-    let (rounds, _) = read_kind(alloc, NameKind::Round, header.rounds, rest)?;
+    let (players, rest) = read_kind(alloc, NameKind::Player, header.player_shape(), rest)?;
+    let (events, rest) = read_kind(alloc, NameKind::Event, header.event_shape(), rest)?;
+    let (sites, rest) = read_kind(alloc, NameKind::Site, header.site_shape(), rest)?;
+    let (rounds, _) = read_kind(alloc, NameKind::Round, header.round_shape(), rest)?;
     Ok(Names::from_sets(players, events, sites, rounds))
 }

@@ -3,8 +3,8 @@ use Rattle.name_base.proofs.reading.read_names.Goals as goal
 
 pub from_sets-requires : goal.from_sets-requires
 from_sets-requires c = record {
-  players = c.in_ok-players.ensures.sound _ c.in-Ok.ensures.headed.players.count;
-  events = c.in_ok-events.ensures.sound _ c.in-Ok.ensures.headed.events.count;
-  sites = c.in_ok-sites.ensures.sound _ c.in-Ok.ensures.headed.sites.count;
-  rounds = c.in_ok-rounds.ensures.sound _ c.in-Ok.ensures.headed.rounds.count
+  players = c.in_ok-players.ensures.sound _ c.in-Ok.ensures.counts.players;
+  events = c.in_ok-events.ensures.sound _ c.in-Ok.ensures.counts.events;
+  sites = c.in_ok-sites.ensures.sound _ c.in-Ok.ensures.counts.sites;
+  rounds = c.in_ok-rounds.ensures.sound _ c.in-Ok.ensures.counts.rounds
 }
