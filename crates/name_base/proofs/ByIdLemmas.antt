@@ -82,12 +82,13 @@ id_apart id (e ∷ es) h = (h.0, id_apart id es h.1)
 
 pub placed : (es : List Entry) (names : List (List ℕ)) → IsDistinct eqb (ids_of es) → AllByRecursion (λ e. e.id < length names) es → AllByRecursion (λ e. slice_get (put_names es names) e.id ≡ Some e.name) es
 placed [] names d below = tt
-placed (e ∷ es) names d below =
-    (slice_get-set_same (put_names es names) e.id e.name (subst (λ n. e.id < n) (sym (length-put_names es names)) below.0),
-     both_of_each (λ f. eqb e.id f.id ≡ false) (λ f. slice_get (put_names es names) f.id ≡ Some f.name) (λ f. slice_get (set (put_names es names) e.id e.name) f.id ≡ Some f.name) es
-       (λ f apart at. slice_get-set_other (put_names es names) e.id f.id e.name (λ same. true≢false (sym (eq-eqb e.id f.id (sym same)) ∙ apart)) ∙ at)
-       (id_apart e.id es (IsDistinct-head eqb e.id (ids_of es) d))
-       (placed es names (IsDistinct-tail eqb e.id (ids_of es) d) below.1))
+placed (e ∷ es) names d below = (
+  slice_get-set_same (put_names es names) e.id e.name (subst (λ n. e.id < n) (sym (length-put_names es names)) below.0),
+  both_of_each (λ f. eqb e.id f.id ≡ false) (λ f. slice_get (put_names es names) f.id ≡ Some f.name) (λ f. slice_get (set (put_names es names) e.id e.name) f.id ≡ Some f.name) es
+      (λ f apart at. slice_get-set_other (put_names es names) e.id f.id e.name (λ same. true≢false (sym (eq-eqb e.id f.id (sym same)) ∙ apart)) ∙ at)
+      (id_apart e.id es (IsDistinct-head eqb e.id (ids_of es) d))
+      (placed es names (IsDistinct-tail eqb e.id (ids_of es) d) below.1),
+)
 
 -- ---- each id below the count is there
 
@@ -166,8 +167,8 @@ module _ (count : ℕ) (es : List Entry) (are : AreMet count es) (all : length e
       each k d lt =
           let below : k < count = subst (λ n. k < n) length-by_id lt in
           let f = found (λ e. (slice_get (by_id count es) e.id ≡ Some e.name) × (slice_get names e.id ≡ Some e.name)) es k
-            (both_of_each (λ e. slice_get (by_id count es) e.id ≡ Some e.name) (λ e. slice_get names e.id ≡ Some e.name) (λ e. (slice_get (by_id count es) e.id ≡ Some e.name) × (slice_get names e.id ≡ Some e.name)) es (λ e a b. (a, b)) placed_by_id arranged.placed)
-            (covers count es are all k below) in
+          (both_of_each (λ e. slice_get (by_id count es) e.id ≡ Some e.name) (λ e. slice_get names e.id ≡ Some e.name) (λ e. (slice_get (by_id count es) e.id ≡ Some e.name) × (slice_get names e.id ≡ Some e.name)) es (λ e a b. (a, b)) placed_by_id arranged.placed)
+          (covers count es are all k below) in
           let here : get_or (by_id count es) k d ≡ f.entry.name = get_or_from_slice_get (by_id count es) k f.entry.name d (ap (slice_get (by_id count es)) (sym f.id) ∙ f.holds.0) in
           let there : get_or names k d ≡ f.entry.name = get_or_from_slice_get names k f.entry.name d (ap (slice_get names) (sym f.id) ∙ f.holds.1) in
           here ∙ sym there
@@ -177,7 +178,7 @@ module _ (count : ℕ) (es : List Entry) (are : AreMet count es) (all : length e
   arranged-AreNames names arranged = record {
     each = from_places IsName names (λ i lt. let f = at i lt in subst (λ o. IfSome o IsName) (sym (ap (slice_get names) (sym f.id) ∙ f.holds.0)) f.holds.1);
     once = IsDistinct-from_apart bytes_eq names apart;
-    within = omega (arith, arranged.count, all)
+    within = omega (arith, arranged.count, all);
   }
     where
       at : (i : ℕ) → i < length names → Found (λ e. (slice_get names e.id ≡ Some e.name) × IsName e.name) es i

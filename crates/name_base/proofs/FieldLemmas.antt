@@ -91,7 +91,7 @@ number_takes w bytes x wide fits e =
     let g = guard_ok (ltb (length bytes) w) Short (Ok (big_number w bytes, drop w bytes)) x e in
     let long : w ≤ length bytes = ltb-false _ _ g.0 in
     let whole : Takes bytes (big_bytes w (big_number w bytes)) (drop w bytes) × (big_number w bytes < 16777216) =
-      (record { parts = sym (take-append-drop w bytes) ∙ ap (λ t. t ++ drop w bytes) (sym (wide.back bytes fits long)); fits = IsBytes-drop w bytes fits }, wide.small bytes fits) in
+    (record { parts = sym (take-append-drop w bytes) ∙ ap (λ t. t ++ drop w bytes) (sym (wide.back bytes fits long)); fits = IsBytes-drop w bytes fits }, wide.small bytes fits) in
     subst (λ (y : ℕ × List ℕ). Takes bytes (big_bytes w y.0) y.1 × (y.0 < 16777216)) (ok_is (big_number w bytes, drop w bytes) x g.1) whole
 
 pub number_again : (w n : ℕ) (rest : List ℕ) → n < 256 ^ w → number_at w (big_bytes w n ++ rest) ≡ Ok (n, rest)
@@ -157,7 +157,7 @@ own_takes n bytes x fits e =
     let g = guard_ok (ltb (length bytes) n) Short (Ok (take n bytes, drop n bytes)) x z.1 in
     let long : n ≤ length bytes = ltb-false _ _ g.0 in
     let whole : Takes bytes (take n bytes) (drop n bytes) × (length (take n bytes) ≡ n) × (has_zero (take n bytes) ≡ false) =
-      (record { parts = sym (take-append-drop n bytes); fits = IsBytes-drop n bytes fits }, length-take-le n bytes long, z.0) in
+    (record { parts = sym (take-append-drop n bytes); fits = IsBytes-drop n bytes fits }, length-take-le n bytes long, z.0) in
     subst (λ (y : List ℕ × List ℕ). Takes bytes y.0 y.1 × (length y.0 ≡ n) × (has_zero y.0 ≡ false)) (ok_is (take n bytes, drop n bytes) x g.1) whole
 
 pub own_again : (n : ℕ) (own rest : List ℕ) → length own ≡ n → has_zero own ≡ false → own_at n (own ++ rest) ≡ Ok (own, rest)

@@ -14,9 +14,10 @@ use Rattle.name_base.specs.declared.kind.NameKind.TheVariants.{Player, Event, Si
 use Rattle.name_base.specs.declared.fault.NameWhat.{NameWhat}
 use Rattle.name_base.specs.declared.fault.NameWhat.TheVariants.{Short, Magic, Count}
 use Rattle.name_base.specs.declared.fault.NameFault.{NameFault}
+use Rattle.name_base.specs.declared.fault.NamesError.{NamesError}
 use Rattle.name_base.specs.NameLists.{NameLists, limit_of}
 use Rattle.name_base.specs.NamesFile.{Stored, magic, four_bytes, header_bytes, kind_bytes, AreCounts, AreSmall, player_shape, event_shape, site_shape, round_shape, StoresKind, NameFile}
-use Rattle.name_base.specs.Reading.{◌>>=◌, blamed, number_at, skip_at, magic_at, count_at, counts_at, greatest_at, header_at, kind_at, names_at}
+use Rattle.name_base.specs.Reading.{◌>>=◌, Answers, blamed, number_at, skip_at, magic_at, count_at, counts_at, greatest_at, header_at, kind_at, names_at}
 use Rattle.name_base.proofs.FieldLemmas.{IsBytes, IsBytes-drop, Takes, width_3, bind_ok, guard_ok, ok_is, number_takes, number_again, skip_takes, skip_again}
 use Rattle.name_base.proofs.KindLemmas.{blamed_ok, kind_takes, kind_again}
 
@@ -33,7 +34,7 @@ magic_takes bytes rest fits e =
     let same : take 8 bytes ≡ magic = (bytes_eq-Decides (take 8 bytes) magic).0 h.0 in
     record {
       parts = sym (take-append-drop 8 bytes) ∙ (λ i. same i ++ h.1 i);
-      fits = subst IsBytes h.1 (IsBytes-drop 8 bytes fits)
+      fits = subst IsBytes h.1 (IsBytes-drop 8 bytes fits);
     }
 
 magic_again : (rest : List ℕ) → magic_at (magic ++ rest) ≡ Ok rest
@@ -89,17 +90,19 @@ counts_take bytes x fits e =
     let whole : FourTake AreCounts bytes (n, d.0.1) = record {
       spelled = four_parts bytes a.0.1 b.0.1 c.0.1 d.0.1 n ta.0.parts tb.0.parts tc.0.parts td.0.parts;
       holds = record { players = ta.1; events = tb.1; sites = tc.1; rounds = td.1 };
-      rest = td.0.fits
+      rest = td.0.fits;
     } in
     subst (FourTake AreCounts bytes) (ok_is (n, d.0.1) x d.2) whole
 
 counts_again : (n : PerKind) (rest : List ℕ) → AreCounts n → counts_at (four_bytes n rest) ≡ Ok (n, rest)
 unfolding counts_at four_bytes
 counts_again n rest are =
-    rw (count_again Player n.players (big_bytes 3 n.events ++ (big_bytes 3 n.sites ++ (big_bytes 3 n.rounds ++ rest))) are.players,
-        count_again Event n.events (big_bytes 3 n.sites ++ (big_bytes 3 n.rounds ++ rest)) are.events,
-        count_again Site n.sites (big_bytes 3 n.rounds ++ rest) are.sites,
-        count_again Round n.rounds rest are.rounds) refl
+    rw (
+      count_again Player n.players (big_bytes 3 n.events ++ (big_bytes 3 n.sites ++ (big_bytes 3 n.rounds ++ rest))) are.players,
+      count_again Event n.events (big_bytes 3 n.sites ++ (big_bytes 3 n.rounds ++ rest)) are.events,
+      count_again Site n.sites (big_bytes 3 n.rounds ++ rest) are.sites,
+      count_again Round n.rounds rest are.rounds,
+    ) refl
 
 greatest_take : (bytes : List ℕ) (x : PerKind × List ℕ) → IsBytes bytes → greatest_at bytes ≡ Ok x → FourTake AreSmall bytes x
 unfolding greatest_at
@@ -116,17 +119,19 @@ greatest_take bytes x fits e =
     let whole : FourTake AreSmall bytes (n, d.0.1) = record {
       spelled = four_parts bytes a.0.1 b.0.1 c.0.1 d.0.1 n ta.0.parts tb.0.parts tc.0.parts td.0.parts;
       holds = record { players = ta.1; events = tb.1; sites = tc.1; rounds = td.1 };
-      rest = td.0.fits
+      rest = td.0.fits;
     } in
     subst (FourTake AreSmall bytes) (ok_is (n, d.0.1) x d.2) whole
 
 greatest_again : (n : PerKind) (rest : List ℕ) → AreSmall n → greatest_at (four_bytes n rest) ≡ Ok (n, rest)
 unfolding greatest_at four_bytes
 greatest_again n rest are =
-    rw (number_again 3 n.players (big_bytes 3 n.events ++ (big_bytes 3 n.sites ++ (big_bytes 3 n.rounds ++ rest))) are.players,
-        number_again 3 n.events (big_bytes 3 n.sites ++ (big_bytes 3 n.rounds ++ rest)) are.events,
-        number_again 3 n.sites (big_bytes 3 n.rounds ++ rest) are.sites,
-        number_again 3 n.rounds rest are.rounds) refl
+    rw (
+      number_again 3 n.players (big_bytes 3 n.events ++ (big_bytes 3 n.sites ++ (big_bytes 3 n.rounds ++ rest))) are.players,
+      number_again 3 n.events (big_bytes 3 n.sites ++ (big_bytes 3 n.rounds ++ rest)) are.events,
+      number_again 3 n.sites (big_bytes 3 n.rounds ++ rest) are.sites,
+      number_again 3 n.rounds rest are.rounds,
+    ) refl
 
 -- what the header took
 record HeaderTakes (bytes : List ℕ) (x : Header × List ℕ) : Type 0 where
@@ -155,15 +160,19 @@ header_takes bytes x fits e =
       stamped = tk.1;
       counts = ta.holds;
       greatest = tb.holds;
-      rest = tb.rest
+      rest = tb.rest;
     } in
     subst (HeaderTakes bytes) (ok_is made x b.2) whole
 
 header_again : (stamp : List ℕ) (h : Header) (rest : List ℕ) → length stamp ≡ 4 → AreCounts h.counts → AreSmall h.greatest → header_at (header_bytes stamp h rest) ≡ Ok (h, rest)
 unfolding header_at header_bytes
 header_again stamp h rest stamped counts greatest =
-    rw (magic_again (stamp ++ four_bytes h.counts (four_bytes h.greatest rest)), skip_again 4 stamp (four_bytes h.counts (four_bytes h.greatest rest)) stamped,
-        counts_again h.counts (four_bytes h.greatest rest) counts, greatest_again h.greatest rest greatest) refl
+    rw (
+      magic_again (stamp ++ four_bytes h.counts (four_bytes h.greatest rest)),
+      skip_again 4 stamp (four_bytes h.counts (four_bytes h.greatest rest)) stamped,
+      counts_again h.counts (four_bytes h.greatest rest) counts,
+      greatest_again h.greatest rest greatest,
+    ) refl
 
 -- ---- the two laws
 
@@ -195,7 +204,7 @@ names_take bytes lists fits e =
       player_names = ta.names;
       event_names = tb.names;
       site_names = tc.names;
-      round_names = td.names
+      round_names = td.names;
     } in
     subst (NameFile bytes) (ok_is (record { players = a.0.0; events = b.0.0; sites = c.0.0; rounds = d.0.0 }) lists d.2) whole
 
@@ -208,3 +217,11 @@ names_again bytes lists f =
     let sites = kind_again Site (site_shape f.header) f.sites lists.sites (kind_bytes (round_shape f.header) None f.rounds f.rest) (omega (arith, f.counts.sites)) f.site_names in
     let rounds = kind_again Round (round_shape f.header) f.rounds lists.rounds f.rest (omega (arith, f.counts.rounds)) f.round_names in
     rw (f.spelled, header, players, events, sites, rounds) refl
+
+-- what a call that reads exactly found
+pub is_found : (bytes : List ℕ) (r : Result NameLists NamesError) → IsBytes bytes → Answers (λ names. names) r (names_at bytes) → IfOk r (λ names. NameFile bytes names)
+is_found bytes (Ok names) fits exact = names_take bytes names fits exact
+is_found bytes (Err e) fits exact = tt
+
+pub is_only : (bytes : List ℕ) (r : Result NameLists NamesError) → Answers (λ names. names) r (names_at bytes) → (lists : NameLists) → NameFile bytes lists → Answers (λ names. names) r (Ok lists)
+is_only bytes r exact lists file = subst (λ (read : Result NameLists NameFault). Answers (λ names. names) r read) (names_again bytes lists file) exact

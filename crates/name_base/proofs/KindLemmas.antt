@@ -31,7 +31,7 @@ AreMet-push count met e are lt is new_id new_name = record {
   ids = subst (IsDistinct eqb) (sym (map-append (λ e. e.id) met (e ∷ []))) (IsDistinct-push nat_eq_equiv (ids_of met) e.id are.ids (list_any-map (λ e. e.id) (eqb e.id) met ∙ new_id));
   once = subst (IsDistinct bytes_eq) (sym (map-append (λ e. e.name) met (e ∷ []))) (IsDistinct-push bytes_equiv (names_of met) e.name are.once new_name);
   below = AllByRecursion-push (λ e. e.id < count) met e are.below lt;
-  each = AllByRecursion-push (λ e. IsName e.name) met e are.each is
+  each = AllByRecursion-push (λ e. IsName e.name) met e are.each is;
 }
 
 -- the last name, after one more
@@ -76,7 +76,7 @@ entries_take kind shape (suc n) met bytes x fits are e =
       fit = (t.fits, subst (λ before. AllFit shape before rest.stored) last rest.fit);
       added = rest.added ∙ (λ i. t.added i ++ entries (last i) rest.stored) ∙ append_assoc met (one ∷ []) (entries (Some one.name) rest.stored);
       are = rest.are;
-      rest = rest.rest
+      rest = rest.rest;
     }
 
 -- stored names that fit are read again
@@ -89,15 +89,15 @@ entries_again kind shape (s ∷ stored) met rest le fit ids once =
     let one : Entry = entry_of (last_name met) s in
     let more : List Entry = entries (Some one.name) stored in
     let new_id : has_id met s.id ≡ false =
-      sym (list_any-map (λ e. e.id) (eqb s.id) met) ∙ distinct_before eqb nat_eq_equiv (ids_of met) s.id (ids_of more) (subst (IsDistinct eqb) (map-append (λ e. e.id) met (one ∷ more)) ids) in
+    sym (list_any-map (λ e. e.id) (eqb s.id) met) ∙ distinct_before eqb nat_eq_equiv (ids_of met) s.id (ids_of more) (subst (IsDistinct eqb) (map-append (λ e. e.id) met (one ∷ more)) ids) in
     let new_name : is_in (names_of met) one.name ≡ false =
-      distinct_before bytes_eq bytes_equiv (names_of met) one.name (names_of more) (subst (IsDistinct bytes_eq) (map-append (λ e. e.name) met (one ∷ more)) once) in
+    distinct_before bytes_eq bytes_equiv (names_of met) one.name (names_of more) (subst (IsDistinct bytes_eq) (map-append (λ e. e.name) met (one ∷ more)) once) in
     let first = entry_again shape met s (kind_bytes shape (Some one.name) stored rest) le fit.0 new_id new_name in
     let last : last_name (met ++ one ∷ []) ≡ Some one.name = last_name-push met one in
     let grouped : (met ++ one ∷ []) ++ more ≡ met ++ one ∷ more = append_assoc met (one ∷ []) more in
     let regrouped : (met ++ one ∷ []) ++ entries (last_name (met ++ one ∷ [])) stored ≡ met ++ one ∷ more = ap (λ before. (met ++ one ∷ []) ++ entries before stored) last ∙ grouped in
     let others = entries_again kind shape stored (met ++ one ∷ []) rest le (subst (λ before. AllFit shape before stored) (sym last) fit.1)
-      (subst (λ es. IsDistinct eqb (ids_of es)) (sym regrouped) ids) (subst (λ es. IsDistinct bytes_eq (names_of es)) (sym regrouped) once) in
+    (subst (λ es. IsDistinct eqb (ids_of es)) (sym regrouped) ids) (subst (λ es. IsDistinct bytes_eq (names_of es)) (sym regrouped) once) in
     ap (λ r. blamed (Some kind) (length met) r >>= λ more. entries_at kind shape (length stored) more.0 more.1) first
     ∙ ap (λ before. entries_at kind shape (length stored) (met ++ one ∷ []) (kind_bytes shape before stored rest)) (sym last)
     ∙ others ∙ ap (λ es. Ok (es, rest)) regrouped
@@ -135,7 +135,7 @@ kind_takes kind shape bytes x fits e =
       stored = t.stored;
       spelled = t.spelled;
       names = record { count = t.count; each = t.fit; arranged = subst (λ es. Arranges es (by_id shape.count a.0.0)) t.added (by_id-Arranges shape.count a.0.0 t.are all) };
-      rest = t.rest
+      rest = t.rest;
     } in
     subst (KindTakes shape bytes) (ok_is (by_id shape.count a.0.0, a.0.1) x a.2) whole
 
@@ -146,7 +146,7 @@ kind_again kind shape stored names rest le stores =
     let es : List Entry = entries None stored in
     let all : length es ≡ shape.count = length-entries None stored ∙ stores.count in
     let read : entries_at kind shape shape.count [] (kind_bytes shape None stored rest) ≡ Ok (es, rest) =
-      ap (λ n. entries_at kind shape n [] (kind_bytes shape None stored rest)) (sym stores.count) ∙ entries_again kind shape stored [] rest le stores.each stores.arranged.ids stores.arranged.once in
+    ap (λ n. entries_at kind shape n [] (kind_bytes shape None stored rest)) (sym stores.count) ∙ entries_again kind shape stored [] rest le stores.each stores.arranged.ids stores.arranged.once in
     let are : AreMet shape.count es = record { ids = stores.arranged.ids; once = stores.arranged.once; below = all_below shape None stored stores.each; each = all_names shape None stored stores.each } in
     ap (λ r. r >>= λ es. Ok (by_id shape.count es.0, es.1)) read ∙ ap (λ ns. Ok (ns, rest)) (by_id-only shape.count es are all names stores.arranged)
 

@@ -90,7 +90,7 @@ module _ (kind : NameKind) (shape : Shape) (i : ℕ) (met : List Entry) (bytes :
         same = sym (one_more ∙ ap (λ r. r >>= λ more. entries_at kind shape (shape.count - (i + 1)) more.0 more.1) h);
         next = (let n : i + 1 ≡ length (met ++ one ∷ []) = omega (arith, length-append met (one ∷ [])) in n) ∙ ap length (sym t.added);
         are = subst (AreMet shape.count) (sym t.added) (AreMet-push shape.count met one are t.fits.id t.fits.name t.new_id t.new_name);
-        bytes_left = t.rest
+        bytes_left = t.rest;
       }
 
 -- once all were read

@@ -27,7 +27,7 @@ has_id-push met e id = list_any-append (λ e. eqb id e.id) met (e ∷ []) ∙ ap
 pub IsReading-push : (taken : List Bool) (met : List Entry) (e : Entry) → e.id < length taken → IsReading taken met → IsReading (set taken e.id true) (met ++ e ∷ [])
 IsReading-push taken met e lt is = record {
   few = rw length-set is.few;
-  marks = λ id below. by id (simp length-set at below) (cases_eq id e.id) ∙ sym (has_id-push met e id)
+  marks = λ id below. by id (simp length-set at below) (cases_eq id e.id) ∙ sym (has_id-push met e id);
 }
   where
     either : (b : Bool) → (b || true) ≡ true
@@ -78,5 +78,5 @@ module _ {X : Type 0} (f : X → List ℕ) where
   last_is es met k id seen at =
       let n : ℕ = length es - 1 in
       sym ((λ i. slice_get (names_of (map entry es)) (length-map es entry i - 1)) ∙ slice_get-map (λ e. e.name) (map entry es) n
-          ∙ ap (option_map (λ e. e.name)) (slice_get-map entry es n ∙ ap (option_map entry) (sym at)))
+      ∙ ap (option_map (λ e. e.name)) (slice_get-map entry es n ∙ ap (option_map entry) (sym at)))
       ∙ ap last_name seen

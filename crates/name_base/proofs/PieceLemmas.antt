@@ -115,11 +115,11 @@ piece_takes shape met bytes p fits each e =
         shared = td.2;
         name = record {
           long = omega (arith, length-append (take d.0.0 (unwrap_or (last_name met) [])) o.0.0, length-take-le d.0.0 (unwrap_or (last_name met) []) td.2, len-is, tc.1);
-          whole = no_zero_joined (take d.0.0 (unwrap_or (last_name met) [])) o.0.0 (list_any-take (λ byte. eqb byte 0) d.0.0 (unwrap_or (last_name met) []) (last_whole met each)) to.2
-        }
+          whole = no_zero_joined (take d.0.0 (unwrap_or (last_name met) [])) o.0.0 (list_any-take (λ byte. eqb byte 0) d.0.0 (unwrap_or (last_name met) []) (last_whole met each)) to.2;
+        };
       };
       new = ta.2;
-      rest = to.0.fits
+      rest = to.0.fits;
     } in
     subst (PieceTakes shape met bytes) (ok_is made p o.2) whole
 
@@ -130,7 +130,7 @@ unfolding piece_at stored_bytes
 piece_again shape met s rest le fits new =
     let own-is : length s.own ≡ (s.shared + length s.own) - s.shared = omega arith in
     let own_whole : has_zero s.own ≡ false =
-      (neither (has_zero (take s.shared (unwrap_or (last_name met) []))) (has_zero s.own) (sym (list_any-append (λ byte. eqb byte 0) (take s.shared (unwrap_or (last_name met) [])) s.own) ∙ fits.name.whole)).1 in
+    (neither (has_zero (take s.shared (unwrap_or (last_name met) []))) (has_zero s.own) (sym (list_any-append (λ byte. eqb byte 0) (take s.shared (unwrap_or (last_name met) [])) s.own) ∙ fits.name.whole)).1 in
     let a = id_again shape.count met s.id (s.frequency ++ ((s.shared + length s.own) ∷ (shared_byte (last_name met) s.shared ++ (s.own ++ rest)))) fits.id le new in
     let b = skip_again (frequency_width shape.greatest) s.frequency ((s.shared + length s.own) ∷ (shared_byte (last_name met) s.shared ++ (s.own ++ rest))) fits.frequency in
     let c = byte_again (s.shared + length s.own) (shared_byte (last_name met) s.shared ++ (s.own ++ rest)) in
@@ -166,7 +166,7 @@ entry_takes shape met bytes x fits each e =
       new_id = t.new;
       new_name = g.0;
       added = refl;
-      rest = t.rest
+      rest = t.rest;
     } in
     subst (EntryTakes shape met bytes) (ok_is (met ++ record { id = a.0.id; name = name_of_piece met a.0 } ∷ [], a.0.rest) x g.1) whole
 

@@ -17,7 +17,6 @@ use Rattle.name_base.specs.NameLists.{NameLists, is_in, has_zero, limit_of}
 use Rattle.name_base.specs.NamesFile.{Entry, id_width, frequency_width, magic, player_shape, event_shape, site_shape, round_shape}
 
 infixl 10 ◌>>=◌
-
 -- The second step, unless the first has a fault.
 abbrev pub ◌>>=◌ : {A B E : Type 0} → Result A E → (A → Result B E) → Result B E
 (Ok x) >>= f = f x

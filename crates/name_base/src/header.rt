@@ -4,8 +4,8 @@ ghost use Rattle.name_base.specs.NameLists.{limit_of};
 ghost use Rattle.name_base.specs.NamesFile.{AreCounts, AreSmall, player_shape, event_shape, site_shape, round_shape};
 ghost use Rattle.name_base.specs.Reading.{Gives, magic_at, count_at, counts_at, greatest_at, header_at};
 
-use crate::{NameKind, NameWhat};
 use crate::field::{number_at, skip_at};
+use crate::{NameKind, NameWhat};
 
 /// `Scid.sn` and a zero byte.
 const MAGIC: [u8; 8] = *b"Scid.sn\0";

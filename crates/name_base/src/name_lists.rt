@@ -73,11 +73,21 @@ impl Names {
     }
 
     /// The names of these sets.
-    pub(crate) fn from_sets(players: NameSet, events: NameSet, sites: NameSet, rounds: NameSet) -> Self
+    pub(crate) fn from_sets(
+        players: NameSet,
+        events: NameSet,
+        sites: NameSet,
+        rounds: NameSet,
+    ) -> Self
         requires { AreSound (record { players = players; events = events; sites = sites; rounds = rounds }) }
         ensures { result ≡ record { players = players; events = events; sites = sites; rounds = rounds } }
     {
-        Names { players, events, sites, rounds }
+        Names {
+            players,
+            events,
+            sites,
+            rounds,
+        }
     }
 
     fn set(&self, kind: NameKind) -> &NameSet

@@ -19,10 +19,9 @@ fn header_fault(what: NameWhat) -> NamesError
     })
 }
 
-/// The names of a names file. The time stamp, the frequencies, the order of the names and bytes after the last one do not count.
 #[tactic(auto, unfolding(crate::specs::Reading::names_at))]
-pub fn read_names(alloc: Global, bytes: &[u8]) -> Result<Names, NamesError>
-    ensures exact { Answers (λ names. names) result (names_at bytes.now) }
+fn read_file(alloc: Global, bytes: &[u8]) -> Result<Names, NamesError>
+    ensures { Answers (λ names. names) result (names_at bytes.now) }
 {
     let (header, rest) = match header_at(bytes) {
         Ok(found) => found,
@@ -33,4 +32,22 @@ pub fn read_names(alloc: Global, bytes: &[u8]) -> Result<Names, NamesError>
     let (sites, rest) = read_kind(alloc, NameKind::Site, header.site_shape(), rest)?;
     let (rounds, _) = read_kind(alloc, NameKind::Round, header.round_shape(), rest)?;
     Ok(Names::from_sets(players, events, sites, rounds))
+}
+
+/// The names of a names file.
+///
+/// The time stamp, the frequencies, the order of the names and bytes after the last one do not count.
+///
+/// # Errors
+///
+/// `Bad` with the first fault in the order of the bytes, and `Memory`.
+pub fn read_names(alloc: Global, bytes: &[u8]) -> Result<Names, NamesError>
+    // What is read is spelled so.
+    ensures found { IfOk result (λ names. NameFile bytes.now names) }
+    // What is spelled so is read, unless memory runs out.
+    ensures only { (lists : NameLists) → NameFile bytes.now lists → Answers (λ names. names) result (Ok lists) }
+    // Which fault it is.
+    ensures exact { Answers (λ names. names) result (names_at bytes.now) }
+{
+    read_file(alloc, bytes)
 }

@@ -14,7 +14,7 @@ pub loop-name-preserved : goal.loop-name-preserved
 loop-name-preserved c = record {
   same = put_last (λ v. v.items) c.loop-name.met.entries c.pop.new.self.entries c.in-Some.name c.in-Some.id c.loop-name.names.items _ c.in-Some.ensures.entries c.loop-name.invariant.same;
   long = length-set c.loop-name.names.items c.in-Some.id c.in-Some.name ∙ c.loop-name.invariant.long;
-  below = others_below (λ v. v.items) c.loop-name.met.entries c.pop.new.self.entries c.in-Some.name c.in-Some.id c.args.count c.in-Some.ensures.entries c.loop-name.invariant.below
+  below = others_below (λ v. v.items) c.loop-name.met.entries c.pop.new.self.entries c.in-Some.name c.in-Some.id c.args.count c.in-Some.ensures.entries c.loop-name.invariant.below;
 }
 
 pub returns : goal.returns

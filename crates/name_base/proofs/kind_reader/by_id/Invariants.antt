@@ -10,7 +10,7 @@ invariant-loop-name l = record {
   same : put_names (map (λ p. record { id = p.1; name = p.0.items }) l.met.entries) (map (λ v. v.items) l.names.items)
       ≡ put_names (map (λ p. record { id = p.1; name = p.0.items }) l.fn.met.entries) (replicate l.fn.count []);
   long : length l.names.items ≡ l.fn.count;
-  below : AllByRecursion (λ p. p.1 < l.fn.count) l.met.entries
+  below : AllByRecursion (λ p. p.1 < l.fn.count) l.met.entries;
 }
 
 abbrev pub decreases-loop-name : goal.decreases-loop-name

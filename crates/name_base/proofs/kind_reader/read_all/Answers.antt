@@ -15,7 +15,7 @@ loop-index-init c =
       count = sym c.requires.count;
       index = sym (ap length c.requires.none);
       are = subst (AreMet c.args.shape.count) (sym c.requires.none) (AreMet-none c.args.shape.count);
-      bytes = λ i. omega (arith, c.type_inv.bytes i)
+      bytes = λ i. omega (arith, c.type_inv.bytes i);
     }
 
 pub returns-in_err-rest-clause-gives : goal.returns-in_err-rest-clause-gives
@@ -26,7 +26,7 @@ returns-in_err-rest-clause-gives c =
 pub loop-index-preserved : goal.loop-index-preserved
 loop-index-preserved c =
     let g = read_goes c.args.kind c.args.shape c.loop-index.index c.loop-index.reader.entries c.loop-index.rest.now _ c.loop-index-test.true c.loop-index.invariant.index c.loop-index.invariant.same
-      c.read.new.self.entries c.in_ok-rest.rest.now c.loop-index.invariant.are c.loop-index.invariant.bytes c.in_ok-rest.ensures.gives in
+    c.read.new.self.entries c.in_ok-rest.rest.now c.loop-index.invariant.are c.loop-index.invariant.bytes c.in_ok-rest.ensures.gives in
     record { same = g.same; count = c.in_ok-rest.ensures.count ∙ c.loop-index.invariant.count; index = g.next; are = g.are; bytes = g.bytes_left }
 
 pub returns-clause-gives : goal.returns-clause-gives

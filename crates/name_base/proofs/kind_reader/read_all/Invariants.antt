@@ -11,5 +11,5 @@ invariant-loop-index l = record {
   count : l.reader.count ≡ l.fn.shape.count;
   index : l.index ≡ length l.reader.entries;
   are : AreMet l.fn.shape.count l.reader.entries;
-  bytes : IsBytes l.rest
+  bytes : IsBytes l.rest;
 }

@@ -1,10 +1,10 @@
--- Each kind has no more names than the header says, and no more than its limit.
+-- The two laws, at what was read.
+use Rattle.std.proofs.Common.{arith}
+use Rattle.name_base.proofs.FileLemmas.{is_found, is_only}
 use Rattle.name_base.proofs.reading.read_names.Goals as goal
 
-pub from_sets-requires : goal.from_sets-requires
-from_sets-requires c = record {
-  players = c.in_ok-players.ensures.sound _ c.in-Ok.ensures.counts.players;
-  events = c.in_ok-events.ensures.sound _ c.in-Ok.ensures.counts.events;
-  sites = c.in_ok-sites.ensures.sound _ c.in-Ok.ensures.counts.sites;
-  rounds = c.in_ok-rounds.ensures.sound _ c.in-Ok.ensures.counts.rounds
-}
+pub returns-clause-found : goal.returns-clause-found
+returns-clause-found c = is_found c.args.bytes.now c.read_file.result (λ i. omega (arith, c.type_inv.bytes i)) c.read_file.ensures
+
+pub returns-clause-only : goal.returns-clause-only
+returns-clause-only c lists file = is_only c.args.bytes.now c.read_file.result c.read_file.ensures lists file

@@ -15,5 +15,5 @@ invariant_of-self-2 c =
     let same = met_added (λ v. v.items) c.args.name c.args.id _ _ _ _ seen refl c.requires.name c.in_ok-insert.ensures.entries in
     let long : c.args.id < length c.self.inside.taken.items = subst (λ n. c.args.id < n) (sym (ap (λ read. read.count) c.self.view_is)) c.requires.id in
     subst (IsReading (set c.self.inside.taken.items c.args.id true)) (sym same)
-        (IsReading-push c.self.inside.taken.items c.args.self.now.entries (record { id = c.args.id; name = c.args.name.items }) long
-            (subst (IsReading c.self.inside.taken.items) seen c.self.invariant))
+    (IsReading-push c.self.inside.taken.items c.args.self.now.entries (record { id = c.args.id; name = c.args.name.items }) long
+    (subst (IsReading c.self.inside.taken.items) seen c.self.invariant))

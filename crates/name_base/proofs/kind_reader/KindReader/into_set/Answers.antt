@@ -12,8 +12,8 @@ pub by_id-requires : goal.by_id-requires
 by_id-requires c =
     let count : c.args.self.count ≡ (length c.as_slice.result.now) = sym (ap length c.as_slice.ensures.value ∙ ap (λ r. r.count) c.self.view_is) in
     below_entries (λ v. v.items) (length c.as_slice.result.now) c.self.inside.met.entries
-      (subst (λ (es : List Entry). AllByRecursion (λ e. e.id < (length c.as_slice.result.now)) es) (sym (ap (λ r. r.entries) c.self.view_is))
-        (subst (λ (n : ℕ). AllByRecursion (λ e. e.id < n) c.args.self.entries) count c.requires.met.below))
+    (subst (λ (es : List Entry). AllByRecursion (λ e. e.id < (length c.as_slice.result.now)) es) (sym (ap (λ r. r.entries) c.self.view_is))
+    (subst (λ (n : ℕ). AllByRecursion (λ e. e.id < n) c.args.self.entries) count c.requires.met.below))
 
 pub from_names-requires : goal.from_names-requires
 from_names-requires c =
