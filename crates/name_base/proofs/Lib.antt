@@ -6,3 +6,4 @@ pub mod ByIdLemmas
 pub mod KindLemmas
 pub mod LoopLemmas
 pub mod FileLemmas
+pub mod TextLemmas

@@ -3,3 +3,4 @@ pub mod NamesFile
 pub mod Reading
 pub mod KindRead
 pub mod KindReading
+pub mod NamesText

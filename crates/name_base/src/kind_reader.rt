@@ -46,7 +46,7 @@ struct Parts<'a> {
 }
 
 /// How many bytes an id has.
-fn id_width(count: u32) -> usize
+pub(crate) fn id_width(count: u32) -> usize
     ensures width { result ≡ id_width count }
     ensures some { 1 ≤ result }
     ensures few { result ≤ 3 }

@@ -11,6 +11,7 @@ mod kind_reader;
 mod name_lists;
 mod name_set;
 mod reading;
+mod writing;
 
 pub use fault::{NameFault, NameWhat, NamesError};
 pub use kind::NameKind;
