@@ -1,5 +1,5 @@
 -- The names file as it is written. This project's own choice among the files that spell the same names.
-use Rattle.std.specs.Prelude.{◌≡◌, ◌<◌, ◌+◌, ◌^◌, ℕ, nat_eq, List, [], ◌∷◌, ◌++◌, Option, Some, None, max, length, drop}
+use Rattle.std.specs.Prelude.{◌≡◌, ◌≤◌, ◌<◌, ◌+◌, ◌^◌, ℕ, nat_eq, List, [], ◌∷◌, ◌++◌, Option, Some, None, max, length, drop}
 use Rattle.std.specs.Ordering.{nat_cmp}
 use Rattle.std.specs.List.{common_prefix_len, AllByRecursion}
 use Rattle.std.specs.List.Sorted.{IsPermutation, IsSortedByKey}
@@ -9,7 +9,7 @@ use Rattle.name_base.specs.declared.header.Shape.{Shape}
 use Rattle.name_base.specs.declared.header.PerKind.{PerKind}
 use Rattle.name_base.specs.declared.header.Header.{Header}
 use Rattle.name_base.specs.NameLists.{NameLists}
-use Rattle.name_base.specs.NamesFile.{Stored, frequency_width, kind_bytes, header_bytes, player_shape, event_shape, site_shape, round_shape}
+use Rattle.name_base.specs.NamesFile.{Stored, shared_byte, frequency_width, kind_bytes, header_bytes, player_shape, event_shape, site_shape, round_shape}
 
 -- A name of a base, with how often the base uses it.
 pub record Row : Type 0 where
@@ -85,3 +85,13 @@ pub record IsNamesText (lists : NameLists) (f : Frequencies) (bytes : List ℕ) 
   pub text : bytes ≡ header_bytes (0 ∷ 0 ∷ 0 ∷ 0 ∷ []) (header_of lists f)
       (rows_bytes (player_shape (header_of lists f)) players (rows_bytes (event_shape (header_of lists f)) events
       (rows_bytes (site_shape (header_of lists f)) sites (rows_bytes (round_shape (header_of lists f)) rounds []))))
+
+-- The bytes of a name after another, and what follows them: its length, the length of the shared prefix, its own bytes.
+abbrev pub name_bytes : Option (List ℕ) → List ℕ → List ℕ → List ℕ
+name_bytes before name rest = length name ∷ (shared_byte before (shared_len before name) ++ (drop (shared_len before name) name ++ rest))
+
+-- A row that the fields of a kind of this shape hold.
+pub record FitsShape (shape : Shape) (r : Row) : Type 0 where
+  pub id : r.id < shape.count
+  pub frequency : r.frequency ≤ shape.greatest
+  pub name : length r.name ≤ 255

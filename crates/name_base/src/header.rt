@@ -8,7 +8,7 @@ use crate::field::{number_at, skip_at};
 use crate::{NameKind, NameWhat};
 
 /// `Scid.sn` and a zero byte.
-const MAGIC: [u8; 8] = *b"Scid.sn\0";
+pub(crate) const MAGIC: [u8; 8] = *b"Scid.sn\0";
 
 /// How many names of a kind a file has, and the greatest of their frequencies.
 #[derive(Clone, Copy, Debug, Drop)]

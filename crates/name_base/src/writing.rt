@@ -1,15 +1,16 @@
 //! Writing a names file.
 ghost use Rattle.std.specs.Prelude.{◌≡◌, ◌≤◌, ◌<◌, ◌^◌, ◌++◌, ◌∷◌, [], ℕ, List, nat_eq, None, length, map, IfOk, OnOk};
 ghost use Rattle.std.specs.Ordering.{nat_cmp};
-ghost use Rattle.std.specs.List.{common_prefix_len, AllByRecursion};
+ghost use Rattle.std.specs.List.{common_prefix_len, AllByRecursion, All};
 ghost use Rattle.std.specs.List.Sorted.{IsSortedByKey};
 ghost use Rattle.std.specs.Cmp.Lexicographic.{slice_cmp};
 ghost use Rattle.std.specs.Option.{option_copied};
 ghost use Rattle.byteorder.specs.Endian.{big_bytes};
-ghost use Rattle.name_base.specs.NamesFile.{id_width, frequency_width, stored_bytes, four_bytes, header_bytes, player_shape, event_shape, site_shape, round_shape};
-ghost use Rattle.name_base.specs.NamesText.{rows_from, IsOrderOf, stored_row, greatest_of, AreFrequencies, header_of, rows_bytes, IsNamesText};
+ghost use Rattle.name_base.specs.NameLists.{AreNames};
+ghost use Rattle.name_base.specs.NamesFile.{AreSmall, id_width, frequency_width, stored_bytes, four_bytes, header_bytes, player_shape, event_shape, site_shape, round_shape};
+ghost use Rattle.name_base.specs.NamesText.{Row as Listed, rows_from, IsOrderOf, stored_row, greatest_of, AreFrequencies, header_of, rows_bytes, name_bytes, FitsShape, IsNamesText};
 
-use crate::header::{Header, PerKind, Shape};
+use crate::header::{Header, MAGIC, PerKind, Shape};
 use crate::kind_reader::{frequency_width, id_width};
 use crate::name_set::NameSet;
 use crate::{NameKind, Names};
@@ -26,7 +27,8 @@ struct Row<'a> {
 
 /// The length of the longest common prefix.
 fn shared_prefix(before: &[u8], name: &[u8]) -> usize
-    ensures { result ≡ common_prefix_len nat_eq before.now name.now }
+    ensures shared { result ≡ common_prefix_len nat_eq before.now name.now }
+    ensures within { result ≤ length name.now }
 {
     let mut len = 0;
     while len < before.len() && len < name.len() && before[len] == name[len] {
@@ -92,4 +94,98 @@ fn rows_in_order<'a>(
     let mut rows = rows_by_id(alloc, names, frequencies)?;
     rows.sort()?;
     Ok(rows)
+}
+
+/// Appends the length of a name, the length of the prefix that it shares with the name before it, and the bytes after that.
+fn put_name(out: &mut Vec<u8>, before: Option<&[u8]>, name: &[u8]) -> Result<(), AllocError>
+    requires { length name.now ≤ 255 }
+    ensures { OnOk result ((rest : List ℕ) → out.new.items ++ rest
+        ≡ out.old.items ++ name_bytes (option_copied before.entry) name.now rest) }
+{
+    out.push(name.len() as u8)?;
+    match before {
+        None => out.extend_from_slice(name)?,
+        Some(before) => {
+            let shared = shared_prefix(before, name);
+            out.push(shared as u8)?;
+            out.extend_from_slice(&name[shared..])?;
+        }
+    }
+    Ok(())
+}
+
+/// Appends a name as it is stored after another.
+fn put_row(
+    out: &mut Vec<u8>,
+    shape: Shape,
+    before: Option<&[u8]>,
+    row: &Row,
+) -> Result<(), AllocError>
+    requires row { FitsShape shape (record { id = row.now.id; frequency = row.now.frequency; name = row.now.name.now }) }
+    requires count { shape.count ≤ 1048576 }
+    requires greatest { shape.greatest < 2 ^ 24 }
+    ensures { OnOk result ((rest : List ℕ) → out.new.items ++ rest ≡ out.old.items ++ stored_bytes shape (option_copied before.entry)
+        (stored_row (frequency_width shape.greatest) (option_copied before.entry) (record { id = row.now.id; frequency = row.now.frequency; name = row.now.name.now })) rest) }
+{
+    put_number(out, id_width(shape.count), row.id)?;
+    put_number(out, frequency_width(shape.greatest), row.frequency)?;
+    put_name(out, before, row.name)
+}
+
+/// Appends the names of a kind.
+fn put_rows(out: &mut Vec<u8>, shape: Shape, rows: &[Row]) -> Result<(), AllocError>
+    requires rows { All (λ r. FitsShape shape (record { id = r.id; frequency = r.frequency; name = r.name.now })) rows.now }
+    requires count { shape.count ≤ 1048576 }
+    requires greatest { shape.greatest < 2 ^ 24 }
+    ensures { OnOk result ((rest : List ℕ) → out.new.items ++ rest
+        ≡ out.old.items ++ rows_bytes shape (map (λ r. record { id = r.id; frequency = r.frequency; name = r.name.now }) rows.now) rest) }
+{
+    let mut before: Option<&[u8]> = None;
+    for row in rows {
+        put_row(out, shape, before, row)?;
+        before = Some(row.name);
+    }
+    Ok(())
+}
+
+/// Appends a number for each kind.
+fn put_four(out: &mut Vec<u8>, numbers: &PerKind) -> Result<(), AllocError>
+    requires { AreSmall numbers.now }
+    ensures { OnOk result ((rest : List ℕ) → out.new.items ++ rest ≡ out.old.items ++ four_bytes numbers.now rest) }
+{
+    put_number(out, 3, numbers.players)?;
+    put_number(out, 3, numbers.events)?;
+    put_number(out, 3, numbers.sites)?;
+    put_number(out, 3, numbers.rounds)
+}
+
+/// Appends the header, with a time stamp of zeros.
+fn put_header(out: &mut Vec<u8>, header: &Header) -> Result<(), AllocError>
+    requires counts { AreSmall header.now.counts }
+    requires greatest { AreSmall header.now.greatest }
+    ensures { OnOk result ((rest : List ℕ) → out.new.items ++ rest
+        ≡ out.old.items ++ header_bytes (0 ∷ 0 ∷ 0 ∷ 0 ∷ []) header.now rest) }
+{
+    out.extend_from_slice(&MAGIC)?;
+    out.extend_from_slice(&[0; 4])?;
+    put_four(out, &header.counts)?;
+    put_four(out, &header.greatest)
+}
+
+/// Appends the names of a kind in the order of their bytes.
+fn put_kind(
+    alloc: Global,
+    out: &mut Vec<u8>,
+    shape: Shape,
+    names: &NameSet,
+    frequencies: &[u32],
+) -> Result<(), AllocError>
+    requires names { AreNames 1048576 names.now }
+    requires frequencies { AreFrequencies names.now frequencies.now }
+    requires shape { shape ≡ record { count = length names.now; greatest = greatest_of frequencies.now } }
+    ensures { OnOk result ((rows : List Listed) × IsOrderOf names.now frequencies.now rows
+        × ((rest : List ℕ) → out.new.items ++ rest ≡ out.old.items ++ rows_bytes shape rows rest)) }
+{
+    let rows = rows_in_order(alloc, names, frequencies)?;
+    put_rows(out, shape, rows.as_slice())
 }
