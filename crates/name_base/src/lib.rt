@@ -17,3 +17,4 @@ pub use fault::{NameFault, NameWhat, NamesError};
 pub use kind::NameKind;
 pub use name_lists::{AddError, Names};
 pub use reading::read_names;
+pub use writing::write_names;

@@ -90,7 +90,7 @@ impl Names {
         }
     }
 
-    fn set(&self, kind: NameKind) -> &NameSet
+    pub(crate) fn set(&self, kind: NameKind) -> &NameSet
         ensures { result.now ≡ of_kind kind self.now }
     {
         match kind {

@@ -6,7 +6,7 @@ ghost use Rattle.std.specs.List.Sorted.{IsSortedByKey};
 ghost use Rattle.std.specs.Cmp.Lexicographic.{slice_cmp};
 ghost use Rattle.std.specs.Option.{option_copied};
 ghost use Rattle.byteorder.specs.Endian.{big_bytes};
-ghost use Rattle.name_base.specs.NameLists.{AreNames};
+ghost use Rattle.name_base.specs.NameLists.{AreNames, AreSound};
 ghost use Rattle.name_base.specs.NamesFile.{AreSmall, id_width, frequency_width, stored_bytes, four_bytes, header_bytes, player_shape, event_shape, site_shape, round_shape};
 ghost use Rattle.name_base.specs.NamesText.{Row as Listed, rows_from, IsOrderOf, stored_row, greatest_of, AreFrequencies, header_of, rows_bytes, name_bytes, FitsShape, IsNamesText};
 
@@ -188,4 +188,71 @@ fn put_kind(
 {
     let rows = rows_in_order(alloc, names, frequencies)?;
     put_rows(out, shape, rows.as_slice())
+}
+
+/// The header of the file of these names.
+fn header_of(
+    names: &Names,
+    players: &[u32],
+    events: &[u32],
+    sites: &[u32],
+    rounds: &[u32],
+) -> Header
+    requires players { AreFrequencies names.now.players players.now }
+    requires events { AreFrequencies names.now.events events.now }
+    requires sites { AreFrequencies names.now.sites sites.now }
+    requires rounds { AreFrequencies names.now.rounds rounds.now }
+    ensures header { result ≡ header_of names.now
+        (record { players = players.now; events = events.now; sites = sites.now; rounds = rounds.now }) }
+    ensures counts { AreSmall result.counts }
+    ensures greatest { AreSmall result.greatest }
+    ensures sound { AreSound names.now }
+{
+    Header {
+        counts: PerKind {
+            players: names.count(NameKind::Player),
+            events: names.count(NameKind::Event),
+            sites: names.count(NameKind::Site),
+            rounds: names.count(NameKind::Round),
+        },
+        greatest: PerKind {
+            players: greatest_of(players),
+            events: greatest_of(events),
+            sites: greatest_of(sites),
+            rounds: greatest_of(rounds),
+        },
+    }
+}
+
+/// The names file of these names.
+///
+/// The lists are the frequencies of the names of each kind by id. The time stamp is 0, the names of each kind stand in the order of their
+/// bytes, and each has the longest prefix that it shares with the one before it.
+///
+/// # Errors
+///
+/// Want of memory.
+pub fn write_names(
+    alloc: Global,
+    names: &Names,
+    players: &[u32],
+    events: &[u32],
+    sites: &[u32],
+    rounds: &[u32],
+) -> Result<Vec<u8>, AllocError>
+    requires players { AreFrequencies names.now.players players.now }
+    requires events { AreFrequencies names.now.events events.now }
+    requires sites { AreFrequencies names.now.sites sites.now }
+    requires rounds { AreFrequencies names.now.rounds rounds.now }
+    ensures { IfOk result (λ text. IsNamesText names.now
+        (record { players = players.now; events = events.now; sites = sites.now; rounds = rounds.now }) text.items) }
+{
+    let header = header_of(names, players, events, sites, rounds);
+    let mut out = Vec::new(alloc);
+    put_header(&mut out, &header)?;
+    put_kind(alloc, &mut out, header.player_shape(), names.set(NameKind::Player), players)?;
+    put_kind(alloc, &mut out, header.event_shape(), names.set(NameKind::Event), events)?;
+    put_kind(alloc, &mut out, header.site_shape(), names.set(NameKind::Site), sites)?;
+    put_kind(alloc, &mut out, header.round_shape(), names.set(NameKind::Round), rounds)?;
+    Ok(out)
 }
