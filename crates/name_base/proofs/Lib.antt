@@ -7,3 +7,4 @@ pub mod KindLemmas
 pub mod LoopLemmas
 pub mod FileLemmas
 pub mod TextLemmas
+pub mod AgainLemmas

@@ -84,7 +84,7 @@ name_restored width None r = refl
 name_restored width (Some before) r =
     ap (λ t. t ++ drop (common_prefix_len eqb before r.name) r.name) (shared_takes_both before r.name) ∙ take-append-drop (common_prefix_len eqb before r.name) r.name
 
-shared_within : (before : Option (List ℕ)) (name : List ℕ) → (shared_len before name ≤ length name) × (shared_len before name ≤ length (unwrap_or before []))
+pub shared_within : (before : Option (List ℕ)) (name : List ℕ) → (shared_len before name ≤ length name) × (shared_len before name ≤ length (unwrap_or before []))
 shared_within None name = (omega arith, omega arith)
 shared_within (Some before) name = let h = common_prefix_len-le eqb before name in (h.1, h.0)
 
@@ -148,7 +148,7 @@ pub greatest_small : (fs : List ℕ) → AllByRecursion (λ n. n < 2 ^ 24) fs �
 greatest_small [] h = omega arith
 greatest_small (f ∷ fs) h = let rest = greatest_small fs h.1 in omega (arith, rest, h.0)
 
-rows_fit_from : (shape : Shape) (id : ℕ) (names : List (List ℕ)) (fs : List ℕ) → AllByRecursion IsName names → id + length names ≤ shape.count → greatest_of fs ≤ shape.greatest → AllByRecursion (FitsShape shape) (rows_from id names fs)
+pub rows_fit_from : (shape : Shape) (id : ℕ) (names : List (List ℕ)) (fs : List ℕ) → AllByRecursion IsName names → id + length names ≤ shape.count → greatest_of fs ≤ shape.greatest → AllByRecursion (FitsShape shape) (rows_from id names fs)
 rows_fit_from shape id [] fs are within small = tt
 rows_fit_from shape id (name ∷ names) [] are within small = tt
 rows_fit_from shape id (name ∷ names) (f ∷ fs) are within small =

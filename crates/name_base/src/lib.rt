@@ -11,10 +11,12 @@ mod kind_reader;
 mod name_lists;
 mod name_set;
 mod reading;
+mod round_trip;
 mod writing;
 
 pub use fault::{NameFault, NameWhat, NamesError};
 pub use kind::NameKind;
 pub use name_lists::{AddError, Names};
 pub use reading::read_names;
+pub use round_trip::written_names_are_read;
 pub use writing::write_names;
