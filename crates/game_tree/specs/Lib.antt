@@ -1,0 +1,4 @@
+pub mod Date
+pub mod TagName
+pub mod Head
+pub mod Settle

@@ -1,0 +1,15 @@
+//! Games as plain trees of moves with their comments, annotations and variations, and the heads of games: names, dates,
+//! results, ratings and tags.
+#![tactic(auto)]
+
+pub mod date;
+pub mod head;
+pub mod settling;
+pub mod tag_name;
+pub mod tags;
+
+pub use date::Date;
+pub use head::{Head, HeadRef, Outcome, Rating, Tag};
+pub use settling::settle;
+pub use tag_name::{is_reserved, is_tag_name};
+pub use tags::Tags;
