@@ -1,3 +1,5 @@
 pub mod DecimalLemmas
 pub mod DateLemmas
 pub mod SettleLemmas
+pub mod BuildingLemmas
+pub mod ScriptLemmas

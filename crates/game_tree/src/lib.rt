@@ -2,14 +2,19 @@
 //! results, ratings and tags.
 #![tactic(auto)]
 
+pub mod builder;
 pub mod date;
 pub mod head;
+pub mod node;
+mod open_line;
 pub mod settling;
 pub mod tag_name;
 pub mod tags;
 
+pub use builder::Builder;
 pub use date::Date;
 pub use head::{Head, HeadRef, Outcome, Rating, Tag};
+pub use node::{Branch, Node};
 pub use settling::settle;
 pub use tag_name::{is_reserved, is_tag_name};
 pub use tags::Tags;
