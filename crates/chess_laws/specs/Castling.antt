@@ -69,7 +69,7 @@ rights_after r m =
       white_king_side = keeps r m White KingSide;
       white_queen_side = keeps r m White QueenSide;
       black_king_side = keeps r m Black KingSide;
-      black_queen_side = keeps r m Black QueenSide
+      black_queen_side = keeps r m Black QueenSide;
     }
 
 -- king and rook stand at home

@@ -20,13 +20,19 @@ square file rank = 8 * rank + file
 abbrev pub by : ℕ → ℕ → ℕ → ℕ → Offset
 by r l u d = record { right = r; left = l; up = u; down = d }
 
+-- a file or a rank that much higher and lower, where it stays from 0 to 7
+abbrev pub line_at : ℕ → ℕ → ℕ → Option ℕ
+line_at line up down = if nat_le down (line + up) && nat_lt (line + up) (8 + down) then Some (line + up - down) else None
+
+-- the square of a file and a rank, where both are on the board
+abbrev pub square_at : Option ℕ → Option ℕ → Option ℕ
+square_at None rank = None
+square_at (Some file) None = None
+square_at (Some file) (Some rank) = Some (square file rank)
+
 -- the square that a step leads to, where it stays on the board
 unfoldable pub shift : Offset → ℕ → Option ℕ
-shift o s =
-    if nat_le o.left (file_of s + o.right) && nat_lt (file_of s + o.right) (8 + o.left)
-    && (nat_le o.down (rank_of s + o.up) && nat_lt (rank_of s + o.up) (8 + o.down))
-    then Some (square (file_of s + o.right - o.left) (rank_of s + o.up - o.down))
-    else None
+shift o s = square_at (line_at (file_of s) o.right o.left) (line_at (rank_of s) o.up o.down)
 
 -- along a file or a rank (FIDE Laws, Article 3.3)
 abbrev pub rook_steps : List Offset

@@ -4,3 +4,4 @@ pub mod Castling
 pub mod Position
 pub mod Step
 pub mod Counts
+pub mod Rays

@@ -1,6 +1,7 @@
 -- What a position is, and the rules that every position keeps.
 use Rattle.std.specs.Prelude.{◌≡◌, ℕ, ◌+◌, ◌*◌, ◌/◌, ◌%◌, ◌^◌, ◌<◌, ◌≤◌, ◌==◌, ◌&&◌, ◌++◌, Bool, true, if◌then◌else◌, IsTrue, IfSome, List, [], ◌∷◌, Option, Some, None, length, replicate, count_by}
 use Rattle.std.specs.List.{position_or_len}
+use Rattle.std.proofs.Common.{sym}
 use Rattle.cell_core.specs.declared.man.Colour.{Colour}
 use Rattle.cell_core.specs.declared.man.Colour.TheVariants.{White, Black}
 use Rattle.cell_core.specs.declared.man.Kind.{Kind}
@@ -87,7 +88,7 @@ rights_of men bits =
       white_king_side = has_bit bits 0 && is_at_home men White KingSide;
       white_queen_side = has_bit bits 1 && is_at_home men White QueenSide;
       black_king_side = has_bit bits 2 && is_at_home men Black KingSide;
-      black_queen_side = has_bit bits 3 && is_at_home men Black QueenSide
+      black_queen_side = has_bit bits 3 && is_at_home men Black QueenSide;
     }
 
 -- the setup of a board, a side, the bits of the rights and an en passant square
@@ -112,5 +113,15 @@ start_setup =
       board = start_men;
       side = White;
       rights = record { white_king_side = true; white_queen_side = true; black_king_side = true; black_queen_side = true };
-      en_passant = None
+      en_passant = None;
     }
+
+-- what is kept beside a position: it keeps the rules, and these are the kings' squares
+pub record Keeps (p : Setup) (white black : ℕ) : Type 0 where
+  pub sound : Sound p
+  pub white_king : white ≡ king_square p.board White
+  pub black_king : black ≡ king_square p.board Black
+
+-- the kings' squares follow from the board, so a position is its setup
+pub inverse_Keeps : (p : Setup) (white black : ℕ) → Keeps p white black → (king_square p.board White ≡ white) × (king_square p.board Black ≡ black)
+inverse_Keeps p white black h = (sym h.white_king, sym h.black_king)

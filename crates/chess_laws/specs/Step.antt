@@ -185,7 +185,7 @@ after p m e =
       board = board_after p m e;
       side = other p.side;
       rights = rights_left p m e;
-      en_passant = en_passant_after p m e
+      en_passant = en_passant_after p m e;
     }
 
 -- the move m leads from p to q: it is allowed by the rules of its kind, q is what the position becomes, and the mover's

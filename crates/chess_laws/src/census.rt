@@ -1,0 +1,116 @@
+//! What is counted on a board.
+ghost use Rattle.std.specs.Prelude.{◌≡◌, ◌↔◌, ℕ, ◌<◌, IsTrue, IsBitSet, count_by, MatchOption, ◌≢◌};
+ghost use Rattle.std.specs.List.{position_or_len};
+ghost use Rattle.cell_core.specs.Man.{is_of, is_man};
+ghost use Rattle.cell_core.specs.declared.man.Kind.TheVariants.{King};
+ghost use Rattle.chess_laws.specs.Counts.{counts_of, count_of, is_home};
+ghost use Rattle.chess_laws.specs.Position.{king_square};
+
+use cell_core::{Board, Colour, Kind, Man, Square};
+
+/// The square of the king of this colour, where there is just one.
+pub fn only_king(board: &Board, colour: Colour) -> Option<Square>
+    ensures { MatchOption result (count_of board.now colour King ≢ 1) (λ s. (count_of board.now colour King ≡ 1) × (s ≡ king_square board.now colour)) }
+{
+    let cells = board.cells();
+    if count(board, colour, Kind::King) != 1 {
+        return None;
+    }
+    let place = cells.iter().position(|cell| *cell
+        == Some(Man {
+            colour,
+            kind: Kind::King,
+        }))?;
+    Square::new(place as u8)
+}
+
+/// How many men of this colour there are.
+pub fn count_side(board: &Board, colour: Colour) -> usize
+    ensures { result ≡ count_by (is_of colour) board.now }
+{
+    let cells = board.cells();
+    cells.iter().filter(|cell| holds_side(cell, colour)).count()
+}
+
+/// How many men of this colour and kind there are.
+fn count(board: &Board, colour: Colour, kind: Kind) -> usize
+    ensures number { result ≡ count_of board.now colour kind }
+    ensures squares { result ≤ 64 }
+{
+    let cells = board.cells();
+    cells
+        .iter()
+        .filter(|cell| holds(cell, colour, kind))
+        .count()
+}
+
+/// How many men of this colour and kind there are, which is at most the 64 squares.
+fn tally(board: &Board, colour: Colour, kind: Kind) -> u8
+    ensures { result ≡ count_of board.now colour kind }
+{
+    count(board, colour, kind) as u8
+}
+
+/// Whether a man of this colour stands on a square.
+fn holds_side(cell: &Option<Man>, colour: Colour) -> bool
+    ensures { result ≡ is_of colour cell.now }
+{
+    match cell {
+        Some(man) => man.colour == colour,
+        None => false,
+    }
+}
+
+/// Whether a man of this colour and kind stands on a square.
+fn holds(cell: &Option<Man>, colour: Colour, kind: Kind) -> bool
+    ensures { result ≡ is_man colour kind cell.now }
+{
+    match cell {
+        Some(man) => man.colour == colour && man.kind == kind,
+        None => false,
+    }
+}
+
+/// How many queens, rooks, bishops, knights and pawns White has, and then Black.
+pub fn counts(board: &Board) -> [u8; 10]
+    ensures { result ≡ counts_of board.now }
+{
+    [
+        tally(board, Colour::White, Kind::Queen),
+        tally(board, Colour::White, Kind::Rook),
+        tally(board, Colour::White, Kind::Bishop),
+        tally(board, Colour::White, Kind::Knight),
+        tally(board, Colour::White, Kind::Pawn),
+        tally(board, Colour::Black, Kind::Queen),
+        tally(board, Colour::Black, Kind::Rook),
+        tally(board, Colour::Black, Kind::Bishop),
+        tally(board, Colour::Black, Kind::Knight),
+        tally(board, Colour::Black, Kind::Pawn),
+    ]
+}
+
+/// The home values of the pawns that stand on their own squares, as bits.
+pub fn home_set(board: &Board) -> u16
+    ensures { (v : ℕ) → v < 16 → (IsBitSet result v ↔ IsTrue (is_home board.now v)) }
+{
+    let mut set: u16 = 0;
+    for value in 0..16u8 {
+        if stands_at_home(board, value) {
+            set |= 1 << value;
+        }
+    }
+    set
+}
+
+/// Whether the pawn with this home value stands on its own square.
+fn stands_at_home(board: &Board, value: u8) -> bool
+    requires { value < 16 }
+    ensures { result ≡ is_home board.now value }
+{
+    let (colour, square) = if value < 8 {
+        (Colour::Black, Square::at(55 - value))
+    } else {
+        (Colour::White, Square::at(23 - value))
+    };
+    holds(&board.at(square), colour, Kind::Pawn)
+}

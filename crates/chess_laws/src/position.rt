@@ -1,0 +1,209 @@
+ghost use Rattle.std.specs.Prelude.{◌≡◌, ◌↔◌, ℕ, ◌<◌, IsTrue, IsBitSet, IfOk, IfErr, Some};
+ghost use Rattle.cell_core.specs.Board.{man_at};
+ghost use Rattle.cell_core.specs.Man.{man};
+ghost use Rattle.cell_core.specs.declared.man.Kind.TheVariants.{King};
+ghost use Rattle.chess_laws.specs.Attacks.{Attacks, IsInCheck};
+ghost use Rattle.chess_laws.specs.Counts.{counts_of, is_home};
+ghost use Rattle.chess_laws.specs.Position.{Sound, Breaks, setup_of};
+
+use super::attack::attacks;
+use super::census::{count_side, counts, home_set, only_king};
+use super::fault::PlaceFault;
+use super::rules::{has_fit_en_passant, has_pawns_inside, standing_rights, start_board};
+use super::setup::{Rights, Setup};
+use cell_core::{Board, Colour, Square};
+use std::marker::Model;
+
+/// A position that keeps the rules: one king a side, no pawn on the first or last rank, at most 16 men a side, the side
+/// that is not to move not in check, a right only where king and rook stand at home, and an en passant square only on
+/// the sixth rank with White to move or on the third with Black to move.
+#[derive(Clone, Copy, Debug, PartialEq, Eq)]
+pub struct Position {
+    pub(crate) inner: Setup,
+    pub(crate) white_king: Square,
+    pub(crate) black_king: Square,
+}
+
+impl Model for Position {
+    ghost use Rattle.cell_core.specs.declared.man.Colour.TheVariants.{White, Black};
+    ghost use Rattle.chess_laws.specs.declared.setup.Setup.{Setup};
+    ghost use Rattle.chess_laws.specs.Position.{Keeps, king_square, inverse_Keeps};
+
+    ghost Value = { Setup };
+
+    ghost view = { λ p. p.inner };
+
+    ghost invariant = { λ p. Keeps p.inner p.white_king p.black_king };
+
+    ghost inverse = { λ p. record { inner = p; white_king = king_square p.board White; black_king = king_square p.board Black } };
+}
+
+impl Position {
+    ghost use Rattle.chess_laws.specs.Position.{Sound, Breaks, setup_of, start_setup, bits_of};
+
+    /// The initial position: White to move, all four rights, no en passant square.
+    pub fn start() -> Position
+        ensures start { result ≡ start_setup }
+    {
+        let board = start_board();
+        Position {
+            inner: Setup {
+                board,
+                side: Colour::White,
+                rights: Rights {
+                    white_king_side: true,
+                    white_queen_side: true,
+                    black_king_side: true,
+                    black_queen_side: true,
+                },
+                en_passant: None,
+            },
+            white_king: Square::at(4),
+            black_king: Square::at(60),
+        }
+    }
+
+    /// The position of a board, a side to move, castling rights (bits 0 to 3 for White's king's side and queen's side
+    /// and Black's; other bits are ignored) and an en passant square. A right without its king and rook at home is
+    /// dropped.
+    ///
+    /// The fault is the first that applies, in the order of `PlaceFault`.
+    pub fn try_new(
+        board: Board,
+        side: Colour,
+        rights: u8,
+        en_passant: Option<Square>,
+    ) -> Result<Position, PlaceFault>
+        ensures ok { IfOk result (λ p. p ≡ setup_of board side rights en_passant) }
+        ensures sound { IfOk result (λ p. Sound p) }
+        ensures fault { IfErr result (λ fault. Breaks (setup_of board side rights en_passant) fault) }
+    {
+        place(&board, side, rights, en_passant)
+    }
+
+    /// The board.
+    pub fn board(&self) -> &Board
+        ensures board { result.now ≡ self.now.board }
+    {
+        &self.inner.board
+    }
+
+    /// The side to move.
+    pub fn side(&self) -> Colour
+        ensures side { result ≡ self.now.side }
+    {
+        self.inner.side
+    }
+
+    /// The castling rights, as bits 0 to 3 for White's king's side and queen's side and Black's.
+    pub fn rights(&self) -> u8
+        ensures bits { result ≡ bits_of self.now.rights }
+    {
+        let rights = &self.inner.rights;
+        u8::from(rights.white_king_side)
+            + 2 * u8::from(rights.white_queen_side)
+            + 4 * u8::from(rights.black_king_side)
+            + 8 * u8::from(rights.black_queen_side)
+    }
+
+    /// The en passant square: the one that a pawn's double step has just crossed.
+    pub fn en_passant(&self) -> Option<Square>
+        ensures square { result ≡ self.now.en_passant }
+    {
+        self.inner.en_passant
+    }
+
+    /// The position as a plain setup, which keeps the rules.
+    pub fn setup(&self) -> &Setup
+        ensures setup { result.now ≡ self.now }
+        ensures sound { Sound self.now }
+    {
+        &self.inner
+    }
+
+    /// The square of a side's king.
+    pub fn king(&self, colour: Colour) -> Square
+        ensures stands { man_at self.now.board result ≡ Some (man colour King) }
+        ensures only { (s : ℕ) → man_at self.now.board s ≡ Some (man colour King) → s ≡ result }
+    {
+        match colour {
+            Colour::White => self.white_king,
+            Colour::Black => self.black_king,
+        }
+    }
+
+    /// Whether some man of the colour `by` attacks the square.
+    pub fn attacked(&self, by: Colour, s: Square) -> bool
+        ensures attacks { IsTrue result ↔ Attacks self.now.board by s }
+    {
+        attacks(&self.inner.board, by, s)
+    }
+
+    /// Whether the side to move is in check.
+    pub fn in_check(&self) -> bool
+        ensures check { IsTrue result ↔ IsInCheck self.now.board self.now.side }
+    {
+        self.attacked(self.inner.side.other(), self.king(self.inner.side))
+    }
+
+    /// How many queens, rooks, bishops, knights and pawns White has, and then Black.
+    pub fn counts(&self) -> [u8; 10]
+        ensures counts { result ≡ counts_of self.now.board }
+    {
+        counts(&self.inner.board)
+    }
+
+    /// The home values of the pawns that stand on their own squares, as bits: 15 down to 8 for a2 to h2, and 7 down to 0
+    /// for a7 to h7.
+    pub fn home_set(&self) -> u16
+        ensures bits { (v : ℕ) → v < 16 → (IsBitSet result v ↔ IsTrue (is_home self.now.board v)) }
+    {
+        home_set(&self.inner.board)
+    }
+}
+
+/// The position of a board that is tested rule by rule.
+fn place(
+    board: &Board,
+    side: Colour,
+    rights: u8,
+    en_passant: Option<Square>,
+) -> Result<Position, PlaceFault>
+    ensures ok { IfOk result (λ p. p ≡ setup_of board.now side rights en_passant) }
+    ensures sound { IfOk result (λ p. Sound p) }
+    ensures fault { IfErr result (λ fault. Breaks (setup_of board.now side rights en_passant) fault) }
+{
+    let Some(white_king) = only_king(board, Colour::White) else {
+        return Err(PlaceFault::Kings);
+    };
+    let Some(black_king) = only_king(board, Colour::Black) else {
+        return Err(PlaceFault::Kings);
+    };
+    if !has_pawns_inside(board) {
+        return Err(PlaceFault::Pawns);
+    }
+    if count_side(board, Colour::White) > 16 || count_side(board, Colour::Black) > 16 {
+        return Err(PlaceFault::TooMany);
+    }
+    let resting_king = match side {
+        Colour::White => black_king,
+        Colour::Black => white_king,
+    };
+    if attacks(board, side, resting_king) {
+        return Err(PlaceFault::InCheck);
+    }
+    if !has_fit_en_passant(side, en_passant) {
+        return Err(PlaceFault::EnPassant);
+    }
+    let rights = standing_rights(board, rights);
+    Ok(Position {
+        inner: Setup {
+            board: *board,
+            side,
+            rights,
+            en_passant,
+        },
+        white_king,
+        black_king,
+    })
+}

@@ -1,0 +1,201 @@
+//! The rules of a position, one by one.
+ghost use Rattle.std.specs.Prelude.{◌≡◌, ◌↔◌, IsTrue};
+ghost use Rattle.chess_laws.specs.Position.{HasFitEnPassant, HasPawnsInside, is_at_home, rights_of, start_men};
+
+use super::setup::{Rights, Wing};
+use cell_core::{Board, Colour, Kind, Man, Square};
+
+/// Whether no pawn stands on the first or the last rank.
+pub fn has_pawns_inside(board: &Board) -> bool
+    ensures { IsTrue result ↔ HasPawnsInside board.now }
+{
+    let cells = board.cells();
+    (0..8).all(|file| !is_pawn(&cells[file]) && !is_pawn(&cells[56 + file]))
+}
+
+fn is_pawn(cell: &Option<Man>) -> bool {
+    match cell {
+        Some(man) => man.kind == Kind::Pawn,
+        None => false,
+    }
+}
+
+/// Whether the en passant square, if there is one, stands on the rank that fits the side to move.
+pub fn has_fit_en_passant(side: Colour, square: Option<Square>) -> bool
+    ensures { IsTrue result ↔ HasFitEnPassant side square }
+{
+    let rank = match side {
+        Colour::White => 5,
+        Colour::Black => 2,
+    };
+    match square {
+        Some(square) => square.index() / 8 == rank,
+        None => true,
+    }
+}
+
+/// The rights of these bits, without those whose king or rook is not at home.
+pub fn standing_rights(board: &Board, bits: u8) -> Rights
+    ensures { result ≡ rights_of board.now bits }
+{
+    Rights {
+        white_king_side: bits % 2 == 1 && is_home(board, Colour::White, Wing::KingSide),
+        white_queen_side: bits / 2 % 2 == 1 && is_home(board, Colour::White, Wing::QueenSide),
+        black_king_side: bits / 4 % 2 == 1 && is_home(board, Colour::Black, Wing::KingSide),
+        black_queen_side: bits / 8 % 2 == 1 && is_home(board, Colour::Black, Wing::QueenSide),
+    }
+}
+
+/// Whether king and rook stand at home.
+fn is_home(board: &Board, colour: Colour, wing: Wing) -> bool
+    ensures { result ≡ is_at_home board.now colour wing }
+{
+    let (king, rook) = match (colour, wing) {
+        (Colour::White, Wing::KingSide) => (4, 7),
+        (Colour::White, Wing::QueenSide) => (4, 0),
+        (Colour::Black, Wing::KingSide) => (60, 63),
+        (Colour::Black, Wing::QueenSide) => (60, 56),
+    };
+    board.at(Square::at(king))
+        == Some(Man {
+            colour,
+            kind: Kind::King,
+        })
+        && board.at(Square::at(rook))
+            == Some(Man {
+                colour,
+                kind: Kind::Rook,
+            })
+}
+
+/// The initial board.
+pub fn start_board() -> Board
+    ensures { result ≡ start_men }
+{
+    Board::from_cells([
+        WHITE_ROOK,
+        WHITE_KNIGHT,
+        WHITE_BISHOP,
+        WHITE_QUEEN,
+        WHITE_KING,
+        WHITE_BISHOP,
+        WHITE_KNIGHT,
+        WHITE_ROOK,
+        WHITE_PAWN,
+        WHITE_PAWN,
+        WHITE_PAWN,
+        WHITE_PAWN,
+        WHITE_PAWN,
+        WHITE_PAWN,
+        WHITE_PAWN,
+        WHITE_PAWN,
+        None,
+        None,
+        None,
+        None,
+        None,
+        None,
+        None,
+        None,
+        None,
+        None,
+        None,
+        None,
+        None,
+        None,
+        None,
+        None,
+        None,
+        None,
+        None,
+        None,
+        None,
+        None,
+        None,
+        None,
+        None,
+        None,
+        None,
+        None,
+        None,
+        None,
+        None,
+        None,
+        BLACK_PAWN,
+        BLACK_PAWN,
+        BLACK_PAWN,
+        BLACK_PAWN,
+        BLACK_PAWN,
+        BLACK_PAWN,
+        BLACK_PAWN,
+        BLACK_PAWN,
+        BLACK_ROOK,
+        BLACK_KNIGHT,
+        BLACK_BISHOP,
+        BLACK_QUEEN,
+        BLACK_KING,
+        BLACK_BISHOP,
+        BLACK_KNIGHT,
+        BLACK_ROOK,
+    ])
+}
+
+const WHITE_KING: Option<Man> = Some(Man {
+    colour: Colour::White,
+    kind: Kind::King,
+});
+
+const WHITE_QUEEN: Option<Man> = Some(Man {
+    colour: Colour::White,
+    kind: Kind::Queen,
+});
+
+const WHITE_ROOK: Option<Man> = Some(Man {
+    colour: Colour::White,
+    kind: Kind::Rook,
+});
+
+const WHITE_BISHOP: Option<Man> = Some(Man {
+    colour: Colour::White,
+    kind: Kind::Bishop,
+});
+
+const WHITE_KNIGHT: Option<Man> = Some(Man {
+    colour: Colour::White,
+    kind: Kind::Knight,
+});
+
+const WHITE_PAWN: Option<Man> = Some(Man {
+    colour: Colour::White,
+    kind: Kind::Pawn,
+});
+
+const BLACK_KING: Option<Man> = Some(Man {
+    colour: Colour::Black,
+    kind: Kind::King,
+});
+
+const BLACK_QUEEN: Option<Man> = Some(Man {
+    colour: Colour::Black,
+    kind: Kind::Queen,
+});
+
+const BLACK_ROOK: Option<Man> = Some(Man {
+    colour: Colour::Black,
+    kind: Kind::Rook,
+});
+
+const BLACK_BISHOP: Option<Man> = Some(Man {
+    colour: Colour::Black,
+    kind: Kind::Bishop,
+});
+
+const BLACK_KNIGHT: Option<Man> = Some(Man {
+    colour: Colour::Black,
+    kind: Kind::Knight,
+});
+
+const BLACK_PAWN: Option<Man> = Some(Man {
+    colour: Colour::Black,
+    kind: Kind::Pawn,
+});
