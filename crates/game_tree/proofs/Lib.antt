@@ -3,3 +3,5 @@ pub mod DateLemmas
 pub mod SettleLemmas
 pub mod BuildingLemmas
 pub mod ScriptLemmas
+pub mod TreeLemmas
+pub mod LegalLemmas

@@ -6,3 +6,6 @@ pub mod Tree
 pub mod TreeCode
 pub mod Items
 pub mod Building
+pub mod Game
+pub mod Replay
+pub mod Legal

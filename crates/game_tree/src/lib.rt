@@ -4,7 +4,9 @@
 
 pub mod builder;
 pub mod date;
+pub mod game;
 pub mod head;
+pub mod legality;
 pub mod node;
 mod open_line;
 pub mod settling;
@@ -13,7 +15,9 @@ pub mod tags;
 
 pub use builder::Builder;
 pub use date::Date;
+pub use game::{Game, main_line, plies};
 pub use head::{Head, HeadRef, Outcome, Rating, Tag};
+pub use legality::legal;
 pub use node::{Branch, Node};
 pub use settling::settle;
 pub use tag_name::{is_reserved, is_tag_name};

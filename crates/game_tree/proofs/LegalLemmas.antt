@@ -1,0 +1,30 @@
+-- Legal lines, move by move.
+use Rattle.std.proofs.Common.{◌≡◌, ℕ, ◌+◌, ◌<◌, List, ◌∷◌, Option, length, get_or, drop, refl, sym, ap, ◌∙◌, subst}
+use Rattle.std.specs.Prelude.{◌↔◌}
+use Rattle.std.proofs.lemmas.List.{drop_more}
+use Rattle.cell_core.specs.declared.step.Move.{Move}
+use Rattle.chess_laws.specs.declared.setup.Setup.{Setup}
+use Rattle.chess_laws.specs.Step.{Step}
+use Rattle.game_tree.specs.Tree.{Branches, Played, line_of}
+use Rattle.game_tree.specs.Replay.{stepped}
+use Rattle.game_tree.specs.Legal.{IsComment, IsLegalLine, AreLegalBranches}
+
+-- a legal move leads to one position alone
+pub Step-stepped : (p : Setup) (m : Move) (q : Setup) → Step p m q → q ≡ stepped p m
+unfolding stepped
+Step-stepped p m q step = step.becomes
+
+here : (p q : Setup) (n : Played) (ns : List Played) → Step p n.mv q → IsComment n.comment → AreLegalBranches p n.variations → IsLegalLine q (line_of ns) ↔ IsLegalLine p (line_of (n ∷ ns))
+here p q n ns step comment branches =
+    let e = Step-stepped p n.mv q step in (
+      λ rest. (subst (Step p n.mv) e step, (comment, (branches, subst (λ (r : Setup). IsLegalLine r (line_of ns)) e rest))),
+      λ whole. subst (λ (r : Setup). IsLegalLine r (line_of ns)) (sym e) whole.1.1.1,
+    )
+
+-- one more move of a line: what is left is legal exactly where it was with this move
+pub IsLegalLine-more : (p q : Setup) (line : List Played) (i : ℕ) (n : Played) (whole : Type 0) → i < length line → n ≡ get_or line i n → Step p n.mv q → IsComment n.comment → AreLegalBranches p n.variations → (IsLegalLine p (line_of (drop i line)) ↔ whole) → (IsLegalLine q (line_of (drop (i + 1) line)) ↔ whole)
+IsLegalLine-more p q line i n whole under item step comment branches before =
+    let left : drop i line ≡ n ∷ drop (i + 1) line = drop_more line i n under ∙ ap (λ (m : Played). m ∷ drop (i + 1) line) (sym item) in
+    let one = here p q n (drop (i + 1) line) step comment branches in
+    let with_it = subst (λ (ns : List Played). IsLegalLine p (line_of ns) ↔ whole) left before in
+    (λ rest. with_it.0 (one.0 rest), λ all. one.1 (with_it.1 all))
