@@ -1,4 +1,7 @@
-ghost use Rattle.std.specs.Prelude.{◌≡◌, ◌↔◌, ◌≤◌, IsTrue};
+ghost use Rattle.std.specs.Prelude.{◌≡◌, ◌↔◌, ◌≤◌, ◌+◌, ℕ, IsTrue};
+ghost use Rattle.cell_core.specs.declared.step.Move.{Move};
+ghost use Rattle.chess_laws.specs.Step.{Step};
+ghost use Rattle.game_tree.specs.Replay.{position_at, next_at};
 ghost use Rattle.game_tree.specs.Tree.{line_of, branches_of, depth_of, depth_within};
 ghost use Rattle.game_tree.specs.Legal.{IsComment, IsLegalLine, AreLegalBranches, IsLegalGame};
 
@@ -9,8 +12,22 @@ use chess_laws::Position;
 
 /// Whether each line of the game is a chain of legal moves from its own position, at most 200 variations are open at
 /// one place, and no comment is empty.
+#[tactic(auto, using(crate::proofs::LegalLemmas::replay))]
 pub fn legal(g: &Game) -> bool
     ensures legal { IsTrue result ↔ IsLegalGame g.now }
+
+    // The replay of a legal game goes from each position to the next by the legal move between them.
+    ensures replay {
+        IsTrue result → (k : ℕ) (m : Move) → next_at g.now k ≡ Some m
+        → Step (position_at g.now k) m (position_at g.now (k + 1))
+    }
+{
+    is_legal_game(g)
+}
+
+// The same, without what it says of the replay.
+fn is_legal_game(g: &Game) -> bool
+    ensures { IsTrue result ↔ IsLegalGame g.now }
 {
     is_comment(&g.lead)
         && is_within(g.line.as_slice(), 200)

@@ -3,6 +3,7 @@
 #![tactic(auto)]
 
 pub mod builder;
+mod copying;
 pub mod date;
 pub mod game;
 pub mod head;
