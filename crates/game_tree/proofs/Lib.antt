@@ -5,3 +5,4 @@ pub mod BuildingLemmas
 pub mod ScriptLemmas
 pub mod TreeLemmas
 pub mod LegalLemmas
+pub mod WrittenLemmas

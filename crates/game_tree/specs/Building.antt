@@ -1,6 +1,6 @@
 -- A tree while its items are read one by one: the lines that are open, each with its last move apart, since what follows
 -- may still belong to it (this project's own).
-use Rattle.std.specs.Prelude.{ℕ, List, [], ◌∷◌, ◌++◌, Option, Some, None, refl}
+use Rattle.std.specs.Prelude.{◌≡◌, ℕ, List, [], ◌∷◌, ◌++◌, Option, Some, None, refl}
 use Rattle.std.specs.Coded.{Coded, code_by, coded×, coded_ℕ, coded_list, coded_option}
 use Rattle.cell_core.specs.declared.step.Move.{Move}
 use Rattle.game_tree.specs.Tree.{Line, Branches, none, more, Played, Variation, line_of, branches_of}
@@ -92,6 +92,11 @@ added closes b = closed b.current b.outer
 abbrev pub built : List Item → Building → Building
 built [] b = b
 built (item ∷ items) b = built items (added item b)
+
+-- what was read has this comment and this line
+pub record Gives (read : Variation) (lead : Option (List ℕ)) (line : Line) : Type 0 where
+  pub lead_is : read.lead ≡ lead
+  pub line_is : read.line ≡ line
 
 abbrev pub coded_open : Coded Open
 coded_open =

@@ -9,3 +9,4 @@ pub mod Building
 pub mod Game
 pub mod Replay
 pub mod Legal
+pub mod Written

@@ -1,6 +1,9 @@
-ghost use Rattle.std.specs.Prelude.{◌≡◌, ◌↔◌, ◌<◌, [], length, IsTrue, IsSome, IfOk};
+ghost use Rattle.std.specs.Prelude.{◌≡◌, ◌↔◌, ◌<◌, [], length, IsTrue, IsSome, IfOk, List, ℕ, Option};
 ghost use Rattle.game_tree.specs.Items.{Script, Item, plays, glyph, note, opens, closes, items_of, meaning};
-ghost use Rattle.game_tree.specs.Building.{opening, added, built, read_line};
+ghost use Rattle.game_tree.specs.Tree.{Line};
+ghost use Rattle.game_tree.specs.Legal.{IsComment};
+ghost use Rattle.game_tree.specs.Written.{comment_before, script_of, HasComments};
+ghost use Rattle.game_tree.specs.Building.{opening, added, built, read_line, Gives};
 
 use super::node::Branch;
 use super::open_line::OpenLine;
@@ -109,13 +112,14 @@ impl Builder {
     }
 
     /// The line that was read, with the comment before its first move, where no variation is open. What was read from the
-    /// items of a script alone is what the script means.
+    /// items of a script alone is what the script means, and what was read from the items of a tree is that tree.
     pub fn finish(self) -> Result<Branch, AllocError>
         requires { self.outer ≡ [] }
         ensures lead { IfOk result (λ read. read.lead ≡ self.current.lead) }
         ensures line { IfOk result (λ read. read.line ≡ read_line self.current) }
-        ensures lead_meant { IfOk result (λ read. (s : Script) → self ≡ built (items_of s) opening → read.lead ≡ (meaning s).comment) }
-        ensures line_meant { IfOk result (λ read. (s : Script) → self ≡ built (items_of s) opening → read.line ≡ (meaning s).line) }
+        ensures meant { IfOk result (λ read. (s : Script) → self ≡ built (items_of s) opening → Gives read (meaning s).comment (meaning s).line) }
+        ensures written { IfOk result (λ read. (lead : Option (List ℕ)) (line : Line) → IsComment lead → HasComments line
+            → self ≡ built (items_of (comment_before lead (script_of line))) opening → Gives read lead line) }
     {
         let Builder {
             current,

@@ -1,12 +1,10 @@
 ghost use Rattle.std.specs.Prelude.{◌≡◌, IfOk};
 ghost use Rattle.game_tree.specs.Tree.{line_of, branches_of};
 
-use std::alloc::{AllocError, Global};
-
-use cell_core::Text;
-
 use super::game::Game;
 use super::node::{Branch, Node};
+use cell_core::Text;
+use std::alloc::{AllocError, Global};
 
 impl Game {
     /// A game of the same moves, comments and variations. It fails only for want of memory.

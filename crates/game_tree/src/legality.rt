@@ -17,10 +17,8 @@ pub fn legal(g: &Game) -> bool
     ensures legal { IsTrue result ↔ IsLegalGame g.now }
 
     // The replay of a legal game goes from each position to the next by the legal move between them.
-    ensures replay {
-        IsTrue result → (k : ℕ) (m : Move) → next_at g.now k ≡ Some m
-        → Step (position_at g.now k) m (position_at g.now (k + 1))
-    }
+    ensures replay { IsTrue result → (k : ℕ) (m : Move) → next_at g.now k ≡ Some m
+        → Step (position_at g.now k) m (position_at g.now (k + 1)) }
 {
     is_legal_game(g)
 }
