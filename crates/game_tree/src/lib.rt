@@ -2,6 +2,7 @@
 //! results, ratings and tags.
 #![tactic(auto)]
 
+pub mod bounds;
 pub mod builder;
 mod copying;
 pub mod date;
@@ -14,6 +15,7 @@ pub mod settling;
 pub mod tag_name;
 pub mod tags;
 
+pub use bounds::{are_bounded, is_name};
 pub use builder::Builder;
 pub use date::Date;
 pub use game::{Game, main_line, plies};
@@ -23,3 +25,6 @@ pub use node::{Branch, Node};
 pub use settling::settle;
 pub use tag_name::{is_reserved, is_tag_name};
 pub use tags::Tags;
+
+#[cfg(test)]
+mod tests;
