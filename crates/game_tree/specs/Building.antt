@@ -1,0 +1,111 @@
+-- A tree while its items are read one by one: the lines that are open, each with its last move apart, since what follows
+-- may still belong to it (this project's own).
+use Rattle.std.specs.Prelude.{◌≡◌, ℕ, List, [], ◌∷◌, ◌++◌, Option, Some, None, refl}
+use Rattle.std.specs.Coded.{Coded, code_by, coded×, coded_ℕ, coded_list, coded_option}
+use Rattle.cell_core.specs.declared.step.Move.{Move}
+use Rattle.game_tree.specs.Tree.{Line, Branches, none, more, Played, Variation, line_of, branches_of}
+use Rattle.game_tree.specs.TreeCode.{coded_played}
+use Rattle.game_tree.specs.Items.{Item, plays, glyph, note, opens, closes, noted, joined}
+
+-- an open line: its comment, the moves before the last one, and the last one
+pub record Open : Type 0 where
+  pub lead : Option (List ℕ)
+  pub done : List Played
+  pub last : Option Played
+
+-- the innermost open line, and those round it from the inside out
+pub record Building : Type 0 where
+  pub current : Open
+  pub outer : List Open
+
+-- a line of which nothing was read
+abbrev pub fresh : Open
+fresh = record { lead = None; done = []; last = None }
+
+abbrev pub opening : Building
+opening = record { current = fresh; outer = [] }
+
+-- a list with one more element where there is one
+abbrev pub and_last : {X : Type 0} → List X → Option X → List X
+and_last xs None = xs
+and_last xs (Some x) = xs ++ x ∷ []
+
+-- the line as far as it was read
+abbrev pub read_line : Open → Line
+read_line o = line_of (and_last o.done o.last)
+
+-- a move of which nothing more was read
+abbrev pub bare : Move → Played
+bare m = record { mv = m; nags = []; comment = None; variations = none }
+
+abbrev pub with_move : Played → Open → Open
+with_move p o = record { lead = o.lead; done = and_last o.done o.last; last = Some p }
+
+-- a glyph belongs to the last move
+abbrev pub with_nag_on : ℕ → Option Played → Option Played
+with_nag_on n None = None
+with_nag_on n (Some p) = Some (record { mv = p.mv; nags = p.nags ++ n ∷ []; comment = p.comment; variations = p.variations })
+
+abbrev pub with_nag : ℕ → Open → Open
+with_nag n o = record { lead = o.lead; done = o.done; last = with_nag_on n o.last }
+
+-- a comment belongs to the last move, or to the line where there is none yet
+abbrev pub with_note_on : Option (List ℕ) → Option (List ℕ) → List Played → Option Played → Open
+with_note_on t lead done None = record { lead = joined lead t; done = done; last = None }
+with_note_on t lead done (Some p) =
+    record { lead = lead; done = done; last = Some (record { mv = p.mv; nags = p.nags; comment = joined p.comment t; variations = p.variations }) }
+
+abbrev pub with_note : List ℕ → Open → Open
+with_note t o = with_note_on (noted t) o.lead o.done o.last
+
+-- the variations with one more behind them
+abbrev pub with_branch : Branches → Variation → Branches
+with_branch none v = more v.lead v.line none
+with_branch (more lead line others) v = more lead line (with_branch others v)
+
+-- a variation belongs to the last move
+abbrev pub with_variation_on : Variation → Option Played → Option Played
+with_variation_on v None = None
+with_variation_on v (Some p) = Some (record { mv = p.mv; nags = p.nags; comment = p.comment; variations = with_branch p.variations v })
+
+abbrev pub with_variation : Variation → Open → Open
+with_variation v o = record { lead = o.lead; done = o.done; last = with_variation_on v o.last }
+
+-- the variation that an open line is
+abbrev pub variation_of : Open → Variation
+variation_of o = record { lead = o.lead; line = read_line o }
+
+-- the end of a variation hangs it on the last move of the line round it
+abbrev pub closed : Open → List Open → Building
+closed o [] = record { current = o; outer = [] }
+closed o (round ∷ outer) = record { current = with_variation (variation_of o) round; outer = outer }
+
+-- the state after one more item
+abbrev pub added : Item → Building → Building
+added (plays m) b = record { current = with_move (bare m) b.current; outer = b.outer }
+added (glyph n) b = record { current = with_nag n b.current; outer = b.outer }
+added (note t) b = record { current = with_note t b.current; outer = b.outer }
+added opens b = record { current = fresh; outer = b.current ∷ b.outer }
+added closes b = closed b.current b.outer
+
+-- the state after these items
+abbrev pub built : List Item → Building → Building
+built [] b = b
+built (item ∷ items) b = built items (added item b)
+
+-- what was read has this comment and this line
+pub record Gives (read : Variation) (lead : Option (List ℕ)) (line : Line) : Type 0 where
+  pub lead_is : read.lead ≡ lead
+  pub line_is : read.line ≡ line
+
+abbrev pub coded_open : Coded Open
+coded_open =
+    code_by (Option (List ℕ) × (List Played × Option Played))
+    (coded× (coded_option (coded_list coded_ℕ)) (coded× (coded_list coded_played) (coded_option coded_played)))
+    (λ o. (o.lead, (o.done, o.last)))
+    (λ t. record { lead = t.0; done = t.1.0; last = t.1.1 })
+    (λ _. refl)
+
+abbrev pub coded_building : Coded Building
+coded_building =
+    code_by (Open × List Open) (coded× coded_open (coded_list coded_open)) (λ b. (b.current, b.outer)) (λ t. record { current = t.0; outer = t.1 }) (λ _. refl)

@@ -1,0 +1,75 @@
+-- Dates of games and events and their texts (PGN standard, 8.1.1.3: year, month and day, question marks where unknown).
+use Rattle.std.specs.Prelude.{◌≡◌, ℕ, ◌+◌, ◌-◌, ◌*◌, ◌/◌, ◌%◌, ◌≤◌, Bool, false, ◌&&◌, ◌==◌, nat_le, if◌then◌else◌, List, [], ◌∷◌, length, slice_index, slice_range, fold, Option, Some, None, codes}
+use Rattle.std.specs.List.{list_all}
+use Rattle.std.specs.Char.{is_ascii_digit}
+use Rattle.game_tree.specs.declared.date.Date.{Date}
+
+-- the date of which nothing is known
+abbrev pub unknown_date : Date
+unknown_date = record { year = 0; month = 0; day = 0 }
+
+abbrev pub is_unknown : Date → Bool
+is_unknown d = (d.year == 0) && (d.month == 0) && (d.day == 0)
+
+-- the greatest year, month and day of a date that is kept (this project's own; zero is unknown)
+pub record IsDate (d : Date) : Type 0 where
+  pub year : d.year ≤ 2047
+  pub month : d.month ≤ 12
+  pub day : d.day ≤ 31
+
+-- the last digit of a number, or a question mark where the part of the date is unknown
+abbrev pub shown : ℕ → ℕ → ℕ
+shown part number = if part == 0 then 63 else 48 + number % 10
+
+-- the text of a date, as `1994.05.??`
+unfoldable pub date_text : Date → List ℕ
+date_text d =
+    shown d.year (d.year / 1000)
+    ∷ shown d.year (d.year / 100)
+    ∷ shown d.year (d.year / 10)
+    ∷ shown d.year d.year
+    ∷ 46
+    ∷ shown d.month (d.month / 10)
+    ∷ shown d.month d.month
+    ∷ 46
+    ∷ shown d.day (d.day / 10)
+    ∷ shown d.day d.day
+    ∷ []
+
+-- the number that decimal digits write
+abbrev pub decimal : List ℕ → ℕ
+decimal digits = fold (λ number digit. 10 * number + (digit - 48)) 0 digits
+
+-- a part of a date's text that is at most a limit: question marks mean unknown, which is 0, and digits their number
+unfoldable pub part : ℕ → List ℕ → Option ℕ
+part limit text =
+    if list_all (λ c. c == 63) text then Some 0
+    else if list_all is_ascii_digit text && nat_le (decimal text) limit then Some (decimal text)
+    else None
+
+-- the date of three parts, where all are there
+abbrev pub of_parts : Option ℕ → Option ℕ → Option ℕ → Option Date
+of_parts (Some y) (Some m) (Some d) = Some (record { year = y; month = m; day = d })
+of_parts (Some y) (Some m) None = None
+of_parts (Some y) None d = None
+of_parts None m d = None
+
+-- the date of the texts of its three parts
+abbrev pub dated : List ℕ → List ℕ → List ℕ → Option Date
+dated y m d = of_parts (part 2047 y) (part 12 m) (part 31 d)
+
+-- the date that a text reads as: the whole form, or its year alone, or its year and month
+unfoldable pub date_read : List ℕ → Option Date
+date_read text =
+    if length text == 4 then dated text (codes "??") (codes "??")
+    else if (length text == 7) && (slice_index text 4 == 46)
+    then dated (slice_range text 0 4) (slice_range text 5 7) (codes "??")
+    else if (length text == 10) && (slice_index text 4 == 46) && (slice_index text 7 == 46)
+    then dated (slice_range text 0 4) (slice_range text 5 7) (slice_range text 8 10)
+    else None
+
+-- the rule of event dates (this project's own): a known year that differs by at most 3 from the game's known year
+abbrev pub is_near : Date → Date → Bool
+is_near event game =
+    nat_le 1 event.year && nat_le event.year 2047 && nat_le 1 game.year
+    && nat_le event.year (game.year + 3) && nat_le game.year (event.year + 3)

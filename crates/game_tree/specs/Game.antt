@@ -1,0 +1,22 @@
+-- A game as contracts see it.
+use Rattle.std.specs.Prelude.{ℕ, List, Option, take, fold, slice_get, refl}
+use Rattle.std.specs.Coded.{Coded, code_by, coded×, coded_ℕ, coded_list, coded_option}
+use Rattle.cell_core.specs.declared.step.Move.{Move}
+use Rattle.chess_laws.specs.declared.setup.Setup.{Setup}
+use Rattle.chess_laws.specs.contracts.setup.Setup as setup
+use Rattle.chess_laws.specs.Step.{after, effect_of}
+use Rattle.game_tree.specs.Tree.{Line, moves_of}
+use Rattle.game_tree.specs.TreeCode.{coded_line}
+
+-- a start position, an optional comment at the start, and a line (PGN standard, 8.2)
+pub record GameTree : Type 0 where
+  pub start : Setup
+  pub lead : Option (List ℕ)
+  pub line : Line
+
+abbrev pub coded_game : Coded GameTree
+coded_game =
+    code_by (Setup × (Option (List ℕ) × Line)) (coded× setup.the_row.coded (coded× (coded_option (coded_list coded_ℕ)) coded_line))
+    (λ g. (g.start, (g.lead, g.line)))
+    (λ t. record { start = t.0; lead = t.1.0; line = t.1.1 })
+    (λ _. refl)

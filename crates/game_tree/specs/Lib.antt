@@ -1,0 +1,12 @@
+pub mod Date
+pub mod TagName
+pub mod Head
+pub mod Settle
+pub mod Tree
+pub mod TreeCode
+pub mod Items
+pub mod Building
+pub mod Game
+pub mod Replay
+pub mod Legal
+pub mod Written

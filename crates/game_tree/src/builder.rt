@@ -1,0 +1,131 @@
+ghost use Rattle.std.specs.Prelude.{◌≡◌, ◌↔◌, ◌<◌, [], length, IsTrue, IsSome, IfOk, List, ℕ, Option};
+ghost use Rattle.game_tree.specs.Items.{Script, Item, plays, glyph, note, opens, closes, items_of, meaning};
+ghost use Rattle.game_tree.specs.Tree.{Line};
+ghost use Rattle.game_tree.specs.Legal.{IsComment};
+ghost use Rattle.game_tree.specs.Written.{comment_before, script_of, HasComments};
+ghost use Rattle.game_tree.specs.Building.{opening, added, built, read_line, Gives};
+
+use super::node::Branch;
+use super::open_line::OpenLine;
+use cell_core::{Move, Text};
+use std::alloc::{AllocError, Global};
+use std::marker::Model;
+
+/// Makes the tree of a game from its items in the order in which they are written: moves, annotation glyphs, comments,
+/// and variations between their brackets (PGN standard, section 8.2). It has a stack of the lines that are open.
+///
+/// Each method takes the builder and gives it back, so that nothing is left of it after want of memory.
+#[derive(Debug, Drop)]
+pub struct Builder {
+    current: OpenLine,
+    outer: Vec<OpenLine>,
+}
+
+impl Model for Builder {
+    ghost use Rattle.std.specs.Prelude.{reverse};
+    ghost use Rattle.game_tree.specs.Building.{Building, coded_building};
+
+    ghost Value = { Building };
+
+    ghost coded = { coded_building };
+
+    ghost view = { λ b. record { current = b.current; outer = reverse b.outer.items } };
+}
+
+impl Builder {
+    /// The builder of a game of which nothing was read.
+    pub fn new(alloc: Global) -> Builder
+        ensures opening { result ≡ opening }
+    {
+        Builder {
+            current: OpenLine::new(alloc),
+            outer: Vec::new(alloc),
+        }
+    }
+
+    /// Whether the innermost line that is open has a move, so that a glyph or a variation may follow.
+    pub fn has_move(&self) -> bool
+        ensures has { IsTrue result ↔ IsSome self.now.current.last }
+    {
+        self.current.has_move()
+    }
+
+    /// How many variations are open.
+    pub fn depth(&self) -> usize
+        ensures depth { result ≡ length self.now.outer }
+    {
+        self.outer.len()
+    }
+
+    /// Adds a move to the innermost line.
+    pub fn play(self, alloc: Global, mv: Move) -> Result<Builder, AllocError>
+        ensures added { IfOk result (λ after. after ≡ added (plays mv) self) }
+    {
+        let Builder { current, outer } = self;
+        let current = current.play(alloc, mv)?;
+        Ok(Builder { current, outer })
+    }
+
+    /// Adds a numeric annotation glyph to the last move of the innermost line. Where the line has no move, nothing changes.
+    pub fn annotate(self, nag: u8) -> Result<Builder, AllocError>
+        ensures added { IfOk result (λ after. after ≡ added (glyph nag) self) }
+    {
+        let Builder { current, outer } = self;
+        let current = current.annotate(nag)?;
+        Ok(Builder { current, outer })
+    }
+
+    /// Adds a comment to the last move of the innermost line, or to the line's beginning where it has no move yet. An
+    /// empty text is no comment. Comments at one place are joined with a space.
+    pub fn comment(self, text: Text) -> Result<Builder, AllocError>
+        ensures added { IfOk result (λ after. after ≡ added (note text) self) }
+    {
+        let Builder { current, outer } = self;
+        let current = current.comment(text)?;
+        Ok(Builder { current, outer })
+    }
+
+    /// Begins a variation of the last move of the innermost line.
+    pub fn open(self, alloc: Global) -> Result<Builder, AllocError>
+        ensures added { IfOk result (λ after. after ≡ added opens self) }
+    {
+        let Builder { current, mut outer } = self;
+        outer.push(current)?;
+        Ok(Builder {
+            current: OpenLine::new(alloc),
+            outer,
+        })
+    }
+
+    /// Ends the innermost variation. Where none is open, nothing changes.
+    pub fn close(self) -> Result<Builder, AllocError>
+        ensures added { IfOk result (λ after. after ≡ added closes self) }
+    {
+        let Builder { current, mut outer } = self;
+        match outer.pop() {
+            None => Ok(Builder { current, outer }),
+            Some(round) => {
+                let current = round.vary(current.finish()?)?;
+                Ok(Builder { current, outer })
+            }
+        }
+    }
+
+    /// The line that was read, with the comment before its first move, where no variation is open. What was read from the
+    /// items of a script alone is what the script means, and what was read from the items of a tree is that tree.
+    pub fn finish(self) -> Result<Branch, AllocError>
+        requires { self.outer ≡ [] }
+        ensures lead { IfOk result (λ read. read.lead ≡ self.current.lead) }
+        ensures line { IfOk result (λ read. read.line ≡ read_line self.current) }
+        ensures meant { IfOk result (λ read. (s : Script) → self ≡ built (items_of s) opening → Gives read (meaning s).comment (meaning s).line) }
+        ensures written { IfOk result (λ read. (lead : Option (List ℕ)) (line : Line) → IsComment lead → HasComments line
+            → self ≡ built (items_of (comment_before lead (script_of line))) opening → Gives read lead line) }
+    {
+        let Builder {
+            current,
+            outer: _outer,
+        } = self;
+        let read = current.finish()?;
+        Ok(read)
+    }
+}

@@ -1,0 +1,171 @@
+ghost use Rattle.std.specs.Prelude.{◌≡◌, ◌==◌, ◌≤◌, length, IfSome};
+ghost use Rattle.std.specs.List.{AllPass, list_all};
+ghost use Rattle.std.specs.Bool.{OnTrue};
+ghost use Rattle.std.specs.Char.{is_ascii_digit};
+ghost use Rattle.cell_core.specs.Text.{IsZeroFree};
+ghost use Rattle.game_tree.specs.Date.{IsDate, unknown_date, is_unknown, shown, date_text, decimal, part, dated, date_read, is_near};
+
+/// A date of a game or an event; a part that is 0 is unknown. A date that is kept has a year of at most 2047, a month
+/// of at most 12 and a day of at most 31.
+#[derive(Clone, Copy, Debug, Default, PartialEq, Eq, PartialOrd, Ord, Hash)]
+pub struct Date {
+    pub year: u16,
+    pub month: u8,
+    pub day: u8,
+}
+
+impl Date {
+    /// The date of which nothing is known.
+    pub fn unknown() -> Date
+        ensures unknown { result ≡ unknown_date }
+    {
+        Date {
+            year: 0,
+            month: 0,
+            day: 0,
+        }
+    }
+
+    /// Whether nothing is known of the date.
+    pub fn is_unknown(&self) -> bool
+        ensures unknown { result ≡ is_unknown self.now }
+    {
+        self.year == 0 && self.month == 0 && self.day == 0
+    }
+
+    /// Whether this is a date that an event of a game of the date `game` can have: its year is from 1 to 2047 and
+    /// differs by at most 3 from the game's year, which is known.
+    pub fn is_near(&self, game: Date) -> bool
+        ensures near { result ≡ is_near self.now game }
+    {
+        let (event_year, game_year) = (u32::from(self.year), u32::from(game.year));
+        1 <= event_year
+            && event_year <= 2047
+            && 1 <= game_year
+            && event_year <= game_year + 3
+            && game_year <= event_year + 3
+    }
+
+    /// The text of the date, as `1994.05.??` (PGN standard, section 8.1.1.3).
+    #[tactic(auto, using(crate::proofs::DateLemmas::reading_back))]
+    pub fn text(&self) -> [u8; 10]
+        ensures text { result ≡ date_text self.now }
+        ensures zero_free { IsZeroFree result }
+        ensures reads_back { IsDate self.now → date_read result ≡ Some self.now }
+    {
+        text_of(*self)
+    }
+
+    /// The date that `text` reads as: `1994.05.12`, `1994.05` or `1994`, with question marks for an unknown part.
+    /// `None` where the text has another form or a part is above its greatest value.
+    #[tactic(auto, unfolding(crate::specs::Date::date_read))]
+    pub fn read(text: &[u8]) -> Option<Date>
+        ensures read { result ≡ date_read text.now }
+        ensures bounds { IfSome result (λ date. IsDate date) }
+    {
+        match text.len() {
+            4 => dated(text, b"??", b"??"),
+            7 if text[4] == b'.' => dated(&text[0..4], &text[5..7], b"??"),
+            10 if text[4] == b'.' && text[7] == b'.' => dated(
+                &text[0..4],
+                &text[5..7],
+                &text[8..10],
+            ),
+            _ => None,
+        }
+    }
+}
+
+#[tactic(auto, unfolding(crate::specs::Date::date_text))]
+fn text_of(date: Date) -> [u8; 10]
+    ensures text { result ≡ date_text date }
+    ensures zero_free { IsZeroFree result }
+{
+    let (year, month, day) = (date.year, u16::from(date.month), u16::from(date.day));
+    [
+        shown(year, year / 1000),
+        shown(year, year / 100),
+        shown(year, year / 10),
+        shown(year, year),
+        b'.',
+        shown(month, month / 10),
+        shown(month, month),
+        b'.',
+        shown(day, day / 10),
+        shown(day, day),
+    ]
+}
+
+// The date of the texts of its three parts.
+fn dated(year: &[u8], month: &[u8], day: &[u8]) -> Option<Date>
+    requires year { length year.now ≤ 4 }
+    requires month { length month.now ≤ 4 }
+    requires day { length day.now ≤ 4 }
+    ensures read { result ≡ dated year.now month.now day.now }
+    ensures bounds { IfSome result (λ date. IsDate date) }
+{
+    let year = part(year, 2047)?;
+    let month = part(month, 12)?;
+    let day = part(day, 31)?;
+    Some(Date {
+        year,
+        month: month as u8,
+        day: day as u8,
+    })
+}
+
+// A part of a date of at most four bytes: 0 of question marks, the number of decimal digits where it is at most `limit`.
+#[tactic(auto, unfolding(crate::specs::Date::part))]
+fn part(text: &[u8], limit: u16) -> Option<u16>
+    requires { length text.now ≤ 4 }
+    ensures read { result ≡ part limit text.now }
+    ensures bound { IfSome result (λ number. number ≤ limit) }
+{
+    if is_unknown_part(text) {
+        return Some(0);
+    }
+    if !has_digits_alone(text) {
+        return None;
+    }
+    let number = decimal(text);
+    if number <= limit { Some(number) } else { None }
+}
+
+// Whether each byte is a question mark.
+fn is_unknown_part(text: &[u8]) -> bool
+    ensures { result ≡ list_all (λ c. c == 63) text.now }
+{
+    text.iter().all(|c| *c == b'?')
+}
+
+// Whether each byte is a decimal digit.
+fn has_digits_alone(text: &[u8]) -> bool
+    ensures all { result ≡ list_all is_ascii_digit text.now }
+    ensures each { OnTrue result (AllPass is_ascii_digit text.now) }
+{
+    text.iter().all(|c| c.is_ascii_digit())
+}
+
+// The number that at most four decimal digits write.
+fn decimal(digits: &[u8]) -> u16
+    requires short { length digits.now ≤ 4 }
+    requires digits { AllPass is_ascii_digit digits.now }
+    ensures { result ≡ decimal digits.now }
+{
+    let mut number = 0u16;
+    for digit in digits {
+        number = 10 * number + u16::from(*digit - b'0');
+    }
+    number
+}
+
+// The last digit of `number` as text, or a question mark where `part` is 0.
+fn shown(part: u16, number: u16) -> u8
+    ensures { result ≡ shown part number }
+{
+    if part == 0 {
+        b'?'
+    } else {
+        b'0' + (number % 10) as u8
+    }
+}

@@ -1,0 +1,30 @@
+//! Games as plain trees of moves with their comments, annotations and variations, and the heads of games: names, dates,
+//! results, ratings and tags.
+#![tactic(auto)]
+
+pub mod bounds;
+pub mod builder;
+mod copying;
+pub mod date;
+pub mod game;
+pub mod head;
+pub mod legality;
+pub mod node;
+mod open_line;
+pub mod settling;
+pub mod tag_name;
+pub mod tags;
+
+pub use bounds::{are_bounded, is_name};
+pub use builder::Builder;
+pub use date::Date;
+pub use game::{Game, main_line, plies};
+pub use head::{Head, HeadRef, Outcome, Rating, Tag};
+pub use legality::legal;
+pub use node::{Branch, Node};
+pub use settling::settle;
+pub use tag_name::{is_reserved, is_tag_name};
+pub use tags::Tags;
+
+#[cfg(test)]
+mod tests;

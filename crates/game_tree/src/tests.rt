@@ -1,0 +1,443 @@
+use super::{
+    Branch, Builder, Date, Game, Head, Node, Outcome, Rating, Tag, Tags, legal, main_line, plies,
+    settle,
+};
+use cell_core::{Move, Square, Text};
+use chess_laws::Position;
+use std::alloc::{AllocError, Global};
+use std::test::Fail;
+
+type Pairs<'a> = &'a [(&'a str, &'a str)];
+
+fn text(alloc: Global, bytes: &str) -> Result<Text, AllocError> {
+    Ok(Text::try_new(Vec::from_slice(alloc, bytes.as_bytes())?).unwrap_or(Text::new(alloc)))
+}
+
+fn date(year: u16, month: u8, day: u8) -> Date {
+    Date { year, month, day }
+}
+
+fn tags(alloc: Global, pairs: Pairs<'_>) -> Result<Tags, AllocError> {
+    let mut tags = Tags::new(alloc);
+    for (name, value) in pairs {
+        let (name, value) = (text(alloc, name)?, text(alloc, value)?);
+        tags.push(Tag { name, value })?;
+    }
+    Ok(tags)
+}
+
+fn head(alloc: Global, game: Date, event: Date, pairs: Pairs<'_>) -> Result<Head, AllocError> {
+    Ok(Head {
+        white: text(alloc, "Capablanca, Jose Raul")?,
+        black: text(alloc, "?")?,
+        event: text(alloc, "?")?,
+        site: text(alloc, "?")?,
+        round: text(alloc, "1")?,
+        date: game,
+        event_date: event,
+        result: Outcome::Draw,
+        white_rating: Rating::default(),
+        black_rating: Rating::default(),
+        eco: 0,
+        marks: 0,
+        deleted: false,
+        tags: tags(alloc, pairs)?,
+    })
+}
+
+fn has_tags(tags: &Tags, pairs: Pairs<'_>) -> bool {
+    tags.as_slice().len() == pairs.len()
+        && tags.as_slice().iter().zip(pairs).all(|(tag, pair)| tag.name.as_bytes()
+            == pair.0.as_bytes()
+            && tag.value.as_bytes() == pair.1.as_bytes())
+}
+
+const DATES: [(&str, Option<Date>); 12] = [
+    (
+        "1994.05.12",
+        Some(Date {
+            year: 1994,
+            month: 5,
+            day: 12,
+        }),
+    ),
+    (
+        "1994.??.??",
+        Some(Date {
+            year: 1994,
+            month: 0,
+            day: 0,
+        }),
+    ),
+    (
+        "????.??.??",
+        Some(Date {
+            year: 0,
+            month: 0,
+            day: 0,
+        }),
+    ),
+    (
+        "1994.05",
+        Some(Date {
+            year: 1994,
+            month: 5,
+            day: 0,
+        }),
+    ),
+    (
+        "1994",
+        Some(Date {
+            year: 1994,
+            month: 0,
+            day: 0,
+        }),
+    ),
+    (
+        "2047.12.31",
+        Some(Date {
+            year: 2047,
+            month: 12,
+            day: 31,
+        }),
+    ),
+    ("2048.01.01", None),
+    ("1994.13.01", None),
+    ("1994.05.32", None),
+    ("1994-05-12", None),
+    ("94.05.12", None),
+    ("", None),
+];
+
+#[test]
+fn dates_read_in_three_forms(rt: HostRuntime) {
+    for (text, read) in &DATES {
+        assert!(rt; Date::read(text.as_bytes()) == *read);
+    }
+    assert!(rt; date(1921, 3, 0).text() == *b"1921.03.??");
+    assert!(rt; date(0, 0, 7).text() == *b"????.??.07");
+}
+
+// The date of a game, the date of its event and the tags, before and after.
+struct Case {
+    game: u16,
+    event: Date,
+    tags: Pairs<'static>,
+    settled: Date,
+    left: Pairs<'static>,
+}
+
+const NONE: Date = Date {
+    year: 0,
+    month: 0,
+    day: 0,
+};
+
+const SOURCE: (&str, &str) = ("Source", "book");
+
+const CASES: [Case; 10] = [
+    // an event date within the rule removes every tag of the name
+    Case {
+        game: 1994,
+        event: Date {
+            year: 1994,
+            month: 4,
+            day: 0,
+        },
+        tags: &[("EventDate", "1990"), SOURCE, ("EventDate", "?")],
+        settled: Date {
+            year: 1994,
+            month: 4,
+            day: 0,
+        },
+        left: &[SOURCE],
+    },
+    Case {
+        game: 1994,
+        event: Date {
+            year: 1997,
+            month: 1,
+            day: 1,
+        },
+        tags: &[],
+        settled: Date {
+            year: 1997,
+            month: 1,
+            day: 1,
+        },
+        left: &[],
+    },
+    Case {
+        game: 1994,
+        event: Date {
+            year: 1991,
+            month: 1,
+            day: 1,
+        },
+        tags: &[],
+        settled: Date {
+            year: 1991,
+            month: 1,
+            day: 1,
+        },
+        left: &[],
+    },
+    // one four years off, one without a year and one of a game without a year become a tag
+    Case {
+        game: 1994,
+        event: Date {
+            year: 1998,
+            month: 4,
+            day: 0,
+        },
+        tags: &[("EventDate", "1995"), SOURCE],
+        settled: NONE,
+        left: &[SOURCE, ("EventDate", "1998.04.??")],
+    },
+    Case {
+        game: 1994,
+        event: Date {
+            year: 0,
+            month: 5,
+            day: 0,
+        },
+        tags: &[SOURCE],
+        settled: NONE,
+        left: &[SOURCE, ("EventDate", "????.05.??")],
+    },
+    Case {
+        game: 0,
+        event: Date {
+            year: 1994,
+            month: 4,
+            day: 1,
+        },
+        tags: &[SOURCE],
+        settled: NONE,
+        left: &[SOURCE, ("EventDate", "1994.04.01")],
+    },
+    // without an event date, the first tag that reads as a date within the rule gives it
+    Case {
+        game: 1994,
+        event: NONE,
+        tags: &[
+            ("EventDate", "1998"),
+            SOURCE,
+            ("EventDate", "1995"),
+            ("EventDate", "1993"),
+        ],
+        settled: Date {
+            year: 1995,
+            month: 0,
+            day: 0,
+        },
+        left: &[SOURCE],
+    },
+    // and where there is none, the tags stay: one four years off, the unknown date, one of a game without a year
+    Case {
+        game: 1994,
+        event: NONE,
+        tags: &[("EventDate", "1998"), SOURCE],
+        settled: NONE,
+        left: &[("EventDate", "1998"), SOURCE],
+    },
+    Case {
+        game: 1994,
+        event: NONE,
+        tags: &[("EventDate", "????.??.??")],
+        settled: NONE,
+        left: &[("EventDate", "????.??.??")],
+    },
+    Case {
+        game: 0,
+        event: NONE,
+        tags: &[("EventDate", "1994")],
+        settled: NONE,
+        left: &[("EventDate", "1994")],
+    },
+];
+
+#[test]
+fn settling_follows_its_three_rules(rt: HostRuntime) -> Result<(), Fail> {
+    for case in &CASES {
+        let mut head = head(rt.alloc(), date(case.game, 5, 12), case.event, case.tags)?;
+        assert!(rt; head.is_bounded());
+        settle(rt.alloc(), &mut head)?;
+        assert!(rt; head.event_date == case.settled);
+        assert!(rt; has_tags(&head.tags, case.left));
+    }
+    Ok(())
+}
+
+fn mv(from: u8, to: u8) -> Move {
+    Move {
+        from: Square::new(from).unwrap_or_default(),
+        to: Square::new(to).unwrap_or_default(),
+        promo: None,
+    }
+}
+
+// A line as text: the squares of a move, its glyphs, its comment, and its variations in brackets.
+#[cycle(printing)]
+fn print_line(alloc: Global, line: &[Node], out: &mut Vec<u8>) -> Result<(), AllocError> {
+    for node in line {
+        out.push(node.mv.from.index())?;
+        out.push(node.mv.to.index())?;
+        out.extend_from_slice(node.nags.as_slice())?;
+        if let Some(comment) = &node.comment {
+            out.extend_from_slice(comment.as_bytes())?;
+        }
+        print_branches(alloc, node.variations.as_slice(), out)?;
+    }
+    Ok(())
+}
+
+#[cycle(printing)]
+fn print_branches(alloc: Global, branches: &[Branch], out: &mut Vec<u8>) -> Result<(), AllocError> {
+    for branch in branches {
+        out.push(b'(')?;
+        if let Some(lead) = &branch.lead {
+            out.extend_from_slice(lead.as_bytes())?;
+        }
+        print_line(alloc, branch.line.as_slice(), out)?;
+        out.push(b')')?;
+    }
+    Ok(())
+}
+
+// Reads a game: a move is its two squares, `!` the glyph 1, `(` and `)` a variation, and other letters a comment.
+fn game(alloc: Global, written: &[(u8, u8)]) -> Result<Game, Fail> {
+    let mut builder = Builder::new(alloc);
+    for (what, to) in written {
+        builder = match what {
+            b'!' => builder.annotate(*to)?,
+            b'(' => builder.open(alloc)?,
+            b')' => builder.close()?,
+            b'{' => builder.comment(Text::try_new(Vec::from_slice(alloc, &[*to])?).unwrap_or(
+                Text::new(alloc),
+            ))?,
+            from => builder.play(alloc, mv(*from, *to))?,
+        };
+    }
+    if builder.depth() > 0 {
+        return Err("a variation is open".into());
+    }
+    let Branch { lead, line } = builder.finish()?;
+    Ok(Game {
+        start: Position::start(),
+        lead,
+        line,
+    })
+}
+
+const OPENS: (u8, u8) = (b'(', 0);
+
+const CLOSES: (u8, u8) = (b')', 0);
+
+const E2_E4: (u8, u8) = (12, 28);
+
+const D2_D4: (u8, u8) = (11, 27);
+
+const C2_C4: (u8, u8) = (10, 26);
+
+const E7_E5: (u8, u8) = (52, 36);
+
+const C7_C5: (u8, u8) = (50, 34);
+
+const ITEMS: [(u8, u8); 17] = [
+    (b'{', b's'),
+    E2_E4,
+    (b'!', 1),
+    (b'{', b'a'),
+    OPENS,
+    (b'{', b'l'),
+    CLOSES,
+    (b'!', 14),
+    OPENS,
+    D2_D4,
+    OPENS,
+    C2_C4,
+    (b'{', b'c'),
+    CLOSES,
+    CLOSES,
+    (b'{', b'b'),
+    E7_E5,
+];
+
+const PRINTED: [u8; 21] = [
+    12, 28, 1, 14, b'a', b' ', b'b', b'(', b'l', b')', b'(', 11, 27, b'(', 10, 26, b'c', b')',
+    b')', 52, 36,
+];
+
+#[test]
+fn items_make_a_tree(rt: HostRuntime) -> Result<(), Fail> {
+    // a comment of the game, glyphs and comments of a move, an empty variation with a comment, and nested variations
+    let game = game(rt.alloc(), &ITEMS)?;
+    let mut out = Vec::new(rt.alloc());
+    print_line(rt.alloc(), game.line.as_slice(), &mut out)?;
+    let want = PRINTED.as_slice();
+    assert!(rt; out.as_slice() == want);
+    assert!(rt;
+        game.lead
+            .as_ref()
+            .is_some_and(|lead| lead.as_bytes() == b"s".as_slice())
+    );
+    let moves = main_line(rt.alloc(), &game)?;
+    assert!(rt; moves.as_slice() == [mv(12, 28), mv(52, 36)].as_slice());
+    let copy = game.copied(rt.alloc())?;
+    let mut again = Vec::new(rt.alloc());
+    print_line(rt.alloc(), copy.line.as_slice(), &mut again)?;
+    assert!(rt; again.as_slice() == want);
+    Ok(())
+}
+
+const GAMES: [(&[(u8, u8)], bool); 9] = [
+    (&[], true),
+    (&[E2_E4, E7_E5], true),
+    (&[E7_E5], false),
+    (&[E2_E4, E2_E4], false),
+    // a variation begins before the move that it hangs on, on the first move too
+    (
+        &[
+            E2_E4, OPENS, D2_D4, E7_E5, CLOSES, E7_E5, OPENS, C7_C5, CLOSES,
+        ],
+        true,
+    ),
+    (&[E2_E4, OPENS, E7_E5, CLOSES], false),
+    (&[E2_E4, E7_E5, OPENS, D2_D4, CLOSES], false),
+    (
+        &[
+            E2_E4, OPENS, D2_D4, OPENS, C2_C4, OPENS, E7_E5, CLOSES, CLOSES, CLOSES, E7_E5,
+        ],
+        false,
+    ),
+    (&[E2_E4, OPENS, (b'{', b'l'), CLOSES, E7_E5], true),
+];
+
+#[test]
+fn legal_games_are_chains_of_legal_moves(rt: HostRuntime) -> Result<(), Fail> {
+    for (written, want) in &GAMES {
+        assert!(rt; legal(&game(rt.alloc(), written)?) == *want);
+    }
+    let mut commented = game(rt.alloc(), &[E2_E4])?;
+    commented.lead = Some(Text::new(rt.alloc()));
+    assert!(rt; !legal(&commented));
+    Ok(())
+}
+
+#[test]
+fn at_most_200_variations_are_open(rt: HostRuntime) -> Result<(), Fail> {
+    for (depth, want) in [(200, true), (201u8, false)] {
+        let mut written = Vec::new(rt.alloc());
+        written.push(E2_E4)?;
+        for _ in 0..depth {
+            written.push(OPENS)?;
+            written.push(D2_D4)?;
+        }
+        for _ in 0..depth {
+            written.push(CLOSES)?;
+        }
+        assert!(rt; legal(&game(rt.alloc(), written.as_slice())?) == want);
+    }
+    Ok(())
+}
