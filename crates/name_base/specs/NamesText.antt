@@ -63,9 +63,9 @@ pub record AreFrequencies (names : List (List ℕ)) (frequencies : List ℕ) : T
 -- The header of the written file.
 abbrev pub header_of : NameLists → Frequencies → Header
 header_of lists f = record {
-    counts = record { players = length lists.players; events = length lists.events; sites = length lists.sites; rounds = length lists.rounds };
-    greatest = record { players = greatest_of f.players; events = greatest_of f.events; sites = greatest_of f.sites; rounds = greatest_of f.rounds }
-  }
+  counts = record { players = length lists.players; events = length lists.events; sites = length lists.sites; rounds = length lists.rounds };
+  greatest = record { players = greatest_of f.players; events = greatest_of f.events; sites = greatest_of f.sites; rounds = greatest_of f.rounds };
+}
 
 -- The bytes of the names of a kind, and what follows them.
 abbrev pub rows_bytes : Shape → List Row → List ℕ → List ℕ

@@ -23,10 +23,7 @@ fn main(rt: HostRuntime) -> ExitCode {
 /// The words after the program's name. A word that is no text is a faulty command line.
 fn words(rt: &HostRuntime) -> Result<Vec<String>, Status> {
     match env::args(rt) {
-        Ok(args) => args
-            .skip(1)
-            .collect(rt.alloc())
-            .map_err(|_| Status::Memory),
+        Ok(args) => args.skip(1).collect(rt.alloc()).map_err(|_| Status::Memory),
         Err(error) if error.kind() == ErrorKind::OutOfMemory => Err(Status::Memory),
         Err(_) => Err(Status::Later(LaterWhat::Words)),
     }
