@@ -28,3 +28,5 @@ mod moves_tests;
 mod play_tests;
 #[cfg(test)]
 mod position_tests;
+#[cfg(test)]
+mod slow_attacks;

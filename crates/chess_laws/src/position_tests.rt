@@ -1,4 +1,5 @@
 use super::attack::attacks;
+use super::slow_attacks::attacks_slowly;
 use super::{PlaceFault, Position};
 use cell_core::{Board, Colour, Kind, Man, Square};
 
@@ -74,13 +75,13 @@ fn square(text: &[u8]) -> Option<Square> {
     }
 }
 
-/// Whether the side attacks each of the squares, or none of them.
+/// Whether the side attacks each of the squares, or none of them, by the code and by the plain slow body.
 fn all_attacked(board: &Board, by: Colour, squares: &str, expected: bool) -> bool {
     for name in squares.as_bytes().chunks(2) {
         let Some(s) = square(name) else {
             return false;
         };
-        if attacks(board, by, s) != expected {
+        if attacks(board, by, s) != expected || attacks_slowly(board, by, s) != expected {
             return false;
         }
     }
