@@ -25,7 +25,7 @@ entry_of_row r = record { id = r.id; name = r.name }
 -- ---- the rows by id
 
 -- their names are the names
-names_from : (id : ℕ) (names : List (List ℕ)) (fs : List ℕ) → length fs ≡ length names → map (λ r. r.name) (rows_from id names fs) ≡ names
+pub names_from : (id : ℕ) (names : List (List ℕ)) (fs : List ℕ) → length fs ≡ length names → map (λ r. r.name) (rows_from id names fs) ≡ names
 names_from id [] fs long = refl
 names_from id (name ∷ names) [] long = absurd (omega arith)
 names_from id (name ∷ names) (f ∷ fs) long = ap (λ ns. name ∷ ns) (names_from (id + 1) names fs (omega arith))
@@ -53,10 +53,11 @@ at_length (x ∷ front) name names = at_length front name names
 placed_from : (front names : List (List ℕ)) (fs : List ℕ) (id : ℕ) → id ≡ length front → AllByRecursion (λ r. slice_get (front ++ names) r.id ≡ Some r.name) (rows_from id names fs)
 placed_from front [] fs id is = tt
 placed_from front (name ∷ names) [] id is = tt
-placed_from front (name ∷ names) (f ∷ fs) id is =
-    (ap (slice_get (front ++ name ∷ names)) is ∙ at_length front name names,
-     subst (λ all. AllByRecursion (λ r. slice_get all r.id ≡ Some r.name) (rows_from (id + 1) names fs)) (append_assoc front (name ∷ []) names)
-       (placed_from (front ++ name ∷ []) names fs (id + 1) (omega (arith, length-append front (name ∷ [])))))
+placed_from front (name ∷ names) (f ∷ fs) id is = (
+  ap (slice_get (front ++ name ∷ names)) is ∙ at_length front name names,
+  subst (λ all. AllByRecursion (λ r. slice_get all r.id ≡ Some r.name) (rows_from (id + 1) names fs)) (append_assoc front (name ∷ []) names)
+      (placed_from (front ++ name ∷ []) names fs (id + 1) (omega (arith, length-append front (name ∷ [])))),
+)
 
 named_from : (id : ℕ) (names : List (List ℕ)) (fs : List ℕ) → AllByRecursion IsName names → AllByRecursion (λ r. IsName r.name) (rows_from id names fs)
 named_from id [] fs are = tt
@@ -77,17 +78,18 @@ length-stored_rows width before (r ∷ rows) = ap suc (length-stored_rows width 
 
 all_fit : (shape : Shape) (before : Option (List ℕ)) (rows : List Row) → AllByRecursion (FitsShape shape) rows → AllByRecursion (λ r. IsName r.name) rows → AllFit shape before (stored_rows (frequency_width shape.greatest) before rows)
 all_fit shape before [] fit named = tt
-all_fit shape before (r ∷ rows) fit named =
-    (record {
-       id = fit.0.id;
-       frequency = length-bytes_high_first (frequency_width shape.greatest) r.frequency;
-       shared = (shared_within before r.name).1;
-       name = subst IsName (sym (name_restored (frequency_width shape.greatest) before r)) named.0
-     },
-     subst (λ name. AllFit shape (Some name) (stored_rows (frequency_width shape.greatest) (Some r.name) rows)) (sym (name_restored (frequency_width shape.greatest) before r))
-       (all_fit shape (Some r.name) rows fit.1 named.1))
+all_fit shape before (r ∷ rows) fit named = (
+  record {
+    id = fit.0.id;
+    frequency = length-bytes_high_first (frequency_width shape.greatest) r.frequency;
+    shared = (shared_within before r.name).1;
+    name = subst IsName (sym (name_restored (frequency_width shape.greatest) before r)) named.0;
+  },
+  subst (λ name. AllFit shape (Some name) (stored_rows (frequency_width shape.greatest) (Some r.name) rows)) (sym (name_restored (frequency_width shape.greatest) before r))
+      (all_fit shape (Some r.name) rows fit.1 named.1),
+)
 
-permuted : (P : Row → Type 0) (xs ys : List Row) → IsPermutation xs ys → AllByRecursion P xs → AllByRecursion P ys
+pub permuted : (P : Row → Type 0) (xs ys : List Row) → IsPermutation xs ys → AllByRecursion P xs → AllByRecursion P ys
 permuted P xs ys same all = recursion_from_All P ys (All-permutation P xs ys same (All-from_recursion P xs all))
 
 of_entries : (P : Entry → Type 0) (rows : List Row) → AllByRecursion (λ r. P (entry_of_row r)) rows → AllByRecursion P (map entry_of_row rows)
@@ -106,19 +108,19 @@ kind_again limit names fs rows are frequencies order =
     let all : length rows ≡ length names = length_permutation (rows_from 0 names fs) rows order.same ∙ length_from 0 names fs frequencies.count in
     let arranged : Arranges (map entry_of_row rows) names = record {
       ids = subst (IsDistinct eqb) (sym (map_twice (λ e. e.id) rows))
-        (IsDistinct-IsPermutation eqb nat_eq_equiv.symm (map (λ r. r.id) (rows_from 0 names fs)) (map (λ r. r.id) rows) (IsPermutation-map (λ r. r.id) (rows_from 0 names fs) rows order.same) (ids_once 0 names fs));
+          (IsDistinct-IsPermutation eqb nat_eq_equiv.symm (map (λ r. r.id) (rows_from 0 names fs)) (map (λ r. r.id) rows) (IsPermutation-map (λ r. r.id) (rows_from 0 names fs) rows order.same) (ids_once 0 names fs));
       once = subst (IsDistinct bytes_eq) (sym (map_twice (λ e. e.name) rows))
-        (IsDistinct-IsPermutation bytes_eq bytes_equiv.symm (map (λ r. r.name) (rows_from 0 names fs)) (map (λ r. r.name) rows) (IsPermutation-map (λ r. r.name) (rows_from 0 names fs) rows order.same)
+          (IsDistinct-IsPermutation bytes_eq bytes_equiv.symm (map (λ r. r.name) (rows_from 0 names fs)) (map (λ r. r.name) rows) (IsPermutation-map (λ r. r.name) (rows_from 0 names fs) rows order.same)
           (subst (IsDistinct bytes_eq) (sym (names_from 0 names fs frequencies.count)) are.once));
       count = sym (length-map rows entry_of_row ∙ all);
-      placed = of_entries (λ e. slice_get names e.id ≡ Some e.name) rows (permuted (λ r. slice_get names r.id ≡ Some r.name) (rows_from 0 names fs) rows order.same (placed_from [] names fs 0 refl))
+      placed = of_entries (λ e. slice_get names e.id ≡ Some e.name) rows (permuted (λ r. slice_get names r.id ≡ Some r.name) (rows_from 0 names fs) rows order.same (placed_from [] names fs 0 refl));
     } in
     record {
       count = length-stored_rows width None rows ∙ all;
       each = all_fit shape None rows
-        (permuted (FitsShape shape) (rows_from 0 names fs) rows order.same (rows_fit_from shape 0 names fs are.each (omega arith) (omega arith)))
-        (permuted (λ r. IsName r.name) (rows_from 0 names fs) rows order.same (named_from 0 names fs are.each));
-      arranged = subst (λ es. Arranges es names) (sym (entries_are width None rows)) arranged
+          (permuted (FitsShape shape) (rows_from 0 names fs) rows order.same (rows_fit_from shape 0 names fs are.each (omega arith) (omega arith)))
+          (permuted (λ r. IsName r.name) (rows_from 0 names fs) rows order.same (named_from 0 names fs are.each));
+      arranged = subst (λ es. Arranges es names) (sym (entries_are width None rows)) arranged;
     }
 
 -- the written form is a names file with these lists
@@ -139,5 +141,5 @@ text_again lists f bytes sound fp fe fs fr t = record {
   player_names = kind_again 1048576 lists.players f.players t.players sound.players fp t.player_order;
   event_names = kind_again 524288 lists.events f.events t.events sound.events fe t.event_order;
   site_names = kind_again 524288 lists.sites f.sites t.sites sound.sites fs t.site_order;
-  round_names = kind_again 262144 lists.rounds f.rounds t.rounds sound.rounds fr t.round_order
+  round_names = kind_again 262144 lists.rounds f.rounds t.rounds sound.rounds fr t.round_order;
 }

@@ -41,7 +41,7 @@ pub rows_more : {X : Type 0} (view : X → Row) (rows after : List X) (x : X) (i
     → map view rows ++ rows_from i (drop i names) (drop i fs) ≡ total → map view after ++ rows_from (i + 1) (drop (i + 1) names) (drop (i + 1) fs) ≡ total
 rows_more view rows after x i names fs total is name f id so_far =
     let next : rows_from i (drop i names) (drop i fs) ≡ view x ∷ rows_from (i + 1) (drop (i + 1) names) (drop (i + 1) fs) =
-      row_next i i names fs (view x).name (view x).frequency name f ∙ ap (λ n. record { id = n; frequency = (view x).frequency; name = (view x).name } ∷ rows_from (i + 1) (drop (i + 1) names) (drop (i + 1) fs)) (sym id) in
+    row_next i i names fs (view x).name (view x).frequency name f ∙ ap (λ n. record { id = n; frequency = (view x).frequency; name = (view x).name } ∷ rows_from (i + 1) (drop (i + 1) names) (drop (i + 1) fs)) (sym id) in
     ap (λ r. r ++ rows_from (i + 1) (drop (i + 1) names) (drop (i + 1) fs)) (ap (map view) is ∙ map-append view rows (x ∷ []))
     ∙ append_assoc (map view rows) (view x ∷ []) (rows_from (i + 1) (drop (i + 1) names) (drop (i + 1) fs))
     ∙ ap (λ r. map view rows ++ r) (sym next) ∙ so_far
@@ -91,7 +91,7 @@ shared_within (Some before) name = let h = common_prefix_len-le eqb before name 
 -- a stored row: its id, its frequency and its name
 pub row_bytes : (shape : Shape) (before : Option (List ℕ)) (r : Row) (rest : List ℕ)
     → stored_bytes shape before (stored_row (frequency_width shape.greatest) before r) rest
-      ≡ big_bytes (id_width shape.count) r.id ++ (big_bytes (frequency_width shape.greatest) r.frequency ++ name_bytes before r.name rest)
+    ≡ big_bytes (id_width shape.count) r.id ++ (big_bytes (frequency_width shape.greatest) r.frequency ++ name_bytes before r.name rest)
 unfolding stored_bytes
 row_bytes shape before r rest =
     let len : shared_len before r.name + length (drop (shared_len before r.name) r.name) ≡ length r.name = omega (arith, length-drop (shared_len before r.name) r.name, (shared_within before r.name).0) in
@@ -144,9 +144,12 @@ header_put old a b c d stamp h pa pb pc pd rest =
 
 -- ---- the fields hold the rows of a kind
 
-pub greatest_small : (fs : List ℕ) → AllByRecursion (λ n. n < 2 ^ 24) fs → greatest_of fs < 2 ^ 24
-greatest_small [] h = omega arith
-greatest_small (f ∷ fs) h = let rest = greatest_small fs h.1 in omega (arith, rest, h.0)
+greatest_small_from : (fs : List ℕ) → AllByRecursion (λ n. n < 2 ^ 24) fs → greatest_of fs < 2 ^ 24
+greatest_small_from [] h = omega arith
+greatest_small_from (f ∷ fs) h = let rest = greatest_small_from fs h.1 in omega (arith, rest, h.0)
+
+pub greatest_small : (fs : List ℕ) → All (λ n. n < 2 ^ 24) fs → greatest_of fs < 2 ^ 24
+greatest_small fs h = greatest_small_from fs (recursion_from_All (λ n. n < 2 ^ 24) fs h)
 
 pub rows_fit_from : (shape : Shape) (id : ℕ) (names : List (List ℕ)) (fs : List ℕ) → AllByRecursion IsName names → id + length names ≤ shape.count → greatest_of fs ≤ shape.greatest → AllByRecursion (FitsShape shape) (rows_from id names fs)
 rows_fit_from shape id [] fs are within small = tt
@@ -154,7 +157,7 @@ rows_fit_from shape id (name ∷ names) [] are within small = tt
 rows_fit_from shape id (name ∷ names) (f ∷ fs) are within small =
     (record { id = omega arith; frequency = omega arith; name = are.0.long }, rows_fit_from shape (id + 1) names fs are.1 (omega arith) (omega arith))
 
-of_map : {X Y : Type 0} (view : X → Y) (P : Y → Type 0) (xs : List X) → AllByRecursion P (map view xs) → AllByRecursion (λ x. P (view x)) xs
+pub of_map : {X Y : Type 0} (view : X → Y) (P : Y → Type 0) (xs : List X) → AllByRecursion P (map view xs) → AllByRecursion (λ x. P (view x)) xs
 of_map view P [] h = tt
 of_map view P (x ∷ xs) h = (h.0, of_map view P xs h.1)
 

@@ -10,5 +10,4 @@ pub fn written_names_are_read()
         → AreFrequencies lists.players f.players → AreFrequencies lists.events f.events
         → AreFrequencies lists.sites f.sites → AreFrequencies lists.rounds f.rounds
         → IsNamesText lists f bytes → NameFile bytes lists }
-{
-}
+{}

@@ -250,9 +250,33 @@ pub fn write_names(
     let header = header_of(names, players, events, sites, rounds);
     let mut out = Vec::new(alloc);
     put_header(&mut out, &header)?;
-    put_kind(alloc, &mut out, header.player_shape(), names.set(NameKind::Player), players)?;
-    put_kind(alloc, &mut out, header.event_shape(), names.set(NameKind::Event), events)?;
-    put_kind(alloc, &mut out, header.site_shape(), names.set(NameKind::Site), sites)?;
-    put_kind(alloc, &mut out, header.round_shape(), names.set(NameKind::Round), rounds)?;
+    put_kind(
+        alloc,
+        &mut out,
+        header.player_shape(),
+        names.set(NameKind::Player),
+        players,
+    )?;
+    put_kind(
+        alloc,
+        &mut out,
+        header.event_shape(),
+        names.set(NameKind::Event),
+        events,
+    )?;
+    put_kind(
+        alloc,
+        &mut out,
+        header.site_shape(),
+        names.set(NameKind::Site),
+        sites,
+    )?;
+    put_kind(
+        alloc,
+        &mut out,
+        header.round_shape(),
+        names.set(NameKind::Round),
+        rounds,
+    )?;
     Ok(out)
 }

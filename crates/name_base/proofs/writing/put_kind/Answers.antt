@@ -8,7 +8,7 @@ use Rattle.name_base.proofs.writing.put_kind.Goals as goal
 pub put_rows-requires-clause-rows : goal.put_rows-requires-clause-rows
 put_rows-requires-clause-rows c =
     subst (λ rows. All (λ r. FitsShape c.args.shape (record { id = r.id; frequency = r.frequency; name = r.name.now })) rows) (sym c.as_slice.ensures.value)
-      (rows_fit (λ r. record { id = r.id; frequency = r.frequency; name = r.name.now }) 1048576 c.args.shape c.args.names.now c.args.frequencies.now c.in_ok-rows.rows.items c.requires.names c.requires.shape c.in_ok-rows.ensures)
+    (rows_fit (λ r. record { id = r.id; frequency = r.frequency; name = r.name.now }) 1048576 c.args.shape c.args.names.now c.args.frequencies.now c.in_ok-rows.rows.items c.requires.names c.requires.shape c.in_ok-rows.ensures)
 
 pub put_rows-requires-clause-greatest : goal.put_rows-requires-clause-greatest
 put_rows-requires-clause-greatest c =

@@ -6,7 +6,7 @@ use Rattle.name_base.proofs.writing.shared_prefix.Given as goal
 abbrev pub invariant-loop-len : goal.invariant-loop-len
 invariant-loop-len l = record {
   same : l.len + common_prefix_len eqb (drop l.len l.before) (drop l.len l.name) ≡ common_prefix_len eqb l.fn.before l.fn.name;
-  within : l.len ≤ length l.name
+  within : l.len ≤ length l.name;
 }
 
 abbrev pub decreases-loop-len : goal.decreases-loop-len
