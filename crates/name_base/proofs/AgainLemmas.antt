@@ -25,7 +25,7 @@ entry_of_row r = record { id = r.id; name = r.name }
 -- ---- the rows by id
 
 -- their names are the names
-names_from : (id : ℕ) (names : List (List ℕ)) (fs : List ℕ) → length fs ≡ length names → map (λ r. r.name) (rows_from id names fs) ≡ names
+pub names_from : (id : ℕ) (names : List (List ℕ)) (fs : List ℕ) → length fs ≡ length names → map (λ r. r.name) (rows_from id names fs) ≡ names
 names_from id [] fs long = refl
 names_from id (name ∷ names) [] long = absurd (omega arith)
 names_from id (name ∷ names) (f ∷ fs) long = ap (λ ns. name ∷ ns) (names_from (id + 1) names fs (omega arith))
@@ -89,7 +89,7 @@ all_fit shape before (r ∷ rows) fit named = (
       (all_fit shape (Some r.name) rows fit.1 named.1),
 )
 
-permuted : (P : Row → Type 0) (xs ys : List Row) → IsPermutation xs ys → AllByRecursion P xs → AllByRecursion P ys
+pub permuted : (P : Row → Type 0) (xs ys : List Row) → IsPermutation xs ys → AllByRecursion P xs → AllByRecursion P ys
 permuted P xs ys same all = recursion_from_All P ys (All-permutation P xs ys same (All-from_recursion P xs all))
 
 of_entries : (P : Entry → Type 0) (rows : List Row) → AllByRecursion (λ r. P (entry_of_row r)) rows → AllByRecursion P (map entry_of_row rows)

@@ -144,9 +144,12 @@ header_put old a b c d stamp h pa pb pc pd rest =
 
 -- ---- the fields hold the rows of a kind
 
-pub greatest_small : (fs : List ℕ) → AllByRecursion (λ n. n < 2 ^ 24) fs → greatest_of fs < 2 ^ 24
-greatest_small [] h = omega arith
-greatest_small (f ∷ fs) h = let rest = greatest_small fs h.1 in omega (arith, rest, h.0)
+greatest_small_from : (fs : List ℕ) → AllByRecursion (λ n. n < 2 ^ 24) fs → greatest_of fs < 2 ^ 24
+greatest_small_from [] h = omega arith
+greatest_small_from (f ∷ fs) h = let rest = greatest_small_from fs h.1 in omega (arith, rest, h.0)
+
+pub greatest_small : (fs : List ℕ) → All (λ n. n < 2 ^ 24) fs → greatest_of fs < 2 ^ 24
+greatest_small fs h = greatest_small_from fs (recursion_from_All (λ n. n < 2 ^ 24) fs h)
 
 pub rows_fit_from : (shape : Shape) (id : ℕ) (names : List (List ℕ)) (fs : List ℕ) → AllByRecursion IsName names → id + length names ≤ shape.count → greatest_of fs ≤ shape.greatest → AllByRecursion (FitsShape shape) (rows_from id names fs)
 rows_fit_from shape id [] fs are within small = tt
@@ -154,7 +157,7 @@ rows_fit_from shape id (name ∷ names) [] are within small = tt
 rows_fit_from shape id (name ∷ names) (f ∷ fs) are within small =
     (record { id = omega arith; frequency = omega arith; name = are.0.long }, rows_fit_from shape (id + 1) names fs are.1 (omega arith) (omega arith))
 
-of_map : {X Y : Type 0} (view : X → Y) (P : Y → Type 0) (xs : List X) → AllByRecursion P (map view xs) → AllByRecursion (λ x. P (view x)) xs
+pub of_map : {X Y : Type 0} (view : X → Y) (P : Y → Type 0) (xs : List X) → AllByRecursion P (map view xs) → AllByRecursion (λ x. P (view x)) xs
 of_map view P [] h = tt
 of_map view P (x ∷ xs) h = (h.0, of_map view P xs h.1)
 

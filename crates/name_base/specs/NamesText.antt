@@ -1,7 +1,7 @@
 -- The names file as it is written. This project's own choice among the files that spell the same names.
 use Rattle.std.specs.Prelude.{◌≡◌, ◌≤◌, ◌<◌, ◌+◌, ◌^◌, ℕ, nat_eq, List, [], ◌∷◌, ◌++◌, Option, Some, None, max, length, drop}
 use Rattle.std.specs.Ordering.{nat_cmp}
-use Rattle.std.specs.List.{common_prefix_len, AllByRecursion}
+use Rattle.std.specs.List.{common_prefix_len, All}
 use Rattle.std.specs.List.Sorted.{IsPermutation, IsSortedByKey}
 use Rattle.std.specs.Cmp.Lexicographic.{slice_cmp}
 use Rattle.byteorder.specs.Endian.{big_bytes}
@@ -58,7 +58,7 @@ pub record Frequencies : Type 0 where
 -- There is a frequency for each name, and three bytes hold it.
 pub record AreFrequencies (names : List (List ℕ)) (frequencies : List ℕ) : Type 0 where
   pub count : length frequencies ≡ length names
-  pub small : AllByRecursion (λ n. n < 2 ^ 24) frequencies
+  pub small : All (λ n. n < 2 ^ 24) frequencies
 
 -- The header of the written file.
 abbrev pub header_of : NameLists → Frequencies → Header

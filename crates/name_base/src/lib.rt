@@ -20,3 +20,6 @@ pub use name_lists::{AddError, Names};
 pub use reading::read_names;
 pub use round_trip::written_names_are_read;
 pub use writing::write_names;
+
+#[cfg(test)]
+mod tests;
