@@ -1,9 +1,9 @@
 -- A side that has one king has it where the first one stands.
-use Rattle.std.proofs.Common.{◌≡◌, ℕ, zero, suc, ◌+◌, ◌<◌, ◌≤◌, Bool, true, false, ◌&&◌, cond, eqb, List, [], ◌∷◌, length, count_by, Option, Some, None, get_or, refl, sym, ◌∙◌, ap, arith}
+use Rattle.std.proofs.Common.{◌≡◌, ℕ, zero, suc, ◌+◌, ◌<◌, Bool, true, false, cond, List, [], ◌∷◌, length, count_by, Option, Some, None, get_or, refl, sym, ◌∙◌, ap, arith}
 use Rattle.std.specs.List.{position_or_len, position}
-use Rattle.std.proofs.lemmas.List.Sums.{sum_by-cons, count_by-le-length, passes_at_first}
+use Rattle.std.proofs.lemmas.List.Sums.{sum_by-cons}
 use Rattle.std.proofs.lemmas.Bool.{cases_Bool, false≢true}
-use Rattle.std.proofs.Common.{◌⊎◌, inl, inr, ltb}
+use Rattle.std.proofs.Common.{inl, inr, ltb}
 use Rattle.std.proofs.lemmas.Bool.Decides.{nat_tests}
 use Rattle.cell_core.specs.declared.man.Colour.{Colour}
 use Rattle.cell_core.specs.declared.man.Colour.TheVariants.{White, Black}
@@ -11,7 +11,7 @@ use Rattle.cell_core.specs.declared.man.Kind.{Kind}
 use Rattle.cell_core.specs.declared.man.Kind.TheVariants.{King, Queen, Rook, Bishop, Knight, Pawn}
 use Rattle.cell_core.specs.declared.man.Man.{Man}
 use Rattle.cell_core.specs.Board.{Men, man_at}
-use Rattle.cell_core.specs.Man.{man, is_man, same_colour, same_kind}
+use Rattle.cell_core.specs.Man.{man, is_man}
 use Rattle.chess_laws.specs.Position.{king_square}
 
 -- the test of a man finds just that man
@@ -70,8 +70,8 @@ only-first p [] s d fails one h = absurd (false≢true (sym fails ∙ h))
 only-first p (x ∷ xs) zero d fails one h = rw h refl
 only-first p (x ∷ xs) (suc s) d fails one h =
     elim (cases_Bool (p x)) [
-      inl is ↦ let r = counted p xs s d fails h in let e = count-more p x xs is in absurd (omega arith)
-    | inr isnt ↦ let e = count-same p x xs isnt in let r = only-first p xs s d fails (omega arith) h in rw (isnt, add_one_left) (ap suc r)
+      | inl is ↦ let r = counted p xs s d fails h in let e = count-more p x xs is in absurd (omega arith)
+      | inr isnt ↦ let e = count-same p x xs isnt in let r = only-first p xs s d fails (omega arith) h in rw (isnt, add_one_left) (ap suc r)
     ]
 
 -- where one passes, the first does
@@ -79,8 +79,8 @@ first-passes : {X : Type 0} (p : X → Bool) (xs : List X) (d : X) → 0 < count
 first-passes p [] d some = absurd (omega arith)
 first-passes p (x ∷ xs) d some =
     elim (cases_Bool (p x)) [
-      inl is ↦ rw is is
-    | inr isnt ↦ let e = count-same p x xs isnt in rw (isnt, add_one_left) (first-passes p xs d (omega arith))
+      | inl is ↦ rw is is
+      | inr isnt ↦ let e = count-same p x xs isnt in rw (isnt, add_one_left) (first-passes p xs d (omega arith))
     ]
 
 -- and stands in the list
@@ -88,8 +88,8 @@ first-within : {X : Type 0} (p : X → Bool) (xs : List X) → 0 < count_by p xs
 first-within p [] some = absurd (omega arith)
 first-within p (x ∷ xs) some =
     elim (cases_Bool (p x)) [
-      inl is ↦ rw is (omega arith)
-    | inr isnt ↦ let e = count-same p x xs isnt in let r = first-within p xs (omega arith) in rw isnt (omega arith)
+      | inl is ↦ rw is (omega arith)
+      | inr isnt ↦ let e = count-same p x xs isnt in let r = first-within p xs (omega arith) in rw isnt (omega arith)
     ]
 
 pub king-stands : (men : Men) (c : Colour) → count_by (is_man c King) men ≡ 1 → man_at men (king_square men c) ≡ Some (man c King)

@@ -1,7 +1,7 @@
 -- No pawn on the first or the last rank, square by square.
-use Rattle.std.proofs.Common.{◌≡◌, ℕ, zero, suc, ◌+◌, ◌-◌, ◌/◌, ◌<◌, ◌≤◌, ◌⊎◌, inl, inr, Option, Some, None, length, get_or, refl, sym, ◌∙◌, arith}
+use Rattle.std.proofs.Common.{◌≡◌, ℕ, ◌+◌, ◌-◌, ◌<◌, inl, inr, Some, None, length, arith}
 use Rattle.std.proofs.lemmas.List.{get_or_past}
-use Rattle.std.proofs.lemmas.Bool.{cases_lt, cases_eq}
+use Rattle.std.proofs.lemmas.Bool.{cases_lt}
 use Rattle.cell_core.specs.declared.man.Colour.{Colour}
 use Rattle.cell_core.specs.declared.man.Kind.TheVariants.{Pawn}
 use Rattle.cell_core.specs.Board.{Men, man_at}
@@ -22,12 +22,12 @@ pub pawns-inside : (men : Men) → Clear men 8 → HasPawnsInside men
 pawns-inside men b s c e =
     let len = b.squares (omega arith) in
     elim (cases_lt s 8) [
-      inl low ↦ absurd (b.first s low c e)
-    | inr above ↦ elim (cases_lt s 56) [
-        inl below ↦ (omega arith, omega arith)
-      | inr high ↦ elim (cases_lt s 64) [
-          inl within ↦ let same : 56 + (s - 56) ≡ s = omega arith in absurd (b.last (s - 56) (omega arith) c (rw same e))
-        | inr past ↦ let empty : man_at men s ≡ None = get_or_past men s None (omega arith) in absurd (cc)
+      | inl low ↦ absurd (b.first s low c e)
+      | inr above ↦ elim (cases_lt s 56) [
+        | inl below ↦ (omega arith, omega arith)
+        | inr high ↦ elim (cases_lt s 64) [
+          | inl within ↦ let same : 56 + (s - 56) ≡ s = omega arith in absurd (b.last (s - 56) (omega arith) c (rw same e))
+          | inr past ↦ let empty : man_at men s ≡ None = get_or_past men s None (omega arith) in absurd (cc)
         ]
       ]
     ]

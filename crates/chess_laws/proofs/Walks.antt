@@ -1,16 +1,16 @@
 -- A walk read from its end: the same squares by the steps back. What is met on the way back is what attacks along it.
-use Rattle.std.proofs.Common.{◌≡◌, ℕ, zero, suc, ◌+◌, ◌-◌, ◌*◌, ◌/◌, ◌%◌, ◌<◌, ◌≤◌, Bool, true, false, ◌&&◌, cond, Option, Some, None, refl, sym, ◌∙◌, ap, arith, ◌⊎◌, inl, inr, ⊎_elim, ◌↔◌, IsTrue}
+use Rattle.std.proofs.Common.{◌≡◌, ℕ, zero, suc, ◌+◌, ◌-◌, ◌<◌, ◌≤◌, Option, Some, None, refl, sym, ◌∙◌, ap, arith, ◌⊎◌, inl, inr, ⊎_elim, ◌↔◌}
 use Rattle.cell_core.specs.declared.man.Man.{Man}
 use Rattle.cell_core.specs.Board.{Men, man_at}
 use Rattle.chess_laws.specs.declared.offset.Offset.{Offset}
-use Rattle.chess_laws.specs.Geometry.{file_of, rank_of, shift, Leaps, Walk, Runs}
+use Rattle.chess_laws.specs.Geometry.{file_of, rank_of, shift, Walk, Runs}
 use Rattle.chess_laws.specs.Rays.{reversed, met, met_at, met_on, LeapsFrom, SlidesFrom}
 use Rattle.std.proofs.lemmas.Bool.{cases_order}
 use Rattle.cell_core.specs.declared.man.Colour.{Colour}
 use Rattle.cell_core.specs.declared.man.Kind.{Kind}
 use Rattle.cell_core.specs.declared.man.Kind.TheVariants.{Queen}
 use Rattle.cell_core.specs.Man.{man}
-use Rattle.chess_laws.proofs.Shifts.{Differ, shift-Some, shift-Differ}
+use Rattle.chess_laws.proofs.Shifts.{shift-Some, shift-Differ}
 
 -- a step and its step back
 pub back : (o : Offset) (a b : ℕ) → a < 64 → shift o a ≡ Some b → shift (reversed o) b ≡ Some a
@@ -53,13 +53,13 @@ further men o m s a h empty r =
     record { steps = suc r.steps; from = r.from; on_board = r.on_board; stands = r.stands; walk = (a, h, empty, r.walk) }
 
 met_on-walk : (men : Men) (o : Offset) (m : Man) (n s a : ℕ) (x : Option Man) → ((b : ℕ) → met men o n b ≡ Some m → MetAt men o m b)
-  → shift (reversed o) s ≡ Some a → man_at men a ≡ x → met_on x (met men o n a) ≡ Some m → MetAt men o m s
+    → shift (reversed o) s ≡ Some a → man_at men a ≡ x → met_on x (met men o n a) ≡ Some m → MetAt men o m s
 met_on-walk men o m n s a None ih h e g = further men o m s a h e (ih a g)
 met_on-walk men o m n s a (Some x) ih h e g =
     record { steps = zero; from = a; on_board = shift-on_board (reversed o) s a h; stands = e ∙ g; walk = h }
 
 met_at-walk : (men : Men) (o : Offset) (m : Man) (n s : ℕ) (x : Option ℕ) → ((b : ℕ) → met men o n b ≡ Some m → MetAt men o m b)
-  → shift (reversed o) s ≡ x → met_at men x (met men o n) ≡ Some m → MetAt men o m s
+    → shift (reversed o) s ≡ x → met_at men x (met men o n) ≡ Some m → MetAt men o m s
 met_at-walk men o m n s None ih h g = absurd (cc)
 met_at-walk men o m n s (Some a) ih h g = met_on-walk men o m n s a (man_at men a) ih h refl g
 
@@ -105,16 +105,16 @@ still men o m (suc n) a b h v e (c, f, g, w) =
 pub walk-short : (men : Men) (o : Offset) (m : Man) (n a b : ℕ) → a < 64 → b < 64 → man_at men a ≡ Some m → Walk men o n a b → n < 7
 walk-short men o m n a b on_board to_board e w =
     elim (cases_order o.left o.right) [
-      inl h ↦ elim (cases_order o.up o.down) [
-        inl v ↦ still men o m n a b h v e w
-      | inr v ↦ elim v [
-          inl v ↦ let r = down men o n a b v w in omega arith
-        | inr v ↦ let r = up men o n a b v w in omega arith
+      | inl h ↦ elim (cases_order o.up o.down) [
+        | inl v ↦ still men o m n a b h v e w
+        | inr v ↦ elim v [
+          | inl v ↦ let r = down men o n a b v w in omega arith
+          | inr v ↦ let r = up men o n a b v w in omega arith
         ]
       ]
-    | inr h ↦ elim h [
-        inl h ↦ let r = right men o n a b h w in omega arith
-      | inr h ↦ let r = left men o n a b h w in omega arith
+      | inr h ↦ elim h [
+        | inl h ↦ let r = right men o n a b h w in omega arith
+        | inr h ↦ let r = left men o n a b h w in omega arith
       ]
     ]
 
@@ -128,9 +128,10 @@ pub leaps_none : (men : Men) (m : Man) (s : ℕ) (o : Offset) → None ≡ shift
 leaps_none men m s o h l = let e = back o l.from s l.on_board l.leaps in cc
 
 pub leaps_some : (men : Men) (m : Man) (s a : ℕ) (o : Offset) → s < 64 → Some a ≡ shift (reversed o) s → LeapsFrom men m s o ↔ (man_at men a ≡ Some m)
-leaps_some men m s a o less h =
-    ((λ l. let e = back o l.from s l.on_board l.leaps in let same : a ≡ l.from = cc in rw same l.stands),
-     (λ e. record { from = a; on_board = shift-on_board (reversed o) s a (sym h); stands = e; leaps = fore o a s less (sym h) }))
+leaps_some men m s a o less h = (
+  (λ l. let e = back o l.from s l.on_board l.leaps in let same : a ≡ l.from = cc in rw same l.stands),
+  (λ e. record { from = a; on_board = shift-on_board (reversed o) s a (sym h); stands = e; leaps = fore o a s less (sym h) }),
+)
 
 -- and a slide
 pub slide-met : (men : Men) (s : ℕ) (o : Offset) (m : Man) (a : ℕ) → a < 64 → man_at men a ≡ Some m → Runs men a s o → met men o 7 s ≡ Some m
@@ -140,20 +141,24 @@ slide-met men s o m a on_board e (n, w) =
 pub slides_none : (men : Men) (c : Colour) (k : Kind) (s : ℕ) (o : Offset) → None ≡ met men o 7 s → SlidesFrom men c k s o → ⊥
 slides_none men c k s o h l =
     ⊎_elim
-      (λ e. let w = slide-met men s o (man c k) l.from l.on_board e l.runs in cc)
-      (λ e. let w = slide-met men s o (man c Queen) l.from l.on_board e l.runs in cc)
-      l.stands
+    (λ e. let w = slide-met men s o (man c k) l.from l.on_board e l.runs in cc)
+    (λ e. let w = slide-met men s o (man c Queen) l.from l.on_board e l.runs in cc)
+    l.stands
 
 pub slides_some : (men : Men) (c : Colour) (k : Kind) (s : ℕ) (o : Offset) (x : Man) → s < 64 → Some x ≡ met men o 7 s → SlidesFrom men c k s o ↔ ((x ≡ man c k) ⊎ (x ≡ man c Queen))
-slides_some men c k s o x less h =
-    ((λ l. ⊎_elim
+slides_some men c k s o x less h = (
+  (λ l. ⊎_elim
       (λ e. let w = slide-met men s o (man c k) l.from l.on_board e l.runs in inl (cc))
       (λ e. let w = slide-met men s o (man c Queen) l.from l.on_board e l.runs in inr (cc))
       l.stands),
-     (λ e. let r = met-walk men o x 7 s (sym h) in
-       record { from = r.from; on_board = r.on_board;
-         stands = ⊎_elim (λ e. inl (r.stands ∙ ap Some e)) (λ e. inr (r.stands ∙ ap Some e)) e;
-         runs = (r.steps, walk-fore men o r.steps r.from s less r.walk) }))
+  (λ e. let r = met-walk men o x 7 s (sym h) in
+      record {
+        from = r.from;
+        on_board = r.on_board;
+        stands = ⊎_elim (λ e. inl (r.stands ∙ ap Some e)) (λ e. inr (r.stands ∙ ap Some e)) e;
+        runs = (r.steps, walk-fore men o r.steps r.from s less r.walk);
+      }),
+)
 
 -- the first square of the walk back
 pub met_first : (men : Men) (o : Offset) (s a : ℕ) → Some a ≡ shift (reversed o) s → met_on (man_at men a) (met men o 6 a) ≡ met men o 7 s

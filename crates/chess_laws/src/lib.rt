@@ -15,3 +15,6 @@ pub use effect::Effect;
 pub use fault::PlaceFault;
 pub use position::Position;
 pub use setup::{Rights, Setup, Wing};
+
+#[cfg(test)]
+mod position_tests;

@@ -38,12 +38,7 @@ pub fn has_few_men(board: &Board) -> bool
 }
 
 /// Whether the side that is not to move is in check, the kings standing on these squares.
-pub fn rests_in_check(
-    board: &Board,
-    side: Colour,
-    white_king: Square,
-    black_king: Square,
-) -> bool
+pub fn rests_in_check(board: &Board, side: Colour, white_king: Square, black_king: Square) -> bool
     requires white { (count_of board.now White King ≡ 1) × (white_king ≡ king_square board.now White) }
     requires black { (count_of board.now Black King ≡ 1) × (black_king ≡ king_square board.now Black) }
     ensures check { IsTrue result ↔ IsInCheck board.now (other side) }

@@ -1,4 +1,4 @@
-use Rattle.std.proofs.Common.{◌≡◌, ◌∙◌, sym, arith}
+use Rattle.std.proofs.Common.{◌∙◌, sym, arith}
 use Rattle.chess_laws.specs.Counts.{is_home}
 use Rattle.chess_laws.proofs.Home.{bits_yes, bits_no, bit-set}
 use Rattle.chess_laws.proofs.census.home_set.Goals as goal
@@ -7,8 +7,8 @@ use Rattle.chess_laws.proofs.census.home_set.Goals.{then-stands_at_home, else-st
 pub loop-value-preserved : goal.loop-value-preserved
 loop-value-preserved c =
     elim c.if-stands_at_home.branch [
-      then-stands_at_home w ↦ rw w.set-is (bits_yes (is_home c.args.board.now) c.loop-value.set c.loop-value.value c.loop-value-test.true (sym c.stands_at_home.ensures ∙ w.if-stands_at_home.true) c.loop-value.invariant)
-    | else-stands_at_home w ↦ rw w.set-is (bits_no (is_home c.args.board.now) c.loop-value.set c.loop-value.value c.loop-value-test.true (sym c.stands_at_home.ensures ∙ w.if-stands_at_home.false) c.loop-value.invariant)
+      | then-stands_at_home w ↦ rw w.set-is (bits_yes (is_home c.args.board.now) c.loop-value.set c.loop-value.value c.loop-value-test.true (sym c.stands_at_home.ensures ∙ w.if-stands_at_home.true) c.loop-value.invariant)
+      | else-stands_at_home w ↦ rw w.set-is (bits_no (is_home c.args.board.now) c.loop-value.set c.loop-value.value c.loop-value-test.true (sym c.stands_at_home.ensures ∙ w.if-stands_at_home.false) c.loop-value.invariant)
     ]
 
 pub returns : goal.returns

@@ -1,4 +1,4 @@
-use Rattle.std.proofs.Common.{◌≡◌, ℕ, Some}
+use Rattle.std.proofs.Common.{◌≡◌, Some}
 use Rattle.cell_core.specs.Board.{man_at}
 use Rattle.cell_core.specs.Man.{man}
 use Rattle.cell_core.specs.declared.man.Colour.TheVariants.{White, Black}
@@ -13,8 +13,8 @@ returns-in-White-clause-stands c =
 pub returns-in-White-clause-only : goal.returns-in-White-clause-only
 returns-in-White-clause-only c =
     λ s h.
-      let here : man_at c.self.inside.inner.board s ≡ Some (man White King) = cc in
-      let e = king-only c.self.inside.inner.board White s (c.self.invariant.sound.kings White) here in cc
+    let here : man_at c.self.inside.inner.board s ≡ Some (man White King) = cc in
+    let e = king-only c.self.inside.inner.board White s (c.self.invariant.sound.kings White) here in cc
 
 pub returns-in-Black-clause-stands : goal.returns-in-Black-clause-stands
 returns-in-Black-clause-stands c =
@@ -23,5 +23,5 @@ returns-in-Black-clause-stands c =
 pub returns-in-Black-clause-only : goal.returns-in-Black-clause-only
 returns-in-Black-clause-only c =
     λ s h.
-      let here : man_at c.self.inside.inner.board s ≡ Some (man Black King) = cc in
-      let e = king-only c.self.inside.inner.board Black s (c.self.invariant.sound.kings Black) here in cc
+    let here : man_at c.self.inside.inner.board s ≡ Some (man Black King) = cc in
+    let e = king-only c.self.inside.inner.board Black s (c.self.invariant.sound.kings Black) here in cc
