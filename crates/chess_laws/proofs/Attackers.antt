@@ -1,5 +1,5 @@
 -- Who attacks a square: a pawn, a knight or a king that leaps, or a rook, a bishop or a queen that slides.
-use Rattle.std.proofs.Common.{false, IsTrue, ◌+◌, ◌-◌, ◌≤◌, length, length-append, arith, ◌≡◌, ℕ, ◌<◌, List, [], ◌∷◌, ◌++◌, Any, ◌⊎◌, inl, inr, ⊎_elim, ◌↔◌, Option, Some, None, refl, sym, ◌∙◌}
+use Rattle.std.proofs.Common.{false, IsTrue, ◌+◌, ◌-◌, length, length-append, arith, ◌≡◌, ℕ, ◌<◌, List, ◌++◌, Any, ◌⊎◌, inl, inr, ⊎_elim, Some, sym, ◌∙◌}
 use Rattle.std.proofs.Math.ListN.{get_or-append}
 use Rattle.std.proofs.Math.Seq.{get_or-append_right}
 use Rattle.std.proofs.lemmas.List.{get_or-append-add}
@@ -7,7 +7,6 @@ use Rattle.std.proofs.lemmas.Bool.{cases_lt, false≢true}
 use Rattle.cell_core.specs.declared.man.Colour.{Colour}
 use Rattle.cell_core.specs.declared.man.Kind.{Kind}
 use Rattle.cell_core.specs.declared.man.Kind.TheVariants.{King, Queen, Rook, Bishop, Knight, Pawn}
-use Rattle.cell_core.specs.declared.man.Man.{Man}
 use Rattle.cell_core.specs.Board.{Men, man_at}
 use Rattle.cell_core.specs.Man.{man}
 use Rattle.chess_laws.specs.declared.offset.Offset.{Offset}

@@ -1,5 +1,5 @@
 -- The initial position keeps the rules, by computing.
-use Rattle.std.proofs.Common.{◌+◌, ◌≡◌, ℕ, zero, suc, ◌<◌, ◌≤◌, Bool, true, false, ◌||◌, Any, List, [], ◌∷◌, length, get_or, Option, Some, None, ◌⊎◌, ⊎_elim, refl, sym, ◌∙◌, ap, subst, arith}
+use Rattle.std.proofs.Common.{◌+◌, ◌≡◌, ℕ, zero, suc, ◌<◌, Bool, true, false, ◌||◌, Any, List, [], ◌∷◌, Option, Some, None, ⊎_elim, refl, sym, ◌∙◌, ap, subst, arith}
 use Rattle.std.proofs.lemmas.Bool.{false≢true}
 use Rattle.cell_core.specs.declared.man.Colour.{Colour}
 use Rattle.cell_core.specs.declared.man.Colour.TheVariants.{White, Black}
@@ -7,12 +7,12 @@ use Rattle.cell_core.specs.declared.man.Kind.{Kind}
 use Rattle.cell_core.specs.declared.man.Kind.TheVariants.{King, Queen, Rook, Bishop, Knight, Pawn}
 use Rattle.cell_core.specs.declared.man.Man.{Man}
 use Rattle.cell_core.specs.Board.{Men, man_at}
-use Rattle.cell_core.specs.Man.{man, other, is_man, same_kind}
+use Rattle.cell_core.specs.Man.{man, is_man, same_kind}
 use Rattle.chess_laws.specs.declared.offset.Offset.{Offset}
 use Rattle.chess_laws.specs.Geometry.{shift, rook_steps, bishop_steps, knight_steps, king_steps, pawn_captures}
 use Rattle.chess_laws.specs.Attacks.{Attacks, IsInCheck}
 use Rattle.chess_laws.specs.Rays.{reversed, met, LeapsFrom, SlidesFrom}
-use Rattle.chess_laws.specs.Position.{Sound, start_men, start_setup, king_square}
+use Rattle.chess_laws.specs.Position.{Sound, start_men, start_setup}
 use Rattle.chess_laws.proofs.Kings.{king-only, is_man-true}
 use Rattle.chess_laws.proofs.Pawns.{Clear, NoPawn, pawns-inside}
 use Rattle.chess_laws.proofs.Walks.{back, slide-met}

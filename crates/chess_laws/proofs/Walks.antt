@@ -1,16 +1,16 @@
 -- A walk read from its end: the same squares by the steps back. What is met on the way back is what attacks along it.
-use Rattle.std.proofs.Common.{◌≡◌, ℕ, zero, suc, ◌+◌, ◌-◌, ◌*◌, ◌/◌, ◌%◌, ◌<◌, ◌≤◌, Bool, true, false, ◌&&◌, cond, Option, Some, None, refl, sym, ◌∙◌, ap, arith, ◌⊎◌, inl, inr, ⊎_elim, ◌↔◌, IsTrue}
+use Rattle.std.proofs.Common.{◌≡◌, ℕ, zero, suc, ◌+◌, ◌-◌, ◌<◌, ◌≤◌, Option, Some, None, refl, sym, ◌∙◌, ap, arith, ◌⊎◌, inl, inr, ⊎_elim, ◌↔◌}
 use Rattle.cell_core.specs.declared.man.Man.{Man}
 use Rattle.cell_core.specs.Board.{Men, man_at}
 use Rattle.chess_laws.specs.declared.offset.Offset.{Offset}
-use Rattle.chess_laws.specs.Geometry.{file_of, rank_of, shift, Leaps, Walk, Runs}
+use Rattle.chess_laws.specs.Geometry.{file_of, rank_of, shift, Walk, Runs}
 use Rattle.chess_laws.specs.Rays.{reversed, met, met_at, met_on, LeapsFrom, SlidesFrom}
 use Rattle.std.proofs.lemmas.Bool.{cases_order}
 use Rattle.cell_core.specs.declared.man.Colour.{Colour}
 use Rattle.cell_core.specs.declared.man.Kind.{Kind}
 use Rattle.cell_core.specs.declared.man.Kind.TheVariants.{Queen}
 use Rattle.cell_core.specs.Man.{man}
-use Rattle.chess_laws.proofs.Shifts.{Differ, shift-Some, shift-Differ}
+use Rattle.chess_laws.proofs.Shifts.{shift-Some, shift-Differ}
 
 -- a step and its step back
 pub back : (o : Offset) (a b : ℕ) → a < 64 → shift o a ≡ Some b → shift (reversed o) b ≡ Some a

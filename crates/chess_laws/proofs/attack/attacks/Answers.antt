@@ -1,4 +1,4 @@
-use Rattle.std.proofs.Common.{◌≡◌, ◌↔◌, IsTrue, false, refl}
+use Rattle.std.proofs.Common.{IsTrue, false, refl}
 use Rattle.chess_laws.proofs.Attackers.{rook-attacks, bishop-attacks, king-attacks, attack-from, last-of}
 use Rattle.chess_laws.proofs.attack.attacks.Goals as goal
 

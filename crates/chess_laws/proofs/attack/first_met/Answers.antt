@@ -1,5 +1,4 @@
-use Rattle.std.proofs.Common.{◌≡◌, ◌∙◌, sym, None, Option}
-use Rattle.cell_core.specs.Board.{man_at}
+use Rattle.std.proofs.Common.{◌∙◌, sym}
 use Rattle.chess_laws.proofs.Walks.{met_none, met_first, met_edge, met_next, met_last}
 use Rattle.chess_laws.proofs.attack.first_met.Goals as goal
 

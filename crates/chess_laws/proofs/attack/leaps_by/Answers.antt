@@ -1,4 +1,3 @@
-use Rattle.std.proofs.Common.{◌≡◌, ◌↔◌}
 use Rattle.cell_core.specs.Man.{man}
 use Rattle.chess_laws.proofs.Walks.{leaps_none, leaps_some}
 use Rattle.chess_laws.proofs.attack.leaps_by.Goals as goal

@@ -1,4 +1,3 @@
-use Rattle.std.proofs.Common.{◌≡◌, ◌↔◌}
 use Rattle.chess_laws.proofs.Walks.{slides_none, slides_some}
 use Rattle.chess_laws.proofs.attack.slides_by.Goals as goal
 

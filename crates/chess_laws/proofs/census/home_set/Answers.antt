@@ -1,4 +1,4 @@
-use Rattle.std.proofs.Common.{◌≡◌, ◌∙◌, sym, arith}
+use Rattle.std.proofs.Common.{◌∙◌, sym, arith}
 use Rattle.chess_laws.specs.Counts.{is_home}
 use Rattle.chess_laws.proofs.Home.{bits_yes, bits_no, bit-set}
 use Rattle.chess_laws.proofs.census.home_set.Goals as goal

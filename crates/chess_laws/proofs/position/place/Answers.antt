@@ -1,4 +1,4 @@
-use Rattle.std.proofs.Common.{◌≡◌, refl}
+use Rattle.std.proofs.Common.{refl}
 use Rattle.std.proofs.lemmas.Bool.{false≢true}
 use Rattle.chess_laws.proofs.Soundness.{both_kings, sound_of}
 use Rattle.chess_laws.proofs.position.place.Goals as goal

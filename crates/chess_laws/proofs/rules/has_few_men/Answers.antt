@@ -1,4 +1,3 @@
-use Rattle.std.proofs.Common.{◌≡◌}
 use Rattle.chess_laws.proofs.Soundness.{few_white, few_black}
 use Rattle.chess_laws.proofs.rules.has_few_men.Goals as goal
 

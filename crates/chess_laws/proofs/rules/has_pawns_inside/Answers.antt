@@ -1,5 +1,5 @@
-use Rattle.std.proofs.Common.{◌≡◌, sym, ◌∙◌, refl, arith, subst}
-use Rattle.chess_laws.proofs.Pawns.{Clear, pawns-inside}
+use Rattle.std.proofs.Common.{◌≡◌, refl, arith}
+use Rattle.chess_laws.proofs.Pawns.{pawns-inside}
 use Rattle.chess_laws.proofs.rules.has_pawns_inside.Goals as goal
 
 pub returns : goal.returns

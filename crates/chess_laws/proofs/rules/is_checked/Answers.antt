@@ -1,4 +1,3 @@
-use Rattle.std.proofs.Common.{◌≡◌, sym}
 use Rattle.chess_laws.proofs.Soundness.{checked}
 use Rattle.chess_laws.proofs.rules.is_checked.Goals as goal
 

@@ -1,4 +1,4 @@
-use Rattle.std.proofs.Common.{◌≡◌, ℕ, Some}
+use Rattle.std.proofs.Common.{◌≡◌, Some}
 use Rattle.cell_core.specs.Board.{man_at}
 use Rattle.cell_core.specs.Man.{man}
 use Rattle.cell_core.specs.declared.man.Colour.TheVariants.{White, Black}

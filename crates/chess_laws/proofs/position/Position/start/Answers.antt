@@ -1,4 +1,3 @@
-use Rattle.std.proofs.Common.{◌≡◌, sym, subst, refl}
 use Rattle.chess_laws.proofs.Start.{start-sound}
 use Rattle.chess_laws.proofs.position.Position.start.Goals as goal
 
