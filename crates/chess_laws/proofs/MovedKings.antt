@@ -1,34 +1,26 @@
 -- Where the kings stand after a move, and what is kept beside the position then.
-use Rattle.std.proofs.Common.{◌≡◌, ℕ, zero, suc, ◌+◌, ◌*◌, ◌/◌, ◌%◌, ◌<◌, ◌≤◌, ◌≢◌, ◌⊎◌, inl, inr, Bool, true, false, ◌&&◌, not, cond, eqb, List, [], ◌∷◌, ◌++◌, Option, Some, None, is_none, IsTrue, length, get_or, refl, sym, ◌∙◌, ap, subst, arith, rules, lit<}
-use Rattle.std.specs.Prelude.{Any, All}
-use Rattle.std.proofs.lemmas.Bool.{eqb-true, eqb-false, eq-eqb, ne_eqb, cases_eq, and_parts, or_parts, not-true}
-use Rattle.std.proofs.lemmas.Grind.{common_steps}
+use Rattle.std.proofs.Common.{◌≡◌, ℕ, ◌<◌, inl, inr, true, eqb, Some, None, length, refl, sym, ◌∙◌, ap}
+use Rattle.std.proofs.lemmas.Bool.{eq-eqb, ne_eqb, cases_eq}
 use Rattle.cell_core.specs.declared.man.Colour.{Colour}
 use Rattle.cell_core.specs.declared.man.Colour.TheVariants.{White, Black}
 use Rattle.cell_core.specs.declared.man.Kind.{Kind}
-use Rattle.cell_core.specs.declared.man.Kind.TheVariants.{King, Queen, Rook, Bishop, Knight, Pawn}
-use Rattle.cell_core.specs.declared.man.Man.{Man}
+use Rattle.cell_core.specs.declared.man.Kind.TheVariants.{King, Rook, Pawn}
 use Rattle.cell_core.specs.declared.step.Move.{Move}
-use Rattle.cell_core.specs.Board.{Men, man_at, put}
-use Rattle.cell_core.specs.Man.{man, other, same_kind, is_man, is_of}
-use Rattle.chess_laws.specs.declared.offset.Offset.{Offset}
-use Rattle.chess_laws.specs.declared.setup.Rights.{Rights}
+use Rattle.cell_core.specs.Board.{man_at, put}
+use Rattle.cell_core.specs.Man.{man, other, same_kind}
 use Rattle.chess_laws.specs.declared.setup.Setup.{Setup}
 use Rattle.chess_laws.specs.declared.setup.Wing.{Wing}
-use Rattle.chess_laws.specs.declared.setup.Wing.TheVariants.{KingSide, QueenSide}
 use Rattle.chess_laws.specs.declared.effect.Effect.{Effect}
 use Rattle.chess_laws.specs.declared.effect.Effect.TheVariants.{Plain, Double, Passing, Castle, Null}
-use Rattle.chess_laws.specs.Geometry.{file_of, rank_of, square, shift, forward, pawn_captures, rook_steps, bishop_steps, knight_steps, king_steps, Leaps, Walk, Runs, by}
-use Rattle.chess_laws.specs.Attacks.{Attacks, AttacksAs, Reaches, IsInCheck}
-use Rattle.chess_laws.specs.Castling.{king_home, king_target, rook_home, rook_target, between, king_path, has_right, touches, keeps, rights_after, StandAtHome}
-use Rattle.chess_laws.specs.Position.{Sound, Keeps, HasKings, HasPawnsInside, HasFewMen, HasFitRights, HasFitEnPassant, en_passant_rank}
-use Rattle.chess_laws.specs.Step.{effect_as, effect_on, effect_of, HasNoOwn, GoesPlainly, may_become, promotes_rightly, last_rank, pawn_rank, PlainCase, DoubleCase, PassingCase, CastleCase, NullCase, Case, arriving, moved, passed_square, board_after, rights_left, crossed_square, en_passant_after, after, Step, Legal}
+use Rattle.chess_laws.specs.Geometry.{rank_of}
+use Rattle.chess_laws.specs.Attacks.{IsInCheck}
+use Rattle.chess_laws.specs.Castling.{rook_home, rook_target}
+use Rattle.chess_laws.specs.Position.{Sound, Keeps}
+use Rattle.chess_laws.specs.Step.{effect_of, last_rank, PlainCase, PassingCase, CastleCase, Case, arriving, moved, passed_square, board_after, after, Legal}
 use Rattle.chess_laws.specs.Legal.{IsOnlyKing, king_after}
-use Rattle.chess_laws.proofs.Shifts.{shift-Some}
-use Rattle.chess_laws.proofs.Running.{walk-ends}
 use Rattle.chess_laws.proofs.Kings.{king-only}
-use Rattle.chess_laws.proofs.Boards.{only-king, man-colour, man-kind, same_kind-true, put-same, put-other, length-put, other-other, colour_cases, on_board, relocate, Goes, Kept, Kept-goes, Kept-away}
-use Rattle.chess_laws.proofs.Keeping.{other-apart, lands_as, arriving-lands, lands, plain-no_king, kept, moved-other, castle-squares, castle-apart, Lands, CastleSquares}
+use Rattle.chess_laws.proofs.Boards.{only-king, man-colour, man-kind, same_kind-true, put-same, put-other, length-put}
+use Rattle.chess_laws.proofs.Keeping.{other-apart, lands_as, arriving-lands, lands, plain-no_king, moved-other, castle-squares, castle-apart, Lands, CastleSquares}
 use Rattle.chess_laws.proofs.Following.{follows, plain-on_board, target-on_board, case-on_board, Sound-step}
 
 -- where the kings stand after a move: the mover's king on the move's target, where it is what moves

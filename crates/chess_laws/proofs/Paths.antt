@@ -1,5 +1,5 @@
 -- The three squares of a castling king.
-use Rattle.std.proofs.Common.{◌≡◌, ◌↔◌, ℕ, zero, suc, ◌<◌, List, [], ◌∷◌, arith, lit<}
+use Rattle.std.proofs.Common.{◌↔◌, ℕ, zero, suc, [], ◌∷◌, arith, lit<}
 use Rattle.std.specs.Prelude.{All}
 use Rattle.cell_core.specs.declared.man.Colour.{Colour}
 use Rattle.cell_core.specs.Board.{Men}

@@ -1,13 +1,13 @@
 -- A walk over empty squares is at most seven steps long, and the code's walk finds it.
-use Rattle.std.proofs.Common.{◌≡◌, ◌↔◌, ℕ, zero, suc, ◌+◌, ◌-◌, ◌*◌, ◌/◌, ◌%◌, ◌<◌, ◌≤◌, ◌≢◌, ◌⊎◌, inl, inr, Bool, true, false, ◌&&◌, ◌||◌, eqb, IsTrue, Option, Some, None, is_none, is_some, refl, sym, ◌∙◌, ap, arith}
+use Rattle.std.proofs.Common.{◌≡◌, ◌↔◌, ℕ, zero, suc, ◌+◌, ◌-◌, ◌<◌, ◌≤◌, ◌⊎◌, inl, inr, Bool, true, false, ◌&&◌, ◌||◌, eqb, IsTrue, Option, Some, None, is_none, is_some, refl, sym, ◌∙◌, ap, arith}
 use Rattle.std.proofs.lemmas.Bool.Decides.{nat_tests}
-use Rattle.std.proofs.lemmas.Bool.{eqb-true, eqb-false, eq-eqb, cases_Bool, cases_order, false≢true}
+use Rattle.std.proofs.lemmas.Bool.{eqb-true, eq-eqb, cases_Bool, cases_order, false≢true}
 use Rattle.cell_core.specs.declared.man.Man.{Man}
 use Rattle.cell_core.specs.Board.{Men, man_at}
 use Rattle.chess_laws.specs.declared.offset.Offset.{Offset}
 use Rattle.chess_laws.specs.Geometry.{file_of, rank_of, shift, Walk, Runs}
 use Rattle.chess_laws.specs.Legal.{run, run_on, leads, aims}
-use Rattle.chess_laws.proofs.Shifts.{Differ, shift-Some}
+use Rattle.chess_laws.proofs.Shifts.{shift-Some}
 
 -- one step of the code's walk
 run-one : (men : Men) (o : Offset) (n a b : ℕ) → run men o (suc n) b a ≡ run_on men b (shift o a) (run men o n b)

@@ -131,9 +131,9 @@ fn start(case: &Case) -> Option<Position> {
 /// What the case's move leads to, where it is legal.
 fn played(case: &Case) -> Option<Position> {
     let mut position = start(case)?;
-    let m = move_of(case.moved)?;
-    if position.is_legal(m) {
-        position.play(m);
+    let m = &move_of(case.moved)?;
+    if position.is_legal(*m) {
+        position.play(*m);
         Some(position)
     } else {
         None

@@ -1,5 +1,4 @@
 -- Castling is allowed where it may be done and the king's path is safe.
-use Rattle.std.proofs.Common.{◌≡◌}
 use Rattle.chess_laws.proofs.cases.is_castling.Goals as goal
 
 pub returns-then-may_castle : goal.returns-then-may_castle

@@ -1,5 +1,5 @@
 -- One step of the walk tells what the walk from its end tells.
-use Rattle.std.proofs.Common.{◌≡◌, ◌∙◌, sym, arith, Some}
+use Rattle.std.proofs.Common.{◌∙◌, sym, arith}
 use Rattle.chess_laws.proofs.Running.{run-further, run-found, run-blocked}
 use Rattle.chess_laws.specs.Legal.{run}
 use Rattle.chess_laws.proofs.cases.run.Goals as goal

@@ -1,5 +1,5 @@
 -- A walk is looked for only where the step aims at the target.
-use Rattle.std.proofs.Common.{◌≡◌, ◌∙◌, sym}
+use Rattle.std.proofs.Common.{◌∙◌, sym}
 use Rattle.chess_laws.proofs.Running.{run_is, runs_not}
 use Rattle.chess_laws.proofs.cases.runs_by.Goals as goal
 

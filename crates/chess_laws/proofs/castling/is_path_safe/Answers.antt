@@ -1,6 +1,4 @@
 -- The three squares that are tested are the king's path.
-use Rattle.std.proofs.Common.{◌≡◌, ◌↔◌, IsTrue}
-use Rattle.std.specs.Prelude.{All}
 use Rattle.chess_laws.proofs.Paths.{path_safe}
 use Rattle.chess_laws.proofs.castling.is_path_safe.Goals as goal
 

@@ -1,11 +1,9 @@
 -- A legal move keeps the rules, and the kings' squares are kept with it.
-use Rattle.std.proofs.Common.{◌≡◌, ◌∙◌, ℕ, Some, sym}
-use Rattle.cell_core.specs.declared.man.Colour.{Colour}
+use Rattle.std.proofs.Common.{◌≡◌, ◌∙◌, Some, sym}
 use Rattle.cell_core.specs.declared.man.Kind.TheVariants.{King}
 use Rattle.cell_core.specs.Board.{man_at}
 use Rattle.cell_core.specs.Man.{man, other}
-use Rattle.chess_laws.specs.declared.setup.Setup.{Setup}
-use Rattle.chess_laws.specs.Legal.{IsOnlyKing, king_after}
+use Rattle.chess_laws.specs.Legal.{IsOnlyKing}
 use Rattle.chess_laws.specs.Step.{after, effect_of}
 use Rattle.chess_laws.proofs.MovedKings.{Keeps-white, Keeps-black}
 use Rattle.chess_laws.proofs.position.Position.play.Goals as goal
