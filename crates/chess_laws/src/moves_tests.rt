@@ -4,23 +4,11 @@ use arrayvec::ArrayVec;
 use cell_core::{Colour, Move};
 use std::process::Abort;
 
-/// A position and how many moves, and how many pairs of a move and a reply, published tables give for it.
-#[derive(Clone, Copy)]
-struct Count {
-    board: &'static str,
-    rights: u8,
-    moves: usize,
-    replies: Option<usize>,
-}
-
-fn counted(board: &'static str, rights: u8, moves: usize, replies: Option<usize>) -> Count {
-    Count {
-        board,
-        rights,
-        moves,
-        replies,
-    }
-}
+/// Positions of White to move, for which tables of counts are published.
+const KIWIPETE: &str = "r3k2r/p1ppqpb1/bn2pnp1/3PN3/1p2P3/2N2Q1p/PPPBBPPP/R3K2R";
+const ROOK_ENDING: &str = "8/2p5/3p4/KP5r/1R3p1k/8/4P1P1/8";
+const PROMOTIONS: &str = "r3k2r/Pppp1ppp/1b3nbN/nP6/BBP1P3/q4N2/Pp1P2PP/R2Q1RK1";
+const DISCOVERIES: &str = "rnbq1k1r/pp1Pbppp/2p5/8/2B5/8/PPP1NnPP/RNBQK2R";
 
 fn place(rt: &impl Abort, text: &str, side: Colour, rights: u8) -> Position {
     Position::try_new(board(text), side, rights, None)
@@ -40,6 +28,11 @@ fn assert_moves(rt: &impl Abort, position: &Position, expected: &[&'static str])
     for (m, text) in moves.as_slice().iter().zip(expected) {
         assert_eq!(rt; Some(*m), move_of(text), "{}", *text);
     }
+}
+
+fn assert_count(rt: &impl Abort, text: &'static str, rights: u8, expected: usize) {
+    let position = place(rt, text, Colour::White, rights);
+    assert_eq!(rt; moves_of(rt, &position).len(), expected, "{text}");
 }
 
 fn replies(rt: &impl Abort, position: &Position) -> usize {
@@ -71,40 +64,14 @@ fn promotions_stand_in_order(rt: HostRuntime) {
 
 #[test]
 fn counts_are_the_published_ones(rt: HostRuntime) {
-    let counts = [
-        counted("rnbqkbnr/pppppppp/8/8/8/8/PPPPPPPP/RNBQKBNR", 15, 20, None),
-        counted(
-            "r3k2r/p1ppqpb1/bn2pnp1/3PN3/1p2P3/2N2Q1p/PPPBBPPP/R3K2R",
-            15,
-            48,
-            None,
-        ),
-        counted("8/2p5/3p4/KP5r/1R3p1k/8/4P1P1/8", 0, 14, Some(191)),
-        counted(
-            "r3k2r/Pppp1ppp/1b3nbN/nP6/BBP1P3/q4N2/Pp1P2PP/R2Q1RK1",
-            12,
-            6,
-            Some(264),
-        ),
-        counted(
-            "rnbq1k1r/pp1Pbppp/2p5/8/2B5/8/PPP1NnPP/RNBQK2R",
-            3,
-            44,
-            None,
-        ),
-    ];
-    for entry in &counts {
-        let position = place(&rt, entry.board, Colour::White, entry.rights);
-        assert_eq!(rt;
-            moves_of(&rt, &position).len(),
-            entry.moves,
-            "{}",
-            entry.board
-        );
-        if let Some(expected) = entry.replies {
-            assert_eq!(rt; replies(&rt, &position), expected, "{}", entry.board);
-        }
-    }
+    assert_count(&rt, KIWIPETE, 15, 48);
+    assert_count(&rt, ROOK_ENDING, 0, 14);
+    assert_count(&rt, PROMOTIONS, 12, 6);
+    assert_count(&rt, DISCOVERIES, 3, 44);
+    let ending = place(&rt, ROOK_ENDING, Colour::White, 0);
+    assert_eq!(rt; replies(&rt, &ending), 191);
+    let promotions = place(&rt, PROMOTIONS, Colour::White, 12);
+    assert_eq!(rt; replies(&rt, &promotions), 264);
 }
 
 #[test]
