@@ -1,4 +1,4 @@
-ghost use Rattle.std.specs.Prelude.{◌≡◌, ℕ, ◌+◌, ◌*◌, ◌<◌, List, ◌∷◌, ◌++◌, Ok, length};
+ghost use Rattle.std.specs.Prelude.{◌≡◌, ℕ, ◌+◌, ◌*◌, ◌<◌, ◌≤◌, List, ◌∷◌, ◌++◌, Ok, IfOk, length};
 ghost use Rattle.chess_laws.specs.Position.{start_setup};
 ghost use Rattle.chess_laws.specs.Step.{Legal, Step};
 ghost use Rattle.move_codec.specs.Numbers.{numbers_after, standard_numbers, text_numbers};
@@ -73,6 +73,7 @@ impl Numbered {
     /// after the move are not looked at.
     pub fn decode_move(&self, bytes: &[u8]) -> Result<(Move, u8), MoveFault>
         ensures decodes { Decodes self.now bytes.now result }
+        ensures used { IfOk result (λ decoded. (0 < decoded.1) × ((decoded.1 ≤ 2) × (decoded.1 ≤ length bytes.now))) }
     {
         let (m, used) = self.named(bytes)?;
         if self.position.is_legal(Move {
