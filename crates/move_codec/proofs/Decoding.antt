@@ -121,6 +121,6 @@ pub named-used : (n : Numbered) (bytes : List ℕ) (decoded : Move × ℕ) → n
 named-used n [] decoded h = absurd (cc)
 named-used n (byte ∷ rest) decoded h =
     elim (named-takes n (byte ∷ rest) decoded h) [
-      inl one ↦ (omega arith, (omega arith, omega arith))
-    | inr two ↦ (omega arith, (omega arith, omega arith))
+      | inl one ↦ (omega arith, (omega arith, omega arith))
+      | inr two ↦ (omega arith, (omega arith, omega arith))
     ]

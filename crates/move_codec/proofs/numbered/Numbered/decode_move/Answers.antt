@@ -16,7 +16,7 @@ returns-then-is_legal c =
     let legal : Legal c.self.inside.position c.in_ok-m.m = c.is_legal.ensures.legal.0 c.if-is_legal.true in
     record {
       decodes = Decodes-legal c.args.self.now c.args.bytes.now (c.in_ok-m.m, c.in_ok-m.used) (sym c.named.ensures ∙ c.in_ok-m.was)
-        (subst (λ (n : Numbered). Legal n.position c.in_ok-m.m) c.self.view_is legal);
+          (subst (λ (n : Numbered). Legal n.position c.in_ok-m.m) c.self.view_is legal);
       used = named-used c.args.self.now c.args.bytes.now (c.in_ok-m.m, c.in_ok-m.used) (sym c.named.ensures ∙ c.in_ok-m.was);
     }
 
@@ -24,6 +24,6 @@ pub returns-else-is_legal : goal.returns-else-is_legal
 returns-else-is_legal c =
     record {
       decodes = Decodes-illegal c.args.self.now c.args.bytes.now (c.in_ok-m.m, c.in_ok-m.used) (sym c.named.ensures ∙ c.in_ok-m.was)
-        (λ legal. false≢true (sym c.if-is_legal.false ∙ c.is_legal.ensures.legal.1 (subst (λ (n : Numbered). Legal n.position c.in_ok-m.m) (sym c.self.view_is) legal)));
+          (λ legal. false≢true (sym c.if-is_legal.false ∙ c.is_legal.ensures.legal.1 (subst (λ (n : Numbered). Legal n.position c.in_ok-m.m) (sym c.self.view_is) legal)));
       used = tt;
     }
