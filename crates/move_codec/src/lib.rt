@@ -11,3 +11,6 @@ mod values;
 pub use fault::MoveFault;
 pub use numbered::Numbered;
 pub use numbers::{NumberedMen, Numbers};
+
+#[cfg(test)]
+mod tests;
