@@ -1,1 +1,14 @@
 pub mod Shifts
+pub mod Boards
+pub mod Keeping
+pub mod Following
+pub mod MovedKings
+pub mod Paths
+pub mod Running
+pub mod Kings
+pub mod Walks
+pub mod Attackers
+pub mod Home
+pub mod Pawns
+pub mod Soundness
+pub mod Start

@@ -5,3 +5,4 @@ pub mod Position
 pub mod Step
 pub mod Counts
 pub mod Rays
+pub mod Legal

@@ -1,8 +1,10 @@
-ghost use Rattle.std.specs.Prelude.{◌≡◌, ◌↔◌, IsTrue, Any};
-ghost use Rattle.chess_laws.specs.Attacks.{Attacks, AttacksAs};
+ghost use Rattle.std.specs.Prelude.{◌<◌, Some, ◌≡◌, ◌↔◌, ◌⊎◌, IsTrue, Any};
+ghost use Rattle.chess_laws.specs.Attacks.{Attacks};
+ghost use Rattle.chess_laws.specs.Geometry.{pawn_captures};
 ghost use Rattle.chess_laws.specs.Rays.{met, LeapsFrom, SlidesFrom};
+ghost use Rattle.cell_core.specs.Board.{man_at};
 ghost use Rattle.cell_core.specs.Man.{man};
-ghost use Rattle.cell_core.specs.declared.man.Kind.TheVariants.{Pawn};
+ghost use Rattle.cell_core.specs.declared.man.Kind.TheVariants.{Pawn, Queen};
 
 use super::offset::Offset;
 use cell_core::{Board, Colour, Kind, Man, Square};
@@ -203,16 +205,24 @@ pub const BLACK_CAPTURES: [Offset; 2] = [
 pub fn attacks(board: &Board, by: Colour, s: Square) -> bool
     ensures { IsTrue result ↔ Attacks board.now by s }
 {
-    pawn_attacks(board, by, s)
-        || leaps(board, by, Kind::Knight, &KNIGHT_STEPS, s)
-        || leaps(board, by, Kind::King, &KING_STEPS, s)
-        || slides(board, by, Kind::Rook, &ROOK_STEPS, s)
-        || slides(board, by, Kind::Bishop, &BISHOP_STEPS, s)
+    if slides(board, by, Kind::Rook, &ROOK_STEPS, s) {
+        return true;
+    }
+    if slides(board, by, Kind::Bishop, &BISHOP_STEPS, s) {
+        return true;
+    }
+    if leaps(board, by, Kind::Knight, &KNIGHT_STEPS, s) {
+        return true;
+    }
+    if pawn_attacks(board, by, s) {
+        return true;
+    }
+    leaps(board, by, Kind::King, &KING_STEPS, s)
 }
 
 /// Whether a pawn of the colour attacks the square.
 fn pawn_attacks(board: &Board, by: Colour, s: Square) -> bool
-    ensures { IsTrue result ↔ AttacksAs board.now by Pawn s }
+    ensures { IsTrue result ↔ Any (LeapsFrom board.now (man by Pawn) s) (pawn_captures by) }
 {
     match by {
         Colour::White => leaps(board, by, Kind::Pawn, &WHITE_CAPTURES, s),
@@ -231,10 +241,17 @@ fn leaps(board: &Board, by: Colour, kind: Kind, steps: &[Offset], s: Square) -> 
 fn leaps_by(board: &Board, by: Colour, kind: Kind, step: &Offset, s: Square) -> bool
     ensures { IsTrue result ↔ LeapsFrom board.now (man by kind) s step.now }
 {
-    let Some(from) = step.origin(s) else {
-        return false;
-    };
-    board.at(from) == Some(Man { colour: by, kind })
+    match step.origin(s) {
+        Some(from) => stands(board, from, by, kind),
+        None => false,
+    }
+}
+
+/// Whether such a man stands on the square.
+fn stands(board: &Board, from: Square, colour: Colour, kind: Kind) -> bool
+    ensures { IsTrue result ↔ (man_at board.now from ≡ Some (man colour kind)) }
+{
+    board.at(from) == Some(Man { colour, kind })
 }
 
 /// Whether such a man, or a queen, stands where equal steps lead to `s` over empty squares.
@@ -248,23 +265,30 @@ fn slides(board: &Board, by: Colour, kind: Kind, steps: &[Offset], s: Square) ->
 fn slides_by(board: &Board, by: Colour, kind: Kind, step: &Offset, s: Square) -> bool
     ensures { IsTrue result ↔ SlidesFrom board.now by kind s step.now }
 {
-    let Some(standing) = first_met(board, step, s) else {
-        return false;
-    };
+    match first_met(board, step, s) {
+        Some(standing) => is_slider(standing, by, kind),
+        None => false,
+    }
+}
+
+/// Whether this is such a man, or a queen.
+fn is_slider(standing: Man, by: Colour, kind: Kind) -> bool
+    ensures { IsTrue result ↔ ((standing ≡ man by kind) ⊎ (standing ≡ man by Queen)) }
+{
     standing.colour == by && (standing.kind == kind || standing.kind == Kind::Queen)
 }
 
-/// The first man that is met from `s` on, going back by equal steps.
-#[tactic(auto, unfolding(crate::specs::Rays::met))]
+/// The first man that is met from `s` on, going back by equal steps. At most six squares lie between two others.
 fn first_met(board: &Board, step: &Offset, s: Square) -> Option<Man>
-    ensures { result ≡ met board.now step.now 7 s }
+    ensures met { result ≡ met board.now step.now 7 s }
+    ensures on_board { s < 64 }
 {
-    let mut at = s;
-    for _i in 0..7u8 {
-        at = step.origin(at)?;
+    let mut at = step.origin(s)?;
+    for _i in 0..6u8 {
         if let Some(standing) = board.at(at) {
             return Some(standing);
         }
+        at = step.origin(at)?;
     }
-    None
+    board.at(at)
 }

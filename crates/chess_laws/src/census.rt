@@ -1,6 +1,6 @@
 //! What is counted on a board.
-ghost use Rattle.std.specs.Prelude.{◌≡◌, ◌↔◌, ℕ, ◌<◌, IsTrue, IsBitSet, count_by, MatchOption, ◌≢◌};
-ghost use Rattle.std.specs.List.{position_or_len};
+ghost use Rattle.std.specs.Prelude.{◌≡◌, ◌↔◌, ℕ, ◌<◌, ◌≤◌, IsTrue, IsBitSet, count_by, MatchOption, ◌≢◌, length};
+ghost use Rattle.std.specs.List.{position};
 ghost use Rattle.cell_core.specs.Man.{is_of, is_man};
 ghost use Rattle.cell_core.specs.declared.man.Kind.TheVariants.{King};
 ghost use Rattle.chess_laws.specs.Counts.{counts_of, count_of, is_home};
@@ -12,21 +12,28 @@ use cell_core::{Board, Colour, Kind, Man, Square};
 pub fn only_king(board: &Board, colour: Colour) -> Option<Square>
     ensures { MatchOption result (count_of board.now colour King ≢ 1) (λ s. (count_of board.now colour King ≡ 1) × (s ≡ king_square board.now colour)) }
 {
-    let cells = board.cells();
     if count(board, colour, Kind::King) != 1 {
         return None;
     }
-    let place = cells.iter().position(|cell| *cell
-        == Some(Man {
-            colour,
-            kind: Kind::King,
-        }))?;
+    let place = first_king(board, colour)?;
     Square::new(place as u8)
+}
+
+/// The place of the first king of this colour.
+fn first_king(board: &Board, colour: Colour) -> Option<usize>
+    ensures place { result ≡ position (is_man colour King) board.now }
+    ensures squares { length board.now ≡ 64 }
+{
+    let cells = board.cells();
+    cells
+        .iter()
+        .position(|cell| holds(cell, colour, Kind::King))
 }
 
 /// How many men of this colour there are.
 pub fn count_side(board: &Board, colour: Colour) -> usize
-    ensures { result ≡ count_by (is_of colour) board.now }
+    ensures number { result ≡ count_by (is_of colour) board.now }
+    ensures squares { length board.now ≡ 64 }
 {
     let cells = board.cells();
     cells.iter().filter(|cell| holds_side(cell, colour)).count()

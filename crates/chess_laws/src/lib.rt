@@ -3,9 +3,13 @@
 #![tactic(auto)]
 
 pub mod attack;
+mod cases;
+mod castling;
 mod census;
 pub mod effect;
 pub mod fault;
+mod legal;
+mod next;
 pub mod offset;
 pub mod position;
 mod rules;
@@ -15,3 +19,8 @@ pub use effect::Effect;
 pub use fault::PlaceFault;
 pub use position::Position;
 pub use setup::{Rights, Setup, Wing};
+
+#[cfg(test)]
+mod play_tests;
+#[cfg(test)]
+mod position_tests;

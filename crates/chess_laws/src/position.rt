@@ -7,11 +7,15 @@ ghost use Rattle.chess_laws.specs.Counts.{counts_of, is_home};
 ghost use Rattle.chess_laws.specs.Position.{Sound, Breaks, setup_of};
 
 use super::attack::attacks;
-use super::census::{count_side, counts, home_set, only_king};
+use super::census::{counts, home_set, only_king};
 use super::fault::PlaceFault;
-use super::rules::{has_fit_en_passant, has_pawns_inside, standing_rights, start_board};
+use super::legal::{is_legal, king_after};
+use super::next::after;
+use super::rules::{
+    has_few_men, has_fit_en_passant, has_pawns_inside, rests_in_check, standing_rights, start_board,
+};
 use super::setup::{Rights, Setup};
-use cell_core::{Board, Colour, Square};
+use cell_core::{Board, Colour, Move, Square};
 use std::marker::Model;
 
 /// A position that keeps the rules: one king a side, no pawn on the first or last rank, at most 16 men a side, the side
@@ -182,17 +186,13 @@ fn place(
     if !has_pawns_inside(board) {
         return Err(PlaceFault::Pawns);
     }
-    if count_side(board, Colour::White) > 16 || count_side(board, Colour::Black) > 16 {
+    if !has_few_men(board) {
         return Err(PlaceFault::TooMany);
     }
-    let resting_king = match side {
-        Colour::White => black_king,
-        Colour::Black => white_king,
-    };
-    if attacks(board, side, resting_king) {
+    if rests_in_check(board, side, white_king, black_king) {
         return Err(PlaceFault::InCheck);
     }
-    if !has_fit_en_passant(side, en_passant) {
+    if !has_fit_en_passant(side, &en_passant) {
         return Err(PlaceFault::EnPassant);
     }
     let rights = standing_rights(board, rights);
@@ -206,4 +206,37 @@ fn place(
         white_king,
         black_king,
     })
+}
+
+impl Position {
+    ghost use Rattle.chess_laws.specs.declared.setup.Setup.{Setup};
+    ghost use Rattle.chess_laws.specs.Step.{Legal, Step};
+
+    /// Whether the move is legal. The null move is legal where the side to move is not in check.
+    pub fn is_legal(&self, m: Move) -> bool
+        ensures legal { IsTrue result ↔ Legal self.now m }
+    {
+        is_legal(self.setup(), self.king(self.side()), &m)
+    }
+
+    /// Plays a legal move. What it leads to is the one position that it can lead to.
+    pub fn play(&mut self, m: Move)
+        requires legal { Legal self.old m }
+        ensures step { Step self.old m self.new }
+        ensures only { (q : Setup) → Step self.old m q → q ≡ self.new }
+    {
+        let side = self.side();
+        let mover = king_after(self.king(side), &m);
+        let resting = self.king(side.other());
+        let next = after(self.setup(), &m);
+        let (white_king, black_king) = match side {
+            Colour::White => (mover, resting),
+            Colour::Black => (resting, mover),
+        };
+        *self = Position {
+            inner: next,
+            white_king,
+            black_king,
+        };
+    }
 }

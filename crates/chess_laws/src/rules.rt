@@ -1,7 +1,16 @@
 //! The rules of a position, one by one.
-ghost use Rattle.std.specs.Prelude.{◌≡◌, ◌↔◌, IsTrue};
-ghost use Rattle.chess_laws.specs.Position.{HasFitEnPassant, HasPawnsInside, is_at_home, rights_of, start_men};
+ghost use Rattle.std.specs.Prelude.{◌≡◌, ◌↔◌, IsTrue, MatchBool, Some, length};
+ghost use Rattle.cell_core.specs.Board.{man_at};
+ghost use Rattle.cell_core.specs.Man.{man, other};
+ghost use Rattle.cell_core.specs.declared.man.Colour.TheVariants.{White, Black};
+ghost use Rattle.cell_core.specs.declared.man.Colour.{Colour};
+ghost use Rattle.cell_core.specs.declared.man.Kind.TheVariants.{King, Pawn};
+ghost use Rattle.chess_laws.specs.Attacks.{IsInCheck};
+ghost use Rattle.chess_laws.specs.Counts.{count_of};
+ghost use Rattle.chess_laws.specs.Position.{HasFewMen, HasFitEnPassant, HasPawnsInside, king_square, is_at_home, rights_of, start_men};
 
+use super::attack::attacks;
+use super::census::count_side;
 use super::setup::{Rights, Wing};
 use cell_core::{Board, Colour, Kind, Man, Square};
 
@@ -9,20 +18,60 @@ use cell_core::{Board, Colour, Kind, Man, Square};
 pub fn has_pawns_inside(board: &Board) -> bool
     ensures { IsTrue result ↔ HasPawnsInside board.now }
 {
-    let cells = board.cells();
-    (0..8).all(|file| !is_pawn(&cells[file]) && !is_pawn(&cells[56 + file]))
+    for file in 0..8u8 {
+        if has_pawn(board, Square::at(file)) {
+            return false;
+        }
+        if has_pawn(board, Square::at(56 + file)) {
+            return false;
+        }
+    }
+    true
 }
 
-fn is_pawn(cell: &Option<Man>) -> bool {
-    match cell {
+/// Whether each side has at most sixteen men.
+pub fn has_few_men(board: &Board) -> bool
+    ensures few { IsTrue result ↔ HasFewMen board.now }
+    ensures squares { length board.now ≡ 64 }
+{
+    count_side(board, Colour::White) <= 16 && count_side(board, Colour::Black) <= 16
+}
+
+/// Whether the side that is not to move is in check, the kings standing on these squares.
+pub fn rests_in_check(board: &Board, side: Colour, white_king: Square, black_king: Square) -> bool
+    requires white { (count_of board.now White King ≡ 1) × (white_king ≡ king_square board.now White) }
+    requires black { (count_of board.now Black King ≡ 1) × (black_king ≡ king_square board.now Black) }
+    ensures check { IsTrue result ↔ IsInCheck board.now (other side) }
+{
+    match side {
+        Colour::White => is_checked(board, Colour::Black, black_king),
+        Colour::Black => is_checked(board, Colour::White, white_king),
+    }
+}
+
+/// Whether the king of this colour is in check, which stands on this square.
+fn is_checked(board: &Board, colour: Colour, king: Square) -> bool
+    requires one { count_of board.now colour King ≡ 1 }
+    requires stands { king ≡ king_square board.now colour }
+    ensures check { IsTrue result ↔ IsInCheck board.now colour }
+{
+    attacks(board, colour.other(), king)
+}
+
+/// Whether a pawn stands on the square.
+fn has_pawn(board: &Board, s: Square) -> bool
+    ensures pawn { MatchBool result ((c : Colour) × (man_at board.now s ≡ Some (man c Pawn))) ((c : Colour) → man_at board.now s ≡ Some (man c Pawn) → ⊥) }
+    ensures squares { length board.now ≡ 64 }
+{
+    match board.at(s) {
         Some(man) => man.kind == Kind::Pawn,
         None => false,
     }
 }
 
 /// Whether the en passant square, if there is one, stands on the rank that fits the side to move.
-pub fn has_fit_en_passant(side: Colour, square: Option<Square>) -> bool
-    ensures { IsTrue result ↔ HasFitEnPassant side square }
+pub fn has_fit_en_passant(side: Colour, square: &Option<Square>) -> bool
+    ensures { IsTrue result ↔ HasFitEnPassant side square.now }
 {
     let rank = match side {
         Colour::White => 5,

@@ -1,0 +1,16 @@
+use Rattle.std.proofs.Common.{IsTrue, false, refl}
+use Rattle.chess_laws.proofs.Attackers.{rook-attacks, bishop-attacks, king-attacks, attack-from, last-of}
+use Rattle.chess_laws.proofs.attack.attacks.Goals as goal
+
+pub returns-then-slides : goal.returns-then-slides
+returns-then-slides c = ((λ h. rook-attacks c.args.board.now c.args.by c.args.s (c.if-slides.ensures.0 refl)), (λ h. refl))
+
+pub returns-then-slides-2 : goal.returns-then-slides-2
+returns-then-slides-2 c = ((λ h. bishop-attacks c.args.board.now c.args.by c.args.s (c.if-slides-2.ensures.0 refl)), (λ h. refl))
+
+pub returns : goal.returns
+returns c = (
+  (λ h. king-attacks c.args.board.now c.args.by c.args.s (c.leaps-2.ensures.0 h)),
+  (λ h. last-of (IsTrue c.leaps-2.result) (attack-from c.args.board.now c.args.by c.args.s (IsTrue false) (IsTrue false) (IsTrue false) (IsTrue false) (IsTrue c.leaps-2.result)
+      c.if-slides.ensures.1 c.if-slides-2.ensures.1 c.if-leaps.ensures.1 c.if-pawn_attacks.ensures.1 c.leaps-2.ensures.1 h)),
+)

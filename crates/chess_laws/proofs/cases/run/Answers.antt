@@ -1,0 +1,25 @@
+-- One step of the walk tells what the walk from its end tells.
+use Rattle.std.proofs.Common.{◌∙◌, sym, arith}
+use Rattle.chess_laws.proofs.Running.{run-further, run-found, run-blocked}
+use Rattle.chess_laws.specs.Legal.{run}
+use Rattle.chess_laws.proofs.cases.run.Goals as goal
+
+pub returns-then-eq : goal.returns-then-eq
+returns-then-eq c =
+    run-found c.args.board.now c.args.step.now c.loop-i._i c.loop-i.at c.args.to c.in-Some.next
+    (run c.args.board.now c.args.step.now 8 c.args.to c.args.from)
+    (omega arith) (sym c.in-Some.is ∙ c.target.ensures) (sym c.eq.ensures ∙ c.if-eq.true) c.loop-i.invariant
+
+pub returns-then-is_some : goal.returns-then-is_some
+returns-then-is_some c =
+    run-blocked c.args.board.now c.args.step.now c.loop-i._i c.loop-i.at c.args.to c.in-Some.next
+    (run c.args.board.now c.args.step.now 8 c.args.to c.args.from)
+    (omega arith) (sym c.in-Some.is ∙ c.target.ensures) (sym c.eq.ensures ∙ c.if-eq.false)
+    (rw c.at.ensures.man at (sym c.is_some.ensures ∙ c.if-is_some.true)) c.loop-i.invariant
+
+pub loop-i-preserved : goal.loop-i-preserved
+loop-i-preserved c =
+    run-further c.args.board.now c.args.step.now c.loop-i._i c.loop-i.at c.args.to c.in-Some.next
+    (run c.args.board.now c.args.step.now 8 c.args.to c.args.from)
+    (omega arith) (sym c.in-Some.is ∙ c.target.ensures) (sym c.eq.ensures ∙ c.if-eq.false)
+    (rw c.at.ensures.man at (sym c.is_some.ensures ∙ c.if-is_some.false)) c.loop-i.invariant

@@ -1,0 +1,47 @@
+use Rattle.std.proofs.Common.{refl}
+use Rattle.std.proofs.lemmas.Bool.{false≢true}
+use Rattle.chess_laws.proofs.Soundness.{both_kings, sound_of}
+use Rattle.chess_laws.proofs.position.place.Goals as goal
+
+pub returns-then-not-has_few_men-clause-fault : goal.returns-then-not-has_few_men-clause-fault
+returns-then-not-has_few_men-clause-fault c = (
+  both_kings c.args.board.now c.in-Some.ensures.0 c.in-Some-only_king.ensures.0,
+  c.if-not-has_pawns_inside.ensures.0 refl,
+  (λ h. false≢true (c.if-not-has_few_men.ensures.few.1 h)),
+)
+
+pub returns-then-rests_in_check-clause-fault : goal.returns-then-rests_in_check-clause-fault
+returns-then-rests_in_check-clause-fault c = (
+  both_kings c.args.board.now c.in-Some.ensures.0 c.in-Some-only_king.ensures.0,
+  c.if-not-has_pawns_inside.ensures.0 refl,
+  c.if-not-has_few_men.ensures.few.0 refl,
+  c.if-rests_in_check.ensures.check.0 refl,
+)
+
+pub returns-then-not-has_fit_en_passant-clause-fault :
+    goal.returns-then-not-has_fit_en_passant-clause-fault
+returns-then-not-has_fit_en_passant-clause-fault c = (
+  both_kings c.args.board.now c.in-Some.ensures.0 c.in-Some-only_king.ensures.0,
+  c.if-not-has_pawns_inside.ensures.0 refl,
+  c.if-not-has_few_men.ensures.few.0 refl,
+  (λ h. false≢true (c.if-rests_in_check.ensures.check.1 h)),
+  (λ h. false≢true (c.if-not-has_fit_en_passant.ensures.1 h)),
+)
+
+pub invariant_of-result : goal.invariant_of-result
+invariant_of-result c =
+    record {
+      sound = sound_of c.args.board.now c.args.side c.args.rights c.standing_rights-rights.result c.args.en_passant
+          c.has_few_men.ensures.squares
+          (both_kings c.args.board.now c.in-Some.ensures.0 c.in-Some-only_king.ensures.0)
+          (c.if-not-has_pawns_inside.ensures.0 refl)
+          (c.if-not-has_few_men.ensures.few.0 refl)
+          (λ h. false≢true (c.if-rests_in_check.ensures.check.1 h))
+          c.standing_rights-rights.ensures
+          (c.if-not-has_fit_en_passant.ensures.0 refl);
+      white_king = c.in-Some.ensures.1;
+      black_king = c.in-Some-only_king.ensures.1;
+    }
+
+pub returns-clause-sound : goal.returns-clause-sound
+returns-clause-sound c = (invariant_of-result c).sound

@@ -1,0 +1,323 @@
+//! Which moves the rules of each kind of half-move allow, apart from the safety of the mover's king.
+ghost use Rattle.std.specs.Prelude.{◌≡◌, ◌↔◌, IsTrue, Any, Some, None};
+ghost use Rattle.cell_core.specs.Board.{man_at};
+ghost use Rattle.cell_core.specs.Man.{man, other};
+ghost use Rattle.cell_core.specs.declared.man.Kind.TheVariants.{Pawn};
+ghost use Rattle.chess_laws.specs.Geometry.{forward, pawn_captures, rook_steps, Leaps, Runs, Walk};
+ghost use Rattle.chess_laws.specs.Attacks.{Reaches, IsInCheck};
+ghost use Rattle.chess_laws.specs.Legal.{IsOnlyKing, MayCastle, aims, leads, run, IsEnemyOn};
+ghost use Rattle.chess_laws.specs.Step.{Case, CastleCase, DoubleCase, GoesPlainly, HasNoOwn, NullCase, PassingCase, PlainCase, may_become, promotes_rightly};
+
+use super::attack::{
+    BISHOP_STEPS, BLACK_CAPTURES, KING_STEPS, KNIGHT_STEPS, ROOK_STEPS, WHITE_CAPTURES, attacks,
+};
+use super::castling::{has_right, is_path_safe, is_way_free};
+use super::effect::Effect;
+use super::next::passed_square;
+use super::offset::Offset;
+use super::setup::{Setup, Wing};
+use cell_core::{Board, Colour, Kind, Man, Move, Square};
+
+/// Whether the rules of its kind allow the move.
+pub fn is_allowed(p: &Setup, king: Square, m: &Move, effect: Effect) -> bool
+    requires king { IsOnlyKing p.now.board p.now.side king }
+    ensures { IsTrue result ↔ Case p.now m.now effect }
+{
+    match effect {
+        Effect::Plain => is_plain(p, m),
+        Effect::Double => is_double(p, m),
+        Effect::Passing => is_passing(p, m),
+        Effect::Castle(wing) => is_castling(p, m, wing),
+        Effect::Null => is_null(p, king, m),
+    }
+}
+
+/// Whether it is a plain move or capture of one of the mover's men.
+fn is_plain(p: &Setup, m: &Move) -> bool
+    ensures { IsTrue result ↔ PlainCase p.now m.now }
+{
+    let Some(standing) = p.board.at(m.from) else {
+        return false;
+    };
+    standing.colour == p.side
+        && goes_plainly(p, standing.kind, m)
+        && promotes_rightly(p.side, standing.kind, m)
+}
+
+/// Whether a man of this kind makes the move plainly.
+fn goes_plainly(p: &Setup, kind: Kind, m: &Move) -> bool
+    ensures { IsTrue result ↔ GoesPlainly p.now kind m.now }
+{
+    match kind {
+        Kind::Pawn => steps_on(p, m) || takes(p, m),
+        Kind::King | Kind::Queen | Kind::Rook | Kind::Bishop | Kind::Knight => {
+            has_no_own(&p.board, p.side, m.to) && reaches(&p.board, p.side, kind, m.from, m.to)
+        }
+    }
+}
+
+/// Whether a pawn goes one square forward to an empty square.
+fn steps_on(p: &Setup, m: &Move) -> bool
+    ensures { IsTrue result ↔ (Leaps m.now.from m.now.to (forward p.now.side)) × (man_at p.now.board m.now.to ≡ None) }
+{
+    forward(p.side).target(m.from) == Some(m.to) && p.board.at(m.to).is_none()
+}
+
+/// Whether a pawn captures an enemy man diagonally in front of it.
+fn takes(p: &Setup, m: &Move) -> bool
+    ensures { IsTrue result ↔ (Any (Leaps m.now.from m.now.to) (pawn_captures p.now.side)) × IsEnemyOn p.now.board p.now.side m.now.to }
+{
+    pawn_takes(p.side, m.from, m.to) && has_enemy(&p.board, p.side, m.to)
+}
+
+/// Whether an enemy of this colour stands on the square.
+fn has_enemy(board: &Board, colour: Colour, s: Square) -> bool
+    ensures { IsTrue result ↔ IsEnemyOn board.now colour s }
+{
+    match board.at(s) {
+        Some(standing) => standing.colour == colour.other(),
+        None => false,
+    }
+}
+
+/// Whether no man of this colour stands on the square.
+fn has_no_own(board: &Board, colour: Colour, s: Square) -> bool
+    ensures { IsTrue result ↔ HasNoOwn board.now colour s }
+{
+    match board.at(s) {
+        Some(standing) => standing.colour != colour,
+        None => true,
+    }
+}
+
+/// Whether a move names a promotion exactly where a pawn comes to the last rank.
+fn promotes_rightly(side: Colour, kind: Kind, m: &Move) -> bool
+    ensures { result ≡ promotes_rightly side kind m.now }
+{
+    let last_rank = match side {
+        Colour::White => 7,
+        Colour::Black => 0,
+    };
+    if kind == Kind::Pawn && m.to.index() / 8 == last_rank {
+        may_become(m.promo)
+    } else {
+        m.promo.is_none()
+    }
+}
+
+/// Whether a pawn may become this.
+fn may_become(promo: Option<Kind>) -> bool
+    ensures { result ≡ may_become promo }
+{
+    match promo {
+        Some(Kind::Queen | Kind::Rook | Kind::Bishop | Kind::Knight) => true,
+        Some(Kind::King | Kind::Pawn) | None => false,
+    }
+}
+
+/// Whether it is a pawn's first move of two squares.
+fn is_double(p: &Setup, m: &Move) -> bool
+    ensures { IsTrue result ↔ DoubleCase p.now m.now }
+{
+    let own_rank = match p.side {
+        Colour::White => 1,
+        Colour::Black => 6,
+    };
+    has_own(p, Kind::Pawn, m.from)
+        && m.from.index() / 8 == own_rank
+        && walks_two(&p.board, p.side, m.from, m.to)
+        && p.board.at(m.to).is_none()
+        && m.promo.is_none()
+}
+
+/// Whether two steps forward lead from one square to the other, over an empty one.
+fn walks_two(board: &Board, side: Colour, from: Square, to: Square) -> bool
+    ensures { IsTrue result ↔ Walk board.now (forward side) 1 from to }
+{
+    let step = forward(side);
+    let Some(crossed) = step.target(from) else {
+        return false;
+    };
+    board.at(crossed).is_none() && step.target(crossed) == Some(to)
+}
+
+/// Whether it is a pawn's capture en passant.
+fn is_passing(p: &Setup, m: &Move) -> bool
+    ensures { IsTrue result ↔ PassingCase p.now m.now }
+{
+    let passed = Man {
+        colour: p.side.other(),
+        kind: Kind::Pawn,
+    };
+    has_own(p, Kind::Pawn, m.from)
+        && pawn_takes(p.side, m.from, m.to)
+        && p.en_passant == Some(m.to)
+        && p.board.at(m.to).is_none()
+        && p.board.at(passed_square(m)) == Some(passed)
+        && m.promo.is_none()
+}
+
+/// Whether it is castling on this wing.
+fn is_castling(p: &Setup, m: &Move, wing: Wing) -> bool
+    ensures { IsTrue result ↔ CastleCase p.now m.now wing }
+{
+    may_castle(p, m, wing) && is_path_safe(&p.board, p.side, wing)
+}
+
+/// Whether the king may castle on this wing, apart from its safety.
+fn may_castle(p: &Setup, m: &Move, wing: Wing) -> bool
+    ensures { IsTrue result ↔ MayCastle p.now m.now wing }
+{
+    has_own(p, Kind::King, m.from)
+        && has_right(&p.rights, p.side, wing)
+        && m.promo.is_none()
+        && is_way_free(&p.board, p.side, wing)
+}
+
+/// Whether it is the null move, where the mover may pass.
+fn is_null(p: &Setup, king: Square, m: &Move) -> bool
+    requires king { IsOnlyKing p.now.board p.now.side king }
+    ensures { IsTrue result ↔ NullCase p.now m.now }
+{
+    has_own(p, Kind::King, m.from)
+        && m.to == m.from
+        && m.promo.is_none()
+        && !is_in_check(&p.board, p.side, king)
+}
+
+/// Whether the king of this colour, which stands on this square alone, is in check.
+pub fn is_in_check(board: &Board, colour: Colour, king: Square) -> bool
+    requires king { IsOnlyKing board.now colour king }
+    ensures { IsTrue result ↔ IsInCheck board.now colour }
+{
+    attacks(board, colour.other(), king)
+}
+
+/// Whether one of the mover's men of this kind stands on the square.
+fn has_own(p: &Setup, kind: Kind, s: Square) -> bool
+    ensures { IsTrue result ↔ (man_at p.now.board s ≡ Some (man p.now.side kind)) }
+{
+    let own = Man {
+        colour: p.side,
+        kind,
+    };
+    p.board.at(s) == Some(own)
+}
+
+/// A pawn's way.
+fn forward(colour: Colour) -> Offset
+    ensures { result ≡ forward colour }
+{
+    match colour {
+        Colour::White => Offset {
+            right: 0,
+            left: 0,
+            up: 1,
+            down: 0,
+        },
+        Colour::Black => Offset {
+            right: 0,
+            left: 0,
+            up: 0,
+            down: 1,
+        },
+    }
+}
+
+/// Whether the target is diagonally in front of a pawn.
+fn pawn_takes(colour: Colour, from: Square, to: Square) -> bool
+    ensures { IsTrue result ↔ Any (Leaps from to) (pawn_captures colour) }
+{
+    match colour {
+        Colour::White => leaps(&WHITE_CAPTURES, from, to),
+        Colour::Black => leaps(&BLACK_CAPTURES, from, to),
+    }
+}
+
+/// Whether such a man reaches one square from the other.
+fn reaches(board: &Board, colour: Colour, kind: Kind, from: Square, to: Square) -> bool
+    ensures { IsTrue result ↔ Reaches board.now colour kind from to }
+{
+    match kind {
+        Kind::King => leaps(&KING_STEPS, from, to),
+        Kind::Queen => runs(board, &KING_STEPS, from, to),
+        Kind::Rook => runs(board, &ROOK_STEPS, from, to),
+        Kind::Bishop => runs(board, &BISHOP_STEPS, from, to),
+        Kind::Knight => leaps(&KNIGHT_STEPS, from, to),
+        Kind::Pawn => pawn_takes(colour, from, to),
+    }
+}
+
+/// Whether one of the steps leads from one square to the other.
+fn leaps(steps: &[Offset], from: Square, to: Square) -> bool
+    ensures { IsTrue result ↔ Any (Leaps from to) steps.now }
+{
+    steps.iter().any(|step| leaps_by(step, from, to))
+}
+
+/// Whether this step leads from one square to the other.
+fn leaps_by(step: &Offset, from: Square, to: Square) -> bool
+    ensures { IsTrue result ↔ Leaps from to step.now }
+{
+    step.target(from) == Some(to)
+}
+
+/// Whether equal steps, of one of these, lead from one square to the other over empty squares.
+fn runs(board: &Board, steps: &[Offset], from: Square, to: Square) -> bool
+    ensures { IsTrue result ↔ Any (Runs board.now from to) steps.now }
+{
+    steps.iter().any(|step| runs_by(board, step, from, to))
+}
+
+/// Whether equal steps, of this one, lead from one square to the other over empty squares.
+fn runs_by(board: &Board, step: &Offset, from: Square, to: Square) -> bool
+    ensures { IsTrue result ↔ Runs board.now from to step.now }
+{
+    if !aims(step, from, to) {
+        return false;
+    }
+    run(board, step, from, to)
+}
+
+/// Whether the target lies on the side to which the step leads, so that a walk may come there.
+#[tactic(auto, unfolding(crate::specs::Legal::aims))]
+fn aims(step: &Offset, from: Square, to: Square) -> bool
+    ensures { result ≡ aims step.now from to }
+{
+    let (from, to) = (from.index(), to.index());
+    leads(from % 8, to % 8, step.left, step.right) && leads(from / 8, to / 8, step.down, step.up)
+}
+
+/// Whether one number leads to another by a change of so much down and up.
+fn leads(from: u8, to: u8, down: u8, up: u8) -> bool
+    ensures { result ≡ leads from to down up }
+{
+    if down < up {
+        from < to
+    } else if up < down {
+        to < from
+    } else {
+        from == to
+    }
+}
+
+/// Walks by this step from one square, until it comes to the other, to a man or to the edge.
+#[tactic(auto, unfolding(crate::specs::Legal::run))]
+fn run(board: &Board, step: &Offset, from: Square, to: Square) -> bool
+    ensures { result ≡ run board.now step.now 8 to from }
+{
+    let mut at = from;
+    for _i in 0..8u8 {
+        let Some(next) = step.target(at) else {
+            return false;
+        };
+        if next == to {
+            return true;
+        }
+        if board.at(next).is_some() {
+            return false;
+        }
+        at = next;
+    }
+    false
+}

@@ -1,0 +1,154 @@
+//! What a move leads to.
+ghost use Rattle.std.specs.Prelude.{◌≡◌};
+ghost use Rattle.cell_core.specs.declared.man.Kind.TheVariants.{King, Pawn};
+ghost use Rattle.chess_laws.specs.Step.{effect_as, effect_of, goes_two, changes_file, arriving, moved, board_after, rights_left, en_passant_after, passed_square, after};
+
+use super::castling::{king_home, king_target, rights_after, rook_home, rook_target};
+use super::effect::Effect;
+use super::setup::{Rights, Setup, Wing};
+use cell_core::{Board, Colour, Kind, Man, Move, Square};
+
+/// What kind of half-move it is, by the man that stands on its first square.
+pub fn effect_of(p: &Setup, m: &Move) -> Effect
+    ensures { result ≡ effect_of p.now m.now }
+{
+    let Some(standing) = p.board.at(m.from) else {
+        return Effect::Plain;
+    };
+    match standing.kind {
+        Kind::King => king_effect(p, m),
+        Kind::Pawn => pawn_effect(p, m),
+        Kind::Queen | Kind::Rook | Kind::Bishop | Kind::Knight => Effect::Plain,
+    }
+}
+
+/// What kind of half-move a king's move is.
+fn king_effect(p: &Setup, m: &Move) -> Effect
+    ensures { result ≡ effect_as King p.now m.now }
+{
+    let from_home = m.from == king_home(p.side);
+    if m.to == m.from {
+        Effect::Null
+    } else if from_home && m.to == king_target(p.side, Wing::KingSide) {
+        Effect::Castle(Wing::KingSide)
+    } else if from_home && m.to == king_target(p.side, Wing::QueenSide) {
+        Effect::Castle(Wing::QueenSide)
+    } else {
+        Effect::Plain
+    }
+}
+
+/// What kind of half-move a pawn's move is.
+fn pawn_effect(p: &Setup, m: &Move) -> Effect
+    ensures { result ≡ effect_as Pawn p.now m.now }
+{
+    if goes_two(p.side, m) {
+        Effect::Double
+    } else if m.to.index() % 8 != m.from.index() % 8 && p.board.at(m.to).is_none() {
+        Effect::Passing
+    } else {
+        Effect::Plain
+    }
+}
+
+/// Whether the move goes two ranks forward.
+fn goes_two(side: Colour, m: &Move) -> bool
+    ensures { result ≡ goes_two side m.now }
+{
+    let from = m.from.index() / 8;
+    let to = m.to.index() / 8;
+    match side {
+        Colour::White => to == from + 2,
+        Colour::Black => from == to + 2,
+    }
+}
+
+/// The square of the pawn that is captured en passant.
+pub fn passed_square(m: &Move) -> Square
+    ensures { result ≡ passed_square m.now }
+{
+    Square::at(8 * (m.from.index() / 8) + m.to.index() % 8)
+}
+
+/// The board after the move.
+pub fn board_after(p: &Setup, m: &Move, effect: Effect) -> Board
+    ensures { result ≡ board_after p.now m.now effect }
+{
+    match effect {
+        Effect::Null => p.board,
+        Effect::Plain | Effect::Double => moved(p, m),
+        Effect::Passing => {
+            let mut board = moved(p, m);
+            board.set(passed_square(m), None);
+            board
+        }
+        Effect::Castle(wing) => {
+            let mut board = moved(p, m);
+            board.set(rook_home(p.side, wing), None);
+            let rook = Man {
+                colour: p.side,
+                kind: Kind::Rook,
+            };
+            board.set(rook_target(p.side, wing), Some(rook));
+            board
+        }
+    }
+}
+
+/// The board after the man has moved to its target, where it captures what stands there.
+fn moved(p: &Setup, m: &Move) -> Board
+    ensures { result ≡ moved p.now m.now }
+{
+    let arriving = match m.promo {
+        Some(kind) => Some(Man {
+            colour: p.side,
+            kind,
+        }),
+        None => p.board.at(m.from),
+    };
+    let mut board = p.board;
+    board.set(m.from, None);
+    board.set(m.to, arriving);
+    board
+}
+
+/// The rights that are left after the move.
+fn rights_left(p: &Setup, m: &Move, effect: Effect) -> Rights
+    ensures { result ≡ rights_left p.now m.now effect }
+{
+    match effect {
+        Effect::Null => p.rights,
+        Effect::Plain | Effect::Double | Effect::Passing | Effect::Castle(_) => rights_after(
+            &p.rights, m,
+        ),
+    }
+}
+
+/// The square that a pawn's double step has crossed.
+fn en_passant_after(p: &Setup, m: &Move, effect: Effect) -> Option<Square>
+    ensures { result ≡ en_passant_after p.now m.now effect }
+{
+    match effect {
+        Effect::Double => {
+            let rank = match p.side {
+                Colour::White => 2,
+                Colour::Black => 5,
+            };
+            Some(Square::at(8 * rank + m.from.index() % 8))
+        }
+        Effect::Plain | Effect::Passing | Effect::Castle(_) | Effect::Null => None,
+    }
+}
+
+/// What the setup becomes by the move, which may be against the rules.
+pub fn after(p: &Setup, m: &Move) -> Setup
+    ensures { result ≡ after p.now m.now (effect_of p.now m.now) }
+{
+    let effect = effect_of(p, m);
+    Setup {
+        board: board_after(p, m, effect),
+        side: p.side.other(),
+        rights: rights_left(p, m, effect),
+        en_passant: en_passant_after(p, m, effect),
+    }
+}
