@@ -1,6 +1,6 @@
 -- Trees while they are built.
 use Rattle.std.proofs.Common.{◌≡◌, List, [], ◌∷◌, ◌++◌, refl, ap}
-use Rattle.game_tree.specs.Tree.{Branches, more, Variation, branches_of}
+use Rattle.game_tree.specs.Tree.{more, Variation, branches_of}
 use Rattle.game_tree.specs.Building.{with_branch}
 
 pub branches_of-push : (vs : List Variation) (v : Variation) → branches_of (vs ++ v ∷ []) ≡ with_branch (branches_of vs) v

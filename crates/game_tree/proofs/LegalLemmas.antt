@@ -1,12 +1,12 @@
 -- Legal lines, move by move.
-use Rattle.std.proofs.Common.{◌≡◌, ℕ, ◌+◌, ◌<◌, zero, suc, List, ◌∷◌, Option, Some, length, get_or, take, drop, refl, sym, ap, ◌∙◌, subst, add-one}
+use Rattle.std.proofs.Common.{◌≡◌, ℕ, ◌+◌, ◌<◌, zero, suc, List, ◌∷◌, Some, length, get_or, take, drop, sym, ap, ◌∙◌, subst, add-one}
 use Rattle.std.specs.Prelude.{◌↔◌, fold, slice_get}
 use Rattle.std.proofs.lemmas.List.{drop_more}
 use Rattle.std.proofs.lemmas.Option.{none-some, same_Some}
 use Rattle.cell_core.specs.declared.step.Move.{Move}
 use Rattle.chess_laws.specs.declared.setup.Setup.{Setup}
 use Rattle.chess_laws.specs.Step.{Step}
-use Rattle.game_tree.specs.Tree.{Line, ends, goes, Branches, Played, line_of, moves_of}
+use Rattle.game_tree.specs.Tree.{Line, ends, goes, Played, line_of, moves_of}
 use Rattle.game_tree.specs.Game.{GameTree}
 use Rattle.game_tree.specs.Replay.{stepped, next_at, position_at}
 use Rattle.game_tree.specs.Legal.{IsComment, IsLegalLine, AreLegalBranches, IsLegalGame}

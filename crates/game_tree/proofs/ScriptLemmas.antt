@@ -1,9 +1,8 @@
 -- What a builder makes of the items of a script is what the script means.
 use Rattle.std.proofs.Common.{◌≡◌, ℕ, List, [], ◌∷◌, ◌++◌, Option, Some, None, refl, sym, ap, subst, ◌∙◌, append_assoc, append-nil}
-use Rattle.cell_core.specs.declared.step.Move.{Move}
 use Rattle.game_tree.specs.Tree.{Line, ends, goes, Branches, none, more, Played, Variation, line_of}
-use Rattle.game_tree.specs.Items.{Item, plays, glyph, note, opens, closes, Script, stop, play, nag, mark, vary, items_of, noted, joined, Said, meaning}
-use Rattle.game_tree.specs.Building.{Open, Building, fresh, opening, and_last, read_line, bare, with_move, with_nag, with_note, with_branch, with_variation, variation_of, closed, added, built}
+use Rattle.game_tree.specs.Items.{Item, closes, Script, stop, play, nag, mark, vary, items_of, noted, joined, Said, meaning}
+use Rattle.game_tree.specs.Building.{Open, Building, fresh, opening, and_last, read_line, bare, with_move, with_nag, with_note, with_branch, with_variation, variation_of, built}
 
 -- lines and variations one behind the other
 abbrev line_then : Line → Line → Line

@@ -1,14 +1,12 @@
 -- A settled head is within its bounds, keeps the rule of event dates, and stays as it is when it is settled again.
-use Rattle.std.proofs.Common.{◌≡◌, ◌≢◌, ℕ, ◌<◌, ◌≤◌, Bool, true, false, cond, eqb, leb, List, [], ◌∷◌, ◌++◌, Option, Some, None, IsTrue, length, refl, sym, ap, ◌∙◌, subst, inl, inr, arith, lit≤}
-use Rattle.std.specs.Prelude.{not, filter, All, codes}
-use Rattle.std.specs.Str.{bytes_eq}
-use Rattle.std.proofs.lemmas.Bool.{cases_Bool, and_parts, leb-true, eqb-false}
+use Rattle.std.proofs.Common.{◌≡◌, ℕ, ◌≤◌, true, false, eqb, leb, List, [], ◌∷◌, ◌++◌, Option, Some, None, IsTrue, refl, sym, ap, ◌∙◌, subst, inl, inr, arith, lit≤}
+use Rattle.std.specs.Prelude.{not, All, codes}
+use Rattle.std.proofs.lemmas.Bool.{cases_Bool, leb-true, eqb-false}
 use Rattle.std.proofs.lemmas.Option.{same_Some, none-some}
-use Rattle.std.proofs.lemmas.List.Elements.{All-filter, filter-append, All-append, All-push, All-from_recursion}
-use Rattle.cell_core.specs.Text.{IsZeroFree}
-use Rattle.game_tree.specs.Date.{IsDate, unknown_date, is_unknown, is_near, date_text, date_read}
+use Rattle.std.proofs.lemmas.List.Elements.{All-filter, All-push, All-from_recursion}
+use Rattle.game_tree.specs.Date.{IsDate, unknown_date, is_unknown, is_near, date_read}
 use Rattle.game_tree.specs.TagName.{IsTagName, IsTagByte, is_reserved}
-use Rattle.game_tree.specs.Head.{IsName, IsTag, IsBounded}
+use Rattle.game_tree.specs.Head.{IsTag, IsBounded}
 use Rattle.game_tree.specs.Settle.{is_event_date, other_tags, event_date_tag, near_only, near_date, first_of, first_near_date, taken_up, settled, keeps_rule}
 use Rattle.game_tree.specs.declared.date.Date.{Date}
 use Rattle.game_tree.specs.declared.head.Tag.{Tag}

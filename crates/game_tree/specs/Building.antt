@@ -3,7 +3,7 @@
 use Rattle.std.specs.Prelude.{◌≡◌, ℕ, List, [], ◌∷◌, ◌++◌, Option, Some, None, refl}
 use Rattle.std.specs.Coded.{Coded, code_by, coded×, coded_ℕ, coded_list, coded_option}
 use Rattle.cell_core.specs.declared.step.Move.{Move}
-use Rattle.game_tree.specs.Tree.{Line, Branches, none, more, Played, Variation, line_of, branches_of}
+use Rattle.game_tree.specs.Tree.{Line, Branches, none, more, Played, Variation, line_of}
 use Rattle.game_tree.specs.TreeCode.{coded_played}
 use Rattle.game_tree.specs.Items.{Item, plays, glyph, note, opens, closes, noted, joined}
 

@@ -1,11 +1,9 @@
 -- A game as contracts see it.
-use Rattle.std.specs.Prelude.{ℕ, List, Option, take, fold, slice_get, refl}
+use Rattle.std.specs.Prelude.{ℕ, List, Option, refl}
 use Rattle.std.specs.Coded.{Coded, code_by, coded×, coded_ℕ, coded_list, coded_option}
-use Rattle.cell_core.specs.declared.step.Move.{Move}
 use Rattle.chess_laws.specs.declared.setup.Setup.{Setup}
 use Rattle.chess_laws.specs.contracts.setup.Setup as setup
-use Rattle.chess_laws.specs.Step.{after, effect_of}
-use Rattle.game_tree.specs.Tree.{Line, moves_of}
+use Rattle.game_tree.specs.Tree.{Line}
 use Rattle.game_tree.specs.TreeCode.{coded_line}
 
 -- a start position, an optional comment at the start, and a line (PGN standard, 8.2)

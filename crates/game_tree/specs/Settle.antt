@@ -1,6 +1,6 @@
 -- Where the date of an event stands: as the event date where it follows the rule of event dates, else as a tag
 -- (this project's own).
-use Rattle.std.specs.Prelude.{◌≡◌, ℕ, Bool, true, false, not, if◌then◌else◌, List, [], ◌∷◌, ◌++◌, Option, Some, None, filter, codes}
+use Rattle.std.specs.Prelude.{◌≡◌, Bool, true, not, if◌then◌else◌, List, [], ◌∷◌, ◌++◌, Option, Some, None, filter, codes}
 use Rattle.std.specs.Str.{bytes_eq}
 use Rattle.game_tree.specs.Date.{unknown_date, is_unknown, is_near, date_text, date_read}
 use Rattle.game_tree.specs.declared.date.Date.{Date}

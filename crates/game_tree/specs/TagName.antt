@@ -1,6 +1,6 @@
 -- The names of tags (PGN standard, 8.1: tag pairs).
-use Rattle.std.specs.Prelude.{◌≡◌, ℕ, ◌<◌, ◌≤◌, ◌≢◌, Bool, false, ◌||◌, List, [], ◌∷◌, ◌++◌, length, map, Option, All, codes}
-use Rattle.std.specs.List.{list_any, position}
+use Rattle.std.specs.Prelude.{ℕ, ◌≤◌, ◌≢◌, Bool, ◌||◌, List, [], ◌∷◌, ◌++◌, length, map, All, codes}
+use Rattle.std.specs.List.{list_any}
 use Rattle.std.specs.Str.{bytes_eq}
 
 -- the kinds of ratings, each under its number from 0 to 6 (this project's own, after Scid's names)

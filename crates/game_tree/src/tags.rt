@@ -74,7 +74,7 @@ impl Tags {
         ensures err { OnErr result (self.new ≡ self.old) }
     {
         self.list.reserve(1)?;
-        self.list.retain(|tag| !is_event_date(tag));
+        self.list.retain(|other| !is_event_date(other));
         self.list.push_reserved(tag);
         Ok(())
     }

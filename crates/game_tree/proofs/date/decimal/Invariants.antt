@@ -1,4 +1,4 @@
-use Rattle.std.proofs.Common.{◌≡◌, ◌≤◌, take}
+use Rattle.std.proofs.Common.{take}
 use Rattle.game_tree.specs.Date.{decimal}
 use Rattle.game_tree.proofs.date.decimal.Given as goal
 use Rattle.game_tree.proofs.DecimalLemmas.{Grows}
