@@ -9,3 +9,4 @@ pub mod RoundTrip
 pub mod Steps
 pub mod Standard
 pub mod Text
+pub mod Decoding

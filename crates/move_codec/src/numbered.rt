@@ -1,9 +1,10 @@
 ghost use Rattle.std.specs.Prelude.{◌≡◌, ℕ, ◌+◌, ◌*◌, ◌<◌, List, ◌∷◌, ◌++◌, Ok, length};
 ghost use Rattle.chess_laws.specs.Position.{start_setup};
-ghost use Rattle.chess_laws.specs.Step.{Legal};
-ghost use Rattle.move_codec.specs.Numbers.{standard_numbers, text_numbers};
+ghost use Rattle.chess_laws.specs.Step.{Legal, Step};
+ghost use Rattle.move_codec.specs.Numbers.{numbers_after, standard_numbers, text_numbers};
 ghost use Rattle.move_codec.specs.Packed.{Decodes, diagonal_move, encoding, named, named_value, rest_of, to_square, value_of};
 
+use super::effect::effect_of;
 use super::fault::MoveFault;
 use super::numbers::Numbers;
 use super::targets::{
@@ -66,6 +67,48 @@ impl Numbered {
         ensures numbers { result.now ≡ self.now.numbers }
     {
         &self.numbers
+    }
+
+    /// The legal move that the first bytes name, and how many of them it takes, one or two; or the first fault. Bytes
+    /// after the move are not looked at.
+    pub fn decode_move(&self, bytes: &[u8]) -> Result<(Move, u8), MoveFault>
+        ensures decodes { Decodes self.now bytes.now result }
+    {
+        let (m, used) = self.named(bytes)?;
+        if self.position.is_legal(Move {
+            from: m.from,
+            to: m.to,
+            promo: m.promo,
+        }) {
+            Ok((m, used))
+        } else {
+            Err(MoveFault::Illegal)
+        }
+    }
+
+    /// Plays a legal move. The men keep their numbers, and the last man of the other side takes that of a captured one.
+    pub fn play(&mut self, m: Move)
+        requires legal { Legal self.old.position m }
+        ensures step { Step self.old.position m self.new.position }
+        ensures numbers { self.new.numbers ≡ numbers_after self.old.position m self.old.numbers }
+    {
+        self.follow(&m);
+    }
+
+    /// `play` of a lent move.
+    fn follow(&mut self, m: &Move)
+        requires legal { Legal self.old.position m.now }
+        ensures step { Step self.old.position m.now self.new.position }
+        ensures numbers { self.new.numbers ≡ numbers_after self.old.position m.now self.old.numbers }
+    {
+        let side = self.position.setup().side;
+        let effect = effect_of(&self.position, m);
+        self.position.play(Move {
+            from: m.from,
+            to: m.to,
+            promo: m.promo,
+        });
+        self.numbers.follow(side, m, effect);
     }
 
     /// A copy, as at the start of a variation. It takes no memory beyond itself.

@@ -1,0 +1,69 @@
+-- What is decoded, from what is named and whether it is legal.
+use Rattle.std.proofs.Common.{◌≡◌, ℕ, ◌/◌, ◌%◌, Bool, true, false, cond, eqb, List, [], ◌∷◌, Option, Some, None, Ok, Err, ◌⊎◌, inl, inr, refl, sym, ◌∙◌, ap}
+use Rattle.std.specs.Prelude.{Result, slice_get}
+use Rattle.std.proofs.lemmas.Bool.{cases_Bool}
+use Rattle.cell_core.specs.declared.man.Colour.{Colour}
+use Rattle.cell_core.specs.declared.man.Kind.{Kind}
+use Rattle.cell_core.specs.declared.man.Kind.TheVariants.{King, Queen, Rook, Bishop, Knight, Pawn}
+use Rattle.cell_core.specs.declared.man.Man.{Man}
+use Rattle.cell_core.specs.declared.step.Move.{Move}
+use Rattle.cell_core.specs.Board.{man_at}
+use Rattle.chess_laws.specs.Geometry.{file_of}
+use Rattle.chess_laws.specs.Step.{Legal}
+use Rattle.move_codec.specs.declared.fault.MoveFault.{MoveFault}
+use Rattle.move_codec.specs.declared.fault.MoveFault.TheVariants.{Short, NoMan, Value, Illegal}
+use Rattle.move_codec.specs.Numbers.{Numbered, squares_of}
+use Rattle.move_codec.specs.Packed.{Decodes, diagonal_move, diagonal_square, king_differences, knight_differences, by_difference, named, named_by, named_from, named_value, on_diagonal, on_line, pawn_square, promotion, to_square}
+
+-- no move is refused as illegal before its legality is looked at
+abbrev Plain : Result (Move × ℕ) MoveFault → Type 0
+Plain named = named ≡ Err Illegal → ⊥
+
+to_square-plain : (from : ℕ) (promo : Option Kind) (bytes : ℕ) (square : Option ℕ) → Plain (to_square from promo bytes square)
+to_square-plain from promo bytes None h = cc
+to_square-plain from promo bytes (Some to) h = cc
+
+diagonal-plain : (from : ℕ) (rest : List ℕ) → Plain (diagonal_move from rest)
+diagonal-plain from [] h = cc
+diagonal-plain from (byte ∷ rest) h = to_square-plain from None 2 (diagonal_square from byte) h
+
+queen-plain : (own : Bool) (from value : ℕ) (rest : List ℕ) → Plain (cond own (diagonal_move from rest) (to_square from None 1 (on_line from value)))
+queen-plain true from value rest h = diagonal-plain from rest h
+queen-plain false from value rest h = to_square-plain from None 1 (on_line from value) h
+
+value-plain : (kind : Kind) (side : Colour) (from value : ℕ) (rest : List ℕ) → Plain (named_value kind side from value rest)
+unfolding named_value
+value-plain King side from value rest h = to_square-plain from None 1 (by_difference king_differences from value) h
+value-plain Queen side from value rest h = queen-plain (eqb value (file_of from)) from value rest h
+value-plain Rook side from value rest h = to_square-plain from None 1 (on_line from value) h
+value-plain Bishop side from value rest h = to_square-plain from None 1 (on_diagonal from value) h
+value-plain Knight side from value rest h = to_square-plain from None 1 (by_difference knight_differences from value) h
+value-plain Pawn side from value rest h = to_square-plain from (promotion value) 1 (pawn_square side from value) h
+
+by-plain : (o : Option Man) (side : Colour) (from value : ℕ) (rest : List ℕ) → Plain (named_by o side from value rest)
+by-plain None side from value rest h = cc
+by-plain (Some man) side from value rest h = value-plain man.kind side from value rest h
+
+from-plain : (n : Numbered) (o : Option ℕ) (value : ℕ) (rest : List ℕ) → Plain (named_from n o value rest)
+from-plain n None value rest h = cc
+from-plain n (Some from) value rest h = by-plain (man_at n.position.board from) n.position.side from value rest h
+
+named-plain : (n : Numbered) (bytes : List ℕ) → Plain (named n bytes)
+named-plain n [] h = cc
+named-plain n (byte ∷ rest) h = from-plain n (slice_get (squares_of n.position.side n.numbers) (byte / 16)) (byte % 16) rest h
+
+-- bytes that name no move
+pub Decodes-fault : (n : Numbered) (bytes : List ℕ) (fault : MoveFault) → named n bytes ≡ Err fault → Decodes n bytes (Err fault)
+Decodes-fault n bytes Short h = h
+Decodes-fault n bytes NoMan h = h
+Decodes-fault n bytes Value h = h
+Decodes-fault n bytes Illegal h = absurd (named-plain n bytes h)
+
+-- and bytes that name one
+pub Decodes-legal : (n : Numbered) (bytes : List ℕ) (decoded : Move × ℕ) → named n bytes ≡ Ok decoded → Legal n.position decoded.0
+    → Decodes n bytes (Ok decoded)
+Decodes-legal n bytes decoded h legal = (h, legal)
+
+pub Decodes-illegal : (n : Numbered) (bytes : List ℕ) (decoded : Move × ℕ) → named n bytes ≡ Ok decoded
+    → (Legal n.position decoded.0 → ⊥) → Decodes n bytes (Err Illegal)
+Decodes-illegal n bytes decoded h illegal = (decoded, (h, illegal))
