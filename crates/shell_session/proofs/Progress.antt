@@ -1,6 +1,6 @@
 -- How far a replay has come in a record, and how it goes on.
 use Rattle.std.proofs.lemmas.Option.{slice_get_within}
-use Rattle.std.proofs.Common.{zero, suc, subst, sym, ◌≡◌, ℕ, ◌+◌, ◌<◌, List, [], ◌∷◌, ◌++◌, Option, Some, None, length, slice_get, refl, ◌∙◌, append_assoc, arith, length-append}
+use Rattle.std.proofs.Common.{zero, suc, subst, sym, ◌≡◌, ℕ, ◌+◌, ◌<◌, List, [], ◌∷◌, ◌++◌, Option, Some, None, length, slice_get, refl, ap, ◌∙◌, append_assoc, arith, length-append}
 use Rattle.chess_laws.specs.declared.setup.Setup.{Setup}
 use Rattle.move_codec.specs.Numbers.{Numbered}
 use Rattle.shell_session.specs.declared.placed.Placed.{Placed}
@@ -68,7 +68,7 @@ Progress-start len moves sought = record { done = []; plies = refl; first = λ p
 move_before : (len : ℕ) (n next : Numbered) (left rest : List ℕ) (later : List Placed) (stop : Option RecordFault)
     → Goes n left next rest → Reads len next rest later stop → Reads len n left (placed n.position ∷ later) stop
 move_before len n next left rest [] stop goes reads = absurd reads
-move_before len n next left rest (here ∷ more) stop goes reads = (refl, (next, rest, goes, reads))
+move_before len n next left rest (x ∷ more) stop goes reads = (refl, (next, rest, goes, reads))
 
 -- a move takes the replay one ply on
 pub Progress-move : (len : ℕ) (moves : List ℕ) (sought : Placed) (n next : Numbered) (left rest : List ℕ) (ply : ℕ) (hit after : Option ℕ)
@@ -79,8 +79,8 @@ Progress-move len moves sought n next left rest ply hit after step goes so_far =
   plies = omega (arith, length-append so_far.done (placed n.position ∷ []), so_far.plies);
   first = FirstPly-push so_far.done (placed n.position) sought hit after so_far.first (rw so_far.plies step);
   whole = λ later stop reads.
-    subst (λ (plies : List Placed). Reads len standard moves plies stop) (sym (append_assoc so_far.done (placed n.position ∷ []) later))
-    (so_far.whole (placed n.position ∷ later) stop (move_before len n next left rest later stop goes reads));
+      subst (λ (plies : List Placed). Reads len standard moves plies stop) (sym (append_assoc so_far.done (placed n.position ∷ []) later))
+      (so_far.whole (placed n.position ∷ later) stop (move_before len n next left rest later stop goes reads));
 }
 
 -- at the end of the game every board has been reached

@@ -9,7 +9,7 @@ use Rattle.move_codec.specs.Packed.{Decodes}
 use Rattle.move_codec.specs.declared.fault.MoveFault.{MoveFault}
 use Rattle.move_codec.specs.declared.fault.MoveFault.TheVariants.{Short, NoMan, Value, Illegal}
 use Rattle.shell_session.specs.declared.main_line.Due.{Due}
-use Rattle.shell_session.specs.declared.main_line.Due.TheVariants as due
+use Rattle.shell_session.specs.declared.main_line.Due.TheVariants as item
 use Rattle.shell_session.specs.declared.placed.Placed.{Placed}
 use Rattle.shell_session.specs.declared.record_fault.RecordFault.{RecordFault}
 use Rattle.shell_session.specs.declared.record_fault.RecordFault.TheVariants.{Later, Bad}
@@ -25,15 +25,15 @@ standard = record { position = start_setup; numbers = standard_numbers }
 -- what the bytes begin with: the byte 15 alone ends the game, any other byte from 11 to 15 begins what comes later, and
 -- every other byte begins a move. Where no byte is left a move is due too
 abbrev pub due_of : List ℕ → Due
-due_of [] = due.Move
-due_of (byte ∷ []) = if byte == 15 then due.End else if nat_le 11 byte && nat_le byte 15 then due.Later else due.Move
-due_of (byte ∷ next ∷ rest) = if nat_le 11 byte && nat_le byte 15 then due.Later else due.Move
+due_of [] = item.Move
+due_of (byte ∷ []) = if byte == 15 then item.End else if nat_le 11 byte && nat_le byte 15 then item.Later else item.Move
+due_of (byte ∷ next ∷ rest) = if nat_le 11 byte && nat_le byte 15 then item.Later else item.Move
 
 -- the bytes begin with a legal move, which leads from one numbered position to another and leaves the rest of the bytes
 pub record Goes (n : Numbered) (bytes : List ℕ) (next : Numbered) (rest : List ℕ) : Type 0 where
   pub m : Move
   pub used : ℕ
-  pub due : due_of bytes ≡ due.Move
+  pub due : due_of bytes ≡ item.Move
   pub decodes : Decodes n bytes (Ok (m, used))
   pub step : Step n.position m next.position
   pub numbers : next.numbers ≡ numbers_after n.position m n.numbers
@@ -49,10 +49,10 @@ fault_place len bytes Illegal = len - length bytes
 
 -- the reading stops at these bytes: at the end of the game, or at what is in the way of reading on
 abbrev pub Stops : ℕ → Numbered → List ℕ → Option RecordFault → Type 0
-Stops len n bytes None = due_of bytes ≡ due.End
-Stops len n bytes (Some Later) = due_of bytes ≡ due.Later
+Stops len n bytes None = due_of bytes ≡ item.End
+Stops len n bytes (Some Later) = due_of bytes ≡ item.Later
 Stops len n bytes (Some (Bad place fault)) =
-    (due_of bytes ≡ due.Move) × Decodes n bytes (Err fault) × (place ≡ fault_place len bytes fault)
+    (due_of bytes ≡ item.Move) × Decodes n bytes (Err fault) × (place ≡ fault_place len bytes fault)
 
 -- the boards and sides that the bytes lead through from a numbered position on, its own first, and what stops the reading
 -- where the last of them stands

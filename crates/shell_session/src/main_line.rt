@@ -38,11 +38,7 @@ pub(crate) fn first_ply(bytes: &[u8], sought: &Placed) -> Result<Option<u32>, Re
 }
 
 /// The same by the bytes of the moves and the length of the whole record.
-fn first_ply_of_moves(
-    moves: &[u8],
-    len: u32,
-    sought: &Placed,
-) -> Result<Option<u32>, RecordFault>
+fn first_ply_of_moves(moves: &[u8], len: u32, sought: &Placed) -> Result<Option<u32>, RecordFault>
     requires within { length moves.now ≤ len }
     ensures first { IfOk result (λ hit. (plies : List Reached) × Reads len standard moves.now plies None × FirstPly plies sought.now hit) }
     ensures fault { IfErr result (λ fault. (plies : List Reached) × Reads len standard moves.now plies (Some fault)) }
@@ -66,17 +62,13 @@ fn first_ply_of_moves(
 
 /// Plays the move at the beginning of the bytes that are left of a record of this length, and gives the number of its
 /// bytes; or `None` at the end of the game.
-fn advance(
-    numbered: &mut Numbered,
-    left: &[u8],
-    len: u32,
-) -> Result<Option<u8>, RecordFault>
+fn advance(numbered: &mut Numbered, left: &[u8], len: u32) -> Result<Option<u8>, RecordFault>
     requires within { length left.now ≤ len }
     ensures went { IfOk result (λ went. MatchOption went (Stops len numbered.old left.now None) (λ used. Goes numbered.old left.now numbered.new (drop used left.now))) }
     ensures used { IfOk result (λ went. MatchOption went Unit (λ used. (1 ≤ used) × (used ≤ length left.now))) }
     ensures fault { IfErr result (λ fault. Stops len numbered.old left.now (Some fault)) }
 {
-    match due(left) {
+    match due_at(left) {
         Due::End => Ok(None),
         Due::Later => Err(RecordFault::Later),
         Due::Move => match numbered.decode_move(left) {
@@ -93,7 +85,7 @@ fn advance(
 }
 
 /// What is due where these bytes are left.
-fn due(left: &[u8]) -> Due
+fn due_at(left: &[u8]) -> Due
     ensures { result ≡ due_of left.now }
 {
     match left {

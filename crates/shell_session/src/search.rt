@@ -101,7 +101,9 @@ fn add_hit<F: Files>(
     match game_hit(files, extent_of_game(index, game), sought, block) {
         Ok(hit) => hits.push(hit).map_err(|_| Status::Memory),
         Err(GameFault::Files) => Err(Status::FilesFault),
-        Err(GameFault::Record(RecordFault::Later)) => Err(Status::Later(LaterWhat::Record { game })),
+        Err(GameFault::Record(RecordFault::Later)) => Err(Status::Later(LaterWhat::Record {
+            game,
+        })),
         Err(GameFault::Record(RecordFault::Bad { place, fault })) => Err(Status::BadMove {
             game,
             place,
