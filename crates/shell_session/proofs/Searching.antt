@@ -5,12 +5,14 @@ use Rattle.std.proofs.lemmas.List.{length_push}
 use Rattle.std.proofs.lemmas.List.Elements.{All-nil, All-cons}
 use Rattle.base_files.specs.Told.{Tells}
 use Rattle.shell_session.specs.declared.placed.Placed.{Placed}
+use Rattle.shell_session.specs.declared.record_fault.RecordFault.{RecordFault}
+use Rattle.shell_session.specs.declared.record_fault.RecordFault.TheVariants as fault
 use Rattle.shell_session.specs.declared.status.Status.{Status}
-use Rattle.shell_session.specs.declared.status.Status.TheVariants.{Done, Later, ReadFault, WriteFault, FilesFault, Memory}
+use Rattle.shell_session.specs.declared.status.Status.TheVariants.{Done, Later, BadMove, ReadFault, WriteFault, FilesFault, Memory}
 use Rattle.shell_session.specs.declared.status.LaterWhat.TheVariants as later
 use Rattle.shell_session.specs.FindLine.{FindScript}
 use Rattle.shell_session.specs.IndexFile.{extent_at, game_count, record_in, records, records_len}
-use Rattle.shell_session.specs.PlainRecord.{positions}
+use Rattle.shell_session.specs.MainLine.{IsFaulty, IsReadWhole}
 use Rattle.shell_session.specs.Refusals.{GameRefused, SearchRefused}
 use Rattle.shell_session.specs.Session.{Hit, IsFirstFaulty}
 
@@ -42,31 +44,39 @@ one_more None sought index game hits hit before now = tt
 one_more (Some games) sought index game hits hit before now =
     rw add-one (all-push sought (records index games game) hits (record_in games (extent_at index game)) hit before now)
 
--- the games with an answer have plain records
-pub plain_of_hits : (sought : Placed) (xs : List (List ℕ)) (hits : List (Option ℕ)) → AllZip (Hit sought) xs hits → All (λ bytes. IsSome (positions bytes)) xs
-plain_of_hits sought [] [] found = All-nil (λ bytes. IsSome (positions bytes))
-plain_of_hits sought [] (hit ∷ hits) found = absurd found
-plain_of_hits sought (bytes ∷ xs) [] found = absurd found
-plain_of_hits sought (bytes ∷ xs) (hit ∷ hits) found =
-    let P : List ℕ → Type 0 = λ bytes. IsSome (positions bytes) in
-    let S : Option (List Placed) → Type 0 = λ p. IsSome p in
-    All-cons P bytes xs (subst S (sym found.0.replayed) refl) (plain_of_hits sought xs hits found.1)
+-- the games with an answer have records that are read whole
+pub whole_of_hits : (sought : Placed) (xs : List (List ℕ)) (hits : List (Option ℕ)) → AllZip (Hit sought) xs hits → All IsReadWhole xs
+whole_of_hits sought [] [] found = All-nil IsReadWhole
+whole_of_hits sought [] (hit ∷ hits) found = absurd found
+whole_of_hits sought (bytes ∷ xs) [] found = absurd found
+whole_of_hits sought (bytes ∷ xs) (hit ∷ hits) found =
+    All-cons IsReadWhole bytes xs (found.0.plies, found.0.replayed) (whole_of_hits sought xs hits found.1)
 
--- a game that ends the search ends it by its own record only where those before it are plain
+-- a game with a fault, after games that have an answer, is the first with one
+first_faulty : (told : Option (List ℕ)) (sought : Placed) (index : List ℕ) (game : ℕ) (hits : List (Option ℕ)) (fault : RecordFault) → game < game_count index →
+    IfSome told (λ games. AllZip (Hit sought) (records index games game) hits) → IfSome told (λ games. IsFaulty (record_in games (extent_at index game)) fault) →
+    IfSome told (λ games. IsFirstFaulty index games game fault)
+first_faulty None sought index game hits fault below before here = tt
+first_faulty (Some games) sought index game hits fault below before here =
+    record { in_base = below; whole_before = whole_of_hits sought (records index games game) hits before; faulty = here }
+
+first_faulty_told : (told now : Option (List ℕ)) (sought : Placed) (index : List ℕ) (game faulty : ℕ) (hits : List (Option ℕ)) (fault : RecordFault) →
+    now ≡ told → game < game_count index → IfSome told (λ games. AllZip (Hit sought) (records index games game) hits) →
+    faulty ≡ game → IfSome now (λ games. IsFaulty (record_in games (extent_at index game)) fault) →
+    IfSome told (λ games. IsFirstFaulty index games faulty fault)
+first_faulty_told told now sought index game faulty hits fault same below before here refused =
+    let P : ℕ → Type 0 = λ n. IfSome told (λ games. IsFirstFaulty index games n fault) in
+    let Q : Option (List ℕ) → Type 0 = λ o. IfSome o (λ games. IsFaulty (record_in games (extent_at index game)) fault) in
+    subst P (sym here) (first_faulty told sought index game hits fault below before (subst Q same refused))
+
+-- a game that ends the search ends it by its own record only where those before it are read whole
 pub search_refused : (told now : Option (List ℕ)) (sought : Placed) (index : List ℕ) (game : ℕ) (hits : List (Option ℕ)) (status : Status) →
     now ≡ told → game < game_count index → IfSome told (λ games. AllZip (Hit sought) (records index games game) hits) →
     GameRefused index now game status → SearchRefused index told status
 search_refused told now sought index game hits (Later (later.Record faulty)) same below before refused =
-    let P : ℕ → Type 0 = λ n. IfSome told (λ games. IsFirstFaulty index games n) in
-    let Q : Option (List ℕ) → Type 0 = λ o. IfSome o (λ games. positions (record_in games (extent_at index game)) ≡ None) in
-    subst P (sym refused.0) (first_faulty told sought index game hits below before (subst Q same refused.1))
-  where
-    first_faulty : (told : Option (List ℕ)) (sought : Placed) (index : List ℕ) (game : ℕ) (hits : List (Option ℕ)) → game < game_count index →
-        IfSome told (λ games. AllZip (Hit sought) (records index games game) hits) → IfSome told (λ games. positions (record_in games (extent_at index game)) ≡ None) →
-        IfSome told (λ games. IsFirstFaulty index games game)
-    first_faulty None sought index game hits below before now = tt
-    first_faulty (Some games) sought index game hits below before now =
-        record { in_base = below; plain_before = plain_of_hits sought (records index games game) hits before; faulty = now }
+    first_faulty_told told now sought index game faulty hits fault.Later same below before refused.0 refused.1
+search_refused told now sought index game hits (BadMove faulty place why) same below before refused =
+    first_faulty_told told now sought index game faulty hits (fault.Bad place why) same below before refused.0 refused.1
 search_refused told now sought index game hits (Later later.Words) same below before refused = absurd refused
 search_refused told now sought index game hits (Later later.Index) same below before refused = absurd refused
 search_refused told now sought index game hits (Later later.Script) same below before refused = absurd refused

@@ -1,17 +1,19 @@
 -- What a session answers, of what it was given, in terms of plain lists. This project's own.
-use Rattle.std.specs.Prelude.{◌≡◌, ◌<◌, ℕ, ◌⊎◌, List, [], ◌∷◌, ◌++◌, All, length, Option, Some, None, IsSome, false}
+use Rattle.std.specs.Prelude.{◌≡◌, ◌<◌, ℕ, ◌⊎◌, List, [], ◌∷◌, ◌++◌, All, length, Option, None, false}
 use Rattle.std.specs.List.{AllZip}
 use Rattle.base_files.specs.Chosen.{Choice, choice}
 use Rattle.base_files.specs.Told.{IsPrefix}
 use Rattle.shell_session.specs.declared.placed.Placed.{Placed}
+use Rattle.shell_session.specs.declared.record_fault.RecordFault.{RecordFault}
+use Rattle.shell_session.specs.declared.record_fault.RecordFault.TheVariants as fault
 use Rattle.shell_session.specs.declared.status.Status.{Status}
-use Rattle.shell_session.specs.declared.status.Status.TheVariants.{Done, Later, ReadFault, WriteFault, FilesFault, Memory}
+use Rattle.shell_session.specs.declared.status.Status.TheVariants.{Done, Later, BadMove, ReadFault, WriteFault, FilesFault, Memory}
 use Rattle.shell_session.specs.declared.status.LaterWhat.TheVariants as later
 use Rattle.shell_session.specs.FindLine.{FindScript}
 use Rattle.shell_session.specs.HitText.{find_text}
 use Rattle.shell_session.specs.IndexFile.{IsIndex, extent_at, game_count, record_in, records}
+use Rattle.shell_session.specs.MainLine.{IsFaulty, IsReadWhole, ReadsRecord}
 use Rattle.shell_session.specs.Placed.{FirstPly}
-use Rattle.shell_session.specs.PlainRecord.{positions}
 use Rattle.shell_session.specs.Words.{AreBase}
 
 -- what a session is given: its words, the index file and the games file of the base, and the script
@@ -24,21 +26,21 @@ pub record Given : Type 0 where
 abbrev pub given : List (List ℕ) → List ℕ → List ℕ → List ℕ → Given
 given words index games script = record { words = words; index = index; games = games; script = script }
 
--- a game's answer to a search: its first ply at which the board and side sought stand
+-- a game's answer to a search: the first ply of its main line at which the board and side sought stand
 pub record Hit (sought : Placed) (bytes : List ℕ) (hit : Option ℕ) : Type 0 where
   pub plies : List Placed
-  pub replayed : positions bytes ≡ Some plies
+  pub replayed : ReadsRecord bytes plies None
   pub first : FirstPly plies sought hit
 
 -- the answers of all games, in their order
 abbrev pub AreHits : Placed → List ℕ → List ℕ → List (Option ℕ) → Type 0
 AreHits sought index games hits = AllZip (Hit sought) (records index games (game_count index)) hits
 
--- this game is the first whose record is not plain
-pub record IsFirstFaulty (index games : List ℕ) (game : ℕ) : Type 0 where
+-- this game is the first whose record is not read whole, and this is what is in the way
+pub record IsFirstFaulty (index games : List ℕ) (game : ℕ) (fault : RecordFault) : Type 0 where
   pub in_base : game < game_count index
-  pub plain_before : All (λ bytes. IsSome (positions bytes)) (records index games game)
-  pub faulty : positions (record_in games (extent_at index game)) ≡ None
+  pub whole_before : All IsReadWhole (records index games game)
+  pub faulty : IsFaulty (record_in games (extent_at index game)) fault
 
 -- the words name a base, and its index can be read
 pub record Opens (given : Given) : Type 0 where
@@ -71,7 +73,9 @@ Answers given Done text = Finds given text
 Answers given (Later later.Words) text = ((name : List ℕ) → ¬ AreBase given.words name) × (text ≡ [])
 Answers given (Later later.Index) text = ((name : List ℕ) × AreBase given.words name) × ¬ IsIndex given.index (length given.games) × (text ≡ [])
 Answers given (Later later.Script) text = Opens given × ((sought : Placed) → ¬ FindScript given.script sought) × (text ≡ [])
-Answers given (Later (later.Record game)) text = ((sought : Placed) × Asks given sought) × IsFirstFaulty given.index given.games game × (text ≡ [])
+Answers given (Later (later.Record game)) text = ((sought : Placed) × Asks given sought) × IsFirstFaulty given.index given.games game fault.Later × (text ≡ [])
+Answers given (BadMove game place refused) text =
+    ((sought : Placed) × Asks given sought) × IsFirstFaulty given.index given.games game (fault.Bad place refused) × (text ≡ [])
 Answers given ReadFault text = text ≡ []
 Answers given WriteFault text = BeginsAnswer given text
 Answers given FilesFault text = text ≡ []

@@ -5,15 +5,17 @@ mod find;
 mod find_line;
 mod hit_text;
 mod index_file;
+mod main_line;
 mod opening;
 pub mod placed;
-mod plain_record;
+pub mod record_fault;
 mod run;
 mod script;
 mod search;
 pub mod status;
 mod words;
 
+pub use record_fault::RecordFault;
 pub use run::session;
 pub use status::{LaterWhat, Status};
 

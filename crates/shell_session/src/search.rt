@@ -1,15 +1,17 @@
 //! The search through all games of a base.
 
-ghost use Rattle.std.specs.Prelude.{◌≡◌, ◌≤◌, ◌<◌, ◌+◌, ◌^◌, ℕ, [], ◌∷◌, ◌++◌, Option, None, length, IfOk, IfErr, IfSome, OnOk};
+ghost use Rattle.std.specs.Prelude.{◌≡◌, ◌≤◌, ◌<◌, ◌+◌, ◌^◌, ℕ, [], ◌∷◌, ◌++◌, Option, length, IfOk, IfErr, IfSome, OnOk};
 ghost use Rattle.base_files.specs.Counters.{Rose};
 ghost use Rattle.shell_session.specs.IndexFile.{IsIndex, IsPlaced, extent_at, game_count, record_in, records_len};
-ghost use Rattle.shell_session.specs.PlainRecord.{positions};
+ghost use Rattle.shell_session.specs.MainLine.{IsFaulty};
 ghost use Rattle.shell_session.specs.Refusals.{GameRefused, SearchRefused};
 ghost use Rattle.shell_session.specs.Session.{AreHits, Hit};
+ghost use Rattle.shell_session.specs.declared.record_fault.RecordFault.{RecordFault as Refused};
 
 use crate::index_file::{BLOCK_LEN, Extent, count_of, extent_of_game};
+use crate::main_line::first_ply;
 use crate::placed::Placed;
-use crate::plain_record::first_ply;
+use crate::record_fault::RecordFault;
 use crate::status::{LaterWhat, Status};
 use base_files::files::Files;
 use std::alloc::Global;
@@ -18,8 +20,8 @@ use std::alloc::Global;
 enum GameFault {
     /// The files failed.
     Files,
-    /// The record is not plain.
-    NotPlain,
+    /// The record is not read to its end.
+    Record(RecordFault),
 }
 
 /// The first ply of each game at which the board and side sought stand. Each record is read once.
@@ -99,7 +101,14 @@ fn add_hit<F: Files>(
     match game_hit(files, extent_of_game(index, game), sought, block) {
         Ok(hit) => hits.push(hit).map_err(|_| Status::Memory),
         Err(GameFault::Files) => Err(Status::FilesFault),
-        Err(GameFault::NotPlain) => Err(Status::Later(LaterWhat::Record { game })),
+        Err(GameFault::Record(RecordFault::Later)) => Err(Status::Later(LaterWhat::Record {
+            game,
+        })),
+        Err(GameFault::Record(RecordFault::Bad { place, fault })) => Err(Status::BadMove {
+            game,
+            place,
+            fault,
+        }),
     }
 }
 
@@ -113,7 +122,7 @@ fn game_hit<F: Files>(
     requires placed { IsPlaced (F.known files.old) extent }
     requires room { length block.old ≡ 131072 }
     ensures found { IfOk result (λ hit. IfSome (F.games files.old) (λ games. Hit sought.now (record_in games extent) hit)) }
-    ensures faulty { result ≡ Err GameFault.NotPlain → IfSome (F.games files.old) (λ games. positions (record_in games extent) ≡ None) }
+    ensures faulty { (fault : Refused) → result ≡ Err (GameFault.Record fault) → IfSome (F.games files.old) (λ games. IsFaulty (record_in games extent) fault) }
     ensures asks { F.asked files.new ≤ F.asked files.old + extent.len }
     ensures contents { (F.index files.new ≡ F.index files.old) × (F.names files.new ≡ F.names files.old) × (F.games files.new ≡ F.games files.old) }
     ensures none_chosen { F.choices files.new ≡ F.choices files.old }
@@ -126,6 +135,6 @@ fn game_hit<F: Files>(
     }
     match first_ply(&block[..extent.len as usize], sought) {
         Ok(hit) => Ok(hit),
-        Err(_) => Err(GameFault::NotPlain),
+        Err(fault) => Err(GameFault::Record(fault)),
     }
 }

@@ -6,6 +6,7 @@ use base_files::disk_files::DiskFiles;
 use base_files::mem_files::MemFiles;
 use base_files::mem_sink::MemSink;
 use base_files::mem_source::MemSource;
+use move_codec::MoveFault;
 use std::alloc::{AllocError, Global};
 use std::fs;
 use std::test::Fail;
@@ -155,11 +156,64 @@ fn refuses_words_indexes_and_records(rt: HostRuntime) -> Result<(), Fail> {
         (b"\x00\x00\xcf\xbf\xbf\x0f\x00\x00\xbf\xbf\xcf\x0e", 1),
         (b"\x00\x01\xcf\xbf\xbf\x0f\x00\x00\xbf\xbf\xcf\x0e", 0),
         (b"\x00\x00\xcf\xbf\x0f\x0f\x00\x00\xbf\xbf\xcf\x0f", 0),
-        (b"\x00\x00\xcf\xbf\xbf\x0f\x00\x00\xbf\xbf\x00\x0f", 1),
+        (b"\x00\x00\xcf\xbf\xbf\x0f\x01\x00\xbf\xbf\x00\x0f", 1),
     ];
     for (games, game) in records {
         let (status, written) = run(alloc, &["base"], good.as_slice(), games, E4_D5, &NONE)?;
         assert_eq!(rt; status, Status::Later(LaterWhat::Record { game }));
+        assert!(rt; written.is_empty());
+    }
+    Ok(())
+}
+
+/// Runs a script over a base whose two games have this one record.
+fn run_twice(alloc: Global, game: &[u8], script: &[u8]) -> Result<(Status, Vec<u8>), AllocError> {
+    let len = game.len() as u16;
+    let index = index_of(alloc, HEAD, [(0, len), (0, len)])?;
+    run(alloc, &["base"], index.as_slice(), game, script, &NONE)
+}
+
+// 1. e4 c6 2. d4 d5 3. Nc3 dxe4 4. Nxe4 Nf6 5. Qd3 e5 6. dxe5 Qa5+ 7. Bd2 Qxe5 8. O-O-O Nxe4 9. Qd8+ Kxd8 10. Bg5+ Kc7
+// 11. Bd8#; then 1. e4 Nf6 2. e5 d5 3. exd6 h6; then 1. e4, a null move, 2. d4.
+#[test]
+fn replays_by_the_laws(rt: HostRuntime) -> Result<(), Fail> {
+    let alloc = rt.alloc();
+    let read: [(&[u8], &[u8], &[u8]); 3] = [
+        (
+            b"\x00\x00\xcf\xa1\xbf\xbf\x28\xb0\x26\x61\x4a\xcf\xb2\x43\x60\x33\x44\x09\x61\x4f\x04\x36\x01\x3b\x0f",
+            b"find rnbB1b1r/ppk2ppp/2p5/4q3/4n3/8/PPP2PPP/2KR1BNR b\n",
+            b"0 21\n1 21\nfilter 2 of 2\n",
+        ),
+        (
+            b"\x00\x00\xcf\x61\xc1\xbf\xc0\xb1\x0f",
+            b"find rnbqkb1r/ppp1ppp1/3P1n1p/8/8/8/PPPP1PPP/RNBQKBNR w\n",
+            b"0 6\n1 6\nfilter 2 of 2\n",
+        ),
+        (
+            b"\x00\x00\xcf\x00\xbf\x0f",
+            b"find rnbqkbnr/pppppppp/8/8/3PP3/8/PPP2PPP/RNBQKBNR b\n",
+            b"0 3\n1 3\nfilter 2 of 2\n",
+        ),
+    ];
+    for (game, script, text) in read {
+        let (status, written) = run_twice(alloc, game, script)?;
+        assert_eq!(rt; status, Status::Done);
+        assert!(rt; written.as_slice() == text);
+    }
+    let refused: [(&[u8], u32, MoveFault); 4] = [
+        (b"\x00\x00\xcf\xcf\x43", 5, MoveFault::Short),
+        (b"\x00\x00\xcf\xbf\xc0\xff\x0f", 5, MoveFault::NoMan),
+        (b"\x00\x00\x10\x0c\x0f", 2, MoveFault::Value),
+        (b"\x00\x00\xcf\x0a\x0f", 3, MoveFault::Illegal),
+    ];
+    for (game, place, fault) in refused {
+        let (status, written) = run_twice(alloc, game, E4_D5)?;
+        let want = Status::BadMove {
+            game: 0,
+            place,
+            fault,
+        };
+        assert_eq!(rt; status, want);
         assert!(rt; written.is_empty());
     }
     Ok(())

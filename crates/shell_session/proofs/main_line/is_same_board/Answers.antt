@@ -1,6 +1,6 @@
 use Rattle.std.proofs.Common.{◌≡◌, true, rules}
 use Rattle.std.proofs.lemmas.Slice.Eq.{slice_eq-Decides}
-use Rattle.shell_session.proofs.plain_record.is_same_board.Goals as goal
+use Rattle.shell_session.proofs.main_line.is_same_board.Goals as goal
 
 pub returns : goal.returns
 returns c =
