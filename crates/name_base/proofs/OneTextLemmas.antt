@@ -65,8 +65,8 @@ one_list (x ∷ xs) [] rx ry f g = absurd (f x (inl refl))
 one_list (x ∷ xs) (y ∷ ys) rx ry f g =
     let same : x ≡ y = same_first x y xs ys rx.0 ry.0 (f x (inl refl)) (g y (inl refl)) in
     let others = one_list xs ys rx.1 ry.1
-      (λ r i. not_first r y ys (λ e. never_less r.name (subst (λ (q : Row). cmp q.name r.name ≡ Less) (same ∙ sym e) (all_in (λ q. cmp x.name q.name ≡ Less) xs r rx.0 i))) (f r (inr i)))
-      (λ r i. not_first r x xs (λ e. never_less r.name (subst (λ (q : Row). cmp q.name r.name ≡ Less) (sym same ∙ sym e) (all_in (λ q. cmp y.name q.name ≡ Less) ys r ry.0 i))) (g r (inr i))) in
+    (λ r i. not_first r y ys (λ e. never_less r.name (subst (λ (q : Row). cmp q.name r.name ≡ Less) (same ∙ sym e) (all_in (λ q. cmp x.name q.name ≡ Less) xs r rx.0 i))) (f r (inr i)))
+    (λ r i. not_first r x xs (λ e. never_less r.name (subst (λ (q : Row). cmp q.name r.name ≡ Less) (sym same ∙ sym e) (all_in (λ q. cmp y.name q.name ≡ Less) ys r ry.0 i))) (g r (inr i))) in
     λ i. same i ∷ others i
 
 -- names that do not fall and differ rise
@@ -92,8 +92,8 @@ names_rise rows sorted once = sorted_from_all_adjacent nat_list_cmp_total (map (
         let a = get_or-map (λ r. r.name) rows k none [] (omega arith) in
         let b = get_or-map (λ r. r.name) rows (k + 1) none [] long in
         less_from (get_or (map (λ r. r.name) rows) k []) (get_or (map (λ r. r.name) rows) (k + 1) [])
-          ((λ i. is_lt (cmp (b i) (a i))) ∙ sorted k none (omega arith) long)
-          (apart_from_distinct bytes_eq (map (λ r. r.name) rows) k (k + 1) [] once (omega arith) lt)
+        ((λ i. is_lt (cmp (b i) (a i))) ∙ sorted k none (omega arith) long)
+        (apart_from_distinct bytes_eq (map (λ r. r.name) rows) k (k + 1) [] once (omega arith) lt)
 
 rises_from : (rows : List Row) → IsStrictlySortedBy (slice_cmp nat_cmp) (map (λ r. r.name) rows) → Rises rows
 unfolding IsStrictlySortedBy
@@ -110,7 +110,7 @@ one_order limit names fs xs ys are frequencies ox oy =
     let once_x = IsDistinct-IsPermutation bytes_eq bytes_equiv.symm (map (λ r. r.name) (rows_from 0 names fs)) (map (λ r. r.name) xs) (IsPermutation-map (λ r. r.name) (rows_from 0 names fs) xs ox.same) once in
     let once_y = IsDistinct-IsPermutation bytes_eq bytes_equiv.symm (map (λ r. r.name) (rows_from 0 names fs)) (map (λ r. r.name) ys) (IsPermutation-map (λ r. r.name) (rows_from 0 names fs) ys oy.same) once in
     one_list xs ys (rises_from xs (names_rise xs ox.sorted once_x)) (rises_from ys (names_rise ys oy.sorted once_y))
-      (within (rows_from 0 names fs) xs ys ox.same oy.same) (within (rows_from 0 names fs) ys xs oy.same ox.same)
+    (within (rows_from 0 names fs) xs ys ox.same oy.same) (within (rows_from 0 names fs) ys xs oy.same ox.same)
 
 -- two written forms of the same lists are one
 pub one_text : (lists : NameLists) (f : Frequencies) (a b : List ℕ) → AreSound lists → AreFrequencies lists.players f.players → AreFrequencies lists.events f.events → AreFrequencies lists.sites f.sites → AreFrequencies lists.rounds f.rounds
@@ -122,6 +122,6 @@ one_text lists f a b sound fp fe fs fr ta tb =
     let rounds = one_order 262144 lists.rounds f.rounds ta.rounds tb.rounds sound.rounds fr ta.round_order tb.round_order in
     ta.text
     ∙ (λ i. header_bytes (0 ∷ 0 ∷ 0 ∷ 0 ∷ []) (header_of lists f)
-        (rows_bytes (player_shape (header_of lists f)) (players i) (rows_bytes (event_shape (header_of lists f)) (events i)
-        (rows_bytes (site_shape (header_of lists f)) (sites i) (rows_bytes (round_shape (header_of lists f)) (rounds i) [])))))
+    (rows_bytes (player_shape (header_of lists f)) (players i) (rows_bytes (event_shape (header_of lists f)) (events i)
+    (rows_bytes (site_shape (header_of lists f)) (sites i) (rows_bytes (round_shape (header_of lists f)) (rounds i) [])))))
     ∙ sym tb.text

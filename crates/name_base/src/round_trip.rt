@@ -18,5 +18,4 @@ pub fn written_form_is_one()
         → AreFrequencies lists.players f.players → AreFrequencies lists.events f.events
         → AreFrequencies lists.sites f.sites → AreFrequencies lists.rounds f.rounds
         → IsNamesText lists f a → IsNamesText lists f b → a ≡ b }
-{
-}
+{}
