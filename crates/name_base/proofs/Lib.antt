@@ -8,3 +8,4 @@ pub mod LoopLemmas
 pub mod FileLemmas
 pub mod TextLemmas
 pub mod AgainLemmas
+pub mod OneTextLemmas

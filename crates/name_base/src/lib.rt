@@ -18,7 +18,7 @@ pub use fault::{NameFault, NameWhat, NamesError};
 pub use kind::NameKind;
 pub use name_lists::{AddError, Names};
 pub use reading::read_names;
-pub use round_trip::written_names_are_read;
+pub use round_trip::{written_form_is_one, written_names_are_read};
 pub use writing::write_names;
 
 #[cfg(test)]

@@ -1,5 +1,5 @@
 //! What is written is read again.
-ghost use Rattle.std.specs.Prelude.{List, ℕ};
+ghost use Rattle.std.specs.Prelude.{◌≡◌, List, ℕ};
 ghost use Rattle.name_base.specs.NameLists.{NameLists, AreSound};
 ghost use Rattle.name_base.specs.NamesFile.{NameFile};
 ghost use Rattle.name_base.specs.NamesText.{Frequencies, AreFrequencies, IsNamesText};
@@ -10,4 +10,12 @@ pub fn written_names_are_read()
         → AreFrequencies lists.players f.players → AreFrequencies lists.events f.events
         → AreFrequencies lists.sites f.sites → AreFrequencies lists.rounds f.rounds
         → IsNamesText lists f bytes → NameFile bytes lists }
+{}
+
+/// A law: names with these frequencies have one written form.
+pub fn written_form_is_one()
+    ensures { (lists : NameLists) (f : Frequencies) (a b : List ℕ) → AreSound lists
+        → AreFrequencies lists.players f.players → AreFrequencies lists.events f.events
+        → AreFrequencies lists.sites f.sites → AreFrequencies lists.rounds f.rounds
+        → IsNamesText lists f a → IsNamesText lists f b → a ≡ b }
 {}
