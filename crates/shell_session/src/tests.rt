@@ -278,6 +278,13 @@ fn refuses_scripts_of_another_form(rt: HostRuntime) -> Result<(), Fail> {
         &NONE,
     )?;
     assert_eq!(rt; status, Status::Done);
+    Ok(())
+}
+
+#[test]
+fn refuses_a_script_without_an_end(rt: HostRuntime) -> Result<(), Fail> {
+    let alloc = rt.alloc();
+    let index = index_of(alloc, HEAD, [(0, 6), (6, 6)])?;
     let mut words = Vec::new(alloc);
     words.push(String::from_str(alloc, "base")?)?;
     let games = Vec::from_slice(alloc, PAWNS)?;
@@ -287,6 +294,39 @@ fn refuses_scripts_of_another_form(rt: HostRuntime) -> Result<(), Fail> {
     let status = session(alloc, words.as_slice(), &mut files, &mut endless, &mut out);
     assert_eq!(rt; status, Status::Later(LaterWhat::Script));
     assert!(rt; out.taken().is_empty());
+    Ok(())
+}
+
+/// The status after a script of so many bytes `x`, moved a byte a call, of which the call with this number fails.
+fn status_of_long_script(alloc: Global, len: usize, call: u64) -> Result<Status, AllocError> {
+    let index = index_of(alloc, HEAD, [(0, 6), (6, 6)])?;
+    let script = vec![in alloc; b'x'; len]?;
+    let fails = Fails {
+        input: &[call],
+        ..NONE
+    };
+    let (status, _) = run(
+        alloc,
+        &["base"],
+        index.as_slice(),
+        PAWNS,
+        script.as_slice(),
+        &fails,
+    )?;
+    Ok(status)
+}
+
+#[test]
+fn reads_no_more_than_the_limit(rt: HostRuntime) -> Result<(), Fail> {
+    let alloc = rt.alloc();
+    // of 4,096 bytes the end is asked for; of 4,097 the last one decides
+    assert_eq!(rt;
+        status_of_long_script(alloc, 4096, 4096)?,
+        Status::ReadFault
+    );
+    let script = Status::Later(LaterWhat::Script);
+    assert_eq!(rt; status_of_long_script(alloc, 4096, 4097)?, script);
+    assert_eq!(rt; status_of_long_script(alloc, 4097, 4097)?, script);
     Ok(())
 }
 
