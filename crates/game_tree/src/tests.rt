@@ -377,7 +377,11 @@ fn items_make_a_tree(rt: HostRuntime) -> Result<(), Fail> {
     assert!(rt; moves.as_slice() == [mv(12, 28), mv(52, 36)].as_slice());
     assert!(rt; game.line.len() == 2);
     let copy = game.copied(rt.alloc())?;
-    assert!(rt; copy.lead.as_ref().is_some_and(|lead| lead.as_bytes() == b"s".as_slice()));
+    assert!(rt;
+        copy.lead
+            .as_ref()
+            .is_some_and(|lead| lead.as_bytes() == b"s".as_slice())
+    );
     let mut out = Vec::new(rt.alloc());
     print_line(rt.alloc(), copy.line.as_slice(), &mut out)?;
     assert!(rt; out.as_slice() == PRINTED.as_slice());
