@@ -40,5 +40,3 @@ line_steps p (goes mv nags comment variations line) legal (suc k) m e = line_ste
 -- the replay of a legal game goes by legal moves
 pub IsLegalGame-steps : (g : GameTree) → IsLegalGame g → (k : ℕ) (m : Move) → next_at g k ≡ Some m → Step (position_at g k) m (position_at g (k + 1))
 IsLegalGame-steps g legal k m e = rw add-one (line_steps g.start g.line legal.line k m e)
-
-pub ruleset replay = (IsLegalGame-steps)

@@ -12,7 +12,6 @@ use chess_laws::Position;
 
 /// Whether each line of the game is a chain of legal moves from its own position, at most 200 variations are open at
 /// one place, and no comment is empty.
-#[tactic(auto, using(crate::proofs::LegalLemmas::replay))]
 pub fn legal(g: &Game) -> bool
     ensures legal { IsTrue result ↔ IsLegalGame g.now }
 
