@@ -1,0 +1,1 @@
+-- The tree is what the script means.

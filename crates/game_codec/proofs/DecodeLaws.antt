@@ -1,0 +1,1 @@
+-- A record has one reading, and it is the one that the code makes.

@@ -1,0 +1,1 @@
+-- What may stand at a place of a record's moves is one item or one fault.

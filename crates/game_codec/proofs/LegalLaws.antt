@@ -1,0 +1,1 @@
+-- A game that a record spells is legal.

@@ -1,0 +1,11 @@
+pub mod SameFault
+pub mod TagLaws
+pub mod StartLaws
+pub mod TextLaws
+pub mod ItemLaws
+pub mod ScanLaws
+pub mod ScriptLaws
+pub mod BuildLaws
+pub mod LegalLaws
+pub mod WrittenLaws
+pub mod DecodeLaws

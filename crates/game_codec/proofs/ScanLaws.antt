@@ -1,0 +1,1 @@
+-- The items of a record's moves have one reading.

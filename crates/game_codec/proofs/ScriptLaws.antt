@@ -1,0 +1,1 @@
+-- The items one behind the other are those of a script, and a script's are read so.

@@ -1,0 +1,1 @@
+-- The start of a record has one reading.

@@ -1,0 +1,1 @@
+-- The tags of a record have one reading.

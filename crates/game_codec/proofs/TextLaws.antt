@@ -1,0 +1,1 @@
+-- The texts of a record's comments have one reading.

@@ -1,0 +1,1 @@
+-- The written form is a record of the game and the tags.

@@ -1,0 +1,86 @@
+-- The first fault of bytes that are no record (this project's own): all that stands before it is as in a record.
+use Rattle.std.specs.Prelude.{◌≡◌, ℕ, ◌-◌, ◌⊎◌, List, length}
+use Rattle.game_tree.specs.Items.{Script}
+use Rattle.game_tree.specs.declared.head.Tag.{Tag}
+use Rattle.move_codec.specs.Numbers.{Numbered}
+use Rattle.move_codec.specs.declared.fault.MoveFault.TheVariants as move
+use Rattle.game_codec.specs.TagSpelling.{BeginsTags}
+use Rattle.game_codec.specs.TagReading.{BreaksTags}
+use Rattle.game_codec.specs.Start.{BeginsStart, BreaksStart}
+use Rattle.game_codec.specs.Place.{beginning}
+use Rattle.game_codec.specs.Moves.{SpellsMoves, Upto, BreaksMoves}
+use Rattle.game_codec.specs.Texts.{BreaksTexts, texts_of}
+use Rattle.game_codec.specs.declared.fault.DecodeError.{DecodeError}
+use Rattle.game_codec.specs.declared.fault.DecodeError.TheVariants as error
+use Rattle.game_codec.specs.declared.fault.RecordFault.{RecordFault}
+use Rattle.game_codec.specs.declared.fault.RecordWhat.{RecordWhat}
+use Rattle.game_codec.specs.declared.fault.RecordWhat.TheVariants as what
+
+-- the fault stands in the tags
+pub record BreaksInTags (bytes rest : List ℕ) (what : RecordWhat) : Type 0 where
+  pub tags : List Tag
+  pub breaks : BreaksTags bytes tags rest what
+
+-- in the start, behind whole tags
+pub record BreaksInStart (bytes rest : List ℕ) (what : RecordWhat) : Type 0 where
+  pub tags : List Tag
+  pub behind_tags : List ℕ
+  pub tags_first : BeginsTags bytes tags behind_tags
+  pub breaks : BreaksStart behind_tags rest what
+
+-- in the moves
+pub record BreaksInMoves (bytes rest : List ℕ) (what : RecordWhat) : Type 0 where
+  pub tags : List Tag
+  pub start : Numbered
+  pub upto : Upto
+  pub behind_tags : List ℕ
+  pub behind_start : List ℕ
+  pub tags_first : BeginsTags bytes tags behind_tags
+  pub then_start : BeginsStart behind_tags start behind_start
+  pub breaks : BreaksMoves (beginning 0 start) upto behind_start rest what
+
+-- in the texts of the comments
+pub record BreaksInTexts (bytes rest : List ℕ) (what : RecordWhat) : Type 0 where
+  pub tags : List Tag
+  pub start : Numbered
+  pub script : Script
+  pub behind_tags : List ℕ
+  pub behind_start : List ℕ
+  pub behind_moves : List ℕ
+  pub tags_first : BeginsTags bytes tags behind_tags
+  pub then_start : BeginsStart behind_tags start behind_start
+  pub then_moves : SpellsMoves (beginning 0 start) script behind_start behind_moves
+  pub breaks : BreaksTexts (length (texts_of script)) behind_moves rest what
+
+-- the bytes have this fault, and these bytes stand from the faulty item on
+abbrev pub Breaks : List ℕ → List ℕ → RecordWhat → Type 0
+Breaks bytes rest what =
+    BreaksInTags bytes rest what ⊎ (BreaksInStart bytes rest what ⊎ (BreaksInMoves bytes rest what ⊎ BreaksInTexts bytes rest what))
+
+-- the place of a fault by the record's length and the bytes from the faulty item on: the item's first byte, and the
+-- record's length where it ends early
+abbrev pub place_of : ℕ → List ℕ → RecordWhat → ℕ
+place_of len rest what.Short = len
+place_of len rest (what.Move move.Short) = len
+place_of len rest (what.Move move.NoMan) = len - length rest
+place_of len rest (what.Move move.Value) = len - length rest
+place_of len rest (what.Move move.Illegal) = len - length rest
+place_of len rest what.TagCode = len - length rest
+place_of len rest what.TagName = len - length rest
+place_of len rest what.TagValue = len - length rest
+place_of len rest what.Fen = len - length rest
+place_of len rest what.Mark = len - length rest
+place_of len rest what.TwoComments = len - length rest
+place_of len rest what.Depth = len - length rest
+place_of len rest what.Extra = len - length rest
+
+-- this is the first fault of the bytes
+pub record IsRecordFault (bytes : List ℕ) (fault : RecordFault) : Type 0 where
+  pub rest : List ℕ
+  pub breaks : Breaks bytes rest fault.what
+  pub place : fault.place ≡ place_of (length bytes) rest fault.what
+
+-- an error that is no want of memory tells a fault of which this holds
+abbrev pub IfBad : (RecordFault → Type 0) → DecodeError → Type 0
+IfBad Holds (error.Bad fault) = Holds fault
+IfBad Holds error.Memory = Unit {0}

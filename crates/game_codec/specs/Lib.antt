@@ -1,0 +1,11 @@
+pub mod TagSpelling
+pub mod TagReading
+pub mod Start
+pub mod Place
+pub mod Moves
+pub mod Texts
+pub mod Record
+pub mod Fault
+pub mod Written
+pub mod Scanning
+pub mod Breach

@@ -1,0 +1,32 @@
+-- Which bytes are a record, and what they say (this project's own, after Scid's format): extra tags and a zero byte, the
+-- start, the moves, and the texts of the comments in the order of their marks.
+use Rattle.std.specs.Prelude.{◌≡◌, ℕ, List}
+use Rattle.game_tree.specs.Game.{GameTree}
+use Rattle.game_tree.specs.Items.{Script, Said, meaning}
+use Rattle.game_tree.specs.declared.head.Tag.{Tag}
+use Rattle.chess_laws.specs.declared.setup.Setup.{Setup}
+use Rattle.move_codec.specs.Numbers.{Numbered}
+use Rattle.game_codec.specs.TagSpelling.{BeginsTags, free_of}
+use Rattle.game_codec.specs.Start.{BeginsStart}
+use Rattle.game_codec.specs.Place.{beginning}
+use Rattle.game_codec.specs.Moves.{SpellsMoves}
+use Rattle.game_codec.specs.Texts.{AreTexts, texts_of}
+
+-- the game that begins at this position and of which this is said
+abbrev pub game_of : Setup → Said → GameTree
+game_of start said = record { start = start; lead = said.comment; line = said.line }
+
+-- the bytes are a record of this game and these extra tags
+pub record IsRecord (bytes : List ℕ) (tags : List Tag) (game : GameTree) : Type 0 where
+  pub all_tags : List Tag
+  pub start : Numbered
+  pub script : Script
+  pub behind_tags : List ℕ
+  pub behind_start : List ℕ
+  pub behind_moves : List ℕ
+  pub tags_first : BeginsTags bytes all_tags behind_tags
+  pub then_start : BeginsStart behind_tags start behind_start
+  pub then_moves : SpellsMoves (beginning 0 start) script behind_start behind_moves
+  pub then_texts : AreTexts behind_moves (texts_of script)
+  pub tags_are : tags ≡ free_of all_tags
+  pub game_is : game ≡ game_of start.position (meaning script)

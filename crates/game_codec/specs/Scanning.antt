@@ -1,0 +1,69 @@
+-- The items of a record one behind the other, as the code reads them. No public contract cites these words.
+use Rattle.std.specs.Prelude.{◌≡◌, ℕ, suc, List, [], ◌∷◌, Result, Ok, Err}
+use Rattle.game_tree.specs.Items.{Item, plays, glyph, note, opens, closes, Script, items_of}
+use Rattle.move_codec.specs.Numbers.{Numbered}
+use Rattle.game_codec.specs.Place.{Takes, FaultAt, beginning, after_move, after_comment, variation_of}
+use Rattle.game_codec.specs.declared.place.Place.{Place}
+use Rattle.game_codec.specs.declared.token.Token.{Token}
+use Rattle.game_codec.specs.declared.token.Token.TheVariants.{Play, Nag, Comment, Open, Close, End}
+use Rattle.game_codec.specs.declared.fault.RecordWhat.{RecordWhat}
+
+-- the place after an item in the innermost line, and the lines round it
+pub record Nest : Type 0 where
+  pub current : Place
+  pub outer : List Place
+
+abbrev pub nested_out : Place → List Place → Nest
+nested_out p [] = record { current = p; outer = [] }
+nested_out p (q ∷ outer) = record { current = q; outer = outer }
+
+abbrev pub nest_after : Nest → Token → Nest
+nest_after n (Play m) = record { current = after_move n.current m; outer = n.outer }
+nest_after n (Nag number) = n
+nest_after n Comment = record { current = after_comment n.current; outer = n.outer }
+nest_after n Open = record { current = variation_of n.current; outer = n.current ∷ n.outer }
+nest_after n Close = nested_out n.current n.outer
+nest_after n End = n
+
+-- the beginning of a game
+abbrev pub nest_of : Numbered → Nest
+nest_of start = record { current = beginning 0 start; outer = [] }
+
+-- what stops the reading of items: the end of the game, with the bytes behind it, or a fault, with the bytes from it on
+abbrev pub Stop : Type 0
+Stop = Result (List ℕ) (List ℕ × RecordWhat)
+
+abbrev pub StopsAt : Nest → List ℕ → Stop → Type 0
+StopsAt n bytes (Ok rest) = Takes n.current bytes End rest
+StopsAt n bytes (Err fault) = (fault.0 ≡ bytes) × FaultAt n.current bytes fault.1
+
+-- the bytes begin with these items, and then this stops the reading
+abbrev pub Scans : Nest → List ℕ → List Token → Stop → Type 0
+Scans n bytes [] stop = StopsAt n bytes stop
+Scans n bytes (token ∷ tokens) stop =
+    (later : List ℕ) × Takes n.current bytes token later × Scans (nest_after n token) later tokens stop
+
+-- how many comments are among the items
+abbrev pub comments_in : List Token → ℕ
+comments_in [] = 0
+comments_in (Play m ∷ tokens) = comments_in tokens
+comments_in (Nag n ∷ tokens) = comments_in tokens
+comments_in (Comment ∷ tokens) = suc (comments_in tokens)
+comments_in (Open ∷ tokens) = comments_in tokens
+comments_in (Close ∷ tokens) = comments_in tokens
+comments_in (End ∷ tokens) = comments_in tokens
+
+-- the items of a tree, with the texts of their comments dealt out in order
+abbrev pub dealt : List Token → List (List ℕ) → List Item
+dealt [] texts = []
+dealt (Play m ∷ tokens) texts = plays m ∷ dealt tokens texts
+dealt (Nag n ∷ tokens) texts = glyph n ∷ dealt tokens texts
+dealt (Comment ∷ tokens) [] = note [] ∷ dealt tokens []
+dealt (Comment ∷ tokens) (text ∷ texts) = note text ∷ dealt tokens texts
+dealt (Open ∷ tokens) texts = opens ∷ dealt tokens texts
+dealt (Close ∷ tokens) texts = closes ∷ dealt tokens texts
+dealt (End ∷ tokens) texts = dealt tokens texts
+
+-- whatever the texts are, the items are those of a script
+abbrev pub AreScripted : List Token → Type 0
+AreScripted tokens = (texts : List (List ℕ)) → (s : Script) × (items_of s ≡ dealt tokens texts)

@@ -1,0 +1,63 @@
+-- The extra tags of a record (this project's own, after Scid's format): each is its name's length, its name, its value's
+-- length and its value; or a code that stands for a common name, and then the value; or the code 255 and a packed date.
+use Rattle.std.specs.Prelude.{◌≡◌, ℕ, ◌+◌, ◌*◌, ◌/◌, ◌%◌, ◌⊎◌, Bool, not, List, [], ◌∷◌, ◌++◌, Option, Some, None, Result, Ok, Err, length, filter, slice_get, codes}
+use Rattle.game_tree.specs.Date.{IsDate, date_text}
+use Rattle.game_tree.specs.Head.{IsName}
+use Rattle.game_tree.specs.TagName.{IsTagName, is_reserved}
+use Rattle.game_tree.specs.declared.date.Date.{Date}
+use Rattle.game_tree.specs.declared.head.Tag.{Tag}
+
+-- the names of the codes from 241 on
+abbrev pub coded_names : List (List ℕ)
+coded_names =
+    codes "WhiteCountry" ∷ codes "BlackCountry" ∷ codes "Annotator" ∷ codes "PlyCount" ∷ codes "EventDate"
+    ∷ codes "Opening" ∷ codes "Variation" ∷ codes "Setup" ∷ codes "Source" ∷ codes "SetUp" ∷ []
+
+-- a text behind its length
+abbrev pub counted : List ℕ → List ℕ
+counted text = length text ∷ text
+
+-- a tag with its name written out
+pub record IsSpelledOut (bytes : List ℕ) (tag : Tag) : Type 0 where
+  pub name : IsTagName tag.name
+  pub value : IsName tag.value
+  pub spelled : bytes ≡ counted tag.name ++ counted tag.value
+
+-- a tag with a code for its name: 241 for the first of the names, and so on
+pub record IsCoded (bytes : List ℕ) (tag : Tag) : Type 0 where
+  pub number : ℕ
+  pub name : slice_get coded_names number ≡ Some tag.name
+  pub value : IsName tag.value
+  pub spelled : bytes ≡ (241 + number) ∷ counted tag.value
+
+-- a date as a number of three bytes
+abbrev pub date_number : Date → ℕ
+date_number d = d.year * 512 + d.month * 32 + d.day
+
+-- the tag EventDate with a packed date, whose text is its value
+pub record IsDated (bytes : List ℕ) (tag : Tag) : Type 0 where
+  pub date : Date
+  pub kept : IsDate date
+  pub name : tag.name ≡ codes "EventDate"
+  pub value : tag.value ≡ date_text date
+  pub spelled : bytes ≡ 255 ∷ date_number date / 65536 ∷ date_number date / 256 % 256 ∷ date_number date % 256 ∷ []
+
+-- the bytes spell the tag
+abbrev pub SpellsTag : List ℕ → Tag → Type 0
+SpellsTag bytes tag = IsSpelledOut bytes tag ⊎ (IsCoded bytes tag ⊎ IsDated bytes tag)
+
+-- the bytes begin with a spelling of the tag, and these bytes follow it
+abbrev pub BeginsTag : List ℕ → Tag → List ℕ → Type 0
+BeginsTag bytes tag later = (spelled : List ℕ) × SpellsTag spelled tag × (bytes ≡ spelled ++ later)
+
+-- the bytes begin with spellings of the tags in their order and the zero byte behind them, and these bytes follow
+abbrev pub BeginsTags : List ℕ → List Tag → List ℕ → Type 0
+BeginsTags bytes [] rest = bytes ≡ 0 ∷ rest
+BeginsTags bytes (tag ∷ tags) rest = (later : List ℕ) × BeginsTag bytes tag later × BeginsTags later tags rest
+
+-- the tags without those of reserved names, which a game has by other means
+abbrev pub is_free : Tag → Bool
+is_free tag = not (is_reserved tag.name)
+
+abbrev pub free_of : List Tag → List Tag
+free_of tags = filter is_free tags

@@ -1,0 +1,45 @@
+-- The texts of a record's comments, behind its moves: each is ended by a zero byte (this project's own, after Scid's
+-- format).
+use Rattle.std.specs.Prelude.{◌≡◌, ◌≢◌, ℕ, ◌<◌, List, [], ◌∷◌, ◌++◌, length, All}
+use Rattle.cell_core.specs.Text.{IsZeroFree}
+use Rattle.game_tree.specs.Items.{Script, stop, play, nag, mark, vary}
+use Rattle.game_codec.specs.declared.fault.RecordWhat.{RecordWhat}
+use Rattle.game_codec.specs.declared.fault.RecordWhat.TheVariants as what
+
+-- the texts of a script's comments in the order of their marks
+abbrev pub texts_of : Script → List (List ℕ)
+texts_of stop = []
+texts_of (play m s) = texts_of s
+texts_of (nag n s) = texts_of s
+texts_of (mark text s) = text ∷ texts_of s
+texts_of (vary inner s) = texts_of inner ++ texts_of s
+
+-- these texts, each with a zero byte behind it
+abbrev pub ended : List (List ℕ) → List ℕ
+ended [] = []
+ended (text ∷ texts) = text ++ 0 ∷ ended texts
+
+-- the bytes are these texts, of which none has a zero byte
+pub record AreTexts (bytes : List ℕ) (texts : List (List ℕ)) : Type 0 where
+  pub spelled : bytes ≡ ended texts
+  pub zero_free : All IsZeroFree texts
+
+-- behind so many texts, of as many as are due, stands no whole text, or there is more
+abbrev pub TextFault : ℕ → ℕ → List ℕ → RecordWhat → Type 0
+TextFault read due rest what.Short = (read < due) × IsZeroFree rest
+TextFault read due rest what.Extra = (read ≡ due) × (rest ≢ [])
+TextFault read due rest what.TagCode = ⊥
+TextFault read due rest what.TagName = ⊥
+TextFault read due rest what.TagValue = ⊥
+TextFault read due rest what.Fen = ⊥
+TextFault read due rest (what.Move fault) = ⊥
+TextFault read due rest what.Mark = ⊥
+TextFault read due rest what.TwoComments = ⊥
+TextFault read due rest what.Depth = ⊥
+
+-- the bytes begin with some texts, and what follows them, from there on, has this fault, where so many texts are due
+pub record BreaksTexts (due : ℕ) (bytes rest : List ℕ) (what : RecordWhat) : Type 0 where
+  pub texts : List (List ℕ)
+  pub zero_free : All IsZeroFree texts
+  pub spelled : bytes ≡ ended texts ++ rest
+  pub fault : TextFault (length texts) due rest what

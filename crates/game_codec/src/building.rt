@@ -1,0 +1,74 @@
+ghost use Rattle.std.specs.Prelude.{◌≡◌, ℕ, List, length, IfOk, IfErr};
+ghost use Rattle.game_tree.specs.Items.{Script, items_of, meaning};
+ghost use Rattle.game_tree.specs.Building.{Gives};
+ghost use Rattle.game_codec.specs.Breach.{TellsBad};
+ghost use Rattle.game_codec.specs.Scanning.{AreScripted, comments_in, dealt};
+ghost use Rattle.game_codec.specs.Texts.{AreTexts, BreaksTexts};
+
+use super::breach::{Breach, Refusal};
+use super::fault::RecordWhat;
+use super::texts::zero_at;
+use super::token::Token;
+use cell_core::Text;
+use game_tree::{Branch, Builder};
+use std::alloc::Global;
+
+/// Makes the tree of a game's items, each comment with the next of the texts that stand behind the moves. The texts end
+/// where the record does.
+pub(crate) fn build(alloc: Global, tokens: &[Token], bytes: &[u8]) -> Result<Branch, Refusal>
+    requires scripted { AreScripted tokens.now }
+    ensures ok { IfOk result (λ branch. (texts : List (List ℕ)) × (AreTexts bytes.now texts × ((length texts ≡ comments_in tokens.now)
+        × ((s : Script) → items_of s ≡ dealt tokens.now texts → Gives branch (meaning s).comment (meaning s).line)))) }
+    ensures err { IfErr result (TellsBad (BreaksTexts (comments_in tokens.now) bytes.now)) }
+{
+    let mut builder = Builder::new(alloc);
+    let mut rest = bytes;
+    for token in tokens {
+        let added = add(alloc, builder, token, rest)?;
+        rest = rest.split_at(added.used).1;
+        builder = added.builder;
+    }
+    if !rest.is_empty() {
+        return Err(Refusal::Bad(Breach {
+            left: rest.len(),
+            what: RecordWhat::Extra,
+        }));
+    }
+    Ok(builder.finish()?)
+}
+
+/// The builder after an item, and how many bytes of the texts the item took.
+#[derive(Drop)]
+struct Added {
+    builder: Builder,
+    used: usize,
+}
+
+/// Adds an item, a comment with the text that the bytes begin with.
+fn add(alloc: Global, builder: Builder, token: &Token, bytes: &[u8]) -> Result<Added, Refusal> {
+    let builder = match *token {
+        Token::Comment => return add_comment(alloc, builder, bytes),
+        Token::Play(m) => builder.play(alloc, m)?,
+        Token::Nag(nag) => builder.annotate(nag)?,
+        Token::Open => builder.open(alloc)?,
+        Token::Close => builder.close()?,
+        Token::End => builder,
+    };
+    Ok(Added { builder, used: 0 })
+}
+
+/// Adds a comment with the text that the bytes begin with.
+fn add_comment(alloc: Global, builder: Builder, bytes: &[u8]) -> Result<Added, Refusal> {
+    let Some(len) = zero_at(bytes) else {
+        return Err(Refusal::Bad(Breach {
+            left: bytes.len(),
+            what: RecordWhat::Short,
+        }));
+    };
+    let text = Text::from_zero_free(Vec::from_slice(alloc, bytes.split_at(len).0)?);
+    let builder = builder.comment(text)?;
+    Ok(Added {
+        builder,
+        used: len + 1,
+    })
+}

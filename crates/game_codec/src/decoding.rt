@@ -1,0 +1,70 @@
+ghost use Rattle.std.specs.Prelude.{◌≡◌, ◌<◌, ◌^◌, ◌⊎◌, List, All, length, IfOk, IfErr, MatchResult};
+ghost use Rattle.game_tree.specs.Game.{GameTree};
+ghost use Rattle.game_tree.specs.Head.{IsTag};
+ghost use Rattle.game_tree.specs.Legal.{IsLegalGame};
+ghost use Rattle.game_tree.specs.declared.head.Tag.{Tag as TagValue};
+ghost use Rattle.game_codec.specs.Record.{IsRecord};
+ghost use Rattle.game_codec.specs.Fault.{IsRecordFault, IfBad};
+ghost use Rattle.game_codec.specs.declared.fault.RecordFault.{RecordFault as Fault};
+ghost use Rattle.game_codec.specs.declared.fault.DecodeError.TheVariants.{Bad, Memory};
+
+use super::breach::Refusal;
+use super::building::build;
+use super::fault::{DecodeError, RecordFault, RecordWhat};
+use super::scanning::scan;
+use super::start::read_start;
+use super::tags::read_tags;
+use game_tree::{Branch, Game, Tag};
+use move_codec::MoveFault;
+use std::alloc::Global;
+
+/// The game and the extra tags that a record has, in the order of its bytes and without tags of reserved names; or its
+/// first fault. `Memory` comes for want of memory alone. A record has fewer than 2^32 bytes.
+pub fn decode_game(alloc: Global, bytes: &[u8]) -> Result<(Game, Vec<Tag>), DecodeError>
+    requires few { length bytes.now < 2 ^ 32 }
+    // What is decoded is what the bytes say, and where they say a game it is decoded.
+    ensures found { IfOk result (λ decoded. IsRecord bytes.now decoded.1.items decoded.0) }
+    ensures only { (tags : List TagValue) (game : GameTree) → IsRecord bytes.now tags game
+        → MatchResult result (λ decoded. (decoded.1.items ≡ tags) × (decoded.0 ≡ game)) (λ error. error ≡ Memory) }
+    // What is told is the first fault of the bytes, and where they have one it is told.
+    ensures fault { IfErr result (IfBad (IsRecordFault bytes.now)) }
+    ensures first { (fault : Fault) → IsRecordFault bytes.now fault
+        → MatchResult result (λ decoded. ⊥) (λ error. (error ≡ Bad fault) ⊎ (error ≡ Memory)) }
+    // The game is legal, and the tags are within their bounds.
+    ensures legal { IfOk result (λ decoded. IsLegalGame decoded.0) }
+    ensures tags { IfOk result (λ decoded. All IsTag decoded.1.items) }
+{
+    match read_record(alloc, bytes) {
+        Ok((game, tags)) => Ok((game, tags)),
+        Err(Refusal::Memory) => Err(DecodeError::Memory),
+        Err(Refusal::Bad(breach)) => Err(DecodeError::Bad(RecordFault {
+            place: place_of(bytes.len(), breach.left, breach.what),
+            what: breach.what,
+        })),
+    }
+}
+
+/// The same with a fault by the number of bytes from the faulty item on.
+fn read_record(alloc: Global, bytes: &[u8]) -> Result<(Game, Vec<Tag>), Refusal> {
+    let tags = read_tags(alloc, bytes)?;
+    let (_, behind_tags) = bytes.split_at(tags.used);
+    let start = read_start(behind_tags)?;
+    let (_, behind_start) = behind_tags.split_at(start.used);
+    let scanned = scan(alloc, &start.start, behind_start)?;
+    let (_, behind_moves) = behind_start.split_at(scanned.used);
+    let Branch { lead, line } = build(alloc, scanned.tokens.as_slice(), behind_moves)?;
+    let game = Game {
+        start: *start.start.position(),
+        lead,
+        line,
+    };
+    Ok((game, tags.tags))
+}
+
+/// The place of a fault, by the length of the record and the number of bytes from the faulty item on.
+fn place_of(len: usize, left: usize, what: RecordWhat) -> u32 {
+    match what {
+        RecordWhat::Short | RecordWhat::Move(MoveFault::Short) => len as u32,
+        _ => (len - left) as u32,
+    }
+}

@@ -1,0 +1,87 @@
+ghost use Rattle.std.specs.Prelude.{◌≡◌, ◌<◌, ◌≤◌, ℕ, List, All, length, IfOk, IfErr};
+ghost use Rattle.game_tree.specs.Head.{IsTag};
+ghost use Rattle.game_tree.specs.Legal.{IsLegalGame};
+ghost use Rattle.game_codec.specs.Record.{IsRecord};
+ghost use Rattle.game_codec.specs.Written.{IsWrittenRecord, IfTooLong};
+
+use super::fault::EncodeError;
+use super::flags::promotion_flags;
+use super::moves::{Body, put_line};
+use cell_core::Text;
+use chess_laws::Position;
+use chess_text::write_fen;
+use game_tree::{Game, Tag};
+use move_codec::Numbered;
+use std::alloc::{AllocError, Global};
+
+/// The greatest length of a record, in bytes.
+const GREATEST_LENGTH: usize = 131_071;
+
+/// The record of a legal game with these extra tags, which are within their bounds: its one written form. It is read again
+/// as the same game and the same tags. `TooLong` comes exactly where it would have more than 131,071 bytes.
+pub fn encode_game(alloc: Global, g: &Game, tags: &[Tag]) -> Result<Vec<u8>, EncodeError>
+    requires legal { IsLegalGame g.now }
+    requires tags { All IsTag tags.now }
+    ensures written { IfOk result (λ bytes. IsWrittenRecord bytes.items tags.now g.now) }
+    ensures fits { IfOk result (λ bytes. length bytes.items ≤ 131071) }
+    ensures read_again { IfOk result (λ bytes. IsRecord bytes.items tags.now g.now) }
+    ensures too_long { IfErr result (IfTooLong (λ n. (bytes : List ℕ) × (IsWrittenRecord bytes tags.now g.now × ((n ≡ length bytes) × (131071 < n))))) }
+{
+    let bytes = whole_record(alloc, g, tags)?;
+    let len = bytes.len();
+    if len > GREATEST_LENGTH {
+        Err(EncodeError::TooLong(len as u64))
+    } else {
+        Ok(bytes)
+    }
+}
+
+/// The record, however long it is.
+fn whole_record(alloc: Global, g: &Game, tags: &[Tag]) -> Result<Vec<u8>, AllocError> {
+    let mut out = Vec::new(alloc);
+    for tag in tags {
+        put_counted(&mut out, &tag.name)?;
+        put_counted(&mut out, &tag.value)?;
+    }
+    out.push(0)?;
+    let start = put_start(
+        alloc,
+        &mut out,
+        &g.start,
+        promotion_flags(g.line.as_slice()),
+    )?;
+    let mut body = Body::new(alloc);
+    put_line(&mut body, &start, &g.lead, g.line.as_slice())?;
+    out.extend_from_slice(body.moves.as_slice())?;
+    out.push(15)?;
+    out.extend_from_slice(body.texts.as_slice())?;
+    Ok(out)
+}
+
+/// Adds a text of at most 255 bytes behind its length.
+fn put_counted(out: &mut Vec<u8>, text: &Text) -> Result<(), AllocError>
+    requires short { length text.now ≤ 255 }
+{
+    out.push(text.len() as u8)?;
+    out.extend_from_slice(text.as_bytes())?;
+    Ok(())
+}
+
+/// Adds the flags, and the FEN of a start other than the initial position; gives the start with the numbers that its men
+/// have in the record.
+fn put_start(
+    alloc: Global,
+    out: &mut Vec<u8>,
+    start: &Position,
+    flags: u8,
+) -> Result<Numbered, AllocError> {
+    if *start.setup() == *Position::start().setup() {
+        out.push(flags)?;
+        return Ok(Numbered::standard());
+    }
+    out.push(1 + flags)?;
+    let fen = write_fen(alloc, start)?;
+    out.extend_from_slice(fen.as_bytes())?;
+    out.push(0)?;
+    Ok(Numbered::from_start(*start))
+}

@@ -1,0 +1,65 @@
+ghost use Rattle.std.specs.Prelude.{◌≡◌};
+ghost use Rattle.game_codec.specs.declared.fault.EncodeError.TheVariants as encode;
+
+use move_codec::MoveFault;
+use std::alloc::AllocError;
+
+/// What is wrong at a place of a record. The first fault of the bytes counts.
+#[derive(Clone, Copy, Debug, PartialEq, Eq)]
+pub enum RecordWhat {
+    /// An extra tag begins with a code from 251 to 254, which stands for no name.
+    TagCode,
+    /// A byte of an extra tag's name is none that a name may have.
+    TagName,
+    /// A value has a zero byte, or a packed date has a year above 2047 or a month above 12.
+    TagValue,
+    /// The text of an own start is no FEN.
+    Fen,
+    /// A move is faulty.
+    Move(MoveFault),
+    /// A glyph or a variation stands before the first move of its line, or the end of a variation in the main line, or the
+    /// end of the game in a variation.
+    Mark,
+    /// A second comment stands at one place.
+    TwoComments,
+    /// More than 200 variations are open.
+    Depth,
+    /// Bytes follow the last comment.
+    Extra,
+    /// The record ends early.
+    Short,
+}
+
+/// The first fault of a record: what is wrong, and at which byte, counted from 0. The place is the first byte of the
+/// faulty item, and the record's length where it ends early.
+#[derive(Clone, Copy, Debug, PartialEq, Eq)]
+pub struct RecordFault {
+    pub place: u32,
+    pub what: RecordWhat,
+}
+
+/// Why a record was not decoded.
+#[derive(Clone, Copy, Debug, PartialEq, Eq)]
+pub enum DecodeError {
+    /// The bytes are no record.
+    Bad(RecordFault),
+    /// Memory was refused.
+    Memory,
+}
+
+/// Why a game was not encoded.
+#[derive(Clone, Copy, Debug, PartialEq, Eq)]
+pub enum EncodeError {
+    /// The record would have this length, which is above 131,071 bytes.
+    TooLong(u64),
+    /// Memory was refused.
+    Memory,
+}
+
+impl From<AllocError> for EncodeError {
+    ghost from_gives = { λ _ error. error ≡ encode.Memory };
+
+    fn from(_refused: AllocError) -> EncodeError {
+        EncodeError::Memory
+    }
+}

@@ -1,0 +1,12 @@
+use cell_core::Move;
+
+/// One item of a record's moves. A comment has its text behind the moves.
+#[derive(Clone, Copy, Debug, PartialEq, Eq)]
+pub enum Token {
+    Play(Move),
+    Nag(u8),
+    Comment,
+    Open,
+    Close,
+    End,
+}
