@@ -1,5 +1,5 @@
 -- Number 0 stays the king's.
-use Rattle.std.proofs.Common.{◌≡◌, ◌≢◌, ℕ, zero, suc, ◌<◌, true, false, eqb, List, [], ◌∷◌, Some, length, slice_get, inl, inr, refl, sym, ◌∙◌, ap, subst, one-add, arith}
+use Rattle.std.proofs.Common.{◌≡◌, ◌≢◌, ℕ, false, eqb, List, [], ◌∷◌, Some, slice_get, inl, inr, refl, sym, ◌∙◌, ap, one-add, arith}
 use Rattle.std.proofs.lemmas.Bool.{false≢true, eq-eqb, ne_eqb}
 use Rattle.std.proofs.lemmas.Option.{slice_get_within, same_Some, none-some}
 use Rattle.cell_core.specs.declared.man.Colour.{Colour}
@@ -9,15 +9,15 @@ use Rattle.cell_core.specs.declared.step.Move.{Move}
 use Rattle.cell_core.specs.Board.{Men, man_at}
 use Rattle.cell_core.specs.Man.{man, other, is_of}
 use Rattle.chess_laws.specs.declared.setup.Setup.{Setup}
-use Rattle.chess_laws.specs.declared.setup.Wing.{Wing}
 use Rattle.chess_laws.specs.declared.effect.Effect.{Effect}
 use Rattle.chess_laws.specs.declared.effect.Effect.TheVariants.{Plain, Double, Passing, Castle, Null}
-use Rattle.chess_laws.specs.Castling.{king_target, rook_home, rook_target}
-use Rattle.chess_laws.specs.Position.{Sound, Keeps, HasKings, king_square}
+use Rattle.chess_laws.specs.Castling.{rook_home, rook_target}
+use Rattle.chess_laws.specs.Position.{Sound, HasKings, king_square}
 use Rattle.chess_laws.specs.Legal.{king_after}
 use Rattle.chess_laws.specs.Step.{Case, Legal, board_after, effect_of}
-use Rattle.chess_laws.proofs.Kings.{is_man-Some, king-only, king-stands}
+use Rattle.chess_laws.proofs.Kings.{is_man-Some, is_man-true, king-only, king-stands}
 use Rattle.chess_laws.proofs.Boards.{only-king}
+use Rattle.chess_laws.proofs.Keeping.{castle-apart}
 use Rattle.chess_laws.proofs.MovedKings.{Keeps-white, Keeps-black, Sound-after}
 use Rattle.move_codec.specs.Numbers.{HasKingFirst, number_of, went, without, movers_after, capture_square}
 use Rattle.move_codec.proofs.Lists.{get-set_same, get-set_other, same_or_not}
@@ -101,7 +101,7 @@ mover_first p m (Castle wing) squares sound is c first =
     let moves : m.from ≡ king = king-only p.board p.side m.from (sound.kings p.side) c.stands in
     let arrives : king_after king m ≡ m.to = rw (eq-eqb m.from king moves) refl in
     went-other (went squares m.from m.to) (king_after king m) (rook_home p.side wing) (rook_target p.side wing) (went-king squares king m first)
-    (λ same. (castle_apart p.side wing).rook_not_goal (sym same ∙ arrives ∙ ends.1))
+    (λ same. (castle-apart p.board p.side wing c.empty).rook_from_to (sym same ∙ arrives ∙ ends.1))
 mover_first p m Null squares sound is c first = went-king squares (king_square p.board p.side) m first
 
 -- both sides' kings stay first in a legal move

@@ -140,9 +140,9 @@ impl Numbered {
         ensures decodes { (rest : List ℕ) → Decodes self.now (result.items ++ rest) (Ok (m.now, length result.items)) }
         ensures apart { (byte : ℕ) × ((later : List ℕ) × ((result.items ≡ byte ∷ later) × (is_mark byte ≡ false))) }
     {
-        let side = self.position.setup().side;
+        let side = self.position.side();
         let number = self.numbers.of(side).number_of(m.from);
-        match self.position.board().at(m.from) {
+        match self.position.setup().board.at(m.from) {
             None => ArrayVec::new(),
             Some(man) => packed(number, man.kind, m),
         }
