@@ -140,7 +140,7 @@ diagonal-shortens from [] m used rest h = absurd (cc)
 diagonal-shortens from (byte ∷ later) m used rest h =
     let two : suc used ≡ 2 = to_square-takes from None 2 (diagonal_square from byte) (m, suc used) h in
     let one : used ≡ 1 = omega arith in
-    rw one (ap (to_square from None 2) refl ∙ rw one at h)
+    rw one (rw one at h)
 
 queen-shortens : (own : Bool) (from value : ℕ) (later : List ℕ)
     → Shortens (λ rest. cond own (diagonal_move from rest) (to_square from None 1 (on_line from value))) later
