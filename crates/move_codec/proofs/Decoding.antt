@@ -1,7 +1,6 @@
 -- What is decoded, from what is named and whether it is legal.
-use Rattle.std.proofs.Common.{suc, ◌<◌, ◌≤◌, length, arith, ◌≡◌, ℕ, ◌/◌, ◌%◌, Bool, true, false, cond, eqb, List, [], ◌∷◌, Option, Some, None, Ok, Err, ◌⊎◌, inl, inr, refl, sym, ◌∙◌, ap}
+use Rattle.std.proofs.Common.{suc, ◌<◌, ◌≤◌, length, arith, ◌≡◌, ℕ, ◌/◌, ◌%◌, Bool, true, false, cond, eqb, List, [], ◌∷◌, Option, Some, None, Ok, Err, ◌⊎◌, inl, inr, sym, ap}
 use Rattle.std.specs.Prelude.{Result, slice_get}
-use Rattle.std.proofs.lemmas.Bool.{cases_Bool}
 use Rattle.cell_core.specs.declared.man.Colour.{Colour}
 use Rattle.cell_core.specs.declared.man.Kind.{Kind}
 use Rattle.cell_core.specs.declared.man.Kind.TheVariants.{King, Queen, Rook, Bishop, Knight, Pawn}
@@ -72,10 +71,10 @@ Decodes-illegal n bytes decoded h illegal = (decoded, (h, illegal))
 abbrev Takes : ℕ → Result (Move × ℕ) MoveFault → Type 0
 Takes size named = (decoded : Move × ℕ) → named ≡ Ok decoded → (decoded.1 ≡ 1) ⊎ ((decoded.1 ≡ 2) × (2 ≤ size))
 
-same_ok : (a b : Move × ℕ) → ◌≡◌ {A = Result (Move × ℕ) MoveFault} (Ok a) (Ok b) → a ≡ b
+pub same_ok : (a b : Move × ℕ) → ◌≡◌ {A = Result (Move × ℕ) MoveFault} (Ok a) (Ok b) → a ≡ b
 same_ok a b h = cc
 
-to_square-takes : (from : ℕ) (promo : Option Kind) (bytes : ℕ) (square : Option ℕ) (decoded : Move × ℕ)
+pub to_square-takes : (from : ℕ) (promo : Option Kind) (bytes : ℕ) (square : Option ℕ) (decoded : Move × ℕ)
     → to_square from promo bytes square ≡ Ok decoded → decoded.1 ≡ bytes
 to_square-takes from promo bytes None decoded h = absurd (cc)
 to_square-takes from promo bytes (Some to) decoded h =

@@ -10,3 +10,5 @@ pub mod Steps
 pub mod Standard
 pub mod Text
 pub mod Decoding
+pub mod Kings
+pub mod Apart

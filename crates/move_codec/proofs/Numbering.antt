@@ -221,3 +221,18 @@ IsNumbering-without colour men later squares captured loses h =
           let test : ltb (number_of squares captured) (length squares) ≡ false = grind (arith, nat_tests) in
           rw test (kept colour men later squares captured loses h none)
     ]
+
+-- the first square stays, if it is not the captured one
+pub without-first : (squares : List ℕ) (first captured : ℕ) → slice_get squares 0 ≡ Some first → first ≢ captured
+    → slice_get (without squares captured) 0 ≡ Some first
+without-first squares first captured e apart =
+    elim (cases_lt (number_of squares captured) (length squares)) [
+      | inl within ↦
+          let test : ltb (number_of squares captured) (length squares) ≡ true = grind (arith, nat_tests) in
+          let away : 0 ≢ number_of squares captured = λ zero.
+          apart (same_Some first captured (sym e ∙ ap (slice_get squares) zero ∙ found-within squares captured within)) in
+          rw test (cut-elsewhere squares (number_of squares captured) captured within 0 away (omega arith) ∙ e)
+      | inr none ↦
+          let test : ltb (number_of squares captured) (length squares) ≡ false = grind (arith, nat_tests) in
+          rw test e
+    ]

@@ -30,7 +30,7 @@ module _ (n : Numbered) (m : Move) (squares : length n.position.board ≡ 64) (n
   abbrev number : ℕ
   number = number_of (squares_of n.position.side n.numbers) m.from
 
-  has_number : slice_get (squares_of n.position.side n.numbers) number ≡ Some m.from
+  pub has_number : slice_get (squares_of n.position.side n.numbers) number ≡ Some m.from
   has_number =
       (numbering_of n.position.board n.numbers numbers n.position.side).whole m.from
       (ap (is_of n.position.side) moves.stands ∙ own_man n.position.side moves.kind)
@@ -65,6 +65,12 @@ same_man n m x moves at =
     ap (λ (y : Man). value_of y.kind m) same
 
 -- what the code has: the fields of a position with its numbers
+pub encode-number : (n now : Numbered) → n ≡ now → (m : Move) → length n.position.board ≡ 64 → AreNumbers n.position.board n.numbers
+    → Legal now.position m → number_of (squares_of n.position.side n.numbers) m.from < 16
+encode-number n now is m squares numbers legal =
+    let allowed : Legal n.position m = subst (λ (k : Numbered). Legal k.position m) (sym is) legal in
+    number-small n m squares numbers (mover n.position m (effect_of n.position m) squares refl allowed.1.allowed)
+
 pub encode-small : (n now : Numbered) → n ≡ now → (m : Move) (board : Men) (x : Man) → length board ≡ 64 → board ≡ n.position.board
     → Some x ≡ man_at board m.from → Legal now.position m → value_of x.kind m < 16
 encode-small n now is m board x squares same at legal =

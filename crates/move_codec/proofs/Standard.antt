@@ -5,10 +5,12 @@ use Rattle.std.proofs.lemmas.Bool.{eqb-true, ltb-true, false≢true, cases_lt}
 use Rattle.std.proofs.lemmas.Option.{same_Some, none-some}
 use Rattle.cell_core.specs.declared.man.Colour.{Colour}
 use Rattle.cell_core.specs.declared.man.Colour.TheVariants.{White, Black}
+use Rattle.cell_core.specs.declared.man.Kind.TheVariants.{King}
 use Rattle.cell_core.specs.declared.man.Man.{Man}
 use Rattle.cell_core.specs.Board.{Men, man_at}
 use Rattle.cell_core.specs.Man.{is_of}
 use Rattle.chess_laws.specs.Position.{start_men}
+use Rattle.chess_laws.proofs.Kings.{is_man-Some, king-only}
 use Rattle.move_codec.specs.Numbers.{AreNumbers, IsNumbering, number_of, standard_numbers, start_ranks}
 use Rattle.move_codec.proofs.Strides.{and_true}
 use Rattle.move_codec.proofs.Lists.{found-within}
@@ -79,4 +81,6 @@ pub AreNumbers-standard : AreNumbers start_men standard_numbers
 AreNumbers-standard = record {
   white = IsNumbering-by_tests start_men White (start_ranks 0 8) (omega arith) refl refl refl refl;
   black = IsNumbering-by_tests start_men Black (start_ranks 56 48) (omega arith) refl refl refl refl;
+  white_king = λ s is. ap (λ (v : ℕ). Some v) (sym (king-only start_men White s refl (is_man-Some White King (man_at start_men s) is)));
+  black_king = λ s is. ap (λ (v : ℕ). Some v) (sym (king-only start_men Black s refl (is_man-Some Black King (man_at start_men s) is)));
 }

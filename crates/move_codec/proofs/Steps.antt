@@ -20,12 +20,13 @@ use Rattle.chess_laws.specs.Castling.{king_home, king_target, rook_home, rook_ta
 use Rattle.chess_laws.specs.Position.{Sound}
 use Rattle.chess_laws.specs.Step.{Case, NullCase, GoesPlainly, arriving, moved, board_after, effect_of, passed_square, Step}
 use Rattle.move_codec.specs.declared.numbers.Numbers.{Numbers}
-use Rattle.move_codec.specs.Numbers.{AreNumbers, IsNumbering, number_of, went, without, movers_after, capture_square, numbers_by, numbers_after}
+use Rattle.move_codec.specs.Numbers.{AreNumbers, HasKingFirst, IsNumbering, number_of, went, without, movers_after, capture_square, numbers_by, numbers_after}
 use Rattle.move_codec.proofs.Numbering.{Goes, Loses, holds, IsNumbering-went, IsNumbering-without}
 use Rattle.move_codec.proofs.Boards.{own_man, enemy_man, own_of_enemy, no_own, stands_within, Goes-moved, Loses-moved, Same, Same-lost, Loses-same, Same-then, Goes-cleared, Loses-cleared}
 use Rattle.chess_laws.proofs.Shifts.{shift-Some}
 use Rattle.std.proofs.lemmas.Option.{none-some, get_or_from_slice_get}
 use Rattle.std.proofs.lemmas.List.{set-get_or}
+use Rattle.move_codec.proofs.Kings.{Firsts, firsts}
 use Rattle.move_codec.proofs.Spelling.{rook_line, bishop_diagonal, queen_ray}
 use Rattle.move_codec.proofs.Cases.{leaps_on_board, castle_squares, captures_on_board, pawn_double}
 
@@ -69,11 +70,13 @@ record Both (p : Setup) (m : Move) (e : Effect) : Type 0 where
       → IsNumbering (board_after p m e) p.side (movers_after p.side m e squares)
   pub others : (squares : List ℕ) → IsNumbering p.board (other p.side) squares
       → IsNumbering (board_after p m e) (other p.side) (without squares (capture_square m e))
+  pub lost : holds (other p.side) (board_after p m e) (capture_square m e) ≡ false
 
 both_moved : (p : Setup) (m : Move) → Moved p m → Both p m Plain
 both_moved p m h = record {
   movers = λ squares. IsNumbering-went p.side p.board (moved p m) squares m.from m.to (goes p m h);
   others = λ squares. IsNumbering-without (other p.side) p.board (moved p m) squares m.to (loses p m h);
+  lost = (loses p m h).gone;
 }
 
 -- a plain move's target is on the board and free of the side
@@ -112,14 +115,17 @@ module _ (p : Setup) (m : Move) (h : Moved p m) (empty : man_at p.board m.to ≡
   passed_not_to : passed_square m ≢ m.to
   passed_not_to same = none-some (man (other p.side) Pawn) (sym empty ∙ sym (ap (man_at p.board) same) ∙ passed)
 
+  passed_gone : Loses (other p.side) p.board (put (moved p m) (passed_square m) None) (passed_square m)
+  passed_gone = Loses-cleared (other p.side) p.board (moved p m) (passed_square m)
+      (Same-lost (other p.side) p.board (moved p m) m.to (loses p m h) (ap (is_of (other p.side)) empty)) passed_within
+
   both_passing : Both p m Passing
   both_passing = record {
     movers = λ squares. IsNumbering-went p.side p.board (put (moved p m) (passed_square m) None) squares m.from m.to
         (Goes-cleared p.side p.board (moved p m) m.from m.to (passed_square m) (goes p m h) passed_within passed_not_to
         (ap (is_of p.side) passed ∙ own_of_enemy p.side Pawn));
-    others = λ squares. IsNumbering-without (other p.side) p.board (put (moved p m) (passed_square m) None) squares (passed_square m)
-        (Loses-cleared (other p.side) p.board (moved p m) (passed_square m)
-        (Same-lost (other p.side) p.board (moved p m) m.to (loses p m h) (ap (is_of (other p.side)) empty)) passed_within);
+    others = λ squares. IsNumbering-without (other p.side) p.board (put (moved p m) (passed_square m) None) squares (passed_square m) passed_gone;
+    lost = passed_gone.gone;
   }
 
 -- castling: the squares are apart and on the board, and what is between is empty
@@ -197,13 +203,16 @@ module _ (p : Setup) (m : Move) (wing : Wing) (h : Moved p m) (squares : length 
       (Same-lost (other p.side) (moved p m) castled (rook_target p.side wing) rook_loses
       ((loses p m h).others (rook_target p.side wing) goal_not_to ∙ ap (is_of (other p.side)) goal))
 
+  none_lost : Loses (other p.side) p.board castled m.to
+  none_lost = Loses-same (other p.side) p.board castled m.to others_same (ap (is_of (other p.side)) empty)
+
   both_castle : Both p m (Castle wing)
   unfolding castled
   both_castle = record {
     movers = λ men numbers. IsNumbering-went p.side (moved p m) castled (went men m.from m.to) (rook_home p.side wing) (rook_target p.side wing) rook_goes
         (IsNumbering-went p.side p.board (moved p m) men m.from m.to (goes p m h) numbers);
-    others = λ men. IsNumbering-without (other p.side) p.board castled men m.to
-        (Loses-same (other p.side) p.board castled m.to others_same (ap (is_of (other p.side)) empty));
+    others = λ men. IsNumbering-without (other p.side) p.board castled men m.to none_lost;
+    lost = none_lost.gone;
   }
 
 -- a null move: the king keeps his square
@@ -212,14 +221,17 @@ went_nowhere squares s here =
     sym (ap (set squares (number_of squares s)) (get_or_from_slice_get squares (number_of squares s) s s here))
     ∙ set-get_or squares (number_of squares s) s
 
+null_empty : (p : Setup) (m : Move) → NullCase p m → holds (other p.side) p.board m.to ≡ false
+null_empty p m c = ap (holds (other p.side) p.board) c.stays ∙ ap (is_of (other p.side)) c.stands ∙ enemy_man p.side King
+
 both_null : (p : Setup) (m : Move) → NullCase p m → Both p m Null
 both_null p m c = record {
   movers = λ squares h.
       let here : slice_get squares (number_of squares m.from) ≡ Some m.from = h.whole m.from (ap (is_of p.side) c.stands ∙ own_man p.side King) in
       rw (c.stays, went_nowhere squares m.from here) h;
   others = λ squares. IsNumbering-without (other p.side) p.board p.board squares m.to
-      (Loses-same (other p.side) p.board p.board m.to (record { all = λ s. refl })
-      (ap (holds (other p.side) p.board) c.stays ∙ ap (is_of (other p.side)) c.stands ∙ enemy_man p.side King));
+      (Loses-same (other p.side) p.board p.board m.to (record { all = λ s. refl }) (null_empty p m c));
+  lost = null_empty p m c;
 }
 
 -- every effect of a legal move
@@ -242,7 +254,7 @@ both p m Double sound is c =
       target = rw sound.squares (pawn_double p.side p.board m.from m.to c.walks).1;
       free = ap (is_of p.side) c.target;
     }) in
-    record { movers = same.movers; others = same.others }
+    record { movers = same.movers; others = same.others; lost = same.lost }
 both p m Passing sound is c =
     both_passing p m
     (record {
@@ -270,24 +282,38 @@ both p m (Castle wing) sound is c =
 both p m Null sound is c = both_null p m c
 
 -- both lists, by the side that moves
-numbers_both : (p : Setup) (m : Move) (e : Effect) (side : Colour) → p.side ≡ side → Both p m e → (numbers : Numbers)
-    → AreNumbers p.board numbers → AreNumbers (board_after p m e) (numbers_by side m e numbers)
-numbers_both p m e White is h numbers before = record {
-  white = subst (λ c. IsNumbering (board_after p m e) c (movers_after c m e numbers.white)) is
-      (h.movers numbers.white (subst (λ c. IsNumbering p.board c numbers.white) (sym is) before.white));
-  black = subst (λ c. IsNumbering (board_after p m e) (other c) (without numbers.black (capture_square m e))) is
-      (h.others numbers.black (subst (λ c. IsNumbering p.board (other c) numbers.black) (sym is) before.black));
-}
-numbers_both p m e Black is h numbers before = record {
-  black = subst (λ c. IsNumbering (board_after p m e) c (movers_after c m e numbers.black)) is
-      (h.movers numbers.black (subst (λ c. IsNumbering p.board c numbers.black) (sym is) before.black));
-  white = subst (λ c. IsNumbering (board_after p m e) (other c) (without numbers.white (capture_square m e))) is
-      (h.others numbers.white (subst (λ c. IsNumbering p.board (other c) numbers.white) (sym is) before.white));
-}
+numbers_both : (p : Setup) (m : Move) (side : Colour) → p.side ≡ side → Both p m (effect_of p m) → Firsts p m → (numbers : Numbers)
+    → AreNumbers p.board numbers → AreNumbers (board_after p m (effect_of p m)) (numbers_by side m (effect_of p m) numbers)
+numbers_both p m White is h first numbers before =
+    let e : Effect = effect_of p m in
+    let after : Men = board_after p m e in
+    record {
+      white = subst (λ c. IsNumbering after c (movers_after c m e numbers.white)) is
+          (h.movers numbers.white (subst (λ c. IsNumbering p.board c numbers.white) (sym is) before.white));
+      black = subst (λ c. IsNumbering after (other c) (without numbers.black (capture_square m e))) is
+          (h.others numbers.black (subst (λ c. IsNumbering p.board (other c) numbers.black) (sym is) before.black));
+      white_king = subst (λ c. HasKingFirst after c (movers_after c m e numbers.white)) is
+          (first.movers numbers.white (subst (λ c. HasKingFirst p.board c numbers.white) (sym is) before.white_king));
+      black_king = subst (λ c. HasKingFirst after (other c) (without numbers.black (capture_square m e))) is
+          (first.others numbers.black (subst (λ c. HasKingFirst p.board (other c) numbers.black) (sym is) before.black_king));
+    }
+numbers_both p m Black is h first numbers before =
+    let e : Effect = effect_of p m in
+    let after : Men = board_after p m e in
+    record {
+      black = subst (λ c. IsNumbering after c (movers_after c m e numbers.black)) is
+          (h.movers numbers.black (subst (λ c. IsNumbering p.board c numbers.black) (sym is) before.black));
+      white = subst (λ c. IsNumbering after (other c) (without numbers.white (capture_square m e))) is
+          (h.others numbers.white (subst (λ c. IsNumbering p.board (other c) numbers.white) (sym is) before.white));
+      black_king = subst (λ c. HasKingFirst after c (movers_after c m e numbers.black)) is
+          (first.movers numbers.black (subst (λ c. HasKingFirst p.board c numbers.black) (sym is) before.black_king));
+      white_king = subst (λ c. HasKingFirst after (other c) (without numbers.white (capture_square m e))) is
+          (first.others numbers.white (subst (λ c. HasKingFirst p.board (other c) numbers.white) (sym is) before.white_king));
+    }
 
--- a legal move keeps the numbers those of the men
+-- a legal move keeps the numbers those of the men, the kings' first
 pub AreNumbers-step : (p : Setup) (m : Move) (q : Setup) (numbers : Numbers) → Sound p → Step p m q → AreNumbers p.board numbers
     → AreNumbers q.board (numbers_after p m numbers)
 AreNumbers-step p m q numbers sound step before =
-    rw step.becomes
-    (numbers_both p m (effect_of p m) p.side refl (both p m (effect_of p m) sound refl step.allowed) numbers before)
+    let sides = both p m (effect_of p m) sound refl step.allowed in
+    rw step.becomes (numbers_both p m p.side refl sides (firsts p m sound (q, step) sides.lost) numbers before)

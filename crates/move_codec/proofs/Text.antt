@@ -9,9 +9,11 @@ use Rattle.cell_core.specs.declared.man.Kind.TheVariants.{King}
 use Rattle.cell_core.specs.declared.man.Man.{Man}
 use Rattle.cell_core.specs.Board.{Men, man_at}
 use Rattle.cell_core.specs.Man.{is_of, is_man, same_colour, same_kind}
+use Rattle.chess_laws.specs.Position.{HasKings, HasFewMen}
+use Rattle.chess_laws.proofs.Kings.{is_man-Some, king-only}
 use Rattle.move_codec.proofs.Strides.{and_true}
 use Rattle.cell_core.specs.declared.man.Colour.TheVariants.{White, Black}
-use Rattle.move_codec.specs.Numbers.{AreNumbers, text_numbers, IsNumbering, number_of, text_squares, rank_squares, with_king, with_square, with_squares, text_numbers_of}
+use Rattle.move_codec.specs.Numbers.{AreNumbers, HasKingFirst, text_numbers, IsNumbering, number_of, text_squares, rank_squares, with_king, with_square, with_squares, text_numbers_of}
 use Rattle.move_codec.proofs.Lists.{found, found-within, same_or_not}
 use Rattle.move_codec.proofs.Standard.{below, held_within, own_place}
 use Rattle.move_codec.proofs.Numbering.{holds}
@@ -318,5 +320,59 @@ pub InText-end : (men : Men) (c : Colour) (squares : List ℕ) → InText men c 
 unfolding with_squares
 InText-end men c squares so_far = so_far.same
 
-pub AreNumbers-text : (men : Men) → length men ≡ 64 → ((c : Colour) → count_by (is_of c) men ≤ 16) → AreNumbers men (text_numbers men)
-AreNumbers-text men size few = record { white = IsNumbering-text men White size (few White); black = IsNumbering-text men Black size (few Black) }
+-- The king comes first
+
+-- a king that has come is first
+abbrev KingCame : Men → Colour → List ℕ → List ℕ → Type 0
+KingCame men c later squares =
+    (s : ℕ) → is_man c King (man_at men s) ≡ true → ((j : ℕ) → slice_get later j ≡ Some s → ⊥) → slice_get squares 0 ≡ Some s
+
+with_king-first : (squares : List ℕ) (x : ℕ) → slice_get (with_king squares x) 0 ≡ Some x
+with_king-first [] x = refl
+with_king-first (y ∷ ys) x = refl
+
+-- a square on which no king stands
+KingCame-before : (men : Men) (c : Colour) (x : ℕ) (later squares : List ℕ) → is_man c King (man_at men x) ≡ false
+    → KingCame men c (x ∷ later) squares → KingCame men c later squares
+KingCame-before men c x later squares no_king h s is none = h s is not_there
+  where
+    not_there : (j : ℕ) → slice_get (x ∷ later) j ≡ Some s → ⊥
+    not_there zero e = false≢true (sym no_king ∙ ap (λ t. is_man c King (man_at men t)) (same_Some x s e) ∙ is)
+    not_there (suc j) e = none j e
+
+KingCame-step : (men : Men) (c : Colour) (x : ℕ) (later squares : List ℕ) → count_by (is_man c King) men ≡ 1
+    → KingCame men c (x ∷ later) squares → KingCame men c later (with_square men c squares x)
+KingCame-step men c x later squares one h s is none =
+    elim (cases_Bool (is_man c King (man_at men x))) [
+      | inl king ↦
+          let same : x ≡ s = king-only men c x one (is_man-Some c King (man_at men x) king) ∙ sym (king-only men c s one (is_man-Some c King (man_at men s) is)) in
+          rw king (with_king-first squares x ∙ ap (λ (v : ℕ). Some v) same)
+      | inr no_king ↦
+          let first : slice_get squares 0 ≡ Some s = KingCame-before men c x later squares no_king h s is none in
+          elim (cases_Bool (is_of c (man_at men x))) [
+            | inl man ↦ rw (no_king, man) (get-push_before squares x 0 s first)
+            | inr absent ↦ rw (no_king, absent) first
+          ]
+    ]
+
+KingCame-all : (men : Men) (c : Colour) (later squares : List ℕ) → count_by (is_man c King) men ≡ 1 → KingCame men c later squares
+    → KingCame men c [] (with_squares men c squares later)
+unfolding with_squares
+KingCame-all men c [] squares one h = h
+KingCame-all men c (x ∷ later) squares one h =
+    KingCame-all men c later (with_square men c squares x) one (KingCame-step men c x later squares one h)
+
+HasKingFirst-text : (men : Men) (c : Colour) → length men ≡ 64 → count_by (is_man c King) men ≡ 1 → HasKingFirst men c (text_numbers_of men c)
+HasKingFirst-text men c size one s is =
+    let start : KingCame men c text_squares [] = λ t king none.
+    let on_board : t < 64 = rw size at (held_within c men t (king_held c (man_at men t) king)) in
+    absurd (none (number_of text_squares t) (text_whole t on_board)) in
+    KingCame-all men c text_squares [] one start s is (λ j e. none-some s e)
+
+pub AreNumbers-text : (men : Men) → length men ≡ 64 → HasKings men → HasFewMen men → AreNumbers men (text_numbers men)
+AreNumbers-text men size kings few = record {
+  white = IsNumbering-text men White size (few White);
+  black = IsNumbering-text men Black size (few Black);
+  white_king = HasKingFirst-text men White size (kings White);
+  black_king = HasKingFirst-text men Black size (kings Black);
+}

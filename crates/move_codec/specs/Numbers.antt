@@ -125,7 +125,14 @@ pub record IsNumbering (men : Men) (colour : Colour) (squares : List ℕ) : Type
   pub whole : (square : ℕ) → IsTrue (is_of colour (man_at men square))
       → slice_get squares (number_of squares square) ≡ Some square
 
--- both lists have exactly the squares of their side's men
+-- the king has the number 0
+abbrev pub HasKingFirst : Men → Colour → List ℕ → Type 0
+HasKingFirst men colour squares =
+    (square : ℕ) → IsTrue (is_man colour King (man_at men square)) → slice_get squares 0 ≡ Some square
+
+-- both lists have exactly the squares of their side's men, the king's first
 pub record AreNumbers (men : Men) (numbers : Numbers) : Type 0 where
   pub white : IsNumbering men White numbers.white
   pub black : IsNumbering men Black numbers.black
+  pub white_king : HasKingFirst men White numbers.white
+  pub black_king : HasKingFirst men Black numbers.black

@@ -187,3 +187,7 @@ encoding_by (Some man) number m = (16 * number + value_of man.kind m) ∷ rest_o
 -- the bytes of a move
 abbrev pub encoding : Numbered → Move → List ℕ
 encoding n m = encoding_by (man_at n.position.board m.from) (number_of (squares_of n.position.side n.numbers) m.from) m
+
+-- bytes that no packed move begins with: number 0 is the king's, whose values end at 10. Records use them as marks
+abbrev pub is_mark : ℕ → Bool
+is_mark byte = nat_le 11 byte && nat_le byte 15

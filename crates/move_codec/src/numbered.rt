@@ -1,8 +1,8 @@
-ghost use Rattle.std.specs.Prelude.{◌≡◌, ℕ, ◌+◌, ◌*◌, ◌<◌, ◌≤◌, List, ◌∷◌, ◌++◌, Ok, IfOk, length};
+ghost use Rattle.std.specs.Prelude.{◌≡◌, ℕ, ◌+◌, ◌*◌, ◌<◌, ◌≤◌, false, List, ◌∷◌, ◌++◌, Ok, IfOk, length};
 ghost use Rattle.chess_laws.specs.Position.{start_setup};
 ghost use Rattle.chess_laws.specs.Step.{Legal, Step};
 ghost use Rattle.move_codec.specs.Numbers.{numbers_after, standard_numbers, text_numbers};
-ghost use Rattle.move_codec.specs.Packed.{Decodes, diagonal_move, encoding, named, named_value, rest_of, to_square, value_of};
+ghost use Rattle.move_codec.specs.Packed.{Decodes, diagonal_move, encoding, is_mark, named, named_value, rest_of, to_square, value_of};
 
 use super::effect::effect_of;
 use super::fault::MoveFault;
@@ -123,11 +123,12 @@ impl Numbered {
     }
 
     /// The bytes of a legal move: two of a queen's diagonal move, one of any other. They decode to the move, whatever
-    /// follows them.
+    /// follows them, and never begin with a byte from 11 to 15: a king's values end at 10, and his number is always 0.
     pub fn encode_move(&self, m: Move) -> ArrayVec<u8, 2>
         requires { Legal self.now.position m }
         ensures bytes { result.items ≡ encoding self.now m }
         ensures decodes { (rest : List ℕ) → Decodes self.now (result.items ++ rest) (Ok (m, length result.items)) }
+        ensures apart { (byte : ℕ) × ((later : List ℕ) × ((result.items ≡ byte ∷ later) × (is_mark byte ≡ false))) }
     {
         self.encode(&m)
     }
@@ -137,10 +138,11 @@ impl Numbered {
         requires { Legal self.now.position m.now }
         ensures bytes { result.items ≡ encoding self.now m.now }
         ensures decodes { (rest : List ℕ) → Decodes self.now (result.items ++ rest) (Ok (m.now, length result.items)) }
+        ensures apart { (byte : ℕ) × ((later : List ℕ) × ((result.items ≡ byte ∷ later) × (is_mark byte ≡ false))) }
     {
         let side = self.position.side();
         let number = self.numbers.of(side).number_of(m.from);
-        match self.position.board().at(m.from) {
+        match self.position.setup().board.at(m.from) {
             None => ArrayVec::new(),
             Some(man) => packed(number, man.kind, m),
         }

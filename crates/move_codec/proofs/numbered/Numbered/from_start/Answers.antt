@@ -7,4 +7,4 @@ in_text-numbers-requires-clause-few c = λ side. rw c.setup.ensures.setup (c.set
 pub invariant_of-result : goal.invariant_of-result
 invariant_of-result c =
     rw (c.in_text-numbers.ensures.numbers, c.setup.ensures.setup)
-    (AreNumbers-text c.args.position.board c.setup.ensures.sound.squares c.setup.ensures.sound.few)
+    (AreNumbers-text c.args.position.board c.setup.ensures.sound.squares c.setup.ensures.sound.kings c.setup.ensures.sound.few)

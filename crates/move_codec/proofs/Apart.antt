@@ -1,0 +1,179 @@
+-- A record's marks are told from packed moves by their byte, and bytes decode to one answer.
+use Rattle.std.proofs.Common.{◌≡◌, ℕ, zero, suc, ◌+◌, ◌*◌, ◌/◌, ◌%◌, ◌<◌, ◌≤◌, Bool, true, false, cond, eqb, List, [], ◌∷◌, ◌++◌, Option, Some, None, Ok, Err, length, slice_get, take, inl, inr, refl, sym, ◌∙◌, ap, subst, arith}
+use Rattle.std.specs.Prelude.{Result, option_and_then}
+use Rattle.std.proofs.lemmas.Bool.Decides.{nat_tests}
+use Rattle.std.proofs.lemmas.Option.{same_Some, slice_get_within}
+use Rattle.cell_core.specs.declared.man.Colour.{Colour}
+use Rattle.cell_core.specs.declared.man.Colour.TheVariants.{White, Black}
+use Rattle.cell_core.specs.declared.man.Kind.{Kind}
+use Rattle.cell_core.specs.declared.man.Kind.TheVariants.{King, Queen, Rook, Bishop, Knight, Pawn}
+use Rattle.cell_core.specs.declared.man.Man.{Man}
+use Rattle.cell_core.specs.declared.step.Move.{Move}
+use Rattle.cell_core.specs.Board.{Men, man_at}
+use Rattle.chess_laws.specs.Geometry.{file_of}
+use Rattle.chess_laws.specs.Position.{Sound, king_square}
+use Rattle.chess_laws.specs.Step.{Legal, effect_of}
+use Rattle.chess_laws.proofs.Boards.{man-kind}
+use Rattle.chess_laws.proofs.Kings.{king-stands}
+use Rattle.move_codec.specs.declared.fault.MoveFault.{MoveFault}
+use Rattle.move_codec.specs.declared.fault.MoveFault.TheVariants.{Short, NoMan, Value, Illegal}
+use Rattle.move_codec.specs.declared.numbers.Numbers.{Numbers}
+use Rattle.move_codec.specs.Numbers.{Numbered, AreNumbers, HasKingFirst, number_of, squares_of}
+use Rattle.move_codec.specs.Packed.{Decodes, at_difference, diagonal_move, diagonal_square, encoding, is_mark, king_differences, named, named_by, named_from, named_value, on_line, rest_of, to_square, value_of}
+use Rattle.move_codec.proofs.Cases.{Mover, Spelled, mover}
+use Rattle.move_codec.proofs.Decoding.{named-used, same_ok, to_square-takes}
+use Rattle.move_codec.proofs.Kings.{first_of}
+use Rattle.move_codec.proofs.Lists.{same_or_not}
+use Rattle.move_codec.proofs.RoundTrip.{encoding-mover, has_number}
+
+-- No packed move begins with a mark
+
+-- a king's value that names a square is one of the eleven
+listed_value : (from v : ℕ) (d : Move × ℕ) (difference : Option ℕ) → slice_get king_differences v ≡ difference
+    → to_square from None 1 (option_and_then (λ k. at_difference from k) difference) ≡ Ok d → v < 11
+listed_value from v d None is h = absurd (cc)
+listed_value from v d (Some k) is h = slice_get_within king_differences v k is
+
+king_value : (side : Colour) (m : Move) → Spelled side King m → value_of King m < 11
+unfolding named_value
+king_value side m spelled =
+    listed_value m.from (value_of King m) (m, suc (length (rest_of King m))) (slice_get king_differences (value_of King m)) refl (spelled.names [])
+
+unmarked : (number value : ℕ) → (number ≡ 0 → value < 11) → is_mark (16 * number + value) ≡ false
+unmarked number value king =
+    elim (same_or_not number 0) [
+      | inl none ↦ let small = king none in grind (arith, nat_tests)
+      | inr more ↦ grind (arith, nat_tests)
+    ]
+
+king_first : (men : Men) (numbers : Numbers) → AreNumbers men numbers → (c : Colour) → HasKingFirst men c (squares_of c numbers)
+king_first men numbers h White = h.white_king
+king_first men numbers h Black = h.black_king
+
+-- the man with the number 0 is the king
+zero_king : (n : Numbered) (m : Move) → Sound n.position → AreNumbers n.position.board n.numbers → (moves : Mover n.position m)
+    → number_of (squares_of n.position.side n.numbers) m.from ≡ 0 → moves.kind ≡ King
+zero_king n m sound numbers moves none =
+    let side : Colour = n.position.side in
+    let men : Men = n.position.board in
+    let squares : List ℕ = squares_of side n.numbers in
+    let first = first_of men side squares sound.kings (king_first men n.numbers numbers side) in
+    let here : slice_get squares 0 ≡ Some m.from = ap (slice_get squares) (sym none) ∙ has_number n m sound.squares numbers moves in
+    let same : m.from ≡ king_square men side = same_Some m.from (king_square men side) (sym here ∙ first) in
+    man-kind side side moves.kind King (sym moves.stands ∙ ap (man_at men) same ∙ king-stands men side (sound.kings side))
+
+pub encoding-apart : (n : Numbered) (m : Move) → Sound n.position → AreNumbers n.position.board n.numbers → Legal n.position m
+    → (byte : ℕ) × ((later : List ℕ) × ((encoding n m ≡ byte ∷ later) × (is_mark byte ≡ false)))
+encoding-apart n m sound numbers legal =
+    let moves : Mover n.position m = mover n.position m (effect_of n.position m) sound.squares refl legal.1.allowed in
+    let number : ℕ = number_of (squares_of n.position.side n.numbers) m.from in
+    let king : number ≡ 0 → value_of moves.kind m < 11 = λ none.
+    let is : moves.kind ≡ King = zero_king n m sound numbers moves none in
+    rw is (king_value n.position.side m (subst (λ k. Spelled n.position.side k m) is moves.spelled)) in (
+      16 * number + value_of moves.kind m,
+      (rest_of moves.kind m, (encoding-mover n m sound.squares numbers moves, unmarked number (value_of moves.kind m) king)),
+    )
+
+-- what the code has: the fields of a position with its numbers
+pub encode-apart : (n now : Numbered) → n ≡ now → (m : Move) → Sound n.position → AreNumbers n.position.board n.numbers
+    → Legal now.position m → (items : List ℕ) → items ≡ encoding now m
+    → (byte : ℕ) × ((later : List ℕ) × ((items ≡ byte ∷ later) × (is_mark byte ≡ false)))
+encode-apart n now is m sound numbers legal items bytes =
+    let kept : Sound now.position = subst (λ k. Sound k.position) is sound in
+    let numbered : AreNumbers now.position.board now.numbers = subst (λ k. AreNumbers k.position.board k.numbers) is numbers in
+    rw bytes (encoding-apart now m kept numbered legal)
+
+-- What bytes decode to is one answer
+
+-- what an answer says of the move that is named
+data Judged (n : Numbered) (bytes : List ℕ) (a : Result (Move × ℕ) MoveFault) : Type 0 where
+  faulty : (fault : MoveFault) → named n bytes ≡ Err fault → a ≡ Err fault → Judged n bytes a
+  legal : (d : Move × ℕ) → named n bytes ≡ Ok d → Legal n.position d.0 → a ≡ Ok d → Judged n bytes a
+  illegal : (d : Move × ℕ) → named n bytes ≡ Ok d → (Legal n.position d.0 → ⊥) → a ≡ Err Illegal → Judged n bytes a
+
+judged : (n : Numbered) (bytes : List ℕ) (a : Result (Move × ℕ) MoveFault) → Decodes n bytes a → Judged n bytes a
+judged n bytes (Ok d) h = legal d h.0 h.1 refl
+judged n bytes (Err Short) h = faulty Short h refl
+judged n bytes (Err NoMan) h = faulty NoMan h refl
+judged n bytes (Err Value) h = faulty Value h refl
+judged n bytes (Err Illegal) (d, h) = illegal d h.0 h.1 refl
+
+same_named : (n : Numbered) (bytes : List ℕ) (d e : Move × ℕ) → named n bytes ≡ Ok d → named n bytes ≡ Ok e → d ≡ e
+same_named n bytes d e first second = same_ok d e (sym first ∙ second)
+
+pub Decodes-one : (n : Numbered) (bytes : List ℕ) (a b : Result (Move × ℕ) MoveFault) → Decodes n bytes a → Decodes n bytes b → a ≡ b
+Decodes-one n bytes a b first second =
+    elim (judged n bytes a first) [
+      | faulty f named_a is_a ↦
+          elim (judged n bytes b second) [
+            | faulty g named_b is_b ↦ is_a ∙ sym named_a ∙ named_b ∙ sym is_b
+            | legal e named_b legal_b is_b ↦ absurd (cc (named_a, named_b))
+            | illegal e named_b illegal_b is_b ↦ absurd (cc (named_a, named_b))
+          ]
+      | legal d named_a legal_a is_a ↦
+          elim (judged n bytes b second) [
+            | faulty g named_b is_b ↦ absurd (cc (named_a, named_b))
+            | legal e named_b legal_b is_b ↦ is_a ∙ sym named_a ∙ named_b ∙ sym is_b
+            | illegal e named_b illegal_b is_b ↦ absurd (illegal_b (subst (λ k. Legal n.position k.0) (same_named n bytes d e named_a named_b) legal_a))
+          ]
+      | illegal d named_a illegal_a is_a ↦
+          elim (judged n bytes b second) [
+            | faulty g named_b is_b ↦ absurd (cc (named_a, named_b))
+            | legal e named_b legal_b is_b ↦ absurd (illegal_a (subst (λ k. Legal n.position k.0) (same_named n bytes e d named_b named_a) legal_b))
+            | illegal e named_b illegal_b is_b ↦ is_a ∙ sym is_b
+          ]
+    ]
+
+-- How many bytes an answer takes
+
+-- a move takes bytes, of those that there are
+pub Decodes-used : (n : Numbered) (bytes : List ℕ) (m : Move) (used : ℕ) → Decodes n bytes (Ok (m, used))
+    → (0 < used) × (used ≤ length bytes)
+Decodes-used n bytes m used decodes = let within = named-used n bytes (m, used) decodes.0 in (within.0, within.1.1)
+
+-- the bytes after those that a move takes do not count: what it is named by ends with them
+abbrev Shortens : (List ℕ → Result (Move × ℕ) MoveFault) → List ℕ → Type 0
+Shortens by later = (m : Move) (used : ℕ) (rest : List ℕ) → by later ≡ Ok (m, suc used) → by (take used later ++ rest) ≡ Ok (m, suc used)
+
+diagonal-shortens : (from : ℕ) (later : List ℕ) → Shortens (diagonal_move from) later
+diagonal-shortens from [] m used rest h = absurd (cc)
+diagonal-shortens from (byte ∷ later) m used rest h =
+    let two : suc used ≡ 2 = to_square-takes from None 2 (diagonal_square from byte) (m, suc used) h in
+    let one : used ≡ 1 = omega arith in
+    rw one (rw one at h)
+
+queen-shortens : (own : Bool) (from value : ℕ) (later : List ℕ)
+    → Shortens (λ rest. cond own (diagonal_move from rest) (to_square from None 1 (on_line from value))) later
+queen-shortens true from value later m used rest h = diagonal-shortens from later m used rest h
+queen-shortens false from value later m used rest h = h
+
+value-shortens : (kind : Kind) (side : Colour) (from value : ℕ) (later : List ℕ) → Shortens (named_value kind side from value) later
+unfolding named_value
+value-shortens King side from value later m used rest h = h
+value-shortens Queen side from value later m used rest h = queen-shortens (eqb value (file_of from)) from value later m used rest h
+value-shortens Rook side from value later m used rest h = h
+value-shortens Bishop side from value later m used rest h = h
+value-shortens Knight side from value later m used rest h = h
+value-shortens Pawn side from value later m used rest h = h
+
+by-shortens : (o : Option Man) (side : Colour) (from value : ℕ) (later : List ℕ) → Shortens (named_by o side from value) later
+by-shortens None side from value later m used rest h = absurd (cc)
+by-shortens (Some x) side from value later m used rest h = value-shortens x.kind side from value later m used rest h
+
+from-shortens : (n : Numbered) (o : Option ℕ) (value : ℕ) (later : List ℕ) → Shortens (named_from n o value) later
+from-shortens n None value later m used rest h = absurd (cc)
+from-shortens n (Some from) value later m used rest h =
+    by-shortens (man_at n.position.board from) n.position.side from value later m used rest h
+
+named-shortens : (n : Numbered) (bytes : List ℕ) (m : Move) (used : ℕ) (rest : List ℕ) → 0 < used → named n bytes ≡ Ok (m, used)
+    → named n (take used bytes ++ rest) ≡ Ok (m, used)
+named-shortens n [] m used rest some h = absurd (cc)
+named-shortens n (byte ∷ later) m zero rest some h = absurd (omega arith)
+named-shortens n (byte ∷ later) m (suc used) rest some h =
+    from-shortens n (slice_get (squares_of n.position.side n.numbers) (byte / 16)) (byte % 16) later m used rest h
+
+-- a move is the same whatever follows the bytes that it takes
+pub Decodes-short : (n : Numbered) (bytes : List ℕ) (m : Move) (used : ℕ) (rest : List ℕ) → Decodes n bytes (Ok (m, used))
+    → Decodes n (take used bytes ++ rest) (Ok (m, used))
+Decodes-short n bytes m used rest decodes =
+    (named-shortens n bytes m used rest (Decodes-used n bytes m used decodes).0 decodes.0, decodes.1)
