@@ -1,9 +1,11 @@
-ghost use Rattle.std.specs.Prelude.{◌≡◌, ℕ, List, length, IfOk, IfErr};
+ghost use Rattle.std.specs.Prelude.{◌≡◌, ◌≤◌, ℕ, List, length, IfOk, IfErr};
 ghost use Rattle.game_tree.specs.Items.{Script, items_of, meaning};
 ghost use Rattle.game_tree.specs.Building.{Gives};
+ghost use Rattle.game_codec.specs.Adding.{Adds, LacksText};
 ghost use Rattle.game_codec.specs.Breach.{TellsBad};
 ghost use Rattle.game_codec.specs.Scanning.{AreScripted, comments_in, dealt};
 ghost use Rattle.game_codec.specs.Texts.{AreTexts, BreaksTexts};
+ghost use Rattle.game_codec.specs.declared.token.Token.TheVariants as token;
 
 use super::breach::{Breach, Refusal};
 use super::fault::RecordWhat;
@@ -45,7 +47,11 @@ struct Added {
 }
 
 /// Adds an item, a comment with the text that the bytes begin with.
-fn add(alloc: Global, builder: Builder, token: &Token, bytes: &[u8]) -> Result<Added, Refusal> {
+fn add(alloc: Global, builder: Builder, token: &Token, bytes: &[u8]) -> Result<Added, Refusal>
+    ensures adds { IfOk result (λ added. Adds token.now bytes.now builder added.used added.builder) }
+    ensures used { IfOk result (λ added. added.used ≤ length bytes.now) }
+    ensures lacks { IfErr result (TellsBad (LacksText token.now bytes.now)) }
+{
     let builder = match *token {
         Token::Comment => return add_comment(alloc, builder, bytes),
         Token::Play(m) => builder.play(alloc, m)?,
@@ -58,7 +64,11 @@ fn add(alloc: Global, builder: Builder, token: &Token, bytes: &[u8]) -> Result<A
 }
 
 /// Adds a comment with the text that the bytes begin with.
-fn add_comment(alloc: Global, builder: Builder, bytes: &[u8]) -> Result<Added, Refusal> {
+fn add_comment(alloc: Global, builder: Builder, bytes: &[u8]) -> Result<Added, Refusal>
+    ensures adds { IfOk result (λ added. Adds token.Comment bytes.now builder added.used added.builder) }
+    ensures used { IfOk result (λ added. added.used ≤ length bytes.now) }
+    ensures lacks { IfErr result (TellsBad (LacksText token.Comment bytes.now)) }
+{
     let Some(len) = zero_at(bytes) else {
         return Err(Refusal::Bad(Breach {
             left: bytes.len(),

@@ -1,0 +1,6 @@
+use Rattle.std.proofs.Common.{drop}
+use Rattle.game_codec.proofs.BuildLaws.{IsBuilt}
+use Rattle.game_codec.proofs.building.build.Given as goal
+
+abbrev pub invariant-loop-token : goal.invariant-loop-token
+invariant-loop-token l = IsBuilt l.tokens (drop l.token-index l.tokens) l.bytes l.rest l.builder

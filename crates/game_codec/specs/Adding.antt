@@ -1,0 +1,30 @@
+-- What one item of a record adds to a tree while it is built. No public contract cites these words.
+use Rattle.std.specs.Prelude.{◌≡◌, ℕ, ◌∷◌, ◌++◌, List, drop}
+use Rattle.cell_core.specs.Text.{IsZeroFree}
+use Rattle.game_tree.specs.Items.{Item, plays, glyph, note, opens, closes}
+use Rattle.game_tree.specs.Building.{Building, added}
+use Rattle.game_codec.specs.declared.token.Token.{Token}
+use Rattle.game_codec.specs.declared.token.Token.TheVariants.{Play, Nag, Comment, Open, Close, End}
+use Rattle.game_codec.specs.declared.fault.RecordWhat.{RecordWhat}
+use Rattle.game_codec.specs.declared.fault.RecordWhat.TheVariants.{Short}
+
+-- a text that the bytes begin with, with the zero byte that ends it
+pub record BeginsText (text bytes : List ℕ) (used : ℕ) : Type 0 where
+  pub zero_free : IsZeroFree text
+  pub spelled : bytes ≡ text ++ 0 ∷ drop used bytes
+
+-- the tree after an item, and how many bytes of the texts the item takes
+abbrev pub Adds : Token → List ℕ → Building → ℕ → Building → Type 0
+Adds (Play m) bytes before used after = (used ≡ 0) × (after ≡ added (plays m) before)
+Adds (Nag n) bytes before used after = (used ≡ 0) × (after ≡ added (glyph n) before)
+Adds Comment bytes before used after = (text : List ℕ) × (BeginsText text bytes used × (after ≡ added (note text) before))
+Adds Open bytes before used after = (used ≡ 0) × (after ≡ added opens before)
+Adds Close bytes before used after = (used ≡ 0) × (after ≡ added closes before)
+Adds End bytes before used after = (used ≡ 0) × (after ≡ before)
+
+-- the item is a comment for which no text stands there
+pub record LacksText (token : Token) (bytes rest : List ℕ) (what : RecordWhat) : Type 0 where
+  pub is_comment : token ≡ Comment
+  pub rest_is : rest ≡ bytes
+  pub what_is : what ≡ Short
+  pub zero_free : IsZeroFree bytes
