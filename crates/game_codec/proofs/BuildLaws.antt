@@ -1,21 +1,19 @@
 -- The tree is what the script means.
-use Rattle.std.proofs.Common.{◌≡◌, ◌≢◌, ℕ, suc, ◌+◌, ◌<◌, ◌≤◌, List, [], ◌∷◌, ◌++◌, length, get_or, drop, refl, sym, ap, subst, ◌∙◌, append_assoc, append-nil, length-append, arith}
+use Rattle.std.proofs.Common.{◌≡◌, ℕ, ◌+◌, ◌<◌, ◌≤◌, List, [], ◌∷◌, ◌++◌, length, get_or, drop, refl, sym, ap, subst, ◌∙◌, append_assoc, append-nil, length-append, arith}
 use Rattle.std.specs.Prelude.{All}
 use Rattle.std.proofs.Math.ListN.{drop_of_length-le}
 use Rattle.std.proofs.lemmas.List.{drop_more}
-use Rattle.std.proofs.lemmas.List.Elements.{All-nil, All-push}
+use Rattle.std.proofs.lemmas.List.Elements.{All-push}
 use Rattle.cell_core.specs.Text.{IsZeroFree}
 use Rattle.game_tree.specs.Tree.{Variation}
 use Rattle.game_tree.specs.Items.{Item, Script, items_of, meaning}
-use Rattle.game_tree.specs.Building.{Building, opening, added, built, Gives}
+use Rattle.game_tree.specs.Building.{Building, opening, built, Gives}
 use Rattle.game_tree.proofs.ScriptLemmas.{built-items_of}
-use Rattle.game_codec.specs.Texts.{ended, AreTexts, BreaksTexts}
+use Rattle.game_codec.specs.Texts.{ended, AreTexts}
 use Rattle.game_codec.specs.Scanning.{AreScripted, comments_in, dealt}
-use Rattle.game_codec.specs.Adding.{Adds, LacksText}
+use Rattle.game_codec.specs.Adding.{Adds}
 use Rattle.game_codec.specs.declared.token.Token.{Token}
 use Rattle.game_codec.specs.declared.token.Token.TheVariants.{Play, Nag, Comment, Open, Close, End}
-use Rattle.game_codec.specs.declared.fault.RecordWhat.{RecordWhat}
-use Rattle.game_codec.specs.declared.fault.RecordWhat.TheVariants.{Short, Extra}
 
 -- the tree is built as far as the items that are left, with the texts before these bytes
 pub record IsBuilt (tokens left : List Token) (bytes rest : List ℕ) (b : Building) : Type 0 where
@@ -24,9 +22,6 @@ pub record IsBuilt (tokens left : List Token) (bytes rest : List ℕ) (b : Build
   pub spelled : bytes ≡ ended read ++ rest
   pub count : length read + comments_in left ≡ comments_in tokens
   pub onward : (texts : List (List ℕ)) → built (dealt left texts) b ≡ built (dealt tokens (read ++ texts)) opening
-
-pub IsBuilt-begun : (tokens : List Token) (bytes : List ℕ) → IsBuilt tokens tokens bytes bytes opening
-IsBuilt-begun tokens bytes = record { read = []; zero_free = All-nil IsZeroFree; spelled = refl; count = omega arith; onward = λ texts. refl }
 
 ended-push : (texts : List (List ℕ)) (text rest : List ℕ) → ended (texts ++ text ∷ []) ++ rest ≡ ended texts ++ (text ++ 0 ∷ rest)
 ended-push [] text rest = append_assoc text (0 ∷ []) rest
@@ -47,7 +42,7 @@ module _ (tokens left : List Token) (bytes rest : List ℕ) (b : Building) where
         onward = λ texts. same texts ∙ is.onward texts;
       }
 
-  pub IsBuilt-more : (token : Token) (used : ℕ) (after : Building) → Adds token rest b used after → IsBuilt tokens (token ∷ left) bytes rest b → IsBuilt tokens left bytes (drop used rest) after
+  IsBuilt-more : (token : Token) (used : ℕ) (after : Building) → Adds token rest b used after → IsBuilt tokens (token ∷ left) bytes rest b → IsBuilt tokens left bytes (drop used rest) after
   IsBuilt-more (Play m) used after adds is = passed (Play m) used after refl (λ texts. ap (built (dealt left texts)) adds.1) adds.0 is
   IsBuilt-more (Nag n) used after adds is = passed (Nag n) used after refl (λ texts. ap (built (dealt left texts)) adds.1) adds.0 is
   IsBuilt-more Comment used after adds is =
@@ -65,36 +60,13 @@ module _ (tokens left : List Token) (bytes rest : List ℕ) (b : Building) where
   IsBuilt-more Close used after adds is = passed Close used after refl (λ texts. ap (built (dealt left texts)) adds.1) adds.0 is
   IsBuilt-more End used after adds is = passed End used after refl (λ texts. ap (built (dealt left texts)) adds.1) adds.0 is
 
-  -- a comment for which no text stands there
-  pub IsBuilt-lacks : (token : Token) (there : List ℕ) (what : RecordWhat) → LacksText token rest there what → IsBuilt tokens (token ∷ left) bytes rest b → BreaksTexts (comments_in tokens) bytes there what
-  IsBuilt-lacks token there what lacks is =
-      let one : comments_in (token ∷ left) ≡ suc (comments_in left) = ap (λ (t : Token). comments_in (t ∷ left)) lacks.is_comment in
-      let short : BreaksTexts (comments_in tokens) bytes rest Short =
-          record {
-            texts = is.read;
-            zero_free = is.zero_free;
-            spelled = is.spelled;
-            fault = (omega (arith, one, is.count), lacks.zero_free);
-          }
-      in
-      subst (λ (w : RecordWhat). BreaksTexts (comments_in tokens) bytes there w) (sym lacks.what_is)
-          (subst (λ (bs : List ℕ). BreaksTexts (comments_in tokens) bytes bs Short) (sym lacks.rest_is) short)
-
 -- the same by the number of items that were added
 module _ (tokens : List Token) (i : ℕ) (bytes rest : List ℕ) (b : Building) where
-  item_left : (token : Token) → i < length tokens → token ≡ get_or tokens i token → IsBuilt tokens (drop i tokens) bytes rest b → IsBuilt tokens (token ∷ drop (i + 1) tokens) bytes rest b
-  item_left token under item is =
-      subst (λ (left : List Token). IsBuilt tokens left bytes rest b)
-          (drop_more tokens i token under ∙ ap (λ (t : Token). t ∷ drop (i + 1) tokens) (sym item)) is
-
   pub IsBuilt-step : (token : Token) (used : ℕ) (later : List ℕ) (after : Building) → i < length tokens → token ≡ get_or tokens i token → Adds token rest b used after → later ≡ drop used rest → IsBuilt tokens (drop i tokens) bytes rest b → IsBuilt tokens (drop (i + 1) tokens) bytes later after
   IsBuilt-step token used later after under item adds behind is =
+      let here = drop_more tokens i token under ∙ ap (λ (t : Token). t ∷ drop (i + 1) tokens) (sym item) in
       subst (λ (bs : List ℕ). IsBuilt tokens (drop (i + 1) tokens) bytes bs after) (sym behind)
-          (IsBuilt-more tokens (drop (i + 1) tokens) bytes rest b token used after adds (item_left token under item is))
-
-  pub IsBuilt-fault : (token : Token) (there : List ℕ) (what : RecordWhat) → i < length tokens → token ≡ get_or tokens i token → LacksText token rest there what → IsBuilt tokens (drop i tokens) bytes rest b → BreaksTexts (comments_in tokens) bytes there what
-  IsBuilt-fault token there what under item lacks is =
-      IsBuilt-lacks tokens (drop (i + 1) tokens) bytes rest b token there what lacks (item_left token under item is)
+      (IsBuilt-more tokens (drop (i + 1) tokens) bytes rest b token used after adds (subst (λ (left : List Token). IsBuilt tokens left bytes rest b) here is))
 
   pub IsBuilt-end : length tokens ≤ i → IsBuilt tokens (drop i tokens) bytes rest b → IsBuilt tokens [] bytes rest b
   IsBuilt-end all is = subst (λ (left : List Token). IsBuilt tokens left bytes rest b) (drop_of_length-le tokens all) is
@@ -110,18 +82,12 @@ module _ (tokens : List Token) (bytes rest : List ℕ) (b : Building) where
       let script = scripted is.read in
       (built-items_of script.0 b (built-read is ∙ ap (λ (items : List Item). built items opening) (sym script.1))).whole
 
-  -- there are more bytes than texts
-  pub IsBuilt-extra : IsBuilt tokens [] bytes rest b → rest ≢ [] → BreaksTexts (comments_in tokens) bytes rest Extra
-  IsBuilt-extra is more =
-      record { texts = is.read; zero_free = is.zero_free; spelled = is.spelled; fault = (omega (arith, is.count), more) }
-
   -- the texts are those of the bytes, and the tree is what a script with these texts means
   pub IsBuilt-whole : (branch : Variation) → IsBuilt tokens [] bytes rest b → rest ≡ [] → ((s : Script) → b ≡ built (items_of s) opening → Gives branch (meaning s).comment (meaning s).line) → (texts : List (List ℕ)) × (AreTexts bytes texts × ((length texts ≡ comments_in tokens) × ((s : Script) → items_of s ≡ dealt tokens texts → Gives branch (meaning s).comment (meaning s).line)))
-  IsBuilt-whole branch is none meant =
-      (
-        is.read,
-        (
-          record { spelled = is.spelled ∙ ap (λ (bs : List ℕ). ended is.read ++ bs) none ∙ append-nil (ended is.read); zero_free = is.zero_free },
-          (omega (arith, is.count), λ s items. meant s (built-read is ∙ ap (λ (all : List Item). built all opening) (sym items))),
-        ),
-      )
+  IsBuilt-whole branch is none meant = (
+    is.read,
+    (
+      record { spelled = is.spelled ∙ ap (λ (bs : List ℕ). ended is.read ++ bs) none ∙ append-nil (ended is.read); zero_free = is.zero_free },
+      (omega (arith, is.count), λ s items. meant s (built-read is ∙ ap (λ (all : List Item). built all opening) (sym items))),
+    ),
+  )

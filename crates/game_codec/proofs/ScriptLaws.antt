@@ -46,7 +46,7 @@ Scans-then p outer (mark text s) bytes rest more halt spells behind =
 Scans-then p outer (vary inner s) bytes rest more halt spells behind =
     let later = spells.2.0 in
     let closed : (q : Place) (end : List ℕ) → Takes q end (ending (p.depth + 1)) later → Scans (nest q (p ∷ outer)) end (Close ∷ tokens_then s more) halt =
-        λ q end takes. (tt, (later, subst (λ (t : Token). Takes q end t later) (ending-more p.depth) takes, Scans-then p outer s later rest more halt spells.2.2 behind))
+    λ q end takes. (tt, (later, subst (λ (t : Token). Takes q end t later) (ending-more p.depth) takes, Scans-then p outer s later rest more halt spells.2.2 behind))
     in
     (tt, (spells.0, spells.1, Scans-then (variation_of p) (p ∷ outer) inner spells.0 later (Close ∷ tokens_then s more) halt spells.2.1 closed))
 
@@ -57,10 +57,10 @@ dealt-then (nag n s) more texts = ap (λ (is : List Item). glyph n ∷ is) (deal
 dealt-then (mark text s) more texts = ap (λ (is : List Item). note text ∷ is) (dealt-then s more texts)
 dealt-then (vary inner s) more texts =
     ap (λ (is : List Item). opens ∷ is)
-        (ap (dealt (tokens_then inner (Close ∷ tokens_then s more))) (append_assoc (texts_of inner) (texts_of s) texts)
-        ∙ dealt-then inner (Close ∷ tokens_then s more) (texts_of s ++ texts)
-        ∙ ap (λ (is : List Item). items_of inner ++ closes ∷ is) (dealt-then s more texts)
-        ∙ sym (append_assoc (items_of inner) (closes ∷ items_of s) (dealt more texts)))
+    (ap (dealt (tokens_then inner (Close ∷ tokens_then s more))) (append_assoc (texts_of inner) (texts_of s) texts)
+    ∙ dealt-then inner (Close ∷ tokens_then s more) (texts_of s ++ texts)
+    ∙ ap (λ (is : List Item). items_of inner ++ closes ∷ is) (dealt-then s more texts)
+    ∙ sym (append_assoc (items_of inner) (closes ∷ items_of s) (dealt more texts)))
 
 comments-then : (s : Script) (more : List Token) → comments_in (tokens_then s more) ≡ length (texts_of s) + comments_in more
 comments-then stop more = omega arith
@@ -74,7 +74,7 @@ pub script-scans : (start : Numbered) (s : Script) (bytes rest : List ℕ) → S
 script-scans start s bytes rest spells =
     let scans : Scans (nest_of start) bytes (tokens_then s []) (Ok rest) = Scans-then (beginning 0 start) [] s bytes rest [] (Ok rest) spells (λ q end takes. takes) in
     let items : dealt (tokens_then s []) (texts_of s) ≡ items_of s =
-        ap (dealt (tokens_then s [])) (sym (append-nil (texts_of s))) ∙ dealt-then s [] [] ∙ append-nil (items_of s)
+    ap (dealt (tokens_then s [])) (sym (append-nil (texts_of s))) ∙ dealt-then s [] [] ∙ append-nil (items_of s)
     in
     let count : comments_in (tokens_then s []) ≡ length (texts_of s) = omega (arith, comments-then s []) in
     (tokens_then s [], (scans, (items, count)))
@@ -94,7 +94,7 @@ breaks-scans start u bytes rest w breaks = scanned (beginning 0 start) [] u byte
         let later = breaks.2.0 in
         let on = scanned p outer u later breaks.2.2 in
         let closed : (q : Place) (end : List ℕ) → Takes q end (ending (p.depth + 1)) later → Scans (nest q (p ∷ outer)) end (Close ∷ on.0) (Err (rest, w)) =
-            λ q end takes. (tt, (later, subst (λ (t : Token). Takes q end t later) (ending-more p.depth) takes, on.1))
+        λ q end takes. (tt, (later, subst (λ (t : Token). Takes q end t later) (ending-more p.depth) takes, on.1))
         in
         (Open ∷ tokens_then inner (Close ∷ on.0), (tt, (breaks.0, breaks.1, Scans-then (variation_of p) (p ∷ outer) inner breaks.0 later (Close ∷ on.0) (Err (rest, w)) breaks.2.1 closed)))
     scanned p outer (inside u) bytes breaks =

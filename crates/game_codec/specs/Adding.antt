@@ -1,7 +1,7 @@
 -- What one item of a record adds to a tree while it is built. No public contract cites these words.
 use Rattle.std.specs.Prelude.{◌≡◌, ℕ, ◌∷◌, ◌++◌, List, drop}
 use Rattle.cell_core.specs.Text.{IsZeroFree}
-use Rattle.game_tree.specs.Items.{Item, plays, glyph, note, opens, closes}
+use Rattle.game_tree.specs.Items.{plays, glyph, note, opens, closes}
 use Rattle.game_tree.specs.Building.{Building, added}
 use Rattle.game_codec.specs.declared.token.Token.{Token}
 use Rattle.game_codec.specs.declared.token.Token.TheVariants.{Play, Nag, Comment, Open, Close, End}
