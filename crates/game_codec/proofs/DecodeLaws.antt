@@ -9,7 +9,8 @@ use Rattle.game_codec.specs.TagReading.{BreaksTags}
 use Rattle.game_codec.specs.Start.{BeginsStart, BreaksStart}
 use Rattle.game_codec.specs.Texts.{AreTexts, BreaksTexts, texts_of}
 use Rattle.game_codec.specs.Record.{IsRecord, game_of}
-use Rattle.game_codec.specs.Fault.{BreaksInTags, BreaksInStart, BreaksInMoves, BreaksInTexts, Breaks, place_of}
+use Rattle.game_codec.specs.Fault.{BreaksInTags, BreaksInStart, BreaksInMoves, BreaksInTexts, Breaks, place_of, IsRecordFault}
+use Rattle.game_codec.specs.declared.fault.RecordFault.{RecordFault}
 use Rattle.game_codec.specs.Scanning.{Scans, Stop, nest_of, comments_in, dealt}
 use Rattle.game_codec.specs.Flat.{IsFlat, IsRead, IsFlatInMoves, IsFlatInTexts, FlatBreaks}
 use Rattle.game_codec.specs.declared.token.Token.{Token}
@@ -329,3 +330,8 @@ module _ (bytes rest rest' : List ℕ) (what what' : RecordWhat) where
           | inr last ↦ elim last [ inl moves ↦ from_moves moves other | inr texts ↦ from_texts texts other ]
         ]
       ]
+
+-- bytes that are a record have no fault
+pub record-unbroken : (bytes : List ℕ) (tags : List Tag) (game : GameTree) (fault : RecordFault) → IsRecord bytes tags game → IsRecordFault bytes fault → ⊥
+record-unbroken bytes tags game fault r broken =
+    break-only bytes tags game broken.rest fault.what (flat_break bytes broken.rest fault.what broken.breaks) r
