@@ -10,3 +10,4 @@ pub mod Written
 pub mod Scanning
 pub mod Breach
 pub mod Adding
+pub mod Flat

@@ -1,10 +1,12 @@
-ghost use Rattle.std.specs.Prelude.{◌≡◌, ◌<◌, ◌^◌, ◌⊎◌, List, All, length, IfOk, IfErr, MatchResult};
+ghost use Rattle.std.specs.Prelude.{◌≡◌, ℕ, ◌<◌, ◌^◌, ◌⊎◌, List, All, length, IfOk, IfErr, MatchResult};
 ghost use Rattle.game_tree.specs.Game.{GameTree};
 ghost use Rattle.game_tree.specs.Head.{IsTag};
 ghost use Rattle.game_tree.specs.Legal.{IsLegalGame};
 ghost use Rattle.game_tree.specs.declared.head.Tag.{Tag as TagValue};
 ghost use Rattle.game_codec.specs.Record.{IsRecord};
-ghost use Rattle.game_codec.specs.Fault.{IsRecordFault, IfBad};
+ghost use Rattle.game_codec.specs.Breach.{TellsBad};
+ghost use Rattle.game_codec.specs.Fault.{IsRecordFault, IfBad, place_of};
+ghost use Rattle.game_codec.specs.Flat.{FlatBreaks, IsRead};
 ghost use Rattle.game_codec.specs.declared.fault.RecordFault.{RecordFault as Fault};
 ghost use Rattle.game_codec.specs.declared.fault.DecodeError.TheVariants.{Bad, Memory};
 
@@ -45,7 +47,10 @@ pub fn decode_game(alloc: Global, bytes: &[u8]) -> Result<(Game, Vec<Tag>), Deco
 }
 
 /// The same with a fault by the number of bytes from the faulty item on.
-fn read_record(alloc: Global, bytes: &[u8]) -> Result<(Game, Vec<Tag>), Refusal> {
+fn read_record(alloc: Global, bytes: &[u8]) -> Result<(Game, Vec<Tag>), Refusal>
+    ensures ok { IfOk result (λ read. IsRead bytes.now read.1.items read.0) }
+    ensures err { IfErr result (TellsBad (FlatBreaks bytes.now)) }
+{
     let tags = read_tags(alloc, bytes)?;
     let (_, behind_tags) = bytes.split_at(tags.used);
     let start = read_start(behind_tags)?;
@@ -62,9 +67,12 @@ fn read_record(alloc: Global, bytes: &[u8]) -> Result<(Game, Vec<Tag>), Refusal>
 }
 
 /// The place of a fault, by the length of the record and the number of bytes from the faulty item on.
-fn place_of(len: usize, left: usize, what: RecordWhat) -> u32 {
+fn place_of(len: usize, left: usize, what: RecordWhat) -> u32
+    requires few { len < 2 ^ 32 }
+    ensures place { (rest : List ℕ) → length rest ≡ left → result ≡ place_of len rest what }
+{
     match what {
         RecordWhat::Short | RecordWhat::Move(MoveFault::Short) => len as u32,
-        _ => (len - left) as u32,
+        _ => len.saturating_sub(left) as u32,
     }
 }
