@@ -37,11 +37,20 @@ abbrev pub StopsAt : Nest → List ℕ → Stop → Type 0
 StopsAt n bytes (Ok rest) = Takes n.current bytes End rest
 StopsAt n bytes (Err fault) = (fault.0 ≡ bytes) × FaultAt n.current bytes fault.1
 
+-- an item that does not end the game
+abbrev pub IsInner : Token → Type 0
+IsInner (Play m) = Unit {0}
+IsInner (Nag n) = Unit {0}
+IsInner Comment = Unit {0}
+IsInner Open = Unit {0}
+IsInner Close = Unit {0}
+IsInner End = ⊥
+
 -- the bytes begin with these items, and then this stops the reading
 abbrev pub Scans : Nest → List ℕ → List Token → Stop → Type 0
 Scans n bytes [] stop = StopsAt n bytes stop
 Scans n bytes (token ∷ tokens) stop =
-    (later : List ℕ) × Takes n.current bytes token later × Scans (nest_after n token) later tokens stop
+    IsInner token × ((later : List ℕ) × Takes n.current bytes token later × Scans (nest_after n token) later tokens stop)
 
 -- how many comments are among the items
 abbrev pub comments_in : List Token → ℕ
