@@ -128,7 +128,9 @@ FaultAt-told p bytes what.Extra h = absurd h
 -- The laws
 
 same_taken : (a b : Token) (r s : List ℕ) → ◌≡◌ {A = Answer} (Ok (a, r)) (Ok (b, s)) → (a ≡ b) × (r ≡ s)
-same_taken a b r s h = (cc, cc)
+same_taken a b r s h =
+    let same : ◌≡◌ {A = Token × List ℕ} (a, r) (b, s) = cc in
+    (ap (λ (x : Token × List ℕ). x.0) same, ap (λ (x : Token × List ℕ). x.1) same)
 
 -- the bytes at a place begin with one item, and the same bytes follow it
 pub Takes-one : (p : Place) (bytes : List ℕ) (a b : Token) (r s : List ℕ) → Takes p bytes a r → Takes p bytes b s → (a ≡ b) × (r ≡ s)
@@ -139,12 +141,12 @@ Takes-one p bytes a b r s first second =
 pub Takes-unbroken : (p : Place) (bytes : List ℕ) (a : Token) (r : List ℕ) (w : RecordWhat) → Takes p bytes a r → FaultAt p bytes w → ⊥
 Takes-unbroken p bytes a r w takes fault =
     let same : ◌≡◌ {A = Answer} (Ok (a, r)) (Err w) =
-        Told-one p bytes (Ok (a, r)) (Err w) (Takes-told p bytes a r takes) (FaultAt-told p bytes w fault) in
+    Told-one p bytes (Ok (a, r)) (Err w) (Takes-told p bytes a r takes) (FaultAt-told p bytes w fault) in
     absurd (cc)
 
 -- what is wrong at a place is one fault
 pub FaultAt-one : (p : Place) (bytes : List ℕ) (w v : RecordWhat) → FaultAt p bytes w → FaultAt p bytes v → w ≡ v
 FaultAt-one p bytes w v first second =
     let same : ◌≡◌ {A = Answer} (Err w) (Err v) =
-        Told-one p bytes (Err w) (Err v) (FaultAt-told p bytes w first) (FaultAt-told p bytes v second) in
+    Told-one p bytes (Err w) (Err v) (FaultAt-told p bytes w first) (FaultAt-told p bytes v second) in
     cc

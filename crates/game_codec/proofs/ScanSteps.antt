@@ -1,5 +1,5 @@
 -- The items that were read so far, and what is left: it gives all.
-use Rattle.std.proofs.Common.{◌≡◌, ℕ, ◌+◌, ◌-◌, ◌≤◌, List, [], ◌∷◌, ◌++◌, Ok, Err, length, drop, refl, sym, ◌∙◌, ap, subst, append_assoc, append-nil, length-drop, arith}
+use Rattle.std.proofs.Common.{◌≡◌, ℕ, ◌+◌, ◌-◌, ◌≤◌, List, [], ◌∷◌, ◌++◌, Ok, Err, length, drop, refl, ◌∙◌, ap, subst, append_assoc, append-nil, length-drop, arith}
 use Rattle.std.proofs.lemmas.List.{drop-drop}
 use Rattle.game_codec.specs.Place.{Takes, FaultAt}
 use Rattle.game_codec.specs.Scanning.{Nest, IsInner, Scans, Stop, nest_after}

@@ -8,4 +8,5 @@ pub mod Record
 pub mod Fault
 pub mod Written
 pub mod Scanning
+pub mod Nests
 pub mod Breach

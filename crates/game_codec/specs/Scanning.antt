@@ -1,11 +1,9 @@
 -- The items of a record one behind the other, as the code reads them. No public contract cites these words.
-use Rattle.std.specs.Prelude.{◌≡◌, ◌<◌, ℕ, suc, List, [], ◌∷◌, Result, Ok, Err, reverse}
-use Rattle.chess_laws.specs.Step.{Legal}
+use Rattle.std.specs.Prelude.{◌≡◌, ℕ, suc, List, [], ◌∷◌, Result, Ok, Err}
 use Rattle.game_tree.specs.Items.{Item, plays, glyph, note, opens, closes, Script, items_of}
 use Rattle.move_codec.specs.Numbers.{Numbered}
 use Rattle.game_codec.specs.Place.{Takes, FaultAt, beginning, after_move, after_comment, variation_of}
 use Rattle.game_codec.specs.declared.place.Place.{Place}
-use Rattle.game_codec.specs.declared.scanner.Scanner.{Scanner}
 use Rattle.game_codec.specs.declared.token.Token.{Token}
 use Rattle.game_codec.specs.declared.token.Token.TheVariants.{Play, Nag, Comment, Open, Close, End}
 use Rattle.game_codec.specs.declared.fault.RecordWhat.{RecordWhat}
@@ -14,10 +12,6 @@ use Rattle.game_codec.specs.declared.fault.RecordWhat.{RecordWhat}
 pub record Nest : Type 0 where
   pub current : Place
   pub outer : List Place
-
--- those of a scanner, whose innermost line is the last of its stack
-abbrev pub nest : Scanner → Nest
-nest s = record { current = s.current; outer = reverse s.outer.items }
 
 abbrev pub nested_out : Place → List Place → Nest
 nested_out p [] = record { current = p; outer = [] }
@@ -30,15 +24,6 @@ nest_after n Comment = record { current = after_comment n.current; outer = n.out
 nest_after n Open = record { current = variation_of n.current; outer = n.current ∷ n.outer }
 nest_after n Close = nested_out n.current n.outer
 nest_after n End = n
-
--- the item may be taken at the place: a move is legal, and no more variations are open than may be
-abbrev pub MayTake : Place → Token → Type 0
-MayTake p (Play m) = Legal p.here.position m
-MayTake p (Nag n) = Unit {0}
-MayTake p Comment = Unit {0}
-MayTake p Open = p.depth < 200
-MayTake p Close = Unit {0}
-MayTake p End = Unit {0}
 
 -- the beginning of a game
 abbrev pub nest_of : Numbered → Nest

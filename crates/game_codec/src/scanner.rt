@@ -1,5 +1,6 @@
 ghost use Rattle.std.specs.Prelude.{◌≡◌, [], ◌∷◌, ◌++◌, IfOk};
-ghost use Rattle.game_codec.specs.Scanning.{MayTake, nest, nest_after, nest_of};
+ghost use Rattle.game_codec.specs.Nests.{MayTake, nest};
+ghost use Rattle.game_codec.specs.Scanning.{nest_after, nest_of};
 
 use super::place::Place;
 use super::token::Token;

@@ -1,5 +1,6 @@
 use Rattle.std.proofs.Common.{refl}
-use Rattle.game_codec.specs.Scanning.{nest, nest_of}
+use Rattle.game_codec.specs.Scanning.{nest_of}
+use Rattle.game_codec.specs.Nests.{nest}
 use Rattle.game_codec.proofs.ScanSteps.{HasRead-breaks, HasRead-ends, HasRead-more}
 use Rattle.game_codec.proofs.scanning.scan.Goals as goal
 
@@ -10,7 +11,7 @@ returns-in-Err-clause-err c = (
   (
     c.items.scanner.tokens.items,
     HasRead-breaks (nest_of c.args.start.now) c.args.bytes.now (nest c.items.scanner) c.items.scanner.tokens.items c.items.rest.now
-    c.place.result.now c.in-Err.what c.items.invariant c.place.ensures.place c.in-Err.ensures.fault,
+        c.place.result.now c.in-Err.what c.items.invariant c.place.ensures.place c.in-Err.ensures.fault,
   ),
 )
 

@@ -1,5 +1,6 @@
 use Rattle.std.proofs.Common.{length}
-use Rattle.game_codec.specs.Scanning.{nest, nest_of}
+use Rattle.game_codec.specs.Scanning.{nest_of}
+use Rattle.game_codec.specs.Nests.{nest}
 use Rattle.game_codec.proofs.ScanSteps.{HasRead}
 use Rattle.game_codec.proofs.scanning.scan.Given as goal
 

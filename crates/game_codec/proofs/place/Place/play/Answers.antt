@@ -1,10 +1,9 @@
 use Rattle.std.proofs.Common.{◌≡◌, true, false, refl}
 use Rattle.cell_core.specs.declared.step.Move.{Move}
 use Rattle.chess_laws.specs.declared.setup.Setup.{Setup}
-use Rattle.game_tree.specs.Replay.{stepped}
 use Rattle.game_tree.proofs.LegalLemmas.{Step-stepped}
 use Rattle.move_codec.specs.declared.numbers.Numbers.{Numbers}
-use Rattle.move_codec.specs.Numbers.{Numbered, numbers_after}
+use Rattle.move_codec.specs.Numbers.{Numbered}
 use Rattle.game_codec.specs.Place.{numbered_after, after_move}
 use Rattle.game_codec.specs.declared.place.Place.{Place}
 use Rattle.game_codec.proofs.place.Place.play.Goals as goal
