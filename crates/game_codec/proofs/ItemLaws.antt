@@ -1,12 +1,12 @@
 -- What may stand at a place of a record's moves is one item or one fault.
-use Rattle.std.proofs.Common.{◌≡◌, ℕ, zero, suc, ◌<◌, ◌≤◌, Bool, true, false, cond, eqb, ltb, IsTrue, List, [], ◌∷◌, Ok, Err, drop, inl, inr, refl, sym, ◌∙◌, ap, subst, arith}
+use Rattle.std.proofs.Common.{◌≡◌, ℕ, ◌<◌, ◌≤◌, true, false, cond, eqb, ltb, IsTrue, List, [], ◌∷◌, Ok, Err, drop, inl, inr, refl, sym, ◌∙◌, ap, arith}
 use Rattle.std.specs.Prelude.{Result}
 use Rattle.std.proofs.lemmas.Bool.Decides.{nat_tests}
 use Rattle.cell_core.specs.declared.step.Move.{Move}
 use Rattle.move_codec.specs.declared.fault.MoveFault.{MoveFault}
 use Rattle.move_codec.specs.Packed.{Decodes, is_mark}
 use Rattle.move_codec.proofs.Apart.{Decodes-one}
-use Rattle.game_codec.specs.Place.{Takes, FaultAt, IsMoveDue, IsMisplaced}
+use Rattle.game_codec.specs.Place.{Takes, FaultAt, IsMisplaced}
 use Rattle.game_codec.specs.declared.place.Place.{Place}
 use Rattle.game_codec.specs.declared.token.Token.{Token}
 use Rattle.game_codec.specs.declared.token.Token.TheVariants.{Play, Nag, Comment, Open, Close, End}

@@ -1,5 +1,5 @@
 -- The items of a record's moves have one reading.
-use Rattle.std.proofs.Common.{◌≡◌, ℕ, List, [], ◌∷◌, Ok, Err, refl, sym, ◌∙◌, ap, subst}
+use Rattle.std.proofs.Common.{◌≡◌, ℕ, List, [], ◌∷◌, Ok, Err, refl, sym, ◌∙◌, subst}
 use Rattle.game_codec.specs.Place.{Takes}
 use Rattle.game_codec.specs.Scanning.{Nest, IsInner, Scans, Stop, StopsAt, nest_after}
 use Rattle.game_codec.specs.declared.token.Token.{Token}
