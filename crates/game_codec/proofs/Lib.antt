@@ -3,6 +3,7 @@ pub mod TagLaws
 pub mod StartLaws
 pub mod TextLaws
 pub mod ItemLaws
+pub mod ScanSteps
 pub mod ScanLaws
 pub mod ScriptLaws
 pub mod BuildLaws

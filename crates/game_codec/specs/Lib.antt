@@ -8,6 +8,7 @@ pub mod Record
 pub mod Fault
 pub mod Written
 pub mod Scanning
+pub mod Nests
 pub mod Breach
 pub mod Adding
 pub mod Flat

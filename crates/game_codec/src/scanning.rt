@@ -25,7 +25,7 @@ pub(crate) fn scan(alloc: Global, start: &Numbered, bytes: &[u8]) -> Result<Scan
 {
     let mut scanner = Scanner::new(alloc, start);
     let mut rest = bytes;
-    loop {
+    'items: loop {
         match next_token(scanner.place(), rest) {
             Err(what) => {
                 return Err(Refusal::Bad(Breach {
@@ -35,13 +35,15 @@ pub(crate) fn scan(alloc: Global, start: &Numbered, bytes: &[u8]) -> Result<Scan
             }
             Ok(next) => {
                 rest = rest.split_at(next.used).1;
-                if next.token == Token::End {
-                    return Ok(Scanned {
-                        tokens: scanner.into_tokens(),
-                        used: bytes.len() - rest.len(),
-                    });
+                match next.token {
+                    Token::End => {
+                        return Ok(Scanned {
+                            tokens: scanner.into_tokens(),
+                            used: bytes.len() - rest.len(),
+                        });
+                    }
+                    token => scanner = scanner.take(token)?,
                 }
-                scanner = scanner.take(next.token)?;
             }
         }
     }

@@ -1,5 +1,5 @@
-ghost use Rattle.std.specs.Prelude.{◌<◌, ◌≤◌, length, drop, IfOk, IfErr};
-ghost use Rattle.game_codec.specs.Place.{Takes, FaultAt};
+ghost use Rattle.std.specs.Prelude.{◌≡◌, ◌<◌, ◌≤◌, ℕ, List, ◌∷◌, length, drop, IfOk, IfErr};
+ghost use Rattle.game_codec.specs.Place.{Takes, FaultAt, IsMoveDue};
 
 use super::fault::RecordWhat;
 use super::place::Place;
@@ -18,31 +18,43 @@ pub(crate) fn next_token(place: &Place, bytes: &[u8]) -> Result<NextToken, Recor
     ensures used { IfOk result (λ next. (0 < next.used) × (next.used ≤ length bytes.now)) }
     ensures fault { IfErr result (FaultAt place.now bytes.now) }
 {
-    match bytes {
-        [] => Err(RecordWhat::Short),
-        [11, ..] => nag(place, bytes),
-        [12, ..] => comment(place),
-        [13, ..] => opening(place),
-        [14, ..] => closing(place),
-        [15, ..] => end(place),
+    let [byte, behind @ ..] = bytes else {
+        return Err(RecordWhat::Short);
+    };
+    match *byte {
+        11 => nag(place, behind),
+        12 => comment(place),
+        13 => opening(place),
+        14 => closing(place),
+        15 => end(place),
         _ => moved(place, bytes),
     }
 }
 
-fn nag(place: &Place, bytes: &[u8]) -> Result<NextToken, RecordWhat> {
+/// A glyph, behind its mark.
+fn nag(place: &Place, behind: &[u8]) -> Result<NextToken, RecordWhat>
+    ensures takes { IfOk result (λ next. Takes place.now (11 ∷ behind.now) next.token (drop next.used (11 ∷ behind.now))) }
+    ensures used { IfOk result (λ next. (next.used ≡ 2) × (1 ≤ length behind.now)) }
+    ensures fault { IfErr result (FaultAt place.now (11 ∷ behind.now)) }
+{
     if !place.has_move {
         return Err(RecordWhat::Mark);
     }
-    match bytes {
-        [_, number, ..] => Ok(NextToken {
+    match behind {
+        [number, ..] => Ok(NextToken {
             token: Token::Nag(*number),
             used: 2,
         }),
-        _ => Err(RecordWhat::Short),
+        [] => Err(RecordWhat::Short),
     }
 }
 
-fn comment(place: &Place) -> Result<NextToken, RecordWhat> {
+/// A comment, whatever stands behind its mark.
+fn comment(place: &Place) -> Result<NextToken, RecordWhat>
+    ensures takes { IfOk result (λ next. (behind : List ℕ) → Takes place.now (12 ∷ behind) next.token behind) }
+    ensures used { IfOk result (λ next. next.used ≡ 1) }
+    ensures fault { IfErr result (λ what. (behind : List ℕ) → FaultAt place.now (12 ∷ behind) what) }
+{
     if place.has_comment {
         Err(RecordWhat::TwoComments)
     } else {
@@ -53,7 +65,12 @@ fn comment(place: &Place) -> Result<NextToken, RecordWhat> {
     }
 }
 
-fn opening(place: &Place) -> Result<NextToken, RecordWhat> {
+/// The beginning of a variation.
+fn opening(place: &Place) -> Result<NextToken, RecordWhat>
+    ensures takes { IfOk result (λ next. (behind : List ℕ) → Takes place.now (13 ∷ behind) next.token behind) }
+    ensures used { IfOk result (λ next. next.used ≡ 1) }
+    ensures fault { IfErr result (λ what. (behind : List ℕ) → FaultAt place.now (13 ∷ behind) what) }
+{
     if !place.has_move {
         Err(RecordWhat::Mark)
     } else if place.depth >= 200 {
@@ -66,7 +83,12 @@ fn opening(place: &Place) -> Result<NextToken, RecordWhat> {
     }
 }
 
-fn closing(place: &Place) -> Result<NextToken, RecordWhat> {
+/// The end of a variation.
+fn closing(place: &Place) -> Result<NextToken, RecordWhat>
+    ensures takes { IfOk result (λ next. (behind : List ℕ) → Takes place.now (14 ∷ behind) next.token behind) }
+    ensures used { IfOk result (λ next. next.used ≡ 1) }
+    ensures fault { IfErr result (λ what. (behind : List ℕ) → FaultAt place.now (14 ∷ behind) what) }
+{
     if place.depth == 0 {
         Err(RecordWhat::Mark)
     } else {
@@ -77,7 +99,12 @@ fn closing(place: &Place) -> Result<NextToken, RecordWhat> {
     }
 }
 
-fn end(place: &Place) -> Result<NextToken, RecordWhat> {
+/// The end of the game.
+fn end(place: &Place) -> Result<NextToken, RecordWhat>
+    ensures takes { IfOk result (λ next. (behind : List ℕ) → Takes place.now (15 ∷ behind) next.token behind) }
+    ensures used { IfOk result (λ next. next.used ≡ 1) }
+    ensures fault { IfErr result (λ what. (behind : List ℕ) → FaultAt place.now (15 ∷ behind) what) }
+{
     if place.depth == 0 {
         Ok(NextToken {
             token: Token::End,
@@ -88,7 +115,13 @@ fn end(place: &Place) -> Result<NextToken, RecordWhat> {
     }
 }
 
-fn moved(place: &Place, bytes: &[u8]) -> Result<NextToken, RecordWhat> {
+/// A packed move.
+fn moved(place: &Place, bytes: &[u8]) -> Result<NextToken, RecordWhat>
+    requires due { IsMoveDue bytes.now }
+    ensures takes { IfOk result (λ next. Takes place.now bytes.now next.token (drop next.used bytes.now)) }
+    ensures used { IfOk result (λ next. (0 < next.used) × (next.used ≤ length bytes.now)) }
+    ensures fault { IfErr result (FaultAt place.now bytes.now) }
+{
     match place.here.decode_move(bytes) {
         Ok((m, used)) => Ok(NextToken {
             token: Token::Play(m),
