@@ -8,5 +8,6 @@ pub mod ScanLaws
 pub mod ScriptLaws
 pub mod BuildLaws
 pub mod LegalLaws
+pub mod ShortLaws
 pub mod WrittenLaws
 pub mod DecodeLaws

@@ -1,0 +1,61 @@
+-- A game has no more moves than its record has bytes.
+use Rattle.std.proofs.Common.{◌≡◌, ℕ, ◌+◌, ◌<◌, ◌≤◌, zero, suc, List, [], ◌∷◌, ◌++◌, length, drop, inl, inr, ap, arith, length-append, length-drop}
+use Rattle.game_tree.specs.Game.{GameTree}
+use Rattle.game_tree.specs.Tree.{Line, moves_of}
+use Rattle.game_tree.specs.Items.{Script, stop, play, nag, mark, vary, meaning}
+use Rattle.game_tree.specs.Replay.{plies_of}
+use Rattle.game_tree.specs.declared.head.Tag.{Tag}
+use Rattle.move_codec.specs.Numbers.{Numbered}
+use Rattle.move_codec.proofs.Apart.{Decodes-used}
+use Rattle.game_codec.specs.TagSpelling.{BeginsTags}
+use Rattle.game_codec.specs.Start.{BeginsStart}
+use Rattle.game_codec.specs.Place.{Takes, ending, beginning, after_move, after_comment, variation_of}
+use Rattle.game_codec.specs.Moves.{SpellsMoves}
+use Rattle.game_codec.specs.Record.{IsRecord}
+use Rattle.game_codec.specs.declared.place.Place.{Place}
+use Rattle.game_codec.specs.declared.token.Token.{Token}
+use Rattle.game_codec.specs.declared.token.Token.TheVariants.{Play, Nag, Comment, Open, Close, End}
+
+-- an item takes a byte at least
+Takes-longer : (p : Place) (bytes : List ℕ) (token : Token) (later : List ℕ) → Takes p bytes token later → length later < length bytes
+Takes-longer p bytes (Play m) later takes =
+    let used = Decodes-used p.here bytes m takes.1.0 (takes.1.1.0, takes.1.1.1) in
+    let left = ap (λ (l : List ℕ). length l) takes.1.1.2 in
+    omega (arith, used.0, used.1, left, length-drop takes.1.0 bytes)
+Takes-longer p bytes (Nag n) later takes = let e = ap (λ (l : List ℕ). length l) takes.1 in omega (arith, e)
+Takes-longer p bytes Comment later takes = let e = ap (λ (l : List ℕ). length l) takes.1 in omega (arith, e)
+Takes-longer p bytes Open later takes = let e = ap (λ (l : List ℕ). length l) takes.2 in omega (arith, e)
+Takes-longer p bytes Close later takes = let e = ap (λ (l : List ℕ). length l) takes.1 in omega (arith, e)
+Takes-longer p bytes End later takes = let e = ap (λ (l : List ℕ). length l) takes.1 in omega (arith, e)
+
+Spells-longer : (p : Place) (s : Script) (bytes rest : List ℕ) → SpellsMoves p s bytes rest → length (moves_of (meaning s).line) + length rest < length bytes
+Spells-longer p stop bytes rest spells = omega (arith, Takes-longer p bytes (ending p.depth) rest spells)
+Spells-longer p (play m s) bytes rest spells =
+    omega (arith, Takes-longer p bytes (Play m) spells.0 spells.1, Spells-longer (after_move p m) s spells.0 rest spells.2)
+Spells-longer p (nag n s) bytes rest spells =
+    omega (arith, Takes-longer p bytes (Nag n) spells.0 spells.1, Spells-longer p s spells.0 rest spells.2)
+Spells-longer p (mark text s) bytes rest spells =
+    omega (arith, Takes-longer p bytes Comment spells.0 spells.1, Spells-longer (after_comment p) s spells.0 rest spells.2)
+Spells-longer p (vary inner s) bytes rest spells =
+    omega (arith, Takes-longer p bytes Open spells.0 spells.1, Spells-longer (variation_of p) inner spells.0 spells.2.0 spells.2.1,
+    Spells-longer p s spells.2.0 rest spells.2.2)
+
+-- what is behind the tags, and behind the start, is shorter
+Tags-longer : (bytes : List ℕ) (tags : List Tag) (rest : List ℕ) → BeginsTags bytes tags rest → length rest ≤ length bytes
+Tags-longer bytes [] rest begins = let e = ap (λ (l : List ℕ). length l) begins in omega (arith, e)
+Tags-longer bytes (tag ∷ tags) rest begins =
+    let e = ap (λ (l : List ℕ). length l) begins.1.2 in
+    omega (arith, e, length-append begins.1.0 begins.0, Tags-longer begins.0 tags rest begins.2)
+
+Start-longer : (bytes : List ℕ) (start : Numbered) (rest : List ℕ) → BeginsStart bytes start rest → length rest ≤ length bytes
+Start-longer bytes start rest begins =
+    elim begins [
+      | inl standard ↦ let e = ap (λ (l : List ℕ). length l) standard.spelled in omega (arith, e)
+      | inr own ↦ let e = ap (λ (l : List ℕ). length l) own.spelled in omega (arith, e, length-append own.text (0 ∷ rest))
+    ]
+
+pub record-short : (bytes : List ℕ) (tags : List Tag) (game : GameTree) → IsRecord bytes tags game → plies_of game ≤ length bytes
+record-short bytes tags game r =
+    let e = ap (λ (g : GameTree). plies_of g) r.game_is in
+    omega (arith, e, Tags-longer bytes r.all_tags r.behind_tags r.tags_first, Start-longer r.behind_tags r.start r.behind_start r.then_start,
+    Spells-longer (beginning 0 r.start) r.script r.behind_start r.behind_moves r.then_moves)
