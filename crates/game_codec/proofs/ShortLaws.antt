@@ -19,8 +19,8 @@ use Rattle.game_codec.specs.declared.token.Token.TheVariants.{Play, Nag, Comment
 -- an item takes a byte at least
 Takes-longer : (p : Place) (bytes : List ℕ) (token : Token) (later : List ℕ) → Takes p bytes token later → length later < length bytes
 Takes-longer p bytes (Play m) later takes =
-    let used = Decodes-used p.here bytes m takes.1.0 (takes.1.1.0, takes.1.1.1) in
-    let left = ap (λ (l : List ℕ). length l) takes.1.1.2 in
+    let used = Decodes-used p.here bytes m takes.1.0 takes.1.1 in
+    let left = ap (λ (l : List ℕ). length l) takes.1.2 in
     omega (arith, used.0, used.1, left, length-drop takes.1.0 bytes)
 Takes-longer p bytes (Nag n) later takes = let e = ap (λ (l : List ℕ). length l) takes.1 in omega (arith, e)
 Takes-longer p bytes Comment later takes = let e = ap (λ (l : List ℕ). length l) takes.1 in omega (arith, e)
