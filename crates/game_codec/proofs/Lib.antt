@@ -1,4 +1,6 @@
 pub mod SameFault
+pub mod SameFaultLaws
+pub mod ZeroLaws
 pub mod TagLaws
 pub mod StartLaws
 pub mod TextLaws
