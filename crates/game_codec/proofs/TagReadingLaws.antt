@@ -1,10 +1,10 @@
 -- The bytes begin with a tag exactly where they are read as it.
-use Rattle.std.proofs.Common.{◌≡◌, ◌≢◌, ℕ, zero, suc, ◌+◌, ◌-◌, ◌*◌, ◌/◌, ◌%◌, ◌<◌, ◌≤◌, ◌⊎◌, inl, inr, Bool, true, false, cond, not, ◌&&◌, ◌==◌, nat_le, nat_lt, List, [], ◌∷◌, ◌++◌, Option, Some, None, Result, Ok, Err, length, slice_index_or, take, drop, refl, sym, ap, subst, ◌∙◌, arith, codes, append_assoc, All, length-append}
+use Rattle.std.proofs.Common.{◌≡◌, ◌≢◌, ℕ, zero, suc, ◌+◌, ◌-◌, ◌*◌, ◌/◌, ◌%◌, ◌<◌, ◌≤◌, ◌⊎◌, inl, inr, Bool, true, false, cond, not, ◌&&◌, ◌==◌, nat_le, nat_lt, List, [], ◌∷◌, ◌++◌, Option, Some, None, Result, Ok, Err, length, slice_index_or, get_or, take, drop, refl, sym, ap, subst, ◌∙◌, arith, codes, append_assoc, All, length-append}
 use Rattle.std.specs.List.{list_all, slice_get}
 use Rattle.std.proofs.Math.Nat.{div-div-eq-div-mul}
 use Rattle.std.proofs.lemmas.Bool.{cases_Bool, cond_both, eqb-true, eqb-false, ne_eqb, leb-true, leb-false, le-leb, lt-leb, ltb-true, ltb-false, le-ltb, not-true, not-false, and_from, and_parts, not_from_false, not_from_true}
-use Rattle.std.proofs.lemmas.List.{take_at, drop_at, take-append-drop, length-take-le}
-use Rattle.std.proofs.lemmas.List.Elements.{All-head, All-tail, All-nil, All-cons, All-from_recursion}
+use Rattle.std.proofs.lemmas.List.{take_at, drop_at, take-append-drop, length-take-le, drop-drop, length-drop}
+use Rattle.std.proofs.lemmas.List.Elements.{All-head, All-tail, All-nil, All-cons, All-from_recursion, All-from_get_or}
 use Rattle.std.proofs.lemmas.Option.{slice_get_within, slice_get-get_or, get_or_from_slice_get}
 use Rattle.cell_core.specs.Text.{IsZeroFree}
 use Rattle.game_tree.specs.Date.{IsDate, date_text, shown}
@@ -427,3 +427,13 @@ end-tag_at (code ∷ bytes) h =
                 ]
           ]
     ]
+
+-- ---- one step of reading
+
+pub next_tag-is : (bytes : List ℕ) (tag read : Tag) (used : ℕ) → ((i : ℕ) → get_or bytes i 0 < 256) → tag ≡ read
+    → tag_at bytes ≡ Ok (Some (read, drop used (drop 1 bytes))) → used ≤ length (drop 1 bytes) → 0 < length bytes
+    → BeginsTag bytes tag (drop (1 + used) bytes) × (0 < 1 + used) × (1 + used ≤ length bytes)
+next_tag-is bytes tag read used small same h fits some =
+    let small' : All (λ b. b < 256) bytes = All-from_get_or (λ b. b < 256) bytes 0 (λ i _. small i) in
+    let e : tag_at bytes ≡ Ok (Some (tag, drop (1 + used) bytes)) = rw (same, ← drop-drop used 1 bytes) h in
+    (BeginsTag-tag_at bytes tag (drop (1 + used) bytes) small' e, omega arith, omega (arith, length-drop {A = ℕ}))
