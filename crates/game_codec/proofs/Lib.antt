@@ -1,4 +1,7 @@
 pub mod SameFault
+pub mod SameFaultLaws
+pub mod ZeroLaws
+pub mod TagReadingLaws
 pub mod TagLaws
 pub mod StartLaws
 pub mod TextLaws

@@ -1,5 +1,6 @@
 pub mod TagSpelling
 pub mod TagReading
+pub mod TagParts
 pub mod Start
 pub mod Place
 pub mod Moves

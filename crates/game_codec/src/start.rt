@@ -1,6 +1,6 @@
-ghost use Rattle.std.specs.Prelude.{◌≤◌, length, drop, IfOk, IfErr};
+ghost use Rattle.std.specs.Prelude.{◌≡◌, ◌+◌, ◌%◌, ◌≤◌, ℕ, ◌∷◌, length, drop, IfOk, IfErr};
 ghost use Rattle.game_codec.specs.Breach.{Tells};
-ghost use Rattle.game_codec.specs.Start.{BeginsStart, BreaksStart};
+ghost use Rattle.game_codec.specs.Start.{BeginsStart, BreaksStart, IsOwnStart};
 
 use super::breach::Breach;
 use super::fault::RecordWhat;
@@ -40,7 +40,11 @@ pub(crate) fn read_start(bytes: &[u8]) -> Result<StartRead, Breach>
 }
 
 /// Reads an own start, behind the flags. The bytes used count the flags too.
-fn read_own_start(bytes: &[u8]) -> Result<StartRead, Breach> {
+fn read_own_start(bytes: &[u8]) -> Result<StartRead, Breach>
+    ensures ok { IfOk result (λ read. (flags : ℕ) → flags % 2 ≡ 1 → IsOwnStart (flags ∷ bytes.now) read.start (drop read.used (flags ∷ bytes.now))) }
+    ensures used { IfOk result (λ read. read.used ≤ length bytes.now + 1) }
+    ensures err { IfErr result (λ breach. (flags : ℕ) → flags % 2 ≡ 1 → Tells (BreaksStart (flags ∷ bytes.now)) breach) }
+{
     let Some(len) = zero_at(bytes) else {
         return Err(Breach {
             left: 0,

@@ -1,8 +1,14 @@
-ghost use Rattle.std.specs.Prelude.{◌≡◌, ◌<◌, ◌≤◌, List, length, drop, Ok, Err, IfOk, IfErr, slice_index_or};
+ghost use Rattle.std.specs.Prelude.{◌≡◌, ◌+◌, ◌-◌, ◌<◌, ◌≤◌, ◌≢◌, List, [], ◌∷◌, length, take, drop, Ok, Err, IfOk, IfErr, slice_index_or, codes};
+ghost use Rattle.std.specs.List.{list_all};
+ghost use Rattle.std.specs.Bool.{OnTrue};
+ghost use Rattle.cell_core.specs.Text.{IsZeroFree};
+ghost use Rattle.game_tree.specs.Date.{date_text};
 ghost use Rattle.game_tree.specs.declared.head.Tag.{Tag as TagValue};
 ghost use Rattle.game_codec.specs.Breach.{TellsBad};
-ghost use Rattle.game_codec.specs.TagSpelling.{BeginsTags, free_of};
-ghost use Rattle.game_codec.specs.TagReading.{BreaksTags};
+ghost use Rattle.game_codec.specs.TagSpelling.{BeginsTags, free_of, coded_names};
+ghost use Rattle.game_codec.specs.TagReading.{BreaksTags, part_at, value_at, with_name, with_value, date_at, tag_at, is_name_byte, is_value_byte};
+ghost use Rattle.game_codec.specs.TagParts.{IsNext, IsParts, tag_of};
+ghost use Rattle.game_codec.specs.declared.fault.RecordWhat.TheVariants as fault;
 
 use super::breach::{Breach, Refusal};
 use super::fault::RecordWhat;
@@ -67,12 +73,15 @@ enum Next {
 }
 
 /// The next tag.
-fn next_tag(alloc: Global, bytes: &[u8]) -> Result<Next, Refusal> {
+fn next_tag(alloc: Global, bytes: &[u8]) -> Result<Next, Refusal>
+    ensures ok { IfOk result (IsNext bytes.now) }
+    ensures err { IfErr result (TellsBad (λ rest what. (rest ≡ bytes.now) × (tag_at bytes.now ≡ Err what))) }
+{
     match next_parts(bytes) {
         Ok(Parts::End) => Ok(Next::End),
         Ok(Parts::Named { name, value, used }) => Ok(Next::Tag {
             tag: tag_of(alloc, name, value)?,
-            used,
+            used: 1 + used,
         }),
         Ok(Parts::Dated { date }) => Ok(Next::Tag {
             tag: tag_of(alloc, b"EventDate", date.text().as_slice())?,
@@ -85,7 +94,21 @@ fn next_tag(alloc: Global, bytes: &[u8]) -> Result<Next, Refusal> {
     }
 }
 
-/// What the next tag is made of.
+/// A tag of these texts.
+fn tag_of(alloc: Global, name: &[u8], value: &[u8]) -> Result<Tag, AllocError>
+    requires name { IsZeroFree name.now }
+    requires value { IsZeroFree value.now }
+    ensures texts { IfOk result (λ tag. tag ≡ tag_of name.now value.now) }
+{
+    let name = Vec::from_slice(alloc, name)?;
+    let value = Vec::from_slice(alloc, value)?;
+    Ok(Tag {
+        name: Text::from_zero_free(name),
+        value: Text::from_zero_free(value),
+    })
+}
+
+/// What the next tag is made of. The bytes used are counted behind its first.
 enum Parts<'a> {
     Named {
         name: &'a [u8],
@@ -98,50 +121,82 @@ enum Parts<'a> {
     End,
 }
 
-/// A tag of these texts.
-fn tag_of(alloc: Global, name: &[u8], value: &[u8]) -> Result<Tag, AllocError> {
-    let name = Text::from_zero_free(Vec::from_slice(alloc, name)?);
-    let value = Text::from_zero_free(Vec::from_slice(alloc, value)?);
-    Ok(Tag { name, value })
-}
-
 /// The parts of the next tag, or its first fault.
-fn next_parts<'a>(bytes: &'a [u8]) -> Result<Parts<'a>, RecordWhat> {
-    let [code, behind @ ..] = bytes else {
-        return Err(RecordWhat::Short);
-    };
-    match *code {
-        0 => Ok(Parts::End),
-        1..=240 => spelled_out(behind, usize::from(*code)),
-        241..=250 => coded(CODED_NAMES[usize::from(*code - 241)], behind),
-        251..=254 => Err(RecordWhat::TagCode),
-        255 => dated(behind),
+fn next_parts<'a>(bytes: &'a [u8]) -> Result<Parts<'a>, RecordWhat>
+    ensures ok { IfOk result (IsParts (tag_at bytes.now) (drop 1 bytes.now)) }
+    ensures some { IfOk result (λ parts. 0 < length bytes.now) }
+    ensures err { IfErr result (λ what. tag_at bytes.now ≡ Err what) }
+{
+    match bytes {
+        [] => Err(RecordWhat::Short),
+        [code, behind @ ..] => parts_of(*code, behind),
     }
 }
 
+/// The parts of a tag that begins with this byte, and those behind it.
+#[tactic(auto, unfolding(crate::specs::TagReading::tag_at))]
+fn parts_of<'a>(code: u8, bytes: &'a [u8]) -> Result<Parts<'a>, RecordWhat>
+    ensures ok { IfOk result (IsParts (tag_at (code ∷ bytes.now)) bytes.now) }
+    ensures err { IfErr result (λ what. tag_at (code ∷ bytes.now) ≡ Err what) }
+{
+    if code == 0 {
+        return Ok(Parts::End);
+    }
+    if code <= 240 {
+        return spelled_out(bytes, usize::from(code));
+    }
+    if code <= 250 {
+        return coded(code - 241, bytes);
+    }
+    if code <= 254 {
+        return Err(RecordWhat::TagCode);
+    }
+    dated(bytes)
+}
+
+/// The name that a code stands for.
+fn coded_name(number: u8) -> &'static [u8]
+    requires { number < 10 }
+    ensures name { result.now ≡ slice_index_or coded_names number [] }
+    ensures zero_free { IsZeroFree result.now }
+{
+    CODED_NAMES[usize::from(number)]
+}
+
 /// A tag whose name has `len` bytes, behind the length.
-fn spelled_out<'a>(bytes: &'a [u8], len: usize) -> Result<Parts<'a>, RecordWhat> {
+fn spelled_out<'a>(bytes: &'a [u8], len: usize) -> Result<Parts<'a>, RecordWhat>
+    ensures ok { IfOk result (IsParts (with_name (part_at is_name_byte fault.TagName len bytes.now)) bytes.now) }
+    ensures err { IfErr result (λ what. with_name (part_at is_name_byte fault.TagName len bytes.now) ≡ Err what) }
+{
     let name = name_part(bytes, len)?;
     let value = value_part(bytes.split_at(len).1)?;
     Ok(Parts::Named {
         name,
         value,
-        used: 2 + len + value.len(),
+        used: len + 1 + value.len(),
     })
 }
 
-/// A tag whose name was told by a code, behind the code.
-fn coded<'a>(name: &'a [u8], bytes: &'a [u8]) -> Result<Parts<'a>, RecordWhat> {
+/// A tag with one of the names that have a code, behind the code.
+fn coded<'a>(number: u8, bytes: &'a [u8]) -> Result<Parts<'a>, RecordWhat>
+    requires { number < 10 }
+    ensures ok { IfOk result (IsParts (with_value (slice_index_or coded_names number []) (value_at bytes.now)) bytes.now) }
+    ensures err { IfErr result (λ what. with_value (slice_index_or coded_names number []) (value_at bytes.now) ≡ Err what) }
+{
     let value = value_part(bytes)?;
     Ok(Parts::Named {
-        name,
+        name: coded_name(number),
         value,
-        used: 2 + value.len(),
+        used: 1 + value.len(),
     })
 }
 
 /// A packed date, behind its code.
-fn dated<'a>(bytes: &'a [u8]) -> Result<Parts<'a>, RecordWhat> {
+#[tactic(auto, unfolding(crate::specs::TagReading::date_at))]
+fn dated<'a>(bytes: &'a [u8]) -> Result<Parts<'a>, RecordWhat>
+    ensures ok { IfOk result (IsParts (date_at bytes.now) bytes.now) }
+    ensures err { IfErr result (λ what. date_at bytes.now ≡ Err what) }
+{
     let [a, b, c, ..] = bytes else {
         return Err(RecordWhat::Short);
     };
@@ -161,23 +216,45 @@ fn dated<'a>(bytes: &'a [u8]) -> Result<Parts<'a>, RecordWhat> {
 }
 
 /// A name of `len` bytes. A byte that no name may have is told before an early end.
-fn name_part(bytes: &[u8], len: usize) -> Result<&[u8], RecordWhat> {
+#[tactic(auto, unfolding(crate::specs::TagReading::part_at))]
+fn name_part(bytes: &[u8], len: usize) -> Result<&[u8], RecordWhat>
+    ensures ok { IfOk result (λ name. part_at is_name_byte fault.TagName len bytes.now ≡ Ok (name.now, drop len bytes.now)) }
+    ensures some { IfOk result (λ name. (length name.now ≡ len) × (len ≤ length bytes.now)) }
+    ensures zero_free { IfOk result (λ name. IsZeroFree name.now) }
+    ensures err { IfErr result (λ what. part_at is_name_byte fault.TagName len bytes.now ≡ Err what) }
+{
     let (there, _) = bytes.split_at(len.min(bytes.len()));
-    if there.iter().all(|byte| is_name_byte(*byte)) {
+    if has_name_bytes_alone(there) {
         whole(there, len)
     } else {
         Err(RecordWhat::TagName)
     }
 }
 
-/// A value behind its length. A zero byte is told before an early end.
-fn value_part(bytes: &[u8]) -> Result<&[u8], RecordWhat> {
-    let [len, behind @ ..] = bytes else {
-        return Err(RecordWhat::Short);
-    };
-    let len = usize::from(*len);
-    let (there, _) = behind.split_at(len.min(behind.len()));
-    if there.iter().all(|byte| *byte != 0) {
+/// A value behind its length.
+#[tactic(auto, unfolding(crate::specs::TagReading::value_at))]
+fn value_part(bytes: &[u8]) -> Result<&[u8], RecordWhat>
+    ensures ok { IfOk result (λ value. value_at bytes.now ≡ Ok (value.now, drop (1 + length value.now) bytes.now)) }
+    ensures some { IfOk result (λ value. 1 + length value.now ≤ length bytes.now) }
+    ensures zero_free { IfOk result (λ value. IsZeroFree value.now) }
+    ensures err { IfErr result (λ what. value_at bytes.now ≡ Err what) }
+{
+    match bytes {
+        [] => Err(RecordWhat::Short),
+        [len, behind @ ..] => counted(behind, usize::from(*len)),
+    }
+}
+
+/// A value of `len` bytes. A zero byte is told before an early end.
+#[tactic(auto, unfolding(crate::specs::TagReading::part_at))]
+fn counted(bytes: &[u8], len: usize) -> Result<&[u8], RecordWhat>
+    ensures ok { IfOk result (λ value. part_at is_value_byte fault.TagValue len bytes.now ≡ Ok (value.now, drop len bytes.now)) }
+    ensures some { IfOk result (λ value. (length value.now ≡ len) × (len ≤ length bytes.now)) }
+    ensures zero_free { IfOk result (λ value. IsZeroFree value.now) }
+    ensures err { IfErr result (λ what. part_at is_value_byte fault.TagValue len bytes.now ≡ Err what) }
+{
+    let (there, _) = bytes.split_at(len.min(bytes.len()));
+    if has_value_bytes_alone(there) {
         whole(there, len)
     } else {
         Err(RecordWhat::TagValue)
@@ -185,7 +262,10 @@ fn value_part(bytes: &[u8]) -> Result<&[u8], RecordWhat> {
 }
 
 /// The bytes that are there, where they are as many as are due.
-fn whole(there: &[u8], len: usize) -> Result<&[u8], RecordWhat> {
+fn whole(there: &[u8], len: usize) -> Result<&[u8], RecordWhat>
+    ensures ok { IfOk result (λ part. (part.now ≡ there.now) × (len ≤ length there.now)) }
+    ensures err { IfErr result (λ what. (what ≡ fault.Short) × (length there.now < len)) }
+{
     if there.len() < len {
         Err(RecordWhat::Short)
     } else {
@@ -193,6 +273,23 @@ fn whole(there: &[u8], len: usize) -> Result<&[u8], RecordWhat> {
     }
 }
 
-fn is_name_byte(byte: u8) -> bool {
+fn has_name_bytes_alone(bytes: &[u8]) -> bool
+    ensures all { result ≡ list_all is_name_byte bytes.now }
+    ensures zero_free { OnTrue result (IsZeroFree bytes.now) }
+{
+    bytes.iter().all(|byte| is_name_byte(*byte))
+}
+
+fn has_value_bytes_alone(bytes: &[u8]) -> bool
+    ensures all { result ≡ list_all is_value_byte bytes.now }
+    ensures zero_free { OnTrue result (IsZeroFree bytes.now) }
+{
+    bytes.iter().all(|byte| *byte != 0)
+}
+
+fn is_name_byte(byte: u8) -> bool
+    ensures name { result ≡ is_name_byte byte }
+    ensures not_zero { OnTrue result (byte ≢ 0) }
+{
     33 <= byte && byte <= 126 && byte != b'"' && byte != b']'
 }
