@@ -37,8 +37,12 @@ Spells-longer p (nag n s) bytes rest spells =
 Spells-longer p (mark text s) bytes rest spells =
     omega (arith, Takes-longer p bytes Comment spells.0 spells.1, Spells-longer (after_comment p) s spells.0 rest spells.2)
 Spells-longer p (vary inner s) bytes rest spells =
-    omega (arith, Takes-longer p bytes Open spells.0 spells.1, Spells-longer (variation_of p) inner spells.0 spells.2.0 spells.2.1,
-    Spells-longer p s spells.2.0 rest spells.2.2)
+    omega (
+      arith,
+      Takes-longer p bytes Open spells.0 spells.1,
+      Spells-longer (variation_of p) inner spells.0 spells.2.0 spells.2.1,
+      Spells-longer p s spells.2.0 rest spells.2.2,
+    )
 
 -- what is behind the tags, and behind the start, is shorter
 Tags-longer : (bytes : List ℕ) (tags : List Tag) (rest : List ℕ) → BeginsTags bytes tags rest → length rest ≤ length bytes
@@ -57,5 +61,10 @@ Start-longer bytes start rest begins =
 pub record-short : (bytes : List ℕ) (tags : List Tag) (game : GameTree) → IsRecord bytes tags game → plies_of game ≤ length bytes
 record-short bytes tags game r =
     let e = ap (λ (g : GameTree). plies_of g) r.game_is in
-    omega (arith, e, Tags-longer bytes r.all_tags r.behind_tags r.tags_first, Start-longer r.behind_tags r.start r.behind_start r.then_start,
-    Spells-longer (beginning 0 r.start) r.script r.behind_start r.behind_moves r.then_moves)
+    omega (
+      arith,
+      e,
+      Tags-longer bytes r.all_tags r.behind_tags r.tags_first,
+      Start-longer r.behind_tags r.start r.behind_start r.then_start,
+      Spells-longer (beginning 0 r.start) r.script r.behind_start r.behind_moves r.then_moves,
+    )

@@ -1,7 +1,8 @@
-ghost use Rattle.std.specs.Prelude.{◌≡◌, ℕ, ◌<◌, ◌^◌, ◌⊎◌, List, All, length, IfOk, IfErr, MatchResult};
+ghost use Rattle.std.specs.Prelude.{◌≡◌, ℕ, ◌<◌, ◌≤◌, ◌^◌, ◌⊎◌, List, All, length, IfOk, IfErr, MatchResult};
 ghost use Rattle.game_tree.specs.Game.{GameTree};
 ghost use Rattle.game_tree.specs.Head.{IsTag};
 ghost use Rattle.game_tree.specs.Legal.{IsLegalGame};
+ghost use Rattle.game_tree.specs.Replay.{plies_of};
 ghost use Rattle.game_tree.specs.declared.head.Tag.{Tag as TagValue};
 ghost use Rattle.game_codec.specs.Record.{IsRecord};
 ghost use Rattle.game_codec.specs.Breach.{TellsBad};
@@ -32,8 +33,9 @@ pub fn decode_game(alloc: Global, bytes: &[u8]) -> Result<(Game, Vec<Tag>), Deco
     ensures fault { IfErr result (IfBad (IsRecordFault bytes.now)) }
     ensures first { (fault : Fault) → IsRecordFault bytes.now fault
         → MatchResult result (λ decoded. ⊥) (λ error. (error ≡ Bad fault) ⊎ (error ≡ Memory)) }
-    // The game is legal, and the tags are within their bounds.
+    // The game is legal and has no more moves than its record has bytes, and the tags are within their bounds.
     ensures legal { IfOk result (λ decoded. IsLegalGame decoded.0) }
+    ensures short { IfOk result (λ decoded. plies_of decoded.0 ≤ length bytes.now) }
     ensures tags { IfOk result (λ decoded. All IsTag decoded.1.items) }
 {
     match read_record(alloc, bytes) {
