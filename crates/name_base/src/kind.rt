@@ -15,7 +15,7 @@ pub enum NameKind {
 impl NameKind {
     /// The greatest number of names of this kind in one base.
     pub fn limit(self) -> u32
-        ensures { result ≡ limit_of self }
+        ensures limit { result ≡ limit_of self }
     {
         match self {
             NameKind::Player => 1_048_576,

@@ -62,7 +62,7 @@ impl Model for Names {
 impl Names {
     /// No names.
     pub fn new(alloc: Global) -> Self
-        ensures { result ≡ no_names }
+        ensures none { result ≡ no_names }
     {
         Names {
             players: NameSet::new(alloc),
@@ -112,22 +112,26 @@ impl Names {
 
     /// The id of a name, if the name is there.
     pub fn id_of(&self, kind: NameKind, name: &[u8]) -> Option<u32>
-        ensures { result ≡ id_in (of_kind kind self.now) name.now }
+        ensures id { result ≡ id_in (of_kind kind self.now) name.now }
     {
         self.set(kind).id_of(name)
     }
 
     /// The name with an id.
     pub fn name_of(&self, kind: NameKind, id: u32) -> &[u8]
-        requires { id < length (of_kind kind self.now) }
-        ensures { slice_get (of_kind kind self.now) id ≡ Some result.now }
+        requires below { id < length (of_kind kind self.now) }
+        ensures name { slice_get (of_kind kind self.now) id ≡ Some result.now }
     {
         self.set(kind).name_of(id)
     }
 
     /// The id of a name. A new name comes last, so that its id is the count before.
+    ///
+    /// # Errors
+    ///
+    /// `Full` where the name is new and its kind has as many names as a base holds, and `Memory`. The names are then as they were.
     pub fn add(&mut self, alloc: Global, kind: NameKind, name: &[u8]) -> Result<u32, AddError>
-        requires { IsName name.now }
+        requires name { IsName name.now }
         ensures id { IfOk result (λ id. id ≡ unwrap_or (id_in (of_kind kind self.old) name.now) (length (of_kind kind self.old))) }
         ensures names { OnOk result (self.new ≡ with_kind kind self.old (with_name (of_kind kind self.old) name.now)) }
         ensures full { IsErrOf result AddError.Full
@@ -147,8 +151,8 @@ impl Names {
 
     /// Keeps of one kind the names whose id is below `count`, and leaves the other kinds as they are.
     pub fn cut(&mut self, kind: NameKind, count: u32)
-        requires { count ≤ length (of_kind kind self.old) }
-        ensures { self.new ≡ with_kind kind self.old (take count (of_kind kind self.old)) }
+        requires within { count ≤ length (of_kind kind self.old) }
+        ensures kept { self.new ≡ with_kind kind self.old (take count (of_kind kind self.old)) }
     {
         match kind {
             NameKind::Player => self.players.truncate(count),

@@ -244,7 +244,7 @@ pub fn write_names(
     requires events { AreFrequencies names.now.events events.now }
     requires sites { AreFrequencies names.now.sites sites.now }
     requires rounds { AreFrequencies names.now.rounds rounds.now }
-    ensures { IfOk result (λ text. IsNamesText names.now
+    ensures written { IfOk result (λ text. IsNamesText names.now
         (record { players = players.now; events = events.now; sites = sites.now; rounds = rounds.now }) text.items) }
 {
     let header = header_of(names, players, events, sites, rounds);
