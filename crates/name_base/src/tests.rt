@@ -134,10 +134,7 @@ const HEADERS: [(&[u8], NameWhat); 10] = [
     (b"Scid.sn\x01", NameWhat::Magic),
     (b"Scid.sn\0\0\0\0", NameWhat::Short),
     (b"Scid.sn\0\0\0\0\0\x10\0\x01", NameWhat::Count),
-    (
-        b"Scid.sn\0\0\0\0\0\x10\0\0\x08\0\x01",
-        NameWhat::Count,
-    ),
+    (b"Scid.sn\0\0\0\0\0\x10\0\0\x08\0\x01", NameWhat::Count),
     (
         b"Scid.sn\0\0\0\0\0\x10\0\0\x08\0\0\x08\0\x01",
         NameWhat::Count,

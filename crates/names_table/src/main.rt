@@ -94,7 +94,10 @@ fn write(alloc: Global, names: &Names, uses: &[u32]) -> anyhow::Result<Vec<u8>> 
     ensure!(names.count(NameKind::Event) == 0, "an event");
     ensure!(names.count(NameKind::Site) == 0, "a site");
     ensure!(names.count(NameKind::Round) == 0, "a round");
-    ensure!(uses.len() == names.count(NameKind::Player) as usize, "not each player has its uses");
+    ensure!(
+        uses.len() == names.count(NameKind::Player) as usize,
+        "not each player has its uses"
+    );
     ensure!(uses.iter().all(|uses| *uses < 16_777_216), "too many uses");
     Ok(write_names(alloc, names, uses, &[], &[], &[])?)
 }

@@ -1,5 +1,5 @@
 -- A number of at most three bytes is below 2 ^ 24.
-use Rattle.std.proofs.Common.{◌≡◌, ◌<◌, arith, subst, sym}
+use Rattle.std.proofs.Common.{◌<◌, arith, subst, sym}
 use Rattle.name_base.proofs.FieldLemmas.{big_number-small}
 use Rattle.name_base.proofs.field.number_at.Goals as goal
 

@@ -1,5 +1,5 @@
 -- Each entry that is taken from the end is put among the names.
-use Rattle.std.proofs.Common.{◌≡◌, ℕ, length, arith, ◌∙◌}
+use Rattle.std.proofs.Common.{arith, ◌∙◌}
 use Rattle.std.proofs.lemmas.List.{length-set}
 use Rattle.name_base.specs.Reading.{by_id}
 use Rattle.name_base.proofs.LoopLemmas.{id_below, others_below, put_last, all_put, none_left}

@@ -1,7 +1,6 @@
 -- The entries that are left, put among the names so far, give what all of them give.
 use Rattle.std.proofs.Common.{◌≡◌, ◌<◌, [], length, map, replicate}
 use Rattle.std.specs.List.{AllByRecursion}
-use Rattle.name_base.specs.NamesFile.{Entry}
 use Rattle.name_base.specs.Reading.{put_names}
 use Rattle.name_base.proofs.kind_reader.by_id.Given as goal
 

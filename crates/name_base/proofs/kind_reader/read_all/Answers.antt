@@ -1,5 +1,5 @@
 -- Each name that is read leaves one less to read.
-use Rattle.std.proofs.Common.{◌≡◌, ◌-◌, ℕ, [], length, ap, sym, ◌∙◌, subst, arith, refl, Ok}
+use Rattle.std.proofs.Common.{◌≡◌, ◌-◌, length, ap, sym, ◌∙◌, subst, arith}
 use Rattle.std.proofs.lemmas.Result.{err_from_is_err_and}
 use Rattle.name_base.specs.Reading.{entries_at}
 use Rattle.name_base.specs.KindRead.{AreMet}

@@ -1,5 +1,5 @@
 -- The greatest of numbers below 2 ^ 24 is below it.
-use Rattle.std.proofs.Common.{◌<◌, ◌^◌, ℕ, sym, subst}
+use Rattle.std.proofs.Common.{◌<◌, ◌^◌, sym, subst}
 use Rattle.name_base.proofs.TextLemmas.{greatest_small}
 use Rattle.name_base.proofs.writing.header_of.Goals as goal
 

@@ -1,7 +1,7 @@
 -- The fields of the kind hold its rows.
-use Rattle.std.proofs.Common.{◌≡◌, ◌<◌, ◌^◌, ℕ, ap, sym, subst, arith, All}
+use Rattle.std.proofs.Common.{◌<◌, ◌^◌, sym, subst, All}
 use Rattle.name_base.specs.declared.header.Shape.{Shape}
-use Rattle.name_base.specs.NamesText.{Row, FitsShape}
+use Rattle.name_base.specs.NamesText.{FitsShape}
 use Rattle.name_base.proofs.TextLemmas.{greatest_small, rows_fit}
 use Rattle.name_base.proofs.writing.put_kind.Goals as goal
 

@@ -1,9 +1,8 @@
 -- The id, the frequency and the name one after the other.
-use Rattle.std.proofs.Common.{◌≡◌, ◌++◌, ap, ◌∙◌}
+use Rattle.std.proofs.Common.{◌++◌, ap, ◌∙◌}
 use Rattle.std.specs.Option.{option_copied}
 use Rattle.std.proofs.lemmas.Result.{on_ok_weaker}
 use Rattle.byteorder.specs.Endian.{big_bytes}
-use Rattle.name_base.specs.NamesText.{Row}
 use Rattle.name_base.proofs.TextLemmas.{row_put}
 use Rattle.name_base.proofs.writing.put_row.Goals as goal
 

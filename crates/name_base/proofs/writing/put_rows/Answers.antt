@@ -1,8 +1,8 @@
 -- One more row.
-use Rattle.std.proofs.Common.{◌≡◌, ◌++◌, ℕ, List, map}
+use Rattle.std.proofs.Common.{◌++◌, map}
 use Rattle.std.specs.Option.{option_copied}
 use Rattle.std.proofs.lemmas.Option.{slice_get-get_or}
-use Rattle.name_base.specs.NamesText.{Row, rows_bytes}
+use Rattle.name_base.specs.NamesText.{rows_bytes}
 use Rattle.name_base.proofs.TextLemmas.{row_more}
 use Rattle.name_base.proofs.writing.put_rows.Goals as goal
 

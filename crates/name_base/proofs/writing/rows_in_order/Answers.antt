@@ -1,9 +1,8 @@
 -- The sort moves rows only, and rows are ordered by their names first.
-use Rattle.std.proofs.Common.{◌≡◌, map, sym, subst, refl}
+use Rattle.std.proofs.Common.{map, subst, refl}
 use Rattle.std.specs.List.Sorted.{IsPermutation}
 use Rattle.std.specs.Ordering.{nat_cmp, ordering_then}
 use Rattle.std.proofs.lemmas.List.Sorted.{IsPermutation-map}
-use Rattle.name_base.specs.NamesText.{Row}
 use Rattle.name_base.proofs.TextLemmas.{sorted_names}
 use Rattle.name_base.proofs.writing.rows_in_order.Goals as goal
 

@@ -1,5 +1,5 @@
 -- Where the name ends, nothing more is shared.
-use Rattle.std.proofs.Common.{◌≡◌, ◌≤◌, length, drop, arith}
+use Rattle.std.proofs.Common.{drop, arith}
 use Rattle.std.proofs.lemmas.List.{length-drop}
 use Rattle.name_base.proofs.TextLemmas.{share_none}
 use Rattle.name_base.proofs.writing.shared_prefix.Goals as goal

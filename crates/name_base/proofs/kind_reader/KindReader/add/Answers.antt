@@ -1,6 +1,5 @@
 -- A new name is the last of the map's entries, and its id has a mark.
-use Rattle.std.proofs.Common.{◌≡◌, ◌<◌, ℕ, Bool, true, List, map, length, set, ap, sym, subst, ◌∙◌, refl}
-use Rattle.name_base.specs.NamesFile.{Entry}
+use Rattle.std.proofs.Common.{◌<◌, true, length, set, ap, sym, subst, refl}
 use Rattle.name_base.specs.KindReading.{IsReading}
 use Rattle.name_base.proofs.MetLemmas.{IsReading-push, met_added}
 use Rattle.name_base.proofs.kind_reader.KindReader.add.Goals as goal

@@ -1,5 +1,5 @@
 -- The last key is the name that was met last.
-use Rattle.std.proofs.Common.{ap, sym, ◌∙◌, Some}
+use Rattle.std.proofs.Common.{ap, ◌∙◌, Some}
 use Rattle.name_base.proofs.MetLemmas.{last_is}
 use Rattle.name_base.proofs.kind_reader.KindReader.last_name.Goals as goal
 

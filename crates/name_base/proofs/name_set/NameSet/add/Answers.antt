@@ -1,5 +1,5 @@
 -- A name that is there changes nothing; a new one is the last of the keys and of the names.
-use Rattle.std.proofs.Common.{◌≡◌, ◌<◌, List, ℕ, None, map, length, sym, subst, arith, rules, ◌∙◌}
+use Rattle.std.proofs.Common.{◌≡◌, ◌<◌, None, length, sym, subst, arith, rules}
 use Rattle.name_base.specs.NameLists.{AreNames, id_in}
 use Rattle.name_base.proofs.NameLemmas.{with_name-present, names_added, AreNames-with_name}
 use Rattle.name_base.proofs.name_set.NameSet.add.Goals as goal

@@ -1,5 +1,5 @@
 -- No keys are no names.
-use Rattle.std.proofs.Common.{map, ap, sym, subst}
+use Rattle.std.proofs.Common.{map, sym, subst}
 use Rattle.name_base.specs.NameLists.{AreNames}
 use Rattle.name_base.proofs.NameLemmas.{AreNames-none}
 use Rattle.name_base.proofs.name_set.NameSet.new.Goals as goal

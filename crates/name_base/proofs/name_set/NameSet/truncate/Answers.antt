@@ -1,5 +1,5 @@
 -- A cut of the keys is a cut of the names.
-use Rattle.std.proofs.Common.{◌≡◌, List, ℕ, map, take, sym, subst}
+use Rattle.std.proofs.Common.{sym, subst}
 use Rattle.name_base.specs.NameLists.{AreNames}
 use Rattle.name_base.proofs.NameLemmas.{AreNames-take, names_cut}
 use Rattle.name_base.proofs.name_set.NameSet.truncate.Goals as goal
