@@ -1,0 +1,293 @@
+//! Reading the names of one kind.
+ghost use Rattle.std.specs.Prelude.{ℕ, ◌≡◌, ◌≤◌, ◌<◌, ◌++◌, ◌∷◌, [], false, Some, unwrap_or, length, map, take, replicate, IfOk, IfErr, OnOk};
+ghost use Rattle.std.specs.Option.{option_copied};
+ghost use Rattle.name_base.specs.NameLists.{AreNames, is_in};
+ghost use Rattle.name_base.specs.NamesFile.{id_width, frequency_width};
+ghost use Rattle.name_base.specs.Reading.{Gives, Answers, blamed, has_id, last_name, names_of, id_at, piece_at, entry_at, entries_at, by_id, kind_at};
+ghost use Rattle.name_base.specs.KindRead.{KindRead, AreMet};
+ghost use Rattle.std.specs.List.{AllByRecursion};
+
+use crate::field::{byte_at, number_at, own_at, shared_at, skip_at};
+use crate::header::Shape;
+use crate::name_set::NameSet;
+use crate::{NameFault, NameKind, NameWhat, NamesError};
+use indexmap::IndexMap;
+use std::alloc::{AllocError, Global};
+use std::marker::Model;
+
+/// The names of a kind that were read so far, in the order of the file.
+#[derive(Drop)]
+pub(crate) struct KindReader {
+    // Of each id below the kind's count, whether a name with it was read.
+    taken: Vec<bool>,
+    // The names, each with its id.
+    met: IndexMap<Vec<u8>, u32>,
+}
+
+impl Model for KindReader {
+    ghost use Rattle.std.specs.Prelude.{map, length};
+    ghost use Rattle.name_base.specs.KindRead.{KindRead};
+    ghost use Rattle.name_base.specs.KindReading.{IsReading};
+
+    ghost Value = { KindRead };
+
+    ghost view = { λ r. record { count = length r.taken.items; entries = map (λ p. record { id = p.1; name = p.0.items }) r.met.entries } };
+
+    ghost invariant = { λ r. IsReading r.taken.items (map (λ p. record { id = p.1; name = p.0.items }) r.met.entries) };
+}
+
+/// The parts of a name, and the bytes after it.
+#[derive(Clone, Copy, Drop)]
+struct Parts<'a> {
+    id: u32,
+    shared: usize,
+    own: &'a [u8],
+    rest: &'a [u8],
+}
+
+/// How many bytes an id has.
+pub(crate) fn id_width(count: u32) -> usize
+    ensures width { result ≡ id_width count }
+    ensures some { 1 ≤ result }
+    ensures few { result ≤ 3 }
+{
+    if count < 65_536 { 2 } else { 3 }
+}
+
+/// How many bytes a frequency has.
+pub(crate) fn frequency_width(greatest: u32) -> usize
+    ensures width { result ≡ frequency_width greatest }
+    ensures some { 1 ≤ result }
+    ensures few { result ≤ 3 }
+{
+    match greatest {
+        0..=255 => 1,
+        256..=65_535 => 2,
+        _ => 3,
+    }
+}
+
+/// A text of two parts.
+fn joined(alloc: Global, front: &[u8], back: &[u8]) -> Result<Vec<u8>, AllocError>
+    ensures { IfOk result (λ text. text.items ≡ front.now ++ back.now) }
+{
+    let mut text = Vec::with_capacity(alloc, front.len() + back.len())?;
+    text.extend_from_slice(front)?;
+    text.extend_from_slice(back)?;
+    Ok(text)
+}
+
+impl KindReader {
+    /// No names of a kind that has so many.
+    pub(crate) fn new(alloc: Global, count: u32) -> Result<Self, AllocError>
+        requires { count ≤ 1048576 }
+        ensures { IfOk result (λ reader. reader ≡ record { count = count; entries = [] }) }
+    {
+        Ok(KindReader {
+            taken: vec![in alloc; false; count as usize]?,
+            met: IndexMap::new(alloc),
+        })
+    }
+
+    fn has_id(&self, id: u32) -> bool
+        requires { id < self.now.count }
+        ensures { result ≡ has_id self.now.entries id }
+    {
+        self.taken[id as usize]
+    }
+
+    fn last_name(&self) -> Option<&[u8]>
+        ensures { option_copied result ≡ last_name self.now.entries }
+    {
+        match self.met.last() {
+            None => None,
+            Some((name, _)) => Some(name.as_slice()),
+        }
+    }
+
+    /// The name that a prefix of the last one and own bytes make.
+    fn name_of(&self, alloc: Global, shared: usize, own: &[u8]) -> Result<Vec<u8>, AllocError>
+        requires { shared ≤ length (unwrap_or (last_name self.now.entries) []) }
+        ensures { IfOk result (λ name. name.items ≡ take shared (unwrap_or (last_name self.now.entries) []) ++ own.now) }
+    {
+        match self.last_name() {
+            None => Vec::from_slice(alloc, own),
+            Some(before) => joined(alloc, &before[..shared], own),
+        }
+    }
+
+    fn has_name(&self, name: &[u8]) -> bool
+        ensures { result ≡ is_in (names_of self.now.entries) name.now }
+    {
+        self.met.contains_key(name)
+    }
+
+    fn add(&mut self, id: u32, name: Vec<u8>) -> Result<(), NamesError>
+        requires id { id < self.old.count }
+        requires name { is_in (names_of self.old.entries) name.items ≡ false }
+        ensures added { OnOk result (self.new.entries ≡ self.old.entries ++ record { id = id; name = name.items } ∷ []) }
+        ensures count { self.new.count ≡ self.old.count }
+        ensures memory { IfErr result (λ e. e ≡ NamesError.Memory) }
+    {
+        self.met.insert(name, id)?;
+        self.taken[id as usize] = true;
+        Ok(())
+    }
+
+    /// An id that is below the count and new.
+    #[tactic(auto, unfolding(crate::specs::Reading::id_at))]
+    fn id_at<'a>(&self, count: u32, bytes: &'a [u8]) -> Result<(u32, &'a [u8]), NameWhat>
+        requires { count ≡ self.now.count }
+        ensures gives { Gives (λ x. (x.0, x.1.now)) result (id_at count self.now.entries bytes.now) }
+        ensures below { IfOk result (λ x. x.0 < count) }
+    {
+        let (id, rest) = number_at(id_width(count), bytes)?;
+        if count <= id {
+            return Err(NameWhat::IdRange);
+        }
+        if self.has_id(id) {
+            return Err(NameWhat::IdTwice);
+        }
+        Ok((id, rest))
+    }
+
+    /// The parts of the next name.
+    #[tactic(auto, unfolding(crate::specs::Reading::piece_at))]
+    fn parts_at<'a>(&self, shape: Shape, bytes: &'a [u8]) -> Result<Parts<'a>, NameWhat>
+        requires { shape.count ≡ self.now.count }
+        ensures gives { Gives (λ p. record { id = p.id; shared = p.shared; own = p.own.now; rest = p.rest.now }) result
+            (piece_at shape self.now.entries bytes.now) }
+        ensures below { IfOk result (λ p. p.id < shape.count) }
+        ensures shared { IfOk result (λ p. p.shared ≤ length (unwrap_or (last_name self.now.entries) [])) }
+    {
+        let (id, rest) = self.id_at(shape.count, bytes)?;
+        let rest = skip_at(frequency_width(shape.greatest), rest)?;
+        let (len, rest) = byte_at(rest)?;
+        let (shared, rest) = shared_at(self.last_name(), len, rest)?;
+        let (own, rest) = own_at((len - shared) as usize, rest)?;
+        Ok(Parts {
+            id,
+            shared: shared as usize,
+            own,
+            rest,
+        })
+    }
+
+    /// The names by id, once all were read.
+    fn into_set(self, alloc: Global) -> Result<NameSet, AllocError>
+        requires met { AreMet self.count self.entries }
+        requires all { length self.entries ≡ self.count }
+        ensures names { IfOk result (λ set. set ≡ by_id self.count self.entries) }
+        ensures sound { (limit : ℕ) → self.count ≤ limit → IfOk result (λ set. AreNames limit set) }
+    {
+        let KindReader { taken, met } = self;
+        let names = by_id(alloc, taken.as_slice().len(), met)?;
+        NameSet::from_names(alloc, names)
+    }
+
+    /// Reads the next name, the one with this index, and gives the bytes after it.
+    #[tactic(auto, unfolding(crate::specs::Reading::entry_at))]
+    pub(crate) fn read<'a>(
+        &mut self,
+        alloc: Global,
+        kind: NameKind,
+        index: u32,
+        shape: Shape,
+        bytes: &'a [u8],
+    ) -> Result<&'a [u8], NamesError>
+        requires count { shape.count ≡ self.old.count }
+        requires index { index ≡ length self.old.entries }
+        ensures gives { Answers (λ rest. (self.new.entries, rest.now)) result
+            (blamed (Some kind) index (entry_at shape self.old.entries bytes.now)) }
+        ensures count { self.new.count ≡ self.old.count }
+    {
+        let parts = match self.parts_at(shape, bytes) {
+            Ok(parts) => parts,
+            Err(what) => return Err(fault(kind, index, what)),
+        };
+        let name = self.name_of(alloc, parts.shared, parts.own)?;
+        if self.has_name(name.as_slice()) {
+            return Err(fault(kind, index, NameWhat::Repeated));
+        }
+        self.add(parts.id, name)?;
+        Ok(parts.rest)
+    }
+}
+
+/// As many names without bytes.
+fn empty_names(alloc: Global, count: usize) -> Result<Vec<Vec<u8>>, AllocError>
+    ensures { IfOk result (λ names. map (λ v. v.items) names.items ≡ replicate count []) }
+{
+    let mut names = Vec::with_capacity(alloc, count)?;
+    for _ in 0..count {
+        names.push(Vec::new(alloc))?;
+    }
+    Ok(names)
+}
+
+/// The names, each at the place of its id.
+fn by_id(
+    alloc: Global,
+    count: usize,
+    mut met: IndexMap<Vec<u8>, u32>,
+) -> Result<Vec<Vec<u8>>, AllocError>
+    requires { AllByRecursion (λ p. p.1 < count) met.entries }
+    ensures { IfOk result (λ names. map (λ v. v.items) names.items
+        ≡ by_id count (map (λ p. record { id = p.1; name = p.0.items }) met.entries)) }
+{
+    let mut names = empty_names(alloc, count)?;
+    while let Some((name, id)) = met.pop() {
+        names[id as usize] = name;
+    }
+    Ok(names)
+}
+
+fn fault(kind: NameKind, index: u32, what: NameWhat) -> NamesError
+    ensures { result ≡ NamesError.Bad (record { kind = Some kind; index = index; what = what }) }
+{
+    NamesError::Bad(NameFault {
+        kind: Some(kind),
+        index,
+        what,
+    })
+}
+
+/// Reads all names of a kind, and gives the bytes after them.
+fn read_all<'a>(
+    reader: &mut KindReader,
+    alloc: Global,
+    kind: NameKind,
+    shape: Shape,
+    bytes: &'a [u8],
+) -> Result<&'a [u8], NamesError>
+    requires count { shape.count ≡ reader.old.count }
+    requires none { reader.old.entries ≡ [] }
+    ensures gives { Answers (λ rest. (reader.new.entries, rest.now)) result
+        (entries_at kind shape shape.count [] bytes.now) }
+    ensures count { reader.new.count ≡ shape.count }
+    ensures met { OnOk result (AreMet shape.count reader.new.entries) }
+    ensures all { OnOk result (length reader.new.entries ≡ shape.count) }
+{
+    let mut rest = bytes;
+    for index in 0..shape.count {
+        rest = reader.read(alloc, kind, index, shape, rest)?;
+    }
+    Ok(rest)
+}
+
+/// Reads the names of a kind, and gives the bytes after them.
+#[tactic(auto, unfolding(crate::specs::Reading::kind_at))]
+pub(crate) fn read_kind<'a>(
+    alloc: Global,
+    kind: NameKind,
+    shape: Shape,
+    bytes: &'a [u8],
+) -> Result<(NameSet, &'a [u8]), NamesError>
+    requires { shape.count ≤ 1048576 }
+    ensures gives { Answers (λ x. (x.0, x.1.now)) result (kind_at kind shape bytes.now) }
+    ensures sound { (limit : ℕ) → shape.count ≤ limit → IfOk result (λ x. AreNames limit x.0) }
+{
+    let mut reader = KindReader::new(alloc, shape.count)?;
+    let rest = read_all(&mut reader, alloc, kind, shape, bytes)?;
+    Ok((reader.into_set(alloc)?, rest))
+}
