@@ -3,6 +3,7 @@ pub mod SameFaultLaws
 pub mod ZeroLaws
 pub mod TagReadingLaws
 pub mod TagLaws
+pub mod TagsSoFar
 pub mod StartLaws
 pub mod TextLaws
 pub mod ItemLaws

@@ -1,0 +1,31 @@
+use Rattle.std.proofs.Common.{◌≡◌, drop, refl, sym, ap, ◌∙◌}
+use Rattle.std.proofs.lemmas.Result.{err_from_is_err_and}
+use Rattle.game_tree.specs.TagName.{is_reserved}
+use Rattle.game_codec.proofs.TagsSoFar.{read_free, read_reserved, read_all, read_refused}
+use Rattle.game_codec.proofs.tags.read_tags.Goals as goal
+
+pub returns-in_err-next_tag-clause-err : goal.returns-in_err-next_tag-clause-err
+returns-in_err-next_tag-clause-err c =
+    let p = err_from_is_err_and c.from_residual.result c.from_residual.ensures.1 in
+    rw (p.1, p.2)
+    (read_refused c.args.bytes.now c.loop-tags.rest.now c.loop-tags.tags.items _ c.loop-tags.invariant
+    c.in_err-next_tag.ensures.err)
+
+pub returns-in-End-clause-ok : goal.returns-in-End-clause-ok
+returns-in-End-clause-ok c =
+    read_all c.args.bytes.now c.loop-tags.rest.now c.loop-tags.tags.items _ c.loop-tags.invariant
+    (rw c.in-End.is at c.in_ok-next_tag.ensures.ok) refl
+
+pub loop-tags-preserved-in-Continue-branch-3 : goal.loop-tags-preserved-in-Continue-branch-3
+loop-tags-preserved-in-Continue-branch-3 c =
+    let next = rw c.in-Tag.is at c.in_ok-next_tag.ensures.ok in
+    let name : is_reserved c.in-Tag.tag.name ≡ _ = ap is_reserved (sym c.as_bytes.ensures.bytes) ∙ sym c.if-not-is_reserved.ensures.reserved in
+    rw (c.split_at.ensures.back, c.in_ok-push-in-Tag.ensures.items)
+    (read_free c.args.bytes.now c.loop-tags.rest.now _ c.loop-tags.tags.items c.in-Tag.tag c.loop-tags.invariant next.0 name)
+
+pub loop-tags-preserved : goal.loop-tags-preserved
+loop-tags-preserved c =
+    let next = rw c.in-Tag.is at c.in_ok-next_tag.ensures.ok in
+    let name : is_reserved c.in-Tag.tag.name ≡ _ = ap is_reserved (sym c.as_bytes.ensures.bytes) ∙ sym c.if-not-is_reserved.ensures.reserved in
+    rw c.split_at.ensures.back
+    (read_reserved c.args.bytes.now c.loop-tags.rest.now _ c.loop-tags.tags.items c.in-Tag.tag c.loop-tags.invariant next.0 name)
