@@ -8,4 +8,5 @@ pub mod ScriptLaws
 pub mod BuildLaws
 pub mod LegalLaws
 pub mod WrittenLaws
+pub mod WritingLaws
 pub mod DecodeLaws

@@ -9,3 +9,4 @@ pub mod Fault
 pub mod Written
 pub mod Scanning
 pub mod Breach
+pub mod Writing
