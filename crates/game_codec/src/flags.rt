@@ -1,4 +1,4 @@
-ghost use Rattle.std.specs.Prelude.{◌≡◌};
+ghost use Rattle.std.specs.Prelude.{◌≡◌, ◌<◌};
 ghost use Rattle.game_tree.specs.Tree.{line_of, branches_of};
 ghost use Rattle.game_codec.specs.Written.{promotion_flags, line_any, branches_any, is_promotion, is_underpromotion};
 
@@ -9,6 +9,7 @@ use game_tree::{Branch, Node};
 /// another man than a queen.
 pub(crate) fn promotion_flags(line: &[Node]) -> u8
     ensures flags { result ≡ promotion_flags (line_of line.now) }
+    ensures few { result < 8 }
 {
     let any = if line_promotes(line) { 2 } else { 0 };
     let under = if line_underpromotes(line) { 4 } else { 0 };
