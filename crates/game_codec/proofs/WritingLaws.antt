@@ -1,5 +1,5 @@
 -- What the code writes part by part is the written form.
-use Rattle.std.proofs.Common.{◌≡◌, ℕ, ◌+◌, ◌<◌, ◌≤◌, List, [], ◌∷◌, ◌++◌, Option, Some, None, length, get_or, take, drop, refl, sym, ap, subst, ◌∙◌, append_assoc, append-nil, add-one, arith}
+use Rattle.std.proofs.Common.{◌≡◌, ℕ, ◌+◌, ◌<◌, ◌≤◌, List, [], ◌∷◌, ◌++◌, Option, Some, None, length, get_or, drop, inl, inr, refl, sym, ap, subst, ◌∙◌, append_assoc, append-nil}
 use Rattle.std.proofs.lemmas.List.{drop_more}
 use Rattle.std.proofs.Math.ListN.{drop_of_length-le}
 use Rattle.cell_core.specs.declared.step.Move.{Move}
@@ -13,10 +13,14 @@ use Rattle.game_tree.specs.Written.{nags_before, comment_before, script_of, vari
 use Rattle.game_tree.proofs.LegalLemmas.{Step-stepped}
 use Rattle.move_codec.specs.Numbers.{Numbered, numbers_after}
 use Rattle.move_codec.specs.Packed.{encoding}
+use Rattle.game_tree.specs.Game.{GameTree}
+use Rattle.game_tree.specs.declared.head.Tag.{Tag}
+use Rattle.chess_text.specs.Written.{fen_text}
 use Rattle.game_codec.specs.Place.{numbered_after}
+use Rattle.game_codec.specs.Start.{standard_start}
 use Rattle.game_codec.specs.Texts.{texts_of, ended}
-use Rattle.game_codec.specs.Written.{IsCommentText, LineHasTexts, BranchesHaveTexts, moves_text}
-use Rattle.game_codec.specs.Writing.{comment_text, mark_text, nags_text, node_text, node_texts, variations_text, variations_texts, NodeHasTexts}
+use Rattle.game_codec.specs.Written.{IsCommentText, LineHasTexts, BranchesHaveTexts, IsWrittenRecord, body_text, moves_text, own_start, promotion_flags, script_of_game, tags_text}
+use Rattle.game_codec.specs.Writing.{comment_text, mark_text, nags_text, node_text, node_texts, variations_text, variations_texts, AddsStart, NodeHasTexts}
 
 -- Moves and marks
 
@@ -192,3 +196,49 @@ pub branches_texts-more : (vs : List Variation) (i : ℕ) (v : Variation) (all :
     → (BranchesHaveTexts (branches_of (drop i vs)) → all) → BranchesHaveTexts (branches_of (drop (i + 1) vs)) → all
 branches_texts-more vs i v all left lead line before rest =
     before (subst (λ (ps : List Variation). BranchesHaveTexts (branches_of ps)) (sym left) (lead, (line, rest)))
+
+-- The whole record
+
+-- a start's own bytes, and what was written behind them
+behind_tags : (tagged start started moved marked all moves texts tags : List ℕ) → tagged ≡ tags ++ 0 ∷ [] → started ≡ tagged ++ start
+    → moved ≡ started ++ moves → marked ≡ moved ++ 15 ∷ [] → all ≡ marked ++ texts → all ≡ tags ++ 0 ∷ (start ++ (moves ++ 15 ∷ texts))
+behind_tags tagged start started moved marked all moves texts tags tags_are put_start put_moves put_end put_texts =
+    put_texts
+    ∙ ap (λ (bytes : List ℕ). bytes ++ texts)
+    (put_end ∙ ap (λ (bytes : List ℕ). bytes ++ 15 ∷ [])
+    (put_moves ∙ ap (λ (bytes : List ℕ). bytes ++ moves)
+    (put_start ∙ ap (λ (bytes : List ℕ). bytes ++ start) tags_are)))
+    ∙ simp append_assoc refl
+
+same_body : (n m : Numbered) (s : Script) (moves texts : List ℕ) → n ≡ m → moves ≡ moves_text n n s → texts ≡ ended (texts_of s)
+    → moves ++ 15 ∷ texts ≡ body_text m s
+same_body n m s moves texts same moves_are texts_are =
+    λ i. (moves_are ∙ ap (λ (k : Numbered). moves_text k k s) same) i ++ 15 ∷ texts_are i
+
+pub record-writes : (tags : List Tag) (g : GameTree) (n : Numbered) (tagged started moved marked all moves texts : List ℕ)
+    → tagged ≡ tags_text tags ++ 0 ∷ [] → AddsStart g.start (promotion_flags g.line) tagged started n
+    → moves ≡ moves_text n n (script_of_game g) → texts ≡ ended (texts_of (script_of_game g))
+    → moved ≡ started ++ moves → marked ≡ moved ++ 15 ∷ [] → all ≡ marked ++ texts → IsWrittenRecord all tags g
+record-writes tags g n tagged started moved marked all moves texts tags_are (inl start) moves_are texts_are put_moves put_end put_texts = record {
+  behind_tags = promotion_flags g.line ∷ (moves ++ 15 ∷ texts);
+  bytes_are = behind_tags tagged (promotion_flags g.line ∷ []) started moved marked all moves texts (tags_text tags) tags_are start.bytes put_moves put_end put_texts;
+  game_is =
+    inl (record {
+      standard = start.standard;
+      bytes_are = ap (λ (bytes : List ℕ). promotion_flags g.line ∷ bytes) (same_body n standard_start (script_of_game g) moves texts start.start_is moves_are texts_are);
+    });
+}
+record-writes tags g n tagged started moved marked all moves texts tags_are (inr start) moves_are texts_are put_moves put_end put_texts =
+    let flags : ℕ = 1 + promotion_flags g.line in
+    let fen : List ℕ = fen_text g.start in
+    record {
+      behind_tags = (flags ∷ fen ++ 0 ∷ []) ++ (moves ++ 15 ∷ texts);
+      bytes_are = behind_tags tagged (flags ∷ fen ++ 0 ∷ []) started moved marked all moves texts (tags_text tags) tags_are start.bytes put_moves put_end put_texts;
+      game_is =
+        inr (record {
+          own = start.own;
+          bytes_are =
+            ap (λ (bytes : List ℕ). flags ∷ bytes) (append_assoc fen (0 ∷ []) (moves ++ 15 ∷ texts))
+            ∙ ap (λ (bytes : List ℕ). flags ∷ fen ++ 0 ∷ bytes) (same_body n (own_start g.start) (script_of_game g) moves texts start.start_is moves_are texts_are);
+        });
+    }

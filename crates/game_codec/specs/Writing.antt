@@ -49,12 +49,12 @@ NodeHasTexts node = IsCommentText node.comment × BranchesHaveTexts node.variati
 -- the flags and what tells the start were added, and these are the numbers that the men have in the record
 pub record AddsStandard (start : Setup) (flags : ℕ) (old new : List ℕ) (numbered : Numbered) : Type 0 where
   pub standard : start ≡ start_setup
-  pub bytes : new ≡ old ++ flags ∷ []
+  pub bytes : new ≡ old ++ (flags ∷ [])
   pub start_is : numbered ≡ standard_start
 
 pub record AddsOwn (start : Setup) (flags : ℕ) (old new : List ℕ) (numbered : Numbered) : Type 0 where
   pub own : start ≡ start_setup → ⊥
-  pub bytes : new ≡ old ++ (1 + flags) ∷ fen_text start ++ 0 ∷ []
+  pub bytes : new ≡ old ++ ((1 + flags) ∷ fen_text start ++ 0 ∷ [])
   pub start_is : numbered ≡ own_start start
 
 abbrev pub AddsStart : Setup → ℕ → List ℕ → List ℕ → Numbered → Type 0

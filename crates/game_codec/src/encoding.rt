@@ -1,4 +1,4 @@
-ghost use Rattle.std.specs.Prelude.{◌≡◌, ◌<◌, ◌≤◌, ◌⊎◌, ℕ, List, [], ◌∷◌, ◌++◌, All, length, IfOk, IfErr, MatchResult};
+ghost use Rattle.std.specs.Prelude.{◌≡◌, ◌↔◌, ◌<◌, ◌≤◌, ◌⊎◌, ℕ, List, [], ◌∷◌, ◌++◌, All, length, IfOk, IfErr, IsTrue, MatchResult};
 ghost use Rattle.chess_laws.specs.Position.{Sound};
 ghost use Rattle.game_tree.specs.Head.{IsTag};
 ghost use Rattle.game_tree.specs.Legal.{IsLegalGame};
@@ -12,7 +12,7 @@ use super::fault::EncodeError;
 use super::flags::promotion_flags;
 use super::moves::{Body, put_line};
 use cell_core::Text;
-use chess_laws::Position;
+use chess_laws::{Position, Setup};
 use chess_text::write_fen;
 use game_tree::{Game, Tag};
 use move_codec::Numbered;
@@ -99,7 +99,7 @@ fn put_start(
     ensures position { IfOk result (λ numbered. numbered.position ≡ start.now) }
     ensures sound { IfOk result (λ _. Sound start.now) }
 {
-    if *start.setup() == *Position::start().setup() {
+    if is_same_setup(start.setup(), Position::start().setup()) {
         out.push(flags)?;
         return Ok(Numbered::standard());
     }
@@ -108,4 +108,11 @@ fn put_start(
     out.extend_from_slice(fen.as_bytes())?;
     out.push(0)?;
     Ok(Numbered::from_start(*start))
+}
+
+/// Whether two setups are equal.
+fn is_same_setup(first: &Setup, second: &Setup) -> bool
+    ensures { IsTrue result ↔ (first.now ≡ second.now) }
+{
+    first == second
 }
