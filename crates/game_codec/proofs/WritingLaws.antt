@@ -242,3 +242,18 @@ record-writes tags g n tagged started moved marked all moves texts tags_are (inr
             ∙ ap (λ (bytes : List ℕ). flags ∷ fen ++ 0 ∷ bytes) (same_body n (own_start g.start) (script_of_game g) moves texts start.start_is moves_are texts_are);
         });
     }
+
+-- what the code has: the fields of a game
+pub game-writes : (tags : List Tag) (g : GameTree) (start : Setup) (lead : Option (List ℕ)) (items first second : List Played)
+    → record { start = start; lead = lead; line = line_of items } ≡ g → first ≡ items → second ≡ items
+    → (n : Numbered) (flags : ℕ) (tagged started moved marked all moves texts : List ℕ)
+    → flags ≡ promotion_flags (line_of first) → tagged ≡ tags_text tags ++ 0 ∷ [] → AddsStart start flags tagged started n
+    → moves ≡ moves_text n n (comment_before lead (script_of (line_of second))) → texts ≡ ended (texts_of (comment_before lead (script_of (line_of second))))
+    → moved ≡ started ++ moves → marked ≡ moved ++ 15 ∷ [] → all ≡ marked ++ texts → IsWrittenRecord all tags g
+game-writes tags g start lead items first second view first_is second_is n flags tagged started moved marked all moves texts flags_are tags_are adds moves_are texts_are put_moves put_end put_texts =
+    subst (IsWrittenRecord all tags) view
+    (record-writes tags (record { start = start; lead = lead; line = line_of items }) n tagged started moved marked all moves texts tags_are
+    (subst (λ (k : ℕ). AddsStart start k tagged started n) (flags_are ∙ ap (λ (ps : List Played). promotion_flags (line_of ps)) first_is) adds)
+    (moves_are ∙ ap (λ (ps : List Played). moves_text n n (comment_before lead (script_of (line_of ps)))) second_is)
+    (texts_are ∙ ap (λ (ps : List Played). ended (texts_of (comment_before lead (script_of (line_of ps))))) second_is)
+    put_moves put_end put_texts)
