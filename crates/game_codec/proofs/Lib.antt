@@ -14,4 +14,5 @@ pub mod BuildLaws
 pub mod LegalLaws
 pub mod ShortLaws
 pub mod WrittenLaws
+pub mod WritingLaws
 pub mod DecodeLaws

@@ -11,5 +11,4 @@ pub mod Written
 pub mod Scanning
 pub mod Nests
 pub mod Breach
-pub mod Adding
-pub mod Flat
+pub mod Writing

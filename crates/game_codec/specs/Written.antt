@@ -1,6 +1,7 @@
 -- The one written form of a record: every tag's name written out; a FEN for a start other than the initial position; after
 -- each move its glyphs, its comment and its variations, and a line's own comment before its first move.
 use Rattle.std.specs.Prelude.{◌≡◌, ℕ, ◌+◌, ◌*◌, ◌⊎◌, ◌||◌, Bool, false, true, if◌then◌else◌, List, [], ◌∷◌, ◌++◌, Option, Some, None, length, is_some}
+use Rattle.cell_core.specs.Text.{IsZeroFree}
 use Rattle.cell_core.specs.declared.man.Kind.{Kind}
 use Rattle.cell_core.specs.declared.man.Kind.TheVariants.{King, Queen, Rook, Bishop, Knight, Pawn}
 use Rattle.cell_core.specs.declared.step.Move.{Move}
@@ -20,6 +21,24 @@ use Rattle.game_codec.specs.Place.{numbered_after}
 use Rattle.game_codec.specs.Texts.{texts_of, ended}
 use Rattle.game_codec.specs.declared.fault.EncodeError.{EncodeError}
 use Rattle.game_codec.specs.declared.fault.EncodeError.TheVariants as error
+
+-- no comment of a game has a zero byte, which ends a stored text
+abbrev pub IsCommentText : Option (List ℕ) → Type 0
+IsCommentText None = Unit {0}
+IsCommentText (Some text) = IsZeroFree text
+
+abbrev mutual
+  pub LineHasTexts : Line → Type 0
+  LineHasTexts ends = Unit {0}
+  LineHasTexts (goes m nags comment variations line) = IsCommentText comment × (BranchesHaveTexts variations × LineHasTexts line)
+
+  pub BranchesHaveTexts : Branches → Type 0
+  BranchesHaveTexts none = Unit {0}
+  BranchesHaveTexts (more lead line others) = IsCommentText lead × (LineHasTexts line × BranchesHaveTexts others)
+
+pub record HasTexts (game : GameTree) : Type 0 where
+  pub lead : IsCommentText game.lead
+  pub line : LineHasTexts game.line
 
 -- the tags with their names written out
 abbrev pub tags_text : List Tag → List ℕ

@@ -1,14 +1,18 @@
-ghost use Rattle.std.specs.Prelude.{◌≡◌, ◌<◌, ◌≤◌, ℕ, List, All, length, IfOk, IfErr};
+ghost use Rattle.std.specs.Prelude.{◌≡◌, ◌↔◌, ◌<◌, ◌≤◌, ◌⊎◌, ℕ, List, [], ◌∷◌, ◌++◌, All, length, IfOk, IfErr, IsTrue, MatchResult};
+ghost use Rattle.chess_laws.specs.Position.{Sound};
 ghost use Rattle.game_tree.specs.Head.{IsTag};
 ghost use Rattle.game_tree.specs.Legal.{IsLegalGame};
 ghost use Rattle.game_codec.specs.Record.{IsRecord};
-ghost use Rattle.game_codec.specs.Written.{IsWrittenRecord, IfTooLong};
+ghost use Rattle.game_codec.specs.TagSpelling.{counted};
+ghost use Rattle.game_codec.specs.Written.{HasTexts, IsWrittenRecord, IfTooLong, tags_text};
+ghost use Rattle.game_codec.specs.Writing.{AddsStart};
+ghost use Rattle.game_codec.specs.declared.fault.EncodeError.TheVariants.{Memory};
 
 use super::fault::EncodeError;
 use super::flags::promotion_flags;
 use super::moves::{Body, put_line};
 use cell_core::Text;
-use chess_laws::Position;
+use chess_laws::{Position, Setup};
 use chess_text::write_fen;
 use game_tree::{Game, Tag};
 use move_codec::Numbered;
@@ -24,6 +28,9 @@ pub fn encode_game(alloc: Global, g: &Game, tags: &[Tag]) -> Result<Vec<u8>, Enc
     requires tags { All IsTag tags.now }
     ensures written { IfOk result (λ bytes. IsWrittenRecord bytes.items tags.now g.now) }
     ensures fits { IfOk result (λ bytes. length bytes.items ≤ 131071) }
+    // That form alone is given, and refused only where it is too long.
+    ensures exact { (bytes : List ℕ) → IsWrittenRecord bytes tags.now g.now
+        → MatchResult result (λ written. written.items ≡ bytes) (λ error. (error ≡ Memory) ⊎ (131071 < length bytes)) }
     ensures read_again { IfOk result (λ bytes. IsRecord bytes.items tags.now g.now) }
     ensures too_long { IfErr result (IfTooLong (λ n. (bytes : List ℕ) × (IsWrittenRecord bytes tags.now g.now × ((n ≡ length bytes) × (131071 < n))))) }
 {
@@ -37,19 +44,17 @@ pub fn encode_game(alloc: Global, g: &Game, tags: &[Tag]) -> Result<Vec<u8>, Enc
 }
 
 /// The record, however long it is.
-fn whole_record(alloc: Global, g: &Game, tags: &[Tag]) -> Result<Vec<u8>, AllocError> {
+fn whole_record(alloc: Global, g: &Game, tags: &[Tag]) -> Result<Vec<u8>, AllocError>
+    requires legal { IsLegalGame g.now }
+    requires tags { All IsTag tags.now }
+    ensures written { IfOk result (λ bytes. IsWrittenRecord bytes.items tags.now g.now) }
+    ensures zero_free { IfOk result (λ _. HasTexts g.now) }
+    ensures sound { IfOk result (λ _. Sound g.now.start) }
+{
     let mut out = Vec::new(alloc);
-    for tag in tags {
-        put_counted(&mut out, &tag.name)?;
-        put_counted(&mut out, &tag.value)?;
-    }
-    out.push(0)?;
-    let start = put_start(
-        alloc,
-        &mut out,
-        &g.start,
-        promotion_flags(g.line.as_slice()),
-    )?;
+    put_tags(&mut out, tags)?;
+    let flags = promotion_flags(g.line.as_slice());
+    let start = put_start(alloc, &mut out, &g.start, flags)?;
     let mut body = Body::new(alloc);
     put_line(&mut body, &start, &g.lead, g.line.as_slice())?;
     out.extend_from_slice(body.moves.as_slice())?;
@@ -58,9 +63,23 @@ fn whole_record(alloc: Global, g: &Game, tags: &[Tag]) -> Result<Vec<u8>, AllocE
     Ok(out)
 }
 
+/// Adds the tags with their names written out, and the zero byte behind them.
+fn put_tags(out: &mut Vec<u8>, tags: &[Tag]) -> Result<(), AllocError>
+    requires tags { All IsTag tags.now }
+    ensures bytes { IfOk result (λ _. out.new.items ≡ out.old.items ++ (tags_text tags.now ++ 0 ∷ [])) }
+{
+    for tag in tags {
+        put_counted(out, &tag.name)?;
+        put_counted(out, &tag.value)?;
+    }
+    out.push(0)?;
+    Ok(())
+}
+
 /// Adds a text of at most 255 bytes behind its length.
 fn put_counted(out: &mut Vec<u8>, text: &Text) -> Result<(), AllocError>
     requires short { length text.now ≤ 255 }
+    ensures bytes { IfOk result (λ _. out.new.items ≡ out.old.items ++ counted text.now) }
 {
     out.push(text.len() as u8)?;
     out.extend_from_slice(text.as_bytes())?;
@@ -74,8 +93,13 @@ fn put_start(
     out: &mut Vec<u8>,
     start: &Position,
     flags: u8,
-) -> Result<Numbered, AllocError> {
-    if *start.setup() == *Position::start().setup() {
+) -> Result<Numbered, AllocError>
+    requires few { flags < 8 }
+    ensures start { IfOk result (λ numbered. AddsStart start.now flags out.old.items out.new.items numbered) }
+    ensures position { IfOk result (λ numbered. numbered.position ≡ start.now) }
+    ensures sound { IfOk result (λ _. Sound start.now) }
+{
+    if is_same_setup(start.setup(), Position::start().setup()) {
         out.push(flags)?;
         return Ok(Numbered::standard());
     }
@@ -84,4 +108,11 @@ fn put_start(
     out.extend_from_slice(fen.as_bytes())?;
     out.push(0)?;
     Ok(Numbered::from_start(*start))
+}
+
+/// Whether two setups are equal.
+fn is_same_setup(first: &Setup, second: &Setup) -> bool
+    ensures { IsTrue result ↔ (first.now ≡ second.now) }
+{
+    first == second
 }

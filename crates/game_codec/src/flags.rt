@@ -1,6 +1,6 @@
-ghost use Rattle.std.specs.Prelude.{◌≡◌};
-ghost use Rattle.game_tree.specs.Tree.{line_of};
-ghost use Rattle.game_codec.specs.Written.{promotion_flags};
+ghost use Rattle.std.specs.Prelude.{◌≡◌, ◌<◌};
+ghost use Rattle.game_tree.specs.Tree.{line_of, branches_of};
+ghost use Rattle.game_codec.specs.Written.{promotion_flags, line_any, branches_any, is_promotion, is_underpromotion};
 
 use cell_core::{Kind, Move};
 use game_tree::{Branch, Node};
@@ -9,14 +9,18 @@ use game_tree::{Branch, Node};
 /// another man than a queen.
 pub(crate) fn promotion_flags(line: &[Node]) -> u8
     ensures flags { result ≡ promotion_flags (line_of line.now) }
+    ensures few { result < 8 }
 {
     let any = if line_promotes(line) { 2 } else { 0 };
     let under = if line_underpromotes(line) { 4 } else { 0 };
     any + under
 }
 
+/// Whether the line or one of its variations has a promotion.
 #[cycle(promotions)]
-fn line_promotes(line: &[Node]) -> bool {
+fn line_promotes(line: &[Node]) -> bool
+    ensures { result ≡ line_any is_promotion (line_of line.now) }
+{
     for node in line {
         if node.mv.promo.is_some() {
             return true;
@@ -28,8 +32,11 @@ fn line_promotes(line: &[Node]) -> bool {
     false
 }
 
+/// Whether one of these variations has a promotion.
 #[cycle(promotions)]
-fn branches_promote(branches: &[Branch]) -> bool {
+fn branches_promote(branches: &[Branch]) -> bool
+    ensures { result ≡ branches_any is_promotion (branches_of branches.now) }
+{
     for branch in branches {
         if line_promotes(branch.line.as_slice()) {
             return true;
@@ -38,8 +45,11 @@ fn branches_promote(branches: &[Branch]) -> bool {
     false
 }
 
+/// Whether the line or one of its variations has a promotion to another man than a queen.
 #[cycle(underpromotions)]
-fn line_underpromotes(line: &[Node]) -> bool {
+fn line_underpromotes(line: &[Node]) -> bool
+    ensures { result ≡ line_any is_underpromotion (line_of line.now) }
+{
     for node in line {
         if is_underpromotion(&node.mv) {
             return true;
@@ -51,8 +61,11 @@ fn line_underpromotes(line: &[Node]) -> bool {
     false
 }
 
+/// Whether one of these variations has a promotion to another man than a queen.
 #[cycle(underpromotions)]
-fn branches_underpromote(branches: &[Branch]) -> bool {
+fn branches_underpromote(branches: &[Branch]) -> bool
+    ensures { result ≡ branches_any is_underpromotion (branches_of branches.now) }
+{
     for branch in branches {
         if line_underpromotes(branch.line.as_slice()) {
             return true;
@@ -61,7 +74,10 @@ fn branches_underpromote(branches: &[Branch]) -> bool {
     false
 }
 
-fn is_underpromotion(m: &Move) -> bool {
+/// Whether the move is a promotion to another man than a queen.
+fn is_underpromotion(m: &Move) -> bool
+    ensures { result ≡ is_underpromotion m.now }
+{
     match m.promo {
         None => false,
         Some(kind) => kind != Kind::Queen,

@@ -10,6 +10,7 @@ pub mod fault;
 mod flags;
 mod moves;
 pub mod place;
+pub mod round_trip;
 mod scanner;
 mod scanning;
 mod start;

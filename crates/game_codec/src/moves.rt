@@ -1,9 +1,11 @@
-ghost use Rattle.std.specs.Prelude.{◌≡◌, ◌++◌, IfOk};
-ghost use Rattle.game_tree.specs.Tree.{line_of};
+ghost use Rattle.std.specs.Prelude.{◌≡◌, ◌++◌, [], IfOk};
+ghost use Rattle.chess_laws.specs.Step.{Legal};
+ghost use Rattle.game_tree.specs.Tree.{line_of, branches_of};
 ghost use Rattle.game_tree.specs.Written.{comment_before, script_of};
-ghost use Rattle.game_tree.specs.Legal.{IsLegalLine};
+ghost use Rattle.game_tree.specs.Legal.{IsLegalLine, AreLegalBranches};
 ghost use Rattle.game_codec.specs.Texts.{texts_of, ended};
-ghost use Rattle.game_codec.specs.Written.{moves_text};
+ghost use Rattle.game_codec.specs.Written.{IsCommentText, LineHasTexts, BranchesHaveTexts, moves_text};
+ghost use Rattle.game_codec.specs.Writing.{comment_text, mark_text, nags_text, node_text, node_texts, variations_text, variations_texts, NodeHasTexts};
 
 use cell_core::Text;
 use game_tree::{Branch, Node};
@@ -19,7 +21,10 @@ pub(crate) struct Body {
 
 impl Body {
     /// Nothing yet.
-    pub(crate) fn new(alloc: Global) -> Body {
+    pub(crate) fn new(alloc: Global) -> Body
+        ensures moves { result.moves.items ≡ [] }
+        ensures texts { result.texts.items ≡ [] }
+    {
         Body {
             moves: Vec::new(alloc),
             texts: Vec::new(alloc),
@@ -27,7 +32,11 @@ impl Body {
     }
 
     /// Adds a comment, where there is one.
-    fn put_comment(&mut self, comment: &Option<Text>) -> Result<(), AllocError> {
+    fn put_comment(&mut self, comment: &Option<Text>) -> Result<(), AllocError>
+        ensures moves { IfOk result (λ _. self.new.moves.items ≡ self.old.moves.items ++ mark_text comment.now) }
+        ensures texts { IfOk result (λ _. self.new.texts.items ≡ self.old.texts.items ++ comment_text comment.now) }
+        ensures zero_free { IfOk result (λ _. IsCommentText comment.now) }
+    {
         let Some(text) = comment else {
             return Ok(());
         };
@@ -38,7 +47,10 @@ impl Body {
     }
 
     /// Adds the glyphs of a move.
-    fn put_nags(&mut self, nags: &[u8]) -> Result<(), AllocError> {
+    fn put_nags(&mut self, nags: &[u8]) -> Result<(), AllocError>
+        ensures moves { IfOk result (λ _. self.new.moves.items ≡ self.old.moves.items ++ nags_text nags.now) }
+        ensures texts { IfOk result (λ _. self.new.texts ≡ self.old.texts) }
+    {
         for nag in nags {
             self.moves.push(11)?;
             self.moves.push(*nag)?;
@@ -47,25 +59,44 @@ impl Body {
     }
 }
 
-/// Adds a line that begins at this position: its comment, and then its moves, each with its glyphs, its comment and its
-/// variations.
+/// Adds a line that begins at this position: its comment, and then its moves.
 #[cycle(lines)]
 pub(crate) fn put_line(
     body: &mut Body,
     start: &Numbered,
     lead: &Option<Text>,
     line: &[Node],
-) -> Result<(), AllocError> {
+) -> Result<(), AllocError>
+    requires legal { IsLegalLine start.now.position (line_of line.now) }
+    ensures moves { IfOk result (λ _. body.new.moves.items
+        ≡ body.old.moves.items ++ moves_text start.now start.now (comment_before lead.now (script_of (line_of line.now)))) }
+    ensures texts { IfOk result (λ _. body.new.texts.items
+        ≡ body.old.texts.items ++ ended (texts_of (comment_before lead.now (script_of (line_of line.now))))) }
+    ensures zero_free { IfOk result (λ _. IsCommentText lead.now × LineHasTexts (line_of line.now)) }
+{
     body.put_comment(lead)?;
     let mut position = start.copy();
     for node in line {
-        let bytes = position.encode_move(node.mv);
-        body.moves.extend_from_slice(bytes.as_slice())?;
-        body.put_nags(node.nags.as_slice())?;
-        body.put_comment(&node.comment)?;
-        put_variations(body, &position, node.variations.as_slice())?;
+        put_node(body, &position, node)?;
         position.play(node.mv);
     }
+    Ok(())
+}
+
+/// Adds a move of a line, by the position before it, with its glyphs, its comment and its variations.
+#[cycle(lines)]
+fn put_node(body: &mut Body, position: &Numbered, node: &Node) -> Result<(), AllocError>
+    requires legal { Legal position.now.position node.now.mv }
+    requires variations { AreLegalBranches position.now.position node.now.variations }
+    ensures moves { IfOk result (λ _. body.new.moves.items ≡ body.old.moves.items ++ node_text position.now node.now) }
+    ensures texts { IfOk result (λ _. body.new.texts.items ≡ body.old.texts.items ++ node_texts node.now) }
+    ensures zero_free { IfOk result (λ _. NodeHasTexts node.now) }
+{
+    let bytes = position.encode_move(node.mv);
+    body.moves.extend_from_slice(bytes.as_slice())?;
+    body.put_nags(node.nags.as_slice())?;
+    body.put_comment(&node.comment)?;
+    put_variations(body, position, node.variations.as_slice())?;
     Ok(())
 }
 
@@ -75,7 +106,12 @@ fn put_variations(
     body: &mut Body,
     start: &Numbered,
     variations: &[Branch],
-) -> Result<(), AllocError> {
+) -> Result<(), AllocError>
+    requires legal { AreLegalBranches start.now.position (branches_of variations.now) }
+    ensures moves { IfOk result (λ _. body.new.moves.items ≡ body.old.moves.items ++ variations_text start.now (branches_of variations.now)) }
+    ensures texts { IfOk result (λ _. body.new.texts.items ≡ body.old.texts.items ++ variations_texts (branches_of variations.now)) }
+    ensures zero_free { IfOk result (λ _. BranchesHaveTexts (branches_of variations.now)) }
+{
     for variation in variations {
         body.moves.push(13)?;
         put_line(body, start, &variation.lead, variation.line.as_slice())?;

@@ -1,0 +1,44 @@
+use Rattle.std.proofs.Common.{◌≡◌, ◌++◌, List, drop, ap, subst, sym, ◌∙◌}
+use Rattle.chess_laws.specs.Step.{Step}
+use Rattle.game_tree.specs.Tree.{Played, Variation, line_of}
+use Rattle.game_tree.specs.Written.{comment_before, script_of}
+use Rattle.game_codec.specs.Texts.{ended, texts_of}
+use Rattle.game_codec.specs.Written.{IsCommentText, LineHasTexts, moves_text}
+use Rattle.game_codec.specs.Place.{numbered_after}
+use Rattle.game_codec.proofs.WritingLaws.{left_more, numbered-played, moves-more, texts-more, legal-more, line_texts-more, texts-lead, variations-more, variations_texts-more, branches_legal-more, branches_texts-more}
+use Rattle.game_codec.proofs.moves.+lines.Goals as goal
+
+pub put_line-loop-node-preserved : goal.put_line-loop-node-preserved
+put_line-loop-node-preserved t c =
+    let left = left_more c.args.line.now c.loop-node.node-index c.node-item.result c.loop-node-test.true c.node-item.is in
+    let played = subst (λ (n : Played). c.play.new.self ≡ numbered_after c.loop-node.position n.mv) c.node.view_is
+    (numbered-played c.loop-node.position c.node.inside.mv c.play.new.self c.play.ensures.step c.play.ensures.numbers) in
+    record {
+      legal = legal-more c.loop-node.position c.play.new.self c.args.line.now c.loop-node.node-index c.node-item.result left played c.loop-node.invariant.legal;
+      moves = moves-more c.loop-node.position c.play.new.self c.args.line.now c.loop-node.node-index c.node-item.result _ _ _ left played c.in_ok-put_node.ensures.moves c.loop-node.invariant.moves;
+      texts = texts-more c.args.line.now c.loop-node.node-index c.node-item.result _ _ _ left c.in_ok-put_node.ensures.texts c.loop-node.invariant.texts;
+      zero_free = line_texts-more c.args.line.now c.loop-node.node-index c.node-item.result _ left c.in_ok-put_node.ensures.zero_free c.loop-node.invariant.zero_free;
+    }
+
+pub put_line-returns-clause-texts : goal.put_line-returns-clause-texts
+put_line-returns-clause-texts t c =
+    texts-lead c.args.lead.now c.args.line.now c.loop-node.node-index _ _ _ c.loop-node-test.false c.in_ok-put_comment.ensures.texts c.loop-node.invariant.texts
+
+pub put_variations-loop-variation-preserved : goal.put_variations-loop-variation-preserved
+put_variations-loop-variation-preserved t c =
+    let left = left_more c.args.variations.now c.loop-variation.variation-index c.variation-item.result c.loop-variation-test.true c.variation-item.is in
+    let lead = ap (λ (v : Variation). v.lead) c.variation.view_is in
+    let line = ap line_of c.as_slice.ensures.value ∙ ap (λ (v : Variation). v.line) c.variation.view_is in
+    let n = c.args.start.now in
+    record {
+      legal = branches_legal-more n.position c.args.variations.now c.loop-variation.variation-index c.variation-item.result left c.loop-variation.invariant.legal;
+      moves = variations-more n c.args.variations.now c.loop-variation.variation-index c.variation-item.result _ c.push.new.self.items _ _ _ left c.in_ok-push.ensures.items
+      (c.in_ok-put_line.ensures.moves ∙ (λ i. c.push.new.self.items ++ moves_text n n (comment_before (lead i) (script_of (line i)))))
+      c.in_ok-push-2.ensures.items c.loop-variation.invariant.moves;
+      texts = variations_texts-more c.args.variations.now c.loop-variation.variation-index c.variation-item.result _ _ _ left
+      (c.in_ok-put_line.ensures.texts ∙ (λ i. c.loop-variation.body.texts.items ++ ended (texts_of (comment_before (lead i) (script_of (line i))))))
+      c.loop-variation.invariant.texts;
+      zero_free = branches_texts-more c.args.variations.now c.loop-variation.variation-index c.variation-item.result _ left
+      (subst IsCommentText lead c.in_ok-put_line.ensures.zero_free.0) (subst LineHasTexts line c.in_ok-put_line.ensures.zero_free.1)
+      c.loop-variation.invariant.zero_free;
+    }
