@@ -112,13 +112,11 @@ value_was (n ∷ bytes) part small h =
     let w = part_was is_value_byte TagValue n bytes part h in
     let size = w.size in
     let spelled = w.spelled in
-    let below : n < 256 = All-head (λ b. b < 256) n bytes small in (
-      record {
-        short = omega arith;
-        zero_free = each_passes is_value_byte (λ b. b ≢ 0) value_byte_tells part.0 w.pass;
-      },
-      cc,
-    )
+    let below : n < 256 = All-head (λ b. b < 256) n bytes small in
+    (record {
+      short = omega arith;
+      zero_free = each_passes is_value_byte (λ b. b ≢ 0) value_byte_tells part.0 w.pass;
+    }, cc)
 
 -- ---- a packed date
 
@@ -220,19 +218,16 @@ spelled_out-from : (n : ℕ) (bytes behind : List ℕ) (tag : Tag) (later : List
 spelled_out-from n bytes behind tag later some few w value =
     let size = w.size in
     let e : bytes ≡ (tag.name ++ counted tag.value) ++ later
-    = w.spelled ∙ ap (λ (b : List ℕ). tag.name ++ b) value.1 ∙ sym (append_assoc tag.name (counted tag.value) later) in (
-      counted tag.name ++ counted tag.value,
-      inl (record {
-        name = record {
-          some = omega arith;
-          short = omega arith;
-          bytes = each_passes is_name_byte IsTagByte name_byte_tells tag.name w.pass;
-        };
-        value = value.0;
-        spelled = refl;
-      }),
-      cc,
-    )
+    = w.spelled ∙ ap (λ (b : List ℕ). tag.name ++ b) value.1 ∙ sym (append_assoc tag.name (counted tag.value) later) in
+    (counted tag.name ++ counted tag.value, inl (record {
+      name = record {
+        some = omega arith;
+        short = omega arith;
+        bytes = each_passes is_name_byte IsTagByte name_byte_tells tag.name w.pass;
+      };
+      value = value.0;
+      spelled = refl;
+    }), cc)
 
 spelled_out-was : (n : ℕ) (bytes : List ℕ) (tag : Tag) (later : List ℕ) → 0 < n → n ≤ 240 → All (λ b. b < 256) bytes
     → with_name (part_at is_name_byte TagName n bytes) ≡ Ok (Some (tag, later)) → BeginsTag (n ∷ bytes) tag later
@@ -253,16 +248,13 @@ coded-was code bytes tag later above below small h =
     let v = with_value_was (slice_index_or coded_names (code - 241) []) (value_at bytes) tag later h in
     let value = value_was bytes (tag.value, later) small v.0 in
     let e = value.1 in
-    let back : 241 + (code - 241) ≡ code = omega arith in (
-      (241 + (code - 241)) ∷ counted tag.value,
-      inr (inl (record {
-        number = code - 241;
-        name = slice_get-get_or coded_names (code - 241) [] (omega arith) ∙ ap Some (sym v.1);
-        value = value.0;
-        spelled = refl;
-      })),
-      cc,
-    )
+    let back : 241 + (code - 241) ≡ code = omega arith in
+    ((241 + (code - 241)) ∷ counted tag.value, inr (inl (record {
+      number = code - 241;
+      name = slice_get-get_or coded_names (code - 241) [] (omega arith) ∙ ap Some (sym v.1);
+      value = value.0;
+      spelled = refl;
+    })), cc)
 
 -- a number below 2^24 from its three bytes
 number_bytes : (a b c : ℕ) → a < 256 → b < 256 → c < 256
@@ -279,17 +271,14 @@ dated-was a b c rest tag later small_a small_b small_c h =
           let bounds = and_parts (nat_le (n / 512) 2047) (nat_le (n / 32 % 16) 12) kept in
           let read = same_read (record { name = codes "EventDate"; value = date_text (date_of n) }, rest) (tag, later) (rw kept at h) in
           let bytes = number_bytes a b c small_a small_b small_c in
-          let spelled : List ℕ = 255 ∷ a ∷ b ∷ c ∷ [] in (
-            spelled,
-            inr (inr (record {
-              date = date_of n;
-              kept = record { year = leb-true (n / 512) 2047 bounds.0; month = leb-true (n / 32 % 16) 12 bounds.1; day = omega arith };
-              name = sym (ap (λ (q : Tag × List ℕ). q.0.name) read);
-              value = sym (ap (λ (q : Tag × List ℕ). q.0.value) read);
-              spelled = rw (number_was n, bytes.0, bytes.1, bytes.2) refl;
-            })),
-            ap (λ (q : Tag × List ℕ). spelled ++ q.1) read,
-          )
+          let spelled : List ℕ = 255 ∷ a ∷ b ∷ c ∷ [] in
+          (spelled, inr (inr (record {
+            date = date_of n;
+            kept = record { year = leb-true (n / 512) 2047 bounds.0; month = leb-true (n / 32 % 16) 12 bounds.1; day = omega arith };
+            name = sym (ap (λ (q : Tag × List ℕ). q.0.name) read);
+            value = sym (ap (λ (q : Tag × List ℕ). q.0.value) read);
+            spelled = rw (number_was n, bytes.0, bytes.1, bytes.2) refl;
+          })), ap (λ (q : Tag × List ℕ). spelled ++ q.1) read)
       | inr over ↦ let e = rw over at h in absurd (cc)
     ]
 
@@ -375,7 +364,7 @@ date_text_name d =
     record {
       short = omega arith;
       zero_free = All-from_recursion (λ b. b ≢ 0) (date_text d)
-          (some _ _, (some _ _, (some _ _, (some _ _, (dot, (some _ _, (some _ _, (dot, (some _ _, (some _ _, tt))))))))));
+      (some _ _, (some _ _, (some _ _, (some _ _, (dot, (some _ _, (some _ _, (dot, (some _ _, (some _ _, tt))))))))));
     }
 
 pub BeginsTag-name : (bytes : List ℕ) (tag : Tag) (later : List ℕ) → BeginsTag bytes tag later → IsTagName tag.name

@@ -9,6 +9,8 @@ pub mod Record
 pub mod Fault
 pub mod Written
 pub mod Scanning
-pub mod Nests
 pub mod Breach
 pub mod Writing
+pub mod Nests
+pub mod Adding
+pub mod Flat
