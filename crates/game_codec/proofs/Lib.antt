@@ -16,3 +16,5 @@ pub mod ShortLaws
 pub mod WrittenLaws
 pub mod WritingLaws
 pub mod DecodeLaws
+pub mod ReadLaws
+pub mod AnswerLaws
