@@ -87,10 +87,11 @@ pub tags_text-begins : (tags : List Tag) (rest : List ℕ) → All IsTag tags
 tags_text-begins [] rest h = refl
 tags_text-begins (tag ∷ tags) rest h =
     let is_tag = All-head IsTag tag tags h in
-    let spelled : List ℕ = counted tag.name ++ counted tag.value in
-    (tags_text tags ++ 0 ∷ rest,
-    (spelled, inl (record { name = is_tag.name; value = is_tag.value; spelled = refl }), simp append_assoc),
-    tags_text-begins tags rest (All-tail IsTag tag tags h))
+    let spelled : List ℕ = counted tag.name ++ counted tag.value in (
+      tags_text tags ++ 0 ∷ rest,
+      (spelled, inl (record { name = is_tag.name; value = is_tag.value; spelled = refl }), simp append_assoc),
+      tags_text-begins tags rest (All-tail IsTag tag tags h),
+    )
 
 pub free_of-IsTag : (tags : List Tag) → All IsTag tags → free_of tags ≡ tags
 free_of-IsTag [] h = refl
