@@ -21,16 +21,6 @@ pub record ReadSoFar (bytes rest : List ℕ) (free : List Tag) : Type 0 where
   pub breaks : (more : List Tag) (later : List ℕ) (what : RecordWhat) → BreaksTags rest more later what
       → BreaksTags bytes (all ++ more) later what
 
-pub read_none : (bytes : List ℕ) → ReadSoFar bytes bytes []
-read_none bytes = record {
-  all = [];
-  front = [];
-  spelled = refl;
-  free_are = refl;
-  begins = λ more later h. h;
-  breaks = λ more later what h. h;
-}
-
 pub read_more : (bytes rest later : List ℕ) (free : List Tag) (tag : Tag) → ReadSoFar bytes rest free
     → BeginsTag rest tag later → ReadSoFar bytes later (free ++ free_of (tag ∷ []))
 read_more bytes rest later free tag h next = record {
@@ -56,13 +46,8 @@ read_all bytes rest free used h (later, end) is =
     = ap (λ (b : List ℕ). drop used b) spelled ∙ drop_at (h.front ++ 0 ∷ []) later used size in
     (h.all ++ [], (rw left (h.begins [] later end), rw (append-nil h.all) h.free_are))
 
-pub read_all-used : (bytes rest : List ℕ) (free : List Tag) → ReadSoFar bytes rest free
-    → ((later : List ℕ) × (rest ≡ 0 ∷ later)) → length bytes - length rest + 1 ≤ length bytes
-read_all-used bytes rest free h (later, end) =
-    omega (arith, length-append {A = ℕ}, ap length h.spelled, ap length end)
-
 -- a fault ends them
-pub read_fault : (bytes rest : List ℕ) (free : List Tag) (what : RecordWhat) → ReadSoFar bytes rest free
+read_fault : (bytes rest : List ℕ) (free : List Tag) (what : RecordWhat) → ReadSoFar bytes rest free
     → tag_at rest ≡ Err what → (all : List Tag) × BreaksTags bytes all rest what
 read_fault bytes rest free what h fault = (h.all ++ [], h.breaks [] rest what (refl, fault))
 
