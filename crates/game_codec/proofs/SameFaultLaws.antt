@@ -1,6 +1,5 @@
 -- When two faults are told alike.
 use Rattle.std.proofs.Common.{◌≡◌, ℕ, List, refl, sym, ◌∙◌}
-use Rattle.game_codec.specs.Fault.{place_of}
 use Rattle.game_codec.specs.declared.fault.RecordWhat.{RecordWhat}
 use Rattle.game_codec.specs.declared.fault.RecordWhat.TheVariants.{Short}
 use Rattle.game_codec.proofs.SameFault.{SameFault}

@@ -1,12 +1,12 @@
 -- The start of a record has one reading.
-use Rattle.std.proofs.Common.{◌≡◌, ◌≢◌, ℕ, ◌%◌, inl, inr, List, [], ◌∷◌, ◌++◌, Result, Ok, Err, refl, sym, ap, subst, ◌∙◌, arith}
+use Rattle.std.proofs.Common.{◌≡◌, ℕ, ◌%◌, inl, inr, List, [], ◌∷◌, ◌++◌, Result, Ok, Err, refl, sym, ap, subst, ◌∙◌, arith}
 use Rattle.cell_core.specs.Text.{IsZeroFree}
 use Rattle.chess_laws.specs.declared.setup.Setup.{Setup}
 use Rattle.chess_laws.specs.Position.{Sound}
 use Rattle.chess_laws.proofs.Start.{start-sound}
 use Rattle.chess_text.specs.declared.fault.FenFault.{FenFault}
 use Rattle.chess_text.specs.Fen.{kept, FenReads, FenFaultOf}
-use Rattle.chess_text.specs.FieldReading.{setup_named, Answers}
+use Rattle.chess_text.specs.FieldReading.{Answers}
 use Rattle.chess_text.specs.Written.{fen_text}
 use Rattle.chess_text.proofs.FenLaws.{fen_text_only, answers_first}
 use Rattle.chess_text.proofs.WritingLaws.{written_reads, written_zero_free}
@@ -14,7 +14,7 @@ use Rattle.move_codec.specs.declared.numbers.Numbers.{Numbers}
 use Rattle.move_codec.specs.Numbers.{Numbered, AreNumbers, text_numbers}
 use Rattle.move_codec.proofs.Standard.{AreNumbers-standard}
 use Rattle.move_codec.proofs.Text.{AreNumbers-text}
-use Rattle.game_codec.specs.Start.{standard_start, IsStandardStart, IsOwnStart, BeginsStart, IsCutStart, IsBadStart, BreaksStart}
+use Rattle.game_codec.specs.Start.{standard_start, IsOwnStart, BeginsStart, IsCutStart, IsBadStart, BreaksStart}
 use Rattle.game_codec.specs.declared.fault.RecordWhat.{RecordWhat}
 use Rattle.game_codec.specs.declared.fault.RecordWhat.TheVariants as what
 use Rattle.game_codec.proofs.SameFault.{SameFault}

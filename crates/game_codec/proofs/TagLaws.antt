@@ -1,5 +1,5 @@
 -- The tags of a record have one reading.
-use Rattle.std.proofs.Common.{◌≡◌, ℕ, true, false, Bool, not, inl, inr, List, [], ◌∷◌, ◌++◌, Option, Some, None, Result, Ok, Err, All, refl, sym, subst, ap, ◌∙◌, append_assoc}
+use Rattle.std.proofs.Common.{◌≡◌, ℕ, true, inl, inr, List, [], ◌∷◌, ◌++◌, Option, Result, Err, All, refl, sym, subst, ap, ◌∙◌, append_assoc}
 use Rattle.std.proofs.lemmas.Bool.{cases_Bool, not-true, not_from_false}
 use Rattle.std.proofs.lemmas.List.Elements.{All-nil, All-cons, All-head, All-tail}
 use Rattle.game_tree.specs.Head.{IsTag}
@@ -87,10 +87,11 @@ pub tags_text-begins : (tags : List Tag) (rest : List ℕ) → All IsTag tags
 tags_text-begins [] rest h = refl
 tags_text-begins (tag ∷ tags) rest h =
     let is_tag = All-head IsTag tag tags h in
-    let spelled : List ℕ = counted tag.name ++ counted tag.value in
-    (tags_text tags ++ 0 ∷ rest,
-    (spelled, inl (record { name = is_tag.name; value = is_tag.value; spelled = refl }), simp append_assoc),
-    tags_text-begins tags rest (All-tail IsTag tag tags h))
+    let spelled : List ℕ = counted tag.name ++ counted tag.value in (
+      tags_text tags ++ 0 ∷ rest,
+      (spelled, inl (record { name = is_tag.name; value = is_tag.value; spelled = refl }), simp append_assoc),
+      tags_text-begins tags rest (All-tail IsTag tag tags h),
+    )
 
 pub free_of-IsTag : (tags : List Tag) → All IsTag tags → free_of tags ≡ tags
 free_of-IsTag [] h = refl

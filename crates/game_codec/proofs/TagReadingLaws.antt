@@ -1,21 +1,20 @@
 -- The bytes begin with a tag exactly where they are read as it.
-use Rattle.std.proofs.Common.{◌≡◌, ◌≢◌, ℕ, zero, suc, ◌+◌, ◌-◌, ◌*◌, ◌/◌, ◌%◌, ◌<◌, ◌≤◌, ◌⊎◌, inl, inr, Bool, true, false, cond, not, ◌&&◌, ◌==◌, nat_le, nat_lt, List, [], ◌∷◌, ◌++◌, Option, Some, None, Result, Ok, Err, length, slice_index_or, get_or, take, drop, refl, sym, ap, subst, ◌∙◌, arith, codes, append_assoc, All, length-append}
+use Rattle.std.proofs.Common.{◌≡◌, ◌≢◌, ℕ, ◌+◌, ◌-◌, ◌*◌, ◌/◌, ◌%◌, ◌<◌, ◌≤◌, inl, inr, Bool, true, false, not, ◌&&◌, ◌==◌, nat_le, nat_lt, List, [], ◌∷◌, ◌++◌, Option, Some, None, Result, Ok, Err, length, slice_index_or, get_or, take, drop, refl, sym, ap, subst, ◌∙◌, arith, codes, append_assoc, All, length-append, lit≤}
 use Rattle.std.specs.List.{list_all, slice_get}
 use Rattle.std.proofs.Math.Nat.{div-div-eq-div-mul}
-use Rattle.std.proofs.lemmas.Bool.{cases_Bool, cond_both, eqb-true, eqb-false, ne_eqb, leb-true, leb-false, le-leb, lt-leb, ltb-true, ltb-false, le-ltb, not-true, not-false, and_from, and_parts, not_from_false, not_from_true}
+use Rattle.std.proofs.lemmas.Bool.{cases_Bool, cond_both, eqb-true, eqb-false, ne_eqb, leb-true, leb-false, le-leb, lt-leb, ltb-false, le-ltb, not-true, and_from, and_parts, not_from_false}
 use Rattle.std.proofs.lemmas.List.{take_at, drop_at, take-append-drop, length-take-le, drop-drop, length-drop}
 use Rattle.std.proofs.lemmas.List.Elements.{All-head, All-tail, All-nil, All-cons, All-from_recursion, All-from_get_or}
 use Rattle.std.proofs.lemmas.Option.{slice_get_within, slice_get-get_or, get_or_from_slice_get}
-use Rattle.cell_core.specs.Text.{IsZeroFree}
 use Rattle.game_tree.specs.Date.{IsDate, date_text, shown}
 use Rattle.game_tree.specs.Head.{IsName}
 use Rattle.game_tree.specs.TagName.{IsTagByte, IsTagName}
 use Rattle.game_tree.specs.declared.date.Date.{Date}
 use Rattle.game_tree.specs.declared.head.Tag.{Tag}
-use Rattle.game_codec.specs.TagSpelling.{coded_names, counted, IsSpelledOut, IsCoded, date_number, IsDated, SpellsTag, BeginsTag}
+use Rattle.game_codec.specs.TagSpelling.{coded_names, counted, date_number, BeginsTag}
 use Rattle.game_codec.specs.TagReading.{Part, part_at, is_name_byte, is_value_byte, value_at, with_value, with_name, date_of, dated, date_at, tag_at}
 use Rattle.game_codec.specs.declared.fault.RecordWhat.{RecordWhat}
-use Rattle.game_codec.specs.declared.fault.RecordWhat.TheVariants.{TagCode, TagName, TagValue, Short}
+use Rattle.game_codec.specs.declared.fault.RecordWhat.TheVariants.{TagName, TagValue}
 
 -- ---- texts of which each byte passes a test
 
@@ -112,11 +111,13 @@ value_was (n ∷ bytes) part small h =
     let w = part_was is_value_byte TagValue n bytes part h in
     let size = w.size in
     let spelled = w.spelled in
-    let below : n < 256 = All-head (λ b. b < 256) n bytes small in
-    (record {
-      short = omega arith;
-      zero_free = each_passes is_value_byte (λ b. b ≢ 0) value_byte_tells part.0 w.pass;
-    }, cc)
+    let below : n < 256 = All-head (λ b. b < 256) n bytes small in (
+      record {
+        short = omega arith;
+        zero_free = each_passes is_value_byte (λ b. b ≢ 0) value_byte_tells part.0 w.pass;
+      },
+      cc,
+    )
 
 -- ---- a packed date
 
@@ -218,16 +219,19 @@ spelled_out-from : (n : ℕ) (bytes behind : List ℕ) (tag : Tag) (later : List
 spelled_out-from n bytes behind tag later some few w value =
     let size = w.size in
     let e : bytes ≡ (tag.name ++ counted tag.value) ++ later
-    = w.spelled ∙ ap (λ (b : List ℕ). tag.name ++ b) value.1 ∙ sym (append_assoc tag.name (counted tag.value) later) in
-    (counted tag.name ++ counted tag.value, inl (record {
-      name = record {
-        some = omega arith;
-        short = omega arith;
-        bytes = each_passes is_name_byte IsTagByte name_byte_tells tag.name w.pass;
-      };
-      value = value.0;
-      spelled = refl;
-    }), cc)
+    = w.spelled ∙ ap (λ (b : List ℕ). tag.name ++ b) value.1 ∙ sym (append_assoc tag.name (counted tag.value) later) in (
+      counted tag.name ++ counted tag.value,
+      inl (record {
+        name = record {
+          some = omega arith;
+          short = omega arith;
+          bytes = each_passes is_name_byte IsTagByte name_byte_tells tag.name w.pass;
+        };
+        value = value.0;
+        spelled = refl;
+      }),
+      cc,
+    )
 
 spelled_out-was : (n : ℕ) (bytes : List ℕ) (tag : Tag) (later : List ℕ) → 0 < n → n ≤ 240 → All (λ b. b < 256) bytes
     → with_name (part_at is_name_byte TagName n bytes) ≡ Ok (Some (tag, later)) → BeginsTag (n ∷ bytes) tag later
@@ -248,13 +252,16 @@ coded-was code bytes tag later above below small h =
     let v = with_value_was (slice_index_or coded_names (code - 241) []) (value_at bytes) tag later h in
     let value = value_was bytes (tag.value, later) small v.0 in
     let e = value.1 in
-    let back : 241 + (code - 241) ≡ code = omega arith in
-    ((241 + (code - 241)) ∷ counted tag.value, inr (inl (record {
-      number = code - 241;
-      name = slice_get-get_or coded_names (code - 241) [] (omega arith) ∙ ap Some (sym v.1);
-      value = value.0;
-      spelled = refl;
-    })), cc)
+    let back : 241 + (code - 241) ≡ code = omega arith in (
+      (241 + (code - 241)) ∷ counted tag.value,
+      inr (inl (record {
+        number = code - 241;
+        name = slice_get-get_or coded_names (code - 241) [] (omega arith) ∙ ap Some (sym v.1);
+        value = value.0;
+        spelled = refl;
+      })),
+      cc,
+    )
 
 -- a number below 2^24 from its three bytes
 number_bytes : (a b c : ℕ) → a < 256 → b < 256 → c < 256
@@ -271,14 +278,17 @@ dated-was a b c rest tag later small_a small_b small_c h =
           let bounds = and_parts (nat_le (n / 512) 2047) (nat_le (n / 32 % 16) 12) kept in
           let read = same_read (record { name = codes "EventDate"; value = date_text (date_of n) }, rest) (tag, later) (rw kept at h) in
           let bytes = number_bytes a b c small_a small_b small_c in
-          let spelled : List ℕ = 255 ∷ a ∷ b ∷ c ∷ [] in
-          (spelled, inr (inr (record {
-            date = date_of n;
-            kept = record { year = leb-true (n / 512) 2047 bounds.0; month = leb-true (n / 32 % 16) 12 bounds.1; day = omega arith };
-            name = sym (ap (λ (q : Tag × List ℕ). q.0.name) read);
-            value = sym (ap (λ (q : Tag × List ℕ). q.0.value) read);
-            spelled = rw (number_was n, bytes.0, bytes.1, bytes.2) refl;
-          })), ap (λ (q : Tag × List ℕ). spelled ++ q.1) read)
+          let spelled : List ℕ = 255 ∷ a ∷ b ∷ c ∷ [] in (
+            spelled,
+            inr (inr (record {
+              date = date_of n;
+              kept = record { year = leb-true (n / 512) 2047 bounds.0; month = leb-true (n / 32 % 16) 12 bounds.1; day = omega arith };
+              name = sym (ap (λ (q : Tag × List ℕ). q.0.name) read);
+              value = sym (ap (λ (q : Tag × List ℕ). q.0.value) read);
+              spelled = rw (number_was n, bytes.0, bytes.1, bytes.2) refl;
+            })),
+            ap (λ (q : Tag × List ℕ). spelled ++ q.1) read,
+          )
       | inr over ↦ let e = rw over at h in absurd (cc)
     ]
 
@@ -356,15 +366,18 @@ event_date_name = tag_name_tells (codes "EventDate") refl
 shown_some : (part number : ℕ) → shown part number ≢ 0
 shown_some part number = cond_both (part == 0) 63 (48 + number % 10) (λ n. n ≢ 0) (λ h e. omega (arith, e)) (λ h e. omega (arith, e))
 
+dot_some : ◌≢◌ {A = ℕ} 46 0
+dot_some e = omega (arith, e)
+
 date_text_name : (d : Date) → IsName (date_text d)
 unfolding date_text
 date_text_name d =
     let some = shown_some in
-    let dot : 46 ≢ 0 = λ e. omega (arith, e) in
+    let dot = dot_some in
     record {
-      short = omega arith;
+      short = lit≤ tt;
       zero_free = All-from_recursion (λ b. b ≢ 0) (date_text d)
-      (some _ _, (some _ _, (some _ _, (some _ _, (dot, (some _ _, (some _ _, (dot, (some _ _, (some _ _, tt))))))))));
+          (some _ _, (some _ _, (some _ _, (some _ _, (dot, (some _ _, (some _ _, (dot, (some _ _, (some _ _, tt))))))))));
     }
 
 pub BeginsTag-name : (bytes : List ℕ) (tag : Tag) (later : List ℕ) → BeginsTag bytes tag later → IsTagName tag.name

@@ -1,8 +1,7 @@
 -- What the loop that reads tags has read.
-use Rattle.std.proofs.Common.{◌≡◌, ℕ, ◌+◌, ◌-◌, ◌<◌, ◌≤◌, true, false, not, List, [], ◌∷◌, ◌++◌, Ok, Err, length, drop, refl, sym, ap, ◌∙◌, arith, append_assoc, length-append}
+use Rattle.std.proofs.Common.{◌≡◌, ℕ, ◌+◌, ◌-◌, ◌≤◌, List, [], ◌∷◌, ◌++◌, Err, length, drop, refl, sym, ap, ◌∙◌, arith, append_assoc, length-append}
 use Rattle.std.proofs.lemmas.List.{append-nil, drop_at}
 use Rattle.std.proofs.lemmas.List.Elements.{filter-append}
-use Rattle.game_tree.specs.TagName.{is_reserved}
 use Rattle.game_tree.specs.declared.head.Tag.{Tag}
 use Rattle.game_codec.specs.TagSpelling.{BeginsTag, BeginsTags, is_free, free_of}
 use Rattle.game_codec.specs.TagReading.{tag_at, BreaksTags}
@@ -22,38 +21,17 @@ pub record ReadSoFar (bytes rest : List ℕ) (free : List Tag) : Type 0 where
   pub breaks : (more : List Tag) (later : List ℕ) (what : RecordWhat) → BreaksTags rest more later what
       → BreaksTags bytes (all ++ more) later what
 
-pub read_none : (bytes : List ℕ) → ReadSoFar bytes bytes []
-read_none bytes = record {
-  all = [];
-  front = [];
-  spelled = refl;
-  free_are = refl;
-  begins = λ more later h. h;
-  breaks = λ more later what h. h;
-}
-
-read_more : (bytes rest later : List ℕ) (free new : List Tag) (tag : Tag) → ReadSoFar bytes rest free
-    → BeginsTag rest tag later → new ≡ free ++ free_of (tag ∷ []) → ReadSoFar bytes later new
-read_more bytes rest later free new tag h next is = record {
+pub read_more : (bytes rest later : List ℕ) (free : List Tag) (tag : Tag) → ReadSoFar bytes rest free
+    → BeginsTag rest tag later → ReadSoFar bytes later (free ++ free_of (tag ∷ []))
+read_more bytes rest later free tag h next = record {
   all = h.all ++ tag ∷ [];
   front = h.front ++ next.0;
   spelled = h.spelled ∙ ap (λ (b : List ℕ). h.front ++ b) next.2 ∙ sym (append_assoc h.front next.0 later);
-  free_are = rw (filter-append is_free h.all (tag ∷ []), ← h.free_are) is;
+  free_are = rw (filter-append is_free h.all (tag ∷ []), ← h.free_are) refl;
   begins = λ more end from. rw (append_assoc h.all (tag ∷ []) more) (h.begins (tag ∷ more) end (later, next, from));
   breaks = λ more end what from.
       rw (append_assoc h.all (tag ∷ []) more) (h.breaks (tag ∷ more) end what (later, next, from));
 }
-
--- a tag is kept, or has a reserved name
-pub read_free : (bytes rest later : List ℕ) (free : List Tag) (tag : Tag) → ReadSoFar bytes rest free
-    → BeginsTag rest tag later → is_reserved tag.name ≡ false → ReadSoFar bytes later (free ++ tag ∷ [])
-read_free bytes rest later free tag h next name =
-    read_more bytes rest later free (free ++ tag ∷ []) tag h next (rw name refl)
-
-pub read_reserved : (bytes rest later : List ℕ) (free : List Tag) (tag : Tag) → ReadSoFar bytes rest free
-    → BeginsTag rest tag later → is_reserved tag.name ≡ true → ReadSoFar bytes later free
-read_reserved bytes rest later free tag h next name =
-    read_more bytes rest later free free tag h next (rw name (sym (append-nil free)))
 
 -- the zero byte ends the tags
 pub read_all : (bytes rest : List ℕ) (free : List Tag) (used : ℕ) → ReadSoFar bytes rest free
@@ -68,13 +46,8 @@ read_all bytes rest free used h (later, end) is =
     = ap (λ (b : List ℕ). drop used b) spelled ∙ drop_at (h.front ++ 0 ∷ []) later used size in
     (h.all ++ [], (rw left (h.begins [] later end), rw (append-nil h.all) h.free_are))
 
-pub read_all-used : (bytes rest : List ℕ) (free : List Tag) → ReadSoFar bytes rest free
-    → ((later : List ℕ) × (rest ≡ 0 ∷ later)) → length bytes - length rest + 1 ≤ length bytes
-read_all-used bytes rest free h (later, end) =
-    omega (arith, length-append {A = ℕ}, ap length h.spelled, ap length end)
-
 -- a fault ends them
-pub read_fault : (bytes rest : List ℕ) (free : List Tag) (what : RecordWhat) → ReadSoFar bytes rest free
+read_fault : (bytes rest : List ℕ) (free : List Tag) (what : RecordWhat) → ReadSoFar bytes rest free
     → tag_at rest ≡ Err what → (all : List Tag) × BreaksTags bytes all rest what
 read_fault bytes rest free what h fault = (h.all ++ [], h.breaks [] rest what (refl, fault))
 

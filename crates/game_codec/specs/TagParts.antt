@@ -1,10 +1,9 @@
 -- What the reader of tags gives from one step to the next. No public contract cites these words.
-use Rattle.std.specs.Prelude.{◌≡◌, ℕ, ◌+◌, ◌<◌, ◌≤◌, List, ◌∷◌, Option, Some, None, Result, Ok, Err, length, drop, codes}
+use Rattle.std.specs.Prelude.{◌≡◌, ℕ, ◌<◌, ◌≤◌, List, ◌∷◌, Option, Some, None, Result, Ok, length, drop, codes}
 use Rattle.cell_core.specs.Text.{IsZeroFree}
 use Rattle.game_tree.specs.Date.{date_text}
 use Rattle.game_tree.specs.declared.head.Tag.{Tag}
-use Rattle.game_codec.specs.TagSpelling.{BeginsTag, BeginsTags, free_of}
-use Rattle.game_codec.specs.TagReading.{Part, tag_at, BreaksTags}
+use Rattle.game_codec.specs.TagSpelling.{BeginsTag}
 use Rattle.game_codec.specs.declared.fault.RecordWhat.{RecordWhat}
 use Rattle.game_codec.specs.declared.tags.Next.{Next}
 use Rattle.game_codec.specs.declared.tags.Next.TheVariants as next

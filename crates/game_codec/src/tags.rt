@@ -1,8 +1,7 @@
-ghost use Rattle.std.specs.Prelude.{◌≡◌, ◌+◌, ◌-◌, ◌<◌, ◌≤◌, ◌≢◌, List, [], ◌∷◌, length, take, drop, Ok, Err, IfOk, IfErr, slice_index_or, codes};
+ghost use Rattle.std.specs.Prelude.{◌≡◌, ◌+◌, ◌<◌, ◌≤◌, ◌≢◌, List, [], ◌∷◌, ◌++◌, length, drop, Ok, Err, IfOk, IfErr, OnOk, slice_index_or};
 ghost use Rattle.std.specs.List.{list_all};
 ghost use Rattle.std.specs.Bool.{OnTrue};
 ghost use Rattle.cell_core.specs.Text.{IsZeroFree};
-ghost use Rattle.game_tree.specs.Date.{date_text};
 ghost use Rattle.game_tree.specs.declared.head.Tag.{Tag as TagValue};
 ghost use Rattle.game_codec.specs.Breach.{TellsBad};
 ghost use Rattle.game_codec.specs.TagSpelling.{BeginsTags, free_of, coded_names};
@@ -14,7 +13,7 @@ use super::breach::{Breach, Refusal};
 use super::fault::RecordWhat;
 use cell_core::Text;
 use game_tree::{Date, Tag, is_reserved};
-use std::alloc::{AllocError, AllocFailed, Global};
+use std::alloc::{AllocError, Global};
 
 /// The names that the codes from 241 on stand for.
 const CODED_NAMES: [&[u8]; 10] = [
@@ -57,12 +56,20 @@ pub(crate) fn read_tags(alloc: Global, bytes: &[u8]) -> Result<TagsRead, Refusal
             }
             Next::Tag { tag, used } => {
                 rest = rest.split_at(used).1;
-                if !is_reserved(tag.name.as_bytes()) {
-                    tags.push(tag)?;
-                }
+                put_free(&mut tags, tag)?;
             }
         }
     }
+}
+
+/// Adds a tag, unless its name is reserved.
+fn put_free(tags: &mut Vec<Tag>, tag: Tag) -> Result<(), AllocError>
+    ensures free { OnOk result (tags.new.items ≡ tags.old.items ++ free_of (tag ∷ [])) }
+{
+    if !is_reserved(tag.name.as_bytes()) {
+        tags.push(tag)?;
+    }
+    Ok(())
 }
 
 /// What the bytes behind a tag begin with: another tag of so many bytes, or the zero byte.

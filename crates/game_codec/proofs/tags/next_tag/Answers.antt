@@ -1,4 +1,4 @@
-use Rattle.std.proofs.Common.{ℕ, drop, arith}
+use Rattle.std.proofs.Common.{arith}
 use Rattle.game_codec.proofs.TagReadingLaws.{end-tag_at, next_tag-is}
 use Rattle.game_codec.proofs.tags.next_tag.Goals as goal
 

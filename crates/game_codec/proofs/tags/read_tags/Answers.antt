@@ -1,7 +1,6 @@
-use Rattle.std.proofs.Common.{◌≡◌, drop, refl, sym, ap, ◌∙◌}
+use Rattle.std.proofs.Common.{refl}
 use Rattle.std.proofs.lemmas.Result.{err_from_is_err_and}
-use Rattle.game_tree.specs.TagName.{is_reserved}
-use Rattle.game_codec.proofs.TagsSoFar.{read_free, read_reserved, read_all, read_refused}
+use Rattle.game_codec.proofs.TagsSoFar.{read_more, read_all, read_refused}
 use Rattle.game_codec.proofs.tags.read_tags.Goals as goal
 
 pub returns-in_err-next_tag-clause-err : goal.returns-in_err-next_tag-clause-err
@@ -16,16 +15,8 @@ returns-in-End-clause-ok c =
     read_all c.args.bytes.now c.loop-tags.rest.now c.loop-tags.tags.items _ c.loop-tags.invariant
     (rw c.in-End.is at c.in_ok-next_tag.ensures.ok) refl
 
-pub loop-tags-preserved-in-Continue-branch-3 : goal.loop-tags-preserved-in-Continue-branch-3
-loop-tags-preserved-in-Continue-branch-3 c =
-    let next = rw c.in-Tag.is at c.in_ok-next_tag.ensures.ok in
-    let name : is_reserved c.in-Tag.tag.name ≡ _ = ap is_reserved (sym c.as_bytes.ensures.bytes) ∙ sym c.if-not-is_reserved.ensures.reserved in
-    rw (c.split_at.ensures.back, c.in_ok-push-in-Tag.ensures.items)
-    (read_free c.args.bytes.now c.loop-tags.rest.now _ c.loop-tags.tags.items c.in-Tag.tag c.loop-tags.invariant next.0 name)
-
 pub loop-tags-preserved : goal.loop-tags-preserved
 loop-tags-preserved c =
     let next = rw c.in-Tag.is at c.in_ok-next_tag.ensures.ok in
-    let name : is_reserved c.in-Tag.tag.name ≡ _ = ap is_reserved (sym c.as_bytes.ensures.bytes) ∙ sym c.if-not-is_reserved.ensures.reserved in
-    rw c.split_at.ensures.back
-    (read_reserved c.args.bytes.now c.loop-tags.rest.now _ c.loop-tags.tags.items c.in-Tag.tag c.loop-tags.invariant next.0 name)
+    rw (c.split_at.ensures.back, c.in_ok-put_free-in-Tag.ensures.free)
+    (read_more c.args.bytes.now c.loop-tags.rest.now _ c.loop-tags.tags.items c.in-Tag.tag c.loop-tags.invariant next.0)
