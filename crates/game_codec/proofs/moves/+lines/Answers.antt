@@ -1,5 +1,4 @@
-use Rattle.std.proofs.Common.{◌≡◌, ℕ, ◌++◌, List, drop, ap, subst, sym, ◌∙◌}
-use Rattle.chess_laws.specs.Step.{Step}
+use Rattle.std.proofs.Common.{◌≡◌, ℕ, ◌++◌, List, ap, subst, ◌∙◌}
 use Rattle.game_tree.specs.Tree.{Played, Variation, line_of}
 use Rattle.game_tree.specs.Written.{comment_before, script_of}
 use Rattle.game_codec.specs.Texts.{ended, texts_of}
