@@ -4,6 +4,7 @@ use Rattle.std.proofs.lemmas.List.{drop_more}
 use Rattle.std.proofs.Math.ListN.{drop_of_length-le}
 use Rattle.cell_core.specs.declared.step.Move.{Move}
 use Rattle.chess_laws.specs.declared.setup.Setup.{Setup}
+use Rattle.chess_laws.specs.Position.{start_setup}
 use Rattle.chess_laws.specs.Step.{Step}
 use Rattle.game_tree.specs.Items.{Script, stop, play, nag, mark, vary}
 use Rattle.game_tree.specs.Legal.{IsLegalLine, AreLegalBranches}
@@ -11,7 +12,7 @@ use Rattle.game_tree.specs.Replay.{stepped}
 use Rattle.game_tree.specs.Tree.{Line, ends, goes, Branches, none, more, Played, Variation, line_of, branches_of}
 use Rattle.game_tree.specs.Written.{nags_before, comment_before, script_of, variations_before}
 use Rattle.game_tree.proofs.LegalLemmas.{Step-stepped}
-use Rattle.move_codec.specs.Numbers.{Numbered, numbers_after}
+use Rattle.move_codec.specs.Numbers.{Numbered, numbers_after, text_numbers}
 use Rattle.move_codec.specs.Packed.{encoding}
 use Rattle.game_tree.specs.Game.{GameTree}
 use Rattle.game_tree.specs.declared.head.Tag.{Tag}
@@ -180,8 +181,8 @@ variations_texts-more vs i v now next all left wrote before =
     let inner : List (List ℕ) = texts_of (comment_before v.lead (script_of v.line)) in
     one_more (variations_texts (branches_of (drop i vs))) (ended inner) (variations_texts (branches_of (drop (i + 1) vs))) now next all
     (
-      ap (λ (ps : List Variation). variations_texts (branches_of ps)) left
-      ∙ ended-append inner (texts_of (variations_before (branches_of (drop (i + 1) vs)) stop))
+    ap (λ (ps : List Variation). variations_texts (branches_of ps)) left
+    ∙ ended-append inner (texts_of (variations_before (branches_of (drop (i + 1) vs)) stop))
     )
     wrote before
 
@@ -223,10 +224,10 @@ record-writes tags g n tagged started moved marked all moves texts tags_are (inl
   behind_tags = promotion_flags g.line ∷ (moves ++ 15 ∷ texts);
   bytes_are = behind_tags tagged (promotion_flags g.line ∷ []) started moved marked all moves texts (tags_text tags) tags_are start.bytes put_moves put_end put_texts;
   game_is =
-    inl (record {
-      standard = start.standard;
-      bytes_are = ap (λ (bytes : List ℕ). promotion_flags g.line ∷ bytes) (same_body n standard_start (script_of_game g) moves texts start.start_is moves_are texts_are);
-    });
+      inl (record {
+        standard = start.standard;
+        bytes_are = ap (λ (bytes : List ℕ). promotion_flags g.line ∷ bytes) (same_body n standard_start (script_of_game g) moves texts start.start_is moves_are texts_are);
+      });
 }
 record-writes tags g n tagged started moved marked all moves texts tags_are (inr start) moves_are texts_are put_moves put_end put_texts =
     let flags : ℕ = 1 + promotion_flags g.line in
@@ -235,12 +236,12 @@ record-writes tags g n tagged started moved marked all moves texts tags_are (inr
       behind_tags = (flags ∷ fen ++ 0 ∷ []) ++ (moves ++ 15 ∷ texts);
       bytes_are = behind_tags tagged (flags ∷ fen ++ 0 ∷ []) started moved marked all moves texts (tags_text tags) tags_are start.bytes put_moves put_end put_texts;
       game_is =
-        inr (record {
-          own = start.own;
-          bytes_are =
-            ap (λ (bytes : List ℕ). flags ∷ bytes) (append_assoc fen (0 ∷ []) (moves ++ 15 ∷ texts))
-            ∙ ap (λ (bytes : List ℕ). flags ∷ fen ++ 0 ∷ bytes) (same_body n (own_start g.start) (script_of_game g) moves texts start.start_is moves_are texts_are);
-        });
+          inr (record {
+            own = start.own;
+            bytes_are =
+                ap (λ (bytes : List ℕ). flags ∷ bytes) (append_assoc fen (0 ∷ []) (moves ++ 15 ∷ texts))
+                ∙ ap (λ (bytes : List ℕ). flags ∷ fen ++ 0 ∷ bytes) (same_body n (own_start g.start) (script_of_game g) moves texts start.start_is moves_are texts_are);
+          });
     }
 
 -- what the code has: the fields of a game
@@ -257,3 +258,18 @@ game-writes tags g start lead items first second view first_is second_is n flags
     (moves_are ∙ ap (λ (ps : List Played). moves_text n n (comment_before lead (script_of (line_of ps)))) second_is)
     (texts_are ∙ ap (λ (ps : List Played). ended (texts_of (comment_before lead (script_of (line_of ps))))) second_is)
     put_moves put_end put_texts)
+
+-- an own start, part by part
+pub own-adds : (start : Setup) (flags : ℕ) (old opened filled new fen : List ℕ) (n : Numbered) → (start ≡ start_setup → ⊥)
+    → opened ≡ old ++ (1 + flags) ∷ [] → fen ≡ fen_text start → filled ≡ opened ++ fen → new ≡ filled ++ 0 ∷ []
+    → n.position ≡ start → n.numbers ≡ text_numbers start.board → AddsStart start flags old new n
+own-adds start flags old opened filled new fen n own put_flags fen_is put_fen put_zero position numbers =
+    inr (record {
+      own = own;
+      bytes =
+          put_zero
+          ∙ ap (λ (bytes : List ℕ). bytes ++ 0 ∷ []) (put_fen ∙ (λ i. put_flags i ++ fen_is i))
+          ∙ ap (λ (bytes : List ℕ). bytes ++ 0 ∷ []) (append_assoc old ((1 + flags) ∷ []) (fen_text start))
+          ∙ append_assoc old ((1 + flags) ∷ fen_text start) (0 ∷ []);
+      start_is = λ i. record { position = position i; numbers = numbers i };
+    })

@@ -102,11 +102,10 @@ mutual
       let behind : Script = variations_before variations (script_of l) in
       let items : Script = nags_before ns (comment_before comment behind) in
       let bare = spells-variations variations q (script_of l) tail rest refl stands legal.1.1.0 here (spells-line l q rest next legal.1.1.1 there) in
-      let noted = spells-variations variations (after_comment q) (script_of l) tail rest refl stands legal.1.1.0 here (spells-line l (after_comment q) rest next legal.1.1.1 there) in
-      (
+      let noted = spells-variations variations (after_comment q) (script_of l) tail rest refl stands legal.1.1.0 here (spells-line l (after_comment q) rest next legal.1.1.1 there) in (
         moves_text q.before q.here items ++ tail,
         rw (append_assoc (encoding p.here m) (moves_text q.before q.here items) tail)
-        (takes-play p m (moves_text q.before q.here items ++ tail) stands (stepped p.here.position m, legal.0)),
+            (takes-play p m (moves_text q.before q.here items ++ tail) stands (stepped p.here.position m, legal.0)),
         spells-nags q ns (comment_before comment behind) tail rest refl (spells-comment q comment behind tail rest refl bare noted),
       )
 
@@ -123,14 +122,13 @@ mutual
       let bare = spells-line line q behind stands legal.1.0 room.1.0 in
       let noted = spells-line line (after_comment q) behind stands legal.1.0 room.1.0 in
       let spelled : SpellsMoves q inner (moves_text p.before p.before inner ++ end_byte q.depth ∷ behind) behind =
-      spells-comment q lead (script_of line) (end_byte q.depth ∷ behind) behind refl bare noted in
-      (
+      spells-comment q lead (script_of line) (end_byte q.depth ∷ behind) behind refl bare noted in (
         moves_text p.before p.before inner ++ 14 ∷ behind,
         (
           has,
           room.0,
           ap (λ (bytes : List ℕ). 13 ∷ bytes)
-          (append_assoc (moves_text p.before p.before inner) (14 ∷ moves_text p.before p.here (variations_before others s)) later),
+              (append_assoc (moves_text p.before p.before inner) (14 ∷ moves_text p.before p.here (variations_before others s)) later),
         ),
         (
           behind,
@@ -207,8 +205,8 @@ record-of bytes tags g behind n stands same legal has are is begins = record {
   then_texts = record { spelled = refl; zero_free = texts-game g has };
   tags_are = sym (free_of-IsTag tags are);
   game_is =
-    let said = meaning-written g.lead g.line legal.lead (HasComments-legal g.start g.line legal.line) in
-    sym (λ i. game_of (same i) (said i));
+      let said = meaning-written g.lead g.line legal.lead (HasComments-legal g.start g.line legal.line) in
+      sym (λ i. game_of (same i) (said i));
 }
 
 pub written-read : (bytes : List ℕ) (tags : List Tag) (g : GameTree) → Sound g.start → IsLegalGame g → HasTexts g → All IsTag tags

@@ -28,7 +28,7 @@ pub fn encode_game(alloc: Global, g: &Game, tags: &[Tag]) -> Result<Vec<u8>, Enc
     requires tags { All IsTag tags.now }
     ensures written { IfOk result (λ bytes. IsWrittenRecord bytes.items tags.now g.now) }
     ensures fits { IfOk result (λ bytes. length bytes.items ≤ 131071) }
-    // That form alone is given, and refused only where it is too long.
+    // That form alone is given, and refused only where it is too long or for want of memory.
     ensures exact { (bytes : List ℕ) → IsWrittenRecord bytes tags.now g.now
         → MatchResult result (λ written. written.items ≡ bytes) (λ error. (error ≡ Memory) ⊎ (131071 < length bytes)) }
     ensures read_again { IfOk result (λ bytes. IsRecord bytes.items tags.now g.now) }

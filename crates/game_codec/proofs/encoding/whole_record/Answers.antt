@@ -17,12 +17,12 @@ returns-clause-written c =
     (c.in_ok-put_tags.ensures.bytes ∙ ap (λ (out : List ℕ). out ++ (tags_text c.args.tags.now ++ 0 ∷ [])) c.new-out.ensures.items)
     c.in_ok-start.ensures.start
     (
-      c.in_ok-put_line.ensures.moves
-      ∙ ap (λ (out : List ℕ). out ++ moves_text n n (comment_before c.g.inside.lead (script_of (line_of c.as_slice-2.result.now)))) c.new-body.ensures.moves
+    c.in_ok-put_line.ensures.moves
+    ∙ ap (λ (out : List ℕ). out ++ moves_text n n (comment_before c.g.inside.lead (script_of (line_of c.as_slice-2.result.now)))) c.new-body.ensures.moves
     )
     (
-      c.in_ok-put_line.ensures.texts
-      ∙ ap (λ (out : List ℕ). out ++ ended (texts_of (comment_before c.g.inside.lead (script_of (line_of c.as_slice-2.result.now))))) c.new-body.ensures.texts
+    c.in_ok-put_line.ensures.texts
+    ∙ ap (λ (out : List ℕ). out ++ ended (texts_of (comment_before c.g.inside.lead (script_of (line_of c.as_slice-2.result.now))))) c.new-body.ensures.texts
     )
     (c.in_ok-extend_from_slice.ensures.items ∙ ap (λ (bytes : List ℕ). c.put_start.new.out.items ++ bytes) c.as_slice-3.ensures.value)
     c.in_ok-push.ensures.items

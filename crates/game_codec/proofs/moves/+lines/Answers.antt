@@ -1,5 +1,4 @@
-use Rattle.std.proofs.Common.{◌≡◌, ◌++◌, List, drop, ap, subst, sym, ◌∙◌}
-use Rattle.chess_laws.specs.Step.{Step}
+use Rattle.std.proofs.Common.{◌≡◌, ℕ, ◌++◌, List, ap, subst, ◌∙◌}
 use Rattle.game_tree.specs.Tree.{Played, Variation, line_of}
 use Rattle.game_tree.specs.Written.{comment_before, script_of}
 use Rattle.game_codec.specs.Texts.{ended, texts_of}
@@ -7,6 +6,10 @@ use Rattle.game_codec.specs.Written.{IsCommentText, LineHasTexts, moves_text}
 use Rattle.game_codec.specs.Place.{numbered_after}
 use Rattle.game_codec.proofs.WritingLaws.{left_more, numbered-played, moves-more, texts-more, legal-more, line_texts-more, texts-lead, variations-more, variations_texts-more, branches_legal-more, branches_texts-more}
 use Rattle.game_codec.proofs.moves.+lines.Goals as goal
+
+-- what was written, by another name
+written : {new : List ℕ} (old : List ℕ) {part same : List ℕ} → new ≡ old ++ part → part ≡ same → new ≡ old ++ same
+written old is e = is ∙ ap (λ (bytes : List ℕ). old ++ bytes) e
 
 pub put_line-loop-node-preserved : goal.put_line-loop-node-preserved
 put_line-loop-node-preserved t c =
@@ -33,12 +36,12 @@ put_variations-loop-variation-preserved t c =
     record {
       legal = branches_legal-more n.position c.args.variations.now c.loop-variation.variation-index c.variation-item.result left c.loop-variation.invariant.legal;
       moves = variations-more n c.args.variations.now c.loop-variation.variation-index c.variation-item.result _ c.push.new.self.items _ _ _ left c.in_ok-push.ensures.items
-      (c.in_ok-put_line.ensures.moves ∙ (λ i. c.push.new.self.items ++ moves_text n n (comment_before (lead i) (script_of (line i)))))
-      c.in_ok-push-2.ensures.items c.loop-variation.invariant.moves;
+          (written c.push.new.self.items c.in_ok-put_line.ensures.moves (λ i. moves_text n n (comment_before (lead i) (script_of (line i)))))
+          c.in_ok-push-2.ensures.items c.loop-variation.invariant.moves;
       texts = variations_texts-more c.args.variations.now c.loop-variation.variation-index c.variation-item.result _ _ _ left
-      (c.in_ok-put_line.ensures.texts ∙ (λ i. c.loop-variation.body.texts.items ++ ended (texts_of (comment_before (lead i) (script_of (line i))))))
-      c.loop-variation.invariant.texts;
+          (written c.loop-variation.body.texts.items c.in_ok-put_line.ensures.texts (λ i. ended (texts_of (comment_before (lead i) (script_of (line i))))))
+          c.loop-variation.invariant.texts;
       zero_free = branches_texts-more c.args.variations.now c.loop-variation.variation-index c.variation-item.result _ left
-      (subst IsCommentText lead c.in_ok-put_line.ensures.zero_free.0) (subst LineHasTexts line c.in_ok-put_line.ensures.zero_free.1)
-      c.loop-variation.invariant.zero_free;
+          (subst IsCommentText lead c.in_ok-put_line.ensures.zero_free.0) (subst LineHasTexts line c.in_ok-put_line.ensures.zero_free.1)
+          c.loop-variation.invariant.zero_free;
     }
