@@ -21,7 +21,7 @@ pub const VERSION: &str = "scid_shell 0.1.0\n";
 pub fn message(status: Status) -> Option<&'static str> {
     match status {
         Status::Done => None,
-        Status::BadMove { .. } => Some("bad move"),
+        Status::BadRecord { .. } => Some("bad record"),
         Status::Later(_) => Some("later"),
         Status::ReadFault => Some("read fault"),
         Status::WriteFault => Some("write fault"),

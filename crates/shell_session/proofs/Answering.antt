@@ -5,20 +5,18 @@ use Rattle.std.proofs.lemmas.List.Elements.{All-pop}
 use Rattle.base_files.specs.Counters.{Rose, LAST}
 use Rattle.base_files.specs.Told.{Grew, IsPrefix, Tells, TellsLength, adds}
 use Rattle.shell_session.specs.declared.placed.Placed.{Placed}
-use Rattle.shell_session.specs.declared.record_fault.RecordFault.{RecordFault}
-use Rattle.shell_session.specs.declared.record_fault.RecordFault.TheVariants as fault
+use Rattle.game_codec.specs.declared.fault.RecordFault.{RecordFault}
+use Rattle.game_codec.proofs.DecodeLaws.{record-unbroken}
 use Rattle.shell_session.specs.declared.status.Status.{Status}
-use Rattle.shell_session.specs.declared.status.Status.TheVariants.{Done, Later, BadMove, ReadFault, WriteFault, FilesFault, Memory}
+use Rattle.shell_session.specs.declared.status.Status.TheVariants.{Done, Later, BadRecord, ReadFault, WriteFault, FilesFault, Memory}
 use Rattle.shell_session.specs.declared.status.LaterWhat.TheVariants as later
 use Rattle.shell_session.specs.Endings.{EndsEarly, Found, WroteFront}
 use Rattle.shell_session.specs.FindLine.{FindScript}
 use Rattle.shell_session.specs.HitText.{find_text}
 use Rattle.shell_session.specs.IndexFile.{IsIndex, extent_at, game_count, record_in, records}
-use Rattle.shell_session.specs.MainLine.{IsReadWhole}
 use Rattle.shell_session.specs.Refusals.{OpeningRefused}
-use Rattle.shell_session.specs.Session.{Answers, AreHits, Asks, BeginsAnswer, Finds, Given, IsFirstFaulty, Opens, given}
+use Rattle.shell_session.specs.Session.{Answers, AreHits, Asks, BeginsAnswer, Finds, Given, IsFirstFaulty, IsSomeRecord, Opens, given}
 use Rattle.shell_session.specs.Words.{AreBase}
-use Rattle.shell_session.proofs.Reading.{read_once}
 use Rattle.shell_session.proofs.Searching.{whole_of_hits}
 
 -- nothing is added where the bytes taken stay the same
@@ -32,8 +30,7 @@ opening_answers words name index games script FilesFault base refused = refl
 opening_answers words name index games script Memory base refused = inl refl
 opening_answers words name index games script (Later later.Words) base refused = absurd refused
 opening_answers words name index games script (Later later.Script) base refused = absurd refused
-opening_answers words name index games script (Later (later.Record game)) base refused = absurd refused
-opening_answers words name index games script (BadMove game place why) base refused = absurd refused
+opening_answers words name index games script (BadRecord game fault) base refused = absurd refused
 opening_answers words name index games script Done base refused = absurd refused
 opening_answers words name index games script ReadFault base refused = absurd refused
 opening_answers words name index games script WriteFault base refused = absurd refused
@@ -62,9 +59,7 @@ pub early_answers : (words : List (List ℕ)) (index games script taken : List �
     EndsEarly index (Some games) (Some script) (Some taken) after status →
     (text : List ℕ) × (after ≡ Some (taken ++ text)) × Answers (given words index games script) status text
 early_answers words index games script taken after (Later later.Script) opens ends = ([], none_added taken after ends.1, (opens, ends.0, refl))
-early_answers words index games script taken after (Later (later.Record game)) opens ends =
-    ([], none_added taken after ends.2, ((ends.0.0, record { opens = opens; asked = ends.0.1 }), ends.1, refl))
-early_answers words index games script taken after (BadMove game place why) opens ends =
+early_answers words index games script taken after (BadRecord game fault) opens ends =
     ([], none_added taken after ends.2, ((ends.0.0, record { opens = opens; asked = ends.0.1 }), ends.1, refl))
 early_answers words index games script taken after ReadFault opens ends = ([], none_added taken after ends, refl)
 early_answers words index games script taken after FilesFault opens ends = ([], none_added taken after ends, refl)
@@ -100,16 +95,15 @@ record_of_all P index games n i below all =
 -- where there is a whole answer, no record is faulty
 pub none_faulty : (words : List (List ℕ)) (index games script text : List ℕ) (game : ℕ) (fault : RecordFault) → Finds (given words index games script) text → ¬ IsFirstFaulty index games game fault
 none_faulty words index games script text game fault finds faulty =
-    let all : All IsReadWhole (records index games (game_count index)) = whole_of_hits finds.sought (records index games (game_count index)) finds.hits finds.found in
-    let whole : IsReadWhole (record_in games (extent_at index game)) = record_of_all IsReadWhole index games (game_count index) game faulty.in_base all in
-    read_once (record_in games (extent_at index game)) fault whole faulty.faulty
+    let all : All IsSomeRecord (records index games (game_count index)) = whole_of_hits finds.sought (records index games (game_count index)) finds.hits finds.found in
+    let whole : IsSomeRecord (record_in games (extent_at index game)) = record_of_all IsSomeRecord index games (game_count index) game faulty.in_base all in
+    record-unbroken (record_in games (extent_at index game)) whole.0 whole.1.0 fault whole.1.1 faulty.faulty
 
 -- where there is a whole answer and no device has a fault, a search ends early for want of memory alone
 pub ends_for_memory : (words : List (List ℕ)) (index games script text : List ℕ) (before after : Option (List ℕ)) (status : Status) → Finds (given words index games script) text →
     EndsEarly index (Some games) (Some script) before after status → (status ≡ ReadFault → ⊥) → (status ≡ WriteFault → ⊥) → (status ≡ FilesFault → ⊥) → status ≡ Memory
 ends_for_memory words index games script text before after (Later later.Script) finds ends no_read no_write no_files = absurd (ends.0 finds.sought finds.asks.asked)
-ends_for_memory words index games script text before after (Later (later.Record game)) finds ends no_read no_write no_files = absurd (none_faulty words index games script text game fault.Later finds ends.1)
-ends_for_memory words index games script text before after (BadMove game place why) finds ends no_read no_write no_files = absurd (none_faulty words index games script text game (fault.Bad place why) finds ends.1)
+ends_for_memory words index games script text before after (BadRecord game fault) finds ends no_read no_write no_files = absurd (none_faulty words index games script text game fault finds ends.1)
 ends_for_memory words index games script text before after ReadFault finds ends no_read no_write no_files = absurd (no_read refl)
 ends_for_memory words index games script text before after WriteFault finds ends no_read no_write no_files = absurd (no_write refl)
 ends_for_memory words index games script text before after FilesFault finds ends no_read no_write no_files = absurd (no_files refl)

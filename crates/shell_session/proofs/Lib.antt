@@ -1,6 +1,5 @@
 pub mod Answering
 pub mod FindLines
 pub mod HitLines
-pub mod Progress
-pub mod Reading
+pub mod MainLines
 pub mod Searching

@@ -5,16 +5,15 @@ use Rattle.std.proofs.lemmas.List.{length_push}
 use Rattle.std.proofs.lemmas.List.Elements.{All-nil, All-cons}
 use Rattle.base_files.specs.Told.{Tells}
 use Rattle.shell_session.specs.declared.placed.Placed.{Placed}
-use Rattle.shell_session.specs.declared.record_fault.RecordFault.{RecordFault}
-use Rattle.shell_session.specs.declared.record_fault.RecordFault.TheVariants as fault
+use Rattle.game_codec.specs.declared.fault.RecordFault.{RecordFault}
 use Rattle.shell_session.specs.declared.status.Status.{Status}
-use Rattle.shell_session.specs.declared.status.Status.TheVariants.{Done, Later, BadMove, ReadFault, WriteFault, FilesFault, Memory}
+use Rattle.shell_session.specs.declared.status.Status.TheVariants.{Done, Later, BadRecord, ReadFault, WriteFault, FilesFault, Memory}
 use Rattle.shell_session.specs.declared.status.LaterWhat.TheVariants as later
+use Rattle.game_codec.specs.Fault.{IsRecordFault}
 use Rattle.shell_session.specs.FindLine.{FindScript}
 use Rattle.shell_session.specs.IndexFile.{extent_at, game_count, record_in, records, records_len}
-use Rattle.shell_session.specs.MainLine.{IsFaulty, IsReadWhole}
 use Rattle.shell_session.specs.Refusals.{GameRefused, SearchRefused}
-use Rattle.shell_session.specs.Session.{Hit, IsFirstFaulty}
+use Rattle.shell_session.specs.Session.{Hit, IsSomeRecord, IsFirstFaulty}
 
 -- the records of more games have no fewer bytes
 records_len-add : (index : List ℕ) (m k : ℕ) → records_len index m ≤ records_len index (k + m)
@@ -44,39 +43,37 @@ one_more None sought index game hits hit before now = tt
 one_more (Some games) sought index game hits hit before now =
     rw add-one (all-push sought (records index games game) hits (record_in games (extent_at index game)) hit before now)
 
--- the games with an answer have records that are read whole
-pub whole_of_hits : (sought : Placed) (xs : List (List ℕ)) (hits : List (Option ℕ)) → AllZip (Hit sought) xs hits → All IsReadWhole xs
-whole_of_hits sought [] [] found = All-nil IsReadWhole
+-- the games with an answer have records
+pub whole_of_hits : (sought : Placed) (xs : List (List ℕ)) (hits : List (Option ℕ)) → AllZip (Hit sought) xs hits → All IsSomeRecord xs
+whole_of_hits sought [] [] found = All-nil IsSomeRecord
 whole_of_hits sought [] (hit ∷ hits) found = absurd found
 whole_of_hits sought (bytes ∷ xs) [] found = absurd found
 whole_of_hits sought (bytes ∷ xs) (hit ∷ hits) found =
-    All-cons IsReadWhole bytes xs (found.0.plies, found.0.replayed) (whole_of_hits sought xs hits found.1)
+    All-cons IsSomeRecord bytes xs (found.0.tags, (found.0.game, found.0.decoded)) (whole_of_hits sought xs hits found.1)
 
 -- a game with a fault, after games that have an answer, is the first with one
 first_faulty : (told : Option (List ℕ)) (sought : Placed) (index : List ℕ) (game : ℕ) (hits : List (Option ℕ)) (fault : RecordFault) → game < game_count index →
-    IfSome told (λ games. AllZip (Hit sought) (records index games game) hits) → IfSome told (λ games. IsFaulty (record_in games (extent_at index game)) fault) →
+    IfSome told (λ games. AllZip (Hit sought) (records index games game) hits) → IfSome told (λ games. IsRecordFault (record_in games (extent_at index game)) fault) →
     IfSome told (λ games. IsFirstFaulty index games game fault)
 first_faulty None sought index game hits fault below before here = tt
 first_faulty (Some games) sought index game hits fault below before here =
-    record { in_base = below; whole_before = whole_of_hits sought (records index games game) hits before; faulty = here }
+    record { in_base = below; records_before = whole_of_hits sought (records index games game) hits before; faulty = here }
 
 first_faulty_told : (told now : Option (List ℕ)) (sought : Placed) (index : List ℕ) (game faulty : ℕ) (hits : List (Option ℕ)) (fault : RecordFault) →
     now ≡ told → game < game_count index → IfSome told (λ games. AllZip (Hit sought) (records index games game) hits) →
-    faulty ≡ game → IfSome now (λ games. IsFaulty (record_in games (extent_at index game)) fault) →
+    faulty ≡ game → IfSome now (λ games. IsRecordFault (record_in games (extent_at index game)) fault) →
     IfSome told (λ games. IsFirstFaulty index games faulty fault)
 first_faulty_told told now sought index game faulty hits fault same below before here refused =
     let P : ℕ → Type 0 = λ n. IfSome told (λ games. IsFirstFaulty index games n fault) in
-    let Q : Option (List ℕ) → Type 0 = λ o. IfSome o (λ games. IsFaulty (record_in games (extent_at index game)) fault) in
+    let Q : Option (List ℕ) → Type 0 = λ o. IfSome o (λ games. IsRecordFault (record_in games (extent_at index game)) fault) in
     subst P (sym here) (first_faulty told sought index game hits fault below before (subst Q same refused))
 
--- a game that ends the search ends it by its own record only where those before it are read whole
+-- a game that ends the search ends it by its own bytes only where those before it are records
 pub search_refused : (told now : Option (List ℕ)) (sought : Placed) (index : List ℕ) (game : ℕ) (hits : List (Option ℕ)) (status : Status) →
     now ≡ told → game < game_count index → IfSome told (λ games. AllZip (Hit sought) (records index games game) hits) →
     GameRefused index now game status → SearchRefused index told status
-search_refused told now sought index game hits (Later (later.Record faulty)) same below before refused =
-    first_faulty_told told now sought index game faulty hits fault.Later same below before refused.0 refused.1
-search_refused told now sought index game hits (BadMove faulty place why) same below before refused =
-    first_faulty_told told now sought index game faulty hits (fault.Bad place why) same below before refused.0 refused.1
+search_refused told now sought index game hits (BadRecord faulty fault) same below before refused =
+    first_faulty_told told now sought index game faulty hits fault same below before refused.0 refused.1
 search_refused told now sought index game hits (Later later.Words) same below before refused = absurd refused
 search_refused told now sought index game hits (Later later.Index) same below before refused = absurd refused
 search_refused told now sought index game hits (Later later.Script) same below before refused = absurd refused

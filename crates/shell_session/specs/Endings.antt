@@ -2,9 +2,8 @@
 use Rattle.std.specs.Prelude.{◌≡◌, ℕ, ◌⊎◌, List, Option, IfSome}
 use Rattle.base_files.specs.Told.{Grew, adds}
 use Rattle.shell_session.specs.declared.placed.Placed.{Placed}
-use Rattle.shell_session.specs.declared.record_fault.RecordFault.TheVariants as fault
 use Rattle.shell_session.specs.declared.status.Status.{Status}
-use Rattle.shell_session.specs.declared.status.Status.TheVariants.{Done, Later, BadMove, ReadFault, WriteFault, FilesFault, Memory}
+use Rattle.shell_session.specs.declared.status.Status.TheVariants.{Done, Later, BadRecord, ReadFault, WriteFault, FilesFault, Memory}
 use Rattle.shell_session.specs.declared.status.LaterWhat.TheVariants as later
 use Rattle.shell_session.specs.FindLine.{FindScript}
 use Rattle.shell_session.specs.HitText.{find_text}
@@ -33,10 +32,8 @@ pub record WroteFront (index : List ℕ) (games script before after : Option (Li
 -- what each status says
 abbrev pub EndsEarly : List ℕ → Option (List ℕ) → Option (List ℕ) → Option (List ℕ) → Option (List ℕ) → Status → Type 0
 EndsEarly index games script before after (Later later.Script) = IfSome script (λ s. (sought : Placed) → ¬ FindScript s sought) × (after ≡ before)
-EndsEarly index games script before after (Later (later.Record game)) =
-    ((sought : Placed) × IfSome script (λ s. FindScript s sought)) × IfSome games (λ g. IsFirstFaulty index g game fault.Later) × (after ≡ before)
-EndsEarly index games script before after (BadMove game place refused) =
-    ((sought : Placed) × IfSome script (λ s. FindScript s sought)) × IfSome games (λ g. IsFirstFaulty index g game (fault.Bad place refused)) × (after ≡ before)
+EndsEarly index games script before after (BadRecord game fault) =
+    ((sought : Placed) × IfSome script (λ s. FindScript s sought)) × IfSome games (λ g. IsFirstFaulty index g game fault) × (after ≡ before)
 EndsEarly index games script before after ReadFault = after ≡ before
 EndsEarly index games script before after FilesFault = after ≡ before
 EndsEarly index games script before after WriteFault = WroteFront index games script before after

@@ -4,7 +4,6 @@ pub mod FindLine
 pub mod HitText
 pub mod IndexFile
 pub mod Placed
-pub mod MainLine
 pub mod Refusals
 pub mod Session
 pub mod Words

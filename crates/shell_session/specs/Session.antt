@@ -4,15 +4,17 @@ use Rattle.std.specs.List.{AllZip}
 use Rattle.base_files.specs.Chosen.{Choice, choice}
 use Rattle.base_files.specs.Told.{IsPrefix}
 use Rattle.shell_session.specs.declared.placed.Placed.{Placed}
-use Rattle.shell_session.specs.declared.record_fault.RecordFault.{RecordFault}
-use Rattle.shell_session.specs.declared.record_fault.RecordFault.TheVariants as fault
+use Rattle.game_codec.specs.declared.fault.RecordFault.{RecordFault}
 use Rattle.shell_session.specs.declared.status.Status.{Status}
-use Rattle.shell_session.specs.declared.status.Status.TheVariants.{Done, Later, BadMove, ReadFault, WriteFault, FilesFault, Memory}
+use Rattle.shell_session.specs.declared.status.Status.TheVariants.{Done, Later, BadRecord, ReadFault, WriteFault, FilesFault, Memory}
 use Rattle.shell_session.specs.declared.status.LaterWhat.TheVariants as later
+use Rattle.game_tree.specs.Game.{GameTree}
+use Rattle.game_tree.specs.declared.head.Tag.{Tag}
+use Rattle.game_codec.specs.Record.{IsRecord}
+use Rattle.game_codec.specs.Fault.{IsRecordFault}
 use Rattle.shell_session.specs.FindLine.{FindScript}
 use Rattle.shell_session.specs.HitText.{find_text}
 use Rattle.shell_session.specs.IndexFile.{IsIndex, extent_at, game_count, record_in, records}
-use Rattle.shell_session.specs.MainLine.{IsFaulty, IsReadWhole, ReadsRecord}
 use Rattle.shell_session.specs.Placed.{FirstPly}
 use Rattle.shell_session.specs.Words.{AreBase}
 
@@ -28,19 +30,24 @@ given words index games script = record { words = words; index = index; games = 
 
 -- a game's answer to a search: the first ply of its main line at which the board and side sought stand
 pub record Hit (sought : Placed) (bytes : List ℕ) (hit : Option ℕ) : Type 0 where
-  pub plies : List Placed
-  pub replayed : ReadsRecord bytes plies None
-  pub first : FirstPly plies sought hit
+  pub tags : List Tag
+  pub game : GameTree
+  pub decoded : IsRecord bytes tags game
+  pub first : FirstPly game sought hit
 
 -- the answers of all games, in their order
 abbrev pub AreHits : Placed → List ℕ → List ℕ → List (Option ℕ) → Type 0
 AreHits sought index games hits = AllZip (Hit sought) (records index games (game_count index)) hits
 
--- this game is the first whose record is not read whole, and this is what is in the way
+-- the bytes are a record
+abbrev pub IsSomeRecord : List ℕ → Type 0
+IsSomeRecord bytes = (tags : List Tag) × ((game : GameTree) × IsRecord bytes tags game)
+
+-- this game is the first whose bytes are no record, and this is their first fault
 pub record IsFirstFaulty (index games : List ℕ) (game : ℕ) (fault : RecordFault) : Type 0 where
   pub in_base : game < game_count index
-  pub whole_before : All IsReadWhole (records index games game)
-  pub faulty : IsFaulty (record_in games (extent_at index game)) fault
+  pub records_before : All IsSomeRecord (records index games game)
+  pub faulty : IsRecordFault (record_in games (extent_at index game)) fault
 
 -- the words name a base, and its index can be read
 pub record Opens (given : Given) : Type 0 where
@@ -73,9 +80,7 @@ Answers given Done text = Finds given text
 Answers given (Later later.Words) text = ((name : List ℕ) → ¬ AreBase given.words name) × (text ≡ [])
 Answers given (Later later.Index) text = ((name : List ℕ) × AreBase given.words name) × ¬ IsIndex given.index (length given.games) × (text ≡ [])
 Answers given (Later later.Script) text = Opens given × ((sought : Placed) → ¬ FindScript given.script sought) × (text ≡ [])
-Answers given (Later (later.Record game)) text = ((sought : Placed) × Asks given sought) × IsFirstFaulty given.index given.games game fault.Later × (text ≡ [])
-Answers given (BadMove game place refused) text =
-    ((sought : Placed) × Asks given sought) × IsFirstFaulty given.index given.games game (fault.Bad place refused) × (text ≡ [])
+Answers given (BadRecord game fault) text = ((sought : Placed) × Asks given sought) × IsFirstFaulty given.index given.games game fault × (text ≡ [])
 Answers given ReadFault text = text ≡ []
 Answers given WriteFault text = BeginsAnswer given text
 Answers given FilesFault text = text ≡ []

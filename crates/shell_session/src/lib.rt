@@ -8,14 +8,12 @@ mod index_file;
 mod main_line;
 mod opening;
 pub mod placed;
-pub mod record_fault;
 mod run;
 mod script;
 mod search;
 pub mod status;
 mod words;
 
-pub use record_fault::RecordFault;
 pub use run::session;
 pub use status::{LaterWhat, Status};
 

@@ -3,25 +3,27 @@
 ghost use Rattle.std.specs.Prelude.{◌≡◌, ◌≤◌, ◌<◌, ◌+◌, ◌^◌, ℕ, [], ◌∷◌, ◌++◌, Option, length, IfOk, IfErr, IfSome, OnOk};
 ghost use Rattle.base_files.specs.Counters.{Rose};
 ghost use Rattle.shell_session.specs.IndexFile.{IsIndex, IsPlaced, extent_at, game_count, record_in, records_len};
-ghost use Rattle.shell_session.specs.MainLine.{IsFaulty};
+ghost use Rattle.game_codec.specs.Fault.{IsRecordFault};
 ghost use Rattle.shell_session.specs.Refusals.{GameRefused, SearchRefused};
 ghost use Rattle.shell_session.specs.Session.{AreHits, Hit};
-ghost use Rattle.shell_session.specs.declared.record_fault.RecordFault.{RecordFault as Refused};
+ghost use Rattle.game_codec.specs.declared.fault.RecordFault.{RecordFault as Refused};
 
 use crate::index_file::{BLOCK_LEN, Extent, count_of, extent_of_game};
 use crate::main_line::first_ply;
 use crate::placed::Placed;
-use crate::record_fault::RecordFault;
-use crate::status::{LaterWhat, Status};
+use crate::status::Status;
 use base_files::files::Files;
+use game_codec::{DecodeError, RecordFault, decode_game};
 use std::alloc::Global;
 
 /// Why a game has no answer.
 enum GameFault {
     /// The files failed.
     Files,
-    /// The record is not read to its end.
+    /// The bytes are no record.
     Record(RecordFault),
+    /// Memory ran out.
+    Memory,
 }
 
 /// The first ply of each game at which the board and side sought stand. Each record is read once.
@@ -45,7 +47,7 @@ pub(crate) fn search<F: Files>(
         return Err(Status::Memory);
     };
     let mut hits = Vec::new(alloc);
-    match add_all(files, index, sought, block.as_mut_slice(), &mut hits) {
+    match add_all(alloc, files, index, sought, block.as_mut_slice(), &mut hits) {
         Ok(()) => Ok(hits),
         Err(status) => Err(status),
     }
@@ -53,6 +55,7 @@ pub(crate) fn search<F: Files>(
 
 /// Adds the answers of all games to `hits`, which is empty. Each record is read into `block`.
 fn add_all<F: Files>(
+    alloc: Global,
     files: &mut F,
     index: &[u8],
     sought: &Placed,
@@ -72,13 +75,14 @@ fn add_all<F: Files>(
     ensures cause { IfErr result (λ status. status ≡ Status.FilesFault → Rose (F.faults files.old) (F.faults files.new)) }
 {
     for game in 0..count_of(index) {
-        add_hit(files, index, game, sought, block, hits)?;
+        add_hit(alloc, files, index, game, sought, block, hits)?;
     }
     Ok(())
 }
 
 /// Adds the answer of one game to `hits`. Its record is read into `block`.
 fn add_hit<F: Files>(
+    alloc: Global,
     files: &mut F,
     index: &[u8],
     game: u32,
@@ -98,22 +102,17 @@ fn add_hit<F: Files>(
     ensures counts { F.faults files.old ≤ F.faults files.new }
     ensures cause { IfErr result (λ status. status ≡ Status.FilesFault → Rose (F.faults files.old) (F.faults files.new)) }
 {
-    match game_hit(files, extent_of_game(index, game), sought, block) {
+    match game_hit(alloc, files, extent_of_game(index, game), sought, block) {
         Ok(hit) => hits.push(hit).map_err(|_| Status::Memory),
         Err(GameFault::Files) => Err(Status::FilesFault),
-        Err(GameFault::Record(RecordFault::Later)) => Err(Status::Later(LaterWhat::Record {
-            game,
-        })),
-        Err(GameFault::Record(RecordFault::Bad { place, fault })) => Err(Status::BadMove {
-            game,
-            place,
-            fault,
-        }),
+        Err(GameFault::Record(fault)) => Err(Status::BadRecord { game, fault }),
+        Err(GameFault::Memory) => Err(Status::Memory),
     }
 }
 
 /// The first ply of one game at which the board and side sought stand. Its record is read into `block`.
 fn game_hit<F: Files>(
+    alloc: Global,
     files: &mut F,
     extent: Extent,
     sought: &Placed,
@@ -122,7 +121,7 @@ fn game_hit<F: Files>(
     requires placed { IsPlaced (F.known files.old) extent }
     requires room { length block.old ≡ 131072 }
     ensures found { IfOk result (λ hit. IfSome (F.games files.old) (λ games. Hit sought.now (record_in games extent) hit)) }
-    ensures faulty { (fault : Refused) → result ≡ Err (GameFault.Record fault) → IfSome (F.games files.old) (λ games. IsFaulty (record_in games extent) fault) }
+    ensures faulty { (fault : Refused) → result ≡ Err (GameFault.Record fault) → IfSome (F.games files.old) (λ games. IsRecordFault (record_in games extent) fault) }
     ensures asks { F.asked files.new ≤ F.asked files.old + extent.len }
     ensures contents { (F.index files.new ≡ F.index files.old) × (F.names files.new ≡ F.names files.old) × (F.games files.new ≡ F.games files.old) }
     ensures none_chosen { F.choices files.new ≡ F.choices files.old }
@@ -133,8 +132,19 @@ fn game_hit<F: Files>(
     if files.read_games(extent.offset, extent.len, block).is_err() {
         return Err(GameFault::Files);
     }
-    match first_ply(&block[..extent.len as usize], sought) {
-        Ok(hit) => Ok(hit),
-        Err(fault) => Err(GameFault::Record(fault)),
+    record_hit(alloc, &block[..extent.len as usize], sought)
+}
+
+/// The first ply of the game of a record at which the board and side sought stand.
+fn record_hit(alloc: Global, bytes: &[u8], sought: &Placed) -> Result<Option<u32>, GameFault>
+    requires few { length bytes.now < 2 ^ 32 }
+    ensures found { IfOk result (Hit sought.now bytes.now) }
+    ensures faulty { (fault : Refused) → result ≡ Err (GameFault.Record fault) → IsRecordFault bytes.now fault }
+    ensures no_files { result ≡ Err GameFault.Files → ⊥ }
+{
+    match decode_game(alloc, bytes) {
+        Ok((game, _tags)) => Ok(first_ply(&game, sought)),
+        Err(DecodeError::Bad(fault)) => Err(GameFault::Record(fault)),
+        Err(DecodeError::Memory) => Err(GameFault::Memory),
     }
 }

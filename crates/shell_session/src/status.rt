@@ -5,7 +5,7 @@ ghost use Rattle.shell_session.specs.Stops.{status_of};
 ghost use Rattle.shell_session.specs.ExitCodes.{exit_code_of};
 
 use base_files::faults::Stop;
-use move_codec::MoveFault;
+use game_codec::RecordFault;
 
 /// How a session ended.
 #[derive(Clone, Copy, Debug, PartialEq, Eq)]
@@ -14,13 +14,8 @@ pub enum Status {
     Done,
     /// What a later version of the program reads.
     Later(LaterWhat),
-    /// A move of this game, the first that is not read whole, is refused. The place is that of the move's first byte in
-    /// the game's record, or the record's length for `Short`.
-    BadMove {
-        game: u32,
-        place: u32,
-        fault: MoveFault,
-    },
+    /// The bytes of this game are no record, as those of all games before it are, and this is their first fault.
+    BadRecord { game: u32, fault: RecordFault },
     /// The input failed.
     ReadFault,
     /// The output failed.
@@ -40,9 +35,6 @@ pub enum LaterWhat {
     Index,
     /// The script is not one line `find BOARD SIDE`, or has more than 4,096 bytes.
     Script,
-    /// The record of this game, the first that is not read whole, has tags, a start of its own, an item that is no move, or
-    /// bytes after its end.
-    Record { game: u32 },
 }
 
 impl Status {
@@ -52,7 +44,7 @@ impl Status {
     {
         match self {
             Status::Done => 0,
-            Status::BadMove { .. } => 2,
+            Status::BadRecord { .. } => 2,
             Status::ReadFault => 3,
             Status::WriteFault => 4,
             Status::FilesFault => 5,

@@ -6,6 +6,7 @@ use base_files::disk_files::DiskFiles;
 use base_files::mem_files::MemFiles;
 use base_files::mem_sink::MemSink;
 use base_files::mem_source::MemSource;
+use game_codec::{RecordFault, RecordWhat};
 use move_codec::MoveFault;
 use std::alloc::{AllocError, Global};
 use std::fs;
@@ -157,15 +158,36 @@ fn refuses_words_indexes_and_records(rt: HostRuntime) -> Result<(), Fail> {
         assert_eq!(rt; status, Status::Later(LaterWhat::Index));
         assert!(rt; written.is_empty());
     }
-    let records: [(&[u8], u32); 4] = [
-        (b"\x00\x00\xcf\xbf\xbf\x0f\x00\x00\xbf\xbf\xcf\x0e", 1),
-        (b"\x00\x01\xcf\xbf\xbf\x0f\x00\x00\xbf\xbf\xcf\x0e", 0),
-        (b"\x00\x00\xcf\xbf\x0f\x0f\x00\x00\xbf\xbf\xcf\x0f", 0),
-        (b"\x00\x00\xcf\xbf\xbf\x0f\x01\x00\xbf\xbf\x00\x0f", 1),
+    let records: [(&[u8], u32, u32, RecordWhat); 4] = [
+        (
+            b"\x00\x00\xcf\xbf\xbf\x0f\x00\x00\xbf\xbf\xcf\x0e",
+            1,
+            5,
+            RecordWhat::Mark,
+        ),
+        (
+            b"\x00\x01\xcf\xbf\xbf\x0f\x00\x00\xbf\xbf\xcf\x0e",
+            0,
+            6,
+            RecordWhat::Short,
+        ),
+        (
+            b"\x00\x00\xcf\xbf\x0f\x0f\x00\x00\xbf\xbf\xcf\x0f",
+            0,
+            5,
+            RecordWhat::Extra,
+        ),
+        (
+            b"\x00\x00\xcf\xbf\xbf\x0f\xfb\x00\xbf\xbf\x00\x0f",
+            1,
+            0,
+            RecordWhat::TagCode,
+        ),
     ];
-    for (games, game) in records {
+    for (games, game, place, what) in records {
         let (status, written) = run(alloc, &["base"], good.as_slice(), games, E4_D5, &NONE)?;
-        assert_eq!(rt; status, Status::Later(LaterWhat::Record { game }));
+        let fault = RecordFault { place, what };
+        assert_eq!(rt; status, Status::BadRecord { game, fault });
         assert!(rt; written.is_empty());
     }
     Ok(())
@@ -213,12 +235,9 @@ fn replays_by_the_laws(rt: HostRuntime) -> Result<(), Fail> {
     ];
     for (game, place, fault) in refused {
         let (status, written) = run_twice(alloc, game, E4_D5)?;
-        let want = Status::BadMove {
-            game: 0,
-            place,
-            fault,
-        };
-        assert_eq!(rt; status, want);
+        let what = RecordWhat::Move(fault);
+        let fault = RecordFault { place, what };
+        assert_eq!(rt; status, Status::BadRecord { game: 0, fault });
         assert!(rt; written.is_empty());
     }
     Ok(())
