@@ -1,4 +1,7 @@
 //! What no clause says: records and faults that were made by hand or by another program.
+ghost use Rattle.std.specs.Prelude.{All, IfOk};
+ghost use Rattle.game_tree.specs.Head.{IsTag};
+ghost use Rattle.game_tree.specs.Legal.{IsLegalGame};
 
 use super::{DecodeError, EncodeError, RecordFault, RecordWhat, decode_game, encode_game};
 use cell_core::{Square, Text};
@@ -9,7 +12,10 @@ use std::alloc::{AllocError, Global};
 use std::test::Fail;
 
 /// What is read of at most a thousand bytes.
-fn decoded(alloc: Global, bytes: &[u8]) -> Result<(Game, Vec<Tag>), DecodeError> {
+fn decoded(alloc: Global, bytes: &[u8]) -> Result<(Game, Vec<Tag>), DecodeError>
+    ensures legal { IfOk result (λ read. IsLegalGame read.0) }
+    ensures tags { IfOk result (λ read. All IsTag read.1.items) }
+{
     decode_game(alloc, bytes.split_at(bytes.len().min(1000)).0)
 }
 
