@@ -7,7 +7,6 @@ use Rattle.game_tree.proofs.ScriptLemmas.{built-items_of}
 use Rattle.game_tree.specs.declared.head.Tag.{Tag}
 use Rattle.move_codec.specs.Numbers.{Numbered}
 use Rattle.game_codec.specs.TagSpelling.{BeginsTags, free_of}
-use Rattle.game_codec.specs.TagReading.{BreaksTags}
 use Rattle.game_codec.specs.Start.{BeginsStart, BreaksStart}
 use Rattle.game_codec.specs.Texts.{AreTexts, BreaksTexts, texts_of}
 use Rattle.game_codec.specs.Record.{IsRecord, game_of}
@@ -21,7 +20,7 @@ use Rattle.game_codec.proofs.SameFault.{SameFault}
 use Rattle.game_codec.proofs.TagLaws.{BeginsTags-one, BeginsTags-unbroken, BreaksTags-one}
 use Rattle.game_codec.proofs.StartLaws.{BeginsStart-one, BeginsStart-unbroken, BreaksStart-one}
 use Rattle.game_codec.proofs.TextLaws.{AreTexts-one, AreTexts-unbroken, BreaksTexts-one}
-use Rattle.game_codec.proofs.ScanLaws.{IsSameStop, Scans-one}
+use Rattle.game_codec.proofs.ScanLaws.{Scans-one}
 use Rattle.game_codec.proofs.ScriptLaws.{script-scans, scans-script, breaks-scans, scans-breaks}
 
 -- What the code reads is in the record, and what is in the record is read so

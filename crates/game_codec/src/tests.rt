@@ -148,8 +148,8 @@ fn marks_stand_in_any_order(rt: HostRuntime) {
 }
 
 /// Records in another form, and their written form: glyphs before and behind a variation; comments of a move and of its
-/// variation; comments without a text; a coded name and a packed date; a tag of a reserved name; the FEN of the initial position, with the
-/// numbers of its order; flags that are not looked at.
+/// variation; comments without a text; a coded name and a packed date; a tag of a reserved name; the FEN of the initial
+/// position, with the numbers of its order; flags that are not looked at.
 const OTHERWISE: [(&[u8], &[u8]); 9] = [
     (
         b"\x00\x00\xcf\x0c\x0b\x01\x0d\xbf\x0e\x0b\x0e\x0fx\x00",
