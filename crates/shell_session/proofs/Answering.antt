@@ -1,21 +1,19 @@
 -- What a session's parts say, put together: its answer to what it was given.
-use Rattle.std.proofs.Common.{◌≡◌, ◌<◌, ◌≤◌, ℕ, zero, suc, ◌+◌, ◌⊎◌, inl, inr, List, [], ◌∷◌, ◌++◌, All, length, Option, Some, None, IfSome, IsSome, arith, refl, ap, ◌∙◌, sym, subst, append_assoc, append-nil, zero-add, suc-add, ◌-◌, true, false}
+use Rattle.std.proofs.Common.{◌≡◌, ◌<◌, ◌≤◌, ℕ, zero, suc, ◌+◌, inl, inr, List, [], ◌++◌, All, length, Option, Some, None, arith, refl, ap, ◌∙◌, sym, subst, append_assoc, append-nil, zero-add, suc-add, ◌-◌}
 use Rattle.std.proofs.lemmas.List.{append_cancel_left}
 use Rattle.std.proofs.lemmas.List.Elements.{All-pop}
-use Rattle.base_files.specs.Counters.{Rose, LAST}
-use Rattle.base_files.specs.Told.{Grew, IsPrefix, Tells, TellsLength, adds}
-use Rattle.shell_session.specs.declared.placed.Placed.{Placed}
+use Rattle.base_files.specs.Counters.{Rose}
+use Rattle.base_files.specs.Told.{Tells, TellsLength}
 use Rattle.game_codec.specs.declared.fault.RecordFault.{RecordFault}
 use Rattle.game_codec.proofs.DecodeLaws.{record-unbroken}
 use Rattle.shell_session.specs.declared.status.Status.{Status}
 use Rattle.shell_session.specs.declared.status.Status.TheVariants.{Done, Later, BadRecord, ReadFault, WriteFault, FilesFault, Memory}
 use Rattle.shell_session.specs.declared.status.LaterWhat.TheVariants as later
-use Rattle.shell_session.specs.Endings.{EndsEarly, Found, WroteFront}
-use Rattle.shell_session.specs.FindLine.{FindScript}
+use Rattle.shell_session.specs.Endings.{EndsEarly, WroteFront}
 use Rattle.shell_session.specs.HitText.{find_text}
-use Rattle.shell_session.specs.IndexFile.{IsIndex, extent_at, game_count, record_in, records}
+use Rattle.shell_session.specs.IndexFile.{extent_at, game_count, record_in, records}
 use Rattle.shell_session.specs.Refusals.{OpeningRefused}
-use Rattle.shell_session.specs.Session.{Answers, AreHits, Asks, BeginsAnswer, Finds, Given, IsFirstFaulty, IsSomeRecord, Opens, given}
+use Rattle.shell_session.specs.Session.{Answers, BeginsAnswer, Finds, IsFirstFaulty, IsSomeRecord, Opens, given}
 use Rattle.shell_session.specs.Words.{AreBase}
 use Rattle.shell_session.proofs.Searching.{whole_of_hits}
 

@@ -1,5 +1,5 @@
 -- Laws of the lines that `find` writes: they are written one game after the other.
-use Rattle.std.proofs.Common.{◌≡◌, ◌<◌, ◌≤◌, ℕ, zero, suc, ◌+◌, List, [], ◌∷◌, ◌++◌, length, take, drop, take-append-drop, get_or, count_by, is_some, Option, Some, None, refl, sym, ap, subst, ◌∙◌, append_assoc, add-one, add-zero, zero-add, add_assoc, arith}
+use Rattle.std.proofs.Common.{◌≡◌, ◌<◌, ◌≤◌, ℕ, suc, ◌+◌, List, [], ◌∷◌, ◌++◌, length, take, drop, take-append-drop, get_or, count_by, is_some, Option, Some, None, refl, sym, ap, subst, ◌∙◌, append_assoc, add-zero, zero-add, arith}
 use Rattle.std.proofs.lemmas.List.{take_all, take_more, length-take-le}
 use Rattle.base_files.specs.Told.{adds, Grew}
 use Rattle.base_files.proofs.Telling.{Grew-adds, Grew-trans, adds-append}

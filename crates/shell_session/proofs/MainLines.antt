@@ -1,13 +1,12 @@
 -- The replay of a main line, move by move.
-use Rattle.std.proofs.Common.{◌≡◌, ◌≢◌, ℕ, ◌+◌, ◌<◌, ◌≤◌, zero, suc, List, [], ◌∷◌, Option, Some, None, length, get_or, take, drop, refl, sym, ap, ◌∙◌, subst, inl, inr, arith, add-one}
+use Rattle.std.proofs.Common.{◌≡◌, ◌≢◌, ℕ, ◌+◌, ◌<◌, ◌≤◌, suc, List, ◌∷◌, Some, None, length, get_or, take, drop, sym, ap, ◌∙◌, subst, inl, inr, arith}
 use Rattle.std.specs.Prelude.{fold}
 use Rattle.std.proofs.lemmas.Bool.{cases_lt}
 use Rattle.std.proofs.lemmas.List.{drop_more}
-use Rattle.cell_core.specs.declared.step.Move.{Move}
 use Rattle.chess_laws.specs.declared.setup.Setup.{Setup}
 use Rattle.chess_laws.specs.Step.{Step}
 use Rattle.game_tree.specs.Game.{GameTree}
-use Rattle.game_tree.specs.Tree.{Line, ends, goes, Played, line_of, moves_of}
+use Rattle.game_tree.specs.Tree.{Line, ends, Played, line_of, moves_of}
 use Rattle.game_tree.specs.Replay.{stepped, position_at, plies_of}
 use Rattle.game_tree.specs.Legal.{IsLegalGame, IsLegalLine}
 use Rattle.game_tree.proofs.LegalLemmas.{Step-stepped}

@@ -1,5 +1,5 @@
 -- Laws of the search through the games, one after the other.
-use Rattle.std.proofs.Common.{◌≡◌, ◌<◌, ◌≤◌, ℕ, zero, suc, ◌+◌, List, [], ◌∷◌, ◌++◌, All, length, Option, Some, None, IfSome, IsSome, arith, refl, ap, ◌∙◌, add-one, zero-add, suc-add, ◌-◌, sym, subst}
+use Rattle.std.proofs.Common.{◌≡◌, ◌<◌, ◌≤◌, ℕ, zero, suc, ◌+◌, List, [], ◌∷◌, ◌++◌, All, length, Option, Some, None, IfSome, arith, ap, ◌∙◌, add-one, zero-add, suc-add, ◌-◌, sym, subst}
 use Rattle.std.specs.List.{AllZip}
 use Rattle.std.proofs.lemmas.List.{length_push}
 use Rattle.std.proofs.lemmas.List.Elements.{All-nil, All-cons}

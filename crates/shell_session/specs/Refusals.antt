@@ -3,7 +3,7 @@ use Rattle.std.specs.Prelude.{◌≡◌, ℕ, ⊤, List, length, Option, IfSome}
 use Rattle.game_codec.specs.Fault.{IsRecordFault}
 use Rattle.shell_session.specs.declared.placed.Placed.{Placed}
 use Rattle.shell_session.specs.declared.status.Status.{Status}
-use Rattle.shell_session.specs.declared.status.Status.TheVariants.{Done, Later, BadRecord, ReadFault, WriteFault, FilesFault, Memory}
+use Rattle.shell_session.specs.declared.status.Status.TheVariants.{Later, BadRecord, ReadFault, FilesFault, Memory}
 use Rattle.shell_session.specs.declared.status.LaterWhat.TheVariants as later
 use Rattle.shell_session.specs.FindLine.{FindScript}
 use Rattle.shell_session.specs.IndexFile.{IsIndex, extent_at, record_in}

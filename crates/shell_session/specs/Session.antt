@@ -1,5 +1,5 @@
 -- What a session answers, of what it was given, in terms of plain lists. This project's own.
-use Rattle.std.specs.Prelude.{◌≡◌, ◌<◌, ℕ, ◌⊎◌, List, [], ◌∷◌, ◌++◌, All, length, Option, None, false}
+use Rattle.std.specs.Prelude.{◌≡◌, ◌<◌, ℕ, ◌⊎◌, List, [], ◌∷◌, ◌++◌, All, length, Option, false}
 use Rattle.std.specs.List.{AllZip}
 use Rattle.base_files.specs.Chosen.{Choice, choice}
 use Rattle.base_files.specs.Told.{IsPrefix}

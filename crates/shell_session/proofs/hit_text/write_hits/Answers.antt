@@ -1,8 +1,8 @@
-use Rattle.std.proofs.Common.{◌≡◌, ◌<◌, ◌≤◌, ◌+◌, ℕ, OnOk, length, take, string_bytes, arith, refl, subst, Option, List, ap, ◌∙◌, sym, count_by, is_some}
+use Rattle.std.proofs.Common.{◌≡◌, ◌≤◌, ℕ, OnOk, length, arith, subst, Option, List, ◌∙◌}
 use Rattle.base_files.specs.Told.{Grew, adds}
 use Rattle.base_files.proofs.Telling.{Grew-trans}
 use Rattle.shell_session.proofs.HitLines.{lines_put, begun, waiting, all_put}
-use Rattle.shell_session.specs.HitText.{find_text, count_line, hit_lines}
+use Rattle.shell_session.specs.HitText.{find_text}
 use Rattle.shell_session.proofs.hit_text.write_hits.Goals as goal
 use Rattle.shell_session.proofs.hit_text.write_hits.Given as given
 

@@ -1,4 +1,4 @@
-use Rattle.std.proofs.Common.{◌≡◌, ◌≤◌, ℕ, take, string_bytes}
+use Rattle.std.proofs.Common.{◌≡◌, ◌≤◌, take, string_bytes}
 use Rattle.base_files.specs.Told.{adds, Grew}
 use Rattle.shell_session.specs.HitText.{hit_lines}
 use Rattle.shell_session.proofs.hit_text.write_hits.Given as goal

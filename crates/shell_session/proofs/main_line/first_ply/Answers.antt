@@ -1,8 +1,8 @@
-use Rattle.std.proofs.Common.{◌≡◌, ℕ, ◌+◌, Some, length, drop, ap, ◌∙◌, subst, sym}
+use Rattle.std.proofs.Common.{ℕ, ◌+◌, Some, drop, ap, ◌∙◌, subst, sym}
 use Rattle.std.proofs.lemmas.Bool.{false≢true}
 use Rattle.chess_laws.specs.Step.{Step}
 use Rattle.game_tree.specs.Tree.{Played, line_of}
-use Rattle.shell_session.specs.Placed.{FirstPly, placed}
+use Rattle.shell_session.specs.Placed.{FirstPly}
 use Rattle.shell_session.proofs.MainLines.{Replays-found, Replays-more}
 use Rattle.shell_session.proofs.main_line.first_ply.Goals as goal
 

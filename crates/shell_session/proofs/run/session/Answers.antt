@@ -1,11 +1,8 @@
-use Rattle.std.proofs.Common.{◌≡◌, ◌⊎◌, ◌∙◌, ℕ, inl, inr, refl, sym, subst, List, [], Option, Some, length, map, string_bytes}
-use Rattle.base_files.specs.Counters.{Rose}
-use Rattle.shell_session.specs.declared.status.Status.{Status}
-use Rattle.shell_session.specs.declared.status.Status.TheVariants.{ReadFault, WriteFault, FilesFault}
+use Rattle.std.proofs.Common.{◌≡◌, ◌∙◌, ℕ, inr, subst, List, [], Option, Some, length, map, string_bytes}
 use Rattle.shell_session.specs.Endings.{EndsEarly}
 use Rattle.shell_session.specs.IndexFile.{IsIndex}
 use Rattle.shell_session.specs.Refusals.{OpeningRefused}
-use Rattle.shell_session.specs.Session.{Answers, Opens, given}
+use Rattle.shell_session.specs.Session.{Opens, given}
 use Rattle.shell_session.proofs.Answering.{early_answers, ends_for_memory, ends_told, none_added, opening_answers, told_is, told_length_is, Rose-earlier}
 use Rattle.shell_session.proofs.run.session.Goals as goal
 

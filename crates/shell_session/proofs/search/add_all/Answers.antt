@@ -1,9 +1,8 @@
-use Rattle.std.proofs.Common.{◌≡◌, ◌<◌, ◌≤◌, ◌+◌, ℕ, arith, ◌∙◌, suc, refl, rules, add-one, subst, sym}
-use Rattle.shell_session.specs.IndexFile.{IsIndex, game_count, records_len, extent_at}
+use Rattle.std.proofs.Common.{◌<◌, ◌≤◌, ℕ, arith, ◌∙◌, suc, rules, add-one, subst, sym}
+use Rattle.shell_session.specs.IndexFile.{IsIndex, game_count, records_len}
 use Rattle.shell_session.specs.Refusals.{SearchRefused}
 use Rattle.shell_session.proofs.Searching.{search_refused, one_longer, one_more_told, records_len-le}
 use Rattle.shell_session.proofs.search.add_all.Goals as goal
-use Rattle.shell_session.proofs.search.add_all.Given as given
 
 pub returns-in_err-add_hit-clause-refused : goal.returns-in_err-add_hit-clause-refused
 returns-in_err-add_hit-clause-refused g c =

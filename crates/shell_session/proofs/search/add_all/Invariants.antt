@@ -1,4 +1,4 @@
-use Rattle.std.proofs.Common.{◌≡◌, ◌≤◌, ◌+◌, ℕ, length, IfSome}
+use Rattle.std.proofs.Common.{◌≡◌, ◌≤◌, ◌+◌, length, IfSome}
 use Rattle.std.specs.List.{AllZip}
 use Rattle.shell_session.specs.IndexFile.{IsIndex, records, records_len}
 use Rattle.shell_session.specs.Session.{Hit}
