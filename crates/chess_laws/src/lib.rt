@@ -17,8 +17,10 @@ mod rules;
 pub mod setup;
 mod targets;
 
+pub use castling::{rook_home, rook_target};
 pub use effect::Effect;
 pub use fault::PlaceFault;
+pub use next::passed_square;
 pub use position::Position;
 pub use setup::{Rights, Setup, Wing};
 

@@ -63,9 +63,10 @@ fn goes_two(side: Colour, m: &Move) -> bool
     }
 }
 
-/// The square of the pawn that is captured en passant.
+/// The square of the pawn that a capture en passant takes: on the mover's rank and the target's file (FIDE Laws,
+/// Article 3.7.3.1).
 pub fn passed_square(m: &Move) -> Square
-    ensures { result ≡ passed_square m.now }
+    ensures square { result ≡ passed_square m.now }
 {
     Square::at(8 * (m.from.index() / 8) + m.to.index() % 8)
 }
