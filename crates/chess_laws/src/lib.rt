@@ -22,6 +22,7 @@ pub use effect::Effect;
 pub use fault::PlaceFault;
 pub use next::passed_square;
 pub use position::Position;
+pub use rules::en_passant_rank;
 pub use setup::{Rights, Setup, Wing};
 
 #[cfg(test)]

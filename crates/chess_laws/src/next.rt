@@ -5,6 +5,7 @@ ghost use Rattle.chess_laws.specs.Step.{effect_as, effect_of, goes_two, changes_
 
 use super::castling::{king_home, king_target, rights_after, rook_home, rook_target};
 use super::effect::Effect;
+use super::rules::en_passant_rank;
 use super::setup::{Rights, Setup, Wing};
 use cell_core::{Board, Colour, Kind, Man, Move, Square};
 
@@ -131,10 +132,7 @@ fn en_passant_after(p: &Setup, m: &Move, effect: Effect) -> Option<Square>
 {
     match effect {
         Effect::Double => {
-            let rank = match p.side {
-                Colour::White => 2,
-                Colour::Black => 5,
-            };
+            let rank = en_passant_rank(p.side.other());
             Some(Square::at(8 * rank + m.from.index() % 8))
         }
         Effect::Plain | Effect::Passing | Effect::Castle(_) | Effect::Null => None,

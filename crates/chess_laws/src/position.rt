@@ -104,11 +104,7 @@ impl Position {
     pub fn rights(&self) -> u8
         ensures bits { result ≡ bits_of self.now.rights }
     {
-        let rights = &self.inner.rights;
-        u8::from(rights.white_king_side)
-            + 2 * u8::from(rights.white_queen_side)
-            + 4 * u8::from(rights.black_king_side)
-            + 8 * u8::from(rights.black_queen_side)
+        self.inner.rights.bits()
     }
 
     /// The en passant square: the one that a pawn's double step has just crossed.
