@@ -248,7 +248,7 @@ fn leaps_by(board: &Board, by: Colour, kind: Kind, step: &Offset, s: Square) -> 
 }
 
 /// Whether such a man stands on the square.
-fn stands(board: &Board, from: Square, colour: Colour, kind: Kind) -> bool
+pub(crate) fn stands(board: &Board, from: Square, colour: Colour, kind: Kind) -> bool
     ensures { IsTrue result ↔ (man_at board.now from ≡ Some (man colour kind)) }
 {
     board.at(from) == Some(Man { colour, kind })

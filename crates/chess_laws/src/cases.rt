@@ -6,10 +6,11 @@ ghost use Rattle.cell_core.specs.declared.man.Kind.TheVariants.{Pawn};
 ghost use Rattle.chess_laws.specs.Geometry.{forward, pawn_captures, rook_steps, Leaps, Runs, Walk};
 ghost use Rattle.chess_laws.specs.Attacks.{Reaches, IsInCheck};
 ghost use Rattle.chess_laws.specs.Legal.{IsOnlyKing, MayCastle, aims, leads, run, IsEnemyOn};
-ghost use Rattle.chess_laws.specs.Step.{Case, CastleCase, DoubleCase, GoesPlainly, HasNoOwn, NullCase, PassingCase, PlainCase, may_become, promotes_rightly};
+ghost use Rattle.chess_laws.specs.Step.{Case, CastleCase, DoubleCase, GoesPlainly, HasNoOwn, NullCase, PassingCase, PlainCase, last_rank, may_become, promotes_rightly};
 
 use super::attack::{
     BISHOP_STEPS, BLACK_CAPTURES, KING_STEPS, KNIGHT_STEPS, ROOK_STEPS, WHITE_CAPTURES, attacks,
+    stands,
 };
 use super::castling::{has_right, is_path_safe, is_way_free};
 use super::effect::Effect;
@@ -94,14 +95,20 @@ fn has_no_own(board: &Board, colour: Colour, s: Square) -> bool
 fn promotes_rightly(side: Colour, kind: Kind, m: &Move) -> bool
     ensures { result ≡ promotes_rightly side kind m.now }
 {
-    let last_rank = match side {
-        Colour::White => 7,
-        Colour::Black => 0,
-    };
-    if kind == Kind::Pawn && m.to.index() / 8 == last_rank {
+    if kind == Kind::Pawn && m.to.index() / 8 == last_rank(side) {
         may_become(m.promo)
     } else {
         m.promo.is_none()
+    }
+}
+
+/// The rank on which a pawn is promoted.
+pub fn last_rank(side: Colour) -> u8
+    ensures { result ≡ last_rank side }
+{
+    match side {
+        Colour::White => 7,
+        Colour::Black => 0,
     }
 }
 
@@ -194,14 +201,10 @@ pub fn is_in_check(board: &Board, colour: Colour, king: Square) -> bool
 }
 
 /// Whether one of the mover's men of this kind stands on the square.
-fn has_own(p: &Setup, kind: Kind, s: Square) -> bool
+pub fn has_own(p: &Setup, kind: Kind, s: Square) -> bool
     ensures { IsTrue result ↔ (man_at p.now.board s ≡ Some (man p.now.side kind)) }
 {
-    let own = Man {
-        colour: p.side,
-        kind,
-    };
-    p.board.at(s) == Some(own)
+    stands(&p.board, s, p.side, kind)
 }
 
 /// A pawn's way.

@@ -20,9 +20,9 @@ pub fn king_home(colour: Colour) -> Square
     }
 }
 
-/// The home square of the rook on this wing.
+/// The home square of the rook with which a side castles on this wing: h1, a1, h8 or a8.
 pub fn rook_home(colour: Colour, wing: Wing) -> Square
-    ensures { result ≡ rook_home colour wing }
+    ensures square { result ≡ rook_home colour wing }
 {
     match (colour, wing) {
         (Colour::White, Wing::KingSide) => Square::at(7),
@@ -44,9 +44,9 @@ pub fn king_target(colour: Colour, wing: Wing) -> Square
     }
 }
 
-/// Where the rook goes in castling.
+/// Where that rook goes in castling: f1, d1, f8 or d8, the square that the king crosses.
 pub fn rook_target(colour: Colour, wing: Wing) -> Square
-    ensures { result ≡ rook_target colour wing }
+    ensures square { result ≡ rook_target colour wing }
 {
     match (colour, wing) {
         (Colour::White, Wing::KingSide) => Square::at(5),

@@ -69,7 +69,7 @@ fn holds_side(cell: &Option<Man>, colour: Colour) -> bool
 }
 
 /// Whether a man of this colour and kind stands on a square.
-fn holds(cell: &Option<Man>, colour: Colour, kind: Kind) -> bool
+pub fn holds(cell: &Option<Man>, colour: Colour, kind: Kind) -> bool
     ensures { result ≡ is_man colour kind cell.now }
 {
     match cell {

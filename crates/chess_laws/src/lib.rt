@@ -17,9 +17,12 @@ mod rules;
 pub mod setup;
 mod targets;
 
+pub use castling::{rook_home, rook_target};
 pub use effect::Effect;
 pub use fault::PlaceFault;
+pub use next::passed_square;
 pub use position::Position;
+pub use rules::en_passant_rank;
 pub use setup::{Rights, Setup, Wing};
 
 #[cfg(test)]

@@ -6,12 +6,13 @@ ghost use Rattle.chess_laws.specs.Position.{Sound};
 ghost use Rattle.chess_laws.specs.Moves.{HasMoreMoves, IsMove, ListsMoves, promotion_number};
 ghost use Rattle.chess_laws.specs.Targets.{ListsBelow, ListsBefore, MayPromote};
 
+use super::cases::{has_own, last_rank};
 use super::legal::is_legal;
 use super::position::Position;
 use super::setup::Setup;
 use super::targets::targets;
 use arrayvec::ArrayVec;
-use cell_core::{Colour, Kind, Man, Move, Square};
+use cell_core::{Kind, Move, Square};
 
 impl Position {
     /// Lists every legal move but the null move in `into`, in the order of moves. Where there are more than 256, it
@@ -135,15 +136,7 @@ fn list_promotions<const N: usize>(
 fn may_promote(p: &Setup, from: Square, to: Square) -> bool
     ensures { IsTrue result ↔ MayPromote p.now from to }
 {
-    let last_rank = match p.side {
-        Colour::White => 7,
-        Colour::Black => 0,
-    };
-    let pawn = Man {
-        colour: p.side,
-        kind: Kind::Pawn,
-    };
-    to.index() / 8 == last_rank && p.board.at(from) == Some(pawn)
+    to.index() / 8 == last_rank(p.side) && has_own(p, Kind::Pawn, from)
 }
 
 /// Adds the move if it is a legal one besides the null move, or answers false where there is no room for it.

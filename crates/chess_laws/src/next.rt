@@ -5,6 +5,7 @@ ghost use Rattle.chess_laws.specs.Step.{effect_as, effect_of, goes_two, changes_
 
 use super::castling::{king_home, king_target, rights_after, rook_home, rook_target};
 use super::effect::Effect;
+use super::rules::en_passant_rank;
 use super::setup::{Rights, Setup, Wing};
 use cell_core::{Board, Colour, Kind, Man, Move, Square};
 
@@ -63,9 +64,10 @@ fn goes_two(side: Colour, m: &Move) -> bool
     }
 }
 
-/// The square of the pawn that is captured en passant.
+/// The square of the pawn that a capture en passant takes: on the mover's rank and the target's file (FIDE Laws,
+/// Article 3.7.3.1).
 pub fn passed_square(m: &Move) -> Square
-    ensures { result ≡ passed_square m.now }
+    ensures square { result ≡ passed_square m.now }
 {
     Square::at(8 * (m.from.index() / 8) + m.to.index() % 8)
 }
@@ -130,10 +132,7 @@ fn en_passant_after(p: &Setup, m: &Move, effect: Effect) -> Option<Square>
 {
     match effect {
         Effect::Double => {
-            let rank = match p.side {
-                Colour::White => 2,
-                Colour::Black => 5,
-            };
+            let rank = en_passant_rank(p.side.other());
             Some(Square::at(8 * rank + m.from.index() % 8))
         }
         Effect::Plain | Effect::Passing | Effect::Castle(_) | Effect::Null => None,

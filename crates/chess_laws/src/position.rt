@@ -8,9 +8,10 @@ ghost use Rattle.chess_laws.specs.Position.{Sound, Breaks, setup_of};
 
 use super::attack::attacks;
 use super::census::{counts, home_set, only_king};
+use super::effect::Effect;
 use super::fault::PlaceFault;
 use super::legal::{is_legal, king_after};
-use super::next::after;
+use super::next::{after, effect_of};
 use super::rules::{
     has_few_men, has_fit_en_passant, has_pawns_inside, rests_in_check, standing_rights, start_board,
 };
@@ -103,11 +104,7 @@ impl Position {
     pub fn rights(&self) -> u8
         ensures bits { result ≡ bits_of self.now.rights }
     {
-        let rights = &self.inner.rights;
-        u8::from(rights.white_king_side)
-            + 2 * u8::from(rights.white_queen_side)
-            + 4 * u8::from(rights.black_king_side)
-            + 8 * u8::from(rights.black_queen_side)
+        self.inner.rights.bits()
     }
 
     /// The en passant square: the one that a pawn's double step has just crossed.
@@ -210,13 +207,21 @@ fn place(
 
 impl Position {
     ghost use Rattle.chess_laws.specs.declared.setup.Setup.{Setup};
-    ghost use Rattle.chess_laws.specs.Step.{Legal, Step};
+    ghost use Rattle.chess_laws.specs.Step.{effect_of, Legal, Step};
 
     /// Whether the move is legal. The null move is legal where the side to move is not in check.
     pub fn is_legal(&self, m: Move) -> bool
         ensures legal { IsTrue result ↔ Legal self.now m }
     {
         is_legal(self.setup(), self.king(self.side()), &m)
+    }
+
+    /// What kind of half-move a move is, by the man that stands on its first square. It says nothing of whether the move is
+    /// legal.
+    pub fn effect(&self, m: &Move) -> Effect
+        ensures effect { result ≡ effect_of self.now m.now }
+    {
+        effect_of(&self.inner, m)
     }
 
     /// Plays a legal move. What it leads to is the one position that it can lead to.

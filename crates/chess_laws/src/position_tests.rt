@@ -1,7 +1,8 @@
 use super::attack::attacks;
+use super::play_tests::board;
 use super::slow_attacks::attacks_slowly;
 use super::{PlaceFault, Position};
-use cell_core::{Board, Colour, Kind, Man, Square};
+use cell_core::{Board, Colour, Square};
 
 /// A board, written as in FEN, and the squares that a side attacks and does not.
 #[derive(Clone, Copy)]
@@ -19,49 +20,6 @@ struct Placed {
     side: Colour,
     en_passant: &'static str,
     fault: Option<PlaceFault>,
-}
-
-fn kind(letter: u8) -> Option<Kind> {
-    match letter {
-        b'k' => Some(Kind::King),
-        b'q' => Some(Kind::Queen),
-        b'r' => Some(Kind::Rook),
-        b'b' => Some(Kind::Bishop),
-        b'n' => Some(Kind::Knight),
-        b'p' => Some(Kind::Pawn),
-        _ => None,
-    }
-}
-
-fn man(letter: u8) -> Option<Man> {
-    let colour = if letter.is_ascii_lowercase() {
-        Colour::Black
-    } else {
-        Colour::White
-    };
-    kind(letter.to_ascii_lowercase()).map(|kind| Man { colour, kind })
-}
-
-fn board(text: &str) -> Board {
-    let mut board = Board::empty();
-    let mut rank_start = 56u8;
-    let mut file = 0u8;
-    for letter in text.as_bytes() {
-        match *letter {
-            b'/' => {
-                rank_start = rank_start.saturating_sub(8);
-                file = 0;
-            }
-            digit @ b'1'..=b'8' => file = file.saturating_add(digit - b'0'),
-            letter => {
-                if let Some(square) = Square::new(rank_start.saturating_add(file)) {
-                    board.set(square, man(letter));
-                }
-                file = file.saturating_add(1);
-            }
-        }
-    }
-    board
 }
 
 fn square(text: &[u8]) -> Option<Square> {

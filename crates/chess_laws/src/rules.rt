@@ -1,5 +1,5 @@
 //! The rules of a position, one by one.
-ghost use Rattle.std.specs.Prelude.{◌≡◌, ◌↔◌, IsTrue, MatchBool, Some, length};
+ghost use Rattle.std.specs.Prelude.{◌≡◌, ◌↔◌, ◌<◌, IsTrue, MatchBool, Some, length};
 ghost use Rattle.cell_core.specs.Board.{man_at};
 ghost use Rattle.cell_core.specs.Man.{man, other};
 ghost use Rattle.cell_core.specs.declared.man.Colour.TheVariants.{White, Black};
@@ -7,10 +7,11 @@ ghost use Rattle.cell_core.specs.declared.man.Colour.{Colour};
 ghost use Rattle.cell_core.specs.declared.man.Kind.TheVariants.{King, Pawn};
 ghost use Rattle.chess_laws.specs.Attacks.{IsInCheck};
 ghost use Rattle.chess_laws.specs.Counts.{count_of};
-ghost use Rattle.chess_laws.specs.Position.{HasFewMen, HasFitEnPassant, HasPawnsInside, king_square, is_at_home, rights_of, start_men};
+ghost use Rattle.chess_laws.specs.Position.{HasFewMen, HasFitEnPassant, HasPawnsInside, en_passant_rank, king_square, is_at_home, rights_of, start_men};
 
 use super::attack::attacks;
-use super::census::count_side;
+use super::castling::{king_home, rook_home};
+use super::census::{count_side, holds};
 use super::setup::{Rights, Wing};
 use cell_core::{Board, Colour, Kind, Man, Square};
 
@@ -73,13 +74,20 @@ fn has_pawn(board: &Board, s: Square) -> bool
 pub fn has_fit_en_passant(side: Colour, square: &Option<Square>) -> bool
     ensures { IsTrue result ↔ HasFitEnPassant side square.now }
 {
-    let rank = match side {
+    match square {
+        Some(square) => square.index() / 8 == en_passant_rank(side),
+        None => true,
+    }
+}
+
+/// The rank of an en passant square, by the side to move.
+pub fn en_passant_rank(side: Colour) -> u8
+    ensures rank { result ≡ en_passant_rank side }
+    ensures on_board { result < 8 }
+{
+    match side {
         Colour::White => 5,
         Colour::Black => 2,
-    };
-    match square {
-        Some(square) => square.index() / 8 == rank,
-        None => true,
     }
 }
 
@@ -99,22 +107,8 @@ pub fn standing_rights(board: &Board, bits: u8) -> Rights
 fn is_home(board: &Board, colour: Colour, wing: Wing) -> bool
     ensures { result ≡ is_at_home board.now colour wing }
 {
-    let (king, rook) = match (colour, wing) {
-        (Colour::White, Wing::KingSide) => (4, 7),
-        (Colour::White, Wing::QueenSide) => (4, 0),
-        (Colour::Black, Wing::KingSide) => (60, 63),
-        (Colour::Black, Wing::QueenSide) => (60, 56),
-    };
-    board.at(Square::at(king))
-        == Some(Man {
-            colour,
-            kind: Kind::King,
-        })
-        && board.at(Square::at(rook))
-            == Some(Man {
-                colour,
-                kind: Kind::Rook,
-            })
+    holds(&board.at(king_home(colour)), colour, Kind::King)
+        && holds(&board.at(rook_home(colour, wing)), colour, Kind::Rook)
 }
 
 /// The initial board.

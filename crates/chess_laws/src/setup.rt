@@ -1,3 +1,6 @@
+ghost use Rattle.std.specs.Prelude.{◌≡◌};
+ghost use Rattle.chess_laws.specs.Position.{bits_of};
+
 use cell_core::{Board, Colour, Square};
 
 /// The wing on which a side castles.
@@ -14,6 +17,18 @@ pub struct Rights {
     pub white_queen_side: bool,
     pub black_king_side: bool,
     pub black_queen_side: bool,
+}
+
+impl Rights {
+    /// The rights as bits 0 to 3 for White's king's side and queen's side and Black's.
+    pub fn bits(&self) -> u8
+        ensures bits { result ≡ bits_of self.now }
+    {
+        u8::from(self.white_king_side)
+            + 2 * u8::from(self.white_queen_side)
+            + 4 * u8::from(self.black_king_side)
+            + 8 * u8::from(self.black_queen_side)
+    }
 }
 
 /// What a position is made of, within the rules or not: the board, the side to move, the castling rights and the en

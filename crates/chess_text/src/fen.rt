@@ -1,7 +1,7 @@
 ghost use Rattle.std.specs.Prelude.{◌≡◌, IfOk, IfErr};
 ghost use Rattle.chess_laws.specs.declared.setup.Setup.{Setup};
 ghost use Rattle.chess_laws.specs.declared.fault.PlaceFault.{PlaceFault};
-ghost use Rattle.chess_laws.specs.Position.{Sound, Breaks, bits_of};
+ghost use Rattle.chess_laws.specs.Position.{Sound, Breaks};
 ghost use Rattle.chess_text.specs.declared.fault.FenFault.{FenFault};
 ghost use Rattle.chess_text.specs.Fault.{fault_of};
 ghost use Rattle.chess_text.specs.Fen.{FenReads, FenFaultOf, kept};
@@ -11,7 +11,7 @@ use super::fault::FenFault;
 use super::fields::{en_passant_of, is_counter, next_word, or_default, rights_of, side_of};
 use super::placement::fill;
 use cell_core::{Board, Colour};
-use chess_laws::{Position, Rights, Setup};
+use chess_laws::{Position, Setup};
 
 /// Reads a position in Forsyth-Edwards Notation (PGN standard, 16.1). The fields stand with one space or more between
 /// two of them, and spaces at the ends count for nothing. Fields 3 to 6 may be missing from the right: they are then
@@ -45,25 +45,10 @@ fn placed(says: &Setup) -> Result<Position, FenFault>
     ensures sound { IfOk result Sound }
     ensures fault { IfErr result (λ fault. (broken : PlaceFault) × (fault ≡ fault_of broken) × Breaks (kept says.now) broken) }
 {
-    match Position::try_new(
-        says.board,
-        says.side,
-        bits_of(&says.rights),
-        says.en_passant,
-    ) {
+    match Position::try_new(says.board, says.side, says.rights.bits(), says.en_passant) {
         Ok(position) => Ok(position),
         Err(broken) => Err(FenFault::from(broken)),
     }
-}
-
-/// The rights as bits 0 to 3 for White's king's side and queen's side and Black's.
-fn bits_of(rights: &Rights) -> u8
-    ensures { result ≡ bits_of rights.now }
-{
-    u8::from(rights.white_king_side)
-        + 2 * u8::from(rights.white_queen_side)
-        + 4 * u8::from(rights.black_king_side)
-        + 8 * u8::from(rights.black_queen_side)
 }
 
 /// What the fields of a FEN say, or the first field that says nothing.

@@ -4,7 +4,7 @@ ghost use Rattle.std.specs.Char.{is_ascii_digit};
 ghost use Rattle.chess_text.specs.FieldReading.{word_of, rest_of, or_word, skipped, front_word, behind_word, side_named, with_right, rights_named, en_passant_named, is_counter};
 
 use cell_core::{Colour, Square};
-use chess_laws::Rights;
+use chess_laws::{Rights, en_passant_rank};
 
 /// The first word of the text, empty where there is none, and what stands behind it.
 #[tactic(auto, unfolding(crate::specs::FieldReading::word_of, crate::specs::FieldReading::rest_of))]
@@ -111,10 +111,7 @@ fn add_right(rights: Rights, letter: u8) -> Option<Rights>
 pub fn en_passant_of(side: Colour, word: &[u8]) -> Option<Option<Square>>
     ensures { result ≡ en_passant_named side word.now }
 {
-    let rank = match side {
-        Colour::White => 5u8,
-        Colour::Black => 2u8,
-    };
+    let rank = en_passant_rank(side);
     match word {
         [b'-'] => Some(None),
         [file, digit] if matches!(*file, b'a'..=b'h') && *digit == b'1' + rank => {

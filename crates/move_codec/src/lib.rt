@@ -1,7 +1,6 @@
 //! Packed moves: a half-move in one byte or two, by the number of the man that moves.
 #![tactic(auto)]
 
-mod effect;
 pub mod fault;
 pub mod numbered;
 pub mod numbers;

@@ -4,7 +4,6 @@ ghost use Rattle.chess_laws.specs.Step.{Legal, Step};
 ghost use Rattle.move_codec.specs.Numbers.{numbers_after, standard_numbers, text_numbers};
 ghost use Rattle.move_codec.specs.Packed.{Decodes, diagonal_move, encoding, is_mark, named, named_value, rest_of, to_square, value_of};
 
-use super::effect::effect_of;
 use super::fault::MoveFault;
 use super::numbers::Numbers;
 use super::targets::{
@@ -103,7 +102,7 @@ impl Numbered {
         ensures numbers { self.new.numbers ≡ numbers_after self.old.position m.now self.old.numbers }
     {
         let side = self.position.setup().side;
-        let effect = effect_of(&self.position, m);
+        let effect = self.position.effect(m);
         self.position.play(Move {
             from: m.from,
             to: m.to,

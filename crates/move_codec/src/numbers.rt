@@ -2,12 +2,11 @@ ghost use Rattle.std.specs.Prelude.{◌≡◌, ◌+◌, ◌<◌, ◌≤◌, ◌=
 ghost use Rattle.cell_core.specs.Board.{man_at};
 ghost use Rattle.cell_core.specs.Man.{is_of};
 ghost use Rattle.cell_core.specs.declared.man.Colour.{Colour};
-ghost use Rattle.chess_laws.specs.Castling.{rook_home, rook_target};
 ghost use Rattle.move_codec.specs.Numbers.{capture_square, movers_after, number_of, numbers_by, squares_of, standard_numbers, start_ranks, text_numbers, text_numbers_of, went, with_square, without};
 
 use arrayvec::ArrayVec;
 use cell_core::{Board, Colour, Kind, Move, Square};
-use chess_laws::{Effect, Wing};
+use chess_laws::{Effect, passed_square, rook_home, rook_target};
 use std::marker::Model;
 
 /// The squares of one side's men, in the order of the men's numbers: at most 16. Contracts see the list of the squares.
@@ -250,31 +249,7 @@ fn capture_square(m: &Move, effect: Effect) -> Square
     ensures { result ≡ capture_square m.now effect }
 {
     match effect {
-        Effect::Passing => Square::at(8 * (m.from.index() / 8) + m.to.index() % 8),
+        Effect::Passing => passed_square(m),
         _ => m.to,
-    }
-}
-
-/// The home square of the rook with which a side castles.
-fn rook_home(side: Colour, wing: Wing) -> Square
-    ensures { result ≡ rook_home side wing }
-{
-    match (side, wing) {
-        (Colour::White, Wing::KingSide) => Square::at(7),
-        (Colour::White, Wing::QueenSide) => Square::at(0),
-        (Colour::Black, Wing::KingSide) => Square::at(63),
-        (Colour::Black, Wing::QueenSide) => Square::at(56),
-    }
-}
-
-/// Where that rook goes.
-fn rook_target(side: Colour, wing: Wing) -> Square
-    ensures { result ≡ rook_target side wing }
-{
-    match (side, wing) {
-        (Colour::White, Wing::KingSide) => Square::at(5),
-        (Colour::White, Wing::QueenSide) => Square::at(3),
-        (Colour::Black, Wing::KingSide) => Square::at(61),
-        (Colour::Black, Wing::QueenSide) => Square::at(59),
     }
 }

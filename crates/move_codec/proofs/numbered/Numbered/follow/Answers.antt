@@ -10,7 +10,7 @@ play-requires c =
 
 pub invariant_of-self : goal.invariant_of-self
 invariant_of-self c =
-    rw (c.follow.ensures.after, c.effect_of-effect.ensures, c.setup.ensures.setup)
+    rw (c.follow.ensures.after, c.effect-effect.ensures.effect, c.setup.ensures.setup)
     (AreNumbers-step c.self.inside.position c.args.m.now c.play.new.self c.self.inside.numbers c.setup.ensures.sound c.play.ensures.step c.self.invariant)
 
 pub returns-clause-step : goal.returns-clause-step
