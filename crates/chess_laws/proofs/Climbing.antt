@@ -1,11 +1,10 @@
 -- A list of different moves in order is no longer than the list of them all.
-use Rattle.std.proofs.Common.{◌≡◌, ℕ, zero, suc, ◌+◌, ◌*◌, ◌-◌, ◌<◌, ◌≤◌, ◌⊎◌, inl, inr, List, Option, None, length, get_or, sym, ◌∙◌, ap, arith}
-use Rattle.std.specs.Prelude.{All, AllPairs, Contains}
+use Rattle.std.proofs.Common.{◌≡◌, ℕ, zero, suc, ◌-◌, ◌<◌, ◌≤◌, inl, inr, List, None, length, get_or, ◌∙◌, ap, arith}
+use Rattle.std.specs.Prelude.{All, Contains}
 use Rattle.std.proofs.lemmas.Bool.{cases_order}
 use Rattle.std.proofs.lemmas.List.{get_or_default}
 use Rattle.cell_core.specs.declared.step.Move.{Move}
 use Rattle.chess_laws.specs.declared.setup.Setup.{Setup}
-use Rattle.chess_laws.specs.Position.{Sound}
 use Rattle.chess_laws.specs.Moves.{IsMove, place_of, Ascends, ListsMoves, HasMoreMoves}
 
 -- where the move at an index of one list stands in another that has them all

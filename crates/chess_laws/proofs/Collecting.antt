@@ -1,10 +1,10 @@
 -- The walk that collects its squares has every square that the walk of the same steps finds.
-use Rattle.std.proofs.Common.{◌≡◌, ℕ, suc, ◌+◌, ◌-◌, ◌<◌, ◌≤◌, ◌⊎◌, inl, inr, Bool, true, false, ◌&&◌, ◌||◌, eqb, Option, Some, None, is_none, is_some, sym, arith}
+use Rattle.std.proofs.Common.{◌≡◌, ℕ, suc, ◌+◌, ◌-◌, ◌<◌, ◌≤◌, ◌⊎◌, true, Option, Some, None, is_some, arith}
 use Rattle.std.proofs.lemmas.Bool.{false≢true}
 use Rattle.cell_core.specs.Board.{Men, man_at}
 use Rattle.chess_laws.specs.declared.offset.Offset.{Offset}
 use Rattle.chess_laws.specs.Geometry.{shift}
-use Rattle.chess_laws.specs.Legal.{run, run_on}
+use Rattle.chess_laws.specs.Legal.{run}
 use Rattle.chess_laws.proofs.Running.{run-on, run-edge, run-none}
 
 pub run-next : (men : Men) (o : Offset) (i a b c : ℕ) → i < 8 → shift o a ≡ Some c → run men o (8 - i) b a ≡ true →

@@ -1,6 +1,6 @@
 -- The list of moves grows in order, and nothing stands between.
-use Rattle.std.proofs.Common.{◌≡◌, ℕ, zero, suc, ◌+◌, ◌*◌, ◌/◌, ◌%◌, ◌<◌, ◌≤◌, ◌⊎◌, inl, inr, Bool, true, false, ◌&&◌, not, cond, eqb, List, [], ◌∷◌, ◌++◌, Option, Some, None, is_none, IsTrue, length, get_or, refl, sym, ◌∙◌, ap, subst, arith, lit<, length-append}
-use Rattle.std.specs.Prelude.{Any, All, AllPairs, Contains}
+use Rattle.std.proofs.Common.{◌≡◌, ℕ, zero, suc, ◌+◌, ◌*◌, ◌<◌, ◌≤◌, ◌⊎◌, inl, inr, Bool, true, false, ◌&&◌, not, cond, eqb, List, [], ◌∷◌, ◌++◌, Option, Some, None, is_none, IsTrue, length, get_or, refl, sym, ◌∙◌, ap, subst, arith, lit<, length-append}
+use Rattle.std.specs.Prelude.{All, Contains}
 use Rattle.std.proofs.lemmas.Bool.{eqb-true, cases_lt, and_parts, false≢true}
 use Rattle.std.specs.Bool.{OnTrue, OnFalse}
 use Rattle.std.proofs.lemmas.List.Elements.{All-push, All-cons, All-weaker, All-nil, Contains-append_left, Contains-push}
@@ -9,7 +9,7 @@ use Rattle.cell_core.specs.declared.man.Kind.{Kind}
 use Rattle.cell_core.specs.declared.man.Kind.TheVariants.{King, Queen, Rook, Bishop, Knight, Pawn}
 use Rattle.cell_core.specs.declared.step.Move.{Move}
 use Rattle.cell_core.specs.Board.{man_at}
-use Rattle.cell_core.specs.Man.{man, same_kind, kind_number}
+use Rattle.cell_core.specs.Man.{man, same_kind}
 use Rattle.chess_laws.specs.declared.setup.Setup.{Setup}
 use Rattle.chess_laws.specs.declared.targets.SquareSet.{SquareSet}
 use Rattle.chess_laws.specs.declared.effect.Effect.{Effect}
@@ -19,7 +19,7 @@ use Rattle.chess_laws.specs.Position.{Sound}
 use Rattle.chess_laws.specs.Step.{effect_of, Case, GoesPlainly, may_become, last_rank, promotes_rightly}
 use Rattle.chess_laws.specs.Moves.{IsMove, promotion_number, place_of, Ascends, ListsMoves, HasMoreMoves}
 use Rattle.chess_laws.specs.Targets.{Comes, Has, ListsBelow, MayPromote}
-use Rattle.chess_laws.proofs.Boards.{man-kind, on_board, same_kind-true}
+use Rattle.chess_laws.proofs.Boards.{on_board, same_kind-true}
 use Rattle.chess_laws.proofs.Following.{case-on_board}
 use Rattle.chess_laws.proofs.Keeping.{castle-squares}
 

@@ -1,21 +1,19 @@
 -- What is written is spelled as a names file is: it is read again as the same lists.
-use Rattle.std.proofs.Common.{◌≡◌, ◌≤◌, ◌<◌, ◌+◌, ◌^◌, ℕ, zero, suc, Bool, true, false, eqb, List, [], ◌∷◌, ◌++◌, length, map, Option, Some, None, refl, sym, ap, subst, ◌∙◌, arith, append_assoc, slice_get, All}
+use Rattle.std.proofs.Common.{◌≡◌, ◌<◌, ◌+◌, ℕ, suc, false, eqb, List, [], ◌∷◌, ◌++◌, length, map, Option, Some, None, refl, sym, ap, subst, ◌∙◌, arith, append_assoc, slice_get}
 use Rattle.std.specs.List.{AllByRecursion, IsDistinct}
 use Rattle.std.specs.List.Sorted.{IsPermutation}
 use Rattle.std.specs.Str.{bytes_eq}
-use Rattle.std.specs.Cmp.{IsEquivalence, nat_eq_equiv}
-use Rattle.std.proofs.lemmas.Bool.{eqb-true, cases_eq}
+use Rattle.std.specs.Cmp.{nat_eq_equiv}
 use Rattle.std.proofs.lemmas.Bool.Decides.{nat_tests}
-use Rattle.std.proofs.lemmas.List.{append-nil, length-append, length-map}
+use Rattle.std.proofs.lemmas.List.{length-append, length-map}
 use Rattle.std.proofs.lemmas.List.Sorted.{IsPermutation-map, All-permutation, length_permutation}
 use Rattle.std.proofs.lemmas.List.Elements.{All-from_recursion, recursion_from_All}
 use Rattle.std.proofs.lemmas.Map.Keys.{IsDistinct-cons, IsDistinct-IsPermutation}
-use Rattle.byteorder.specs.Endian.{big_bytes}
 use Rattle.byteorder.specs.Numbers.{length-bytes_high_first}
 use Rattle.name_base.specs.declared.header.Shape.{Shape}
 use Rattle.name_base.specs.NameLists.{NameLists, AreNames, AreSound, IsName}
-use Rattle.name_base.specs.NamesFile.{Stored, Entry, Fits, AllFit, entries, frequency_width, Arranges, StoresKind, AreCounts, AreSmall, NameFile}
-use Rattle.name_base.specs.NamesText.{Row, rows_from, IsOrderOf, stored_row, stored_rows, greatest_of, AreFrequencies, Frequencies, FitsShape, header_of, IsNamesText}
+use Rattle.name_base.specs.NamesFile.{Entry, AllFit, entries, frequency_width, Arranges, StoresKind, NameFile}
+use Rattle.name_base.specs.NamesText.{Row, rows_from, IsOrderOf, stored_rows, greatest_of, AreFrequencies, Frequencies, FitsShape, header_of, IsNamesText}
 use Rattle.name_base.proofs.NameLemmas.{bytes_equiv}
 use Rattle.name_base.proofs.TextLemmas.{name_restored, shared_within, rows_fit_from, greatest_small}
 

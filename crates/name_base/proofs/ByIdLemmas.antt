@@ -1,21 +1,20 @@
 -- Entries put in the order of their ids: each id and each name once gives each name once, in one order.
-use Rattle.std.proofs.Common.{◌≡◌, ◌≢◌, ◌⊎◌, inl, inr, ◌≤◌, ◌<◌, ◌+◌, ◌-◌, ℕ, zero, suc, Bool, true, false, cond, eqb, ◌||◌, List, [], ◌∷◌, ◌++◌, length, map, get_or, set, replicate, Option, Some, None, refl, sym, ap, subst, ◌∙◌, arith, slice_get, true≢false}
+use Rattle.std.proofs.Common.{◌≡◌, ◌≢◌, ◌⊎◌, inl, inr, ◌≤◌, ◌<◌, ℕ, zero, suc, Bool, true, false, eqb, ◌||◌, List, [], ◌∷◌, ◌++◌, length, map, get_or, set, replicate, Option, Some, refl, sym, ap, subst, ◌∙◌, arith, slice_get, true≢false}
 use Rattle.std.specs.Prelude.{IfSome}
 use Rattle.std.specs.List.{list_any, AllByRecursion, IsDistinct}
 use Rattle.std.specs.Option.{option_map, option_map_or}
 use Rattle.std.specs.Str.{bytes_eq}
-use Rattle.std.specs.Cmp.{IsEquivalence, nat_eq_equiv}
-use Rattle.std.specs.Cmp.Lexicographic.{lists_equiv, bytes_decides}
+use Rattle.std.specs.Cmp.{IsEquivalence}
 use Rattle.std.proofs.lemmas.Bool.{cases_eq, cases_lt, eqb-true, eq-eqb}
-use Rattle.std.proofs.lemmas.List.{append-nil, map-append, length-map, length-set, length-replicate, length-append, same_lists, get_or-map}
-use Rattle.std.proofs.lemmas.Option.{slice_get-get_or, slice_get-map, get_or_from_slice_get, slice_get_within}
-use Rattle.std.proofs.lemmas.Map.Keys.{IsDistinct-push, IsDistinct-cons, IsDistinct-head, IsDistinct-tail, apart_from_distinct, IsDistinct-from_apart}
+use Rattle.std.proofs.lemmas.List.{length-map, length-set, length-replicate, same_lists}
+use Rattle.std.proofs.lemmas.Option.{slice_get-map, get_or_from_slice_get, slice_get_within}
+use Rattle.std.proofs.lemmas.Map.Keys.{IsDistinct-cons, IsDistinct-head, IsDistinct-tail, apart_from_distinct, IsDistinct-from_apart}
 use Rattle.std.proofs.lemmas.Map.Steps.{length-le_from_distinct_below}
-use Rattle.name_base.specs.NameLists.{AreNames, IsName, is_in}
+use Rattle.name_base.specs.NameLists.{AreNames, IsName}
 use Rattle.name_base.specs.NamesFile.{Entry, Arranges}
 use Rattle.name_base.specs.Reading.{has_id, names_of, put_names, by_id}
 use Rattle.name_base.specs.KindRead.{AreMet}
-use Rattle.name_base.proofs.NameLemmas.{list_any-map, AllByRecursion-push, bytes_equiv}
+use Rattle.name_base.proofs.NameLemmas.{list_any-map, bytes_equiv}
 
 abbrev pub ids_of : List Entry → List ℕ
 ids_of es = map (λ e. e.id) es

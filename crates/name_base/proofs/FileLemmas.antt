@@ -1,22 +1,20 @@
 -- The whole file: what is read is spelled so, and what is spelled so is read.
-use Rattle.std.proofs.Common.{◌≡◌, ◌≤◌, ◌<◌, ◌^◌, ℕ, Bool, true, false, cond, ltb, List, [], ◌∷◌, ◌++◌, length, take, drop, Option, Some, None, Result, Ok, Err, refl, sym, ap, subst, ◌∙◌, arith}
+use Rattle.std.proofs.Common.{◌≡◌, ◌≤◌, ◌<◌, ℕ, Bool, true, false, cond, ltb, List, ◌++◌, length, take, drop, None, Result, Ok, Err, refl, sym, ap, subst, ◌∙◌, arith}
 use Rattle.std.specs.Prelude.{IfOk}
 use Rattle.std.specs.Str.{bytes_eq}
 use Rattle.std.proofs.lemmas.Bool.{ltb-false, le-ltb}
-use Rattle.std.proofs.lemmas.List.{take-append-drop, take_at, drop_at, length-append}
+use Rattle.std.proofs.lemmas.List.{take-append-drop}
 use Rattle.std.proofs.lemmas.Slice.Eq.{bytes_eq-Decides}
 use Rattle.byteorder.specs.Endian.{big_bytes}
-use Rattle.name_base.specs.declared.header.Shape.{Shape}
 use Rattle.name_base.specs.declared.header.PerKind.{PerKind}
 use Rattle.name_base.specs.declared.header.Header.{Header}
 use Rattle.name_base.specs.declared.kind.NameKind.{NameKind}
 use Rattle.name_base.specs.declared.kind.NameKind.TheVariants.{Player, Event, Site, Round}
-use Rattle.name_base.specs.declared.fault.NameWhat.{NameWhat}
 use Rattle.name_base.specs.declared.fault.NameWhat.TheVariants.{Short, Magic, Count}
 use Rattle.name_base.specs.declared.fault.NameFault.{NameFault}
 use Rattle.name_base.specs.declared.fault.NamesError.{NamesError}
 use Rattle.name_base.specs.NameLists.{NameLists, limit_of}
-use Rattle.name_base.specs.NamesFile.{Stored, magic, four_bytes, header_bytes, kind_bytes, AreCounts, AreSmall, player_shape, event_shape, site_shape, round_shape, StoresKind, NameFile}
+use Rattle.name_base.specs.NamesFile.{magic, four_bytes, header_bytes, kind_bytes, AreCounts, AreSmall, player_shape, event_shape, site_shape, round_shape, NameFile}
 use Rattle.name_base.specs.Reading.{◌>>=◌, Answers, blamed, number_at, skip_at, magic_at, count_at, counts_at, greatest_at, header_at, kind_at, names_at}
 use Rattle.name_base.proofs.FieldLemmas.{IsBytes, IsBytes-drop, Takes, width_3, bind_ok, guard_ok, ok_is, number_takes, number_again, skip_takes, skip_again}
 use Rattle.name_base.proofs.KindLemmas.{blamed_ok, kind_takes, kind_again}

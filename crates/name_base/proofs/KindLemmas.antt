@@ -1,23 +1,22 @@
 -- The names of a kind: what is read is spelled so, and what is spelled is read again.
-use Rattle.std.proofs.Common.{◌≡◌, ◌≤◌, ◌<◌, ◌+◌, ◌-◌, ℕ, zero, suc, Bool, true, false, eqb, List, [], ◌∷◌, ◌++◌, length, map, Option, Some, None, Result, Ok, Err, refl, sym, ap, subst, ◌∙◌, arith, append_assoc, slice_get}
-use Rattle.std.specs.List.{AllByRecursion, IsDistinct, list_any}
+use Rattle.std.proofs.Common.{◌≡◌, ◌≤◌, ◌<◌, ◌-◌, ℕ, zero, suc, false, eqb, List, [], ◌∷◌, ◌++◌, length, Option, Some, None, Result, Ok, Err, refl, sym, ap, subst, ◌∙◌, arith, append_assoc, slice_get}
+use Rattle.std.specs.List.{AllByRecursion, IsDistinct}
 use Rattle.std.specs.Option.{option_map}
 use Rattle.std.specs.Str.{bytes_eq}
 use Rattle.std.specs.Cmp.{nat_eq_equiv}
-use Rattle.std.proofs.lemmas.List.{append-nil, map-append, length-map, length-append}
+use Rattle.std.proofs.lemmas.List.{append-nil, map-append, length-append}
 use Rattle.std.proofs.lemmas.Option.{slice_get-map}
 use Rattle.std.proofs.lemmas.Map.Keys.{IsDistinct-push}
 use Rattle.name_base.specs.declared.header.Shape.{Shape}
 use Rattle.name_base.specs.declared.kind.NameKind.{NameKind}
 use Rattle.name_base.specs.declared.fault.NameWhat.{NameWhat}
-use Rattle.name_base.specs.declared.fault.NameFault.{NameFault}
 use Rattle.name_base.specs.NameLists.{AreNames, IsName, is_in}
-use Rattle.name_base.specs.NamesFile.{Stored, Entry, Fits, AllFit, entries, name_after, stored_bytes, kind_bytes, Arranges, StoresKind}
+use Rattle.name_base.specs.NamesFile.{Stored, Entry, AllFit, entries, name_after, stored_bytes, kind_bytes, Arranges, StoresKind}
 use Rattle.name_base.specs.Reading.{◌>>=◌, blamed, entry_at, entries_at, by_id, kind_at, has_id, names_of, last_name}
 use Rattle.name_base.specs.KindRead.{AreMet}
 use Rattle.name_base.proofs.NameLemmas.{list_any-map, AllByRecursion-push, bytes_equiv}
 use Rattle.name_base.proofs.FieldLemmas.{IsBytes, bind_ok, ok_is}
-use Rattle.name_base.proofs.PieceLemmas.{EntryTakes, entry_of, entry_takes, entry_again}
+use Rattle.name_base.proofs.PieceLemmas.{entry_of, entry_takes, entry_again}
 use Rattle.name_base.proofs.ByIdLemmas.{ids_of, distinct_before, by_id-Arranges, by_id-only, arranged-AreNames}
 
 -- a step that did not fail, with its place

@@ -1,16 +1,15 @@
 -- The steps of the loops that read a kind.
-use Rattle.std.proofs.Common.{◌≡◌, ◌≤◌, ◌<◌, ◌+◌, ◌-◌, ℕ, zero, suc, Bool, true, false, List, [], ◌∷◌, ◌++◌, length, map, set, replicate, Option, Some, None, Result, Ok, Err, refl, sym, ap, subst, ◌∙◌, arith, append_assoc, if◌then◌else◌, true≢false}
-use Rattle.std.specs.Prelude.{◌↔◌, IsSome, option_to_list}
-use Rattle.std.specs.List.{AllByRecursion, IsDistinct, list_any}
+use Rattle.std.proofs.Common.{◌≡◌, ◌≤◌, ◌<◌, ◌+◌, ◌-◌, ℕ, suc, true, false, List, [], ◌∷◌, ◌++◌, length, map, set, Some, Result, Ok, refl, sym, ap, subst, ◌∙◌, arith, append_assoc, if◌then◌else◌, true≢false}
+use Rattle.std.specs.List.{AllByRecursion, IsDistinct}
 use Rattle.std.specs.Str.{bytes_eq}
-use Rattle.std.proofs.lemmas.List.{append-nil, map-append, map-set, length-set, length-append, nil_from_length}
+use Rattle.std.proofs.lemmas.List.{map-append, map-set, length-append, nil_from_length}
 use Rattle.indexmap.specs.IndexSet.{insert_key}
 use Rattle.name_base.specs.declared.header.Shape.{Shape}
 use Rattle.name_base.specs.declared.kind.NameKind.{NameKind}
 use Rattle.name_base.specs.declared.fault.NameFault.{NameFault}
 use Rattle.name_base.specs.declared.fault.NamesError.{NamesError}
 use Rattle.name_base.specs.declared.fault.NamesError.TheVariants.{Bad, Memory}
-use Rattle.name_base.specs.NameLists.{AreNames, is_in, with_name}
+use Rattle.name_base.specs.NameLists.{AreNames, is_in}
 use Rattle.name_base.specs.NamesFile.{Entry}
 use Rattle.name_base.specs.Reading.{◌>>=◌, Fails, blamed, entry_at, entries_at, put_names, by_id, last_name}
 use Rattle.name_base.specs.KindRead.{AreMet}

@@ -1,12 +1,12 @@
 -- Names without repeats: what a search, an added name and a cut do to the list.
-use Rattle.std.proofs.Common.{◌≡◌, ◌≤◌, ◌<◌, ◌+◌, ℕ, Bool, true, false, cond, not, ltb, List, [], ◌∷◌, ◌++◌, length, take, map, Option, None, Some, refl, sym, ap, ◌∙◌, subst, arith, length-append, true≢false, position, ◌||◌, if◌then◌else◌, zero, suc}
+use Rattle.std.proofs.Common.{◌≡◌, ◌≤◌, ◌<◌, ◌+◌, ℕ, Bool, true, false, cond, not, ltb, List, [], ◌∷◌, ◌++◌, length, take, map, None, Some, refl, sym, ap, ◌∙◌, subst, arith, position, ◌||◌, if◌then◌else◌, zero, suc}
 use Rattle.std.specs.List.{prefix_len, position_or_len, list_any, AllByRecursion, IsDistinct}
 use Rattle.std.specs.Str.{bytes_eq}
 use Rattle.std.specs.Cmp.{IsEquivalence, nat_eq_equiv}
 use Rattle.std.specs.Cmp.Lexicographic.{lists_equiv}
 use Rattle.std.proofs.lemmas.Bool.Decides.{nat_tests}
 use Rattle.std.proofs.lemmas.List.{map-append, take-map, length-map, length_push, length-take}
-use Rattle.std.proofs.lemmas.Map.Keys.{IsDistinct-push, IsDistinct-cons, IsDistinct-head, IsDistinct-tail}
+use Rattle.std.proofs.lemmas.Map.Keys.{IsDistinct-push}
 use Rattle.indexmap.proofs.MapLemmas.{distinct-take}
 use Rattle.indexmap.specs.IndexSet.{insert_key}
 use Rattle.name_base.specs.NameLists.{AreNames, IsName, id_in, is_in, with_name}

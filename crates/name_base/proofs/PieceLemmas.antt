@@ -1,13 +1,12 @@
 -- One name: what is read is spelled so, and what is spelled is read again.
-use Rattle.std.proofs.Common.{◌≡◌, ◌≤◌, ◌<◌, ◌+◌, ◌-◌, ◌^◌, ℕ, zero, suc, Bool, true, false, cond, eqb, ltb, leb, ◌||◌, List, [], ◌∷◌, ◌++◌, length, map, take, Option, Some, None, unwrap_or, Result, Ok, Err, refl, sym, ap, subst, ◌∙◌, arith, slice_get}
+use Rattle.std.proofs.Common.{◌≡◌, ◌≤◌, ◌<◌, ◌+◌, ◌-◌, ◌^◌, ℕ, zero, suc, Bool, true, false, cond, eqb, ltb, leb, ◌||◌, List, [], ◌∷◌, ◌++◌, length, take, Option, Some, None, unwrap_or, Ok, Err, refl, sym, ap, subst, ◌∙◌, arith, slice_get}
 use Rattle.std.specs.Prelude.{IfSome}
 use Rattle.std.specs.List.{list_any, AllByRecursion}
-use Rattle.std.proofs.lemmas.Bool.{ltb-true, ltb-false, leb-false, lt-leb}
-use Rattle.std.proofs.lemmas.List.{length-append, length-take-le, length-map}
+use Rattle.std.proofs.lemmas.Bool.{ltb-true, leb-false, lt-leb}
+use Rattle.std.proofs.lemmas.List.{length-append, length-take-le}
 use Rattle.std.proofs.lemmas.List.Folds.{list_any-append}
 use Rattle.byteorder.specs.Endian.{big_bytes}
 use Rattle.name_base.specs.declared.header.Shape.{Shape}
-use Rattle.name_base.specs.declared.fault.NameWhat.{NameWhat}
 use Rattle.name_base.specs.declared.fault.NameWhat.TheVariants.{IdRange, IdTwice, Repeated}
 use Rattle.name_base.specs.NameLists.{IsName, has_zero, is_in}
 use Rattle.name_base.specs.NamesFile.{Stored, Entry, Fits, id_width, frequency_width, shared_byte, name_after, stored_bytes}

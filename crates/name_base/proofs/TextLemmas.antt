@@ -1,13 +1,12 @@
 -- The steps of the loops that write a kind.
-use Rattle.std.proofs.Common.{◌≡◌, ◌≤◌, ◌<◌, ◌+◌, ◌-◌, ℕ, zero, suc, Bool, true, false, cond, eqb, List, [], ◌∷◌, ◌++◌, length, map, take, drop, get_or, refl, sym, ap, subst, ◌∙◌, arith, append_assoc, slice_get, Option, Some, None, unwrap_or, Ordering, max, ◌^◌}
+use Rattle.std.proofs.Common.{◌≡◌, ◌≤◌, ◌<◌, ◌+◌, ℕ, zero, suc, Bool, true, false, cond, eqb, List, [], ◌∷◌, ◌++◌, length, map, take, drop, get_or, refl, sym, ap, ◌∙◌, arith, append_assoc, slice_get, Option, Some, None, unwrap_or, Ordering, ◌^◌}
 use Rattle.std.specs.List.{common_prefix_len, All, AllByRecursion}
-use Rattle.std.specs.List.Sorted.{IsPermutation, IsSorted, IsSortedByKey}
-use Rattle.std.specs.Option.{option_map_or}
+use Rattle.std.specs.List.Sorted.{IsSorted, IsSortedByKey}
 use Rattle.std.specs.declared.cmp.Ordering.TheVariants.{Less, Equal, Greater}
 use Rattle.std.specs.Ordering.{nat_cmp, is_lt, ordering_then}
 use Rattle.std.specs.Cmp.Lexicographic.{slice_cmp}
-use Rattle.std.proofs.lemmas.List.{map-append, get_or-map, length-map, take-append-drop, length-drop, append-nil}
-use Rattle.std.proofs.lemmas.List.Sorted.{IsPermutation-map, All-permutation}
+use Rattle.std.proofs.lemmas.List.{map-append, get_or-map, length-map, take-append-drop, length-drop}
+use Rattle.std.proofs.lemmas.List.Sorted.{All-permutation}
 use Rattle.std.proofs.lemmas.List.Elements.{All-from_recursion, recursion_from_All}
 use Rattle.std.proofs.lemmas.Bool.{eqb-true}
 use Rattle.std.proofs.lemmas.List.Sums.{common_prefix_len-le}
@@ -15,9 +14,9 @@ use Rattle.byteorder.specs.Endian.{big_bytes}
 use Rattle.name_base.specs.declared.header.Shape.{Shape}
 use Rattle.name_base.specs.declared.header.PerKind.{PerKind}
 use Rattle.name_base.specs.declared.header.Header.{Header}
-use Rattle.name_base.specs.NameLists.{NameLists, AreNames, IsName}
-use Rattle.name_base.specs.NamesFile.{Stored, id_width, frequency_width, name_after, shared_byte, stored_bytes, kind_bytes, magic, four_bytes, header_bytes, player_shape, event_shape, site_shape, round_shape}
-use Rattle.name_base.specs.NamesText.{Row, rows_from, IsOrderOf, shared_len, stored_row, stored_rows, name_bytes, greatest_of, FitsShape, Frequencies, header_of, rows_bytes}
+use Rattle.name_base.specs.NameLists.{AreNames, IsName}
+use Rattle.name_base.specs.NamesFile.{id_width, frequency_width, name_after, shared_byte, stored_bytes, kind_bytes, magic, four_bytes, header_bytes}
+use Rattle.name_base.specs.NamesText.{Row, rows_from, IsOrderOf, shared_len, stored_row, stored_rows, name_bytes, greatest_of, FitsShape}
 
 -- nothing is shared with nothing
 pub share_none : (xs ys : List ℕ) → length ys ≡ 0 → common_prefix_len eqb xs ys ≡ 0

@@ -1,5 +1,5 @@
 -- What was read of a kind.
-use Rattle.std.specs.Prelude.{◌≡◌, ◌<◌, ℕ, nat_eq, List, map}
+use Rattle.std.specs.Prelude.{◌<◌, ℕ, nat_eq, List, map}
 use Rattle.std.specs.List.{AllByRecursion, IsDistinct}
 use Rattle.std.specs.Str.{bytes_eq}
 use Rattle.name_base.specs.NameLists.{IsName}

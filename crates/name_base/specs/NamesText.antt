@@ -6,7 +6,6 @@ use Rattle.std.specs.List.Sorted.{IsPermutation, IsSortedByKey}
 use Rattle.std.specs.Cmp.Lexicographic.{slice_cmp}
 use Rattle.byteorder.specs.Endian.{big_bytes}
 use Rattle.name_base.specs.declared.header.Shape.{Shape}
-use Rattle.name_base.specs.declared.header.PerKind.{PerKind}
 use Rattle.name_base.specs.declared.header.Header.{Header}
 use Rattle.name_base.specs.NameLists.{NameLists}
 use Rattle.name_base.specs.NamesFile.{Stored, shared_byte, frequency_width, kind_bytes, header_bytes, player_shape, event_shape, site_shape, round_shape}

@@ -1,6 +1,5 @@
 -- Below the last place there are all.
 use Rattle.std.proofs.Common.{arith, ◌≡◌, subst, ◌*◌}
-use Rattle.chess_laws.specs.Moves.{ListsMoves}
 use Rattle.chess_laws.specs.Targets.{ListsBelow}
 use Rattle.chess_laws.proofs.Listing.{lists-all}
 use Rattle.chess_laws.proofs.Climbing.{no-more}

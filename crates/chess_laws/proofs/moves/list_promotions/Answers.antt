@@ -1,7 +1,7 @@
 -- None becomes a king, which would stand before the queen, or a pawn, which would stand behind the knight.
 use Rattle.std.proofs.Common.{rules, ◌+◌, ◌*◌}
 use Rattle.chess_laws.specs.Targets.{ListsBelow}
-use Rattle.chess_laws.proofs.Listing.{lists-no_king, lists-no_pawn}
+use Rattle.chess_laws.proofs.Listing.{lists-no_king}
 use Rattle.chess_laws.proofs.moves.list_promotions.Goals as goal
 
 pub add-requires : goal.add-requires

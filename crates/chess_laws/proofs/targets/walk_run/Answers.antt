@@ -1,6 +1,5 @@
 -- What the walk finds is the square that was added, or lies behind it.
-use Rattle.std.proofs.Common.{◌≡◌, ◌∙◌, sym, arith, Some, None, inl, inr, subst}
-use Rattle.chess_laws.specs.Geometry.{shift}
+use Rattle.std.proofs.Common.{◌∙◌, sym, arith, inl, inr, subst}
 use Rattle.chess_laws.specs.Targets.{Has}
 use Rattle.chess_laws.proofs.Collecting.{run-next, run-at_edge, run-at_end, some≢none}
 use Rattle.chess_laws.proofs.targets.walk_run.Goals as goal
