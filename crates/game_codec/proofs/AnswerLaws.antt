@@ -1,5 +1,5 @@
 -- What was read, or the fault that was met, is the answer to the whole record.
-use Rattle.std.proofs.Common.{◌≡◌, ℕ, ◌≤◌, List, length, refl, sym, ap, ◌∙◌, subst}
+use Rattle.std.proofs.Common.{◌≡◌, ℕ, List, length, sym, ◌∙◌, subst}
 use Rattle.std.specs.Prelude.{All}
 use Rattle.game_tree.specs.Game.{GameTree}
 use Rattle.game_tree.specs.Head.{IsTag}
@@ -11,7 +11,6 @@ use Rattle.game_codec.specs.Fault.{IsRecordFault, place_of}
 use Rattle.game_codec.specs.Flat.{FlatBreaks}
 use Rattle.game_codec.specs.declared.breach.Breach.{Breach}
 use Rattle.game_codec.specs.declared.fault.RecordFault.{RecordFault}
-use Rattle.game_codec.specs.declared.fault.RecordWhat.{RecordWhat}
 use Rattle.game_codec.proofs.DecodeLaws.{break-found, break-only, break-one}
 use Rattle.game_codec.proofs.LegalLaws.{record-legal}
 use Rattle.game_codec.proofs.TagLaws.{BeginsTags-IsTag}

@@ -2,10 +2,11 @@
 use Rattle.std.proofs.Common.{◌≡◌, ℕ, List, [], Ok, Err, length, refl, sym, ap, ◌∙◌, subst, inl, inr}
 use Rattle.game_tree.specs.Game.{GameTree}
 use Rattle.game_tree.specs.Items.{Script, items_of, meaning}
+use Rattle.game_tree.specs.Building.{opening, built}
+use Rattle.game_tree.proofs.ScriptLemmas.{built-items_of}
 use Rattle.game_tree.specs.declared.head.Tag.{Tag}
 use Rattle.move_codec.specs.Numbers.{Numbered}
 use Rattle.game_codec.specs.TagSpelling.{BeginsTags, free_of}
-use Rattle.game_codec.specs.TagReading.{BreaksTags}
 use Rattle.game_codec.specs.Start.{BeginsStart, BreaksStart}
 use Rattle.game_codec.specs.Texts.{AreTexts, BreaksTexts, texts_of}
 use Rattle.game_codec.specs.Record.{IsRecord, game_of}
@@ -19,7 +20,7 @@ use Rattle.game_codec.proofs.SameFault.{SameFault}
 use Rattle.game_codec.proofs.TagLaws.{BeginsTags-one, BeginsTags-unbroken, BreaksTags-one}
 use Rattle.game_codec.proofs.StartLaws.{BeginsStart-one, BeginsStart-unbroken, BreaksStart-one}
 use Rattle.game_codec.proofs.TextLaws.{AreTexts-one, AreTexts-unbroken, BreaksTexts-one}
-use Rattle.game_codec.proofs.ScanLaws.{IsSameStop, Scans-one}
+use Rattle.game_codec.proofs.ScanLaws.{Scans-one}
 use Rattle.game_codec.proofs.ScriptLaws.{script-scans, scans-script, breaks-scans, scans-breaks}
 
 -- What the code reads is in the record, and what is in the record is read so
@@ -335,3 +336,37 @@ module _ (bytes rest rest' : List ℕ) (what what' : RecordWhat) where
 pub record-unbroken : (bytes : List ℕ) (tags : List Tag) (game : GameTree) (fault : RecordFault) → IsRecord bytes tags game → IsRecordFault bytes fault → ⊥
 record-unbroken bytes tags game fault r broken =
     break-only bytes tags game broken.rest fault.what (flat_break bytes broken.rest fault.what broken.breaks) r
+
+-- bytes are a record of one game and one list of tags
+
+-- scripts of the same items mean the same
+same_meaning : (s t : Script) → items_of s ≡ items_of t → ((meaning s).comment ≡ (meaning t).comment) × ((meaning s).line ≡ (meaning t).line)
+same_meaning s t same =
+    let one = built-items_of s (built (items_of s) opening) refl in
+    let other = built-items_of t (built (items_of s) opening) (ap (λ items. built items opening) same) in
+    (sym one.lead ∙ other.lead, sym one.line ∙ other.line)
+
+record-read : (bytes : List ℕ) (tags : List Tag) (game : GameTree) → IsRecord bytes tags game → IsRead bytes tags game
+record-read bytes tags game r =
+    let flat = flattened bytes tags game r in record {
+      all_tags = r.all_tags;
+      start = r.start;
+      tokens = flat.tokens;
+      texts = texts_of r.script;
+      flat = flat.flat;
+      tags_are = r.tags_are;
+      start_is = ap (λ (g : GameTree). g.start) r.game_is;
+      meant = λ s items.
+          let same = same_meaning r.script s (sym flat.items ∙ sym items) in
+          (ap (λ (g : GameTree). g.lead) r.game_is ∙ same.0, ap (λ (g : GameTree). g.line) r.game_is ∙ same.1);
+    }
+
+pub record-one : (bytes : List ℕ) (tags others : List Tag) (game other : GameTree) → IsRecord bytes tags game → IsRecord bytes others other → (tags ≡ others) × (game ≡ other)
+record-one bytes tags others game other r = read-only bytes tags others game other (record-read bytes tags game r)
+
+-- and have one first fault
+pub fault-one : (bytes : List ℕ) (fault other : RecordFault) → IsRecordFault bytes fault → IsRecordFault bytes other → fault ≡ other
+fault-one bytes fault other f g =
+    let same = break-one bytes f.rest g.rest fault.what other.what (flat_break bytes f.rest fault.what f.breaks) g.breaks in
+    let at : fault.place ≡ other.place = f.place ∙ same.place (length bytes) ∙ sym g.place in
+    λ i. record { place = at i; what = same.same i }

@@ -1,13 +1,12 @@
 -- The parts that are read one after the other are a record's, or the fault of one of them is the record's.
-use Rattle.std.proofs.Common.{◌≡◌, ℕ, List, Ok, Err, length, drop, sym, subst, inl, inr}
-use Rattle.game_tree.specs.Items.{Script, items_of}
+use Rattle.std.proofs.Common.{◌≡◌, ℕ, List, Ok, Err, drop, sym, subst, inl, inr}
 use Rattle.game_tree.specs.declared.head.Tag.{Tag}
 use Rattle.move_codec.specs.Numbers.{Numbered}
 use Rattle.game_codec.specs.Breach.{TellsBad}
 use Rattle.game_codec.specs.TagSpelling.{BeginsTags}
 use Rattle.game_codec.specs.Start.{BeginsStart}
 use Rattle.game_codec.specs.Texts.{BreaksTexts}
-use Rattle.game_codec.specs.Scanning.{Scans, AreScripted, nest_of, comments_in, dealt}
+use Rattle.game_codec.specs.Scanning.{Scans, AreScripted, nest_of, comments_in}
 use Rattle.game_codec.specs.Flat.{FlatBreaks}
 use Rattle.game_codec.specs.declared.breach.Refusal.{Refusal}
 use Rattle.game_codec.specs.declared.breach.Refusal.TheVariants.{Bad, Memory}

@@ -1,7 +1,7 @@
 -- A game has no more moves than its record has bytes.
-use Rattle.std.proofs.Common.{◌≡◌, ℕ, ◌+◌, ◌<◌, ◌≤◌, zero, suc, List, [], ◌∷◌, ◌++◌, length, drop, inl, inr, ap, arith, length-append, length-drop}
+use Rattle.std.proofs.Common.{ℕ, ◌+◌, ◌<◌, ◌≤◌, List, [], ◌∷◌, length, inl, inr, ap, arith, length-append, length-drop}
 use Rattle.game_tree.specs.Game.{GameTree}
-use Rattle.game_tree.specs.Tree.{Line, moves_of}
+use Rattle.game_tree.specs.Tree.{moves_of}
 use Rattle.game_tree.specs.Items.{Script, stop, play, nag, mark, vary, meaning}
 use Rattle.game_tree.specs.Replay.{plies_of}
 use Rattle.game_tree.specs.declared.head.Tag.{Tag}

@@ -6,9 +6,8 @@ use Rattle.cell_core.specs.declared.step.Move.{Move}
 use Rattle.chess_laws.specs.declared.setup.Setup.{Setup}
 use Rattle.chess_laws.specs.Position.{start_setup}
 use Rattle.chess_laws.specs.Step.{Step}
-use Rattle.game_tree.specs.Items.{Script, stop, play, nag, mark, vary}
+use Rattle.game_tree.specs.Items.{Script, stop}
 use Rattle.game_tree.specs.Legal.{IsLegalLine, AreLegalBranches}
-use Rattle.game_tree.specs.Replay.{stepped}
 use Rattle.game_tree.specs.Tree.{Line, ends, goes, Branches, none, more, Played, Variation, line_of, branches_of}
 use Rattle.game_tree.specs.Written.{nags_before, comment_before, script_of, variations_before}
 use Rattle.game_tree.proofs.LegalLemmas.{Step-stepped}

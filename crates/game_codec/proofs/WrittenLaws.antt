@@ -1,38 +1,37 @@
 -- The written form is a record of the game and the tags.
-use Rattle.std.proofs.Common.{◌≡◌, ℕ, zero, suc, ◌+◌, ◌%◌, ◌<◌, ◌≤◌, max, Bool, true, false, IsTrue, List, [], ◌∷◌, ◌++◌, Option, Some, None, Ok, length, drop, inl, inr, refl, sym, ap, subst, ◌∙◌, append_assoc, add-one, arith}
+use Rattle.std.proofs.Common.{◌≡◌, ℕ, zero, suc, ◌+◌, ◌%◌, ◌<◌, ◌≤◌, max, Bool, true, false, IsTrue, List, [], ◌∷◌, ◌++◌, Option, Some, None, length, inl, inr, refl, sym, ap, subst, ◌∙◌, append_assoc, add-one, arith}
 use Rattle.std.specs.Prelude.{All, if◌then◌else◌}
 use Rattle.std.proofs.Math.Seq.{drop-append_seam}
 use Rattle.std.proofs.lemmas.List.Elements.{All-append, All-cons, All-nil}
 use Rattle.cell_core.specs.declared.step.Move.{Move}
 use Rattle.chess_laws.specs.declared.setup.Setup.{Setup}
-use Rattle.chess_laws.specs.Position.{Sound, start_setup}
+use Rattle.chess_laws.specs.Position.{Sound}
 use Rattle.chess_laws.specs.Step.{Step, Legal}
 use Rattle.chess_laws.proofs.MovedKings.{Sound-after}
 use Rattle.cell_core.specs.Text.{IsZeroFree}
-use Rattle.chess_text.specs.Written.{fen_text}
 use Rattle.game_tree.specs.Game.{GameTree}
 use Rattle.game_tree.specs.Head.{IsTag}
 use Rattle.game_tree.specs.declared.head.Tag.{Tag}
 use Rattle.game_tree.proofs.WrittenLemmas.{meaning-written, HasComments-legal}
-use Rattle.game_tree.specs.Items.{Script, stop, play, nag, mark, vary, Said, meaning}
+use Rattle.game_tree.specs.Items.{Script}
 use Rattle.game_tree.specs.Legal.{IsLegalLine, AreLegalBranches, IsLegalGame}
 use Rattle.game_tree.specs.Replay.{stepped}
 use Rattle.game_tree.specs.Tree.{Line, ends, goes, Branches, none, more, depth_of, depth_within}
 use Rattle.game_tree.specs.Written.{nags_before, comment_before, script_of, variations_before}
-use Rattle.move_codec.specs.Numbers.{Numbered, AreNumbers, numbers_after}
+use Rattle.move_codec.specs.Numbers.{Numbered, AreNumbers}
 use Rattle.move_codec.specs.Packed.{encoding}
 use Rattle.move_codec.proofs.Apart.{encoding-apart}
 use Rattle.move_codec.proofs.RoundTrip.{round_trip}
 use Rattle.move_codec.proofs.Steps.{AreNumbers-step}
 use Rattle.game_codec.specs.declared.place.Place.{Place}
-use Rattle.game_codec.specs.declared.token.Token.TheVariants.{Play, Nag, Comment, Open}
+use Rattle.game_codec.specs.declared.token.Token.TheVariants.{Play}
 use Rattle.game_codec.specs.Moves.{SpellsMoves}
-use Rattle.game_codec.specs.Place.{Takes, IsMoveDue, ending, numbered_after, beginning, after_move, after_comment, variation_of}
+use Rattle.game_codec.specs.Place.{Takes, ending, numbered_after, beginning, after_move, after_comment, variation_of}
 use Rattle.game_codec.specs.Written.{HasTexts, IsCommentText, LineHasTexts, BranchesHaveTexts, IsWrittenGame, IsWrittenRecord, body_text, line_any, is_promotion, is_underpromotion, moves_text, own_start, promotion_flags, script_of_game, tags_text}
 use Rattle.game_codec.specs.Record.{IsRecord, game_of}
 use Rattle.game_codec.specs.Start.{BeginsStart, standard_start}
 use Rattle.game_codec.specs.TagSpelling.{BeginsTags}
-use Rattle.game_codec.specs.Texts.{AreTexts, ended, texts_of}
+use Rattle.game_codec.specs.Texts.{ended, texts_of}
 use Rattle.game_codec.proofs.TagLaws.{tags_text-begins, free_of-IsTag}
 use Rattle.game_codec.proofs.StartLaws.{standard-begins, own-begins}
 use Rattle.move_codec.proofs.Standard.{AreNumbers-standard}

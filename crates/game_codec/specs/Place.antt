@@ -2,7 +2,7 @@
 -- marks. 11 is a glyph (NAG) of the last move and has one more byte, 12 a comment of the last move or of the line's
 -- beginning, 13 begins a variation of the last move, 14 ends it, and 15 ends the game. The marks after a move stand in any
 -- order; those behind a variation still belong to the move that it hangs on.
-use Rattle.std.specs.Prelude.{◌≡◌, ℕ, zero, suc, ◌+◌, ◌<◌, ◌≤◌, ◌⊎◌, Bool, true, false, IsTrue, List, [], ◌∷◌, Ok, Err, drop}
+use Rattle.std.specs.Prelude.{◌≡◌, ℕ, zero, suc, ◌+◌, ◌<◌, ◌≤◌, ◌⊎◌, true, false, IsTrue, List, [], ◌∷◌, Ok, Err, drop}
 use Rattle.cell_core.specs.declared.step.Move.{Move}
 use Rattle.game_tree.specs.Replay.{stepped}
 use Rattle.move_codec.specs.Numbers.{Numbered, numbers_after}

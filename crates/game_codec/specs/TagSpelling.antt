@@ -1,6 +1,6 @@
 -- The extra tags of a record (this project's own, after Scid's format): each is its name's length, its name, its value's
 -- length and its value; or a code that stands for a common name, and then the value; or the code 255 and a packed date.
-use Rattle.std.specs.Prelude.{◌≡◌, ℕ, ◌+◌, ◌*◌, ◌/◌, ◌%◌, ◌⊎◌, Bool, not, List, [], ◌∷◌, ◌++◌, Option, Some, None, Result, Ok, Err, length, filter, slice_get, codes}
+use Rattle.std.specs.Prelude.{◌≡◌, ℕ, ◌+◌, ◌*◌, ◌/◌, ◌%◌, ◌⊎◌, Bool, not, List, [], ◌∷◌, ◌++◌, Some, length, filter, slice_get, codes}
 use Rattle.game_tree.specs.Date.{IsDate, date_text}
 use Rattle.game_tree.specs.Head.{IsName}
 use Rattle.game_tree.specs.TagName.{IsTagName, is_reserved}

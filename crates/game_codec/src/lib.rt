@@ -9,6 +9,7 @@ pub mod encoding;
 pub mod fault;
 mod flags;
 mod moves;
+pub mod one_reading;
 pub mod place;
 pub mod round_trip;
 mod scanner;

@@ -1,4 +1,7 @@
 //! What no clause says: records and faults that were made by hand or by another program.
+ghost use Rattle.std.specs.Prelude.{All, IfOk};
+ghost use Rattle.game_tree.specs.Head.{IsTag};
+ghost use Rattle.game_tree.specs.Legal.{IsLegalGame};
 
 use super::{DecodeError, EncodeError, RecordFault, RecordWhat, decode_game, encode_game};
 use cell_core::{Square, Text};
@@ -9,7 +12,10 @@ use std::alloc::{AllocError, Global};
 use std::test::Fail;
 
 /// What is read of at most a thousand bytes.
-fn decoded(alloc: Global, bytes: &[u8]) -> Result<(Game, Vec<Tag>), DecodeError> {
+fn decoded(alloc: Global, bytes: &[u8]) -> Result<(Game, Vec<Tag>), DecodeError>
+    ensures legal { IfOk result (λ read. IsLegalGame read.0) }
+    ensures tags { IfOk result (λ read. All IsTag read.1.items) }
+{
     decode_game(alloc, bytes.split_at(bytes.len().min(1000)).0)
 }
 
@@ -96,11 +102,12 @@ fn variations_of_a_record(rt: HostRuntime) {
 
 /// Records as they are written: of whole games, of starts of their own with promotions, of nested variations, with glyphs
 /// that look like marks, and with a tag.
-const WRITTEN: [&[u8]; 9] = [
+const WRITTEN: [&[u8]; 10] = [
     b"\x00\x00\x0f",
     b"\x00\x00\xcf\xa1\xbf\xbf\x28\xb0\x26\x61\x4a\xcf\xb2\x43\x60\x33\x44\x09\x61\x4f\x04\x36\x01\x3b\x0f",
     b"\x00\x00\x67\x61\x62\x0f",
     b"\x00\x037k/P7/8/8/8/8/8/KQQQ4 w - - 0 1\x00\x14\x0f",
+    b"\x00\x074k3/P7/8/8/8/8/8/4K3 w - - 0 1\x00\x1d\x01\x12\x01\x04\x04\x0f",
     b"\x00\x00\xcf\xbf\xbf\x0f",
     b"\x00\x00\xcf\x61\xc1\xbf\xc0\xb1\x0f",
     NESTED,
@@ -118,9 +125,31 @@ fn written_records_are_written_again(rt: HostRuntime) {
     }
 }
 
-/// Records in another form, and their written form: marks in another order, after a move and behind a variation; comments
-/// without a text; a coded name and a packed date; a tag of a reserved name; the FEN of the initial position, with the
-/// numbers of its order; flags that are not looked at.
+/// The marks of 1. e4 $1 {x} (1. d4) in every order but the written one.
+const ORDERS: [&[u8]; 5] = [
+    b"\x00\x00\xcf\x0b\x01\x0d\xbf\x0e\x0c\x0fx\x00",
+    b"\x00\x00\xcf\x0c\x0b\x01\x0d\xbf\x0e\x0fx\x00",
+    b"\x00\x00\xcf\x0c\x0d\xbf\x0e\x0b\x01\x0fx\x00",
+    b"\x00\x00\xcf\x0d\xbf\x0e\x0b\x01\x0c\x0fx\x00",
+    b"\x00\x00\xcf\x0d\xbf\x0e\x0c\x0b\x01\x0fx\x00",
+];
+
+#[test]
+fn marks_stand_in_any_order(rt: HostRuntime) {
+    for record in ORDERS {
+        match again(rt.alloc(), record) {
+            Some(bytes) => assert!(rt;
+                bytes.as_slice() == b"\x00\x00\xcf\x0b\x01\x0c\x0d\xbf\x0e\x0fx\x00".as_slice(),
+                "the written order"
+            ),
+            None => assert!(rt; false, "it is a record"),
+        }
+    }
+}
+
+/// Records in another form, and their written form: glyphs before and behind a variation; comments of a move and of its
+/// variation; comments without a text; a coded name and a packed date; a tag of a reserved name; the FEN of the initial
+/// position, with the numbers of its order; flags that are not looked at.
 const OTHERWISE: [(&[u8], &[u8]); 9] = [
     (
         b"\x00\x00\xcf\x0c\x0b\x01\x0d\xbf\x0e\x0b\x0e\x0fx\x00",
@@ -145,6 +174,33 @@ const OTHERWISE: [(&[u8], &[u8]); 9] = [
     (b"\x01!\x00\x00\x00\x0f", b"\x01!\x00\x00\x00\x0f"),
 ];
 
+/// Records that are nearly faulty: for each fault the nearest bytes that have none.
+const NEIGHBOURS: [&[u8]; 16] = [
+    b"\xfa\x00\x00\x00\x0f",
+    b"\x01!\x00\x00\x00\x0f",
+    b"\x01~\x00\x00\x00\x0f",
+    b"\x01a\x01\x01\x00\x00\x0f",
+    b"\xff\x0f\xff\x9f\x00\x00\x0f",
+    b"\x00\x014k3/8/8/8/8/8/8/4K3 w\x00\x0f",
+    b"\x00\x00\xcf\x0b\x01\x0f",
+    b"\x00\x00\xcf\x0d\x0e\x0f",
+    b"\x00\x00\xcf\x0d\xcf\x0b\x01\x0e\x0f",
+    b"\x00\x00\x0c\xcf\x0c\x0f\x00\x00",
+    b"\x00\x00\xcf\x0c\x0d\x0c\x0e\x0f\x00\x00",
+    b"\x00\x00\x0c\x0fx\x00",
+    b"\x00\x00\xcf\xcf\x43\x67\x0f",
+    b"\x00\x00\xcf\xbf\xc0\xb1\x0f",
+    b"\x00\x00\x28\x0f",
+    b"\x00\x00\xcf\xcf\x07\x0f",
+];
+
+#[test]
+fn neighbours_of_faults(rt: HostRuntime) {
+    for record in NEIGHBOURS {
+        assert!(rt; decoded(rt.alloc(), record).is_ok(), "it is a record");
+    }
+}
+
 #[test]
 fn records_in_another_form_are_read(rt: HostRuntime) {
     for (record, written) in OTHERWISE {
@@ -156,7 +212,7 @@ fn records_in_another_form_are_read(rt: HostRuntime) {
 }
 
 /// Bytes that are no record, the place of their first fault, and what it is.
-const FAULTY: [(&[u8], u32, RecordWhat); 38] = [
+const FAULTY: [(&[u8], u32, RecordWhat); 39] = [
     (b"\xfb\x00\x00\x0f", 0, RecordWhat::TagCode),
     (b"\x01a\x01b\xfe\x00\x00\x0f", 4, RecordWhat::TagCode),
     (b"\x01 \x00\x00\x00\x0f", 0, RecordWhat::TagName),
@@ -203,6 +259,7 @@ const FAULTY: [(&[u8], u32, RecordWhat); 38] = [
         5,
         RecordWhat::Move(MoveFault::NoMan),
     ),
+    (b"\x00\x00\x29\x0f", 2, RecordWhat::Move(MoveFault::Value)),
     (
         b"\x00\x00\x10\x0c\x0f",
         2,

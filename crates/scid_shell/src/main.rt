@@ -64,5 +64,8 @@ fn end(rt: &HostRuntime, status: Status) -> ExitCode {
     if let Some(line) = message(status) {
         let _ = eprintln!(rt; "{line}");
     }
+    if let Status::BadRecord { game, fault } = status {
+        let _ = eprintln!(rt; "bad record: game {game}, {fault}");
+    }
     ExitCode::from(status.exit_code())
 }

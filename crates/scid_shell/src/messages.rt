@@ -17,11 +17,10 @@ BOARD is the first field of a FEN, and SIDE is w or b.
 /// The answer to `--version`.
 pub const VERSION: &str = "scid_shell 0.1.0\n";
 
-/// The line on standard error for a session that is not done.
+/// The line on standard error for a session that is not done, unless it tells a fault.
 pub fn message(status: Status) -> Option<&'static str> {
     match status {
-        Status::Done => None,
-        Status::BadRecord { .. } => Some("bad record"),
+        Status::Done | Status::BadRecord { .. } => None,
         Status::Later(_) => Some("later"),
         Status::ReadFault => Some("read fault"),
         Status::WriteFault => Some("write fault"),

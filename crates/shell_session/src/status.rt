@@ -14,7 +14,7 @@ pub enum Status {
     Done,
     /// What a later version of the program reads.
     Later(LaterWhat),
-    /// The bytes of this game are no record, as those of all games before it are, and this is their first fault.
+    /// The bytes of this game are no record, and this is their first fault; those of each game before it are a record.
     BadRecord { game: u32, fault: RecordFault },
     /// The input failed.
     ReadFault,

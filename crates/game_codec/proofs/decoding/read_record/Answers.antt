@@ -1,4 +1,4 @@
-use Rattle.std.proofs.Common.{rules, List, drop}
+use Rattle.std.proofs.Common.{rules, drop}
 use Rattle.game_codec.specs.Breach.{TellsBad}
 use Rattle.game_codec.specs.Flat.{FlatBreaks}
 use Rattle.game_codec.proofs.ReadLaws.{begun, scan-broken, build-broken, scripted}
