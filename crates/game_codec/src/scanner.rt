@@ -1,4 +1,4 @@
-ghost use Rattle.std.specs.Prelude.{◌≡◌, [], ◌∷◌, ◌++◌, IfOk};
+ghost use Rattle.std.specs.Prelude.{◌≡◌, [], ◌∷◌, ◌++◌, OnOk};
 ghost use Rattle.game_codec.specs.Nests.{MayTake, nest};
 ghost use Rattle.game_codec.specs.Scanning.{nest_after, nest_of};
 
@@ -7,6 +7,7 @@ use super::token::Token;
 use cell_core::Move;
 use move_codec::Numbered;
 use std::alloc::{AllocError, Global};
+use std::mem::replace;
 
 /// The lines that are open while a record's moves are read, and the items that were read.
 #[derive(Drop)]
@@ -49,70 +50,47 @@ impl Scanner {
     }
 
     /// Goes on behind an item that may stand at the place.
-    pub(crate) fn take(self, token: Token) -> Result<Scanner, AllocError>
-        requires may { MayTake self.current token }
-        ensures nest { IfOk result (λ after. nest after ≡ nest_after (nest self) token) }
-        ensures tokens { IfOk result (λ after. after.tokens.items ≡ self.tokens.items ++ token ∷ []) }
+    pub(crate) fn take(&mut self, token: Token) -> Result<(), AllocError>
+        requires may { MayTake self.old.current token }
+        ensures nest { OnOk result (nest self.new ≡ nest_after (nest self.old) token) }
+        ensures tokens { OnOk result (self.new.tokens.items ≡ self.old.tokens.items ++ token ∷ []) }
     {
-        let mut scanner = self.follow(&token)?;
-        scanner.tokens.push(token)?;
-        Ok(scanner)
+        self.follow(&token)?;
+        self.tokens.push(token)?;
+        Ok(())
     }
 
     /// The lines behind an item.
-    fn follow(self, token: &Token) -> Result<Scanner, AllocError>
-        requires may { MayTake self.current token.now }
-        ensures nest { IfOk result (λ after. nest after ≡ nest_after (nest self) token.now) }
-        ensures tokens { IfOk result (λ after. after.tokens.items ≡ self.tokens.items) }
+    fn follow(&mut self, token: &Token) -> Result<(), AllocError>
+        requires may { MayTake self.old.current token.now }
+        ensures nest { OnOk result (nest self.new ≡ nest_after (nest self.old) token.now) }
+        ensures tokens { OnOk result (self.new.tokens.items ≡ self.old.tokens.items) }
     {
-        let Scanner {
-            mut current,
-            mut outer,
-            tokens,
-        } = self;
         match token {
             Token::Play(m) => {
-                current.play(Move {
+                self.current.play(Move {
                     from: m.from,
                     to: m.to,
                     promo: m.promo,
                 });
-                Ok(Scanner {
-                    current,
-                    outer,
-                    tokens,
-                })
+                Ok(())
             }
             Token::Comment => {
-                current.comment();
-                Ok(Scanner {
-                    current,
-                    outer,
-                    tokens,
-                })
+                self.current.comment();
+                Ok(())
             }
             Token::Open => {
-                let variation = current.variation();
-                outer.push(current)?;
-                Ok(Scanner {
-                    current: variation,
-                    outer,
-                    tokens,
-                })
+                let variation = self.current.variation();
+                self.outer.push(replace(&mut self.current, variation))?;
+                Ok(())
             }
             Token::Close => {
-                let current = outer.pop().unwrap_or(current);
-                Ok(Scanner {
-                    current,
-                    outer,
-                    tokens,
-                })
+                if let Some(round) = self.outer.pop() {
+                    self.current = round;
+                }
+                Ok(())
             }
-            Token::Nag(_) | Token::End => Ok(Scanner {
-                current,
-                outer,
-                tokens,
-            }),
+            Token::Nag(_) | Token::End => Ok(()),
         }
     }
 }

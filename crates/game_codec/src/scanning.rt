@@ -42,7 +42,7 @@ pub(crate) fn scan(alloc: Global, start: &Numbered, bytes: &[u8]) -> Result<Scan
                             used: bytes.len() - rest.len(),
                         });
                     }
-                    token => scanner = scanner.take(token)?,
+                    token => scanner.take(token)?,
                 }
             }
         }

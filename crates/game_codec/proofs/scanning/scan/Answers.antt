@@ -24,8 +24,8 @@ returns-in-End-clause-ok c =
 
 pub items-preserved : goal.items-preserved
 items-preserved c =
-    HasRead-more (nest_of c.args.start.now) c.args.bytes.now (nest c.items.scanner) (nest c.in_ok-scanner-in_default.scanner)
-    c.items.scanner.tokens.items c.in_ok-scanner-in_default.scanner.tokens.items c.items.rest.now c.split_at.result.1.now
+    HasRead-more (nest_of c.args.start.now) c.args.bytes.now (nest c.items.scanner) (nest c.take.new.self)
+    c.items.scanner.tokens.items c.take.new.self.tokens.items c.items.rest.now c.split_at.result.1.now
     c.place.result.now c.in-Ok.next.token c.in-Ok.next.used
     c.items.invariant c.place.ensures.place c.in-Ok.ensures.used.1 c.in-Ok.ensures.takes c.in_default.not-End c.split_at.ensures.back
-    c.in_ok-scanner-in_default.ensures.nest c.in_ok-scanner-in_default.ensures.tokens
+    c.in_ok-take-in_default.ensures.nest c.in_ok-take-in_default.ensures.tokens
