@@ -101,9 +101,7 @@ impl NumberedMen {
         ensures same { result ≡ self.now }
     {
         let mut squares = ArrayVec::new();
-        for square in self.squares() {
-            squares.push(*square);
-        }
+        let _fits = squares.try_extend_from_slice(self.squares());
         NumberedMen { squares }
     }
 
