@@ -4,9 +4,9 @@ ghost use Rattle.game_tree.specs.Head.{IsTag};
 ghost use Rattle.game_tree.specs.Legal.{IsLegalGame};
 
 use super::{DecodeError, EncodeError, RecordFault, RecordWhat, decode_game, encode_game};
-use cell_core::{Square, Text};
+use cell_core::Text;
 use chess_laws::Position;
-use game_tree::{Branch, Game, Node, Tag};
+use game_tree::{Game, Node, Tag};
 use move_codec::MoveFault;
 use std::alloc::{AllocError, Global};
 use std::test::Fail;
