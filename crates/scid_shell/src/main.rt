@@ -1,6 +1,11 @@
 //! `scid_shell BASE`: runs the script on standard input over a Scid base, and writes its text on standard output.
 #![tactic(auto)]
 
+ghost use Rattle.std.specs.Prelude.{◌≡◌, ◌≢◌, MatchResult};
+ghost use Rattle.base_files.specs.Causes.{output_stop};
+ghost use Rattle.shell_session.specs.Stops.{status_of};
+ghost use Rattle.shell_session.specs.declared.status.Status.TheVariants as done;
+
 mod messages;
 
 use base_files::disk_files::DiskFiles;
@@ -39,7 +44,9 @@ fn answer(rt: &HostRuntime, words: &[String]) -> ExitCode {
 }
 
 /// The status after a text was printed.
-fn printed(outcome: io::Result<()>) -> Status {
+fn printed(outcome: io::Result<()>) -> Status
+    ensures printed { MatchResult outcome (λ _. result ≡ done.Done) (λ _. result ≡ done.WriteFault) }
+{
     match outcome {
         Ok(()) => Status::Done,
         Err(_) => Status::WriteFault,
@@ -52,9 +59,17 @@ fn run(rt: &HostRuntime, words: &[String]) -> Status {
     let mut input = StdSource::new(rt.stdin());
     let mut out = StdSink::new(rt.stdout());
     let status = session(rt.alloc(), words, &mut files, &mut input, &mut out);
-    match (status, out.flush()) {
-        (Status::Done, Err(DeviceError::Memory)) => Status::Memory,
-        (Status::Done, Err(DeviceError::Failed)) => Status::WriteFault,
+    flushed(status, out.flush())
+}
+
+/// The status of a session whose last bytes were then handed on. A fault at that is told where the session was done, and
+/// else what ended the session.
+fn flushed(status: Status, outcome: Result<(), DeviceError>) -> Status
+    ensures kept { status ≢ done.Done → result ≡ status }
+    ensures done { status ≡ done.Done → MatchResult outcome (λ _. result ≡ done.Done) (λ error. result ≡ status_of (output_stop error)) }
+{
+    match (status, outcome) {
+        (Status::Done, Err(error)) => Status::from(error.of_output()),
         _ => status,
     }
 }
