@@ -1,0 +1,4 @@
+pub mod Words
+pub mod Cutting
+pub mod Answer
+pub mod Forms

@@ -1,0 +1,8 @@
+//! The lines of a script as commands: words, quoted parts, the forms of arguments, and the first fault of a line.
+#![tactic(auto)]
+
+mod fault;
+mod forms;
+mod words;
+
+pub use fault::{CommandError, ScriptFault};
