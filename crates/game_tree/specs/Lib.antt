@@ -11,3 +11,5 @@ pub mod Game
 pub mod Replay
 pub mod Legal
 pub mod Written
+pub mod Promotions
+pub mod Sought
