@@ -1,6 +1,6 @@
 -- The forms of arguments: what a word stands for, or none (this project's own).
 use Rattle.std.specs.Prelude.{ℕ, ◌==◌, nat_le, Bool, true, false, ◌&&◌, ◌||◌, if◌then◌else◌, List, [], ◌∷◌, length, Option, Some, None, codes}
-use Rattle.std.specs.List.{list_all, position}
+use Rattle.std.specs.List.{list_all, position_from}
 use Rattle.std.specs.Str.{bytes_eq}
 use Rattle.std.specs.Char.{is_ascii_alphanumeric}
 use Rattle.cell_core.specs.declared.man.Colour.{Colour}
@@ -9,7 +9,6 @@ use Rattle.game_filter.specs.declared.op.Op.{Op}
 use Rattle.game_filter.specs.declared.op.Op.TheVariants.{Ignore, And, Or}
 use Rattle.sig_index.specs.declared.pos_query.Mode.{Mode}
 use Rattle.sig_index.specs.declared.pos_query.Mode.TheVariants.{Exact, Pawns, Files, Material}
-use Rattle.game_tree.specs.Decimal.{decimal_read}
 use Rattle.script_text.specs.declared.forms.SearchKind.{SearchKind}
 use Rattle.script_text.specs.declared.forms.SearchKind.TheVariants as kind
 
@@ -59,21 +58,13 @@ answer word =
     else if bytes_eq word (codes "no") then Some false
     else None
 
--- A number: decimal digits, below 2^64.
-abbrev pub number : List ℕ → Option ℕ
-number word = decimal_read 18446744073709551615 word
-
--- GAMES of demo: a number of at most 100,000.
-abbrev pub demo_games : List ℕ → Option ℕ
-demo_games word = decimal_read 100000 word
-
 -- LETTER of a mark, as the bit of the marks that it names: the user marks from 0 on, then the custom marks.
 abbrev pub mark_letters : List ℕ
 mark_letters = codes "WBMENPTKQ!?U123456"
 
 abbrev pub mark_bit : List ℕ → Option ℕ
 mark_bit [] = None
-mark_bit (byte ∷ []) = position (λ letter. letter == byte) mark_letters
+mark_bit (byte ∷ []) = position_from (λ letter. letter == byte) 0 mark_letters
 mark_bit (byte ∷ second ∷ word) = None
 
 -- NAME of a filter: 1 to 32 letters, digits and underscores.

@@ -1,14 +1,13 @@
 //! The forms of arguments: what a word stands for.
-ghost use Rattle.std.specs.Prelude.{◌≡◌, ◌≤◌, ◌<◌, IfSome};
-ghost use Rattle.std.specs.List.{list_all};
+ghost use Rattle.std.specs.Prelude.{◌≡◌, ◌≤◌, ◌<◌, IfSome, ◌==◌, length};
+ghost use Rattle.std.specs.List.{list_all, position_from};
 ghost use Rattle.std.specs.Option.{option_map};
 ghost use Rattle.std.specs.Char.{is_ascii_alphanumeric};
 ghost use Rattle.cell_core.specs.Text.{IsZeroFree};
-ghost use Rattle.script_text.specs.Forms.{side, op, search_kind, mode, switch, answer, number, demo_games, mark_bit, is_name_byte, filter_name, end_word, body_end};
+ghost use Rattle.script_text.specs.Forms.{side, op, search_kind, mode, switch, answer, mark_bit, is_name_byte, filter_name, end_word, body_end};
 
 use cell_core::Colour;
 use game_filter::Op;
-use game_tree::read_decimal;
 use sig_index::Mode;
 
 /// What a search looks at.
@@ -112,23 +111,6 @@ pub(crate) fn answer(word: &[u8]) -> Option<bool>
     None
 }
 
-/// A number: decimal digits, below 2^64.
-pub(crate) fn number(word: &[u8]) -> Option<u64>
-    ensures { result ≡ number word.now }
-{
-    read_decimal(word, u64::MAX)
-}
-
-/// The number of games of `demo`, at most 100,000.
-pub(crate) fn demo_games(word: &[u8]) -> Option<u32>
-    ensures { result ≡ demo_games word.now }
-{
-    let games = read_decimal(word, 100_000)?;
-    Some(games as u32)
-}
-
-const MARK_LETTERS: [u8; 18] = *b"WBMENPTKQ!?U123456";
-
 /// The bit of the marks that a letter names: the user marks from 0 on, then the custom marks `1` to `6` from 12 on.
 pub(crate) fn mark_bit(word: &[u8]) -> Option<u8>
     ensures bit { result ≡ mark_bit word.now }
@@ -137,8 +119,23 @@ pub(crate) fn mark_bit(word: &[u8]) -> Option<u8>
     let [byte] = word else {
         return None;
     };
-    let bit = MARK_LETTERS.iter().position(|letter| *letter == *byte)?;
-    Some(bit as u8)
+    place_of(*byte, b"WBMENPTKQ!?U123456")
+}
+
+// The place of the first byte of `bytes` that is `byte`.
+fn place_of(byte: u8, bytes: &[u8]) -> Option<u8>
+    requires { length bytes.now ≤ 255 }
+    ensures place { result ≡ position_from (λ other. other == byte) 0 bytes.now }
+    ensures below { IfSome result (λ place. place < length bytes.now) }
+{
+    let mut place = 0u8;
+    for other in bytes {
+        if *other == byte {
+            return Some(place);
+        }
+        place += 1;
+    }
+    None
 }
 
 /// The name of a filter: 1 to 32 letters, digits and underscores.
@@ -156,7 +153,8 @@ pub(crate) fn filter_name(word: &[u8]) -> Option<&[u8]>
 fn has_name_bytes_alone(word: &[u8]) -> bool
     ensures { result ≡ list_all is_name_byte word.now }
 {
-    word.iter().all(|byte| byte.is_ascii_alphanumeric() || *byte == b'_')
+    word.iter()
+        .all(|byte| byte.is_ascii_alphanumeric() || *byte == b'_')
 }
 
 /// The word that ends a body, behind `<<`: 1 to 32 letters and digits.

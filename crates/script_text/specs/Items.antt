@@ -1,0 +1,38 @@
+-- Items KEY=VALUE, each key at most once and one item at least (this project's own).
+use Rattle.std.specs.Prelude.{ℕ, ◌+◌, nat_le, Bool, if◌then◌else◌, List, [], ◌∷◌, ◌++◌, length, drop, Option, Some, None, option_and_then, ok_or, Result, Ok, Err}
+use Rattle.std.specs.List.{list_any}
+use Rattle.std.specs.Str.{bytes_eq}
+use Rattle.script_text.specs.declared.fault.ScriptFault.{ScriptFault}
+use Rattle.script_text.specs.declared.fault.ScriptFault.TheVariants.{Argument}
+use Rattle.script_text.specs.Words.{Word}
+use Rattle.script_text.specs.Numbers.{split_once}
+use Rattle.script_text.specs.Arguments.{◌>>=◌}
+
+-- Key and value: what stands before the first `=`, and what stands behind it.
+abbrev pub key_and_value : Word → Option (List ℕ × List ℕ)
+key_and_value word = option_and_then (split_once 61) word
+
+-- Whether a word is an item of this key.
+abbrev pub is_keyed : List ℕ → Option (List ℕ × List ℕ) → Bool
+is_keyed key None = false
+is_keyed key (Some parts) = bytes_eq parts.0 key
+
+-- Whether one of these words is an item of this key.
+abbrev pub has_key : List Word → List ℕ → Bool
+has_key words key = list_any (λ word. is_keyed key (key_and_value word)) words
+
+-- A query with one item more, where no item before it has its key, and `add` knows the key and reads the value.
+unfoldable pub with_item : {Q : Type 0} → (Q → List ℕ → List ℕ → Option Q) → List Word → Q → Word → Option Q
+with_item add before query word =
+    option_and_then (λ parts. if has_key before parts.0 then None else add query parts.0 parts.1) (key_and_value word)
+
+-- A query with the items of these words, of which the first has the number n and `before` are the items before it.
+unfoldable pub with_items : {Q : Type 0} → (Q → List ℕ → List ℕ → Option Q) → ℕ → List Word → List Word → Q → Result Q ScriptFault
+with_items add n before [] query = Ok query
+with_items add n before (word ∷ words) query = do
+  longer ← ok_or (with_item add before query word) (Argument n)
+  with_items add (n + 1) (before ++ word ∷ []) words longer
+
+-- The query of the items from word 3 on, of which there is one at least.
+unfoldable pub items : {Q : Type 0} → (Q → List ℕ → List ℕ → Option Q) → Q → List Word → Result Q ScriptFault
+items add any words = if nat_le (length words) 3 then Err (Argument 3) else with_items add 3 [] (drop 3 words) any
