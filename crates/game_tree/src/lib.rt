@@ -14,6 +14,7 @@ pub mod legality;
 pub mod node;
 mod open_line;
 mod outcome;
+mod promotions;
 pub mod settling;
 pub mod tag_name;
 pub mod tags;
