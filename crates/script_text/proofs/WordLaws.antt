@@ -9,7 +9,7 @@ front_none [] = refl
 front_none (None ∷ words) = refl
 front_none (Some text ∷ words) = refl
 
-append_none : {A : Type 0} (a : List A) → a ++ [] ≡ a
+pub append_none : {A : Type 0} (a : List A) → a ++ [] ≡ a
 append_none [] = refl
 append_none {A} (x ∷ a) = ap (λ (bytes : List A). x ∷ bytes) (append_none a)
 

@@ -2,13 +2,26 @@
 ghost use Rattle.std.specs.Prelude.{◌≡◌, ◌≤◌, ◌<◌, IfSome, ◌==◌, length};
 ghost use Rattle.std.specs.List.{list_all, position_from};
 ghost use Rattle.std.specs.Option.{option_map};
+ghost use Rattle.std.specs.Bool.{OnTrue};
 ghost use Rattle.std.specs.Char.{is_ascii_alphanumeric};
+ghost use Rattle.chess_text.specs.Filling.{board_named};
 ghost use Rattle.cell_core.specs.Text.{IsZeroFree};
 ghost use Rattle.script_text.specs.Forms.{side, op, search_kind, mode, switch, answer, mark_bit, is_name_byte, filter_name, end_word, body_end};
 
-use cell_core::Colour;
+use cell_core::{Board, Colour};
+use chess_text::read_board;
 use game_filter::Op;
 use sig_index::Mode;
+
+/// The board of a placement, the first field of a FEN.
+pub(crate) fn board(word: &[u8]) -> Option<Board>
+    ensures { result ≡ board_named word.now }
+{
+    match read_board(word) {
+        Ok(board) => Some(board),
+        Err(_) => None,
+    }
+}
 
 /// What a search looks at.
 #[derive(Clone, Copy, Debug, PartialEq, Eq)]
@@ -142,6 +155,7 @@ fn place_of(byte: u8, bytes: &[u8]) -> Option<u8>
 #[tactic(auto, unfolding(crate::specs::Forms::filter_name))]
 pub(crate) fn filter_name(word: &[u8]) -> Option<&[u8]>
     ensures named { option_map (λ name. name.now) result ≡ filter_name word.now }
+    ensures free { IfSome result (λ name. IsZeroFree name.now) }
 {
     if 1 <= word.len() && word.len() <= 32 && has_name_bytes_alone(word) {
         Some(word)
@@ -151,7 +165,8 @@ pub(crate) fn filter_name(word: &[u8]) -> Option<&[u8]>
 }
 
 fn has_name_bytes_alone(word: &[u8]) -> bool
-    ensures { result ≡ list_all is_name_byte word.now }
+    ensures same { result ≡ list_all is_name_byte word.now }
+    ensures free { OnTrue result (IsZeroFree word.now) }
 {
     word.iter()
         .all(|byte| byte.is_ascii_alphanumeric() || *byte == b'_')
@@ -161,6 +176,7 @@ fn has_name_bytes_alone(word: &[u8]) -> bool
 #[tactic(auto, unfolding(crate::specs::Forms::body_end))]
 pub(crate) fn body_end(word: &[u8]) -> Option<&[u8]>
     ensures ends { option_map (λ name. name.now) result ≡ body_end word.now }
+    ensures free { IfSome result (λ name. IsZeroFree name.now) }
 {
     match word {
         [b'<', b'<', name @ ..] => end_word(name),
@@ -169,7 +185,8 @@ pub(crate) fn body_end(word: &[u8]) -> Option<&[u8]>
 }
 
 fn end_word(word: &[u8]) -> Option<&[u8]>
-    ensures { option_map (λ name. name.now) result ≡ end_word word.now }
+    ensures ends { option_map (λ name. name.now) result ≡ end_word word.now }
+    ensures free { IfSome result (λ name. IsZeroFree name.now) }
 {
     if 1 <= word.len() && word.len() <= 32 && is_alphanumeric(word) {
         Some(word)
@@ -179,7 +196,8 @@ fn end_word(word: &[u8]) -> Option<&[u8]>
 }
 
 fn is_alphanumeric(word: &[u8]) -> bool
-    ensures { result ≡ list_all is_ascii_alphanumeric word.now }
+    ensures same { result ≡ list_all is_ascii_alphanumeric word.now }
+    ensures free { OnTrue result (IsZeroFree word.now) }
 {
     word.iter().all(|byte| byte.is_ascii_alphanumeric())
 }

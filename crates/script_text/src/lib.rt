@@ -3,6 +3,9 @@
 
 mod fault;
 mod forms;
+mod head_items;
+mod mat_items;
+mod numbers;
 mod words;
 
 pub use fault::{CommandError, ScriptFault};
