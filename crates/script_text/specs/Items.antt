@@ -21,18 +21,24 @@ is_keyed key (Some parts) = bytes_eq parts.0 key
 abbrev pub has_key : List Word → List ℕ → Bool
 has_key words key = list_any (λ word. is_keyed key (key_and_value word)) words
 
--- A query with one item more, where no item before it has its key, and `add` knows the key and reads the value.
-unfoldable pub with_item : {Q : Type 0} → (Q → List ℕ → List ℕ → Option Q) → List Word → Q → Word → Option Q
-with_item add before query word =
-    option_and_then (λ parts. if has_key before parts.0 then None else add query parts.0 parts.1) (key_and_value word)
+-- Key and value of the next item, where no item before it has its key.
+abbrev pub unless_met : List Word → List ℕ × List ℕ → Option (List ℕ × List ℕ)
+unless_met before parts = if has_key before parts.0 then None else Some parts
 
--- A query with the items of these words, of which the first has the number n and `before` are the items before it.
-unfoldable pub with_items : {Q : Type 0} → (Q → List ℕ → List ℕ → Option Q) → ℕ → List Word → List Word → Q → Result Q ScriptFault
-with_items add n before [] query = Ok query
-with_items add n before (word ∷ words) query = do
-  longer ← ok_or (with_item add before query word) (Argument n)
-  with_items add (n + 1) (before ++ word ∷ []) words longer
+abbrev pub new_item : List Word → Word → Option (List ℕ × List ℕ)
+new_item before word = option_and_then (unless_met before) (key_and_value word)
+
+-- A query with one item more, whose key and value `add` knows.
+unfoldable pub with_item : {Q : Type 0} → (Q → List ℕ → List ℕ → Option Q) → List Word → Q → Word → Option Q
+with_item add before query word = option_and_then (λ parts. add query parts.0 parts.1) (new_item before word)
+
+-- A query with the items of these words; `before` are the items before them, of which the first was word 3.
+unfoldable pub with_items : {Q : Type 0} → (Q → List ℕ → List ℕ → Option Q) → List Word → List Word → Q → Result Q ScriptFault
+with_items add before [] query = Ok query
+with_items add before (word ∷ words) query = do
+  longer ← ok_or (with_item add before query word) (Argument (length before + 3))
+  with_items add (before ++ word ∷ []) words longer
 
 -- The query of the items from word 3 on, of which there is one at least.
 unfoldable pub items : {Q : Type 0} → (Q → List ℕ → List ℕ → Option Q) → Q → List Word → Result Q ScriptFault
-items add any words = if nat_le (length words) 3 then Err (Argument 3) else with_items add 3 [] (drop 3 words) any
+items add any words = if nat_le (length words) 3 then Err (Argument 3) else with_items add [] (drop 3 words) any

@@ -1,9 +1,11 @@
 //! The lines of a script as commands: words, quoted parts, the forms of arguments, and the first fault of a line.
 #![tactic(auto)]
 
+mod arguments;
 mod fault;
 mod forms;
 mod head_items;
+mod items;
 mod mat_items;
 mod numbers;
 mod words;
