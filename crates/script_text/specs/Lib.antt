@@ -7,3 +7,4 @@ pub mod Arguments
 pub mod Items
 pub mod HeadItems
 pub mod MatItems
+pub mod Reading

@@ -2,12 +2,16 @@
 #![tactic(auto)]
 
 mod arguments;
+mod command;
 mod fault;
 mod forms;
 mod head_items;
 mod items;
 mod mat_items;
 mod numbers;
+mod reading;
 mod words;
 
+pub use command::Command;
 pub use fault::{CommandError, ScriptFault};
+pub use reading::read_command;

@@ -1,4 +1,4 @@
-use Rattle.std.proofs.Common.{rules, ◌≡◌, List, ℕ}
+use Rattle.std.proofs.Common.{rules}
 use Rattle.script_text.specs.Cutting.{words_with}
 use Rattle.script_text.proofs.WordLaws.{escaped_byte}
 use Rattle.script_text.proofs.words.Cutter.take_escaped.Goals as goal
