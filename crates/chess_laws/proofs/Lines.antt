@@ -1,12 +1,12 @@
 -- The line between two squares: the one queen's step by which a walk may lead from one to the other.
-use Rattle.std.proofs.Common.{◌≡◌, ◌↔◌, ℕ, zero, suc, ◌+◌, ◌*◌, ◌<◌, ◌++◌, Bool, true, false, ◌&&◌, List, [], Option, Some, None, IsTrue, length, get_or, refl, sym, ◌∙◌, ap, subst, arith}
+use Rattle.std.proofs.Common.{◌≡◌, ◌↔◌, ℕ, zero, suc, ◌+◌, ◌*◌, ◌<◌, Bool, true, false, ◌&&◌, [], Some, None, IsTrue, length, get_or, refl, sym, ◌∙◌, subst, arith}
 use Rattle.std.specs.Prelude.{Any}
 use Rattle.std.proofs.lemmas.Bool.Decides.{nat_tests}
 use Rattle.std.proofs.lemmas.Bool.{false≢true}
 use Rattle.cell_core.specs.declared.man.Kind.{Kind}
 use Rattle.cell_core.specs.declared.man.Kind.TheVariants.{King, Queen, Rook, Bishop, Knight, Pawn}
 use Rattle.cell_core.specs.Board.{Men}
-use Rattle.chess_laws.specs.Geometry.{Offset, file_of, rank_of, rook_steps, bishop_steps, king_steps, Walk, Runs, Leaps}
+use Rattle.chess_laws.specs.Geometry.{Offset, file_of, rank_of, king_steps, Walk, Runs, Leaps}
 use Rattle.chess_laws.specs.Legal.{line, line_of, glides, run, slides}
 use Rattle.chess_laws.specs.Rays.{offset_at}
 use Rattle.chess_laws.proofs.Running.{run_is}
