@@ -2,13 +2,11 @@
 use Rattle.std.proofs.Common.{◌≡◌, ℕ, zero, suc, ◌+◌, ◌<◌, List, [], ◌∷◌, ◌++◌, Ok, Err, length, refl, sym, ap, subst, ◌∙◌, add-one, append_assoc, append-nil, length-append, arith}
 use Rattle.game_tree.specs.Items.{Item, plays, glyph, note, opens, closes, Script, stop, play, nag, mark, vary, items_of}
 use Rattle.move_codec.specs.Numbers.{Numbered}
-use Rattle.game_codec.specs.Place.{Takes, ending, beginning, after_move, after_comment, variation_of}
+use Rattle.game_codec.specs.Place.{Place, Takes, ending, beginning, after_move, after_comment, variation_of}
 use Rattle.game_codec.specs.Moves.{SpellsMoves, Upto, here, after_play, after_nag, after_mark, after_vary, inside, BreaksMoves}
 use Rattle.game_codec.specs.Texts.{texts_of}
 use Rattle.game_codec.specs.Scanning.{Nest, nest_of, Stop, Scans, comments_in, dealt}
-use Rattle.game_codec.specs.declared.place.Place.{Place}
-use Rattle.game_codec.specs.declared.token.Token.{Token}
-use Rattle.game_codec.specs.declared.token.Token.TheVariants.{Play, Nag, Comment, Open, Close, End}
+use Rattle.game_codec.specs.Token.{Token, Play, Nag, Comment, Open, Close, End}
 use Rattle.game_codec.specs.declared.fault.RecordWhat.{RecordWhat}
 
 abbrev nest : Place → List Place → Nest
