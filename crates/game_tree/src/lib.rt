@@ -11,6 +11,7 @@ pub mod head;
 pub mod legality;
 pub mod node;
 mod open_line;
+mod promotions;
 pub mod settling;
 pub mod tag_name;
 pub mod tags;
