@@ -2,3 +2,4 @@ pub mod WordLaws
 pub mod NumberLaws
 pub mod ItemLaws
 pub mod LengthLaws
+pub mod SpellingLaws

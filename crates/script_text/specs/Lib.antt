@@ -8,3 +8,4 @@ pub mod Items
 pub mod HeadItems
 pub mod MatItems
 pub mod Reading
+pub mod Spelling

@@ -10,8 +10,13 @@ mod items;
 mod mat_items;
 mod numbers;
 mod reading;
+mod spelling;
 mod words;
 
 pub use command::Command;
 pub use fault::{CommandError, ScriptFault};
 pub use reading::read_command;
+pub use spelling::quoted_words_are_read;
+
+#[cfg(test)]
+mod tests;
