@@ -40,3 +40,9 @@ appended bytes seen = record seen { games = adds seen.games bytes; known = seen.
 pub record AppendedInPart (old new : Seen) : Type 0 where
   pub grew : Grew old.games new.games
   pub rest : new ≡ record old { games = new.games }
+
+-- The contents of the three files are as before.
+pub record SameContents (old new : Seen) : Type 0 where
+  pub index : new.index ≡ old.index
+  pub names : new.names ≡ old.names
+  pub games : new.games ≡ old.games

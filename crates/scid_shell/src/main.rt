@@ -8,10 +8,7 @@ ghost use Rattle.shell_session.specs.declared.status.Status.TheVariants as done;
 
 mod messages;
 
-use base_files::disk_files::DiskFiles;
-use base_files::faults::DeviceError;
-use base_files::std_sink::StdSink;
-use base_files::std_source::StdSource;
+use base_files::{DeviceError, DiskFiles, StdSink, StdSource};
 use messages::{HELP, VERSION, message};
 use shell_session::{LaterWhat, Status, session};
 use std::io::ErrorKind;
