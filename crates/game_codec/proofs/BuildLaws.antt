@@ -1,4 +1,4 @@
--- The tree is what the script means.
+-- The tree is what the movetext means.
 use Rattle.std.proofs.Common.{◌≡◌, ℕ, ◌+◌, ◌<◌, ◌≤◌, List, [], ◌∷◌, ◌++◌, length, get_or, drop, refl, sym, ap, subst, ◌∙◌, append_assoc, append-nil, length-append, arith}
 use Rattle.std.specs.Prelude.{All}
 use Rattle.std.proofs.Math.ListN.{drop_of_length-le}
@@ -6,11 +6,12 @@ use Rattle.std.proofs.lemmas.List.{drop_more}
 use Rattle.std.proofs.lemmas.List.Elements.{All-push}
 use Rattle.cell_core.specs.Text.{IsZeroFree}
 use Rattle.game_tree.specs.Tree.{Variation}
-use Rattle.game_tree.specs.Items.{Item, Script, items_of, meaning}
+use Rattle.game_tree.specs.Item.{Item}
+use Rattle.game_tree.specs.Movetext.{Movetext, items_of, meaning}
 use Rattle.game_tree.specs.Building.{Building, opening, built, Gives}
-use Rattle.game_tree.proofs.ScriptLemmas.{built-items_of}
+use Rattle.game_tree.proofs.MovetextLemmas.{built-items_of}
 use Rattle.game_codec.specs.Texts.{ended, AreTexts}
-use Rattle.game_codec.specs.Scanning.{AreScripted, comments_in, dealt}
+use Rattle.game_codec.specs.Scanning.{AreMovetext, comments_in, dealt}
 use Rattle.game_codec.specs.Adding.{Adds}
 use Rattle.game_codec.specs.declared.token.Token.{Token}
 use Rattle.game_codec.specs.declared.token.Token.TheVariants.{Play, Nag, Comment, Open, Close, End}
@@ -77,13 +78,13 @@ module _ (tokens : List Token) (bytes rest : List ℕ) (b : Building) where
   built-read is = is.onward [] ∙ ap (λ (all : List (List ℕ)). built (dealt tokens all) opening) (append-nil is.read)
 
   -- all lines round the main line are closed
-  pub IsBuilt-closed : AreScripted tokens → IsBuilt tokens [] bytes rest b → b.outer ≡ []
-  IsBuilt-closed scripted is =
-      let script = scripted is.read in
-      (built-items_of script.0 b (built-read is ∙ ap (λ (items : List Item). built items opening) (sym script.1))).whole
+  pub IsBuilt-closed : AreMovetext tokens → IsBuilt tokens [] bytes rest b → b.outer ≡ []
+  IsBuilt-closed movetext is =
+      let movetext = movetext is.read in
+      (built-items_of movetext.0 b (built-read is ∙ ap (λ (items : List Item). built items opening) (sym movetext.1))).whole
 
-  -- the texts are those of the bytes, and the tree is what a script with these texts means
-  pub IsBuilt-whole : (branch : Variation) → IsBuilt tokens [] bytes rest b → rest ≡ [] → ((s : Script) → b ≡ built (items_of s) opening → Gives branch (meaning s).comment (meaning s).line) → (texts : List (List ℕ)) × (AreTexts bytes texts × ((length texts ≡ comments_in tokens) × ((s : Script) → items_of s ≡ dealt tokens texts → Gives branch (meaning s).comment (meaning s).line)))
+  -- the texts are those of the bytes, and the tree is what a movetext with these texts means
+  pub IsBuilt-whole : (branch : Variation) → IsBuilt tokens [] bytes rest b → rest ≡ [] → ((s : Movetext) → b ≡ built (items_of s) opening → Gives branch (meaning s).comment (meaning s).line) → (texts : List (List ℕ)) × (AreTexts bytes texts × ((length texts ≡ comments_in tokens) × ((s : Movetext) → items_of s ≡ dealt tokens texts → Gives branch (meaning s).comment (meaning s).line)))
   IsBuilt-whole branch is none meant = (
     is.read,
     (

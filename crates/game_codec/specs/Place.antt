@@ -1,5 +1,5 @@
 -- What may stand at a place of a record's moves (this project's own, after Scid's format): a packed move, or one of five
--- marks. 11 is a glyph (NAG) of the last move and has one more byte, 12 a comment of the last move or of the line's
+-- marks. 11 is a NAG of the last move and has one more byte, 12 a comment of the last move or of the line's
 -- beginning, 13 begins a variation of the last move, 14 ends it, and 15 ends the game. The marks after a move stand in any
 -- order; those behind a variation still belong to the move that it hangs on.
 use Rattle.std.specs.Prelude.{◌≡◌, ℕ, zero, suc, ◌+◌, ◌<◌, ◌≤◌, ◌⊎◌, true, false, IsTrue, List, [], ◌∷◌, Ok, Err, drop}
@@ -49,7 +49,7 @@ abbrev pub ending : ℕ → Token
 ending zero = End
 ending (suc depth) = Close
 
--- a glyph or a variation before the first move of its line, or an end that is not the line's
+-- a NAG or a variation before the first move of its line, or an end that is not the line's
 abbrev pub IsMisplaced : Place → List ℕ → Type 0
 IsMisplaced p [] = ⊥
 IsMisplaced p (byte ∷ later) =

@@ -1,9 +1,9 @@
 ghost use Rattle.std.specs.Prelude.{◌≡◌, ◌≤◌, ℕ, List, length, IfOk, IfErr};
-ghost use Rattle.game_tree.specs.Items.{Script, items_of, meaning};
+ghost use Rattle.game_tree.specs.Movetext.{Movetext, items_of, meaning};
 ghost use Rattle.game_tree.specs.Building.{Gives};
 ghost use Rattle.game_codec.specs.Adding.{Adds, LacksText};
 ghost use Rattle.game_codec.specs.Breach.{TellsBad};
-ghost use Rattle.game_codec.specs.Scanning.{AreScripted, comments_in, dealt};
+ghost use Rattle.game_codec.specs.Scanning.{AreMovetext, comments_in, dealt};
 ghost use Rattle.game_codec.specs.Texts.{AreTexts, BreaksTexts};
 ghost use Rattle.game_codec.specs.declared.token.Token.TheVariants as token;
 
@@ -18,9 +18,9 @@ use std::alloc::Global;
 /// Makes the tree of a game's items, each comment with the next of the texts that stand behind the moves. The texts end
 /// where the record does.
 pub(crate) fn build(alloc: Global, tokens: &[Token], bytes: &[u8]) -> Result<Branch, Refusal>
-    requires scripted { AreScripted tokens.now }
+    requires movetext { AreMovetext tokens.now }
     ensures ok { IfOk result (λ branch. (texts : List (List ℕ)) × (AreTexts bytes.now texts × ((length texts ≡ comments_in tokens.now)
-        × ((s : Script) → items_of s ≡ dealt tokens.now texts → Gives branch (meaning s).comment (meaning s).line)))) }
+        × ((s : Movetext) → items_of s ≡ dealt tokens.now texts → Gives branch (meaning s).comment (meaning s).line)))) }
     ensures err { IfErr result (TellsBad (BreaksTexts (comments_in tokens.now) bytes.now)) }
 {
     let mut builder = Builder::new(alloc);
@@ -55,7 +55,7 @@ fn add(alloc: Global, builder: Builder, token: &Token, bytes: &[u8]) -> Result<A
     let builder = match *token {
         Token::Comment => return add_comment(alloc, builder, bytes),
         Token::Play(m) => builder.play(alloc, m)?,
-        Token::Nag(nag) => builder.annotate(nag)?,
+        Token::Nag(nag) => builder.nag(nag)?,
         Token::Open => builder.open(alloc)?,
         Token::Close => builder.close()?,
         Token::End => builder,

@@ -31,7 +31,7 @@ pub(crate) fn next_token(place: &Place, bytes: &[u8]) -> Result<NextToken, Recor
     }
 }
 
-/// A glyph, behind its mark.
+/// A NAG, behind its mark.
 fn nag(place: &Place, behind: &[u8]) -> Result<NextToken, RecordWhat>
     ensures takes { IfOk result (λ next. Takes place.now (11 ∷ behind.now) next.token (drop next.used (11 ∷ behind.now))) }
     ensures used { IfOk result (λ next. (next.used ≡ 2) × (1 ≤ length behind.now)) }

@@ -4,9 +4,12 @@ pub mod Head
 pub mod Settle
 pub mod Tree
 pub mod TreeCode
-pub mod Items
+pub mod Item
+pub mod Movetext
 pub mod Building
 pub mod Game
 pub mod Replay
 pub mod Legal
 pub mod Written
+pub mod Promotions
+pub mod Sought

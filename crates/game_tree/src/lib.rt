@@ -11,6 +11,7 @@ pub mod head;
 pub mod legality;
 pub mod node;
 mod open_line;
+mod promotions;
 pub mod settling;
 pub mod tag_name;
 pub mod tags;
@@ -23,7 +24,7 @@ pub use head::{Head, HeadRef, Outcome, Rating, Tag};
 pub use legality::legal;
 pub use node::{Branch, Node};
 pub use settling::settle;
-pub use tag_name::{is_reserved, is_tag_name};
+pub use tag_name::{is_reserved, is_tag_byte, is_tag_name};
 pub use tags::Tags;
 
 #[cfg(test)]

@@ -11,7 +11,7 @@ loop-token-preserved c =
 
 pub finish-requires : goal.finish-requires
 finish-requires c =
-    IsBuilt-closed c.args.tokens.now c.args.bytes.now c.loop-token.rest.now c.loop-token.builder c.requires.scripted
+    IsBuilt-closed c.args.tokens.now c.args.bytes.now c.loop-token.rest.now c.loop-token.builder c.requires.movetext
     (IsBuilt-end c.args.tokens.now c.loop-token.token-index c.args.bytes.now c.loop-token.rest.now c.loop-token.builder c.loop-token-test.false c.loop-token.invariant)
 
 pub returns-clause-ok : goal.returns-clause-ok

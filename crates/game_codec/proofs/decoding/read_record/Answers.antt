@@ -1,7 +1,7 @@
 use Rattle.std.proofs.Common.{rules, drop}
 use Rattle.game_codec.specs.Breach.{TellsBad}
 use Rattle.game_codec.specs.Flat.{FlatBreaks}
-use Rattle.game_codec.proofs.ReadLaws.{begun, scan-broken, build-broken, scripted}
+use Rattle.game_codec.proofs.ReadLaws.{begun, scan-broken, build-broken, movetext}
 use Rattle.game_codec.proofs.decoding.read_record.Goals as goal
 
 pub returns-in_err-scanned-clause-err : goal.returns-in_err-scanned-clause-err
@@ -14,7 +14,7 @@ returns-in_err-scanned-clause-err c =
 
 pub build-requires : goal.build-requires
 build-requires c = record {
-  scripted = scripted c.in_ok-start.start.start c.split_at-2.result.1.now (drop c.in_ok-scanned.scanned.used c.split_at-2.result.1.now) c.in_ok-scanned.scanned.tokens.items
+  movetext = movetext c.in_ok-start.start.start c.split_at-2.result.1.now (drop c.in_ok-scanned.scanned.used c.split_at-2.result.1.now) c.in_ok-scanned.scanned.tokens.items
       c.as_slice.result.now c.as_slice.ensures.value c.in_ok-scanned.ensures.ok;
 }
 

@@ -1,8 +1,10 @@
--- What a builder makes of the items of a script is what the script means.
+-- What a builder makes of the items of a movetext is what the movetext means.
 use Rattle.std.proofs.Common.{◌≡◌, ℕ, List, [], ◌∷◌, ◌++◌, Option, Some, None, refl, sym, ap, subst, ◌∙◌, append_assoc, append-nil}
 use Rattle.game_tree.specs.Tree.{Line, ends, goes, Branches, none, more, Played, Variation, line_of}
-use Rattle.game_tree.specs.Items.{Item, closes, Script, stop, play, nag, mark, vary, items_of, noted, joined, Said, meaning}
-use Rattle.game_tree.specs.Building.{Open, Building, fresh, opening, and_last, read_line, bare, with_move, with_nag, with_note, with_branch, with_variation, variation_of, built}
+use Rattle.game_tree.specs.Item.{Item}
+use Rattle.game_tree.specs.Item as item
+use Rattle.game_tree.specs.Movetext.{Movetext, end, move, nag, comment, variation, items_of, as_comment, joined, Said, meaning}
+use Rattle.game_tree.specs.Building.{Open, Building, fresh, opening, and_last, read_line, bare, with_move, with_nag, with_comment, with_branch, with_variation, variation_of, built}
 
 -- lines and variations one behind the other
 abbrev line_then : Line → Line → Line
@@ -60,9 +62,9 @@ with_moves (goes m n c v l) o = with_moves l (with_move (record { mv = m; nags =
 abbrev extended : Said → Open → Open
 extended r o = with_moves r.line (marked r o)
 
-marked-stop : (lead : Option (List ℕ)) (done : List Played) (last : Option Played) → marked_on (meaning stop) lead done last ≡ record { lead = lead; done = done; last = last }
-marked-stop lead done None = ap (λ (t : Option (List ℕ)). record { lead = t; done = done; last = None }) (joined-none lead)
-marked-stop lead done (Some p) =
+marked-end : (lead : Option (List ℕ)) (done : List Played) (last : Option Played) → marked_on (meaning end) lead done last ≡ record { lead = lead; done = done; last = last }
+marked-end lead done None = ap (λ (t : Option (List ℕ)). record { lead = t; done = done; last = None }) (joined-none lead)
+marked-end lead done (Some p) =
     λ i. record {
       lead = lead;
       done = done;
@@ -78,18 +80,18 @@ marked-nag n r lead done (Some p) =
       last = Some (record { mv = p.mv; nags = append_assoc p.nags (n ∷ []) r.nags i; comment = joined p.comment r.comment; variations = branches_then p.variations r.variations });
     }
 
-marked-note : (t : List ℕ) (r : Said) (lead : Option (List ℕ)) (done : List Played) (last : Option Played) → marked r (with_note t (record { lead = lead; done = done; last = last })) ≡ marked_on (record { nags = r.nags; comment = joined (noted t) r.comment; variations = r.variations; line = r.line }) lead done last
-marked-note t r lead done None = λ i. record { lead = joined-assoc lead (noted t) r.comment i; done = done; last = None }
-marked-note t r lead done (Some p) =
+marked-comment : (t : List ℕ) (r : Said) (lead : Option (List ℕ)) (done : List Played) (last : Option Played) → marked r (with_comment t (record { lead = lead; done = done; last = last })) ≡ marked_on (record { nags = r.nags; comment = joined (as_comment t) r.comment; variations = r.variations; line = r.line }) lead done last
+marked-comment t r lead done None = λ i. record { lead = joined-assoc lead (as_comment t) r.comment i; done = done; last = None }
+marked-comment t r lead done (Some p) =
     λ i. record {
       lead = lead;
       done = done;
-      last = Some (record { mv = p.mv; nags = p.nags ++ r.nags; comment = joined-assoc p.comment (noted t) r.comment i; variations = branches_then p.variations r.variations });
+      last = Some (record { mv = p.mv; nags = p.nags ++ r.nags; comment = joined-assoc p.comment (as_comment t) r.comment i; variations = branches_then p.variations r.variations });
     }
 
-marked-vary : (v : Variation) (r : Said) (lead : Option (List ℕ)) (done : List Played) (last : Option Played) → marked r (with_variation v (record { lead = lead; done = done; last = last })) ≡ marked_on (record { nags = r.nags; comment = r.comment; variations = more v.lead v.line r.variations; line = r.line }) lead done last
-marked-vary v r lead done None = refl
-marked-vary v r lead done (Some p) =
+marked-variation : (v : Variation) (r : Said) (lead : Option (List ℕ)) (done : List Played) (last : Option Played) → marked r (with_variation v (record { lead = lead; done = done; last = last })) ≡ marked_on (record { nags = r.nags; comment = r.comment; variations = more v.lead v.line r.variations; line = r.line }) lead done last
+marked-variation v r lead done None = refl
+marked-variation v r lead done (Some p) =
     λ i. record {
       lead = lead;
       done = done;
@@ -111,37 +113,37 @@ read_line-with_moves (goes m n c v l) o =
     ∙ ap (λ k. line_then k l) (line_of-push (and_last o.done o.last) (record { mv = m; nags = n; comment = c; variations = v }))
     ∙ line_then-assoc (read_line o) (goes m n c v ends) l
 
--- the items of a script, read after others and before the rest
-built-script : (s : Script) (rest : List Item) (o : Open) (outer : List Open) → built (items_of s ++ rest) (record { current = o; outer = outer }) ≡ built rest (record { current = extended (meaning s) o; outer = outer })
-built-script stop rest o outer = ap (λ (c : Open). built rest (record { current = c; outer = outer })) (sym (marked-stop o.lead o.done o.last))
-built-script (play m s) rest o outer =
-    built-script s rest (with_move (bare m) o) outer
-    ∙ ap (λ (c : Open). built rest (record { current = with_moves (goes m (meaning s).nags (meaning s).comment (meaning s).variations (meaning s).line) c; outer = outer })) (sym (marked-stop o.lead o.done o.last))
-built-script (nag n s) rest o outer =
-    built-script s rest (with_nag n o) outer
+-- the items of a movetext, read after others and before the rest
+built-movetext : (s : Movetext) (rest : List Item) (o : Open) (outer : List Open) → built (items_of s ++ rest) (record { current = o; outer = outer }) ≡ built rest (record { current = extended (meaning s) o; outer = outer })
+built-movetext end rest o outer = ap (λ (c : Open). built rest (record { current = c; outer = outer })) (sym (marked-end o.lead o.done o.last))
+built-movetext (move m s) rest o outer =
+    built-movetext s rest (with_move (bare m) o) outer
+    ∙ ap (λ (c : Open). built rest (record { current = with_moves (goes m (meaning s).nags (meaning s).comment (meaning s).variations (meaning s).line) c; outer = outer })) (sym (marked-end o.lead o.done o.last))
+built-movetext (nag n s) rest o outer =
+    built-movetext s rest (with_nag n o) outer
     ∙ ap (λ (c : Open). built rest (record { current = with_moves (meaning s).line c; outer = outer })) (marked-nag n (meaning s) o.lead o.done o.last)
-built-script (mark t s) rest o outer =
-    built-script s rest (with_note t o) outer
-    ∙ ap (λ (c : Open). built rest (record { current = with_moves (meaning s).line c; outer = outer })) (marked-note t (meaning s) o.lead o.done o.last)
-built-script (vary inner s) rest o outer =
-    ap (λ (is : List Item). built is (record { current = fresh; outer = o ∷ outer })) (append_assoc (items_of inner) (closes ∷ items_of s) rest)
-    ∙ built-script inner (closes ∷ items_of s ++ rest) fresh (o ∷ outer)
-    ∙ built-script s rest (with_variation (variation_of (extended (meaning inner) fresh)) o) outer
-    ∙ ap (λ (c : Open). built rest (record { current = with_moves (meaning s).line c; outer = outer })) (marked-vary (variation_of (extended (meaning inner) fresh)) (meaning s) o.lead o.done o.last)
+built-movetext (comment t s) rest o outer =
+    built-movetext s rest (with_comment t o) outer
+    ∙ ap (λ (c : Open). built rest (record { current = with_moves (meaning s).line c; outer = outer })) (marked-comment t (meaning s) o.lead o.done o.last)
+built-movetext (variation inner s) rest o outer =
+    ap (λ (is : List Item). built is (record { current = fresh; outer = o ∷ outer })) (append_assoc (items_of inner) (item.closes ∷ items_of s) rest)
+    ∙ built-movetext inner (item.closes ∷ items_of s ++ rest) fresh (o ∷ outer)
+    ∙ built-movetext s rest (with_variation (variation_of (extended (meaning inner) fresh)) o) outer
+    ∙ ap (λ (c : Open). built rest (record { current = with_moves (meaning s).line c; outer = outer })) (marked-variation (variation_of (extended (meaning inner) fresh)) (meaning s) o.lead o.done o.last)
     ∙ ap (λ (v : Variation). built rest (record { current = with_moves (meaning s).line (marked_on (record { nags = (meaning s).nags; comment = (meaning s).comment; variations = more v.lead v.line (meaning s).variations; line = (meaning s).line }) o.lead o.done o.last); outer = outer })) (variation-fresh (meaning inner))
   where
     variation-fresh : (r : Said) → variation_of (extended r fresh) ≡ record { lead = r.comment; line = r.line }
     variation-fresh r = λ i. record { lead = lead-with_moves r.line (marked r fresh) i; line = read_line-with_moves r.line (marked r fresh) i }
 
--- what was read from the items of a script alone
-pub record Reads (s : Script) (b : Building) : Type 0 where
+-- what was read from the items of a movetext alone
+pub record Reads (s : Movetext) (b : Building) : Type 0 where
   pub whole : b.outer ≡ []
   pub lead : b.current.lead ≡ (meaning s).comment
   pub line : read_line b.current ≡ (meaning s).line
 
-built-Reads : (s : Script) → Reads s (built (items_of s) opening)
+built-Reads : (s : Movetext) → Reads s (built (items_of s) opening)
 built-Reads s =
-    let all = ap (λ (is : List Item). built is opening) (sym (append-nil (items_of s))) ∙ built-script s [] fresh [] in
+    let all = ap (λ (is : List Item). built is opening) (sym (append-nil (items_of s))) ∙ built-movetext s [] fresh [] in
     let said : Reads s (record { current = extended (meaning s) fresh; outer = [] }) = record {
       whole = refl;
       lead = lead-with_moves (meaning s).line (marked (meaning s) fresh);
@@ -149,5 +151,5 @@ built-Reads s =
     } in
     subst (Reads s) (sym all) said
 
-pub built-items_of : (s : Script) (b : Building) → b ≡ built (items_of s) opening → Reads s b
+pub built-items_of : (s : Movetext) (b : Building) → b ≡ built (items_of s) opening → Reads s b
 built-items_of s b e = subst (Reads s) (sym e) (built-Reads s)
