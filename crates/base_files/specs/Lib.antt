@@ -4,6 +4,7 @@ pub mod Chosen
 pub mod Causes
 pub mod Parts
 pub mod Seen
+pub mod Extents
 pub mod Inputs
 pub mod Planned
 pub mod Feeds

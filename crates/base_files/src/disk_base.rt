@@ -147,8 +147,9 @@ impl<F: Read + Write + Seek + OpenFile> DiskBase<F> {
     ) -> io::Result<()> {
         let path = self.paths.of(part);
         let beside = format!(in alloc; "{path}.new")?;
-        let outcome = write_whole(system, &beside, bytes)
-            .and_then(|()| fs::rename(system, &beside, path));
+        let outcome = write_whole(system, &beside, bytes).and_then(|()| fs::rename(
+            system, &beside, path,
+        ));
         if outcome.is_err() {
             let _ = fs::remove_file(system, &beside);
         }

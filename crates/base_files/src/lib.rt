@@ -4,6 +4,7 @@
 mod chosen;
 mod disk_base;
 mod disk_files;
+mod extent;
 mod fault_count;
 mod faults;
 mod files;
@@ -22,6 +23,7 @@ mod tests;
 mod writing;
 
 pub use disk_files::DiskFiles;
+pub use extent::Extent;
 pub use faults::{DeviceError, Failed, Stop};
 pub use files::Files;
 pub use mem_files::MemFiles;

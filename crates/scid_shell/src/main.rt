@@ -73,11 +73,11 @@ fn flushed(status: Status, outcome: Result<(), DeviceError>) -> Status
 
 /// Says on standard error how the session ended, unless it is done, and gives the exit code.
 fn end(rt: &HostRuntime, status: Status) -> ExitCode {
-    if let Some(line) = message(status) {
-        let _ = eprintln!(rt; "{line}");
-    }
-    if let Status::BadRecord { game, fault } = status {
-        let _ = eprintln!(rt; "bad record: game {game}, {fault}");
-    }
+    let line = message(&status);
+    let _ = match status {
+        Status::Done => Ok(()),
+        Status::BadRecord { game, fault } => eprintln!(rt; "{line}game {game}, {fault}"),
+        _ => eprintln!(rt; "{line}"),
+    };
     ExitCode::from(status.exit_code())
 }

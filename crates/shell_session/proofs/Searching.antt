@@ -12,7 +12,8 @@ use Rattle.shell_session.specs.declared.status.Status.TheVariants.{Done, Later, 
 use Rattle.shell_session.specs.declared.status.LaterWhat.TheVariants as later
 use Rattle.game_codec.specs.Fault.{IsRecordFault}
 use Rattle.shell_session.specs.FindLine.{FindScript}
-use Rattle.shell_session.specs.IndexFile.{extent_at, game_count, record_in, records, records_len}
+use Rattle.base_files.specs.Extents.{record_in}
+use Rattle.shell_session.specs.IndexFile.{extent_at, game_count, records, records_len}
 use Rattle.shell_session.specs.Refusals.{GameRefused, SearchRefused}
 use Rattle.shell_session.specs.Session.{Hit, IsSomeRecord, IsFirstFaulty}
 

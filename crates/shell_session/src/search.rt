@@ -2,17 +2,18 @@
 
 ghost use Rattle.std.specs.Prelude.{◌≡◌, ◌≤◌, ◌<◌, ◌+◌, ◌^◌, ℕ, [], ◌∷◌, ◌++◌, Option, length, IfOk, IfErr, IfSome, OnOk};
 ghost use Rattle.base_files.specs.Counters.{Rose};
-ghost use Rattle.shell_session.specs.IndexFile.{IsIndex, IsPlaced, extent_at, game_count, record_in, records_len};
+ghost use Rattle.base_files.specs.Extents.{IsPlaced, record_in};
+ghost use Rattle.shell_session.specs.IndexFile.{IsIndex, extent_at, game_count, records_len};
 ghost use Rattle.game_codec.specs.Fault.{IsRecordFault};
 ghost use Rattle.shell_session.specs.Refusals.{GameRefused, SearchRefused};
 ghost use Rattle.shell_session.specs.Session.{AreHits, Hit};
 ghost use Rattle.game_codec.specs.declared.fault.RecordFault.{RecordFault as Refused};
 
-use crate::index_file::{BLOCK_LEN, Extent, count_of, extent_of_game};
+use crate::index_file::{BLOCK_LEN, count_of, extent_of_game};
 use crate::main_line::first_ply;
 use crate::placed::Placed;
 use crate::status::Status;
-use base_files::Files;
+use base_files::{Extent, Files};
 use game_codec::{DecodeError, RecordFault, decode_game};
 use std::alloc::Global;
 
