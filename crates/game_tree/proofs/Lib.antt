@@ -2,6 +2,7 @@ pub mod DecimalLemmas
 pub mod DateLemmas
 pub mod SettleLemmas
 pub mod BuildingLemmas
+pub mod KeptLemmas
 pub mod MovetextLemmas
 pub mod TreeLemmas
 pub mod LegalLemmas

@@ -8,6 +8,7 @@ pub mod Item
 pub mod Movetext
 pub mod Building
 pub mod Game
+pub mod Kept
 pub mod Replay
 pub mod Legal
 pub mod Written

@@ -4,7 +4,6 @@
 
 pub mod bounds;
 pub mod builder;
-mod copying;
 pub mod date;
 pub mod game;
 pub mod head;
