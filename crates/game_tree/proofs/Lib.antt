@@ -1,4 +1,5 @@
 pub mod DecimalLemmas
+pub mod EcoLemmas
 pub mod DateLemmas
 pub mod SettleLemmas
 pub mod BuildingLemmas

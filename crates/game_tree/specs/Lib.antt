@@ -1,4 +1,7 @@
+pub mod Decimal
 pub mod Date
+pub mod Outcome
+pub mod Eco
 pub mod TagName
 pub mod Head
 pub mod Settle
