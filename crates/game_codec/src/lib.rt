@@ -7,7 +7,6 @@ mod building;
 mod decoding;
 mod encoding;
 mod fault;
-mod flags;
 mod moves;
 mod one_reading;
 mod open_lines;

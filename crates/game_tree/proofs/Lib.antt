@@ -4,6 +4,8 @@ pub mod DateLemmas
 pub mod SettleLemmas
 pub mod BuildingLemmas
 pub mod KeptLemmas
+pub mod CountLemmas
+pub mod CommentLemmas
 pub mod MovetextLemmas
 pub mod TreeLemmas
 pub mod LegalLemmas

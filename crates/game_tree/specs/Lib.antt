@@ -17,3 +17,6 @@ pub mod Legal
 pub mod Written
 pub mod Promotions
 pub mod Sought
+pub mod Counts
+pub mod Counting
+pub mod Comments
