@@ -6,7 +6,8 @@ use Rattle.game_tree.specs.Building.{opening, built}
 use Rattle.game_tree.proofs.ScriptLemmas.{built-items_of}
 use Rattle.game_tree.specs.declared.head.Tag.{Tag}
 use Rattle.move_codec.specs.Numbers.{Numbered}
-use Rattle.game_codec.specs.TagSpelling.{BeginsTags, free_of}
+use Rattle.game_tree.specs.TagName.{free_of}
+use Rattle.game_codec.specs.TagSpelling.{BeginsTags}
 use Rattle.game_codec.specs.Start.{BeginsStart, BreaksStart}
 use Rattle.game_codec.specs.Texts.{AreTexts, BreaksTexts, texts_of}
 use Rattle.game_codec.specs.Record.{IsRecord, game_of}

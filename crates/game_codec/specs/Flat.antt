@@ -5,7 +5,8 @@ use Rattle.game_tree.specs.Game.{GameTree}
 use Rattle.game_tree.specs.Items.{Script, items_of, meaning}
 use Rattle.game_tree.specs.declared.head.Tag.{Tag}
 use Rattle.move_codec.specs.Numbers.{Numbered}
-use Rattle.game_codec.specs.TagSpelling.{BeginsTags, free_of}
+use Rattle.game_tree.specs.TagName.{free_of}
+use Rattle.game_codec.specs.TagSpelling.{BeginsTags}
 use Rattle.game_codec.specs.Start.{BeginsStart}
 use Rattle.game_codec.specs.Texts.{AreTexts, BreaksTexts}
 use Rattle.game_codec.specs.Fault.{BreaksInTags, BreaksInStart}

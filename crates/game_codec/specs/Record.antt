@@ -6,7 +6,8 @@ use Rattle.game_tree.specs.Items.{Script, Said, meaning}
 use Rattle.game_tree.specs.declared.head.Tag.{Tag}
 use Rattle.chess_laws.specs.declared.setup.Setup.{Setup}
 use Rattle.move_codec.specs.Numbers.{Numbered}
-use Rattle.game_codec.specs.TagSpelling.{BeginsTags, free_of}
+use Rattle.game_tree.specs.TagName.{free_of}
+use Rattle.game_codec.specs.TagSpelling.{BeginsTags}
 use Rattle.game_codec.specs.Start.{BeginsStart}
 use Rattle.game_codec.specs.Place.{beginning}
 use Rattle.game_codec.specs.Moves.{SpellsMoves}

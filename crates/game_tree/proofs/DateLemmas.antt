@@ -6,9 +6,10 @@ use Rattle.std.specs.Char.{is_ascii_digit}
 use Rattle.std.proofs.lemmas.Bool.{cases_Bool, and_parts, eqb-true, leb-true, cases_lt}
 use Rattle.std.proofs.lemmas.Option.{same_Some, none-some}
 use Rattle.std.proofs.lemmas.List.Elements.{All-from_recursion}
+use Rattle.std.proofs.Math.Nat.{div-div-eq-div-mul}
 use native.Mathlib.Nat.{suc-ne-zero}
 use Rattle.game_tree.specs.Head.{IsName}
-use Rattle.game_tree.specs.Date.{IsDate, shown, date_text, decimal, part, of_parts, dated, date_read}
+use Rattle.game_tree.specs.Date.{IsDate, date_number, date_of, shown, date_text, decimal, part, of_parts, dated, date_read}
 use Rattle.game_tree.specs.declared.date.Date.{Date}
 
 -- a test holds of every number below a bound
@@ -121,3 +122,20 @@ date_text-IsName d =
     }
 
 pub ruleset reading_back = (date_read-date_text)
+
+-- A date within its bounds is that of its number, and each number is that of its date.
+pub date_of-date_number : (d : Date) → IsDate d → date_of (date_number d) ≡ d
+date_of-date_number d is =
+    let month = is.month in
+    let day = is.day in
+    let year_is : date_number d / 512 ≡ d.year = omega arith in
+    let month_is : date_number d / 32 % 16 ≡ d.month = omega arith in
+    let day_is : date_number d % 32 ≡ d.day = omega arith in
+    rw (year_is, month_is, day_is) refl
+
+pub date_number-date_of : (n : ℕ) → date_number (date_of n) ≡ n
+date_number-date_of n =
+    let d : n / 32 / 16 ≡ n / 512 = div-div-eq-div-mul n 32 16 in
+    omega arith
+
+pub ruleset numbering = (date_of-date_number, date_number-date_of)

@@ -1,5 +1,5 @@
 -- Dates of games and events and their texts (PGN standard, 8.1.1.3: year, month and day, question marks where unknown).
-use Rattle.std.specs.Prelude.{ℕ, ◌+◌, ◌-◌, ◌*◌, ◌/◌, ◌%◌, ◌≤◌, Bool, ◌&&◌, ◌==◌, nat_le, if◌then◌else◌, List, [], ◌∷◌, length, slice_index, slice_range, fold, Option, Some, None, codes}
+use Rattle.std.specs.Prelude.{ℕ, ◌+◌, ◌-◌, ◌*◌, ◌/◌, ◌%◌, ◌≤◌, Bool, ◌&&◌, ◌||◌, ◌==◌, nat_le, if◌then◌else◌, List, [], ◌∷◌, length, slice_index, slice_range, fold, Option, Some, None, codes}
 use Rattle.std.specs.List.{list_all}
 use Rattle.std.specs.Char.{is_ascii_digit}
 use Rattle.game_tree.specs.declared.date.Date.{Date}
@@ -68,8 +68,20 @@ date_read text =
     then dated (slice_range text 0 4) (slice_range text 5 7) (slice_range text 8 10)
     else None
 
+-- A date as one number (after Scid's format): the day in the lowest five bits, the month in four, the year above.
+abbrev pub date_number : Date → ℕ
+date_number d = d.year * 512 + d.month * 32 + d.day
+
+-- The date of such a number.
+abbrev pub date_of : ℕ → Date
+date_of number = record { year = number / 512; month = number / 32 % 16; day = number % 32 }
+
 -- the rule of event dates (this project's own): a known year that differs by at most 3 from the game's known year
 abbrev pub is_near : Date → Date → Bool
 is_near event game =
     nat_le 1 event.year && nat_le event.year 2047 && nat_le 1 game.year
     && nat_le event.year (game.year + 3) && nat_le game.year (event.year + 3)
+
+-- An event date keeps the rule where it is unknown or within the rule.
+abbrev pub keeps_rule : Date → Date → Bool
+keeps_rule event game = is_unknown event || is_near event game

@@ -1,9 +1,9 @@
-ghost use Rattle.std.specs.Prelude.{◌≡◌, ◌==◌, ◌≤◌, length, IfSome};
+ghost use Rattle.std.specs.Prelude.{◌≡◌, ◌==◌, ◌≤◌, ◌<◌, ◌^◌, length, IfSome};
 ghost use Rattle.std.specs.List.{AllPass, list_all};
 ghost use Rattle.std.specs.Bool.{OnTrue};
 ghost use Rattle.std.specs.Char.{is_ascii_digit};
 ghost use Rattle.cell_core.specs.Text.{IsZeroFree};
-ghost use Rattle.game_tree.specs.Date.{IsDate, unknown_date, is_unknown, shown, date_text, decimal, part, dated, date_read, is_near};
+ghost use Rattle.game_tree.specs.Date.{IsDate, unknown_date, is_unknown, date_number, date_of, keeps_rule, shown, date_text, decimal, part, dated, date_read, is_near};
 
 /// A date of a game or an event; a part that is 0 is unknown. A date that is kept has a year of at most 2047, a month
 /// of at most 12 and a day of at most 31.
@@ -46,6 +46,32 @@ impl Date {
             && game_year <= event_year + 3
     }
 
+    /// Whether an event of a game of the date `game` may keep this date: it is unknown, or it is near the game's.
+    pub fn keeps_rule(&self, game: Date) -> bool
+        ensures rule { result ≡ keeps_rule self.now game }
+    {
+        self.is_unknown() || self.is_near(game)
+    }
+
+    /// The date as one number, `year * 512 + month * 32 + day`.
+    #[tactic(auto, using(crate::proofs::DateLemmas::numbering))]
+    pub fn number(&self) -> u32
+        ensures number { result ≡ date_number self.now }
+        ensures back { IsDate self.now → date_of result ≡ self.now }
+    {
+        number_of(*self)
+    }
+
+    /// The date of such a number. Every number below 2^25 is that of its date.
+    #[tactic(auto, using(crate::proofs::DateLemmas::numbering))]
+    pub fn of_number(number: u32) -> Date
+        requires { number < 2 ^ 25 }
+        ensures date { result ≡ date_of number }
+        ensures number { date_number result ≡ number }
+    {
+        numbered(number)
+    }
+
     /// The text of the date, as `1994.05.??` (PGN standard, section 8.1.1.3).
     #[tactic(auto, using(crate::proofs::DateLemmas::reading_back))]
     pub fn text(&self) -> [u8; 10]
@@ -73,6 +99,25 @@ impl Date {
             ),
             _ => None,
         }
+    }
+}
+
+// The number of a date, without its law.
+fn number_of(date: Date) -> u32
+    ensures { result ≡ date_number date }
+{
+    u32::from(date.year) * 512 + u32::from(date.month) * 32 + u32::from(date.day)
+}
+
+// The date of a number, without its law.
+fn numbered(number: u32) -> Date
+    requires { number < 2 ^ 25 }
+    ensures { result ≡ date_of number }
+{
+    Date {
+        year: (number / 512) as u16,
+        month: (number / 32 % 16) as u8,
+        day: (number % 32) as u8,
     }
 }
 

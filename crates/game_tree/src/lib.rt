@@ -23,7 +23,7 @@ pub use head::{Head, HeadRef, Outcome, Rating, Tag};
 pub use legality::legal;
 pub use node::{Branch, Node};
 pub use settling::settle;
-pub use tag_name::{is_reserved, is_tag_name};
+pub use tag_name::{is_reserved, is_tag_byte, is_tag_name};
 pub use tags::Tags;
 
 #[cfg(test)]

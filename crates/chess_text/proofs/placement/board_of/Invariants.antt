@@ -1,7 +1,7 @@
 use Rattle.std.proofs.Common.{◌≡◌, ℕ, List, ◌<◌, ◌≤◌, length, drop}
 use Rattle.cell_core.specs.Board.{Men}
 use Rattle.chess_text.specs.Filling.{board_named, filled}
-use Rattle.chess_text.proofs.placement.fill.Given as goal
+use Rattle.chess_text.proofs.placement.board_of.Given as goal
 
 -- what is left of the text fills the rest of the board as the whole text fills the empty one
 pub record Fills (rank file : ℕ) (board : Men) (left text : List ℕ) : Type 0 where
