@@ -1,7 +1,7 @@
 -- The number that a run of places spells, by the big-endian number of the bytes around it.
-use Rattle.std.proofs.Common.{◌≡◌, ◌≤◌, ◌<◌, ◌+◌, ◌-◌, ◌*◌, ◌^◌, ◌/◌, ◌%◌, ℕ, zero, suc, List, [], ◌∷◌, ◌++◌, length, get_or, refl, sym, ap, subst, ◌∙◌, arith, ◌⊎◌, inl, inr}
-use Rattle.std.proofs.lemmas.List.{length-append}
-use Rattle.std.proofs.lemmas.Nat.{pow-add, shr-shr, mod-pow-add, pow_pos}
+use Rattle.std.proofs.Common.{◌≡◌, ◌≤◌, ◌<◌, ◌+◌, ◌-◌, ◌*◌, ◌^◌, ◌/◌, ◌%◌, ℕ, zero, suc, List, [], ◌∷◌, ◌++◌, length, drop, get_or, refl, sym, ap, subst, ◌∙◌, arith, inl, inr}
+use Rattle.std.proofs.lemmas.List.{length-append, get_or-drop}
+use Rattle.std.proofs.lemmas.Nat.{pow-add, shr-shr, mod-pow-add}
 use Rattle.std.proofs.lemmas.Nat.Bits.{bit_at_cat_low, bit_at_cat_high}
 use Rattle.std.proofs.lemmas.Bool.{cases_lt}
 use Rattle.std.specs.Int.{bit_at}
@@ -12,6 +12,9 @@ use Rattle.index_entry.specs.Bits.{bit_in, field, run}
 -- A list of bytes.
 abbrev pub IsBytes : List ℕ → Type 0
 IsBytes bytes = (i : ℕ) → get_or bytes i 0 < 256
+
+pub IsBytes-drop : (n : ℕ) (bytes : List ℕ) → IsBytes bytes → IsBytes (drop n bytes)
+IsBytes-drop n bytes h i = rw get_or-drop (h (n + i))
 
 pub pow_256 : (m : ℕ) → 256 ^ m ≡ 2 ^ (8 * m)
 pow_256 zero = refl
@@ -37,8 +40,8 @@ bit_of_number bytes k (suc m) p q h low e =
     let small : big_from (suc k) m bytes < 2 ^ (8 * m) = subst (λ n. big_from (suc k) m bytes < n) (pow_256 m) (big_from-lt (suc k) m bytes h) in
     let whole : bit_in bytes p ≡ bit_at (get_or bytes k 0 * 2 ^ (8 * m) + big_from (suc k) m bytes) q =
     elim (cases_lt p (8 * suc k)) [
-      inl lt ↦ first_of_byte bytes k p q m low lt (omega arith) ∙ sym (bit_at_cat_high (get_or bytes k 0) (8 * m) (big_from (suc k) m bytes) q small (omega arith))
-    | inr ge ↦ bit_of_number bytes (suc k) m p q h ge (omega arith) ∙ sym (bit_at_cat_low (get_or bytes k 0) (8 * m) (big_from (suc k) m bytes) q (omega arith))
+      | inl lt ↦ first_of_byte bytes k p q m low lt (omega arith) ∙ sym (bit_at_cat_high (get_or bytes k 0) (8 * m) (big_from (suc k) m bytes) q small (omega arith))
+      | inr ge ↦ bit_of_number bytes (suc k) m p q h ge (omega arith) ∙ sym (bit_at_cat_low (get_or bytes k 0) (8 * m) (big_from (suc k) m bytes) q (omega arith))
     ] in
     whole ∙ ap (λ n. bit_at (get_or bytes k 0 * n + big_from (suc k) m bytes) q) (sym (pow_256 m))
 

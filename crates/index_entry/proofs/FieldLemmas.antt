@@ -1,8 +1,10 @@
 -- Each field by the bytes around it.
-use Rattle.std.proofs.Common.{◌≡◌, ◌≤◌, ◌<◌, ◌+◌, ◌-◌, ◌*◌, ◌^◌, ◌/◌, ◌%◌, ℕ, zero, suc, List, [], ◌∷◌, ◌++◌, length, get_or, refl, sym, ap, subst, ◌∙◌, arith}
+use Rattle.std.proofs.Common.{◌≡◌, ◌+◌, ◌*◌, ◌/◌, ◌%◌, ℕ, List, get_or, refl, ◌∙◌, arith, inl, inr, eq-eqb}
+use Rattle.std.proofs.lemmas.Bool.{cases_eq, ne_eqb}
+use Rattle.index_entry.specs.Reading.{half}
 use Rattle.byteorder.specs.Endian.{big_from}
-use Rattle.index_entry.specs.Bits.{field, run, bits, bytes}
-use Rattle.index_entry.specs.Places.{offset, len, spare, marks, deleted, under, promo, own_start, white, black, event, site, round, outcome, nags, comments, vars, eco, event_code, event_month, event_day, year, month, day, white_kind, white_value, black_kind, black_value, stored_line, plies, home_count, home_value}
+use Rattle.index_entry.specs.Bits.{field, bits}
+use Rattle.index_entry.specs.Places.{offset, len, spare, marks, deleted, under, promo, own_start, white, black, event, site, round, outcome, nags, comments, vars, eco, event_code, event_month, event_day, date, white_kind, white_value, black_kind, black_value, stored_line, plies, home_count, home_value}
 use Rattle.index_entry.proofs.BitLemmas.{IsBytes, field-run, field-append}
 
 pub offset-is : (b : List ℕ) → IsBytes b → field b offset ≡ big_from 0 4 b / 1 % 4294967296
@@ -61,17 +63,9 @@ pub event_day-is : (b : List ℕ) → IsBytes b → field b event_day ≡ big_fr
 unfolding event_day
 event_day-is b h = field-run b 25 4 207 5 20 h (omega arith) refl
 
-pub year-is : (b : List ℕ) → IsBytes b → field b year ≡ big_from 25 4 b / 512 % 2048
-unfolding year
-year-is b h = field-run b 25 4 212 11 9 h (omega arith) refl
-
-pub month-is : (b : List ℕ) → IsBytes b → field b month ≡ big_from 25 4 b / 32 % 16
-unfolding month
-month-is b h = field-run b 25 4 223 4 5 h (omega arith) refl
-
-pub day-is : (b : List ℕ) → IsBytes b → field b day ≡ big_from 25 4 b / 1 % 32
-unfolding day
-day-is b h = field-run b 25 4 227 5 0 h (omega arith) refl
+pub date-is : (b : List ℕ) → IsBytes b → field b date ≡ big_from 25 4 b / 1 % 1048576
+unfolding date
+date-is b h = field-run b 25 4 212 20 0 h (omega arith) refl
 
 pub white_kind-is : (b : List ℕ) → IsBytes b → field b white_kind ≡ big_from 29 2 b / 4096 % 16
 unfolding white_kind
@@ -152,3 +146,14 @@ plies-is b h =
     let high = field-run b 38 1 304 2 6 h (omega arith) refl in
     let low = field-run b 37 1 296 8 0 h (omega arith) refl in
     field-append b (bits 38 0 2) (bits 37 0 8) ∙ (λ i. high i * 256 + low i)
+
+pub home_value-is : (b : List ℕ) (i : ℕ) → IsBytes b → field b (home_value i) ≡ half (get_or b (39 + i / 2) 0) i
+unfolding home_value
+home_value-is b i h = elim (cases_eq (i % 2) 0) [
+  | inl e ↦
+      let high = field-run b (39 + i / 2) 1 (8 * 39 + 4 * i) 4 4 h (omega arith) (omega arith) in
+      rw (eq-eqb (i % 2) 0 e) (omega (arith, high, h (39 + i / 2)))
+  | inr ne ↦
+      let low = field-run b (39 + i / 2) 1 (8 * 39 + 4 * i) 4 0 h (omega arith) (omega arith) in
+      rw (ne_eqb (i % 2) 0 ne) (omega (arith, low, h (39 + i / 2)))
+]

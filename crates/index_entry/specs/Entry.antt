@@ -1,7 +1,7 @@
 -- What the 47 bytes of an entry say of a game, and which bytes say it (Scid's format si4, version 400; the codes this project's own).
-use Rattle.std.specs.Prelude.{◌≡◌, ◌≤◌, ◌<◌, ◌^◌, ◌+◌, ◌-◌, ℕ, zero, suc, Bool, ◌&&◌, ◌||◌, not, nat_eq, nat_le, nat_lt, IsTrue, if◌then◌else◌, List, [], ◌∷◌, ◌++◌, length, map, slice_index, Option, Some, None, Result, Ok, Err}
-use Rattle.std.specs.List.{range_with_len}
-use Rattle.game_tree.specs.Date.{IsDate, unknown_date, is_unknown, is_near}
+use Rattle.std.specs.Prelude.{◌≡◌, ◌≤◌, ◌<◌, ◌^◌, ◌+◌, ◌-◌, ℕ, zero, suc, Bool, ◌&&◌, ◌||◌, nat_eq, nat_lt, IsTrue, if◌then◌else◌, List, [], ◌∷◌, ◌++◌, length, map, slice_index, Option, Some, None, Result, Ok, Err}
+use Rattle.std.specs.List.{list_any, range_with_len}
+use Rattle.game_tree.specs.Date.{IsDate, unknown_date, date_of, keeps_rule}
 use Rattle.game_tree.specs.Head.{IsRating}
 use Rattle.game_tree.specs.declared.date.Date.{Date}
 use Rattle.game_tree.specs.declared.head.Outcome.{Outcome}
@@ -10,7 +10,7 @@ use Rattle.game_tree.specs.declared.head.Rating.{Rating}
 use Rattle.index_entry.specs.declared.entry.Entry.{Entry}
 use Rattle.index_entry.specs.declared.fault.EntryFault.{EntryFault}
 use Rattle.index_entry.specs.declared.fault.EntryFault.TheVariants as faults
-use Rattle.index_entry.specs.Bits.{field}
+use Rattle.index_entry.specs.Bits.{bit_in, field}
 use Rattle.index_entry.specs.Places as places
 
 -- The result of a code: 0 unknown, 1 White, 2 Black, 3 draw.
@@ -21,22 +21,22 @@ outcome_of code =
     else if nat_eq code 3 then outcomes.Draw
     else outcomes.Unknown
 
--- The game's date.
+-- The game's date, by its number.
 abbrev pub date_in : List ℕ → Date
-date_in bytes = record { year = field bytes places.year; month = field bytes places.month; day = field bytes places.day }
+date_in bytes = date_of (field bytes places.date)
 
 -- An event date is there where its code is not 0, the game's year is known, and the event's year, the game's and the code less 4, is from 1 to 2047.
 abbrev pub has_event_date : ℕ → ℕ → Bool
 has_event_date year code = nat_lt 0 code && nat_lt 0 year && nat_lt 4 (year + code) && nat_lt (year + code) 2052
 
--- The event date of a game's year and three numbers.
+-- The event date of a game of this year, of three numbers.
 abbrev pub event_date_of : ℕ → ℕ → ℕ → ℕ → Date
 event_date_of year code month day =
     if has_event_date year code then record { year = (year + code) - 4; month = month; day = day } else unknown_date
 
 abbrev pub event_date_in : List ℕ → Date
 event_date_in bytes =
-    event_date_of (field bytes places.year) (field bytes places.event_code) (field bytes places.event_month) (field bytes places.event_day)
+    event_date_of (date_in bytes).year (field bytes places.event_code) (field bytes places.event_month) (field bytes places.event_day)
 
 -- A rating: a value of 0 is no rating, whatever the kind.
 abbrev pub rating_of : ℕ → ℕ → Rating
@@ -85,7 +85,7 @@ unfoldable pub fault_in : List ℕ → Option EntryFault
 fault_in bytes =
     if nat_lt 3 (field bytes places.outcome) then Some faults.Result
     else if nat_lt 65500 (field bytes places.eco) then Some faults.Eco
-    else if nat_lt 12 (field bytes places.month) || nat_lt 12 (event_date_in bytes).month then Some faults.Date
+    else if nat_lt 12 (date_in bytes).month || nat_lt 12 (event_date_in bytes).month then Some faults.Date
     else if is_bad_rating (field bytes places.white_kind) (field bytes places.white_value)
     || is_bad_rating (field bytes places.black_kind) (field bytes places.black_value)
     then Some faults.Rating
@@ -106,18 +106,18 @@ home_from i (suc count) = places.home_value i ++ home_from (suc i) count
 
 -- The bits of an event date.
 abbrev pub event_places : List ℕ
-event_places = places.event_code ++ places.event_month ++ places.event_day
+event_places = places.event_code ++ (places.event_month ++ places.event_day)
 
 -- The places that say nothing: the spare bit, the code of a stored line, the home values past the end of their list, the kind of no
 -- rating, and the bits of an event date where there is none.
 unfoldable pub free_places : List ℕ → List ℕ
 free_places bytes =
     places.spare
-    ++ places.stored_line
-    ++ home_from (field bytes places.home_count) (16 - field bytes places.home_count)
-    ++ (if nat_eq (field bytes places.white_value) 0 then places.white_kind else [])
-    ++ (if nat_eq (field bytes places.black_value) 0 then places.black_kind else [])
-    ++ (if has_event_date (field bytes places.year) (field bytes places.event_code) then [] else event_places)
+    ++ (places.stored_line
+    ++ (home_from (field bytes places.home_count) (16 - field bytes places.home_count)
+    ++ ((if nat_eq (field bytes places.white_value) 0 then places.white_kind else [])
+    ++ ((if nat_eq (field bytes places.black_value) 0 then places.black_kind else [])
+    ++ (if has_event_date (date_in bytes).year (field bytes places.event_code) then [] else event_places)))))
 
 -- The written form of an entry: the 47 bytes that say it, with zeros in all places that say nothing.
 pub record IsWritten (bytes : List ℕ) (entry : Entry) : Type 0 where
@@ -151,10 +151,18 @@ pub record IsEntry (e : Entry) : Type 0 where
   pub eco : e.eco ≤ 65500
   pub date : IsDate e.date
   pub event_date : IsDate e.event_date
-  pub event_rule : IsTrue (is_unknown e.event_date || is_near e.event_date e.date)
+  pub event_rule : IsTrue (keeps_rule e.event_date e.date)
   pub white_rating : IsRating e.white_rating
   pub black_rating : IsRating e.black_rating
   pub material : AreCounts e.material
   pub plies : e.plies < 1024
   pub home_count : e.home_count < 64
   pub home : AreHomeValues e.home_count e.home
+
+-- A place is among some.
+abbrev pub is_among : ℕ → List ℕ → Bool
+is_among place places = list_any (nat_eq place) places
+
+-- These bytes are those with zeros in the places of theirs that say nothing.
+abbrev pub AreCleared : List ℕ → List ℕ → Type 0
+AreCleared bytes cleared = (place : ℕ) → place < 376 → bit_in cleared place ≡ (if is_among place (free_places bytes) then 0 else bit_in bytes place)

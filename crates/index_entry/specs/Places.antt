@@ -1,7 +1,6 @@
 -- Where each field of an entry stands (Scid's format si4, version 400; the marks, the codes and the home pawns this project's own).
 -- `bits byte skipped count` are bits of what begins at a byte, from its highest bit on; `bytes byte count` are whole bytes.
-use Rattle.std.specs.Prelude.{ℕ, ◌+◌, ◌*◌, List, [], ◌∷◌, ◌++◌, map}
-use Rattle.std.specs.List.{range_with_len}
+use Rattle.std.specs.Prelude.{ℕ, ◌*◌, List, [], ◌∷◌, ◌++◌}
 use Rattle.index_entry.specs.Bits.{bits, bytes}
 
 -- 0 to 3: where the record begins in the games file.
@@ -76,7 +75,11 @@ vars = bits 21 12 4
 unfoldable pub eco : List ℕ
 eco = bytes 23 2
 
--- 25 to 28: the dates. The high 12 bits are the event date: 3 bits for its year, 4 for the month, 5 for the day.
+-- 25 to 28: the dates. The low 20 bits are the number of the game's date.
+unfoldable pub date : List ℕ
+date = bits 25 12 20
+
+-- The dates: the high 12 bits are the event date, 3 bits for its year, 4 for the month, 5 for the day.
 unfoldable pub event_code : List ℕ
 event_code = bits 25 0 3
 
@@ -85,16 +88,6 @@ event_month = bits 25 3 4
 
 unfoldable pub event_day : List ℕ
 event_day = bits 25 7 5
-
--- The dates: the low 20 bits are the game's date: 11 bits for the year, 4 for the month, 5 for the day.
-unfoldable pub year : List ℕ
-year = bits 25 12 11
-
-unfoldable pub month : List ℕ
-month = bits 25 23 4
-
-unfoldable pub day : List ℕ
-day = bits 25 27 5
 
 -- 29, 30: White's rating. The high 4 bits are its kind, the low 12 its value.
 unfoldable pub white_kind : List ℕ

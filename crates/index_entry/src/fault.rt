@@ -17,3 +17,23 @@ pub enum EntryFault {
     #[error("no such kind of rating")]
     Rating,
 }
+
+/// What is wrong with an index.
+#[derive(Clone, Copy, Debug, Drop, PartialEq, Eq, Hash, Error)]
+pub enum IndexFault {
+    /// So many bytes, fewer than those of the header.
+    #[error("an index of {0} bytes, which is no whole header")]
+    Short(u64),
+    /// The file does not begin with `Scid.si` and a zero byte.
+    #[error("not an index")]
+    Magic,
+    /// A version that is not read.
+    #[error("an index of version {0}")]
+    Version(u16),
+    /// More games than a base holds.
+    #[error("an index of {0} games, which are too many")]
+    Games(u32),
+    /// So many bytes, fewer than those of the header and the entries.
+    #[error("an index of {0} bytes, which are too few for its games")]
+    Length(u64),
+}
