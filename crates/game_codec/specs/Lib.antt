@@ -2,6 +2,7 @@ pub mod TagSpelling
 pub mod TagReading
 pub mod TagParts
 pub mod Start
+pub mod Token
 pub mod Place
 pub mod Moves
 pub mod Texts
@@ -14,3 +15,5 @@ pub mod Writing
 pub mod Nests
 pub mod Adding
 pub mod Flat
+pub mod Walk
+pub mod Walking

@@ -1,7 +1,7 @@
 -- Dates of games and events and their texts (PGN standard, 8.1.1.3: year, month and day, question marks where unknown).
-use Rattle.std.specs.Prelude.{ℕ, ◌+◌, ◌-◌, ◌*◌, ◌/◌, ◌%◌, ◌≤◌, Bool, ◌&&◌, ◌||◌, ◌==◌, nat_le, if◌then◌else◌, List, [], ◌∷◌, length, slice_index, slice_range, fold, Option, Some, None, codes}
+use Rattle.std.specs.Prelude.{ℕ, ◌+◌, ◌*◌, ◌/◌, ◌%◌, ◌≤◌, Bool, ◌&&◌, ◌||◌, ◌==◌, nat_le, if◌then◌else◌, List, [], ◌∷◌, length, slice_index, slice_range, Option, Some, None, codes}
 use Rattle.std.specs.List.{list_all}
-use Rattle.std.specs.Char.{is_ascii_digit}
+use Rattle.game_tree.specs.Decimal.{decimal_read}
 use Rattle.game_tree.specs.declared.date.Date.{Date}
 
 -- the date of which nothing is known
@@ -36,16 +36,10 @@ date_text d =
     ∷ shown d.day d.day
     ∷ []
 
--- the number that decimal digits write
-abbrev pub decimal : List ℕ → ℕ
-decimal digits = fold (λ number digit. 10 * number + (digit - 48)) 0 digits
-
 -- a part of a date's text that is at most a limit: question marks mean unknown, which is 0, and digits their number
 unfoldable pub part : ℕ → List ℕ → Option ℕ
 part limit text =
-    if list_all (λ c. c == 63) text then Some 0
-    else if list_all is_ascii_digit text && nat_le (decimal text) limit then Some (decimal text)
-    else None
+    if list_all (λ c. c == 63) text then Some 0 else decimal_read limit text
 
 -- the date of three parts, where all are there
 abbrev pub of_parts : Option ℕ → Option ℕ → Option ℕ → Option Date

@@ -1,4 +1,7 @@
+pub mod Decimal
 pub mod Date
+pub mod Outcome
+pub mod Eco
 pub mod TagName
 pub mod Head
 pub mod Settle
@@ -8,8 +11,12 @@ pub mod Item
 pub mod Movetext
 pub mod Building
 pub mod Game
+pub mod Kept
 pub mod Replay
 pub mod Legal
 pub mod Written
 pub mod Promotions
 pub mod Sought
+pub mod Counts
+pub mod Counting
+pub mod Comments

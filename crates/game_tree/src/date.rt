@@ -1,9 +1,9 @@
 ghost use Rattle.std.specs.Prelude.{◌≡◌, ◌==◌, ◌≤◌, ◌<◌, ◌^◌, length, IfSome};
-ghost use Rattle.std.specs.List.{AllPass, list_all};
-ghost use Rattle.std.specs.Bool.{OnTrue};
-ghost use Rattle.std.specs.Char.{is_ascii_digit};
+ghost use Rattle.std.specs.List.{list_all};
 ghost use Rattle.cell_core.specs.Text.{IsZeroFree};
-ghost use Rattle.game_tree.specs.Date.{IsDate, unknown_date, is_unknown, date_number, date_of, keeps_rule, shown, date_text, decimal, part, dated, date_read, is_near};
+ghost use Rattle.game_tree.specs.Date.{IsDate, unknown_date, is_unknown, date_number, date_of, keeps_rule, shown, date_text, part, dated, date_read, is_near};
+
+use super::decimal::read_decimal;
 
 /// A date of a game or an event; a part that is 0 is unknown. A date that is kept has a year of at most 2047, a month
 /// of at most 12 and a day of at most 31.
@@ -143,9 +143,6 @@ fn text_of(date: Date) -> [u8; 10]
 
 // The date of the texts of its three parts.
 fn dated(year: &[u8], month: &[u8], day: &[u8]) -> Option<Date>
-    requires year { length year.now ≤ 4 }
-    requires month { length month.now ≤ 4 }
-    requires day { length day.now ≤ 4 }
     ensures read { result ≡ dated year.now month.now day.now }
     ensures bounds { IfSome result (λ date. IsDate date) }
 {
@@ -159,21 +156,17 @@ fn dated(year: &[u8], month: &[u8], day: &[u8]) -> Option<Date>
     })
 }
 
-// A part of a date of at most four bytes: 0 of question marks, the number of decimal digits where it is at most `limit`.
+// A part of a date: 0 of question marks, the number of decimal digits where it is at most `limit`.
 #[tactic(auto, unfolding(crate::specs::Date::part))]
 fn part(text: &[u8], limit: u16) -> Option<u16>
-    requires { length text.now ≤ 4 }
     ensures read { result ≡ part limit text.now }
     ensures bound { IfSome result (λ number. number ≤ limit) }
 {
     if is_unknown_part(text) {
         return Some(0);
     }
-    if !has_digits_alone(text) {
-        return None;
-    }
-    let number = decimal(text);
-    if number <= limit { Some(number) } else { None }
+    let number = read_decimal(text, u64::from(limit))?;
+    Some(number as u16)
 }
 
 // Whether each byte is a question mark.
@@ -181,27 +174,6 @@ fn is_unknown_part(text: &[u8]) -> bool
     ensures { result ≡ list_all (λ c. c == 63) text.now }
 {
     text.iter().all(|c| *c == b'?')
-}
-
-// Whether each byte is a decimal digit.
-fn has_digits_alone(text: &[u8]) -> bool
-    ensures all { result ≡ list_all is_ascii_digit text.now }
-    ensures each { OnTrue result (AllPass is_ascii_digit text.now) }
-{
-    text.iter().all(|c| c.is_ascii_digit())
-}
-
-// The number that at most four decimal digits write.
-fn decimal(digits: &[u8]) -> u16
-    requires short { length digits.now ≤ 4 }
-    requires digits { AllPass is_ascii_digit digits.now }
-    ensures { result ≡ decimal digits.now }
-{
-    let mut number = 0u16;
-    for digit in digits {
-        number = 10 * number + u16::from(*digit - b'0');
-    }
-    number
 }
 
 // The last digit of `number` as text, or a question mark where `part` is 0.

@@ -4,13 +4,16 @@
 
 pub mod bounds;
 pub mod builder;
-mod copying;
+mod counts;
 pub mod date;
+mod decimal;
+mod eco;
 pub mod game;
 pub mod head;
 pub mod legality;
 pub mod node;
 mod open_line;
+mod outcome;
 mod promotions;
 pub mod settling;
 pub mod tag_name;
@@ -18,7 +21,10 @@ pub mod tags;
 
 pub use bounds::{are_bounded, is_name};
 pub use builder::Builder;
+pub use counts::Counts;
 pub use date::Date;
+pub use decimal::read_decimal;
+pub use eco::{eco_text, read_eco};
 pub use game::{Game, main_line, plies};
 pub use head::{Head, HeadRef, Outcome, Rating, Tag};
 pub use legality::legal;

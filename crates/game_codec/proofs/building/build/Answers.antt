@@ -1,22 +1,23 @@
 use Rattle.std.proofs.Common.{arith}
 use Rattle.std.proofs.lemmas.Grind.{common_steps}
 use Rattle.std.proofs.lemmas.List.{nil_from_length}
+use Rattle.game_codec.specs.Nests.{tokens_of}
 use Rattle.game_codec.proofs.BuildLaws.{IsBuilt-step, IsBuilt-end, IsBuilt-closed, IsBuilt-whole}
 use Rattle.game_codec.proofs.building.build.Goals as goal
 
 pub loop-token-preserved : goal.loop-token-preserved
 loop-token-preserved c =
-    IsBuilt-step c.args.tokens.now c.loop-token.token-index c.args.bytes.now c.loop-token.rest.now c.loop-token.builder c.token-item.result c.in_ok-added.added.used c.split_at.result.1.now c.in_ok-added.added.builder
-    c.loop-token-test.true c.token-item.is c.in_ok-added.ensures.adds c.split_at.ensures.back c.loop-token.invariant
+    IsBuilt-step c.args.tokens.now c.loop-token.token-index c.args.bytes.now c.loop-token.rest.now c.loop-token.builder c.token-item.result c.in_ok-used.used c.split_at.result.1.now c.add.new.builder
+    c.loop-token-test.true c.token-item.is c.in_ok-used.ensures.adds c.split_at.ensures.back c.loop-token.invariant
 
 pub finish-requires : goal.finish-requires
 finish-requires c =
-    IsBuilt-closed c.args.tokens.now c.args.bytes.now c.loop-token.rest.now c.loop-token.builder c.requires.movetext
+    IsBuilt-closed (tokens_of c.args.tokens.now) c.args.bytes.now c.loop-token.rest.now c.loop-token.builder c.requires.movetext
     (IsBuilt-end c.args.tokens.now c.loop-token.token-index c.args.bytes.now c.loop-token.rest.now c.loop-token.builder c.loop-token-test.false c.loop-token.invariant)
 
 pub returns-clause-ok : goal.returns-clause-ok
 returns-clause-ok c =
-    IsBuilt-whole c.args.tokens.now c.args.bytes.now c.loop-token.rest.now c.loop-token.builder c.in_ok-finish.field-0
+    IsBuilt-whole (tokens_of c.args.tokens.now) c.args.bytes.now c.loop-token.rest.now c.loop-token.builder c.in_ok-finish.field-0
     (IsBuilt-end c.args.tokens.now c.loop-token.token-index c.args.bytes.now c.loop-token.rest.now c.loop-token.builder c.loop-token-test.false c.loop-token.invariant)
     (nil_from_length c.loop-token.rest.now (grind (arith, common_steps)))
     c.in_ok-finish.ensures.meant
