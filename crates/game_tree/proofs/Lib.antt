@@ -3,6 +3,9 @@ pub mod EcoLemmas
 pub mod DateLemmas
 pub mod SettleLemmas
 pub mod BuildingLemmas
+pub mod KeptLemmas
+pub mod CountLemmas
+pub mod CommentLemmas
 pub mod MovetextLemmas
 pub mod TreeLemmas
 pub mod LegalLemmas
