@@ -1,8 +1,8 @@
 -- What stands before a byte and behind it.
-use Rattle.std.proofs.Common.{◌≡◌, ◌==◌, ◌+◌, ◌-◌, ◌<◌, ℕ, suc, true, List, [], ◌∷◌, ◌++◌, Option, Some, None, length, get_or, take, drop, refl, sym, ◌∙◌, option_map, arith}
+use Rattle.std.proofs.Common.{◌≡◌, ◌-◌, ◌<◌, ℕ, List, [], ◌∷◌, ◌++◌, Option, Some, length, get_or, take, drop, refl, option_map, arith}
 use Rattle.std.proofs.lemmas.Bool.{eq-eqb}
 use Rattle.std.proofs.lemmas.List.{take_all}
-use Rattle.script_text.specs.Numbers.{split_once, with_byte}
+use Rattle.script_text.specs.Numbers.{split_once}
 use Rattle.script_text.proofs.WordLaws.{append_none}
 
 -- The byte that is sought stands first in what is left.

@@ -1,9 +1,9 @@
 -- Words in quotes are read as they are.
-use Rattle.std.proofs.Common.{◌≡◌, ◌==◌, ℕ, Bool, true, false, inl, inr, List, [], ◌∷◌, ◌++◌, Some, None, map, refl, sym, ◌∙◌, ap}
+use Rattle.std.proofs.Common.{◌≡◌, ◌==◌, ℕ, inl, inr, List, [], ◌∷◌, ◌++◌, Some, map, refl, sym, ◌∙◌, ap}
 use Rattle.std.proofs.lemmas.Bool.{cases_Bool, or_parts}
-use Rattle.script_text.specs.Words.{Word, front, cut, words_of, is_escaped}
+use Rattle.script_text.specs.Words.{front, cut, words_of, is_escaped}
 use Rattle.script_text.specs.Spelling.{escaped, quoted_line}
-use Rattle.script_text.specs.declared.words.Place.TheVariants.{Between, Inside, Quoted, Escaped}
+use Rattle.script_text.specs.declared.words.Place.TheVariants.{Inside, Quoted}
 use Rattle.script_text.proofs.WordLaws.{front_none, front_front, append_none}
 
 -- The text of a quoted part, and what follows its quote.

@@ -1,5 +1,5 @@
 -- The arguments of a command: which is the first that is missing, not closed or not of its form (this project's own).
-use Rattle.std.specs.Prelude.{ℕ, ◌+◌, nat_le, if◌then◌else◌, List, length, slice_get, Option, Some, None, option_and_then, ok_or, Result, Ok, Err}
+use Rattle.std.specs.Prelude.{ℕ, ◌+◌, nat_le, if◌then◌else◌, List, length, slice_get, Option, option_and_then, ok_or, Result, Ok, Err}
 use Rattle.script_text.specs.declared.fault.ScriptFault.{ScriptFault}
 use Rattle.script_text.specs.declared.fault.ScriptFault.TheVariants.{Argument, Extra}
 use Rattle.script_text.specs.Words.{Word}

@@ -1,5 +1,5 @@
 -- The items of a search of material (this project's own).
-use Rattle.std.specs.Prelude.{ℕ, ◌+◌, nat_le, Bool, true, false, if◌then◌else◌, List, Option, Some, None, option_map, option_and_then, slice_set, codes}
+use Rattle.std.specs.Prelude.{ℕ, nat_le, true, if◌then◌else◌, List, Option, Some, None, option_map, option_and_then, slice_set, codes}
 use Rattle.std.specs.Str.{bytes_eq}
 use Rattle.game_tree.specs.Decimal.{decimal_read}
 use Rattle.sig_index.specs.declared.span.Span.{Span}

@@ -1,6 +1,6 @@
 -- The one reading of a line: the command that it is, or its first fault (this project's own). The rows of the table are
 -- `searching` to `ending`: the word of each command and the forms of its arguments in their order.
-use Rattle.std.specs.Prelude.{ℕ, ◌-◌, ◌==◌, ◌&&◌, nat_lt, Bool, false, if◌then◌else◌, List, [], ◌∷◌, length, take, slice_index_or, Option, Some, None, Result, Ok, Err, codes}
+use Rattle.std.specs.Prelude.{ℕ, ◌-◌, ◌==◌, nat_lt, Bool, false, if◌then◌else◌, List, [], ◌∷◌, length, take, slice_index_or, Some, None, Result, Ok, Err, codes}
 use Rattle.std.specs.Str.{bytes_eq}
 use Rattle.chess_text.specs.Filling.{board_named}
 use Rattle.game_filter.specs.declared.op.Op.{Op}

@@ -1,4 +1,4 @@
-use Rattle.std.proofs.Common.{rules, ◌≡◌, ℕ, List, Option}
+use Rattle.std.proofs.Common.{rules}
 use Rattle.script_text.proofs.NumberLaws.{found_first}
 use Rattle.script_text.proofs.numbers.split_once.Goals as goal
 

@@ -1,4 +1,4 @@
-use Rattle.std.proofs.Common.{◌≡◌, ◌++◌, ℕ, List, Option, take, drop, option_map}
+use Rattle.std.proofs.Common.{◌≡◌, ◌++◌, take, drop, option_map}
 use Rattle.script_text.specs.Numbers.{split_once}
 use Rattle.script_text.proofs.numbers.split_once.Given as goal
 
