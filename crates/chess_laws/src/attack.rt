@@ -1,205 +1,16 @@
 ghost use Rattle.std.specs.Prelude.{◌<◌, Some, ◌≡◌, ◌↔◌, ◌⊎◌, IsTrue, Any};
 ghost use Rattle.chess_laws.specs.Attacks.{Attacks};
 ghost use Rattle.chess_laws.specs.Geometry.{pawn_captures};
-ghost use Rattle.chess_laws.specs.Rays.{met, LeapsFrom, SlidesFrom};
+ghost use Rattle.chess_laws.specs.Rays.{glider, met, offset_at, LeapsFrom, Opens, SlidesFrom};
 ghost use Rattle.cell_core.specs.Board.{man_at};
 ghost use Rattle.cell_core.specs.Man.{man};
 ghost use Rattle.cell_core.specs.declared.man.Kind.TheVariants.{Pawn, Queen};
 
-use super::offset::Offset;
+use super::offset::{
+    BISHOP_STEPS, BLACK_CAPTURES, KING_STEPS, KNIGHT_STEPS, Offset, ROOK_STEPS, WHITE_CAPTURES,
+    line,
+};
 use cell_core::{Board, Colour, Kind, Man, Square};
-
-/// Along a file or a rank.
-pub const ROOK_STEPS: [Offset; 4] = [
-    Offset {
-        right: 1,
-        left: 0,
-        up: 0,
-        down: 0,
-    },
-    Offset {
-        right: 0,
-        left: 1,
-        up: 0,
-        down: 0,
-    },
-    Offset {
-        right: 0,
-        left: 0,
-        up: 1,
-        down: 0,
-    },
-    Offset {
-        right: 0,
-        left: 0,
-        up: 0,
-        down: 1,
-    },
-];
-
-/// Along a diagonal.
-pub const BISHOP_STEPS: [Offset; 4] = [
-    Offset {
-        right: 1,
-        left: 0,
-        up: 1,
-        down: 0,
-    },
-    Offset {
-        right: 0,
-        left: 1,
-        up: 1,
-        down: 0,
-    },
-    Offset {
-        right: 1,
-        left: 0,
-        up: 0,
-        down: 1,
-    },
-    Offset {
-        right: 0,
-        left: 1,
-        up: 0,
-        down: 1,
-    },
-];
-
-/// To any adjoining square.
-pub const KING_STEPS: [Offset; 8] = [
-    Offset {
-        right: 1,
-        left: 0,
-        up: 0,
-        down: 0,
-    },
-    Offset {
-        right: 0,
-        left: 1,
-        up: 0,
-        down: 0,
-    },
-    Offset {
-        right: 0,
-        left: 0,
-        up: 1,
-        down: 0,
-    },
-    Offset {
-        right: 0,
-        left: 0,
-        up: 0,
-        down: 1,
-    },
-    Offset {
-        right: 1,
-        left: 0,
-        up: 1,
-        down: 0,
-    },
-    Offset {
-        right: 0,
-        left: 1,
-        up: 1,
-        down: 0,
-    },
-    Offset {
-        right: 1,
-        left: 0,
-        up: 0,
-        down: 1,
-    },
-    Offset {
-        right: 0,
-        left: 1,
-        up: 0,
-        down: 1,
-    },
-];
-
-/// To the nearest squares that are not on the same rank, file or diagonal.
-pub const KNIGHT_STEPS: [Offset; 8] = [
-    Offset {
-        right: 1,
-        left: 0,
-        up: 2,
-        down: 0,
-    },
-    Offset {
-        right: 2,
-        left: 0,
-        up: 1,
-        down: 0,
-    },
-    Offset {
-        right: 2,
-        left: 0,
-        up: 0,
-        down: 1,
-    },
-    Offset {
-        right: 1,
-        left: 0,
-        up: 0,
-        down: 2,
-    },
-    Offset {
-        right: 0,
-        left: 1,
-        up: 2,
-        down: 0,
-    },
-    Offset {
-        right: 0,
-        left: 2,
-        up: 1,
-        down: 0,
-    },
-    Offset {
-        right: 0,
-        left: 2,
-        up: 0,
-        down: 1,
-    },
-    Offset {
-        right: 0,
-        left: 1,
-        up: 0,
-        down: 2,
-    },
-];
-
-/// Diagonally in front of a white pawn.
-pub const WHITE_CAPTURES: [Offset; 2] = [
-    Offset {
-        right: 1,
-        left: 0,
-        up: 1,
-        down: 0,
-    },
-    Offset {
-        right: 0,
-        left: 1,
-        up: 1,
-        down: 0,
-    },
-];
-
-/// Diagonally in front of a black pawn.
-pub const BLACK_CAPTURES: [Offset; 2] = [
-    Offset {
-        right: 1,
-        left: 0,
-        up: 0,
-        down: 1,
-    },
-    Offset {
-        right: 0,
-        left: 1,
-        up: 0,
-        down: 1,
-    },
-];
 
 /// Whether some man of the colour `by` attacks the square `s`.
 pub fn attacks(board: &Board, by: Colour, s: Square) -> bool
@@ -291,4 +102,23 @@ fn first_met(board: &Board, step: &Offset, s: Square) -> Option<Man>
         at = step.origin(at)?;
     }
     board.at(at)
+}
+
+// Whether a man that leaves `from` for elsewhere opens the line from a man of this colour to the square `s`.
+pub fn opens(board: &Board, by: Colour, from: Square, s: Square) -> bool
+    ensures { IsTrue result ↔ Opens board.now by from s }
+{
+    match line(from, s) {
+        None => false,
+        Some(row) => slides_along(board, by, row, from),
+    }
+}
+
+// Whether a man of this colour slides to the square by the step of this row.
+fn slides_along(board: &Board, by: Colour, row: u8, s: Square) -> bool
+    requires row { row < 8 }
+    ensures { IsTrue result ↔ SlidesFrom board.now by (glider row) s (offset_at row) }
+{
+    let kind = if row < 4 { Kind::Rook } else { Kind::Bishop };
+    slides_by(board, by, kind, &Offset::of_row(row), s)
 }

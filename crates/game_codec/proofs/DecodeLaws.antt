@@ -15,7 +15,7 @@ use Rattle.game_codec.specs.Fault.{BreaksInTags, BreaksInStart, BreaksInMoves, B
 use Rattle.game_codec.specs.declared.fault.RecordFault.{RecordFault}
 use Rattle.game_codec.specs.Scanning.{Scans, Stop, nest_of, comments_in, dealt}
 use Rattle.game_codec.specs.Flat.{IsFlat, IsRead, IsFlatInMoves, IsFlatInTexts, FlatBreaks}
-use Rattle.game_codec.specs.declared.token.Token.{Token}
+use Rattle.game_codec.specs.Token.{Token}
 use Rattle.game_codec.specs.declared.fault.RecordWhat.{RecordWhat}
 use Rattle.game_codec.proofs.SameFault.{SameFault}
 use Rattle.game_codec.proofs.TagLaws.{BeginsTags-one, BeginsTags-unbroken, BreaksTags-one}

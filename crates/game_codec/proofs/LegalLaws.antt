@@ -9,10 +9,9 @@ use Rattle.game_tree.specs.Legal.{IsComment, IsLegalLine, AreLegalBranches, IsLe
 use Rattle.game_tree.specs.Replay.{stepped}
 use Rattle.game_tree.proofs.LegalLemmas.{Step-stepped}
 use Rattle.move_codec.specs.Numbers.{Numbered}
-use Rattle.game_codec.specs.Place.{beginning, after_move, after_comment, variation_of}
+use Rattle.game_codec.specs.Place.{Place, beginning, after_move, after_comment, variation_of}
 use Rattle.game_codec.specs.Moves.{SpellsMoves}
 use Rattle.game_codec.specs.Record.{game_of}
-use Rattle.game_codec.specs.declared.place.Place.{Place}
 
 Legal-stepped : (p : Setup) (m : Move) → Legal p m → Step p m (stepped p m)
 Legal-stepped p m legal = subst (Step p m) (Step-stepped p m legal.0 legal.1) legal.1

@@ -4,13 +4,11 @@ use Rattle.game_tree.specs.Item.{Item}
 use Rattle.game_tree.specs.Item as item
 use Rattle.game_tree.specs.Movetext.{Movetext, end, move, nag, comment, variation, items_of}
 use Rattle.move_codec.specs.Numbers.{Numbered}
-use Rattle.game_codec.specs.Place.{Takes, ending, beginning, after_move, after_comment, variation_of}
+use Rattle.game_codec.specs.Place.{Place, Takes, ending, beginning, after_move, after_comment, variation_of}
 use Rattle.game_codec.specs.Moves.{SpellsMoves, Upto, here, past_move, past_nag, past_comment, past_variation, inside, BreaksMoves}
 use Rattle.game_codec.specs.Texts.{texts_of}
 use Rattle.game_codec.specs.Scanning.{Nest, nest_of, Stop, Scans, comments_in, dealt}
-use Rattle.game_codec.specs.declared.place.Place.{Place}
-use Rattle.game_codec.specs.declared.token.Token.{Token}
-use Rattle.game_codec.specs.declared.token.Token.TheVariants.{Play, Nag, Comment, Open, Close, End}
+use Rattle.game_codec.specs.Token.{Token, Play, Nag, Comment, Open, Close, End}
 use Rattle.game_codec.specs.declared.fault.RecordWhat.{RecordWhat}
 
 abbrev nest : Place → List Place → Nest

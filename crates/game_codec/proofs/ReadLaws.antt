@@ -11,7 +11,7 @@ use Rattle.game_codec.specs.Flat.{FlatBreaks}
 use Rattle.game_codec.specs.declared.breach.Refusal.{Refusal}
 use Rattle.game_codec.specs.declared.breach.Refusal.TheVariants.{Bad, Memory}
 use Rattle.game_codec.specs.declared.fault.RecordWhat.{RecordWhat}
-use Rattle.game_codec.specs.declared.token.Token.{Token}
+use Rattle.game_codec.specs.Token.{Token}
 use Rattle.game_codec.proofs.MovetextLaws.{scans-movetext}
 
 -- what a refusal tells of a part it tells of the whole

@@ -23,10 +23,9 @@ use Rattle.move_codec.specs.Packed.{encoding}
 use Rattle.move_codec.proofs.Apart.{encoding-apart}
 use Rattle.move_codec.proofs.RoundTrip.{round_trip}
 use Rattle.move_codec.proofs.Steps.{AreNumbers-step}
-use Rattle.game_codec.specs.declared.place.Place.{Place}
-use Rattle.game_codec.specs.declared.token.Token.TheVariants.{Play}
+use Rattle.game_codec.specs.Place.{Place, Takes, ending, numbered_after, beginning, after_move, after_comment, variation_of}
+use Rattle.game_codec.specs.Token.{Play}
 use Rattle.game_codec.specs.Moves.{SpellsMoves}
-use Rattle.game_codec.specs.Place.{Takes, ending, numbered_after, beginning, after_move, after_comment, variation_of}
 use Rattle.game_codec.specs.Written.{HasTexts, IsCommentText, LineHasTexts, BranchesHaveTexts, IsWrittenGame, IsWrittenRecord, body_text, line_any, is_promotion, is_underpromotion, moves_text, own_start, promotion_flags, movetext_of_game, tags_text}
 use Rattle.game_codec.specs.Record.{IsRecord, game_of}
 use Rattle.game_codec.specs.Start.{BeginsStart, standard_start}

@@ -11,7 +11,7 @@ use Rattle.game_codec.specs.Start.{BeginsStart}
 use Rattle.game_codec.specs.Texts.{AreTexts, BreaksTexts}
 use Rattle.game_codec.specs.Fault.{BreaksInTags, BreaksInStart}
 use Rattle.game_codec.specs.Scanning.{Scans, nest_of, comments_in, dealt}
-use Rattle.game_codec.specs.declared.token.Token.{Token}
+use Rattle.game_codec.specs.Token.{Token}
 use Rattle.game_codec.specs.declared.fault.RecordWhat.{RecordWhat}
 
 -- the parts of a record

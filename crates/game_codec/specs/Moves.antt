@@ -3,9 +3,8 @@
 use Rattle.std.specs.Prelude.{◌≡◌, ℕ, List}
 use Rattle.cell_core.specs.declared.step.Move.{Move}
 use Rattle.game_tree.specs.Movetext.{Movetext, end, move, nag, comment, variation}
-use Rattle.game_codec.specs.Place.{Takes, FaultAt, ending, after_move, after_comment, variation_of}
-use Rattle.game_codec.specs.declared.place.Place.{Place}
-use Rattle.game_codec.specs.declared.token.Token.TheVariants.{Play, Nag, Comment, Open}
+use Rattle.game_codec.specs.Place.{Place, Takes, FaultAt, ending, after_move, after_comment, variation_of}
+use Rattle.game_codec.specs.Token.{Play, Nag, Comment, Open}
 use Rattle.game_codec.specs.declared.fault.RecordWhat.{RecordWhat}
 
 -- from this place on the bytes begin with the items of the movetext and the end of its line, and these bytes follow. The

@@ -4,10 +4,8 @@ use Rattle.game_tree.specs.Item.{Item}
 use Rattle.game_tree.specs.Item as item
 use Rattle.game_tree.specs.Movetext.{Movetext, items_of}
 use Rattle.move_codec.specs.Numbers.{Numbered}
-use Rattle.game_codec.specs.Place.{Takes, FaultAt, beginning, after_move, after_comment, variation_of}
-use Rattle.game_codec.specs.declared.place.Place.{Place}
-use Rattle.game_codec.specs.declared.token.Token.{Token}
-use Rattle.game_codec.specs.declared.token.Token.TheVariants.{Play, Nag, Comment, Open, Close, End}
+use Rattle.game_codec.specs.Place.{Place, Takes, FaultAt, beginning, after_move, after_comment, variation_of}
+use Rattle.game_codec.specs.Token.{Token, Play, Nag, Comment, Open, Close, End}
 use Rattle.game_codec.specs.declared.fault.RecordWhat.{RecordWhat}
 
 -- the place after an item in the innermost line, and the lines round it
