@@ -7,6 +7,9 @@ pub mod SettleLemmas
 pub mod TagListLemmas
 pub mod TagEditLemmas
 pub mod BuildingLemmas
+pub mod KeptLemmas
+pub mod CountLemmas
+pub mod CommentLemmas
 pub mod MovetextLemmas
 pub mod TreeLemmas
 pub mod LegalLemmas

@@ -13,8 +13,12 @@ pub mod Item
 pub mod Movetext
 pub mod Building
 pub mod Game
+pub mod Kept
 pub mod Replay
 pub mod Legal
 pub mod Written
 pub mod Promotions
 pub mod Sought
+pub mod Counts
+pub mod Counting
+pub mod Comments

@@ -4,7 +4,7 @@
 
 pub mod bounds;
 pub mod builder;
-mod copying;
+mod counts;
 pub mod date;
 mod decimal;
 mod eco;
@@ -22,6 +22,7 @@ pub mod tags;
 
 pub use bounds::{are_bounded, is_name};
 pub use builder::Builder;
+pub use counts::Counts;
 pub use date::Date;
 pub use decimal::read_decimal;
 pub use eco::{eco_text, read_eco};

@@ -4,6 +4,7 @@ use Rattle.std.proofs.lemmas.List.{append_cancel_left}
 use Rattle.std.proofs.lemmas.List.Elements.{All-pop}
 use Rattle.base_files.specs.Counters.{Rose}
 use Rattle.base_files.specs.Told.{Tells, TellsLength}
+use Rattle.game_codec.specs.Record.{IsSomeRecord}
 use Rattle.game_codec.specs.declared.fault.RecordFault.{RecordFault}
 use Rattle.game_codec.proofs.DecodeLaws.{record-unbroken}
 use Rattle.shell_session.specs.declared.status.Status.{Status}
@@ -13,7 +14,7 @@ use Rattle.shell_session.specs.Endings.{EndsEarly, WroteFront}
 use Rattle.shell_session.specs.HitText.{find_text}
 use Rattle.shell_session.specs.IndexFile.{extent_at, game_count, record_in, records}
 use Rattle.shell_session.specs.Refusals.{OpeningRefused}
-use Rattle.shell_session.specs.Session.{Answers, BeginsAnswer, Finds, IsFirstFaulty, IsSomeRecord, Opens, given}
+use Rattle.shell_session.specs.Session.{Answers, BeginsAnswer, Finds, IsFirstFaulty, Opens, given}
 use Rattle.shell_session.specs.Words.{AreBase}
 use Rattle.shell_session.proofs.Searching.{whole_of_hits}
 

@@ -9,11 +9,12 @@ use Rattle.game_codec.specs.declared.fault.RecordFault.{RecordFault}
 use Rattle.shell_session.specs.declared.status.Status.{Status}
 use Rattle.shell_session.specs.declared.status.Status.TheVariants.{Done, Later, BadRecord, ReadFault, WriteFault, FilesFault, Memory}
 use Rattle.shell_session.specs.declared.status.LaterWhat.TheVariants as later
+use Rattle.game_codec.specs.Record.{IsSomeRecord}
 use Rattle.game_codec.specs.Fault.{IsRecordFault}
 use Rattle.shell_session.specs.FindLine.{FindScript}
 use Rattle.shell_session.specs.IndexFile.{extent_at, game_count, record_in, records, records_len}
 use Rattle.shell_session.specs.Refusals.{GameRefused, SearchRefused}
-use Rattle.shell_session.specs.Session.{Hit, IsSomeRecord, IsFirstFaulty}
+use Rattle.shell_session.specs.Session.{Hit, IsFirstFaulty}
 
 -- the records of more games have no fewer bytes
 records_len-add : (index : List ℕ) (m k : ℕ) → records_len index m ≤ records_len index (k + m)

@@ -10,7 +10,7 @@ use Rattle.shell_session.specs.declared.status.Status.TheVariants.{Done, Later, 
 use Rattle.shell_session.specs.declared.status.LaterWhat.TheVariants as later
 use Rattle.game_tree.specs.Game.{GameTree}
 use Rattle.game_tree.specs.declared.head.Tag.{Tag}
-use Rattle.game_codec.specs.Record.{IsRecord}
+use Rattle.game_codec.specs.Record.{IsRecord, IsSomeRecord}
 use Rattle.game_codec.specs.Fault.{IsRecordFault}
 use Rattle.shell_session.specs.FindLine.{FindScript}
 use Rattle.shell_session.specs.HitText.{find_text}
@@ -38,10 +38,6 @@ pub record Hit (sought : Placed) (bytes : List ℕ) (hit : Option ℕ) : Type 0 
 -- the answers of all games, in their order
 abbrev pub AreHits : Placed → List ℕ → List ℕ → List (Option ℕ) → Type 0
 AreHits sought index games hits = AllZip (Hit sought) (records index games (game_count index)) hits
-
--- the bytes are a record
-abbrev pub IsSomeRecord : List ℕ → Type 0
-IsSomeRecord bytes = (tags : List Tag) × ((game : GameTree) × IsRecord bytes tags game)
 
 -- this game is the first whose bytes are no record, and this is their first fault
 pub record IsFirstFaulty (index games : List ℕ) (game : ℕ) (fault : RecordFault) : Type 0 where
