@@ -1,7 +1,8 @@
 -- What the adapters over the standard library's streams and files count (this project's own).
-use Rattle.std.specs.Prelude.{ℕ, List}
+use Rattle.std.specs.Prelude.{ℕ, List, None}
 use Rattle.base_files.specs.Counters.{raised}
 use Rattle.base_files.specs.Chosen.{Choice}
+use Rattle.base_files.specs.Seen.{Seen}
 use Rattle.base_files.specs.declared.faults.DeviceError.{DeviceError}
 use Rattle.base_files.specs.declared.faults.DeviceError.TheVariants as device
 
@@ -20,6 +21,10 @@ pub record DiskMeter : Type 0 where
   pub known : ℕ
   pub asked : ℕ
   pub faults : ℕ
+
+-- What files on a disk show: nothing of their contents.
+abbrev pub seen_of : DiskMeter → Seen
+seen_of meter = record { index = None; names = None; games = None; choices = meter.choices; known = meter.known }
 
 -- a count of faults after an error: a fault is counted, want of memory is not
 abbrev pub after_error : DeviceError → ℕ → ℕ

@@ -12,7 +12,8 @@ use Rattle.shell_session.specs.declared.status.Status.TheVariants.{Done, Later, 
 use Rattle.shell_session.specs.declared.status.LaterWhat.TheVariants as later
 use Rattle.shell_session.specs.Endings.{EndsEarly, WroteFront}
 use Rattle.shell_session.specs.HitText.{find_text}
-use Rattle.shell_session.specs.IndexFile.{extent_at, game_count, record_in, records}
+use Rattle.base_files.specs.Extents.{record_in}
+use Rattle.shell_session.specs.IndexFile.{extent_at, game_count, records}
 use Rattle.shell_session.specs.Refusals.{OpeningRefused}
 use Rattle.shell_session.specs.Session.{Answers, BeginsAnswer, Finds, IsFirstFaulty, Opens, given}
 use Rattle.shell_session.specs.Words.{AreBase}

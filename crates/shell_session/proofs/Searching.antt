@@ -3,6 +3,7 @@ use Rattle.std.proofs.Common.{◌≡◌, ◌<◌, ◌≤◌, ℕ, zero, suc, ◌
 use Rattle.std.specs.List.{AllZip}
 use Rattle.std.proofs.lemmas.List.{length_push}
 use Rattle.std.proofs.lemmas.List.Elements.{All-nil, All-cons}
+use Rattle.base_files.specs.Seen.{Seen}
 use Rattle.base_files.specs.Told.{Tells}
 use Rattle.shell_session.specs.declared.placed.Placed.{Placed}
 use Rattle.game_codec.specs.declared.fault.RecordFault.{RecordFault}
@@ -12,7 +13,8 @@ use Rattle.shell_session.specs.declared.status.LaterWhat.TheVariants as later
 use Rattle.game_codec.specs.Record.{IsSomeRecord}
 use Rattle.game_codec.specs.Fault.{IsRecordFault}
 use Rattle.shell_session.specs.FindLine.{FindScript}
-use Rattle.shell_session.specs.IndexFile.{extent_at, game_count, record_in, records, records_len}
+use Rattle.base_files.specs.Extents.{record_in}
+use Rattle.shell_session.specs.IndexFile.{extent_at, game_count, records, records_len}
 use Rattle.shell_session.specs.Refusals.{GameRefused, SearchRefused}
 use Rattle.shell_session.specs.Session.{Hit, IsFirstFaulty}
 
@@ -104,3 +106,7 @@ pub asks_nothing : (left : Option (List ℕ)) (bytes : List ℕ) → Tells left 
 asks_nothing None bytes told none = tt
 asks_nothing (Some script) bytes told none = λ sought found.
     let P : List ℕ → Type 0 = λ b. FindScript b sought in none sought (subst P (sym told) found)
+
+-- Files of which the same is seen have the same games.
+pub same_games : (now before : Seen) → now ≡ before → now.games ≡ before.games
+same_games now before same = ap (λ seen. seen.games) same

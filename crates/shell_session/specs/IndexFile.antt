@@ -1,7 +1,8 @@
 -- The index file `.si4`, as far as the games are found by it. Scid's format si4, version 400.
 use Rattle.std.specs.Prelude.{◌≡◌, ◌≤◌, ◌<◌, ℕ, zero, suc, ◌+◌, ◌*◌, ◌/◌, ◌%◌, List, [], ◌∷◌, ◌++◌, length, take, drop, codes}
 use Rattle.byteorder.specs.Endian.{big_number}
-use Rattle.shell_session.specs.declared.index_file.Extent.{Extent}
+use Rattle.base_files.specs.declared.extent.Extent.{Extent}
+use Rattle.base_files.specs.Extents.{IsPlaced, record_in}
 
 -- the number in the `width` bytes from `place` on, the highest byte first
 abbrev pub field : ℕ → ℕ → List ℕ → ℕ
@@ -23,11 +24,6 @@ extent_of entry = record { offset = field 0 4 entry; len = field 4 2 entry + 655
 abbrev pub extent_at : List ℕ → ℕ → Extent
 extent_at index i = extent_of (drop (182 + 47 * i) index)
 
--- a record within the games file that crosses no end of a block of 131,072 bytes
-pub record IsPlaced (games_len : ℕ) (extent : Extent) : Type 0 where
-  pub in_block : extent.offset % 131072 + extent.len ≤ 131072
-  pub in_file : extent.offset + extent.len ≤ games_len
-
 -- a whole header of version 400 with an entry for each game, and nothing behind them
 pub record HasEntries (index : List ℕ) : Type 0 where
   pub header : 182 ≤ length index
@@ -39,10 +35,6 @@ pub record HasEntries (index : List ℕ) : Type 0 where
 pub record IsIndex (index : List ℕ) (games_len : ℕ) : Type 0 where
   pub entries : HasEntries index
   pub placed : (i : ℕ) → i < game_count index → IsPlaced games_len (extent_at index i)
-
--- the bytes of a record in the games file
-abbrev pub record_in : List ℕ → Extent → List ℕ
-record_in games extent = take extent.len (drop extent.offset games)
 
 -- the records of the first n games
 abbrev pub records : List ℕ → List ℕ → ℕ → List (List ℕ)

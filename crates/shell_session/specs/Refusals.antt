@@ -6,7 +6,8 @@ use Rattle.shell_session.specs.declared.status.Status.{Status}
 use Rattle.shell_session.specs.declared.status.Status.TheVariants.{Later, BadRecord, ReadFault, FilesFault, Memory}
 use Rattle.shell_session.specs.declared.status.LaterWhat.TheVariants as later
 use Rattle.shell_session.specs.FindLine.{FindScript}
-use Rattle.shell_session.specs.IndexFile.{IsIndex, extent_at, record_in}
+use Rattle.base_files.specs.Extents.{record_in}
+use Rattle.shell_session.specs.IndexFile.{IsIndex, extent_at}
 use Rattle.shell_session.specs.Session.{IsFirstFaulty}
 
 -- opening ends with the index, the files or memory

@@ -14,7 +14,8 @@ use Rattle.game_codec.specs.Record.{IsRecord, IsSomeRecord}
 use Rattle.game_codec.specs.Fault.{IsRecordFault}
 use Rattle.shell_session.specs.FindLine.{FindScript}
 use Rattle.shell_session.specs.HitText.{find_text}
-use Rattle.shell_session.specs.IndexFile.{IsIndex, extent_at, game_count, record_in, records}
+use Rattle.base_files.specs.Extents.{record_in}
+use Rattle.shell_session.specs.IndexFile.{IsIndex, extent_at, game_count, records}
 use Rattle.shell_session.specs.Placed.{FirstPly}
 use Rattle.shell_session.specs.Words.{AreBase}
 
