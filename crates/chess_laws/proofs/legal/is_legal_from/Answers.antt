@@ -1,24 +1,26 @@
--- After an allowed move the mover's king is safe where nothing is uncovered, or where it is not attacked on the new board.
-use Rattle.std.proofs.Common.{IsTrue, refl, sym, ◌∙◌}
-use Rattle.std.proofs.lemmas.Bool.{false≢true}
+-- After an allowed move the mover's king is safe where it stays so, or where it is not attacked on the new board.
+use Rattle.std.proofs.Common.{refl, sym, ◌∙◌}
+use Rattle.std.proofs.lemmas.Bool.{and_parts, OnTrue_at}
+use Rattle.chess_laws.specs.Legal.{is_calm}
 use Rattle.chess_laws.specs.Step.{effect_of, after, Case}
 use Rattle.chess_laws.proofs.MovedKings.{legal-safe}
 use Rattle.chess_laws.proofs.Opening.{legal-calm}
-use Rattle.chess_laws.proofs.legal.is_legal_as.Goals as goal
+use Rattle.chess_laws.proofs.legal.is_legal_from.Goals as goal
 
 pub returns-then-stays_safe : goal.returns-then-stays_safe
 returns-then-stays_safe c =
     let case : Case c.args.p.now c.args.m.now (effect_of c.args.p.now c.args.m.now) =
     rw c.requires.effect at (c.is_allowed.ensures.0 c.if-not-is_allowed.false) in
-    let safe = c.if-stays_safe.ensures in (
+    let both = and_parts c.args.shut (is_calm c.args.effect) (sym c.stays_safe.ensures ∙ c.if-stays_safe.true) in
+    let shut = OnTrue_at both.0 c.requires.shut in (
       λ h.
-          legal-calm c.args.p.now c.args.m.now c.args.king c.requires.sound c.requires.king case (rw c.requires.effect at safe.0)
-          (λ check. false≢true (sym c.if-not-checked.true ∙ c.requires.check.1 check)) safe.1,
-      λ legal. refl,
+          legal-calm c.args.p.now c.args.m.now c.args.king c.requires.sound c.requires.king case (rw c.requires.effect at both.1)
+          shut.unchecked shut.covers,
+      λ legal. c.if-stays_safe.true,
     )
 
-pub returns : goal.returns
-returns c =
+pub returns-else-stays_safe : goal.returns-else-stays_safe
+returns-else-stays_safe c =
     let case : Case c.args.p.now c.args.m.now (effect_of c.args.p.now c.args.m.now) =
     rw c.requires.effect at (c.is_allowed.ensures.0 c.if-not-is_allowed.false) in (
       λ h. (
