@@ -16,3 +16,5 @@ pub mod Pawns
 pub mod Soundness
 pub mod Start
 pub mod Climbing
+pub mod Stepping
+pub mod Initial

@@ -44,7 +44,7 @@ impl Model for Position {
 }
 
 impl Position {
-    ghost use Rattle.chess_laws.specs.Position.{Sound, Breaks, setup_of, start_setup, bits_of};
+    ghost use Rattle.chess_laws.specs.Position.{Sound, Breaks, setup_of, start_setup, is_start, bits_of};
 
     /// The initial position: White to move, all four rights, no en passant square.
     pub fn start() -> Position
@@ -66,6 +66,21 @@ impl Position {
             white_king: Square::at(4),
             black_king: Square::at(60),
         }
+    }
+
+    /// Whether it is the initial position.
+    pub fn is_start(&self) -> bool
+        ensures start { IsTrue result ↔ (self.now ≡ start_setup) }
+        ensures decided { result ≡ is_start self.now }
+    {
+        self.setup().is_same(Position::start().setup())
+    }
+
+    /// Whether two positions are the same.
+    pub fn is_same(&self, other: &Position) -> bool
+        ensures same { IsTrue result ↔ (self.now ≡ other.now) }
+    {
+        self.setup().is_same(other.setup())
     }
 
     /// The position of a board, a side to move, castling rights (bits 0 to 3 for White's king's side and queen's side
@@ -207,7 +222,7 @@ fn place(
 
 impl Position {
     ghost use Rattle.chess_laws.specs.declared.setup.Setup.{Setup};
-    ghost use Rattle.chess_laws.specs.Step.{effect_of, Legal, Step};
+    ghost use Rattle.chess_laws.specs.Step.{effect_of, is_capture, Legal, Step, stepped};
 
     /// Whether the move is legal. The null move is legal where the side to move is not in check.
     pub fn is_legal(&self, m: Move) -> bool
@@ -222,6 +237,18 @@ impl Position {
         ensures effect { result ≡ effect_of self.now m.now }
     {
         effect_of(&self.inner, m)
+    }
+
+    /// Whether a move captures a man, on its target or en passant. It says nothing of whether the move is legal.
+    #[tactic(auto, unfolding(crate::specs::Step::is_capture))]
+    pub fn is_capture(&self, m: &Move) -> bool
+        ensures capture { result ≡ is_capture self.now m.now }
+    {
+        match effect_of(&self.inner, m) {
+            Effect::Plain | Effect::Double => self.inner.board.at(m.to).is_some(),
+            Effect::Passing => true,
+            Effect::Castle(_) | Effect::Null => false,
+        }
     }
 
     /// Plays a legal move. What it leads to is the one position that it can lead to.
