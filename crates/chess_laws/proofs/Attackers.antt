@@ -9,8 +9,7 @@ use Rattle.cell_core.specs.declared.man.Kind.{Kind}
 use Rattle.cell_core.specs.declared.man.Kind.TheVariants.{King, Queen, Rook, Bishop, Knight, Pawn}
 use Rattle.cell_core.specs.Board.{Men, man_at}
 use Rattle.cell_core.specs.Man.{man}
-use Rattle.chess_laws.specs.declared.offset.Offset.{Offset}
-use Rattle.chess_laws.specs.Geometry.{rook_steps, bishop_steps, knight_steps, king_steps, pawn_captures, Leaps, Runs}
+use Rattle.chess_laws.specs.Geometry.{Offset, rook_steps, bishop_steps, knight_steps, king_steps, pawn_captures, Leaps, Runs}
 use Rattle.chess_laws.specs.Attacks.{Attacks, AttacksAs, Reaches}
 use Rattle.chess_laws.specs.Rays.{LeapsFrom, SlidesFrom}
 

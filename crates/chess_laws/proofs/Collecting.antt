@@ -2,8 +2,7 @@
 use Rattle.std.proofs.Common.{◌≡◌, ℕ, suc, ◌+◌, ◌-◌, ◌<◌, ◌≤◌, ◌⊎◌, true, Option, Some, None, is_some, arith}
 use Rattle.std.proofs.lemmas.Bool.{false≢true}
 use Rattle.cell_core.specs.Board.{Men, man_at}
-use Rattle.chess_laws.specs.declared.offset.Offset.{Offset}
-use Rattle.chess_laws.specs.Geometry.{shift}
+use Rattle.chess_laws.specs.Geometry.{Offset, shift}
 use Rattle.chess_laws.specs.Legal.{run}
 use Rattle.chess_laws.proofs.Running.{run-on, run-edge, run-none}
 

@@ -9,14 +9,13 @@ use Rattle.cell_core.specs.declared.man.Kind.TheVariants.{King, Queen, Rook, Bis
 use Rattle.cell_core.specs.declared.step.Move.{Move}
 use Rattle.cell_core.specs.Board.{Men, man_at, put}
 use Rattle.cell_core.specs.Man.{man, other}
-use Rattle.chess_laws.specs.declared.offset.Offset.{Offset}
 use Rattle.chess_laws.specs.declared.setup.Rights.{Rights}
 use Rattle.chess_laws.specs.declared.setup.Setup.{Setup}
 use Rattle.chess_laws.specs.declared.setup.Wing.{Wing}
 use Rattle.chess_laws.specs.declared.setup.Wing.TheVariants.{KingSide, QueenSide}
 use Rattle.chess_laws.specs.declared.effect.Effect.{Effect}
 use Rattle.chess_laws.specs.declared.effect.Effect.TheVariants.{Plain, Double, Passing, Castle, Null}
-use Rattle.chess_laws.specs.Geometry.{file_of, rank_of, square, forward, pawn_captures, rook_steps, bishop_steps, knight_steps, king_steps, Leaps, Runs}
+use Rattle.chess_laws.specs.Geometry.{Offset, file_of, rank_of, square, forward, pawn_captures, rook_steps, bishop_steps, knight_steps, king_steps, Leaps, Runs}
 use Rattle.chess_laws.specs.Attacks.{IsInCheck}
 use Rattle.chess_laws.specs.Castling.{king_home, king_target, rook_home, rook_target, has_right, touches, keeps, rights_after, StandAtHome}
 use Rattle.chess_laws.specs.Position.{Sound, HasFitEnPassant, en_passant_rank}

@@ -10,12 +10,11 @@ use Rattle.cell_core.specs.declared.man.Man.{Man}
 use Rattle.cell_core.specs.declared.step.Move.{Move}
 use Rattle.cell_core.specs.Board.{Men, man_at, put}
 use Rattle.cell_core.specs.Man.{man, other, same_kind}
-use Rattle.chess_laws.specs.declared.offset.Offset.{Offset}
 use Rattle.chess_laws.specs.declared.setup.Setup.{Setup}
 use Rattle.chess_laws.specs.declared.setup.Wing.{Wing}
 use Rattle.chess_laws.specs.declared.setup.Wing.TheVariants.{KingSide, QueenSide}
 use Rattle.chess_laws.specs.declared.effect.Effect.TheVariants.{Plain, Castle, Null}
-use Rattle.chess_laws.specs.Geometry.{rank_of, forward, pawn_captures, Leaps, Walk, by}
+use Rattle.chess_laws.specs.Geometry.{Offset, rank_of, forward, pawn_captures, Leaps, Walk, by}
 use Rattle.chess_laws.specs.Attacks.{Attacks, AttacksAs, Reaches}
 use Rattle.chess_laws.specs.Castling.{king_home, king_target, rook_home, rook_target, between}
 use Rattle.chess_laws.specs.Position.{Sound, en_passant_rank}

@@ -8,6 +8,8 @@ pub mod Paths
 pub mod Running
 pub mod Kings
 pub mod Walks
+pub mod Rows
+pub mod Lines
 pub mod Attackers
 pub mod Collecting
 pub mod Listing

@@ -1,12 +1,10 @@
 -- A walk over empty squares is at most seven steps long, and the code's walk finds it.
 use Rattle.std.proofs.Common.{◌≡◌, ◌↔◌, ℕ, zero, suc, ◌+◌, ◌-◌, ◌<◌, ◌≤◌, ◌⊎◌, inl, inr, Bool, true, false, ◌&&◌, ◌||◌, eqb, IsTrue, Option, Some, None, is_none, is_some, refl, sym, ◌∙◌, ap, arith}
-use Rattle.std.proofs.lemmas.Bool.Decides.{nat_tests}
 use Rattle.std.proofs.lemmas.Bool.{eqb-true, eq-eqb, cases_Bool, cases_order, false≢true}
 use Rattle.cell_core.specs.declared.man.Man.{Man}
 use Rattle.cell_core.specs.Board.{Men, man_at}
-use Rattle.chess_laws.specs.declared.offset.Offset.{Offset}
-use Rattle.chess_laws.specs.Geometry.{file_of, rank_of, shift, Walk, Runs}
-use Rattle.chess_laws.specs.Legal.{run, run_on, leads, aims}
+use Rattle.chess_laws.specs.Geometry.{Offset, file_of, rank_of, shift, Walk, Runs}
+use Rattle.chess_laws.specs.Legal.{run, run_on}
 use Rattle.chess_laws.proofs.Shifts.{shift-Some}
 
 -- one step of the code's walk
@@ -138,29 +136,6 @@ upright men o (suc n) a b net walk =
     let rest = upright men o n walk.0 b net walk.3 in
     omega arith
 
--- a walk comes where its step aims
-leads-true : (a b low high : ℕ) → (low < high → a < b) → (high < low → b < a) → (low ≡ high → a ≡ b) → leads a b low high ≡ true
-leads-true a b low high above below same = elim (cases_order low high) [
-  | inl level ↦ let h = same level in grind (arith, nat_tests)
-  | inr apart ↦ elim apart [
-    | inl less ↦ let h = above less in grind (arith, nat_tests)
-    | inr more ↦ let h = below more in grind (arith, nat_tests)
-  ]
-]
-
-aims-true : (men : Men) (o : Offset) (a b : ℕ) → Runs men a b o → aims o a b ≡ true
-unfolding aims
-aims-true men o a b (n, walk) =
-    let files = leads-true (file_of a) (file_of b) o.left o.right
-    (λ h. let far = right men o n a b h walk in omega arith)
-    (λ h. let far = left men o n a b h walk in omega arith)
-    (λ h. level men o n a b h walk) in
-    let ranks = leads-true (rank_of a) (rank_of b) o.down o.up
-    (λ h. let far = up men o n a b h walk in omega arith)
-    (λ h. let far = down men o n a b h walk in omega arith)
-    (λ h. upright men o n a b h walk) in
-    rw (files, ranks)
-
 down-short : (men : Men) (o : Offset) (n a b : ℕ) → o.up < o.down → Walk men o n a b → n < 8
 down-short men o zero a b net walk = omega arith
 down-short men o (suc n) a b net walk =
@@ -200,7 +175,3 @@ runs-run men o a b (n, walk) = elim (cases_order o.left o.right) [
 -- the code's walk of at most eight steps finds each walk, and nothing else
 pub run_is : (men : Men) (o : Offset) (a b : ℕ) → IsTrue (run men o 8 b a) ↔ Runs men a b o
 run_is men o a b = (run-walks men o 8 a b, runs-run men o a b)
-
--- and there is none where the step does not aim at the target
-pub runs_not : (men : Men) (o : Offset) (a b : ℕ) → aims o a b ≡ false → Runs men a b o → ⊥
-runs_not men o a b not runs = false≢true (sym not ∙ aims-true men o a b runs)

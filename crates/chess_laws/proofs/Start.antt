@@ -8,8 +8,7 @@ use Rattle.cell_core.specs.declared.man.Kind.TheVariants.{King, Queen, Rook, Bis
 use Rattle.cell_core.specs.declared.man.Man.{Man}
 use Rattle.cell_core.specs.Board.{Men, man_at}
 use Rattle.cell_core.specs.Man.{man, is_man, same_kind}
-use Rattle.chess_laws.specs.declared.offset.Offset.{Offset}
-use Rattle.chess_laws.specs.Geometry.{shift, rook_steps, bishop_steps, knight_steps, king_steps, pawn_captures}
+use Rattle.chess_laws.specs.Geometry.{Offset, shift, rook_steps, bishop_steps, knight_steps, king_steps, pawn_captures}
 use Rattle.chess_laws.specs.Attacks.{Attacks, IsInCheck}
 use Rattle.chess_laws.specs.Rays.{reversed, met, LeapsFrom, SlidesFrom}
 use Rattle.chess_laws.specs.Position.{Sound, start_men, start_setup}

@@ -2,8 +2,7 @@
 use Rattle.std.proofs.Common.{◌≡◌, ℕ, zero, suc, ◌+◌, ◌-◌, ◌<◌, ◌≤◌, Option, Some, None, refl, sym, ◌∙◌, ap, arith, ◌⊎◌, inl, inr, ⊎_elim, ◌↔◌}
 use Rattle.cell_core.specs.declared.man.Man.{Man}
 use Rattle.cell_core.specs.Board.{Men, man_at}
-use Rattle.chess_laws.specs.declared.offset.Offset.{Offset}
-use Rattle.chess_laws.specs.Geometry.{file_of, rank_of, shift, Walk, Runs}
+use Rattle.chess_laws.specs.Geometry.{Offset, file_of, rank_of, shift, Walk, Runs}
 use Rattle.chess_laws.specs.Rays.{reversed, met, met_at, met_on, LeapsFrom, SlidesFrom}
 use Rattle.std.proofs.lemmas.Bool.{cases_order}
 use Rattle.cell_core.specs.declared.man.Colour.{Colour}

@@ -3,7 +3,6 @@ use Rattle.std.specs.Prelude.{◌≡◌, ℕ, zero, suc, ◌+◌, ◌-◌, ◌*�
 use Rattle.cell_core.specs.declared.man.Colour.{Colour}
 use Rattle.cell_core.specs.declared.man.Colour.TheVariants.{White, Black}
 use Rattle.cell_core.specs.Board.{Men, man_at}
-use Rattle.chess_laws.specs.declared.offset.Offset.{Offset}
 
 -- the file of a square, a = 0 to h = 7, and its rank, the first = 0 to the eighth = 7 (FIDE Laws, Article 2.4)
 abbrev pub file_of : ℕ → ℕ
@@ -16,7 +15,13 @@ rank_of s = s / 8
 abbrev pub square : ℕ → ℕ → ℕ
 square file rank = 8 * rank + file
 
--- so many files to the right and left and so many ranks up and down, as White sees them
+-- a step: so many files to the right and left and so many ranks up and down, as White sees them
+pub record Offset : Type 0 where
+  pub right : ℕ
+  pub left : ℕ
+  pub up : ℕ
+  pub down : ℕ
+
 abbrev pub by : ℕ → ℕ → ℕ → ℕ → Offset
 by r l u d = record { right = r; left = l; up = u; down = d }
 

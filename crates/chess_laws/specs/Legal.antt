@@ -1,13 +1,12 @@
 -- What the code of legal moves tests on its way. No public contract cites these words.
-use Rattle.std.specs.Prelude.{◌≡◌, ℕ, zero, suc, ◌==◌, ◌&&◌, ◌||◌, if◌then◌else◌, Bool, false, nat_lt, IsTrue, All, Option, Some, None, is_none}
+use Rattle.std.specs.Prelude.{◌≡◌, ℕ, zero, suc, ◌+◌, ◌==◌, ◌&&◌, ◌||◌, if◌then◌else◌, Bool, false, nat_lt, nat_le, IsTrue, List, [], ◌++◌, All, Option, Some, None, is_none}
 use Rattle.cell_core.specs.declared.man.Colour.{Colour}
 use Rattle.cell_core.specs.declared.man.Kind.{Kind}
-use Rattle.cell_core.specs.declared.man.Kind.TheVariants.{King}
+use Rattle.cell_core.specs.declared.man.Kind.TheVariants.{King, Queen, Rook, Bishop, Knight, Pawn}
 use Rattle.cell_core.specs.declared.step.Move.{Move}
 use Rattle.cell_core.specs.Board.{Men, man_at}
 use Rattle.cell_core.specs.Man.{man, other}
-use Rattle.chess_laws.specs.declared.offset.Offset.{Offset}
-use Rattle.chess_laws.specs.Geometry.{shift, file_of, rank_of}
+use Rattle.chess_laws.specs.Geometry.{Offset, shift, file_of, rank_of, rook_steps, bishop_steps}
 use Rattle.chess_laws.specs.Attacks.{Attacks}
 use Rattle.chess_laws.specs.Castling.{between, has_right}
 use Rattle.chess_laws.specs.declared.setup.Setup.{Setup}
@@ -48,10 +47,32 @@ pub record MayCastle (p : Setup) (m : Move) (wing : Wing) : Type 0 where
   pub empty : All (λ s. man_at p.board s ≡ None) (between p.side wing)
   pub promo : m.promo ≡ None
 
--- whether one number leads to another by a change of so much down and up: it lies below it, above it or is the same
-abbrev pub leads : ℕ → ℕ → ℕ → ℕ → Bool
-leads a b down up = if nat_lt down up then nat_lt a b else if nat_lt up down then nat_lt b a else a == b
+-- the row of the queen's step that leads from one square towards the other, where one does
+abbrev pub line_of : ℕ → ℕ → ℕ → ℕ → Option ℕ
+line_of fa ra fb rb =
+    if ra == rb then (if nat_lt fa fb then Some 0 else if nat_lt fb fa then Some 1 else None)
+    else if fa == fb then (if nat_lt ra rb then Some 2 else Some 3)
+    else if rb + fa == fb + ra then (if nat_lt ra rb then Some 4 else Some 7)
+    else if rb + fb == fa + ra then (if nat_lt ra rb then Some 5 else Some 6)
+    else None
 
--- whether the target lies on the side to which the step leads
-unfoldable pub aims : Offset → ℕ → ℕ → Bool
-aims o a b = leads (file_of a) (file_of b) o.left o.right && leads (rank_of a) (rank_of b) o.down o.up
+unfoldable pub line : ℕ → ℕ → Option ℕ
+line a b = line_of (file_of a) (rank_of a) (file_of b) (rank_of b)
+
+-- whether a man of this kind slides by the step of this row
+abbrev pub glides : Kind → ℕ → Bool
+glides King row = false
+glides Queen row = nat_lt row 8
+glides Rook row = nat_lt row 4
+glides Bishop row = nat_le 4 row && nat_lt row 8
+glides Knight row = false
+glides Pawn row = false
+
+-- the steps by which a man of this kind slides
+abbrev pub slides : Kind → List Offset
+slides King = []
+slides Queen = rook_steps ++ bishop_steps
+slides Rook = rook_steps
+slides Bishop = bishop_steps
+slides Knight = []
+slides Pawn = []

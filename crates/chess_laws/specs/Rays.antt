@@ -1,13 +1,33 @@
 -- What the code walks: from the target of an attack back to the attacker. No public contract cites these words.
-use Rattle.std.specs.Prelude.{◌≡◌, ℕ, zero, suc, ◌<◌, ◌⊎◌, Option, Some, None}
+use Rattle.std.specs.Prelude.{◌≡◌, ℕ, zero, suc, ◌<◌, ◌⊎◌, Bool, ◌&&◌, ◌==◌, nat_le, List, [], ◌++◌, slice_index_or, Option, Some, None}
+use Rattle.std.specs.List.{position_or_len}
+use Rattle.std.proofs.Common.{true, eqb, refl}
+use Rattle.std.proofs.lemmas.Bool.{agree_below, agree_below_at, eqb-true}
 use Rattle.cell_core.specs.declared.man.Colour.{Colour}
 use Rattle.cell_core.specs.declared.man.Kind.{Kind}
 use Rattle.cell_core.specs.declared.man.Kind.TheVariants.{Queen}
 use Rattle.cell_core.specs.declared.man.Man.{Man}
 use Rattle.cell_core.specs.Board.{Men, man_at}
 use Rattle.cell_core.specs.Man.{man}
-use Rattle.chess_laws.specs.declared.offset.Offset.{Offset}
-use Rattle.chess_laws.specs.Geometry.{shift, Leaps, Runs}
+use Rattle.chess_laws.specs.Geometry.{Offset, by, king_steps, knight_steps, shift, Leaps, Runs}
+
+-- the steps that the code has, by their rows in its tables
+abbrev pub offsets : List Offset
+offsets = king_steps ++ knight_steps
+
+abbrev pub offset_at : ℕ → Offset
+offset_at row = slice_index_or offsets row (by 0 0 0 0)
+
+-- the row of a step
+abbrev pub same_offset : Offset → Offset → Bool
+same_offset a b = ((a.right == b.right) && (a.left == b.left)) && ((a.up == b.up) && (a.down == b.down))
+
+abbrev pub row_of : Offset → ℕ
+row_of o = position_or_len (same_offset o) offsets
+
+-- so a step tells its row
+pub row_back : (row : ℕ) → row < 16 → row_of (offset_at row) ≡ row
+row_back row less = eqb-true (row_of (offset_at row)) row (agree_below_at (λ n. eqb (row_of (offset_at n)) n) (λ n. true) 16 row refl less)
 
 -- the step back
 abbrev pub reversed : Offset → Offset
@@ -39,3 +59,23 @@ pub record SlidesFrom (men : Men) (c : Colour) (k : Kind) (s : ℕ) (o : Offset)
   pub on_board : from < 64
   pub stands : (man_at men from ≡ Some (man c k)) ⊎ (man_at men from ≡ Some (man c Queen))
   pub runs : Runs men from s o
+
+-- where the step of a row leads, and where it comes from
+abbrev pub target_by : ℕ → ℕ → Option ℕ
+target_by row s = shift (offset_at row) s
+
+abbrev pub origin_by : ℕ → ℕ → Option ℕ
+origin_by row s = shift (reversed (offset_at row)) s
+
+-- what a table says of a row and a square
+abbrev pub entry : List (List ℕ) → ℕ → ℕ → ℕ
+entry table row s = slice_index_or (slice_index_or table row []) s 0
+
+-- whether a number is that of the square, or off the board where there is none
+abbrev pub is_named : Option ℕ → ℕ → Bool
+is_named None t = nat_le 64 t
+is_named (Some a) t = t == a
+
+-- whether a table says so of each row and square
+unfoldable pub names_all : (ℕ → ℕ → Option ℕ) → List (List ℕ) → Bool
+names_all f table = agree_below (λ row. agree_below (λ s. is_named (f row s) (entry table row s)) (λ s. true) 64) (λ row. true) 16

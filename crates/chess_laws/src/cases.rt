@@ -1,21 +1,19 @@
 //! Which moves the rules of each kind of half-move allow, apart from the safety of the mover's king.
-ghost use Rattle.std.specs.Prelude.{◌≡◌, ◌↔◌, IsTrue, Any, Some, None};
+ghost use Rattle.std.specs.Prelude.{◌≡◌, ◌↔◌, ◌<◌, IsTrue, Any, Some, None, true};
 ghost use Rattle.cell_core.specs.Board.{man_at};
 ghost use Rattle.cell_core.specs.Man.{man, other};
 ghost use Rattle.cell_core.specs.declared.man.Kind.TheVariants.{Pawn};
-ghost use Rattle.chess_laws.specs.Geometry.{forward, pawn_captures, rook_steps, Leaps, Runs, Walk};
+ghost use Rattle.chess_laws.specs.Geometry.{forward, king_steps, pawn_captures, Leaps, Runs, Walk};
 ghost use Rattle.chess_laws.specs.Attacks.{Reaches, IsInCheck};
-ghost use Rattle.chess_laws.specs.Legal.{IsOnlyKing, MayCastle, aims, leads, run, IsEnemyOn};
+ghost use Rattle.chess_laws.specs.Legal.{IsOnlyKing, MayCastle, glides, run, slides, IsEnemyOn};
+ghost use Rattle.chess_laws.specs.Rays.{offset_at};
 ghost use Rattle.chess_laws.specs.Step.{Case, CastleCase, DoubleCase, GoesPlainly, HasNoOwn, NullCase, PassingCase, PlainCase, last_rank, may_become, promotes_rightly};
 
-use super::attack::{
-    BISHOP_STEPS, BLACK_CAPTURES, KING_STEPS, KNIGHT_STEPS, ROOK_STEPS, WHITE_CAPTURES, attacks,
-    stands,
-};
+use super::attack::{attacks, stands};
 use super::castling::{has_right, is_path_safe, is_way_free};
 use super::effect::Effect;
 use super::next::passed_square;
-use super::offset::Offset;
+use super::offset::{BLACK_CAPTURES, DOWN, KNIGHT_STEPS, Offset, UP, WHITE_CAPTURES, line};
 use super::setup::{Setup, Wing};
 use cell_core::{Board, Colour, Kind, Man, Move, Square};
 
@@ -212,18 +210,8 @@ pub fn forward(colour: Colour) -> Offset
     ensures { result ≡ forward colour }
 {
     match colour {
-        Colour::White => Offset {
-            right: 0,
-            left: 0,
-            up: 1,
-            down: 0,
-        },
-        Colour::Black => Offset {
-            right: 0,
-            left: 0,
-            up: 0,
-            down: 1,
-        },
+        Colour::White => UP,
+        Colour::Black => DOWN,
     }
 }
 
@@ -242,12 +230,20 @@ fn reaches(board: &Board, colour: Colour, kind: Kind, from: Square, to: Square) 
     ensures { IsTrue result ↔ Reaches board.now colour kind from to }
 {
     match kind {
-        Kind::King => leaps(&KING_STEPS, from, to),
-        Kind::Queen => runs(board, &KING_STEPS, from, to),
-        Kind::Rook => runs(board, &ROOK_STEPS, from, to),
-        Kind::Bishop => runs(board, &BISHOP_STEPS, from, to),
+        Kind::King => adjoins(from, to),
+        Kind::Queen | Kind::Rook | Kind::Bishop => runs(board, kind, from, to),
         Kind::Knight => leaps(&KNIGHT_STEPS, from, to),
         Kind::Pawn => pawn_takes(colour, from, to),
+    }
+}
+
+/// Whether one of the king's steps leads from one square to the other.
+fn adjoins(from: Square, to: Square) -> bool
+    ensures { IsTrue result ↔ Any (Leaps from to) king_steps }
+{
+    match line(from, to) {
+        None => false,
+        Some(row) => leaps_by(&Offset::of_row(row), from, to),
     }
 }
 
@@ -265,42 +261,33 @@ fn leaps_by(step: &Offset, from: Square, to: Square) -> bool
     step.target(from) == Some(to)
 }
 
-/// Whether equal steps, of one of these, lead from one square to the other over empty squares.
-fn runs(board: &Board, steps: &[Offset], from: Square, to: Square) -> bool
-    ensures { IsTrue result ↔ Any (Runs board.now from to) steps.now }
+/// Whether equal steps, of this kind of man, lead from one square to the other over empty squares.
+fn runs(board: &Board, kind: Kind, from: Square, to: Square) -> bool
+    ensures { IsTrue result ↔ Any (Runs board.now from to) (slides kind) }
 {
-    steps.iter().any(|step| runs_by(board, step, from, to))
-}
-
-/// Whether equal steps, of this one, lead from one square to the other over empty squares.
-fn runs_by(board: &Board, step: &Offset, from: Square, to: Square) -> bool
-    ensures { IsTrue result ↔ Runs board.now from to step.now }
-{
-    if !aims(step, from, to) {
-        return false;
+    match line(from, to) {
+        None => false,
+        Some(row) => runs_by(board, kind, row, from, to),
     }
-    run(board, step, from, to)
 }
 
-/// Whether the target lies on the side to which the step leads, so that a walk may come there.
-#[tactic(auto, unfolding(crate::specs::Legal::aims))]
-fn aims(step: &Offset, from: Square, to: Square) -> bool
-    ensures { result ≡ aims step.now from to }
+/// Whether a man of this kind slides by the step of this row from one square to the other over empty squares.
+fn runs_by(board: &Board, kind: Kind, row: u8, from: Square, to: Square) -> bool
+    requires row { row < 8 }
+    ensures { IsTrue result ↔ ((glides kind row ≡ true) × Runs board.now from to (offset_at row)) }
 {
-    let (from, to) = (from.index(), to.index());
-    leads(from % 8, to % 8, step.left, step.right) && leads(from / 8, to / 8, step.down, step.up)
+    glides(kind, row) && run(board, &Offset::of_row(row), from, to)
 }
 
-/// Whether one number leads to another by a change of so much down and up.
-fn leads(from: u8, to: u8, down: u8, up: u8) -> bool
-    ensures { result ≡ leads from to down up }
+/// Whether a man of this kind slides by the step of this row.
+pub fn glides(kind: Kind, row: u8) -> bool
+    ensures { result ≡ glides kind row }
 {
-    if down < up {
-        from < to
-    } else if up < down {
-        to < from
-    } else {
-        from == to
+    match kind {
+        Kind::Queen => row < 8,
+        Kind::Rook => row < 4,
+        Kind::Bishop => 4 <= row && row < 8,
+        Kind::King | Kind::Knight | Kind::Pawn => false,
     }
 }
 

@@ -1,52 +1,317 @@
-ghost use Rattle.std.specs.Prelude.{◌≡◌, ◌+◌, ◌-◌, ◌<◌, ◌≤◌, IfSome};
-ghost use Rattle.chess_laws.specs.Rays.{reversed};
-ghost use Rattle.chess_laws.specs.Geometry.{shift, line_at};
+//! Steps on the board, and where they lead from each square.
+ghost use Rattle.std.specs.Prelude.{◌≡◌, ◌<◌, IfSome, true};
+ghost use Rattle.chess_laws.specs.Legal.{line};
+ghost use Rattle.chess_laws.specs.Rays.{names_all, offset_at, origin_by, reversed, target_by};
+ghost use Rattle.chess_laws.specs.Geometry.{shift};
 
 use cell_core::Square;
+use std::marker::Model;
 
-/// A step on the board: so many files to the right and left, and so many ranks up and down, as White sees them.
-#[derive(Clone, Copy, Debug, PartialEq, Eq)]
+/// A step on the board: so many files to the right and left, and so many ranks up and down, as White sees them. The first
+/// eight lead to the adjoining squares, the others are a knight's.
+#[derive(Clone, Copy, Debug)]
 pub struct Offset {
-    pub right: u8,
-    pub left: u8,
-    pub up: u8,
-    pub down: u8,
+    row: u8,
+}
+
+impl Model for Offset {
+    ghost use Rattle.std.specs.Prelude.{◌<◌};
+    ghost use Rattle.chess_laws.specs.Geometry.{Offset};
+    ghost use Rattle.chess_laws.specs.Rays.{offset_at, row_back, row_of};
+
+    ghost Value = { Offset };
+
+    ghost view = { λ o. offset_at o.row };
+
+    ghost invariant = { λ o. o.row < 16 };
+
+    ghost inverse = { λ o. record { row = row_of o } };
+
+    ghost inverse_ok = { λ o less i. record { row = row_back o.row less i } };
 }
 
 impl Offset {
     /// The square from which this step leads to `s`, if it is on the board.
-    #[tactic(auto, unfolding(crate::specs::Geometry::shift))]
     pub fn origin(&self, s: Square) -> Option<Square>
         ensures origin { result ≡ shift (reversed self.now) s }
         ensures on_board { s < 64 }
     {
-        let file = moved(s.index() % 8, self.left, self.right)?;
-        let rank = moved(s.index() / 8, self.down, self.up)?;
-        Some(Square::at(8 * rank + file))
+        origin_in(&ORIGINS, self.row, s)
     }
 
     /// The square to which this step leads from `s`, if it is on the board.
-    #[tactic(auto, unfolding(crate::specs::Geometry::shift))]
     pub fn target(&self, s: Square) -> Option<Square>
         ensures { result ≡ shift self.now s }
     {
-        let file = moved(s.index() % 8, self.right, self.left)?;
-        let rank = moved(s.index() / 8, self.up, self.down)?;
-        Some(Square::at(8 * rank + file))
+        target_in(&TARGETS, self.row, s)
     }
 }
 
-/// A file or a rank, raised and lowered, where it stays from 0 to 7.
-fn moved(line: u8, up: u8, down: u8) -> Option<u8>
-    requires { line < 8 }
-    ensures at { result ≡ line_at line up down }
-    ensures on_board { IfSome result (λ moved. moved < 8) }
+// The square at this place of a table that says where each step comes from.
+fn origin_in(table: &[[u8; 64]; 16], row: u8, s: Square) -> Option<Square>
+    requires row { row < 16 }
+    requires says { names_all origin_by table.now ≡ true }
+    ensures origin { result ≡ shift (reversed (offset_at row)) s }
+    ensures on_board { s < 64 }
 {
-    let raised = u16::from(line) + u16::from(up);
-    let down = u16::from(down);
-    if down <= raised && raised < 8 + down {
-        Some((raised - down) as u8)
+    Square::new(table[row as usize][s.index() as usize])
+}
+
+// The square at this place of a table that says where each step leads.
+fn target_in(table: &[[u8; 64]; 16], row: u8, s: Square) -> Option<Square>
+    requires row { row < 16 }
+    requires says { names_all target_by table.now ≡ true }
+    ensures { result ≡ shift (offset_at row) s }
+{
+    Square::new(table[row as usize][s.index() as usize])
+}
+
+impl Offset {
+    /// The step of this row: a queen's.
+    pub fn of_row(row: u8) -> Offset
+        requires row { row < 8 }
+        ensures step { result ≡ offset_at row }
+    {
+        Offset { row }
+    }
+}
+
+/// The row of the queen's step that leads from one square towards the other, where one does.
+#[tactic(auto, unfolding(crate::specs::Legal::line))]
+pub fn line(from: Square, to: Square) -> Option<u8>
+    ensures row { result ≡ line from to }
+    ensures queen { IfSome result (λ row. row < 8) }
+{
+    let (from_file, from_rank) = (from.index() % 8, from.index() / 8);
+    let (to_file, to_rank) = (to.index() % 8, to.index() / 8);
+    if from_rank == to_rank {
+        if from_file < to_file {
+            Some(0)
+        } else if to_file < from_file {
+            Some(1)
+        } else {
+            None
+        }
+    } else if from_file == to_file {
+        Some(if from_rank < to_rank { 2 } else { 3 })
+    } else if to_rank + from_file == to_file + from_rank {
+        Some(if from_rank < to_rank { 4 } else { 7 })
+    } else if to_rank + to_file == from_file + from_rank {
+        Some(if from_rank < to_rank { 5 } else { 6 })
     } else {
         None
     }
 }
+
+// Along a file or a rank.
+pub const ROOK_STEPS: [Offset; 4] = [RIGHT, LEFT, UP, DOWN];
+
+// Along a diagonal.
+pub const BISHOP_STEPS: [Offset; 4] = [UP_RIGHT, UP_LEFT, DOWN_RIGHT, DOWN_LEFT];
+
+// To any adjoining square.
+pub const KING_STEPS: [Offset; 8] = [
+    RIGHT, LEFT, UP, DOWN, UP_RIGHT, UP_LEFT, DOWN_RIGHT, DOWN_LEFT,
+];
+
+// To the nearest squares that are not on the same rank, file or diagonal.
+pub const KNIGHT_STEPS: [Offset; 8] = [
+    Offset { row: 8 },
+    Offset { row: 9 },
+    Offset { row: 10 },
+    Offset { row: 11 },
+    Offset { row: 12 },
+    Offset { row: 13 },
+    Offset { row: 14 },
+    Offset { row: 15 },
+];
+
+// Diagonally in front of a white pawn.
+pub const WHITE_CAPTURES: [Offset; 2] = [UP_RIGHT, UP_LEFT];
+
+// Diagonally in front of a black pawn.
+pub const BLACK_CAPTURES: [Offset; 2] = [DOWN_RIGHT, DOWN_LEFT];
+
+pub const RIGHT: Offset = Offset { row: 0 };
+
+pub const LEFT: Offset = Offset { row: 1 };
+
+pub const UP: Offset = Offset { row: 2 };
+
+pub const DOWN: Offset = Offset { row: 3 };
+
+pub const UP_RIGHT: Offset = Offset { row: 4 };
+
+pub const UP_LEFT: Offset = Offset { row: 5 };
+
+pub const DOWN_RIGHT: Offset = Offset { row: 6 };
+
+pub const DOWN_LEFT: Offset = Offset { row: 7 };
+
+// Where each step leads from each square, 64 where that is off the board.
+const TARGETS: [[u8; 64]; 16] = [
+    [
+        1, 2, 3, 4, 5, 6, 7, 64, 9, 10, 11, 12, 13, 14, 15, 64, 17, 18, 19, 20, 21, 22, 23, 64, 25,
+        26, 27, 28, 29, 30, 31, 64, 33, 34, 35, 36, 37, 38, 39, 64, 41, 42, 43, 44, 45, 46, 47, 64,
+        49, 50, 51, 52, 53, 54, 55, 64, 57, 58, 59, 60, 61, 62, 63, 64,
+    ],
+    [
+        64, 0, 1, 2, 3, 4, 5, 6, 64, 8, 9, 10, 11, 12, 13, 14, 64, 16, 17, 18, 19, 20, 21, 22, 64,
+        24, 25, 26, 27, 28, 29, 30, 64, 32, 33, 34, 35, 36, 37, 38, 64, 40, 41, 42, 43, 44, 45, 46,
+        64, 48, 49, 50, 51, 52, 53, 54, 64, 56, 57, 58, 59, 60, 61, 62,
+    ],
+    [
+        8, 9, 10, 11, 12, 13, 14, 15, 16, 17, 18, 19, 20, 21, 22, 23, 24, 25, 26, 27, 28, 29, 30,
+        31, 32, 33, 34, 35, 36, 37, 38, 39, 40, 41, 42, 43, 44, 45, 46, 47, 48, 49, 50, 51, 52, 53,
+        54, 55, 56, 57, 58, 59, 60, 61, 62, 63, 64, 64, 64, 64, 64, 64, 64, 64,
+    ],
+    [
+        64, 64, 64, 64, 64, 64, 64, 64, 0, 1, 2, 3, 4, 5, 6, 7, 8, 9, 10, 11, 12, 13, 14, 15, 16,
+        17, 18, 19, 20, 21, 22, 23, 24, 25, 26, 27, 28, 29, 30, 31, 32, 33, 34, 35, 36, 37, 38, 39,
+        40, 41, 42, 43, 44, 45, 46, 47, 48, 49, 50, 51, 52, 53, 54, 55,
+    ],
+    [
+        9, 10, 11, 12, 13, 14, 15, 64, 17, 18, 19, 20, 21, 22, 23, 64, 25, 26, 27, 28, 29, 30, 31,
+        64, 33, 34, 35, 36, 37, 38, 39, 64, 41, 42, 43, 44, 45, 46, 47, 64, 49, 50, 51, 52, 53, 54,
+        55, 64, 57, 58, 59, 60, 61, 62, 63, 64, 64, 64, 64, 64, 64, 64, 64, 64,
+    ],
+    [
+        64, 8, 9, 10, 11, 12, 13, 14, 64, 16, 17, 18, 19, 20, 21, 22, 64, 24, 25, 26, 27, 28, 29,
+        30, 64, 32, 33, 34, 35, 36, 37, 38, 64, 40, 41, 42, 43, 44, 45, 46, 64, 48, 49, 50, 51, 52,
+        53, 54, 64, 56, 57, 58, 59, 60, 61, 62, 64, 64, 64, 64, 64, 64, 64, 64,
+    ],
+    [
+        64, 64, 64, 64, 64, 64, 64, 64, 1, 2, 3, 4, 5, 6, 7, 64, 9, 10, 11, 12, 13, 14, 15, 64, 17,
+        18, 19, 20, 21, 22, 23, 64, 25, 26, 27, 28, 29, 30, 31, 64, 33, 34, 35, 36, 37, 38, 39, 64,
+        41, 42, 43, 44, 45, 46, 47, 64, 49, 50, 51, 52, 53, 54, 55, 64,
+    ],
+    [
+        64, 64, 64, 64, 64, 64, 64, 64, 64, 0, 1, 2, 3, 4, 5, 6, 64, 8, 9, 10, 11, 12, 13, 14, 64,
+        16, 17, 18, 19, 20, 21, 22, 64, 24, 25, 26, 27, 28, 29, 30, 64, 32, 33, 34, 35, 36, 37, 38,
+        64, 40, 41, 42, 43, 44, 45, 46, 64, 48, 49, 50, 51, 52, 53, 54,
+    ],
+    [
+        17, 18, 19, 20, 21, 22, 23, 64, 25, 26, 27, 28, 29, 30, 31, 64, 33, 34, 35, 36, 37, 38, 39,
+        64, 41, 42, 43, 44, 45, 46, 47, 64, 49, 50, 51, 52, 53, 54, 55, 64, 57, 58, 59, 60, 61, 62,
+        63, 64, 64, 64, 64, 64, 64, 64, 64, 64, 64, 64, 64, 64, 64, 64, 64, 64,
+    ],
+    [
+        10, 11, 12, 13, 14, 15, 64, 64, 18, 19, 20, 21, 22, 23, 64, 64, 26, 27, 28, 29, 30, 31, 64,
+        64, 34, 35, 36, 37, 38, 39, 64, 64, 42, 43, 44, 45, 46, 47, 64, 64, 50, 51, 52, 53, 54, 55,
+        64, 64, 58, 59, 60, 61, 62, 63, 64, 64, 64, 64, 64, 64, 64, 64, 64, 64,
+    ],
+    [
+        64, 64, 64, 64, 64, 64, 64, 64, 2, 3, 4, 5, 6, 7, 64, 64, 10, 11, 12, 13, 14, 15, 64, 64,
+        18, 19, 20, 21, 22, 23, 64, 64, 26, 27, 28, 29, 30, 31, 64, 64, 34, 35, 36, 37, 38, 39, 64,
+        64, 42, 43, 44, 45, 46, 47, 64, 64, 50, 51, 52, 53, 54, 55, 64, 64,
+    ],
+    [
+        64, 64, 64, 64, 64, 64, 64, 64, 64, 64, 64, 64, 64, 64, 64, 64, 1, 2, 3, 4, 5, 6, 7, 64, 9,
+        10, 11, 12, 13, 14, 15, 64, 17, 18, 19, 20, 21, 22, 23, 64, 25, 26, 27, 28, 29, 30, 31, 64,
+        33, 34, 35, 36, 37, 38, 39, 64, 41, 42, 43, 44, 45, 46, 47, 64,
+    ],
+    [
+        64, 16, 17, 18, 19, 20, 21, 22, 64, 24, 25, 26, 27, 28, 29, 30, 64, 32, 33, 34, 35, 36, 37,
+        38, 64, 40, 41, 42, 43, 44, 45, 46, 64, 48, 49, 50, 51, 52, 53, 54, 64, 56, 57, 58, 59, 60,
+        61, 62, 64, 64, 64, 64, 64, 64, 64, 64, 64, 64, 64, 64, 64, 64, 64, 64,
+    ],
+    [
+        64, 64, 8, 9, 10, 11, 12, 13, 64, 64, 16, 17, 18, 19, 20, 21, 64, 64, 24, 25, 26, 27, 28,
+        29, 64, 64, 32, 33, 34, 35, 36, 37, 64, 64, 40, 41, 42, 43, 44, 45, 64, 64, 48, 49, 50, 51,
+        52, 53, 64, 64, 56, 57, 58, 59, 60, 61, 64, 64, 64, 64, 64, 64, 64, 64,
+    ],
+    [
+        64, 64, 64, 64, 64, 64, 64, 64, 64, 64, 0, 1, 2, 3, 4, 5, 64, 64, 8, 9, 10, 11, 12, 13, 64,
+        64, 16, 17, 18, 19, 20, 21, 64, 64, 24, 25, 26, 27, 28, 29, 64, 64, 32, 33, 34, 35, 36, 37,
+        64, 64, 40, 41, 42, 43, 44, 45, 64, 64, 48, 49, 50, 51, 52, 53,
+    ],
+    [
+        64, 64, 64, 64, 64, 64, 64, 64, 64, 64, 64, 64, 64, 64, 64, 64, 64, 0, 1, 2, 3, 4, 5, 6,
+        64, 8, 9, 10, 11, 12, 13, 14, 64, 16, 17, 18, 19, 20, 21, 22, 64, 24, 25, 26, 27, 28, 29,
+        30, 64, 32, 33, 34, 35, 36, 37, 38, 64, 40, 41, 42, 43, 44, 45, 46,
+    ],
+];
+
+// Where each step comes from to each square, 64 where that is off the board.
+const ORIGINS: [[u8; 64]; 16] = [
+    [
+        64, 0, 1, 2, 3, 4, 5, 6, 64, 8, 9, 10, 11, 12, 13, 14, 64, 16, 17, 18, 19, 20, 21, 22, 64,
+        24, 25, 26, 27, 28, 29, 30, 64, 32, 33, 34, 35, 36, 37, 38, 64, 40, 41, 42, 43, 44, 45, 46,
+        64, 48, 49, 50, 51, 52, 53, 54, 64, 56, 57, 58, 59, 60, 61, 62,
+    ],
+    [
+        1, 2, 3, 4, 5, 6, 7, 64, 9, 10, 11, 12, 13, 14, 15, 64, 17, 18, 19, 20, 21, 22, 23, 64, 25,
+        26, 27, 28, 29, 30, 31, 64, 33, 34, 35, 36, 37, 38, 39, 64, 41, 42, 43, 44, 45, 46, 47, 64,
+        49, 50, 51, 52, 53, 54, 55, 64, 57, 58, 59, 60, 61, 62, 63, 64,
+    ],
+    [
+        64, 64, 64, 64, 64, 64, 64, 64, 0, 1, 2, 3, 4, 5, 6, 7, 8, 9, 10, 11, 12, 13, 14, 15, 16,
+        17, 18, 19, 20, 21, 22, 23, 24, 25, 26, 27, 28, 29, 30, 31, 32, 33, 34, 35, 36, 37, 38, 39,
+        40, 41, 42, 43, 44, 45, 46, 47, 48, 49, 50, 51, 52, 53, 54, 55,
+    ],
+    [
+        8, 9, 10, 11, 12, 13, 14, 15, 16, 17, 18, 19, 20, 21, 22, 23, 24, 25, 26, 27, 28, 29, 30,
+        31, 32, 33, 34, 35, 36, 37, 38, 39, 40, 41, 42, 43, 44, 45, 46, 47, 48, 49, 50, 51, 52, 53,
+        54, 55, 56, 57, 58, 59, 60, 61, 62, 63, 64, 64, 64, 64, 64, 64, 64, 64,
+    ],
+    [
+        64, 64, 64, 64, 64, 64, 64, 64, 64, 0, 1, 2, 3, 4, 5, 6, 64, 8, 9, 10, 11, 12, 13, 14, 64,
+        16, 17, 18, 19, 20, 21, 22, 64, 24, 25, 26, 27, 28, 29, 30, 64, 32, 33, 34, 35, 36, 37, 38,
+        64, 40, 41, 42, 43, 44, 45, 46, 64, 48, 49, 50, 51, 52, 53, 54,
+    ],
+    [
+        64, 64, 64, 64, 64, 64, 64, 64, 1, 2, 3, 4, 5, 6, 7, 64, 9, 10, 11, 12, 13, 14, 15, 64, 17,
+        18, 19, 20, 21, 22, 23, 64, 25, 26, 27, 28, 29, 30, 31, 64, 33, 34, 35, 36, 37, 38, 39, 64,
+        41, 42, 43, 44, 45, 46, 47, 64, 49, 50, 51, 52, 53, 54, 55, 64,
+    ],
+    [
+        64, 8, 9, 10, 11, 12, 13, 14, 64, 16, 17, 18, 19, 20, 21, 22, 64, 24, 25, 26, 27, 28, 29,
+        30, 64, 32, 33, 34, 35, 36, 37, 38, 64, 40, 41, 42, 43, 44, 45, 46, 64, 48, 49, 50, 51, 52,
+        53, 54, 64, 56, 57, 58, 59, 60, 61, 62, 64, 64, 64, 64, 64, 64, 64, 64,
+    ],
+    [
+        9, 10, 11, 12, 13, 14, 15, 64, 17, 18, 19, 20, 21, 22, 23, 64, 25, 26, 27, 28, 29, 30, 31,
+        64, 33, 34, 35, 36, 37, 38, 39, 64, 41, 42, 43, 44, 45, 46, 47, 64, 49, 50, 51, 52, 53, 54,
+        55, 64, 57, 58, 59, 60, 61, 62, 63, 64, 64, 64, 64, 64, 64, 64, 64, 64,
+    ],
+    [
+        64, 64, 64, 64, 64, 64, 64, 64, 64, 64, 64, 64, 64, 64, 64, 64, 64, 0, 1, 2, 3, 4, 5, 6,
+        64, 8, 9, 10, 11, 12, 13, 14, 64, 16, 17, 18, 19, 20, 21, 22, 64, 24, 25, 26, 27, 28, 29,
+        30, 64, 32, 33, 34, 35, 36, 37, 38, 64, 40, 41, 42, 43, 44, 45, 46,
+    ],
+    [
+        64, 64, 64, 64, 64, 64, 64, 64, 64, 64, 0, 1, 2, 3, 4, 5, 64, 64, 8, 9, 10, 11, 12, 13, 64,
+        64, 16, 17, 18, 19, 20, 21, 64, 64, 24, 25, 26, 27, 28, 29, 64, 64, 32, 33, 34, 35, 36, 37,
+        64, 64, 40, 41, 42, 43, 44, 45, 64, 64, 48, 49, 50, 51, 52, 53,
+    ],
+    [
+        64, 64, 8, 9, 10, 11, 12, 13, 64, 64, 16, 17, 18, 19, 20, 21, 64, 64, 24, 25, 26, 27, 28,
+        29, 64, 64, 32, 33, 34, 35, 36, 37, 64, 64, 40, 41, 42, 43, 44, 45, 64, 64, 48, 49, 50, 51,
+        52, 53, 64, 64, 56, 57, 58, 59, 60, 61, 64, 64, 64, 64, 64, 64, 64, 64,
+    ],
+    [
+        64, 16, 17, 18, 19, 20, 21, 22, 64, 24, 25, 26, 27, 28, 29, 30, 64, 32, 33, 34, 35, 36, 37,
+        38, 64, 40, 41, 42, 43, 44, 45, 46, 64, 48, 49, 50, 51, 52, 53, 54, 64, 56, 57, 58, 59, 60,
+        61, 62, 64, 64, 64, 64, 64, 64, 64, 64, 64, 64, 64, 64, 64, 64, 64, 64,
+    ],
+    [
+        64, 64, 64, 64, 64, 64, 64, 64, 64, 64, 64, 64, 64, 64, 64, 64, 1, 2, 3, 4, 5, 6, 7, 64, 9,
+        10, 11, 12, 13, 14, 15, 64, 17, 18, 19, 20, 21, 22, 23, 64, 25, 26, 27, 28, 29, 30, 31, 64,
+        33, 34, 35, 36, 37, 38, 39, 64, 41, 42, 43, 44, 45, 46, 47, 64,
+    ],
+    [
+        64, 64, 64, 64, 64, 64, 64, 64, 2, 3, 4, 5, 6, 7, 64, 64, 10, 11, 12, 13, 14, 15, 64, 64,
+        18, 19, 20, 21, 22, 23, 64, 64, 26, 27, 28, 29, 30, 31, 64, 64, 34, 35, 36, 37, 38, 39, 64,
+        64, 42, 43, 44, 45, 46, 47, 64, 64, 50, 51, 52, 53, 54, 55, 64, 64,
+    ],
+    [
+        10, 11, 12, 13, 14, 15, 64, 64, 18, 19, 20, 21, 22, 23, 64, 64, 26, 27, 28, 29, 30, 31, 64,
+        64, 34, 35, 36, 37, 38, 39, 64, 64, 42, 43, 44, 45, 46, 47, 64, 64, 50, 51, 52, 53, 54, 55,
+        64, 64, 58, 59, 60, 61, 62, 63, 64, 64, 64, 64, 64, 64, 64, 64, 64, 64,
+    ],
+    [
+        17, 18, 19, 20, 21, 22, 23, 64, 25, 26, 27, 28, 29, 30, 31, 64, 33, 34, 35, 36, 37, 38, 39,
+        64, 41, 42, 43, 44, 45, 46, 47, 64, 49, 50, 51, 52, 53, 54, 55, 64, 57, 58, 59, 60, 61, 62,
+        63, 64, 64, 64, 64, 64, 64, 64, 64, 64, 64, 64, 64, 64, 64, 64, 64, 64,
+    ],
+];

@@ -222,7 +222,8 @@ fn place(
 
 impl Position {
     ghost use Rattle.chess_laws.specs.declared.setup.Setup.{Setup};
-    ghost use Rattle.chess_laws.specs.Step.{effect_of, is_capture, Legal, Step, stepped};
+    ghost use Rattle.chess_laws.specs.Step.{effect_of, is_capture, Legal, Step};
+    ghost use Rattle.std.specs.Bool.{OnTrue, OnFalse};
 
     /// Whether the move is legal. The null move is legal where the side to move is not in check.
     pub fn is_legal(&self, m: Move) -> bool
@@ -249,6 +250,19 @@ impl Position {
             Effect::Passing => true,
             Effect::Castle(_) | Effect::Null => false,
         }
+    }
+
+    /// Plays the move where it is legal, and answers whether it is. A position whose move is not legal stays as it was.
+    pub fn advance(&mut self, m: &Move) -> bool
+        ensures legal { IsTrue result ↔ Legal self.old m.now }
+        ensures step { OnTrue result (Step self.old m.now self.new) }
+        ensures kept { OnFalse result (self.new ≡ self.old) }
+    {
+        let legal = is_legal(self.setup(), self.king(self.side()), m);
+        if legal {
+            self.play(*m);
+        }
+        legal
     }
 
     /// Plays a legal move. What it leads to is the one position that it can lead to.

@@ -1,9 +1,8 @@
 //! Attacks by the definition's own steps, forward from each man: plain and slow, to compare the code with.
 
-use super::attack::{
-    BISHOP_STEPS, BLACK_CAPTURES, KING_STEPS, KNIGHT_STEPS, ROOK_STEPS, WHITE_CAPTURES,
+use super::offset::{
+    BISHOP_STEPS, BLACK_CAPTURES, KING_STEPS, KNIGHT_STEPS, Offset, ROOK_STEPS, WHITE_CAPTURES,
 };
-use super::offset::Offset;
 use cell_core::{Board, Colour, Kind, Square};
 
 /// Whether some man of the colour `by` reaches the square.

@@ -7,12 +7,11 @@ ghost use Rattle.chess_laws.specs.Geometry.{Leaps, Runs, Walk, forward, pawn_cap
 ghost use Rattle.chess_laws.specs.Legal.{run};
 ghost use Rattle.chess_laws.specs.Targets.{CastlesTo, Comes, Has};
 
-use super::attack::{
-    BISHOP_STEPS, BLACK_CAPTURES, KING_STEPS, KNIGHT_STEPS, ROOK_STEPS, WHITE_CAPTURES,
-};
 use super::cases::forward;
 use super::castling::{king_home, king_target};
-use super::offset::Offset;
+use super::offset::{
+    BISHOP_STEPS, BLACK_CAPTURES, KING_STEPS, KNIGHT_STEPS, Offset, ROOK_STEPS, WHITE_CAPTURES,
+};
 use super::setup::{Setup, Wing};
 use cell_core::{Board, Colour, Kind, Square};
 

@@ -11,7 +11,8 @@ use Rattle.cell_core.specs.declared.man.Kind.{Kind}
 use Rattle.cell_core.specs.declared.man.Kind.TheVariants.{King, Queen, Rook, Bishop, Knight, Pawn}
 use Rattle.cell_core.specs.declared.man.Man.{Man}
 use Rattle.cell_core.specs.Board.{Men}
-use Rattle.chess_text.specs.Letters.{capital_of, letter_in, letter_of, kind_named, man_in, man_named}
+use Rattle.chess_text.specs.Letters.{capital_of, letter_in, letter_of}
+use Rattle.chess_text.specs.LetterReading.{kind_named, man_in, man_named}
 use Rattle.chess_text.specs.Placement.{Stands, RankText, RanksText, PlacementText}
 use Rattle.chess_text.specs.Filling.{board_named, Place, after, after_man, after_empty, after_slash, after_letter, filled}
 

@@ -37,10 +37,10 @@ word_of text = front_word (skipped text)
 unfoldable pub rest_of : List ℕ → List ℕ
 rest_of text = behind_word (skipped text)
 
--- A word, or another for an empty one.
+-- A word, or the default for an empty one.
 abbrev pub or_word : List ℕ → List ℕ → List ℕ
-or_word [] other = other
-or_word (byte ∷ word) other = byte ∷ word
+or_word [] default = default
+or_word (byte ∷ word) default = byte ∷ word
 
 abbrev pub side_named : List ℕ → Option Colour
 side_named [] = None

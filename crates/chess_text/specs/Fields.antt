@@ -5,8 +5,9 @@ use Rattle.std.specs.Char.{IsAsciiDigit}
 use Rattle.cell_core.specs.declared.man.Colour.{Colour}
 use Rattle.cell_core.specs.declared.man.Colour.TheVariants.{White, Black}
 use Rattle.chess_laws.specs.declared.setup.Rights.{Rights}
-use Rattle.chess_laws.specs.Geometry.{file_of, rank_of}
+use Rattle.chess_laws.specs.Geometry.{rank_of}
 use Rattle.chess_laws.specs.Position.{en_passant_rank}
+use Rattle.chess_text.specs.Squares.{square_text}
 
 -- A word has a byte at least, and no space.
 abbrev pub IsWord : List ℕ → Type 0
@@ -56,10 +57,6 @@ no_rights =
 -- The castling rights, the third field: - for none, or a word of them (PGN standard, 16.1.3.3).
 abbrev pub RightsText : List ℕ → Rights → Type 0
 RightsText word rights = ((word ≡ 45 ∷ []) × (rights ≡ no_rights)) ⊎ NamesRights word rights
-
--- A square as its file letter and its rank digit (PGN standard, 8.2.3.1).
-abbrev pub square_text : ℕ → List ℕ
-square_text s = (97 + file_of s) ∷ (49 + rank_of s) ∷ []
 
 -- The en passant square, the fourth field: - for none, or a square of the sixth rank with White to move and of the third
 -- with Black (PGN standard, 16.1.3.4).

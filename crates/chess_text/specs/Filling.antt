@@ -1,7 +1,8 @@
+-- What the reader of a placement answers. No public contract cites these words.
 use Rattle.std.specs.Prelude.{ℕ, ◌+◌, ◌-◌, ◌*◌, ◌==◌, ◌&&◌, List, [], ◌∷◌, Option, Some, None, cond, nat_lt, nat_le, option_and_then, slice_set, replicate}
 use Rattle.cell_core.specs.declared.man.Man.{Man}
 use Rattle.cell_core.specs.Board.{Men}
-use Rattle.chess_text.specs.Letters.{man_named}
+use Rattle.chess_text.specs.LetterReading.{man_named}
 
 -- A board that is being filled from the eighth rank down, and the square that comes next: file 8 is the end of a rank.
 pub record Place : Type 0 where

@@ -1,4 +1,6 @@
 pub mod Letters
+pub mod LetterReading
+pub mod Squares
 pub mod Placement
 pub mod Filling
 pub mod Fields

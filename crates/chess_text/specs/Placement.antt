@@ -1,3 +1,4 @@
+-- The piece placement, the first field of a FEN (PGN standard, 16.1.3.1).
 use Rattle.std.specs.Prelude.{◌≡◌, ℕ, zero, suc, ◌+◌, ◌≤◌, ◌⊎◌, List, [], ◌∷◌, ◌++◌, Some, None, replicate, length}
 use Rattle.cell_core.specs.declared.man.Man.{Man}
 use Rattle.cell_core.specs.Board.{Men}

@@ -5,7 +5,8 @@ use Rattle.cell_core.specs.Board.{Men}
 use Rattle.chess_laws.specs.declared.setup.Rights.{Rights}
 use Rattle.chess_laws.specs.declared.setup.Setup.{Setup}
 use Rattle.chess_text.specs.Letters.{letter_of}
-use Rattle.chess_text.specs.Fields.{side_text, square_text}
+use Rattle.chess_text.specs.Fields.{side_text}
+use Rattle.chess_text.specs.Squares.{square_text}
 
 -- A run of so many empty squares as one digit, and nothing for none.
 abbrev pub run_text : ℕ → List ℕ

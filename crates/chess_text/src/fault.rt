@@ -1,20 +1,27 @@
+//! Why a text is no position.
 ghost use Rattle.std.specs.Prelude.{◌≡◌};
 ghost use Rattle.chess_text.specs.Fault.{fault_of};
 
 use chess_laws::PlaceFault;
+use thiserror::Error;
 
 /// Why a text is no position in Forsyth-Edwards Notation.
-#[derive(Clone, Copy, Debug, PartialEq, Eq)]
+#[derive(Clone, Copy, Debug, PartialEq, Eq, Error)]
 pub enum FenFault {
     /// The field with this number, counted from 1, is malformed; a seventh field is `Field(7)`.
+    #[error("field {0} is malformed")]
     Field(u8),
     /// A side has not exactly one king.
+    #[error("a side has not exactly one king")]
     Kings,
     /// A pawn stands on the first or the last rank.
+    #[error("a pawn stands on the first or the last rank")]
     Pawns,
     /// A side has more than 16 men.
+    #[error("a side has more than 16 men")]
     TooMany,
     /// The side that is not to move is in check.
+    #[error("the side that is not to move is in check")]
     InCheck,
 }
 

@@ -1,3 +1,4 @@
+//! Positions read from Forsyth-Edwards Notation.
 ghost use Rattle.std.specs.Prelude.{◌≡◌, IfOk, IfErr};
 ghost use Rattle.chess_laws.specs.declared.setup.Setup.{Setup};
 ghost use Rattle.chess_laws.specs.declared.fault.PlaceFault.{PlaceFault};
@@ -9,7 +10,7 @@ ghost use Rattle.chess_text.specs.FieldReading.{counters_named, rights_from, set
 
 use super::fault::FenFault;
 use super::fields::{en_passant_of, is_counter, next_word, or_default, rights_of, side_of};
-use super::placement::fill;
+use super::placement::board_of;
 use cell_core::{Board, Colour};
 use chess_laws::{Position, Setup};
 
@@ -29,7 +30,7 @@ pub fn read_fen(text: &[u8]) -> Result<Position, FenFault>
     read(text)
 }
 
-/// The position that the fields of the text say.
+// The position that the fields of the text say.
 fn read(text: &[u8]) -> Result<Position, FenFault>
     ensures answers { Answers text.now result }
 {
@@ -39,7 +40,7 @@ fn read(text: &[u8]) -> Result<Position, FenFault>
     }
 }
 
-/// The position of what the fields say, where it keeps the rules.
+// The position of what the fields say, where it keeps the rules.
 fn placed(says: &Setup) -> Result<Position, FenFault>
     ensures ok { IfOk result (λ p. p ≡ kept says.now) }
     ensures sound { IfOk result Sound }
@@ -51,19 +52,19 @@ fn placed(says: &Setup) -> Result<Position, FenFault>
     }
 }
 
-/// What the fields of a FEN say, or the first field that says nothing.
+// What the fields of a FEN say, or the first field that says nothing.
 #[tactic(auto, unfolding(crate::specs::FieldReading::setup_named))]
 fn read_fields(text: &[u8]) -> Result<Setup, FenFault>
     ensures exact { result ≡ setup_named text.now }
 {
     let (word, text) = next_word(text);
-    let board = fill(word).ok_or(FenFault::Field(1))?;
+    let board = board_of(word).ok_or(FenFault::Field(1))?;
     let (word, text) = next_word(text);
     let side = side_of(word).ok_or(FenFault::Field(2))?;
     read_rights(text, board, side)
 }
 
-/// The fields of a FEN from the third on, for this board and side.
+// The fields of a FEN from the third on, for this board and side.
 #[tactic(auto, unfolding(crate::specs::FieldReading::rights_from))]
 fn read_rights(text: &[u8], board: Board, side: Colour) -> Result<Setup, FenFault>
     ensures exact { result ≡ rights_from text.now board side }
@@ -81,7 +82,7 @@ fn read_rights(text: &[u8], board: Board, side: Colour) -> Result<Setup, FenFaul
     })
 }
 
-/// The two counters of a FEN, which are not kept, and the end of the text.
+// The two counters of a FEN, which are not kept, and the end of the text.
 #[tactic(auto, unfolding(crate::specs::FieldReading::counters_named))]
 fn read_counters(text: &[u8]) -> Result<(), FenFault>
     ensures exact { result ≡ counters_named text.now }

@@ -1,3 +1,4 @@
+//! The fields of a FEN after the placement.
 ghost use Rattle.std.specs.Prelude.{◌≡◌};
 ghost use Rattle.std.specs.List.{list_all};
 ghost use Rattle.std.specs.Char.{is_ascii_digit};
@@ -6,7 +7,7 @@ ghost use Rattle.chess_text.specs.FieldReading.{word_of, rest_of, or_word, skipp
 use cell_core::{Colour, Square};
 use chess_laws::{Rights, en_passant_rank};
 
-/// The first word of the text, empty where there is none, and what stands behind it.
+// The first word of the text, empty where there is none, and what stands behind it.
 #[tactic(auto, unfolding(crate::specs::FieldReading::word_of, crate::specs::FieldReading::rest_of))]
 pub fn next_word(text: &[u8]) -> (&[u8], &[u8])
     ensures word { result.0.now ≡ word_of text.now }
@@ -15,7 +16,7 @@ pub fn next_word(text: &[u8]) -> (&[u8], &[u8])
     split_word(skip_spaces(text))
 }
 
-/// The text from its first byte on that is no space.
+// The text from its first byte on that is no space.
 fn skip_spaces(text: &[u8]) -> &[u8]
     ensures { result.now ≡ skipped text.now }
 {
@@ -26,7 +27,7 @@ fn skip_spaces(text: &[u8]) -> &[u8]
     rest
 }
 
-/// The bytes up to the first space, and those from it on.
+// The bytes up to the first space, and those from it on.
 fn split_word(text: &[u8]) -> (&[u8], &[u8])
     ensures word { result.0.now ≡ front_word text.now }
     ensures rest { result.1.now ≡ behind_word text.now }
@@ -39,14 +40,14 @@ fn split_word(text: &[u8]) -> (&[u8], &[u8])
     (text, &text[text.len()..])
 }
 
-/// The word, or `other` where it is empty.
-pub fn or_default<'a>(word: &'a [u8], other: &'a [u8]) -> &'a [u8]
-    ensures { result.now ≡ or_word word.now other.now }
+// The word, or the default where it is empty.
+pub fn or_default<'a>(word: &'a [u8], default: &'a [u8]) -> &'a [u8]
+    ensures { result.now ≡ or_word word.now default.now }
 {
-    if word.is_empty() { other } else { word }
+    if word.is_empty() { default } else { word }
 }
 
-/// The side to move.
+// The side to move.
 pub fn side_of(word: &[u8]) -> Option<Colour>
     ensures { result ≡ side_named word.now }
 {
@@ -64,7 +65,7 @@ const NO_RIGHTS: Rights = Rights {
     black_queen_side: false,
 };
 
-/// The castling rights that a word names: `-` for none, or letters of `KQkq`, each at most once.
+// The castling rights that a word names: `-` for none, or letters of `KQkq`, each at most once.
 #[tactic(auto, unfolding(crate::specs::FieldReading::rights_named))]
 pub fn rights_of(word: &[u8]) -> Option<Rights>
     ensures { result ≡ rights_named word.now }
@@ -81,7 +82,7 @@ pub fn rights_of(word: &[u8]) -> Option<Rights>
     Some(rights)
 }
 
-/// The rights with the one that the letter names, or `None` where it names none or one that is there.
+// The rights with the one that the letter names, or `None` where it names none or one that is there.
 #[tactic(auto, unfolding(crate::specs::FieldReading::with_right))]
 fn add_right(rights: Rights, letter: u8) -> Option<Rights>
     ensures { result ≡ with_right rights letter }
@@ -107,7 +108,7 @@ fn add_right(rights: Rights, letter: u8) -> Option<Rights>
     }
 }
 
-/// The en passant square: `-` for none, or a square of the sixth rank with White to move, of the third with Black.
+// The en passant square: `-` for none, or a square of the sixth rank with White to move, of the third with Black.
 pub fn en_passant_of(side: Colour, word: &[u8]) -> Option<Option<Square>>
     ensures { result ≡ en_passant_named side word.now }
 {
@@ -121,14 +122,14 @@ pub fn en_passant_of(side: Colour, word: &[u8]) -> Option<Option<Square>>
     }
 }
 
-/// Whether the word is a counter: decimal digits, one at least.
+// Whether the word is a counter: decimal digits, one at least.
 pub fn is_counter(word: &[u8]) -> bool
     ensures { result ≡ is_counter word.now }
 {
     !word.is_empty() && are_digits(word)
 }
 
-/// Whether every byte is a decimal digit.
+// Whether every byte is a decimal digit.
 fn are_digits(word: &[u8]) -> bool
     ensures { result ≡ list_all is_ascii_digit word.now }
 {

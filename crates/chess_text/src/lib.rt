@@ -1,11 +1,12 @@
 //! Chess positions as text: Forsyth-Edwards Notation (FEN).
 #![tactic(auto)]
 
-pub mod fault;
+mod fault;
 mod fen;
 mod fields;
 mod letters;
 mod placement;
+mod squares;
 mod writing;
 
 pub use fault::FenFault;

@@ -1,3 +1,4 @@
+//! The piece placement, the first field of a FEN.
 ghost use Rattle.std.specs.Prelude.{◌≡◌, IfOk, IfErr};
 ghost use Rattle.cell_core.specs.Board.{Men};
 ghost use Rattle.chess_text.specs.Placement.{PlacementText};
@@ -14,12 +15,12 @@ pub fn read_board(text: &[u8]) -> Result<Board, FenFault>
     ensures only { (board : Men) → PlacementText text.now board → result ≡ Ok board }
     ensures refused { IfErr result (λ fault. fault ≡ FenFault.Field 1) }
 {
-    fill(text).ok_or(FenFault::Field(1))
+    board_of(text).ok_or(FenFault::Field(1))
 }
 
-/// The board that the text fills from the eighth rank down, or `None` where it is no placement.
+// The board that the text fills from the eighth rank down, or `None` where it is no placement.
 #[tactic(auto, unfolding(crate::specs::Filling::board_named, crate::specs::Filling::after, crate::specs::Filling::after_man, crate::specs::Filling::after_slash, crate::specs::Filling::after_empty))]
-pub fn fill(text: &[u8]) -> Option<Board>
+pub fn board_of(text: &[u8]) -> Option<Board>
     ensures exact { result ≡ board_named text.now }
 {
     let mut board = Board::empty();

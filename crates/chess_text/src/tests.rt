@@ -1,10 +1,11 @@
+//! Outside vectors of FEN, and texts that are none.
 use super::{FenFault, read_board, read_fen, write_fen};
 use cell_core::{Colour, Kind, Man, Square};
 use std::test::Fail;
 
 const START: &str = "rnbqkbnr/pppppppp/8/8/8/8/PPPPPPPP/RNBQKBNR";
 
-/// The placement field of well-known perft positions, and men that stand on them: a1 = 0, h8 = 63.
+// The placement field of well-known perft positions, and men that stand on them: a1 = 0, h8 = 63.
 #[test]
 fn placements_of_known_positions(rt: HostRuntime) -> Result<(), Fail> {
     let (white, black) = (Colour::White, Colour::Black);
@@ -49,7 +50,7 @@ fn placements_of_known_positions(rt: HostRuntime) -> Result<(), Fail> {
     Ok(())
 }
 
-/// Each is one step from a placement.
+// Each is one step from a placement.
 #[test]
 fn texts_that_are_no_placement(rt: HostRuntime) {
     for text in [
@@ -73,7 +74,7 @@ fn texts_that_are_no_placement(rt: HostRuntime) {
     }
 }
 
-/// Well-known perft positions, the examples of the PGN standard (16.1.4), and texts that are written otherwise than read.
+// Well-known perft positions, the examples of the PGN standard (16.1.4), and texts that are written otherwise than read.
 #[test]
 fn positions_read_and_written(rt: HostRuntime) -> Result<(), Fail> {
     for (text, written) in [
@@ -123,7 +124,7 @@ fn positions_read_and_written(rt: HostRuntime) -> Result<(), Fail> {
     Ok(())
 }
 
-/// Each fault, one step from a text that reads.
+// Each fault, one step from a text that reads.
 #[test]
 fn texts_that_are_no_position(rt: HostRuntime) {
     for (text, fault) in [

@@ -1,10 +1,12 @@
+//! Positions written in Forsyth-Edwards Notation.
 ghost use Rattle.std.specs.Prelude.{◌≡◌, ◌<◌, ◌≤◌, ◌++◌, ◌∷◌, [], OnOk, IfOk, length};
-ghost use Rattle.chess_text.specs.Letters.{capital_of, letter_of};
-ghost use Rattle.chess_text.specs.Fields.{side_text, square_text};
+ghost use Rattle.chess_text.specs.Fields.{side_text};
 ghost use Rattle.chess_text.specs.Fen.{FenReads};
 ghost use Rattle.chess_text.specs.Written.{run_text, row_text, placement_text, letter_where, rights_text, en_passant_text, fen_text, HasDigitsApart};
 
-use cell_core::{Board, Colour, Kind, Man, Square, Text};
+use super::letters::letter_of;
+use super::squares::{file_letter, rank_digit};
+use cell_core::{Board, Colour, Man, Square, Text};
 use chess_laws::{Position, Rights, Setup};
 use std::alloc::{AllocError, Global};
 
@@ -20,7 +22,7 @@ pub fn write_fen(alloc: Global, p: &Position) -> Result<Text, AllocError>
     Ok(Text::from_zero_free(bytes))
 }
 
-/// The bytes of the text.
+// The bytes of the text.
 #[tactic(auto, using(std::proofs::Common::append_assoc), unfolding(crate::specs::Written::fen_text))]
 fn fen_bytes(alloc: Global, setup: &Setup) -> Result<Vec<u8>, AllocError>
     ensures ok { IfOk result (λ bytes. bytes.items ≡ fen_text setup.now) }
@@ -37,7 +39,7 @@ fn fen_bytes(alloc: Global, setup: &Setup) -> Result<Vec<u8>, AllocError>
     Ok(out)
 }
 
-/// Adds the placement.
+// Adds the placement.
 #[tactic(auto, unfolding(crate::specs::Written::ranks_text))]
 fn push_placement(out: &mut Vec<u8>, board: &Board) -> Result<(), AllocError>
     ensures ok { OnOk result (out.new.items ≡ out.old.items ++ placement_text board.now) }
@@ -51,7 +53,7 @@ fn push_placement(out: &mut Vec<u8>, board: &Board) -> Result<(), AllocError>
     push_row(out, &squares[..8])
 }
 
-/// Adds a row of squares, each longest run of empty squares as one digit.
+// Adds a row of squares, each longest run of empty squares as one digit.
 fn push_row(out: &mut Vec<u8>, squares: &[Option<Man>]) -> Result<(), AllocError>
     requires { length squares.now ≤ 8 }
     ensures ok { OnOk result (out.new.items ≡ out.old.items ++ row_text 0 squares.now) }
@@ -70,7 +72,7 @@ fn push_row(out: &mut Vec<u8>, squares: &[Option<Man>]) -> Result<(), AllocError
     push_run(out, empty)
 }
 
-/// Adds a run of empty squares as its digit, or nothing where there is none.
+// Adds a run of empty squares as its digit, or nothing where there is none.
 fn push_run(out: &mut Vec<u8>, empty: u8) -> Result<(), AllocError>
     requires { empty ≤ 8 }
     ensures ok { OnOk result (out.new.items ≡ out.old.items ++ run_text empty) }
@@ -81,7 +83,7 @@ fn push_run(out: &mut Vec<u8>, empty: u8) -> Result<(), AllocError>
     Ok(())
 }
 
-/// Adds the castling rights in the order `KQkq`, or `-` for none.
+// Adds the castling rights in the order `KQkq`, or `-` for none.
 #[tactic(auto, unfolding(crate::specs::Written::rights_text))]
 fn push_rights(out: &mut Vec<u8>, rights: &Rights) -> Result<(), AllocError>
     ensures ok { OnOk result (out.new.items ≡ out.old.items ++ rights_text rights.now) }
@@ -97,7 +99,7 @@ fn push_rights(out: &mut Vec<u8>, rights: &Rights) -> Result<(), AllocError>
     Ok(())
 }
 
-/// Adds the letter where the right is there.
+// Adds the letter where the right is there.
 fn push_where(out: &mut Vec<u8>, right: bool, letter: u8) -> Result<(), AllocError>
     ensures ok { OnOk result (out.new.items ≡ out.old.items ++ letter_where right letter) }
 {
@@ -107,53 +109,26 @@ fn push_where(out: &mut Vec<u8>, right: bool, letter: u8) -> Result<(), AllocErr
     Ok(())
 }
 
-/// Adds the en passant square, or `-` for none.
+// Adds the en passant square, or `-` for none.
 fn push_en_passant(out: &mut Vec<u8>, square: Option<Square>) -> Result<(), AllocError>
     ensures ok { OnOk result (out.new.items ≡ out.old.items ++ en_passant_text square) }
 {
     match square {
         None => out.push(b'-')?,
         Some(square) => {
-            let number = square.index();
-            out.push(b'a' + number % 8)?;
-            out.push(b'1' + number / 8)?;
+            out.push(file_letter(square))?;
+            out.push(rank_digit(square))?;
         }
     }
     Ok(())
 }
 
-/// The letter of a side to move.
+// The letter of a side to move.
 fn side_letter(side: Colour) -> u8
     ensures { side_text side ≡ result ∷ [] }
 {
     match side {
         Colour::White => b'w',
         Colour::Black => b'b',
-    }
-}
-
-/// The letter of a man in a placement.
-fn letter_of(man: Man) -> u8
-    ensures { result ≡ letter_of man }
-{
-    let capital = capital_of(man.kind);
-    match man.colour {
-        Colour::White => capital,
-        Colour::Black => capital + (b'a' - b'A'),
-    }
-}
-
-/// The capital letter of a kind of man.
-fn capital_of(kind: Kind) -> u8
-    ensures letter { result ≡ capital_of kind }
-    ensures ascii { result < 96 }
-{
-    match kind {
-        Kind::King => b'K',
-        Kind::Queen => b'Q',
-        Kind::Rook => b'R',
-        Kind::Bishop => b'B',
-        Kind::Knight => b'N',
-        Kind::Pawn => b'P',
     }
 }

@@ -1,4 +1,4 @@
--- The tree is what the script means.
+-- The tree is what the movetext means.
 use Rattle.std.proofs.Common.{◌≡◌, ℕ, ◌+◌, ◌<◌, ◌≤◌, List, [], ◌∷◌, ◌++◌, length, get_or, drop, refl, sym, ap, subst, ◌∙◌, append_assoc, append-nil, length-append, arith}
 use Rattle.std.specs.Prelude.{All}
 use Rattle.std.proofs.Math.ListN.{drop_of_length-le}
@@ -6,14 +6,16 @@ use Rattle.std.proofs.lemmas.List.{drop_more}
 use Rattle.std.proofs.lemmas.List.Elements.{All-push}
 use Rattle.cell_core.specs.Text.{IsZeroFree}
 use Rattle.game_tree.specs.Tree.{Variation}
-use Rattle.game_tree.specs.Items.{Item, Script, items_of, meaning}
+use Rattle.game_tree.specs.Item.{Item}
+use Rattle.game_tree.specs.Movetext.{Movetext, items_of, meaning}
 use Rattle.game_tree.specs.Building.{Building, opening, built, Gives}
-use Rattle.game_tree.proofs.ScriptLemmas.{built-items_of}
+use Rattle.game_tree.proofs.MovetextLemmas.{built-items_of}
 use Rattle.game_codec.specs.Texts.{ended, AreTexts}
-use Rattle.game_codec.specs.Scanning.{AreScripted, comments_in, dealt}
+use Rattle.game_codec.specs.Scanning.{AreMovetext, comments_in, dealt}
 use Rattle.game_codec.specs.Adding.{Adds}
-use Rattle.game_codec.specs.declared.token.Token.{Token}
-use Rattle.game_codec.specs.declared.token.Token.TheVariants.{Play, Nag, Comment, Open, Close, End}
+use Rattle.game_codec.specs.Nests.{token_of, tokens_of}
+use Rattle.game_codec.specs.declared.token.Token.{Token as Read}
+use Rattle.game_codec.specs.Token.{Token, Play, Nag, Comment, Open, Close, End}
 
 -- the tree is built as far as the items that are left, with the texts before these bytes
 pub record IsBuilt (tokens left : List Token) (bytes rest : List ℕ) (b : Building) : Type 0 where
@@ -60,16 +62,17 @@ module _ (tokens left : List Token) (bytes rest : List ℕ) (b : Building) where
   IsBuilt-more Close used after adds is = passed Close used after refl (λ texts. ap (built (dealt left texts)) adds.1) adds.0 is
   IsBuilt-more End used after adds is = passed End used after refl (λ texts. ap (built (dealt left texts)) adds.1) adds.0 is
 
--- the same by the number of items that were added
-module _ (tokens : List Token) (i : ℕ) (bytes rest : List ℕ) (b : Building) where
-  pub IsBuilt-step : (token : Token) (used : ℕ) (later : List ℕ) (after : Building) → i < length tokens → token ≡ get_or tokens i token → Adds token rest b used after → later ≡ drop used rest → IsBuilt tokens (drop i tokens) bytes rest b → IsBuilt tokens (drop (i + 1) tokens) bytes later after
+-- The same by the number of items that were added.
+module _ (tokens : List Read) (i : ℕ) (bytes rest : List ℕ) (b : Building) where
+  pub IsBuilt-step : (token : Read) (used : ℕ) (later : List ℕ) (after : Building) → i < length tokens → token ≡ get_or tokens i token → Adds (token_of token) rest b used after → later ≡ drop used rest → IsBuilt (tokens_of tokens) (tokens_of (drop i tokens)) bytes rest b → IsBuilt (tokens_of tokens) (tokens_of (drop (i + 1) tokens)) bytes later after
   IsBuilt-step token used later after under item adds behind is =
-      let here = drop_more tokens i token under ∙ ap (λ (t : Token). t ∷ drop (i + 1) tokens) (sym item) in
-      subst (λ (bs : List ℕ). IsBuilt tokens (drop (i + 1) tokens) bytes bs after) (sym behind)
-      (IsBuilt-more tokens (drop (i + 1) tokens) bytes rest b token used after adds (subst (λ (left : List Token). IsBuilt tokens left bytes rest b) here is))
+      let here = drop_more tokens i token under ∙ ap (λ (t : Read). t ∷ drop (i + 1) tokens) (sym item) in
+      subst (λ (bs : List ℕ). IsBuilt (tokens_of tokens) (tokens_of (drop (i + 1) tokens)) bytes bs after) (sym behind)
+      (IsBuilt-more (tokens_of tokens) (tokens_of (drop (i + 1) tokens)) bytes rest b (token_of token) used after adds
+      (subst (λ (left : List Read). IsBuilt (tokens_of tokens) (tokens_of left) bytes rest b) here is))
 
-  pub IsBuilt-end : length tokens ≤ i → IsBuilt tokens (drop i tokens) bytes rest b → IsBuilt tokens [] bytes rest b
-  IsBuilt-end all is = subst (λ (left : List Token). IsBuilt tokens left bytes rest b) (drop_of_length-le tokens all) is
+  pub IsBuilt-end : length tokens ≤ i → IsBuilt (tokens_of tokens) (tokens_of (drop i tokens)) bytes rest b → IsBuilt (tokens_of tokens) [] bytes rest b
+  IsBuilt-end all is = subst (λ (left : List Read). IsBuilt (tokens_of tokens) (tokens_of left) bytes rest b) (drop_of_length-le tokens all) is
 
 -- at the end of the items
 module _ (tokens : List Token) (bytes rest : List ℕ) (b : Building) where
@@ -77,13 +80,13 @@ module _ (tokens : List Token) (bytes rest : List ℕ) (b : Building) where
   built-read is = is.onward [] ∙ ap (λ (all : List (List ℕ)). built (dealt tokens all) opening) (append-nil is.read)
 
   -- all lines round the main line are closed
-  pub IsBuilt-closed : AreScripted tokens → IsBuilt tokens [] bytes rest b → b.outer ≡ []
-  IsBuilt-closed scripted is =
-      let script = scripted is.read in
-      (built-items_of script.0 b (built-read is ∙ ap (λ (items : List Item). built items opening) (sym script.1))).whole
+  pub IsBuilt-closed : AreMovetext tokens → IsBuilt tokens [] bytes rest b → b.outer ≡ []
+  IsBuilt-closed movetext is =
+      let movetext = movetext is.read in
+      (built-items_of movetext.0 b (built-read is ∙ ap (λ (items : List Item). built items opening) (sym movetext.1))).whole
 
-  -- the texts are those of the bytes, and the tree is what a script with these texts means
-  pub IsBuilt-whole : (branch : Variation) → IsBuilt tokens [] bytes rest b → rest ≡ [] → ((s : Script) → b ≡ built (items_of s) opening → Gives branch (meaning s).comment (meaning s).line) → (texts : List (List ℕ)) × (AreTexts bytes texts × ((length texts ≡ comments_in tokens) × ((s : Script) → items_of s ≡ dealt tokens texts → Gives branch (meaning s).comment (meaning s).line)))
+  -- the texts are those of the bytes, and the tree is what a movetext with these texts means
+  pub IsBuilt-whole : (branch : Variation) → IsBuilt tokens [] bytes rest b → rest ≡ [] → ((s : Movetext) → b ≡ built (items_of s) opening → Gives branch (meaning s).comment (meaning s).line) → (texts : List (List ℕ)) × (AreTexts bytes texts × ((length texts ≡ comments_in tokens) × ((s : Movetext) → items_of s ≡ dealt tokens texts → Gives branch (meaning s).comment (meaning s).line)))
   IsBuilt-whole branch is none meant = (
     is.read,
     (

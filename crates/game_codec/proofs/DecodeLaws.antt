@@ -1,12 +1,13 @@
 -- A record has one reading, and it is the one that the code makes.
 use Rattle.std.proofs.Common.{◌≡◌, ℕ, List, [], Ok, Err, length, refl, sym, ap, ◌∙◌, subst, inl, inr}
 use Rattle.game_tree.specs.Game.{GameTree}
-use Rattle.game_tree.specs.Items.{Script, items_of, meaning}
+use Rattle.game_tree.specs.Movetext.{Movetext, items_of, meaning}
 use Rattle.game_tree.specs.Building.{opening, built}
-use Rattle.game_tree.proofs.ScriptLemmas.{built-items_of}
+use Rattle.game_tree.proofs.MovetextLemmas.{built-items_of}
 use Rattle.game_tree.specs.declared.head.Tag.{Tag}
 use Rattle.move_codec.specs.Numbers.{Numbered}
-use Rattle.game_codec.specs.TagSpelling.{BeginsTags, free_of}
+use Rattle.game_tree.specs.TagName.{free_of}
+use Rattle.game_codec.specs.TagSpelling.{BeginsTags}
 use Rattle.game_codec.specs.Start.{BeginsStart, BreaksStart}
 use Rattle.game_codec.specs.Texts.{AreTexts, BreaksTexts, texts_of}
 use Rattle.game_codec.specs.Record.{IsRecord, game_of}
@@ -14,45 +15,45 @@ use Rattle.game_codec.specs.Fault.{BreaksInTags, BreaksInStart, BreaksInMoves, B
 use Rattle.game_codec.specs.declared.fault.RecordFault.{RecordFault}
 use Rattle.game_codec.specs.Scanning.{Scans, Stop, nest_of, comments_in, dealt}
 use Rattle.game_codec.specs.Flat.{IsFlat, IsRead, IsFlatInMoves, IsFlatInTexts, FlatBreaks}
-use Rattle.game_codec.specs.declared.token.Token.{Token}
+use Rattle.game_codec.specs.Token.{Token}
 use Rattle.game_codec.specs.declared.fault.RecordWhat.{RecordWhat}
 use Rattle.game_codec.proofs.SameFault.{SameFault}
 use Rattle.game_codec.proofs.TagLaws.{BeginsTags-one, BeginsTags-unbroken, BreaksTags-one}
 use Rattle.game_codec.proofs.StartLaws.{BeginsStart-one, BeginsStart-unbroken, BreaksStart-one}
 use Rattle.game_codec.proofs.TextLaws.{AreTexts-one, AreTexts-unbroken, BreaksTexts-one}
 use Rattle.game_codec.proofs.ScanLaws.{Scans-one}
-use Rattle.game_codec.proofs.ScriptLaws.{script-scans, scans-script, breaks-scans, scans-breaks}
+use Rattle.game_codec.proofs.MovetextLaws.{movetext-scans, scans-movetext, breaks-scans, scans-breaks}
 
 -- What the code reads is in the record, and what is in the record is read so
 
 pub read-record : (bytes : List ℕ) (tags : List Tag) (game : GameTree) → IsRead bytes tags game → IsRecord bytes tags game
 read-record bytes tags game read =
-    let script = scans-script read.start read.tokens read.flat.behind_start read.flat.behind_moves read.flat.then_items read.texts in
-    let texts : texts_of script.0 ≡ read.texts = script.1.1.1.1 read.flat.count in
-    let meant = read.meant script.0 script.1.1.0 in record {
+    let movetext = scans-movetext read.start read.tokens read.flat.behind_start read.flat.behind_moves read.flat.then_items read.texts in
+    let texts : texts_of movetext.0 ≡ read.texts = movetext.1.1.1.1 read.flat.count in
+    let meant = read.meant movetext.0 movetext.1.1.0 in record {
       all_tags = read.all_tags;
       start = read.start;
-      script = script.0;
+      movetext = movetext.0;
       behind_tags = read.flat.behind_tags;
       behind_start = read.flat.behind_start;
       behind_moves = read.flat.behind_moves;
       tags_first = read.flat.tags_first;
       then_start = read.flat.then_start;
-      then_moves = script.1.0;
+      then_moves = movetext.1.0;
       then_texts = subst (AreTexts read.flat.behind_moves) (sym texts) read.flat.then_texts;
       tags_are = read.tags_are;
       game_is = λ i. record { start = read.start_is i; lead = meant.0 i; line = meant.1 i };
     }
 
--- a record's parts, with the items that its script's are
-record IsFlattened (bytes : List ℕ) (all_tags : List Tag) (start : Numbered) (s : Script) : Type 0 where
+-- a record's parts, with the items that its movetext's are
+record IsFlattened (bytes : List ℕ) (all_tags : List Tag) (start : Numbered) (s : Movetext) : Type 0 where
   pub tokens : List Token
   pub flat : IsFlat bytes all_tags start tokens (texts_of s)
   pub items : dealt tokens (texts_of s) ≡ items_of s
 
-flattened : (bytes : List ℕ) (tags : List Tag) (game : GameTree) (r : IsRecord bytes tags game) → IsFlattened bytes r.all_tags r.start r.script
+flattened : (bytes : List ℕ) (tags : List Tag) (game : GameTree) (r : IsRecord bytes tags game) → IsFlattened bytes r.all_tags r.start r.movetext
 flattened bytes tags game r =
-    let scanned = script-scans r.start r.script r.behind_start r.behind_moves r.then_moves in record {
+    let scanned = movetext-scans r.start r.movetext r.behind_start r.behind_moves r.then_moves in record {
       tokens = scanned.0;
       flat = record {
         behind_tags = r.behind_tags;
@@ -90,17 +91,17 @@ break-found bytes rest what flat =
     }
 
     in_texts : IsFlatInTexts bytes rest what → BreaksInTexts bytes rest what
-    in_texts f = let script = scans-script f.start f.tokens f.behind_start f.behind_moves f.then_items [] in record {
+    in_texts f = let movetext = scans-movetext f.start f.tokens f.behind_start f.behind_moves f.then_items [] in record {
       tags = f.tags;
       start = f.start;
-      script = script.0;
+      movetext = movetext.0;
       behind_tags = f.behind_tags;
       behind_start = f.behind_start;
       behind_moves = f.behind_moves;
       tags_first = f.tags_first;
       then_start = f.then_start;
-      then_moves = script.1.0;
-      breaks = subst (λ (due : ℕ). BreaksTexts due f.behind_moves rest what) (sym script.1.1.1.0) f.breaks;
+      then_moves = movetext.1.0;
+      breaks = subst (λ (due : ℕ). BreaksTexts due f.behind_moves rest what) (sym movetext.1.1.1.0) f.breaks;
     }
 
 flat_break : (bytes rest : List ℕ) (what : RecordWhat) → Breaks bytes rest what → FlatBreaks bytes rest what
@@ -126,7 +127,7 @@ flat_break bytes rest what broken =
     }
 
     in_texts : BreaksInTexts bytes rest what → IsFlatInTexts bytes rest what
-    in_texts b = let scanned = script-scans b.start b.script b.behind_start b.behind_moves b.then_moves in record {
+    in_texts b = let scanned = movetext-scans b.start b.movetext b.behind_start b.behind_moves b.then_moves in record {
       tags = b.tags;
       start = b.start;
       tokens = scanned.0;
@@ -171,11 +172,11 @@ flat-one bytes a b start start' tokens tokens' texts texts' f g =
 pub read-only : (bytes : List ℕ) (tags tags' : List Tag) (game game' : GameTree) → IsRead bytes tags game → IsRecord bytes tags' game' → (tags ≡ tags') × (game ≡ game')
 read-only bytes tags tags' game game' read r =
     let other = flattened bytes tags' game' r in
-    let same = flat-one bytes read.all_tags r.all_tags read.start r.start read.tokens other.tokens read.texts (texts_of r.script) read.flat other.flat in
-    let items : items_of r.script ≡ dealt read.tokens read.texts = sym other.items ∙ sym (λ i. dealt (same.tokens_same i) (same.texts_same i)) in
-    let meant = read.meant r.script items in
+    let same = flat-one bytes read.all_tags r.all_tags read.start r.start read.tokens other.tokens read.texts (texts_of r.movetext) read.flat other.flat in
+    let items : items_of r.movetext ≡ dealt read.tokens read.texts = sym other.items ∙ sym (λ i. dealt (same.tokens_same i) (same.texts_same i)) in
+    let meant = read.meant r.movetext items in
     let start : game.start ≡ r.start.position = read.start_is ∙ ap (λ (n : Numbered). n.position) same.start_same in
-    let game_is : game ≡ game_of r.start.position (meaning r.script) = λ i. record { start = start i; lead = meant.0 i; line = meant.1 i } in
+    let game_is : game ≡ game_of r.start.position (meaning r.movetext) = λ i. record { start = start i; lead = meant.0 i; line = meant.1 i } in
     (read.tags_are ∙ ap free_of same.tags ∙ sym r.tags_are, game_is ∙ sym r.game_is)
 
 -- A record has no fault, and bytes without a record one
@@ -220,7 +221,7 @@ read-unbroken bytes tags game rest what read broken =
 pub break-only : (bytes : List ℕ) (tags : List Tag) (game : GameTree) (rest : List ℕ) (what : RecordWhat) → FlatBreaks bytes rest what → IsRecord bytes tags game → ⊥
 break-only bytes tags game rest what broken r =
     let other = flattened bytes tags game r in
-    unbroken bytes r.all_tags r.start other.tokens (texts_of r.script) other.flat rest what broken
+    unbroken bytes r.all_tags r.start other.tokens (texts_of r.movetext) other.flat rest what broken
 
 -- One first fault alone
 
@@ -339,8 +340,8 @@ record-unbroken bytes tags game fault r broken =
 
 -- bytes are a record of one game and one list of tags
 
--- scripts of the same items mean the same
-same_meaning : (s t : Script) → items_of s ≡ items_of t → ((meaning s).comment ≡ (meaning t).comment) × ((meaning s).line ≡ (meaning t).line)
+-- movetexts of the same items mean the same
+same_meaning : (s t : Movetext) → items_of s ≡ items_of t → ((meaning s).comment ≡ (meaning t).comment) × ((meaning s).line ≡ (meaning t).line)
 same_meaning s t same =
     let one = built-items_of s (built (items_of s) opening) refl in
     let other = built-items_of t (built (items_of s) opening) (ap (λ items. built items opening) same) in
@@ -352,12 +353,12 @@ record-read bytes tags game r =
       all_tags = r.all_tags;
       start = r.start;
       tokens = flat.tokens;
-      texts = texts_of r.script;
+      texts = texts_of r.movetext;
       flat = flat.flat;
       tags_are = r.tags_are;
       start_is = ap (λ (g : GameTree). g.start) r.game_is;
       meant = λ s items.
-          let same = same_meaning r.script s (sym flat.items ∙ sym items) in
+          let same = same_meaning r.movetext s (sym flat.items ∙ sym items) in
           (ap (λ (g : GameTree). g.lead) r.game_is ∙ same.0, ap (λ (g : GameTree). g.line) r.game_is ∙ same.1);
     }
 

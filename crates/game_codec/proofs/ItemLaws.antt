@@ -6,10 +6,8 @@ use Rattle.cell_core.specs.declared.step.Move.{Move}
 use Rattle.move_codec.specs.declared.fault.MoveFault.{MoveFault}
 use Rattle.move_codec.specs.Packed.{Decodes, is_mark}
 use Rattle.move_codec.proofs.Apart.{Decodes-one}
-use Rattle.game_codec.specs.Place.{Takes, FaultAt, IsMisplaced}
-use Rattle.game_codec.specs.declared.place.Place.{Place}
-use Rattle.game_codec.specs.declared.token.Token.{Token}
-use Rattle.game_codec.specs.declared.token.Token.TheVariants.{Play, Nag, Comment, Open, Close, End}
+use Rattle.game_codec.specs.Place.{Place, Takes, FaultAt, IsMisplaced}
+use Rattle.game_codec.specs.Token.{Token, Play, Nag, Comment, Open, Close, End}
 use Rattle.game_codec.specs.declared.fault.RecordWhat.{RecordWhat}
 use Rattle.game_codec.specs.declared.fault.RecordWhat.TheVariants as what
 

@@ -9,7 +9,7 @@ pub mod TextLaws
 pub mod ItemLaws
 pub mod ScanSteps
 pub mod ScanLaws
-pub mod ScriptLaws
+pub mod MovetextLaws
 pub mod BuildLaws
 pub mod LegalLaws
 pub mod ShortLaws

@@ -6,13 +6,13 @@ use Rattle.game_codec.specs.Breach.{TellsBad}
 use Rattle.game_codec.specs.TagSpelling.{BeginsTags}
 use Rattle.game_codec.specs.Start.{BeginsStart}
 use Rattle.game_codec.specs.Texts.{BreaksTexts}
-use Rattle.game_codec.specs.Scanning.{Scans, AreScripted, nest_of, comments_in}
+use Rattle.game_codec.specs.Scanning.{Scans, AreMovetext, nest_of, comments_in}
 use Rattle.game_codec.specs.Flat.{FlatBreaks}
 use Rattle.game_codec.specs.declared.breach.Refusal.{Refusal}
 use Rattle.game_codec.specs.declared.breach.Refusal.TheVariants.{Bad, Memory}
 use Rattle.game_codec.specs.declared.fault.RecordWhat.{RecordWhat}
-use Rattle.game_codec.specs.declared.token.Token.{Token}
-use Rattle.game_codec.proofs.ScriptLaws.{scans-script}
+use Rattle.game_codec.specs.Token.{Token}
+use Rattle.game_codec.proofs.MovetextLaws.{scans-movetext}
 
 -- what a refusal tells of a part it tells of the whole
 tells_on : (P Q : List ℕ → RecordWhat → Type 0) (refusal : Refusal) → ((rest : List ℕ) (w : RecordWhat) → P rest w → Q rest w) → TellsBad P refusal → TellsBad Q refusal
@@ -72,7 +72,7 @@ build-broken bytes behind_tags behind_start behind_moves used start tokens token
     }))))
     tells
 
--- the items that were read are those of a script
-pub scripted : (start : Numbered) (bytes rest : List ℕ) (tokens tokens' : List Token) → tokens' ≡ tokens → Scans (nest_of start) bytes tokens (Ok rest) → AreScripted tokens'
-scripted start bytes rest tokens tokens' same scans =
-    subst AreScripted (sym same) (λ texts. let found = scans-script start tokens bytes rest scans texts in (found.0, found.1.1.0))
+-- the items that were read are those of a movetext
+pub movetext : (start : Numbered) (bytes rest : List ℕ) (tokens tokens' : List Token) → tokens' ≡ tokens → Scans (nest_of start) bytes tokens (Ok rest) → AreMovetext tokens'
+movetext start bytes rest tokens tokens' same scans =
+    subst AreMovetext (sym same) (λ texts. let found = scans-movetext start tokens bytes rest scans texts in (found.0, found.1.1.0))

@@ -2,8 +2,7 @@
 use Rattle.std.proofs.Common.{◌≡◌, ℕ, List, [], ◌∷◌, Ok, Err, refl, sym, ◌∙◌, subst}
 use Rattle.game_codec.specs.Place.{Takes}
 use Rattle.game_codec.specs.Scanning.{Nest, IsInner, Scans, Stop, StopsAt, nest_after}
-use Rattle.game_codec.specs.declared.token.Token.{Token}
-use Rattle.game_codec.specs.declared.token.Token.TheVariants.{End}
+use Rattle.game_codec.specs.Token.{Token, End}
 use Rattle.game_codec.proofs.ItemLaws.{Takes-one, Takes-unbroken, FaultAt-one}
 
 -- two stops are one

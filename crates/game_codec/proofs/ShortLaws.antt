@@ -2,19 +2,17 @@
 use Rattle.std.proofs.Common.{ℕ, ◌+◌, ◌<◌, ◌≤◌, List, [], ◌∷◌, length, inl, inr, ap, arith, length-append, length-drop}
 use Rattle.game_tree.specs.Game.{GameTree}
 use Rattle.game_tree.specs.Tree.{moves_of}
-use Rattle.game_tree.specs.Items.{Script, stop, play, nag, mark, vary, meaning}
+use Rattle.game_tree.specs.Movetext.{Movetext, end, move, nag, comment, variation, meaning}
 use Rattle.game_tree.specs.Replay.{plies_of}
 use Rattle.game_tree.specs.declared.head.Tag.{Tag}
 use Rattle.move_codec.specs.Numbers.{Numbered}
 use Rattle.move_codec.proofs.Apart.{Decodes-used}
 use Rattle.game_codec.specs.TagSpelling.{BeginsTags}
 use Rattle.game_codec.specs.Start.{BeginsStart}
-use Rattle.game_codec.specs.Place.{Takes, ending, beginning, after_move, after_comment, variation_of}
+use Rattle.game_codec.specs.Place.{Place, Takes, ending, beginning, after_move, after_comment, variation_of}
 use Rattle.game_codec.specs.Moves.{SpellsMoves}
 use Rattle.game_codec.specs.Record.{IsRecord}
-use Rattle.game_codec.specs.declared.place.Place.{Place}
-use Rattle.game_codec.specs.declared.token.Token.{Token}
-use Rattle.game_codec.specs.declared.token.Token.TheVariants.{Play, Nag, Comment, Open, Close, End}
+use Rattle.game_codec.specs.Token.{Token, Play, Nag, Comment, Open, Close, End}
 
 -- an item takes a byte at least
 Takes-longer : (p : Place) (bytes : List ℕ) (token : Token) (later : List ℕ) → Takes p bytes token later → length later < length bytes
@@ -28,15 +26,15 @@ Takes-longer p bytes Open later takes = let e = ap (λ (l : List ℕ). length l)
 Takes-longer p bytes Close later takes = let e = ap (λ (l : List ℕ). length l) takes.1 in omega (arith, e)
 Takes-longer p bytes End later takes = let e = ap (λ (l : List ℕ). length l) takes.1 in omega (arith, e)
 
-Spells-longer : (p : Place) (s : Script) (bytes rest : List ℕ) → SpellsMoves p s bytes rest → length (moves_of (meaning s).line) + length rest < length bytes
-Spells-longer p stop bytes rest spells = omega (arith, Takes-longer p bytes (ending p.depth) rest spells)
-Spells-longer p (play m s) bytes rest spells =
+Spells-longer : (p : Place) (s : Movetext) (bytes rest : List ℕ) → SpellsMoves p s bytes rest → length (moves_of (meaning s).line) + length rest < length bytes
+Spells-longer p end bytes rest spells = omega (arith, Takes-longer p bytes (ending p.depth) rest spells)
+Spells-longer p (move m s) bytes rest spells =
     omega (arith, Takes-longer p bytes (Play m) spells.0 spells.1, Spells-longer (after_move p m) s spells.0 rest spells.2)
 Spells-longer p (nag n s) bytes rest spells =
     omega (arith, Takes-longer p bytes (Nag n) spells.0 spells.1, Spells-longer p s spells.0 rest spells.2)
-Spells-longer p (mark text s) bytes rest spells =
+Spells-longer p (comment text s) bytes rest spells =
     omega (arith, Takes-longer p bytes Comment spells.0 spells.1, Spells-longer (after_comment p) s spells.0 rest spells.2)
-Spells-longer p (vary inner s) bytes rest spells =
+Spells-longer p (variation inner s) bytes rest spells =
     omega (
       arith,
       Takes-longer p bytes Open spells.0 spells.1,
@@ -66,5 +64,5 @@ record-short bytes tags game r =
       e,
       Tags-longer bytes r.all_tags r.behind_tags r.tags_first,
       Start-longer r.behind_tags r.start r.behind_start r.then_start,
-      Spells-longer (beginning 0 r.start) r.script r.behind_start r.behind_moves r.then_moves,
+      Spells-longer (beginning 0 r.start) r.movetext r.behind_start r.behind_moves r.then_moves,
     )

@@ -3,9 +3,9 @@ use Rattle.std.proofs.Common.{◌≡◌, ℕ, true, inl, inr, List, [], ◌∷�
 use Rattle.std.proofs.lemmas.Bool.{cases_Bool, not-true, not_from_false}
 use Rattle.std.proofs.lemmas.List.Elements.{All-nil, All-cons, All-head, All-tail}
 use Rattle.game_tree.specs.Head.{IsTag}
-use Rattle.game_tree.specs.TagName.{is_reserved}
+use Rattle.game_tree.specs.TagName.{is_free, free_of, is_reserved}
 use Rattle.game_tree.specs.declared.head.Tag.{Tag}
-use Rattle.game_codec.specs.TagSpelling.{counted, BeginsTag, BeginsTags, is_free, free_of}
+use Rattle.game_codec.specs.TagSpelling.{counted, BeginsTag, BeginsTags}
 use Rattle.game_codec.specs.TagReading.{tag_at, BreaksTags}
 use Rattle.game_codec.specs.Written.{tags_text}
 use Rattle.game_codec.specs.declared.fault.RecordWhat.{RecordWhat}

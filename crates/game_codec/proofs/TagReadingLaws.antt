@@ -6,13 +6,13 @@ use Rattle.std.proofs.lemmas.Bool.{cases_Bool, cond_both, eqb-true, eqb-false, n
 use Rattle.std.proofs.lemmas.List.{take_at, drop_at, take-append-drop, length-take-le, drop-drop, length-drop}
 use Rattle.std.proofs.lemmas.List.Elements.{All-head, All-tail, All-nil, All-cons, All-from_recursion, All-from_get_or}
 use Rattle.std.proofs.lemmas.Option.{slice_get_within, slice_get-get_or, get_or_from_slice_get}
-use Rattle.game_tree.specs.Date.{IsDate, date_text, shown}
+use Rattle.game_tree.specs.Date.{IsDate, date_number, date_of, date_text, shown}
 use Rattle.game_tree.specs.Head.{IsName}
-use Rattle.game_tree.specs.TagName.{IsTagByte, IsTagName}
+use Rattle.game_tree.specs.TagName.{is_tag_byte, IsTagByte, IsTagName}
 use Rattle.game_tree.specs.declared.date.Date.{Date}
 use Rattle.game_tree.specs.declared.head.Tag.{Tag}
-use Rattle.game_codec.specs.TagSpelling.{coded_names, counted, date_number, BeginsTag}
-use Rattle.game_codec.specs.TagReading.{Part, part_at, is_name_byte, is_value_byte, value_at, with_value, with_name, date_of, dated, date_at, tag_at}
+use Rattle.game_codec.specs.TagSpelling.{coded_names, counted, BeginsTag}
+use Rattle.game_codec.specs.TagReading.{Part, part_at, is_value_byte, value_at, with_value, with_name, dated, date_at, tag_at}
 use Rattle.game_codec.specs.declared.fault.RecordWhat.{RecordWhat}
 use Rattle.game_codec.specs.declared.fault.RecordWhat.TheVariants.{TagName, TagValue}
 
@@ -31,24 +31,6 @@ each_passes good P tells [] h = All-nil P
 each_passes good P tells (x ∷ xs) h =
     let parts = and_parts (good x) (list_all good xs) h in
     All-cons P x xs (tells x parts.0) (each_passes good P tells xs parts.1)
-
-name_byte : (b : ℕ) → IsTagByte b → is_name_byte b ≡ true
-name_byte b h =
-    and_from _ (not (b == 93))
-    (and_from _ (not (b == 34)) (and_from _ _ (le-leb 33 b h.above) (le-leb b 126 h.below)) (not_from_false _ (ne_eqb b 34 h.quote)))
-    (not_from_false _ (ne_eqb b 93 h.bracket))
-
-name_byte_tells : (b : ℕ) → is_name_byte b ≡ true → IsTagByte b
-name_byte_tells b h =
-    let p = and_parts (nat_le 33 b && nat_le b 126 && not (b == 34)) (not (b == 93)) h in
-    let q = and_parts (nat_le 33 b && nat_le b 126) (not (b == 34)) p.0 in
-    let r = and_parts (nat_le 33 b) (nat_le b 126) q.0 in
-    record {
-      above = leb-true 33 b r.0;
-      below = leb-true b 126 r.1;
-      quote = eqb-false b 34 (not-true _ q.1);
-      bracket = eqb-false b 93 (not-true _ p.1);
-    }
 
 value_byte : (b : ℕ) → b ≢ 0 → is_value_byte b ≡ true
 value_byte b h = not_from_false _ (ne_eqb b 0 h)
@@ -152,12 +134,12 @@ spelled_out-reads : (tag : Tag) (later : List ℕ) → IsTagName tag.name → Is
 unfolding tag_at
 spelled_out-reads tag later name value =
     let some = name.some in
-    let pass = all_pass is_name_byte IsTagByte name_byte tag.name name.bytes in
+    let pass = all_pass is_tag_byte IsTagByte (λ b h. h) tag.name name.bytes in
     rw (
       append_assoc tag.name (counted tag.value) later,
       ne_eqb (length tag.name) 0 (λ e. omega (arith, e)),
       le-leb (length tag.name) 240 name.short,
-      part_reads is_name_byte TagName tag.name (counted tag.value ++ later) pass,
+      part_reads is_tag_byte TagName tag.name (counted tag.value ++ later) pass,
       value_reads tag.value later value,
     ) refl
 
@@ -214,7 +196,7 @@ with_value_was name (Ok part) tag later h =
     (ap (λ (q : Tag × List ℕ). Ok (q.0.value, q.1)) e, sym (ap (λ (q : Tag × List ℕ). q.0.name) e))
 
 spelled_out-from : (n : ℕ) (bytes behind : List ℕ) (tag : Tag) (later : List ℕ) → 0 < n → n ≤ 240
-    → WasPart is_name_byte n bytes (tag.name, behind) → IsName tag.value × (behind ≡ counted tag.value ++ later)
+    → WasPart is_tag_byte n bytes (tag.name, behind) → IsName tag.value × (behind ≡ counted tag.value ++ later)
     → BeginsTag (n ∷ bytes) tag later
 spelled_out-from n bytes behind tag later some few w value =
     let size = w.size in
@@ -225,7 +207,7 @@ spelled_out-from n bytes behind tag later some few w value =
         name = record {
           some = omega arith;
           short = omega arith;
-          bytes = each_passes is_name_byte IsTagByte name_byte_tells tag.name w.pass;
+          bytes = each_passes is_tag_byte IsTagByte (λ b h. h) tag.name w.pass;
         };
         value = value.0;
         spelled = refl;
@@ -234,14 +216,14 @@ spelled_out-from n bytes behind tag later some few w value =
     )
 
 spelled_out-was : (n : ℕ) (bytes : List ℕ) (tag : Tag) (later : List ℕ) → 0 < n → n ≤ 240 → All (λ b. b < 256) bytes
-    → with_name (part_at is_name_byte TagName n bytes) ≡ Ok (Some (tag, later)) → BeginsTag (n ∷ bytes) tag later
+    → with_name (part_at is_tag_byte TagName n bytes) ≡ Ok (Some (tag, later)) → BeginsTag (n ∷ bytes) tag later
 spelled_out-was n bytes tag later some few small h =
-    let (part, name_read, value_read) = with_name_was (part_at is_name_byte TagName n bytes) tag later h in
-    let w = part_was is_name_byte TagName n bytes part name_read in
+    let (part, name_read, value_read) = with_name_was (part_at is_tag_byte TagName n bytes) tag later h in
+    let w = part_was is_tag_byte TagName n bytes part name_read in
     let v = with_value_was part.0 (value_at part.1) tag later value_read in
     let small' : All (λ b. b < 256) part.1 = all_right (λ b. b < 256) part.0 part.1 (rw w.spelled at small) in
     spelled_out-from n bytes part.1 tag later some few
-    (subst (λ (name : List ℕ). WasPart is_name_byte n bytes (name, part.1)) (sym v.1) w)
+    (subst (λ (name : List ℕ). WasPart is_tag_byte n bytes (name, part.1)) (sym v.1) w)
     (value_was part.1 (tag.value, later) small' v.0)
 
 coded-was : (code : ℕ) (bytes : List ℕ) (tag : Tag) (later : List ℕ) → 240 < code → code ≤ 250
@@ -342,17 +324,17 @@ BeginsTag-one bytes tag tag' later later' h k =
 -- ---- what a tag that was read may be
 
 is_tag_name : List ℕ → Bool
-is_tag_name name = nat_le 1 (length name) && nat_le (length name) 240 && list_all is_name_byte name
+is_tag_name name = nat_le 1 (length name) && nat_le (length name) 240 && list_all is_tag_byte name
 
 tag_name_tells : (name : List ℕ) → is_tag_name name ≡ true → IsTagName name
 unfolding is_tag_name
 tag_name_tells name h =
-    let p = and_parts (nat_le 1 (length name) && nat_le (length name) 240) (list_all is_name_byte name) h in
+    let p = and_parts (nat_le 1 (length name) && nat_le (length name) 240) (list_all is_tag_byte name) h in
     let q = and_parts (nat_le 1 (length name)) (nat_le (length name) 240) p.0 in
     record {
       some = leb-true 1 (length name) q.0;
       short = leb-true (length name) 240 q.1;
-      bytes = each_passes is_name_byte IsTagByte name_byte_tells name p.1;
+      bytes = each_passes is_tag_byte IsTagByte (λ b h. h) name p.1;
     }
 
 coded_tag_names : All IsTagName coded_names
@@ -426,7 +408,7 @@ end-tag_at (code ∷ bytes) h =
       | inl none ↦ (bytes, ap (λ (b : ℕ). b ∷ bytes) (eqb-true code 0 none))
       | inr some ↦
           elim (cases_Bool (nat_le code 240)) [
-            | inl named ↦ absurd (with_name-some (part_at is_name_byte TagName code bytes) (rw (some, named) at h))
+            | inl named ↦ absurd (with_name-some (part_at is_tag_byte TagName code bytes) (rw (some, named) at h))
             | inr longer ↦
                 elim (cases_Bool (nat_le code 250)) [
                   | inl coded ↦

@@ -3,7 +3,8 @@ use Rattle.std.proofs.Common.{◌≡◌, ℕ, ◌+◌, ◌-◌, List, [], ◌∷
 use Rattle.std.proofs.lemmas.List.{append-nil, drop_at}
 use Rattle.std.proofs.lemmas.List.Elements.{filter-append}
 use Rattle.game_tree.specs.declared.head.Tag.{Tag}
-use Rattle.game_codec.specs.TagSpelling.{BeginsTag, BeginsTags, is_free, free_of}
+use Rattle.game_tree.specs.TagName.{is_free, free_of}
+use Rattle.game_codec.specs.TagSpelling.{BeginsTag, BeginsTags}
 use Rattle.game_codec.specs.TagReading.{tag_at, BreaksTags}
 use Rattle.game_codec.specs.Breach.{TellsBad}
 use Rattle.game_codec.specs.declared.breach.Refusal.{Refusal}

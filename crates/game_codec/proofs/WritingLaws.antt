@@ -6,10 +6,10 @@ use Rattle.cell_core.specs.declared.step.Move.{Move}
 use Rattle.chess_laws.specs.declared.setup.Setup.{Setup}
 use Rattle.chess_laws.specs.Position.{start_setup}
 use Rattle.chess_laws.specs.Step.{Step}
-use Rattle.game_tree.specs.Items.{Script, stop}
+use Rattle.game_tree.specs.Movetext.{Movetext, end}
 use Rattle.game_tree.specs.Legal.{IsLegalLine, AreLegalBranches}
 use Rattle.game_tree.specs.Tree.{Line, ends, goes, Branches, none, more, Played, Variation, line_of, branches_of}
-use Rattle.game_tree.specs.Written.{nags_before, comment_before, script_of, variations_before}
+use Rattle.game_tree.specs.Written.{nags_before, comment_before, movetext_of, variations_before}
 use Rattle.chess_laws.proofs.Stepping.{Step-stepped}
 use Rattle.move_codec.specs.Numbers.{Numbered, numbers_after, text_numbers}
 use Rattle.move_codec.specs.Packed.{encoding}
@@ -19,46 +19,46 @@ use Rattle.chess_text.specs.Written.{fen_text}
 use Rattle.game_codec.specs.Place.{numbered_after}
 use Rattle.game_codec.specs.Start.{standard_start}
 use Rattle.game_codec.specs.Texts.{texts_of, ended}
-use Rattle.game_codec.specs.Written.{IsCommentText, LineHasTexts, BranchesHaveTexts, IsWrittenRecord, body_text, moves_text, own_start, promotion_flags, script_of_game, tags_text}
+use Rattle.game_codec.specs.Written.{IsCommentText, LineHasTexts, BranchesHaveTexts, IsWrittenRecord, body_text, moves_text, own_start, promotion_flags, movetext_of_game, tags_text}
 use Rattle.game_codec.specs.Writing.{comment_text, mark_text, nags_text, node_text, node_texts, variations_text, variations_texts, AddsStart, NodeHasTexts}
 
 -- Moves and marks
 
 -- a line begins with a move, which stands on what was reached alone
-moves_text-before : (a b here : Numbered) (l : Line) → moves_text a here (script_of l) ≡ moves_text b here (script_of l)
+moves_text-before : (a b here : Numbered) (l : Line) → moves_text a here (movetext_of l) ≡ moves_text b here (movetext_of l)
 moves_text-before a b here ends = refl
 moves_text-before a b here (goes m ns comment variations l) = refl
 
-moves-nags : (before here : Numbered) (ns : List ℕ) (s : Script) → moves_text before here (nags_before ns s) ≡ nags_text ns ++ moves_text before here s
+moves-nags : (before here : Numbered) (ns : List ℕ) (s : Movetext) → moves_text before here (nags_before ns s) ≡ nags_text ns ++ moves_text before here s
 moves-nags before here [] s = refl
 moves-nags before here (n ∷ ns) s = ap (λ (bytes : List ℕ). 11 ∷ n ∷ bytes) (moves-nags before here ns s)
 
-moves-comment : (before here : Numbered) (comment : Option (List ℕ)) (s : Script) → moves_text before here (comment_before comment s) ≡ mark_text comment ++ moves_text before here s
+moves-comment : (before here : Numbered) (comment : Option (List ℕ)) (s : Movetext) → moves_text before here (comment_before comment s) ≡ mark_text comment ++ moves_text before here s
 moves-comment before here None s = refl
 moves-comment before here (Some text) s = refl
 
-moves-variations : (before here : Numbered) (v : Branches) (s : Script) → moves_text before here (variations_before v s) ≡ variations_text before v ++ moves_text before here s
+moves-variations : (before here : Numbered) (v : Branches) (s : Movetext) → moves_text before here (variations_before v s) ≡ variations_text before v ++ moves_text before here s
 moves-variations before here none s = refl
 moves-variations before here (more lead line others) s =
-    let inner : List ℕ = moves_text before before (comment_before lead (script_of line)) in
+    let inner : List ℕ = moves_text before before (comment_before lead (movetext_of line)) in
     ap (λ (bytes : List ℕ). 13 ∷ inner ++ 14 ∷ bytes) (moves-variations before here others s)
     ∙ ap (λ (bytes : List ℕ). 13 ∷ bytes) (sym (append_assoc inner (14 ∷ variations_text before others) (moves_text before here s)))
 
 -- a move and the rest of its line
 moves-node : (n : Numbered) (node : Played) (rest : List Played)
-    → moves_text n n (script_of (line_of (node ∷ rest)))
-    ≡ node_text n node ++ moves_text (numbered_after n node.mv) (numbered_after n node.mv) (script_of (line_of rest))
+    → moves_text n n (movetext_of (line_of (node ∷ rest)))
+    ≡ node_text n node ++ moves_text (numbered_after n node.mv) (numbered_after n node.mv) (movetext_of (line_of rest))
 moves-node n node rest =
     let next : Numbered = numbered_after n node.mv in
-    let later : List ℕ = moves_text next next (script_of (line_of rest)) in
+    let later : List ℕ = moves_text next next (movetext_of (line_of rest)) in
     let first : List ℕ = encoding n node.mv in
     let nags : List ℕ = nags_text node.nags in
     let comment : List ℕ = mark_text node.comment in
     let variations : List ℕ = variations_text n node.variations in
-    let inner : Script = variations_before node.variations (script_of (line_of rest)) in
+    let inner : Movetext = variations_before node.variations (movetext_of (line_of rest)) in
     ap (λ (bytes : List ℕ). first ++ bytes) (moves-nags n next node.nags (comment_before node.comment inner))
     ∙ ap (λ (bytes : List ℕ). first ++ (nags ++ bytes)) (moves-comment n next node.comment inner)
-    ∙ ap (λ (bytes : List ℕ). first ++ (nags ++ (comment ++ bytes))) (moves-variations n next node.variations (script_of (line_of rest)))
+    ∙ ap (λ (bytes : List ℕ). first ++ (nags ++ (comment ++ bytes))) (moves-variations n next node.variations (movetext_of (line_of rest)))
     ∙ ap (λ (bytes : List ℕ). first ++ (nags ++ (comment ++ (variations ++ bytes)))) (moves_text-before n next next (line_of rest))
     ∙ simp append_assoc refl
 
@@ -69,31 +69,31 @@ ended-append [] second = refl
 ended-append (text ∷ first) second =
     ap (λ (bytes : List ℕ). text ++ 0 ∷ bytes) (ended-append first second) ∙ sym (append_assoc text (0 ∷ ended first) (ended second))
 
-texts-nags : (ns : List ℕ) (s : Script) → ended (texts_of (nags_before ns s)) ≡ ended (texts_of s)
+texts-nags : (ns : List ℕ) (s : Movetext) → ended (texts_of (nags_before ns s)) ≡ ended (texts_of s)
 texts-nags [] s = refl
 texts-nags (n ∷ ns) s = texts-nags ns s
 
-texts-comment : (comment : Option (List ℕ)) (s : Script) → ended (texts_of (comment_before comment s)) ≡ comment_text comment ++ ended (texts_of s)
+texts-comment : (comment : Option (List ℕ)) (s : Movetext) → ended (texts_of (comment_before comment s)) ≡ comment_text comment ++ ended (texts_of s)
 texts-comment None s = refl
 texts-comment (Some text) s = sym (append_assoc text (0 ∷ []) (ended (texts_of s)))
 
-texts-variations : (v : Branches) (s : Script) → ended (texts_of (variations_before v s)) ≡ variations_texts v ++ ended (texts_of s)
+texts-variations : (v : Branches) (s : Movetext) → ended (texts_of (variations_before v s)) ≡ variations_texts v ++ ended (texts_of s)
 texts-variations none s = refl
 texts-variations (more lead line others) s =
-    let inner : List (List ℕ) = texts_of (comment_before lead (script_of line)) in
+    let inner : List (List ℕ) = texts_of (comment_before lead (movetext_of line)) in
     ended-append inner (texts_of (variations_before others s))
     ∙ ap (λ (bytes : List ℕ). ended inner ++ bytes) (texts-variations others s)
     ∙ sym (append_assoc (ended inner) (variations_texts others) (ended (texts_of s)))
-    ∙ ap (λ (bytes : List ℕ). bytes ++ ended (texts_of s)) (sym (ended-append inner (texts_of (variations_before others stop))))
+    ∙ ap (λ (bytes : List ℕ). bytes ++ ended (texts_of s)) (sym (ended-append inner (texts_of (variations_before others end))))
 
 texts-node : (node : Played) (rest : List Played)
-    → ended (texts_of (script_of (line_of (node ∷ rest)))) ≡ node_texts node ++ ended (texts_of (script_of (line_of rest)))
+    → ended (texts_of (movetext_of (line_of (node ∷ rest)))) ≡ node_texts node ++ ended (texts_of (movetext_of (line_of rest)))
 texts-node node rest =
-    let later : List ℕ = ended (texts_of (script_of (line_of rest))) in
-    let inner : Script = variations_before node.variations (script_of (line_of rest)) in
+    let later : List ℕ = ended (texts_of (movetext_of (line_of rest))) in
+    let inner : Movetext = variations_before node.variations (movetext_of (line_of rest)) in
     texts-nags node.nags (comment_before node.comment inner)
     ∙ texts-comment node.comment inner
-    ∙ ap (λ (bytes : List ℕ). comment_text node.comment ++ bytes) (texts-variations node.variations (script_of (line_of rest)))
+    ∙ ap (λ (bytes : List ℕ). comment_text node.comment ++ bytes) (texts-variations node.variations (movetext_of (line_of rest)))
     ∙ sym (append_assoc (comment_text node.comment) (variations_texts node.variations) later)
 
 -- A loop's step: what is left gives the same as all
@@ -112,24 +112,24 @@ numbered-played n m q step numbers = λ i. record { position = Step-stepped n.po
 
 pub moves-more : (n q : Numbered) (line : List Played) (i : ℕ) (node : Played) (now next all : List ℕ)
     → drop i line ≡ node ∷ drop (i + 1) line → q ≡ numbered_after n node.mv → next ≡ now ++ node_text n node
-    → now ++ moves_text n n (script_of (line_of (drop i line))) ≡ all
-    → next ++ moves_text q q (script_of (line_of (drop (i + 1) line))) ≡ all
+    → now ++ moves_text n n (movetext_of (line_of (drop i line))) ≡ all
+    → next ++ moves_text q q (movetext_of (line_of (drop (i + 1) line))) ≡ all
 moves-more n q line i node now next all left played wrote before =
     let rest : List Played = drop (i + 1) line in
-    ap (λ (r : Numbered). next ++ moves_text r r (script_of (line_of rest))) played
-    ∙ one_more (moves_text n n (script_of (line_of (drop i line)))) (node_text n node)
-    (moves_text (numbered_after n node.mv) (numbered_after n node.mv) (script_of (line_of rest))) now next all
-    (ap (λ (ps : List Played). moves_text n n (script_of (line_of ps))) left ∙ moves-node n node rest) wrote before
+    ap (λ (r : Numbered). next ++ moves_text r r (movetext_of (line_of rest))) played
+    ∙ one_more (moves_text n n (movetext_of (line_of (drop i line)))) (node_text n node)
+    (moves_text (numbered_after n node.mv) (numbered_after n node.mv) (movetext_of (line_of rest))) now next all
+    (ap (λ (ps : List Played). moves_text n n (movetext_of (line_of ps))) left ∙ moves-node n node rest) wrote before
 
 pub texts-more : (line : List Played) (i : ℕ) (node : Played) (now next all : List ℕ)
     → drop i line ≡ node ∷ drop (i + 1) line → next ≡ now ++ node_texts node
-    → now ++ ended (texts_of (script_of (line_of (drop i line)))) ≡ all
-    → next ++ ended (texts_of (script_of (line_of (drop (i + 1) line)))) ≡ all
+    → now ++ ended (texts_of (movetext_of (line_of (drop i line)))) ≡ all
+    → next ++ ended (texts_of (movetext_of (line_of (drop (i + 1) line)))) ≡ all
 texts-more line i node now next all left wrote before =
     let rest : List Played = drop (i + 1) line in
-    one_more (ended (texts_of (script_of (line_of (drop i line))))) (node_texts node)
-    (ended (texts_of (script_of (line_of rest)))) now next all
-    (ap (λ (ps : List Played). ended (texts_of (script_of (line_of ps)))) left ∙ texts-node node rest) wrote before
+    one_more (ended (texts_of (movetext_of (line_of (drop i line))))) (node_texts node)
+    (ended (texts_of (movetext_of (line_of rest)))) now next all
+    (ap (λ (ps : List Played). ended (texts_of (movetext_of (line_of ps)))) left ∙ texts-node node rest) wrote before
 
 pub legal-more : (n q : Numbered) (line : List Played) (i : ℕ) (node : Played) → drop i line ≡ node ∷ drop (i + 1) line
     → q ≡ numbered_after n node.mv → IsLegalLine n.position (line_of (drop i line)) → IsLegalLine q.position (line_of (drop (i + 1) line))
@@ -143,26 +143,26 @@ line_texts-more line i node all left has before rest =
     before (subst (λ (ps : List Played). LineHasTexts (line_of ps)) (sym left) (has.0, (has.1, rest)))
 
 -- behind a line's own comment
-pub texts-lead : (lead : Option (List ℕ)) (line : List Played) (i : ℕ) (old now end : List ℕ) → length line ≤ i → now ≡ old ++ comment_text lead
-    → end ++ ended (texts_of (script_of (line_of (drop i line)))) ≡ now ++ ended (texts_of (script_of (line_of line)))
-    → end ≡ old ++ ended (texts_of (comment_before lead (script_of (line_of line))))
-texts-lead lead line i old now end whole wrote before =
-    let all : List ℕ = ended (texts_of (script_of (line_of line))) in
-    sym (append-nil end)
-    ∙ ap (λ (ps : List Played). end ++ ended (texts_of (script_of (line_of ps)))) (sym (drop_of_length-le line whole))
+pub texts-lead : (lead : Option (List ℕ)) (line : List Played) (i : ℕ) (old now last : List ℕ) → length line ≤ i → now ≡ old ++ comment_text lead
+    → last ++ ended (texts_of (movetext_of (line_of (drop i line)))) ≡ now ++ ended (texts_of (movetext_of (line_of line)))
+    → last ≡ old ++ ended (texts_of (comment_before lead (movetext_of (line_of line))))
+texts-lead lead line i old now last whole wrote before =
+    let all : List ℕ = ended (texts_of (movetext_of (line_of line))) in
+    sym (append-nil last)
+    ∙ ap (λ (ps : List Played). last ++ ended (texts_of (movetext_of (line_of ps)))) (sym (drop_of_length-le line whole))
     ∙ before
     ∙ ap (λ (bytes : List ℕ). bytes ++ all) wrote
     ∙ append_assoc old (comment_text lead) all
-    ∙ ap (λ (bytes : List ℕ). old ++ bytes) (sym (texts-comment lead (script_of (line_of line))))
+    ∙ ap (λ (bytes : List ℕ). old ++ bytes) (sym (texts-comment lead (movetext_of (line_of line))))
 
 -- a variation between its two marks, and the variations behind it
 pub variations-more : (n : Numbered) (vs : List Variation) (i : ℕ) (v : Variation) (now opened inner next all : List ℕ)
-    → drop i vs ≡ v ∷ drop (i + 1) vs → opened ≡ now ++ 13 ∷ [] → inner ≡ opened ++ moves_text n n (comment_before v.lead (script_of v.line))
+    → drop i vs ≡ v ∷ drop (i + 1) vs → opened ≡ now ++ 13 ∷ [] → inner ≡ opened ++ moves_text n n (comment_before v.lead (movetext_of v.line))
     → next ≡ inner ++ 14 ∷ []
     → now ++ variations_text n (branches_of (drop i vs)) ≡ all
     → next ++ variations_text n (branches_of (drop (i + 1) vs)) ≡ all
 variations-more n vs i v now opened inner next all left open_mark wrote close_mark before =
-    let text : List ℕ = moves_text n n (comment_before v.lead (script_of v.line)) in
+    let text : List ℕ = moves_text n n (comment_before v.lead (movetext_of v.line)) in
     let later : List ℕ = variations_text n (branches_of (drop (i + 1) vs)) in
     let part : List ℕ = 13 ∷ text ++ 14 ∷ [] in
     let grown : next ≡ now ++ part =
@@ -173,15 +173,15 @@ variations-more n vs i v now opened inner next all left open_mark wrote close_ma
     grown before
 
 pub variations_texts-more : (vs : List Variation) (i : ℕ) (v : Variation) (now next all : List ℕ)
-    → drop i vs ≡ v ∷ drop (i + 1) vs → next ≡ now ++ ended (texts_of (comment_before v.lead (script_of v.line)))
+    → drop i vs ≡ v ∷ drop (i + 1) vs → next ≡ now ++ ended (texts_of (comment_before v.lead (movetext_of v.line)))
     → now ++ variations_texts (branches_of (drop i vs)) ≡ all
     → next ++ variations_texts (branches_of (drop (i + 1) vs)) ≡ all
 variations_texts-more vs i v now next all left wrote before =
-    let inner : List (List ℕ) = texts_of (comment_before v.lead (script_of v.line)) in
+    let inner : List (List ℕ) = texts_of (comment_before v.lead (movetext_of v.line)) in
     one_more (variations_texts (branches_of (drop i vs))) (ended inner) (variations_texts (branches_of (drop (i + 1) vs))) now next all
     (
     ap (λ (ps : List Variation). variations_texts (branches_of ps)) left
-    ∙ ended-append inner (texts_of (variations_before (branches_of (drop (i + 1) vs)) stop))
+    ∙ ended-append inner (texts_of (variations_before (branches_of (drop (i + 1) vs)) end))
     )
     wrote before
 
@@ -210,14 +210,14 @@ behind_tags tagged start started moved marked all moves texts tags tags_are put_
     (put_start ∙ ap (λ (bytes : List ℕ). bytes ++ start) tags_are)))
     ∙ simp append_assoc refl
 
-same_body : (n m : Numbered) (s : Script) (moves texts : List ℕ) → n ≡ m → moves ≡ moves_text n n s → texts ≡ ended (texts_of s)
+same_body : (n m : Numbered) (s : Movetext) (moves texts : List ℕ) → n ≡ m → moves ≡ moves_text n n s → texts ≡ ended (texts_of s)
     → moves ++ 15 ∷ texts ≡ body_text m s
 same_body n m s moves texts same moves_are texts_are =
     λ i. (moves_are ∙ ap (λ (k : Numbered). moves_text k k s) same) i ++ 15 ∷ texts_are i
 
 pub record-writes : (tags : List Tag) (g : GameTree) (n : Numbered) (tagged started moved marked all moves texts : List ℕ)
     → tagged ≡ tags_text tags ++ 0 ∷ [] → AddsStart g.start (promotion_flags g.line) tagged started n
-    → moves ≡ moves_text n n (script_of_game g) → texts ≡ ended (texts_of (script_of_game g))
+    → moves ≡ moves_text n n (movetext_of_game g) → texts ≡ ended (texts_of (movetext_of_game g))
     → moved ≡ started ++ moves → marked ≡ moved ++ 15 ∷ [] → all ≡ marked ++ texts → IsWrittenRecord all tags g
 record-writes tags g n tagged started moved marked all moves texts tags_are (inl start) moves_are texts_are put_moves put_end put_texts = record {
   behind_tags = promotion_flags g.line ∷ (moves ++ 15 ∷ texts);
@@ -225,7 +225,7 @@ record-writes tags g n tagged started moved marked all moves texts tags_are (inl
   game_is =
       inl (record {
         standard = start.standard;
-        bytes_are = ap (λ (bytes : List ℕ). promotion_flags g.line ∷ bytes) (same_body n standard_start (script_of_game g) moves texts start.start_is moves_are texts_are);
+        bytes_are = ap (λ (bytes : List ℕ). promotion_flags g.line ∷ bytes) (same_body n standard_start (movetext_of_game g) moves texts start.start_is moves_are texts_are);
       });
 }
 record-writes tags g n tagged started moved marked all moves texts tags_are (inr start) moves_are texts_are put_moves put_end put_texts =
@@ -239,7 +239,7 @@ record-writes tags g n tagged started moved marked all moves texts tags_are (inr
             own = start.own;
             bytes_are =
                 ap (λ (bytes : List ℕ). flags ∷ bytes) (append_assoc fen (0 ∷ []) (moves ++ 15 ∷ texts))
-                ∙ ap (λ (bytes : List ℕ). flags ∷ fen ++ 0 ∷ bytes) (same_body n (own_start g.start) (script_of_game g) moves texts start.start_is moves_are texts_are);
+                ∙ ap (λ (bytes : List ℕ). flags ∷ fen ++ 0 ∷ bytes) (same_body n (own_start g.start) (movetext_of_game g) moves texts start.start_is moves_are texts_are);
           });
     }
 
@@ -248,14 +248,14 @@ pub game-writes : (tags : List Tag) (g : GameTree) (start : Setup) (lead : Optio
     → record { start = start; lead = lead; line = line_of items } ≡ g → first ≡ items → second ≡ items
     → (n : Numbered) (flags : ℕ) (tagged started moved marked all moves texts : List ℕ)
     → flags ≡ promotion_flags (line_of first) → tagged ≡ tags_text tags ++ 0 ∷ [] → AddsStart start flags tagged started n
-    → moves ≡ moves_text n n (comment_before lead (script_of (line_of second))) → texts ≡ ended (texts_of (comment_before lead (script_of (line_of second))))
+    → moves ≡ moves_text n n (comment_before lead (movetext_of (line_of second))) → texts ≡ ended (texts_of (comment_before lead (movetext_of (line_of second))))
     → moved ≡ started ++ moves → marked ≡ moved ++ 15 ∷ [] → all ≡ marked ++ texts → IsWrittenRecord all tags g
 game-writes tags g start lead items first second view first_is second_is n flags tagged started moved marked all moves texts flags_are tags_are adds moves_are texts_are put_moves put_end put_texts =
     subst (IsWrittenRecord all tags) view
     (record-writes tags (record { start = start; lead = lead; line = line_of items }) n tagged started moved marked all moves texts tags_are
     (subst (λ (k : ℕ). AddsStart start k tagged started n) (flags_are ∙ ap (λ (ps : List Played). promotion_flags (line_of ps)) first_is) adds)
-    (moves_are ∙ ap (λ (ps : List Played). moves_text n n (comment_before lead (script_of (line_of ps)))) second_is)
-    (texts_are ∙ ap (λ (ps : List Played). ended (texts_of (comment_before lead (script_of (line_of ps))))) second_is)
+    (moves_are ∙ ap (λ (ps : List Played). moves_text n n (comment_before lead (movetext_of (line_of ps)))) second_is)
+    (texts_are ∙ ap (λ (ps : List Played). ended (texts_of (comment_before lead (movetext_of (line_of ps))))) second_is)
     put_moves put_end put_texts)
 
 -- an own start, part by part

@@ -13,20 +13,19 @@ use Rattle.game_tree.specs.Game.{GameTree}
 use Rattle.game_tree.specs.Head.{IsTag}
 use Rattle.game_tree.specs.declared.head.Tag.{Tag}
 use Rattle.game_tree.proofs.WrittenLemmas.{meaning-written, HasComments-legal}
-use Rattle.game_tree.specs.Items.{Script}
+use Rattle.game_tree.specs.Movetext.{Movetext}
 use Rattle.game_tree.specs.Legal.{IsLegalLine, AreLegalBranches, IsLegalGame}
 use Rattle.game_tree.specs.Tree.{Line, ends, goes, Branches, none, more, depth_of, depth_within}
-use Rattle.game_tree.specs.Written.{nags_before, comment_before, script_of, variations_before}
+use Rattle.game_tree.specs.Written.{nags_before, comment_before, movetext_of, variations_before}
 use Rattle.move_codec.specs.Numbers.{Numbered, AreNumbers}
 use Rattle.move_codec.specs.Packed.{encoding}
 use Rattle.move_codec.proofs.Apart.{encoding-apart}
 use Rattle.move_codec.proofs.RoundTrip.{round_trip}
 use Rattle.move_codec.proofs.Steps.{AreNumbers-step}
-use Rattle.game_codec.specs.declared.place.Place.{Place}
-use Rattle.game_codec.specs.declared.token.Token.TheVariants.{Play}
+use Rattle.game_codec.specs.Place.{Place, Takes, ending, numbered_after, beginning, after_move, after_comment, variation_of}
+use Rattle.game_codec.specs.Token.{Play}
 use Rattle.game_codec.specs.Moves.{SpellsMoves}
-use Rattle.game_codec.specs.Place.{Takes, ending, numbered_after, beginning, after_move, after_comment, variation_of}
-use Rattle.game_codec.specs.Written.{HasTexts, IsCommentText, LineHasTexts, BranchesHaveTexts, IsWrittenGame, IsWrittenRecord, body_text, line_any, is_promotion, is_underpromotion, moves_text, own_start, promotion_flags, script_of_game, tags_text}
+use Rattle.game_codec.specs.Written.{HasTexts, IsCommentText, LineHasTexts, BranchesHaveTexts, IsWrittenGame, IsWrittenRecord, body_text, line_any, is_promotion, is_underpromotion, moves_text, own_start, promotion_flags, movetext_of_game, tags_text}
 use Rattle.game_codec.specs.Record.{IsRecord, game_of}
 use Rattle.game_codec.specs.Start.{BeginsStart, standard_start}
 use Rattle.game_codec.specs.TagSpelling.{BeginsTags}
@@ -70,14 +69,14 @@ takes-play p m later stands legal =
       ),
     )
 
-spells-nags : (p : Place) (ns : List ℕ) (s : Script) (later rest : List ℕ) → IsTrue p.has_move
+spells-nags : (p : Place) (ns : List ℕ) (s : Movetext) (later rest : List ℕ) → IsTrue p.has_move
     → SpellsMoves p s (moves_text p.before p.here s ++ later) rest
     → SpellsMoves p (nags_before ns s) (moves_text p.before p.here (nags_before ns s) ++ later) rest
 spells-nags p [] s later rest has spells = spells
 spells-nags p (n ∷ ns) s later rest has spells =
     (moves_text p.before p.here (nags_before ns s) ++ later, (has, refl), spells-nags p ns s later rest has spells)
 
-spells-comment : (p : Place) (comment : Option (List ℕ)) (s : Script) (later rest : List ℕ) → p.has_comment ≡ false
+spells-comment : (p : Place) (comment : Option (List ℕ)) (s : Movetext) (later rest : List ℕ) → p.has_comment ≡ false
     → SpellsMoves p s (moves_text p.before p.here s ++ later) rest
     → SpellsMoves (after_comment p) s (moves_text p.before p.here s ++ later) rest
     → SpellsMoves p (comment_before comment s) (moves_text p.before p.here (comment_before comment s) ++ later) rest
@@ -89,7 +88,7 @@ deeper depth inner others within = (omega arith, (omega arith, omega arith))
 
 mutual
   spells-line : (l : Line) (p : Place) (rest : List ℕ) → Stands p.here → IsLegalLine p.here.position l → p.depth + depth_of l ≤ 200
-      → SpellsMoves p (script_of l) (moves_text p.before p.here (script_of l) ++ end_byte p.depth ∷ rest) rest
+      → SpellsMoves p (movetext_of l) (moves_text p.before p.here (movetext_of l) ++ end_byte p.depth ∷ rest) rest
   spells-line ends p rest stands legal within = takes-ending p p.depth refl rest
   spells-line (goes m ns comment variations l) p rest stands legal within =
       let q : Place = after_move p m in
@@ -97,30 +96,30 @@ mutual
       let here : p.depth + depth_within variations ≤ 200 = omega arith in
       let there : p.depth + depth_of l ≤ 200 = omega arith in
       let tail : List ℕ = end_byte p.depth ∷ rest in
-      let behind : Script = variations_before variations (script_of l) in
-      let items : Script = nags_before ns (comment_before comment behind) in
-      let bare = spells-variations variations q (script_of l) tail rest refl stands legal.1.1.0 here (spells-line l q rest next legal.1.1.1 there) in
-      let noted = spells-variations variations (after_comment q) (script_of l) tail rest refl stands legal.1.1.0 here (spells-line l (after_comment q) rest next legal.1.1.1 there) in (
+      let behind : Movetext = variations_before variations (movetext_of l) in
+      let items : Movetext = nags_before ns (comment_before comment behind) in
+      let bare = spells-variations variations q (movetext_of l) tail rest refl stands legal.1.1.0 here (spells-line l q rest next legal.1.1.1 there) in
+      let noted = spells-variations variations (after_comment q) (movetext_of l) tail rest refl stands legal.1.1.0 here (spells-line l (after_comment q) rest next legal.1.1.1 there) in (
         moves_text q.before q.here items ++ tail,
         rw (append_assoc (encoding p.here m) (moves_text q.before q.here items) tail)
             (takes-play p m (moves_text q.before q.here items ++ tail) stands (stepped p.here.position m, legal.0)),
         spells-nags q ns (comment_before comment behind) tail rest refl (spells-comment q comment behind tail rest refl bare noted),
       )
 
-  spells-variations : (v : Branches) (p : Place) (s : Script) (later rest : List ℕ) → IsTrue p.has_move → Stands p.before
+  spells-variations : (v : Branches) (p : Place) (s : Movetext) (later rest : List ℕ) → IsTrue p.has_move → Stands p.before
       → AreLegalBranches p.before.position v → p.depth + depth_within v ≤ 200
       → SpellsMoves p s (moves_text p.before p.here s ++ later) rest
       → SpellsMoves p (variations_before v s) (moves_text p.before p.here (variations_before v s) ++ later) rest
   spells-variations none p s later rest has stands legal within spells = spells
   spells-variations (more lead line others) p s later rest has stands legal within spells =
       let room = deeper p.depth (depth_of line) (depth_within others) within in
-      let inner : Script = comment_before lead (script_of line) in
+      let inner : Movetext = comment_before lead (movetext_of line) in
       let behind : List ℕ = moves_text p.before p.here (variations_before others s) ++ later in
       let q : Place = variation_of p in
       let bare = spells-line line q behind stands legal.1.0 room.1.0 in
       let noted = spells-line line (after_comment q) behind stands legal.1.0 room.1.0 in
       let spelled : SpellsMoves q inner (moves_text p.before p.before inner ++ end_byte q.depth ∷ behind) behind =
-      spells-comment q lead (script_of line) (end_byte q.depth ∷ behind) behind refl bare noted in (
+      spells-comment q lead (movetext_of line) (end_byte q.depth ∷ behind) behind refl bare noted in (
         moves_text p.before p.before inner ++ 14 ∷ behind,
         (
           has,
@@ -137,40 +136,40 @@ mutual
 
 -- a whole line behind its own comment
 spells-all : (n : Numbered) (lead : Option (List ℕ)) (l : Line) (rest : List ℕ) → Stands n → IsLegalLine n.position l → depth_of l ≤ 200
-    → SpellsMoves (beginning 0 n) (comment_before lead (script_of l)) (moves_text n n (comment_before lead (script_of l)) ++ 15 ∷ rest) rest
+    → SpellsMoves (beginning 0 n) (comment_before lead (movetext_of l)) (moves_text n n (comment_before lead (movetext_of l)) ++ 15 ∷ rest) rest
 spells-all n lead l rest stands legal within =
-    spells-comment (beginning 0 n) lead (script_of l) (15 ∷ rest) rest refl
+    spells-comment (beginning 0 n) lead (movetext_of l) (15 ∷ rest) rest refl
     (spells-line l (beginning 0 n) rest stands legal (omega arith))
     (spells-line l (after_comment (beginning 0 n)) rest stands legal (omega arith))
 
 -- What the texts of a game are
 
-texts-nags : (ns : List ℕ) (s : Script) → texts_of (nags_before ns s) ≡ texts_of s
+texts-nags : (ns : List ℕ) (s : Movetext) → texts_of (nags_before ns s) ≡ texts_of s
 texts-nags [] s = refl
 texts-nags (n ∷ ns) s = texts-nags ns s
 
-texts-comment : (comment : Option (List ℕ)) (s : Script) → IsCommentText comment → All IsZeroFree (texts_of s)
+texts-comment : (comment : Option (List ℕ)) (s : Movetext) → IsCommentText comment → All IsZeroFree (texts_of s)
     → All IsZeroFree (texts_of (comment_before comment s))
 texts-comment None s is later = later
 texts-comment (Some text) s is later = All-cons IsZeroFree text (texts_of s) is later
 
 mutual
-  texts-line : (l : Line) → LineHasTexts l → All IsZeroFree (texts_of (script_of l))
+  texts-line : (l : Line) → LineHasTexts l → All IsZeroFree (texts_of (movetext_of l))
   texts-line ends are = All-nil IsZeroFree
   texts-line (goes m ns comment variations l) are =
-      rw (texts-nags ns (comment_before comment (variations_before variations (script_of l))))
-      (texts-comment comment (variations_before variations (script_of l)) are.0
-      (texts-variations variations (script_of l) are.1.0 (texts-line l are.1.1)))
+      rw (texts-nags ns (comment_before comment (variations_before variations (movetext_of l))))
+      (texts-comment comment (variations_before variations (movetext_of l)) are.0
+      (texts-variations variations (movetext_of l) are.1.0 (texts-line l are.1.1)))
 
-  texts-variations : (v : Branches) (s : Script) → BranchesHaveTexts v → All IsZeroFree (texts_of s) → All IsZeroFree (texts_of (variations_before v s))
+  texts-variations : (v : Branches) (s : Movetext) → BranchesHaveTexts v → All IsZeroFree (texts_of s) → All IsZeroFree (texts_of (variations_before v s))
   texts-variations none s are later = later
   texts-variations (more lead line others) s are later =
-      All-append IsZeroFree (texts_of (comment_before lead (script_of line))) (texts_of (variations_before others s))
-      (texts-comment lead (script_of line) are.0 (texts-line line are.1.0))
+      All-append IsZeroFree (texts_of (comment_before lead (movetext_of line))) (texts_of (variations_before others s))
+      (texts-comment lead (movetext_of line) are.0 (texts-line line are.1.0))
       (texts-variations others s are.1.1 later)
 
-texts-game : (g : GameTree) → HasTexts g → All IsZeroFree (texts_of (script_of_game g))
-texts-game g are = texts-comment g.lead (script_of g.line) are.lead (texts-line g.line are.line)
+texts-game : (g : GameTree) → HasTexts g → All IsZeroFree (texts_of (movetext_of_game g))
+texts-game g are = texts-comment g.lead (movetext_of g.line) are.lead (texts-line g.line are.line)
 
 -- What a written record says
 
@@ -189,17 +188,17 @@ set_flag false false = refl
 -- the whole record, by its start
 record-of : (bytes : List ℕ) (tags : List Tag) (g : GameTree) (behind : List ℕ) (n : Numbered) → Stands n → n.position ≡ g.start
     → IsLegalGame g → HasTexts g → All IsTag tags → bytes ≡ tags_text tags ++ 0 ∷ behind
-    → BeginsStart behind n (body_text n (script_of_game g)) → IsRecord bytes tags g
+    → BeginsStart behind n (body_text n (movetext_of_game g)) → IsRecord bytes tags g
 record-of bytes tags g behind n stands same legal has are is begins = record {
   all_tags = tags;
   start = n;
-  script = script_of_game g;
+  movetext = movetext_of_game g;
   behind_tags = behind;
-  behind_start = body_text n (script_of_game g);
-  behind_moves = ended (texts_of (script_of_game g));
+  behind_start = body_text n (movetext_of_game g);
+  behind_moves = ended (texts_of (movetext_of_game g));
   tags_first = subst (λ (b : List ℕ). BeginsTags b tags behind) (sym is) (tags_text-begins tags behind are);
   then_start = begins;
-  then_moves = spells-all n g.lead g.line (ended (texts_of (script_of_game g))) stands (subst (λ (p : Setup). IsLegalLine p g.line) (sym same) legal.line) legal.depth;
+  then_moves = spells-all n g.lead g.line (ended (texts_of (movetext_of_game g))) stands (subst (λ (p : Setup). IsLegalLine p g.line) (sym same) legal.line) legal.depth;
   then_texts = record { spelled = refl; zero_free = texts-game g has };
   tags_are = sym (free_of-IsTag tags are);
   game_is =
@@ -214,13 +213,13 @@ written-read bytes tags g sound legal has are written =
       | inl is ↦
           record-of bytes tags g written.behind_tags standard_start
           (record { sound = subst Sound is.standard sound; numbers = AreNumbers-standard }) (sym is.standard) legal has are written.bytes_are
-          (subst (λ (b : List ℕ). BeginsStart b standard_start (body_text standard_start (script_of_game g))) (sym is.bytes_are)
-          (standard-begins (promotion_flags g.line) (body_text standard_start (script_of_game g)) (clear_flag (line_any is_promotion g.line) (line_any is_underpromotion g.line))))
+          (subst (λ (b : List ℕ). BeginsStart b standard_start (body_text standard_start (movetext_of_game g))) (sym is.bytes_are)
+          (standard-begins (promotion_flags g.line) (body_text standard_start (movetext_of_game g)) (clear_flag (line_any is_promotion g.line) (line_any is_underpromotion g.line))))
       | inr is ↦
           record-of bytes tags g written.behind_tags (own_start g.start)
           (record { sound = sound; numbers = AreNumbers-text g.start.board sound.squares sound.kings sound.few }) refl legal has are written.bytes_are
-          (subst (λ (b : List ℕ). BeginsStart b (own_start g.start) (body_text (own_start g.start) (script_of_game g))) (sym is.bytes_are)
-          (own-begins (1 + promotion_flags g.line) g.start (body_text (own_start g.start) (script_of_game g)) (set_flag (line_any is_promotion g.line) (line_any is_underpromotion g.line)) sound))
+          (subst (λ (b : List ℕ). BeginsStart b (own_start g.start) (body_text (own_start g.start) (movetext_of_game g))) (sym is.bytes_are)
+          (own-begins (1 + promotion_flags g.line) g.start (body_text (own_start g.start) (movetext_of_game g)) (set_flag (line_any is_promotion g.line) (line_any is_underpromotion g.line)) sound))
     ]
 
 -- A game has one written form

@@ -1,6 +1,6 @@
 -- The first fault of bytes that are no record (this project's own): all that stands before it is as in a record.
 use Rattle.std.specs.Prelude.{◌≡◌, ℕ, ◌-◌, ◌⊎◌, List, length}
-use Rattle.game_tree.specs.Items.{Script}
+use Rattle.game_tree.specs.Movetext.{Movetext}
 use Rattle.game_tree.specs.declared.head.Tag.{Tag}
 use Rattle.move_codec.specs.Numbers.{Numbered}
 use Rattle.move_codec.specs.declared.fault.MoveFault.TheVariants as move
@@ -43,14 +43,14 @@ pub record BreaksInMoves (bytes rest : List ℕ) (what : RecordWhat) : Type 0 wh
 pub record BreaksInTexts (bytes rest : List ℕ) (what : RecordWhat) : Type 0 where
   pub tags : List Tag
   pub start : Numbered
-  pub script : Script
+  pub movetext : Movetext
   pub behind_tags : List ℕ
   pub behind_start : List ℕ
   pub behind_moves : List ℕ
   pub tags_first : BeginsTags bytes tags behind_tags
   pub then_start : BeginsStart behind_tags start behind_start
-  pub then_moves : SpellsMoves (beginning 0 start) script behind_start behind_moves
-  pub breaks : BreaksTexts (length (texts_of script)) behind_moves rest what
+  pub then_moves : SpellsMoves (beginning 0 start) movetext behind_start behind_moves
+  pub breaks : BreaksTexts (length (texts_of movetext)) behind_moves rest what
 
 -- the bytes have this fault, and these bytes stand from the faulty item on
 abbrev pub Breaks : List ℕ → List ℕ → RecordWhat → Type 0

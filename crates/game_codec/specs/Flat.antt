@@ -2,15 +2,16 @@
 -- cites these words.
 use Rattle.std.specs.Prelude.{◌≡◌, ℕ, ◌⊎◌, List, Ok, Err, length}
 use Rattle.game_tree.specs.Game.{GameTree}
-use Rattle.game_tree.specs.Items.{Script, items_of, meaning}
+use Rattle.game_tree.specs.Movetext.{Movetext, items_of, meaning}
 use Rattle.game_tree.specs.declared.head.Tag.{Tag}
 use Rattle.move_codec.specs.Numbers.{Numbered}
-use Rattle.game_codec.specs.TagSpelling.{BeginsTags, free_of}
+use Rattle.game_tree.specs.TagName.{free_of}
+use Rattle.game_codec.specs.TagSpelling.{BeginsTags}
 use Rattle.game_codec.specs.Start.{BeginsStart}
 use Rattle.game_codec.specs.Texts.{AreTexts, BreaksTexts}
 use Rattle.game_codec.specs.Fault.{BreaksInTags, BreaksInStart}
 use Rattle.game_codec.specs.Scanning.{Scans, nest_of, comments_in, dealt}
-use Rattle.game_codec.specs.declared.token.Token.{Token}
+use Rattle.game_codec.specs.Token.{Token}
 use Rattle.game_codec.specs.declared.fault.RecordWhat.{RecordWhat}
 
 -- the parts of a record
@@ -24,7 +25,7 @@ pub record IsFlat (bytes : List ℕ) (all_tags : List Tag) (start : Numbered) (t
   pub then_texts : AreTexts behind_moves texts
   pub count : length texts ≡ comments_in tokens
 
--- what is read: these tags and this game, which is what the items mean where they are those of a script
+-- what is read: these tags and this game, which is what the items mean where they are those of a movetext
 pub record IsRead (bytes : List ℕ) (tags : List Tag) (game : GameTree) : Type 0 where
   pub all_tags : List Tag
   pub start : Numbered
@@ -33,7 +34,7 @@ pub record IsRead (bytes : List ℕ) (tags : List Tag) (game : GameTree) : Type 
   pub flat : IsFlat bytes all_tags start tokens texts
   pub tags_are : tags ≡ free_of all_tags
   pub start_is : game.start ≡ start.position
-  pub meant : (s : Script) → items_of s ≡ dealt tokens texts → (game.lead ≡ (meaning s).comment) × (game.line ≡ (meaning s).line)
+  pub meant : (s : Movetext) → items_of s ≡ dealt tokens texts → (game.lead ≡ (meaning s).comment) × (game.line ≡ (meaning s).line)
 
 -- a fault in the moves, and one in the texts
 pub record IsFlatInMoves (bytes rest : List ℕ) (what : RecordWhat) : Type 0 where

@@ -2,6 +2,7 @@ pub mod TagSpelling
 pub mod TagReading
 pub mod TagParts
 pub mod Start
+pub mod Token
 pub mod Place
 pub mod Moves
 pub mod Texts

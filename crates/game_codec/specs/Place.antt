@@ -1,17 +1,25 @@
 -- What may stand at a place of a record's moves (this project's own, after Scid's format): a packed move, or one of five
--- marks. 11 is a glyph (NAG) of the last move and has one more byte, 12 a comment of the last move or of the line's
+-- marks. 11 is a NAG of the last move and has one more byte, 12 a comment of the last move or of the line's
 -- beginning, 13 begins a variation of the last move, 14 ends it, and 15 ends the game. The marks after a move stand in any
 -- order; those behind a variation still belong to the move that it hangs on.
-use Rattle.std.specs.Prelude.{◌≡◌, ℕ, zero, suc, ◌+◌, ◌<◌, ◌≤◌, ◌⊎◌, true, false, IsTrue, List, [], ◌∷◌, Ok, Err, drop}
+use Rattle.std.specs.Prelude.{◌≡◌, ℕ, zero, suc, ◌+◌, ◌<◌, ◌≤◌, ◌⊎◌, Bool, true, false, IsTrue, List, [], ◌∷◌, Ok, Err, drop}
 use Rattle.cell_core.specs.declared.step.Move.{Move}
 use Rattle.chess_laws.specs.Step.{stepped}
 use Rattle.move_codec.specs.Numbers.{Numbered, numbers_after}
 use Rattle.move_codec.specs.Packed.{Decodes, is_mark}
-use Rattle.game_codec.specs.declared.place.Place.{Place}
-use Rattle.game_codec.specs.declared.token.Token.{Token}
-use Rattle.game_codec.specs.declared.token.Token.TheVariants.{Play, Nag, Comment, Open, Close, End}
+use Rattle.game_codec.specs.Token.{Token, Play, Nag, Comment, Open, Close, End}
 use Rattle.game_codec.specs.declared.fault.RecordWhat.{RecordWhat}
 use Rattle.game_codec.specs.declared.fault.RecordWhat.TheVariants as what
+
+-- A place in a line: how many variations are open there, the position before the line's last move and the position after
+-- it, whether the line has a move yet, and whether a comment stands at the place. Before the first move of a line both
+-- positions are the one that the line begins at.
+pub record Place : Type 0 where
+  pub depth : ℕ
+  pub before : Numbered
+  pub here : Numbered
+  pub has_move : Bool
+  pub has_comment : Bool
 
 -- the position and the numbers after a move
 abbrev pub numbered_after : Numbered → Move → Numbered
@@ -49,7 +57,7 @@ abbrev pub ending : ℕ → Token
 ending zero = End
 ending (suc depth) = Close
 
--- a glyph or a variation before the first move of its line, or an end that is not the line's
+-- a NAG or a variation before the first move of its line, or an end that is not the line's
 abbrev pub IsMisplaced : Place → List ℕ → Type 0
 IsMisplaced p [] = ⊥
 IsMisplaced p (byte ∷ later) =

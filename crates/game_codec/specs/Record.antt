@@ -2,11 +2,12 @@
 -- start, the moves, and the texts of the comments in the order of their marks.
 use Rattle.std.specs.Prelude.{◌≡◌, ℕ, List}
 use Rattle.game_tree.specs.Game.{GameTree}
-use Rattle.game_tree.specs.Items.{Script, Said, meaning}
+use Rattle.game_tree.specs.Movetext.{Movetext, Said, meaning}
 use Rattle.game_tree.specs.declared.head.Tag.{Tag}
 use Rattle.chess_laws.specs.declared.setup.Setup.{Setup}
 use Rattle.move_codec.specs.Numbers.{Numbered}
-use Rattle.game_codec.specs.TagSpelling.{BeginsTags, free_of}
+use Rattle.game_tree.specs.TagName.{free_of}
+use Rattle.game_codec.specs.TagSpelling.{BeginsTags}
 use Rattle.game_codec.specs.Start.{BeginsStart}
 use Rattle.game_codec.specs.Place.{beginning}
 use Rattle.game_codec.specs.Moves.{SpellsMoves}
@@ -20,13 +21,13 @@ game_of start said = record { start = start; lead = said.comment; line = said.li
 pub record IsRecord (bytes : List ℕ) (tags : List Tag) (game : GameTree) : Type 0 where
   pub all_tags : List Tag
   pub start : Numbered
-  pub script : Script
+  pub movetext : Movetext
   pub behind_tags : List ℕ
   pub behind_start : List ℕ
   pub behind_moves : List ℕ
   pub tags_first : BeginsTags bytes all_tags behind_tags
   pub then_start : BeginsStart behind_tags start behind_start
-  pub then_moves : SpellsMoves (beginning 0 start) script behind_start behind_moves
-  pub then_texts : AreTexts behind_moves (texts_of script)
+  pub then_moves : SpellsMoves (beginning 0 start) movetext behind_start behind_moves
+  pub then_texts : AreTexts behind_moves (texts_of movetext)
   pub tags_are : tags ≡ free_of all_tags
-  pub game_is : game ≡ game_of start.position (meaning script)
+  pub game_is : game ≡ game_of start.position (meaning movetext)

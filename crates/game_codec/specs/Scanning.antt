@@ -1,11 +1,11 @@
 -- The items of a record one behind the other, as the code reads them. No public contract cites these words.
 use Rattle.std.specs.Prelude.{◌≡◌, ℕ, suc, List, [], ◌∷◌, Result, Ok, Err}
-use Rattle.game_tree.specs.Items.{Item, plays, glyph, note, opens, closes, Script, items_of}
+use Rattle.game_tree.specs.Item.{Item}
+use Rattle.game_tree.specs.Item as item
+use Rattle.game_tree.specs.Movetext.{Movetext, items_of}
 use Rattle.move_codec.specs.Numbers.{Numbered}
-use Rattle.game_codec.specs.Place.{Takes, FaultAt, beginning, after_move, after_comment, variation_of}
-use Rattle.game_codec.specs.declared.place.Place.{Place}
-use Rattle.game_codec.specs.declared.token.Token.{Token}
-use Rattle.game_codec.specs.declared.token.Token.TheVariants.{Play, Nag, Comment, Open, Close, End}
+use Rattle.game_codec.specs.Place.{Place, Takes, FaultAt, beginning, after_move, after_comment, variation_of}
+use Rattle.game_codec.specs.Token.{Token, Play, Nag, Comment, Open, Close, End}
 use Rattle.game_codec.specs.declared.fault.RecordWhat.{RecordWhat}
 
 -- the place after an item in the innermost line, and the lines round it
@@ -65,14 +65,14 @@ comments_in (End ∷ tokens) = comments_in tokens
 -- the items of a tree, with the texts of their comments dealt out in order
 abbrev pub dealt : List Token → List (List ℕ) → List Item
 dealt [] texts = []
-dealt (Play m ∷ tokens) texts = plays m ∷ dealt tokens texts
-dealt (Nag n ∷ tokens) texts = glyph n ∷ dealt tokens texts
-dealt (Comment ∷ tokens) [] = note [] ∷ dealt tokens []
-dealt (Comment ∷ tokens) (text ∷ texts) = note text ∷ dealt tokens texts
-dealt (Open ∷ tokens) texts = opens ∷ dealt tokens texts
-dealt (Close ∷ tokens) texts = closes ∷ dealt tokens texts
+dealt (Play m ∷ tokens) texts = item.move m ∷ dealt tokens texts
+dealt (Nag n ∷ tokens) texts = item.nag n ∷ dealt tokens texts
+dealt (Comment ∷ tokens) [] = item.comment [] ∷ dealt tokens []
+dealt (Comment ∷ tokens) (text ∷ texts) = item.comment text ∷ dealt tokens texts
+dealt (Open ∷ tokens) texts = item.opens ∷ dealt tokens texts
+dealt (Close ∷ tokens) texts = item.closes ∷ dealt tokens texts
 dealt (End ∷ tokens) texts = dealt tokens texts
 
--- whatever the texts are, the items are those of a script
-abbrev pub AreScripted : List Token → Type 0
-AreScripted tokens = (texts : List (List ℕ)) → (s : Script) × (items_of s ≡ dealt tokens texts)
+-- whatever the texts are, the items are those of a movetext
+abbrev pub AreMovetext : List Token → Type 0
+AreMovetext tokens = (texts : List (List ℕ)) → (s : Movetext) × (items_of s ≡ dealt tokens texts)

@@ -2,8 +2,8 @@
 -- byte of a name or a value counts also where the record ends before that part is whole (this project's own).
 use Rattle.std.specs.Prelude.{◌≡◌, ℕ, ◌+◌, ◌-◌, ◌*◌, ◌/◌, ◌%◌, ◌==◌, ◌&&◌, not, nat_lt, nat_le, if◌then◌else◌, Bool, List, [], ◌∷◌, Option, Some, None, Result, Ok, Err, length, take, drop, slice_index_or, codes}
 use Rattle.std.specs.List.{list_all}
-use Rattle.game_tree.specs.Date.{date_text}
-use Rattle.game_tree.specs.declared.date.Date.{Date}
+use Rattle.game_tree.specs.Date.{date_of, date_text}
+use Rattle.game_tree.specs.TagName.{is_tag_byte}
 use Rattle.game_tree.specs.declared.head.Tag.{Tag}
 use Rattle.game_codec.specs.TagSpelling.{coded_names, BeginsTag}
 use Rattle.game_codec.specs.declared.fault.RecordWhat.{RecordWhat}
@@ -19,9 +19,6 @@ part_at good what n bytes =
     if not (list_all good (take n bytes)) then Err what
     else if nat_lt (length bytes) n then Err Short
     else Ok (take n bytes, drop n bytes)
-
-abbrev pub is_name_byte : ℕ → Bool
-is_name_byte byte = nat_le 33 byte && nat_le byte 126 && not (byte == 34) && not (byte == 93)
 
 abbrev pub is_value_byte : ℕ → Bool
 is_value_byte byte = not (byte == 0)
@@ -40,10 +37,7 @@ abbrev pub with_name : Result Part RecordWhat → Result (Option (Tag × List �
 with_name (Err what) = Err what
 with_name (Ok part) = with_value part.0 (value_at part.1)
 
--- the date of three bytes
-abbrev pub date_of : ℕ → Date
-date_of number = record { year = number / 512; month = number / 32 % 16; day = number % 32 }
-
+-- the tag EventDate with the date of three bytes
 abbrev pub dated : ℕ → List ℕ → Result (Option (Tag × List ℕ)) RecordWhat
 dated number rest =
     if nat_le (number / 512) 2047 && nat_le (number / 32 % 16) 12
@@ -61,7 +55,7 @@ unfoldable pub tag_at : List ℕ → Result (Option (Tag × List ℕ)) RecordWha
 tag_at [] = Err Short
 tag_at (code ∷ bytes) =
     if code == 0 then Ok None
-    else if nat_le code 240 then with_name (part_at is_name_byte TagName code bytes)
+    else if nat_le code 240 then with_name (part_at is_tag_byte TagName code bytes)
     else if nat_le code 250 then with_value (slice_index_or coded_names (code - 241) []) (value_at bytes)
     else if nat_le code 254 then Err TagCode
     else date_at bytes

@@ -1,9 +1,9 @@
 -- The extra tags of a record (this project's own, after Scid's format): each is its name's length, its name, its value's
 -- length and its value; or a code that stands for a common name, and then the value; or the code 255 and a packed date.
-use Rattle.std.specs.Prelude.{◌≡◌, ℕ, ◌+◌, ◌*◌, ◌/◌, ◌%◌, ◌⊎◌, Bool, not, List, [], ◌∷◌, ◌++◌, Some, length, filter, slice_get, codes}
-use Rattle.game_tree.specs.Date.{IsDate, date_text}
+use Rattle.std.specs.Prelude.{◌≡◌, ℕ, ◌+◌, ◌/◌, ◌%◌, ◌⊎◌, List, [], ◌∷◌, ◌++◌, Some, length, slice_get, codes}
+use Rattle.game_tree.specs.Date.{IsDate, date_number, date_text}
 use Rattle.game_tree.specs.Head.{IsName}
-use Rattle.game_tree.specs.TagName.{IsTagName, is_reserved}
+use Rattle.game_tree.specs.TagName.{IsTagName}
 use Rattle.game_tree.specs.declared.date.Date.{Date}
 use Rattle.game_tree.specs.declared.head.Tag.{Tag}
 
@@ -30,10 +30,6 @@ pub record IsCoded (bytes : List ℕ) (tag : Tag) : Type 0 where
   pub value : IsName tag.value
   pub spelled : bytes ≡ (241 + number) ∷ counted tag.value
 
--- a date as a number of three bytes
-abbrev pub date_number : Date → ℕ
-date_number d = d.year * 512 + d.month * 32 + d.day
-
 -- the tag EventDate with a packed date, whose text is its value
 pub record IsDated (bytes : List ℕ) (tag : Tag) : Type 0 where
   pub date : Date
@@ -54,10 +50,3 @@ BeginsTag bytes tag later = (spelled : List ℕ) × SpellsTag spelled tag × (by
 abbrev pub BeginsTags : List ℕ → List Tag → List ℕ → Type 0
 BeginsTags bytes [] rest = bytes ≡ 0 ∷ rest
 BeginsTags bytes (tag ∷ tags) rest = (later : List ℕ) × BeginsTag bytes tag later × BeginsTags later tags rest
-
--- the tags without those of reserved names, which a game has by other means
-abbrev pub is_free : Tag → Bool
-is_free tag = not (is_reserved tag.name)
-
-abbrev pub free_of : List Tag → List Tag
-free_of tags = filter is_free tags

@@ -2,17 +2,17 @@
 -- format).
 use Rattle.std.specs.Prelude.{◌≡◌, ◌≢◌, ℕ, ◌<◌, List, [], ◌∷◌, ◌++◌, length, All}
 use Rattle.cell_core.specs.Text.{IsZeroFree}
-use Rattle.game_tree.specs.Items.{Script, stop, play, nag, mark, vary}
+use Rattle.game_tree.specs.Movetext.{Movetext, end, move, nag, comment, variation}
 use Rattle.game_codec.specs.declared.fault.RecordWhat.{RecordWhat}
 use Rattle.game_codec.specs.declared.fault.RecordWhat.TheVariants as what
 
--- the texts of a script's comments in the order of their marks
-abbrev pub texts_of : Script → List (List ℕ)
-texts_of stop = []
-texts_of (play m s) = texts_of s
+-- the texts of a movetext's comments in the order of their marks
+abbrev pub texts_of : Movetext → List (List ℕ)
+texts_of end = []
+texts_of (move m s) = texts_of s
 texts_of (nag n s) = texts_of s
-texts_of (mark text s) = text ∷ texts_of s
-texts_of (vary inner s) = texts_of inner ++ texts_of s
+texts_of (comment text s) = text ∷ texts_of s
+texts_of (variation inner s) = texts_of inner ++ texts_of s
 
 -- these texts, each with a zero byte behind it
 abbrev pub ended : List (List ℕ) → List ℕ

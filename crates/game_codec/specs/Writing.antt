@@ -4,7 +4,7 @@ use Rattle.std.specs.Prelude.{◌≡◌, ℕ, ◌+◌, ◌⊎◌, List, [], ◌�
 use Rattle.chess_laws.specs.declared.setup.Setup.{Setup}
 use Rattle.chess_laws.specs.Position.{start_setup}
 use Rattle.chess_text.specs.Written.{fen_text}
-use Rattle.game_tree.specs.Items.{stop}
+use Rattle.game_tree.specs.Movetext.{end}
 use Rattle.game_tree.specs.Tree.{Branches, Played}
 use Rattle.game_tree.specs.Written.{variations_before}
 use Rattle.move_codec.specs.Numbers.{Numbered}
@@ -22,17 +22,17 @@ abbrev pub comment_text : Option (List ℕ) → List ℕ
 comment_text None = []
 comment_text (Some text) = text ++ 0 ∷ []
 
--- glyphs
+-- NAGs
 abbrev pub nags_text : List ℕ → List ℕ
 nags_text [] = []
 nags_text (n ∷ ns) = 11 ∷ n ∷ nags_text ns
 
 -- the variations of a move by the position before it, and the texts of their comments
 abbrev pub variations_text : Numbered → Branches → List ℕ
-variations_text before v = moves_text before before (variations_before v stop)
+variations_text before v = moves_text before before (variations_before v end)
 
 abbrev pub variations_texts : Branches → List ℕ
-variations_texts v = ended (texts_of (variations_before v stop))
+variations_texts v = ended (texts_of (variations_before v end))
 
 -- a move of a line by the position before it, with what stands behind it, and the texts of the comments
 abbrev pub node_text : Numbered → Played → List ℕ

@@ -1,11 +1,12 @@
 ghost use Rattle.std.specs.Prelude.{◌≡◌, ◌≤◌, ℕ, List, length, IfOk, IfErr};
-ghost use Rattle.game_tree.specs.Items.{Script, items_of, meaning};
+ghost use Rattle.game_tree.specs.Movetext.{Movetext, items_of, meaning};
 ghost use Rattle.game_tree.specs.Building.{Gives};
 ghost use Rattle.game_codec.specs.Adding.{Adds, LacksText};
 ghost use Rattle.game_codec.specs.Breach.{TellsBad};
-ghost use Rattle.game_codec.specs.Scanning.{AreScripted, comments_in, dealt};
+ghost use Rattle.game_codec.specs.Nests.{token_of, tokens_of};
+ghost use Rattle.game_codec.specs.Scanning.{AreMovetext, comments_in, dealt};
 ghost use Rattle.game_codec.specs.Texts.{AreTexts, BreaksTexts};
-ghost use Rattle.game_codec.specs.declared.token.Token.TheVariants as token;
+ghost use Rattle.game_codec.specs.Token.{Comment};
 
 use super::breach::{Breach, Refusal};
 use super::fault::RecordWhat;
@@ -18,10 +19,10 @@ use std::alloc::Global;
 /// Makes the tree of a game's items, each comment with the next of the texts that stand behind the moves. The texts end
 /// where the record does.
 pub(crate) fn build(alloc: Global, tokens: &[Token], bytes: &[u8]) -> Result<Branch, Refusal>
-    requires scripted { AreScripted tokens.now }
-    ensures ok { IfOk result (λ branch. (texts : List (List ℕ)) × (AreTexts bytes.now texts × ((length texts ≡ comments_in tokens.now)
-        × ((s : Script) → items_of s ≡ dealt tokens.now texts → Gives branch (meaning s).comment (meaning s).line)))) }
-    ensures err { IfErr result (TellsBad (BreaksTexts (comments_in tokens.now) bytes.now)) }
+    requires movetext { AreMovetext (tokens_of tokens.now) }
+    ensures ok { IfOk result (λ branch. (texts : List (List ℕ)) × (AreTexts bytes.now texts × ((length texts ≡ comments_in (tokens_of tokens.now))
+        × ((s : Movetext) → items_of s ≡ dealt (tokens_of tokens.now) texts → Gives branch (meaning s).comment (meaning s).line)))) }
+    ensures err { IfErr result (TellsBad (BreaksTexts (comments_in (tokens_of tokens.now)) bytes.now)) }
 {
     let mut builder = Builder::new(alloc);
     let mut rest = bytes;
@@ -48,14 +49,14 @@ struct Added {
 
 /// Adds an item, a comment with the text that the bytes begin with.
 fn add(alloc: Global, builder: Builder, token: &Token, bytes: &[u8]) -> Result<Added, Refusal>
-    ensures adds { IfOk result (λ added. Adds token.now bytes.now builder added.used added.builder) }
+    ensures adds { IfOk result (λ added. Adds (token_of token.now) bytes.now builder added.used added.builder) }
     ensures used { IfOk result (λ added. added.used ≤ length bytes.now) }
-    ensures lacks { IfErr result (TellsBad (LacksText token.now bytes.now)) }
+    ensures lacks { IfErr result (TellsBad (LacksText (token_of token.now) bytes.now)) }
 {
     let builder = match *token {
         Token::Comment => return add_comment(alloc, builder, bytes),
         Token::Play(m) => builder.play(alloc, m)?,
-        Token::Nag(nag) => builder.annotate(nag)?,
+        Token::Nag(nag) => builder.nag(nag)?,
         Token::Open => builder.open(alloc)?,
         Token::Close => builder.close()?,
         Token::End => builder,
@@ -65,9 +66,9 @@ fn add(alloc: Global, builder: Builder, token: &Token, bytes: &[u8]) -> Result<A
 
 /// Adds a comment with the text that the bytes begin with.
 fn add_comment(alloc: Global, builder: Builder, bytes: &[u8]) -> Result<Added, Refusal>
-    ensures adds { IfOk result (λ added. Adds token.Comment bytes.now builder added.used added.builder) }
+    ensures adds { IfOk result (λ added. Adds Comment bytes.now builder added.used added.builder) }
     ensures used { IfOk result (λ added. added.used ≤ length bytes.now) }
-    ensures lacks { IfErr result (TellsBad (LacksText token.Comment bytes.now)) }
+    ensures lacks { IfErr result (TellsBad (LacksText Comment bytes.now)) }
 {
     let Some(len) = zero_at(bytes) else {
         return Err(Refusal::Bad(Breach {

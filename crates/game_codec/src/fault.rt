@@ -23,7 +23,7 @@ pub enum RecordWhat {
     /// A move is faulty.
     #[error("a bad move ({0:?})")]
     Move(MoveFault),
-    /// A glyph or a variation stands before the first move of its line, or the end of a variation in the main line, or the
+    /// A NAG or a variation stands before the first move of its line, or the end of a variation in the main line, or the
     /// end of the game in a variation.
     #[error("a mark out of place")]
     Mark,

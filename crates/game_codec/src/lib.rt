@@ -4,25 +4,27 @@
 
 mod breach;
 mod building;
-pub mod decoding;
-pub mod encoding;
-pub mod fault;
+mod decoding;
+mod encoding;
+mod fault;
 mod flags;
 mod moves;
-pub mod one_reading;
-pub mod place;
-pub mod round_trip;
-mod scanner;
+mod one_reading;
+mod open_lines;
+mod place;
+mod round_trip;
 mod scanning;
 mod start;
 mod tags;
 mod texts;
-pub mod token;
+mod token;
 mod tokens;
 
 pub use decoding::decode_game;
 pub use encoding::encode_game;
 pub use fault::{DecodeError, EncodeError, RecordFault, RecordWhat};
+pub use one_reading::bytes_have_one_reading;
+pub use round_trip::{written_form_is_one, written_records_are_read};
 
 #[cfg(test)]
 mod tests;

@@ -1,7 +1,7 @@
 ghost use Rattle.std.specs.Prelude.{◌≡◌, ◌++◌, [], IfOk};
 ghost use Rattle.chess_laws.specs.Step.{Legal};
 ghost use Rattle.game_tree.specs.Tree.{line_of, branches_of};
-ghost use Rattle.game_tree.specs.Written.{comment_before, script_of};
+ghost use Rattle.game_tree.specs.Written.{comment_before, movetext_of};
 ghost use Rattle.game_tree.specs.Legal.{IsLegalLine, AreLegalBranches};
 ghost use Rattle.game_codec.specs.Texts.{texts_of, ended};
 ghost use Rattle.game_codec.specs.Written.{IsCommentText, LineHasTexts, BranchesHaveTexts, moves_text};
@@ -46,7 +46,7 @@ impl Body {
         Ok(())
     }
 
-    /// Adds the glyphs of a move.
+    /// Adds the NAGs of a move.
     fn put_nags(&mut self, nags: &[u8]) -> Result<(), AllocError>
         ensures moves { IfOk result (λ _. self.new.moves.items ≡ self.old.moves.items ++ nags_text nags.now) }
         ensures texts { IfOk result (λ _. self.new.texts ≡ self.old.texts) }
@@ -69,9 +69,9 @@ pub(crate) fn put_line(
 ) -> Result<(), AllocError>
     requires legal { IsLegalLine start.now.position (line_of line.now) }
     ensures moves { IfOk result (λ _. body.new.moves.items
-        ≡ body.old.moves.items ++ moves_text start.now start.now (comment_before lead.now (script_of (line_of line.now)))) }
+        ≡ body.old.moves.items ++ moves_text start.now start.now (comment_before lead.now (movetext_of (line_of line.now)))) }
     ensures texts { IfOk result (λ _. body.new.texts.items
-        ≡ body.old.texts.items ++ ended (texts_of (comment_before lead.now (script_of (line_of line.now))))) }
+        ≡ body.old.texts.items ++ ended (texts_of (comment_before lead.now (movetext_of (line_of line.now))))) }
     ensures zero_free { IfOk result (λ _. IsCommentText lead.now × LineHasTexts (line_of line.now)) }
 {
     body.put_comment(lead)?;
@@ -83,7 +83,7 @@ pub(crate) fn put_line(
     Ok(())
 }
 
-/// Adds a move of a line, by the position before it, with its glyphs, its comment and its variations.
+/// Adds a move of a line, by the position before it, with its NAGs, its comment and its variations.
 #[cycle(lines)]
 fn put_node(body: &mut Body, position: &Numbered, node: &Node) -> Result<(), AllocError>
     requires legal { Legal position.now.position node.now.mv }

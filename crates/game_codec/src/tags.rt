@@ -2,17 +2,18 @@ ghost use Rattle.std.specs.Prelude.{◌≡◌, ◌+◌, ◌<◌, ◌≤◌, ◌�
 ghost use Rattle.std.specs.List.{list_all};
 ghost use Rattle.std.specs.Bool.{OnTrue};
 ghost use Rattle.cell_core.specs.Text.{IsZeroFree};
+ghost use Rattle.game_tree.specs.TagName.{free_of, is_tag_byte};
 ghost use Rattle.game_tree.specs.declared.head.Tag.{Tag as TagValue};
 ghost use Rattle.game_codec.specs.Breach.{TellsBad};
-ghost use Rattle.game_codec.specs.TagSpelling.{BeginsTags, free_of, coded_names};
-ghost use Rattle.game_codec.specs.TagReading.{BreaksTags, part_at, value_at, with_name, with_value, date_at, tag_at, is_name_byte, is_value_byte};
+ghost use Rattle.game_codec.specs.TagSpelling.{BeginsTags, coded_names};
+ghost use Rattle.game_codec.specs.TagReading.{BreaksTags, part_at, value_at, with_name, with_value, date_at, tag_at, is_value_byte};
 ghost use Rattle.game_codec.specs.TagParts.{IsNext, IsParts, tag_of};
 ghost use Rattle.game_codec.specs.declared.fault.RecordWhat.TheVariants as fault;
 
 use super::breach::{Breach, Refusal};
 use super::fault::RecordWhat;
 use cell_core::Text;
-use game_tree::{Date, Tag, is_reserved};
+use game_tree::{Date, Tag, is_reserved, is_tag_byte};
 use std::alloc::{AllocError, Global};
 
 /// The names that the codes from 241 on stand for.
@@ -172,8 +173,8 @@ fn coded_name(number: u8) -> &'static [u8]
 
 /// A tag whose name has `len` bytes, behind the length.
 fn spelled_out<'a>(bytes: &'a [u8], len: usize) -> Result<Parts<'a>, RecordWhat>
-    ensures ok { IfOk result (IsParts (with_name (part_at is_name_byte fault.TagName len bytes.now)) bytes.now) }
-    ensures err { IfErr result (λ what. with_name (part_at is_name_byte fault.TagName len bytes.now) ≡ Err what) }
+    ensures ok { IfOk result (IsParts (with_name (part_at is_tag_byte fault.TagName len bytes.now)) bytes.now) }
+    ensures err { IfErr result (λ what. with_name (part_at is_tag_byte fault.TagName len bytes.now) ≡ Err what) }
 {
     let name = name_part(bytes, len)?;
     let value = value_part(bytes.split_at(len).1)?;
@@ -208,15 +209,9 @@ fn dated<'a>(bytes: &'a [u8]) -> Result<Parts<'a>, RecordWhat>
         return Err(RecordWhat::Short);
     };
     let number = 65536 * u32::from(*a) + 256 * u32::from(*b) + u32::from(*c);
-    let (year, month, day) = (number / 512, number / 32 % 16, number % 32);
-    if year <= 2047 && month <= 12 {
-        Ok(Parts::Dated {
-            date: Date {
-                year: year as u16,
-                month: month as u8,
-                day: day as u8,
-            },
-        })
+    let date = Date::of_number(number);
+    if date.year <= 2047 && date.month <= 12 {
+        Ok(Parts::Dated { date })
     } else {
         Err(RecordWhat::TagValue)
     }
@@ -225,10 +220,10 @@ fn dated<'a>(bytes: &'a [u8]) -> Result<Parts<'a>, RecordWhat>
 /// A name of `len` bytes. A byte that no name may have is told before an early end.
 #[tactic(auto, unfolding(crate::specs::TagReading::part_at))]
 fn name_part(bytes: &[u8], len: usize) -> Result<&[u8], RecordWhat>
-    ensures ok { IfOk result (λ name. part_at is_name_byte fault.TagName len bytes.now ≡ Ok (name.now, drop len bytes.now)) }
+    ensures ok { IfOk result (λ name. part_at is_tag_byte fault.TagName len bytes.now ≡ Ok (name.now, drop len bytes.now)) }
     ensures some { IfOk result (λ name. (length name.now ≡ len) × (len ≤ length bytes.now)) }
     ensures zero_free { IfOk result (λ name. IsZeroFree name.now) }
-    ensures err { IfErr result (λ what. part_at is_name_byte fault.TagName len bytes.now ≡ Err what) }
+    ensures err { IfErr result (λ what. part_at is_tag_byte fault.TagName len bytes.now ≡ Err what) }
 {
     let (there, _) = bytes.split_at(len.min(bytes.len()));
     if has_name_bytes_alone(there) {
@@ -281,10 +276,10 @@ fn whole(there: &[u8], len: usize) -> Result<&[u8], RecordWhat>
 }
 
 fn has_name_bytes_alone(bytes: &[u8]) -> bool
-    ensures all { result ≡ list_all is_name_byte bytes.now }
+    ensures all { result ≡ list_all is_tag_byte bytes.now }
     ensures zero_free { OnTrue result (IsZeroFree bytes.now) }
 {
-    bytes.iter().all(|byte| is_name_byte(*byte))
+    bytes.iter().all(|byte| is_tag_byte(*byte))
 }
 
 fn has_value_bytes_alone(bytes: &[u8]) -> bool
@@ -292,11 +287,4 @@ fn has_value_bytes_alone(bytes: &[u8]) -> bool
     ensures zero_free { OnTrue result (IsZeroFree bytes.now) }
 {
     bytes.iter().all(|byte| *byte != 0)
-}
-
-fn is_name_byte(byte: u8) -> bool
-    ensures name { result ≡ is_name_byte byte }
-    ensures not_zero { OnTrue result (byte ≢ 0) }
-{
-    33 <= byte && byte <= 126 && byte != b'"' && byte != b']'
 }

@@ -60,10 +60,7 @@ fn main_line_of_a_record(rt: HostRuntime) {
         return;
     };
     assert!(rt; goes(first, 12, 28), "e4");
-    assert!(rt;
-        first.nags.as_slice() == b"\x01\x0e".as_slice(),
-        "two glyphs"
-    );
+    assert!(rt; first.nags.as_slice() == b"\x01\x0e".as_slice(), "two NAGs");
     assert!(rt; says(&first.comment, b"Best}"), "a comment");
     assert!(rt; goes(second, 52, 36), "e5");
     assert!(rt; second.variations.is_empty(), "no variation");
@@ -100,7 +97,7 @@ fn variations_of_a_record(rt: HostRuntime) {
     assert!(rt; goes(knight, 62, 45), "Nf6");
 }
 
-/// Records as they are written: of whole games, of starts of their own with promotions, of nested variations, with glyphs
+/// Records as they are written: of whole games, of starts of their own with promotions, of nested variations, with NAGs
 /// that look like marks, and with a tag.
 const WRITTEN: [&[u8]; 10] = [
     b"\x00\x00\x0f",
@@ -147,7 +144,7 @@ fn marks_stand_in_any_order(rt: HostRuntime) {
     }
 }
 
-/// Records in another form, and their written form: glyphs before and behind a variation; comments of a move and of its
+/// Records in another form, and their written form: NAGs before and behind a variation; comments of a move and of its
 /// variation; comments without a text; a coded name and a packed date; a tag of a reserved name; the FEN of the initial
 /// position, with the numbers of its order; flags that are not looked at.
 const OTHERWISE: [(&[u8], &[u8]); 9] = [

@@ -1,5 +1,7 @@
+//! The next item of a record's moves.
 ghost use Rattle.std.specs.Prelude.{◌≡◌, ◌<◌, ◌≤◌, ℕ, List, ◌∷◌, length, drop, IfOk, IfErr};
-ghost use Rattle.game_codec.specs.Place.{Takes, FaultAt, IsMoveDue};
+ghost use Rattle.game_codec.specs.Place.{Takes, FaultAt};
+ghost use Rattle.game_codec.specs.Nests.{place_after, token_of};
 
 use super::fault::RecordWhat;
 use super::place::Place;
@@ -12,11 +14,13 @@ pub(crate) struct NextToken {
     pub(crate) used: usize,
 }
 
-/// The item that the bytes begin with, or why none that may stand at the place.
-pub(crate) fn next_token(place: &Place, bytes: &[u8]) -> Result<NextToken, RecordWhat>
-    ensures takes { IfOk result (λ next. Takes place.now bytes.now next.token (drop next.used bytes.now)) }
+/// The item that the bytes begin with, or why none that may stand at the place. The place is then the one behind it in its
+/// own line.
+pub(crate) fn next_token(place: &mut Place, bytes: &[u8]) -> Result<NextToken, RecordWhat>
+    ensures takes { IfOk result (λ next. Takes place.old bytes.now (token_of next.token) (drop next.used bytes.now)) }
     ensures used { IfOk result (λ next. (0 < next.used) × (next.used ≤ length bytes.now)) }
-    ensures fault { IfErr result (FaultAt place.now bytes.now) }
+    ensures after { IfOk result (λ next. place.new ≡ place_after place.old (token_of next.token)) }
+    ensures fault { IfErr result (FaultAt place.old bytes.now) }
 {
     let [byte, behind @ ..] = bytes else {
         return Err(RecordWhat::Short);
@@ -27,17 +31,18 @@ pub(crate) fn next_token(place: &Place, bytes: &[u8]) -> Result<NextToken, Recor
         13 => opening(place),
         14 => closing(place),
         15 => end(place),
-        _ => moved(place, bytes),
+        _ => place.next_move(bytes),
     }
 }
 
-/// A glyph, behind its mark.
+// A NAG, behind its mark.
 fn nag(place: &Place, behind: &[u8]) -> Result<NextToken, RecordWhat>
-    ensures takes { IfOk result (λ next. Takes place.now (11 ∷ behind.now) next.token (drop next.used (11 ∷ behind.now))) }
+    ensures takes { IfOk result (λ next. Takes place.now (11 ∷ behind.now) (token_of next.token) (drop next.used (11 ∷ behind.now))) }
     ensures used { IfOk result (λ next. (next.used ≡ 2) × (1 ≤ length behind.now)) }
+    ensures same { IfOk result (λ next. place_after place.now (token_of next.token) ≡ place.now) }
     ensures fault { IfErr result (FaultAt place.now (11 ∷ behind.now)) }
 {
-    if !place.has_move {
+    if !place.has_move() {
         return Err(RecordWhat::Mark);
     }
     match behind {
@@ -49,15 +54,17 @@ fn nag(place: &Place, behind: &[u8]) -> Result<NextToken, RecordWhat>
     }
 }
 
-/// A comment, whatever stands behind its mark.
-fn comment(place: &Place) -> Result<NextToken, RecordWhat>
-    ensures takes { IfOk result (λ next. (behind : List ℕ) → Takes place.now (12 ∷ behind) next.token behind) }
+// A comment, whatever stands behind its mark.
+fn comment(place: &mut Place) -> Result<NextToken, RecordWhat>
+    ensures takes { IfOk result (λ next. (behind : List ℕ) → Takes place.old (12 ∷ behind) (token_of next.token) behind) }
     ensures used { IfOk result (λ next. next.used ≡ 1) }
-    ensures fault { IfErr result (λ what. (behind : List ℕ) → FaultAt place.now (12 ∷ behind) what) }
+    ensures after { IfOk result (λ next. place.new ≡ place_after place.old (token_of next.token)) }
+    ensures fault { IfErr result (λ what. (behind : List ℕ) → FaultAt place.old (12 ∷ behind) what) }
 {
-    if place.has_comment {
+    if place.has_comment() {
         Err(RecordWhat::TwoComments)
     } else {
+        place.comment();
         Ok(NextToken {
             token: Token::Comment,
             used: 1,
@@ -65,15 +72,16 @@ fn comment(place: &Place) -> Result<NextToken, RecordWhat>
     }
 }
 
-/// The beginning of a variation.
+// The beginning of a variation.
 fn opening(place: &Place) -> Result<NextToken, RecordWhat>
-    ensures takes { IfOk result (λ next. (behind : List ℕ) → Takes place.now (13 ∷ behind) next.token behind) }
+    ensures takes { IfOk result (λ next. (behind : List ℕ) → Takes place.now (13 ∷ behind) (token_of next.token) behind) }
     ensures used { IfOk result (λ next. next.used ≡ 1) }
+    ensures same { IfOk result (λ next. place_after place.now (token_of next.token) ≡ place.now) }
     ensures fault { IfErr result (λ what. (behind : List ℕ) → FaultAt place.now (13 ∷ behind) what) }
 {
-    if !place.has_move {
+    if !place.has_move() {
         Err(RecordWhat::Mark)
-    } else if place.depth >= 200 {
+    } else if place.depth() >= 200 {
         Err(RecordWhat::Depth)
     } else {
         Ok(NextToken {
@@ -83,13 +91,14 @@ fn opening(place: &Place) -> Result<NextToken, RecordWhat>
     }
 }
 
-/// The end of a variation.
+// The end of a variation.
 fn closing(place: &Place) -> Result<NextToken, RecordWhat>
-    ensures takes { IfOk result (λ next. (behind : List ℕ) → Takes place.now (14 ∷ behind) next.token behind) }
+    ensures takes { IfOk result (λ next. (behind : List ℕ) → Takes place.now (14 ∷ behind) (token_of next.token) behind) }
     ensures used { IfOk result (λ next. next.used ≡ 1) }
+    ensures same { IfOk result (λ next. place_after place.now (token_of next.token) ≡ place.now) }
     ensures fault { IfErr result (λ what. (behind : List ℕ) → FaultAt place.now (14 ∷ behind) what) }
 {
-    if place.depth == 0 {
+    if place.depth() == 0 {
         Err(RecordWhat::Mark)
     } else {
         Ok(NextToken {
@@ -99,34 +108,19 @@ fn closing(place: &Place) -> Result<NextToken, RecordWhat>
     }
 }
 
-/// The end of the game.
+// The end of the game.
 fn end(place: &Place) -> Result<NextToken, RecordWhat>
-    ensures takes { IfOk result (λ next. (behind : List ℕ) → Takes place.now (15 ∷ behind) next.token behind) }
+    ensures takes { IfOk result (λ next. (behind : List ℕ) → Takes place.now (15 ∷ behind) (token_of next.token) behind) }
     ensures used { IfOk result (λ next. next.used ≡ 1) }
+    ensures same { IfOk result (λ next. place_after place.now (token_of next.token) ≡ place.now) }
     ensures fault { IfErr result (λ what. (behind : List ℕ) → FaultAt place.now (15 ∷ behind) what) }
 {
-    if place.depth == 0 {
+    if place.depth() == 0 {
         Ok(NextToken {
             token: Token::End,
             used: 1,
         })
     } else {
         Err(RecordWhat::Mark)
-    }
-}
-
-/// A packed move.
-fn moved(place: &Place, bytes: &[u8]) -> Result<NextToken, RecordWhat>
-    requires due { IsMoveDue bytes.now }
-    ensures takes { IfOk result (λ next. Takes place.now bytes.now next.token (drop next.used bytes.now)) }
-    ensures used { IfOk result (λ next. (0 < next.used) × (next.used ≤ length bytes.now)) }
-    ensures fault { IfErr result (FaultAt place.now bytes.now) }
-{
-    match place.here.decode_move(bytes) {
-        Ok((m, used)) => Ok(NextToken {
-            token: Token::Play(m),
-            used: usize::from(used),
-        }),
-        Err(fault) => Err(RecordWhat::Move(fault)),
     }
 }

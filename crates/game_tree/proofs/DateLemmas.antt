@@ -1,15 +1,17 @@
 -- A date within its bounds reads back from its text, and what is read is within the bounds.
 use Rattle.std.proofs.Common.{◌≡◌, ◌≢◌, ℕ, ◌+◌, ◌/◌, ◌%◌, ◌<◌, ◌≤◌, zero, suc, Bool, true, false, eqb, List, [], ◌∷◌, Option, Some, None, length, refl, sym, ap, subst, inl, inr, arith, lit≤}
-use Rattle.std.specs.Prelude.{◌&&◌, nat_le, codes, slice_index, slice_range}
+use Rattle.std.specs.Prelude.{◌&&◌, codes, slice_index, slice_range}
 use Rattle.std.specs.List.{list_all}
-use Rattle.std.specs.Char.{is_ascii_digit}
-use Rattle.std.proofs.lemmas.Bool.{cases_Bool, and_parts, eqb-true, leb-true, cases_lt}
+use Rattle.std.proofs.lemmas.Bool.{cases_Bool, and_parts, eqb-true, cases_lt}
 use Rattle.std.proofs.lemmas.Option.{same_Some, none-some}
 use Rattle.std.proofs.lemmas.List.Elements.{All-from_recursion}
+use Rattle.std.proofs.Math.Nat.{div-div-eq-div-mul}
 use native.Mathlib.Nat.{suc-ne-zero}
 use Rattle.game_tree.specs.Head.{IsName}
-use Rattle.game_tree.specs.Date.{IsDate, shown, date_text, decimal, part, of_parts, dated, date_read}
+use Rattle.game_tree.specs.Date.{IsDate, date_number, date_of, shown, date_text, part, of_parts, dated, date_read}
+use Rattle.game_tree.specs.Decimal.{decimal_read}
 use Rattle.game_tree.specs.declared.date.Date.{Date}
+use Rattle.game_tree.proofs.DecimalLemmas.{decimal_read-bound}
 
 -- a test holds of every number below a bound
 abbrev all_below : (ℕ → Bool) → ℕ → Bool
@@ -38,15 +40,15 @@ abbrev pair_reads : ℕ → ℕ → Bool
 pair_reads limit n = is_number (part limit (shown n (n / 10) ∷ shown n n ∷ [])) n
 
 years_read : all_below year_reads 2048 ≡ true
-unfolding part
+unfolding part decimal_read
 years_read = refl
 
 months_read : all_below (pair_reads 12) 13 ≡ true
-unfolding part
+unfolding part decimal_read
 months_read = refl
 
 days_read : all_below (pair_reads 31) 32 ≡ true
-unfolding part
+unfolding part decimal_read
 days_read = refl
 
 abbrev year_digits : ℕ → List ℕ
@@ -74,12 +76,7 @@ unfolding part
 part-bound limit text n e =
     elim (cases_Bool (list_all (λ c. eqb c 63) text)) [
       | inl unknown ↦ omega (arith, same_Some 0 n (rw unknown at e))
-      | inr known ↦ elim (cases_Bool (list_all is_ascii_digit text && nat_le (decimal text) limit)) [
-        | inl digits ↦
-            let within = leb-true (decimal text) limit (and_parts (list_all is_ascii_digit text) (nat_le (decimal text) limit) digits).1 in
-            omega (arith, within, same_Some (decimal text) n (rw (known, digits) at e))
-        | inr other ↦ absurd (none-some n (rw (known, other) at e))
-      ]
+      | inr known ↦ decimal_read-bound limit text n (rw known at e)
     ]
 
 dated-IsDate : (y m d : List ℕ) (date : Date) → dated y m d ≡ Some date → IsDate date
@@ -121,3 +118,20 @@ date_text-IsName d =
     }
 
 pub ruleset reading_back = (date_read-date_text)
+
+-- A date within its bounds is that of its number, and each number is that of its date.
+pub date_of-date_number : (d : Date) → IsDate d → date_of (date_number d) ≡ d
+date_of-date_number d is =
+    let month = is.month in
+    let day = is.day in
+    let year_is : date_number d / 512 ≡ d.year = omega arith in
+    let month_is : date_number d / 32 % 16 ≡ d.month = omega arith in
+    let day_is : date_number d % 32 ≡ d.day = omega arith in
+    rw (year_is, month_is, day_is) refl
+
+pub date_number-date_of : (n : ℕ) → date_number (date_of n) ≡ n
+date_number-date_of n =
+    let d : n / 32 / 16 ≡ n / 512 = div-div-eq-div-mul n 32 16 in
+    omega arith
+
+pub ruleset numbering = (date_of-date_number, date_number-date_of)

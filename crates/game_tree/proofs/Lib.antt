@@ -1,8 +1,9 @@
 pub mod DecimalLemmas
+pub mod EcoLemmas
 pub mod DateLemmas
 pub mod SettleLemmas
 pub mod BuildingLemmas
-pub mod ScriptLemmas
+pub mod MovetextLemmas
 pub mod TreeLemmas
 pub mod LegalLemmas
 pub mod WrittenLemmas

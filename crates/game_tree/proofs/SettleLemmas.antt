@@ -1,13 +1,13 @@
 -- A settled head is within its bounds, keeps the rule of event dates, and stays as it is when it is settled again.
-use Rattle.std.proofs.Common.{◌≡◌, ℕ, ◌≤◌, true, false, eqb, leb, List, [], ◌∷◌, ◌++◌, Option, Some, None, IsTrue, refl, sym, ap, ◌∙◌, subst, inl, inr, arith, lit≤}
+use Rattle.std.proofs.Common.{◌≡◌, true, false, List, [], ◌∷◌, ◌++◌, Option, Some, None, IsTrue, refl, sym, ap, ◌∙◌, subst, inl, inr, arith, lit≤}
 use Rattle.std.specs.Prelude.{not, All, codes}
-use Rattle.std.proofs.lemmas.Bool.{cases_Bool, leb-true, eqb-false}
+use Rattle.std.proofs.lemmas.Bool.{cases_Bool}
 use Rattle.std.proofs.lemmas.Option.{same_Some, none-some}
 use Rattle.std.proofs.lemmas.List.Elements.{All-filter, All-push, All-from_recursion}
-use Rattle.game_tree.specs.Date.{IsDate, unknown_date, is_unknown, is_near, date_read}
+use Rattle.game_tree.specs.Date.{IsDate, unknown_date, is_unknown, is_near, keeps_rule, date_read}
 use Rattle.game_tree.specs.TagName.{IsTagName, IsTagByte, is_reserved}
 use Rattle.game_tree.specs.Head.{IsTag, IsBounded}
-use Rattle.game_tree.specs.Settle.{is_event_date, other_tags, event_date_tag, near_only, near_date, first_of, first_near_date, taken_up, settled, keeps_rule}
+use Rattle.game_tree.specs.Settle.{is_event_date, other_tags, event_date_tag, near_only, near_date, first_of, first_near_date, taken_up, settled}
 use Rattle.game_tree.specs.declared.date.Date.{Date}
 use Rattle.game_tree.specs.declared.head.Tag.{Tag}
 use Rattle.game_tree.specs.declared.head.Head.{Head}
@@ -121,18 +121,18 @@ settled-settled head is =
     ]
 
 -- the rule of event dates
-keeps_rule-near : (head : Head) → is_near head.event_date head.date ≡ true → IsTrue (keeps_rule head)
+keeps_rule-near : (head : Head) → is_near head.event_date head.date ≡ true → IsTrue (keeps_rule head.event_date head.date)
 keeps_rule-near head near =
     elim (cases_Bool (is_unknown head.event_date)) [ inl unknown ↦ rw unknown refl | inr known ↦ rw (known, near) refl ]
 
-keeps_rule-unknown : (head : Head) → is_unknown head.event_date ≡ true → IsTrue (keeps_rule head)
+keeps_rule-unknown : (head : Head) → is_unknown head.event_date ≡ true → IsTrue (keeps_rule head.event_date head.date)
 keeps_rule-unknown head unknown = rw unknown refl
 
-keeps_rule-taken_up : (head : Head) → is_unknown head.event_date ≡ true → (found : Option Date) → ((date : Date) → found ≡ Some date → is_near date head.date ≡ true) → IsTrue (keeps_rule (taken_up head found))
+keeps_rule-taken_up : (head : Head) → is_unknown head.event_date ≡ true → (found : Option Date) → ((date : Date) → found ≡ Some date → is_near date head.date ≡ true) → IsTrue (keeps_rule (taken_up head found).event_date (taken_up head found).date)
 keeps_rule-taken_up head unknown None near = keeps_rule-unknown head unknown
 keeps_rule-taken_up head unknown (Some date) near = keeps_rule-near (taken_up head (Some date)) (near date refl)
 
-pub settled-keeps_rule : (head : Head) → IsTrue (keeps_rule (settled head))
+pub settled-keeps_rule : (head : Head) → IsTrue (keeps_rule (settled head).event_date (settled head).date)
 settled-keeps_rule head =
     elim (cases_Bool (is_near head.event_date head.date)) [
       | inl near ↦ rw (settled-near head near) (keeps_rule-near (record head { tags = other_tags head.tags }) near)
@@ -163,18 +163,11 @@ with_date head is date dated tags named = record {
   tags = named;
 }
 
--- a letter is a byte of a tag name
-letter : (byte : ℕ) → leb 65 byte ≡ true → leb byte 122 ≡ true → eqb byte 93 ≡ false → IsTagByte byte
-letter byte from to other =
-    let above : 65 ≤ byte = leb-true 65 byte from in
-    let below : byte ≤ 122 = leb-true byte 122 to in
-    record { above = omega arith; below = omega arith; quote = λ e. omega arith; bracket = eqb-false byte 93 other }
-
 event_date-IsTagName : IsTagName (codes "EventDate")
 event_date-IsTagName = record {
   some = lit≤ tt;
   short = lit≤ tt;
-  bytes = All-from_recursion IsTagByte (codes "EventDate") (letter 69 refl refl refl, (letter 118 refl refl refl, (letter 101 refl refl refl, (letter 110 refl refl refl, (letter 116 refl refl refl, (letter 68 refl refl refl, (letter 97 refl refl refl, (letter 116 refl refl refl, (letter 101 refl refl refl, tt)))))))));
+  bytes = All-from_recursion IsTagByte (codes "EventDate") (refl, (refl, (refl, (refl, (refl, (refl, (refl, (refl, (refl, tt)))))))));
 }
 
 event_date_tag-IsTag : (date : Date) → IsTag (event_date_tag date)

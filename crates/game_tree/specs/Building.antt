@@ -5,7 +5,9 @@ use Rattle.std.specs.Coded.{Coded, code_by, coded×, coded_ℕ, coded_list, code
 use Rattle.cell_core.specs.declared.step.Move.{Move}
 use Rattle.game_tree.specs.Tree.{Line, Branches, none, more, Played, Variation, line_of}
 use Rattle.game_tree.specs.TreeCode.{coded_played}
-use Rattle.game_tree.specs.Items.{Item, plays, glyph, note, opens, closes, noted, joined}
+use Rattle.game_tree.specs.Item.{Item}
+use Rattle.game_tree.specs.Item as item
+use Rattle.game_tree.specs.Movetext.{as_comment, joined}
 
 -- an open line: its comment, the moves before the last one, and the last one
 pub record Open : Type 0 where
@@ -41,7 +43,7 @@ bare m = record { mv = m; nags = []; comment = None; variations = none }
 abbrev pub with_move : Played → Open → Open
 with_move p o = record { lead = o.lead; done = and_last o.done o.last; last = Some p }
 
--- a glyph belongs to the last move
+-- a NAG belongs to the last move
 abbrev pub with_nag_on : ℕ → Option Played → Option Played
 with_nag_on n None = None
 with_nag_on n (Some p) = Some (record { mv = p.mv; nags = p.nags ++ n ∷ []; comment = p.comment; variations = p.variations })
@@ -50,13 +52,13 @@ abbrev pub with_nag : ℕ → Open → Open
 with_nag n o = record { lead = o.lead; done = o.done; last = with_nag_on n o.last }
 
 -- a comment belongs to the last move, or to the line where there is none yet
-abbrev pub with_note_on : Option (List ℕ) → Option (List ℕ) → List Played → Option Played → Open
-with_note_on t lead done None = record { lead = joined lead t; done = done; last = None }
-with_note_on t lead done (Some p) =
+abbrev pub with_comment_on : Option (List ℕ) → Option (List ℕ) → List Played → Option Played → Open
+with_comment_on t lead done None = record { lead = joined lead t; done = done; last = None }
+with_comment_on t lead done (Some p) =
     record { lead = lead; done = done; last = Some (record { mv = p.mv; nags = p.nags; comment = joined p.comment t; variations = p.variations }) }
 
-abbrev pub with_note : List ℕ → Open → Open
-with_note t o = with_note_on (noted t) o.lead o.done o.last
+abbrev pub with_comment : List ℕ → Open → Open
+with_comment t o = with_comment_on (as_comment t) o.lead o.done o.last
 
 -- the variations with one more behind them
 abbrev pub with_branch : Branches → Variation → Branches
@@ -82,16 +84,16 @@ closed o (round ∷ outer) = record { current = with_variation (variation_of o) 
 
 -- the state after one more item
 abbrev pub added : Item → Building → Building
-added (plays m) b = record { current = with_move (bare m) b.current; outer = b.outer }
-added (glyph n) b = record { current = with_nag n b.current; outer = b.outer }
-added (note t) b = record { current = with_note t b.current; outer = b.outer }
-added opens b = record { current = fresh; outer = b.current ∷ b.outer }
-added closes b = closed b.current b.outer
+added (item.move m) b = record { current = with_move (bare m) b.current; outer = b.outer }
+added (item.nag n) b = record { current = with_nag n b.current; outer = b.outer }
+added (item.comment t) b = record { current = with_comment t b.current; outer = b.outer }
+added item.opens b = record { current = fresh; outer = b.current ∷ b.outer }
+added item.closes b = closed b.current b.outer
 
 -- the state after these items
 abbrev pub built : List Item → Building → Building
 built [] b = b
-built (item ∷ items) b = built items (added item b)
+built (next ∷ items) b = built items (added next b)
 
 -- what was read has this comment and this line
 pub record Gives (read : Variation) (lead : Option (List ℕ)) (line : Line) : Type 0 where

@@ -1,7 +1,7 @@
 -- Dates of games and events and their texts (PGN standard, 8.1.1.3: year, month and day, question marks where unknown).
-use Rattle.std.specs.Prelude.{ℕ, ◌+◌, ◌-◌, ◌*◌, ◌/◌, ◌%◌, ◌≤◌, Bool, ◌&&◌, ◌==◌, nat_le, if◌then◌else◌, List, [], ◌∷◌, length, slice_index, slice_range, fold, Option, Some, None, codes}
+use Rattle.std.specs.Prelude.{ℕ, ◌+◌, ◌*◌, ◌/◌, ◌%◌, ◌≤◌, Bool, ◌&&◌, ◌||◌, ◌==◌, nat_le, if◌then◌else◌, List, [], ◌∷◌, length, slice_index, slice_range, Option, Some, None, codes}
 use Rattle.std.specs.List.{list_all}
-use Rattle.std.specs.Char.{is_ascii_digit}
+use Rattle.game_tree.specs.Decimal.{decimal_read}
 use Rattle.game_tree.specs.declared.date.Date.{Date}
 
 -- the date of which nothing is known
@@ -36,16 +36,10 @@ date_text d =
     ∷ shown d.day d.day
     ∷ []
 
--- the number that decimal digits write
-abbrev pub decimal : List ℕ → ℕ
-decimal digits = fold (λ number digit. 10 * number + (digit - 48)) 0 digits
-
 -- a part of a date's text that is at most a limit: question marks mean unknown, which is 0, and digits their number
 unfoldable pub part : ℕ → List ℕ → Option ℕ
 part limit text =
-    if list_all (λ c. c == 63) text then Some 0
-    else if list_all is_ascii_digit text && nat_le (decimal text) limit then Some (decimal text)
-    else None
+    if list_all (λ c. c == 63) text then Some 0 else decimal_read limit text
 
 -- the date of three parts, where all are there
 abbrev pub of_parts : Option ℕ → Option ℕ → Option ℕ → Option Date
@@ -68,8 +62,20 @@ date_read text =
     then dated (slice_range text 0 4) (slice_range text 5 7) (slice_range text 8 10)
     else None
 
+-- A date as one number (after Scid's format): the day in the lowest five bits, the month in four, the year above.
+abbrev pub date_number : Date → ℕ
+date_number d = d.year * 512 + d.month * 32 + d.day
+
+-- The date of such a number.
+abbrev pub date_of : ℕ → Date
+date_of number = record { year = number / 512; month = number / 32 % 16; day = number % 32 }
+
 -- the rule of event dates (this project's own): a known year that differs by at most 3 from the game's known year
 abbrev pub is_near : Date → Date → Bool
 is_near event game =
     nat_le 1 event.year && nat_le event.year 2047 && nat_le 1 game.year
     && nat_le event.year (game.year + 3) && nat_le game.year (event.year + 3)
+
+-- An event date keeps the rule where it is unknown or within the rule.
+abbrev pub keeps_rule : Date → Date → Bool
+keeps_rule event game = is_unknown event || is_near event game

@@ -1,6 +1,6 @@
 -- Where the date of an event stands: as the event date where it follows the rule of event dates, else as a tag
 -- (this project's own).
-use Rattle.std.specs.Prelude.{◌≡◌, Bool, true, not, if◌then◌else◌, List, [], ◌∷◌, ◌++◌, Option, Some, None, filter, codes}
+use Rattle.std.specs.Prelude.{◌≡◌, Bool, not, if◌then◌else◌, List, [], ◌∷◌, ◌++◌, Option, Some, None, filter, codes}
 use Rattle.std.specs.Str.{bytes_eq}
 use Rattle.game_tree.specs.Date.{unknown_date, is_unknown, is_near, date_text, date_read}
 use Rattle.game_tree.specs.declared.date.Date.{Date}
@@ -52,7 +52,3 @@ settled head =
 -- a head that settling leaves as it is
 abbrev pub IsSettled : Head → Type 0
 IsSettled head = settled head ≡ head
-
--- the rule of event dates: unknown, or near the game's date
-abbrev pub keeps_rule : Head → Bool
-keeps_rule head = if is_unknown head.event_date then true else is_near head.event_date head.date

@@ -1,4 +1,4 @@
--- Games as trees of plain values (PGN standard, 8.2: moves, comments, annotation glyphs, and variations in brackets).
+-- Games as trees of plain values (PGN standard, 8.2: moves, comments, NAGs, and variations in brackets).
 use Rattle.std.specs.Prelude.{ℕ, ◌+◌, max, List, [], ◌∷◌, Option}
 use Rattle.cell_core.specs.declared.step.Move.{Move}
 

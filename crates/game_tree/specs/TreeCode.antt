@@ -8,8 +8,8 @@ use Rattle.cell_core.specs.contracts.step.Move as move
 use Rattle.cell_core.specs.declared.step.Move.{Move}
 use Rattle.game_tree.specs.Tree.{Line, ends, goes, Branches, none, more, Played, Variation, line_of, branches_of}
 
-abbrev coded_note : Coded (Option (List ℕ))
-coded_note = coded_option (coded_list coded_ℕ)
+abbrev coded_comment : Coded (Option (List ℕ))
+coded_comment = coded_option (coded_list coded_ℕ)
 
 abbrev coded_nags : Coded (List ℕ)
 coded_nags = coded_list coded_ℕ
@@ -28,11 +28,11 @@ abbrev mutual
   line_code : Line → Gv
   line_code ends = gnil
   line_code (goes mv nags comment variations line) =
-      gcons (move.the_row.coded.code mv) (gcons (coded_nags.code nags) (gcons (coded_note.code comment) (gcons (branches_code variations) (line_code line))))
+      gcons (move.the_row.coded.code mv) (gcons (coded_nags.code nags) (gcons (coded_comment.code comment) (gcons (branches_code variations) (line_code line))))
 
   branches_code : Branches → Gv
   branches_code none = gnil
-  branches_code (more lead line others) = gcons (coded_note.code lead) (gcons (line_code line) (branches_code others))
+  branches_code (more lead line others) = gcons (coded_comment.code lead) (gcons (line_code line) (branches_code others))
 
 mutual
   pub line_inj : (x y : Line) → line_code x ≡ line_code y → x ≡ y
@@ -43,7 +43,7 @@ mutual
       λ i. goes
       (move.the_row.coded.inj m m' (ap head p) i)
       (coded_nags.inj n n' (ap (λ g. head (tail g)) p) i)
-      (coded_note.inj c c' (ap (λ g. head (tail (tail g))) p) i)
+      (coded_comment.inj c c' (ap (λ g. head (tail (tail g))) p) i)
       (branches_inj v v' (ap (λ g. head (tail (tail (tail g)))) p) i)
       (line_inj l l' (ap (λ g. tail (tail (tail (tail g)))) p) i)
 
@@ -53,7 +53,7 @@ mutual
   branches_inj (more c l v) none p = cc
   branches_inj (more c l v) (more c' l' v') p =
       λ i. more
-      (coded_note.inj c c' (ap head p) i)
+      (coded_comment.inj c c' (ap head p) i)
       (line_inj l l' (ap (λ g. head (tail g)) p) i)
       (branches_inj v v' (ap (λ g. tail (tail g)) p) i)
 
@@ -65,14 +65,14 @@ coded_branches = record { code = branches_code; inj = branches_inj }
 
 abbrev pub coded_played : Coded Played
 coded_played =
-    code_by (Move × (List ℕ × (Option (List ℕ) × Branches))) (coded× move.the_row.coded (coded× coded_nags (coded× coded_note coded_branches)))
+    code_by (Move × (List ℕ × (Option (List ℕ) × Branches))) (coded× move.the_row.coded (coded× coded_nags (coded× coded_comment coded_branches)))
     (λ p. (p.mv, (p.nags, (p.comment, p.variations))))
     (λ t. record { mv = t.0; nags = t.1.0; comment = t.1.1.0; variations = t.1.1.1 })
     (λ _. refl)
 
 abbrev pub coded_variation : Coded Variation
 coded_variation =
-    code_by (Option (List ℕ) × Line) (coded× coded_note coded_line) (λ v. (v.lead, v.line)) (λ t. record { lead = t.0; line = t.1 }) (λ _. refl)
+    code_by (Option (List ℕ) × Line) (coded× coded_comment coded_line) (λ v. (v.lead, v.line)) (λ t. record { lead = t.0; line = t.1 }) (λ _. refl)
 
 -- sizes by which a part of a tree is smaller than the whole
 abbrev mutual

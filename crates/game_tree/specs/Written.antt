@@ -1,33 +1,33 @@
--- The items of a tree in the order in which they are written: after each move its glyphs, its comment and its
+-- The items of a tree in the order in which they are written: after each move its NAGs, its comment and its
 -- variations, and a line's own comment before its first move (PGN standard, 8.2).
 use Rattle.std.specs.Prelude.{ℕ, List, [], ◌∷◌, Option, Some, None}
 use Rattle.game_tree.specs.Tree.{Line, ends, goes, Branches, none, more}
-use Rattle.game_tree.specs.Items.{Script, stop, play, nag, mark, vary}
+use Rattle.game_tree.specs.Movetext.{Movetext, end, move, nag, comment, variation}
 use Rattle.game_tree.specs.Legal.{IsComment}
 
-abbrev pub nags_before : List ℕ → Script → Script
+abbrev pub nags_before : List ℕ → Movetext → Movetext
 nags_before [] s = s
 nags_before (n ∷ ns) s = nag n (nags_before ns s)
 
-abbrev pub comment_before : Option (List ℕ) → Script → Script
+abbrev pub comment_before : Option (List ℕ) → Movetext → Movetext
 comment_before None s = s
-comment_before (Some text) s = mark text s
+comment_before (Some text) s = comment text s
 
 abbrev mutual
-  pub script_of : Line → Script
-  script_of ends = stop
-  script_of (goes mv nags comment variations line) =
-      play mv (nags_before nags (comment_before comment (variations_before variations (script_of line))))
+  pub movetext_of : Line → Movetext
+  movetext_of ends = end
+  movetext_of (goes mv nags text variations line) =
+      move mv (nags_before nags (comment_before text (variations_before variations (movetext_of line))))
 
-  pub variations_before : Branches → Script → Script
+  pub variations_before : Branches → Movetext → Movetext
   variations_before none s = s
-  variations_before (more lead line others) s = vary (comment_before lead (script_of line)) (variations_before others s)
+  variations_before (more lead line others) s = variation (comment_before lead (movetext_of line)) (variations_before others s)
 
 -- no comment of a line is empty
 abbrev mutual
   pub HasComments : Line → Type 0
   HasComments ends = Unit {0}
-  HasComments (goes mv nags comment variations line) = IsComment comment × (HaveComments variations × HasComments line)
+  HasComments (goes mv nags text variations line) = IsComment text × (HaveComments variations × HasComments line)
 
   pub HaveComments : Branches → Type 0
   HaveComments none = Unit {0}

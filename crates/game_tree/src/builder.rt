@@ -1,8 +1,10 @@
 ghost use Rattle.std.specs.Prelude.{◌≡◌, ◌↔◌, ◌<◌, [], length, IsTrue, IsSome, IfOk, List, ℕ, Option};
-ghost use Rattle.game_tree.specs.Items.{Script, Item, plays, glyph, note, opens, closes, items_of, meaning};
+ghost use Rattle.game_tree.specs.Item.{Item};
+ghost use Rattle.game_tree.specs.Item as item;
+ghost use Rattle.game_tree.specs.Movetext.{Movetext, items_of, meaning};
 ghost use Rattle.game_tree.specs.Tree.{Line};
 ghost use Rattle.game_tree.specs.Legal.{IsComment};
-ghost use Rattle.game_tree.specs.Written.{comment_before, script_of, HasComments};
+ghost use Rattle.game_tree.specs.Written.{comment_before, movetext_of, HasComments};
 ghost use Rattle.game_tree.specs.Building.{opening, added, built, read_line, Gives};
 
 use super::node::Branch;
@@ -11,7 +13,7 @@ use cell_core::{Move, Text};
 use std::alloc::{AllocError, Global};
 use std::marker::Model;
 
-/// Makes the tree of a game from its items in the order in which they are written: moves, annotation glyphs, comments,
+/// Makes the tree of a game from its items in the order in which they are written: moves, NAGs, comments,
 /// and variations between their brackets (PGN standard, section 8.2). It has a stack of the lines that are open.
 ///
 /// Each method takes the builder and gives it back, so that nothing is left of it after want of memory.
@@ -43,7 +45,7 @@ impl Builder {
         }
     }
 
-    /// Whether the innermost line that is open has a move, so that a glyph or a variation may follow.
+    /// Whether the innermost line that is open has a move, so that a NAG or a variation may follow.
     pub fn has_move(&self) -> bool
         ensures has { IsTrue result ↔ IsSome self.now.current.last }
     {
@@ -59,26 +61,26 @@ impl Builder {
 
     /// Adds a move to the innermost line.
     pub fn play(self, alloc: Global, mv: Move) -> Result<Builder, AllocError>
-        ensures added { IfOk result (λ after. after ≡ added (plays mv) self) }
+        ensures added { IfOk result (λ after. after ≡ added (item.move mv) self) }
     {
         let Builder { current, outer } = self;
         let current = current.play(alloc, mv)?;
         Ok(Builder { current, outer })
     }
 
-    /// Adds a numeric annotation glyph to the last move of the innermost line. Where the line has no move, nothing changes.
-    pub fn annotate(self, nag: u8) -> Result<Builder, AllocError>
-        ensures added { IfOk result (λ after. after ≡ added (glyph nag) self) }
+    /// Adds a NAG (numeric annotation glyph) to the last move of the innermost line. Where the line has no move, nothing changes.
+    pub fn nag(self, nag: u8) -> Result<Builder, AllocError>
+        ensures added { IfOk result (λ after. after ≡ added (item.nag nag) self) }
     {
         let Builder { current, outer } = self;
-        let current = current.annotate(nag)?;
+        let current = current.nag(nag)?;
         Ok(Builder { current, outer })
     }
 
     /// Adds a comment to the last move of the innermost line, or to the line's beginning where it has no move yet. An
     /// empty text is no comment. Comments at one place are joined with a space.
     pub fn comment(self, text: Text) -> Result<Builder, AllocError>
-        ensures added { IfOk result (λ after. after ≡ added (note text) self) }
+        ensures added { IfOk result (λ after. after ≡ added (item.comment text) self) }
     {
         let Builder { current, outer } = self;
         let current = current.comment(text)?;
@@ -87,7 +89,7 @@ impl Builder {
 
     /// Begins a variation of the last move of the innermost line.
     pub fn open(self, alloc: Global) -> Result<Builder, AllocError>
-        ensures added { IfOk result (λ after. after ≡ added opens self) }
+        ensures added { IfOk result (λ after. after ≡ added item.opens self) }
     {
         let Builder { current, mut outer } = self;
         outer.push(current)?;
@@ -99,7 +101,7 @@ impl Builder {
 
     /// Ends the innermost variation. Where none is open, nothing changes.
     pub fn close(self) -> Result<Builder, AllocError>
-        ensures added { IfOk result (λ after. after ≡ added closes self) }
+        ensures added { IfOk result (λ after. after ≡ added item.closes self) }
     {
         let Builder { current, mut outer } = self;
         match outer.pop() {
@@ -112,14 +114,14 @@ impl Builder {
     }
 
     /// The line that was read, with the comment before its first move, where no variation is open. What was read from the
-    /// items of a script alone is what the script means, and what was read from the items of a tree is that tree.
+    /// items of a movetext alone is what the movetext means, and what was read from the items of a tree is that tree.
     pub fn finish(self) -> Result<Branch, AllocError>
         requires { self.outer ≡ [] }
         ensures lead { IfOk result (λ read. read.lead ≡ self.current.lead) }
         ensures line { IfOk result (λ read. read.line ≡ read_line self.current) }
-        ensures meant { IfOk result (λ read. (s : Script) → self ≡ built (items_of s) opening → Gives read (meaning s).comment (meaning s).line) }
+        ensures meant { IfOk result (λ read. (s : Movetext) → self ≡ built (items_of s) opening → Gives read (meaning s).comment (meaning s).line) }
         ensures written { IfOk result (λ read. (lead : Option (List ℕ)) (line : Line) → IsComment lead → HasComments line
-            → self ≡ built (items_of (comment_before lead (script_of line))) opening → Gives read lead line) }
+            → self ≡ built (items_of (comment_before lead (movetext_of line))) opening → Gives read lead line) }
     {
         let Builder {
             current,

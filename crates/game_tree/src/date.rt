@@ -1,9 +1,9 @@
-ghost use Rattle.std.specs.Prelude.{◌≡◌, ◌==◌, ◌≤◌, length, IfSome};
-ghost use Rattle.std.specs.List.{AllPass, list_all};
-ghost use Rattle.std.specs.Bool.{OnTrue};
-ghost use Rattle.std.specs.Char.{is_ascii_digit};
+ghost use Rattle.std.specs.Prelude.{◌≡◌, ◌==◌, ◌≤◌, ◌<◌, ◌^◌, length, IfSome};
+ghost use Rattle.std.specs.List.{list_all};
 ghost use Rattle.cell_core.specs.Text.{IsZeroFree};
-ghost use Rattle.game_tree.specs.Date.{IsDate, unknown_date, is_unknown, shown, date_text, decimal, part, dated, date_read, is_near};
+ghost use Rattle.game_tree.specs.Date.{IsDate, unknown_date, is_unknown, date_number, date_of, keeps_rule, shown, date_text, part, dated, date_read, is_near};
+
+use super::decimal::read_decimal;
 
 /// A date of a game or an event; a part that is 0 is unknown. A date that is kept has a year of at most 2047, a month
 /// of at most 12 and a day of at most 31.
@@ -46,6 +46,32 @@ impl Date {
             && game_year <= event_year + 3
     }
 
+    /// Whether an event of a game of the date `game` may keep this date: it is unknown, or it is near the game's.
+    pub fn keeps_rule(&self, game: Date) -> bool
+        ensures rule { result ≡ keeps_rule self.now game }
+    {
+        self.is_unknown() || self.is_near(game)
+    }
+
+    /// The date as one number, `year * 512 + month * 32 + day`.
+    #[tactic(auto, using(crate::proofs::DateLemmas::numbering))]
+    pub fn number(&self) -> u32
+        ensures number { result ≡ date_number self.now }
+        ensures back { IsDate self.now → date_of result ≡ self.now }
+    {
+        number_of(*self)
+    }
+
+    /// The date of such a number. Every number below 2^25 is that of its date.
+    #[tactic(auto, using(crate::proofs::DateLemmas::numbering))]
+    pub fn of_number(number: u32) -> Date
+        requires { number < 2 ^ 25 }
+        ensures date { result ≡ date_of number }
+        ensures number { date_number result ≡ number }
+    {
+        numbered(number)
+    }
+
     /// The text of the date, as `1994.05.??` (PGN standard, section 8.1.1.3).
     #[tactic(auto, using(crate::proofs::DateLemmas::reading_back))]
     pub fn text(&self) -> [u8; 10]
@@ -76,6 +102,25 @@ impl Date {
     }
 }
 
+// The number of a date, without its law.
+fn number_of(date: Date) -> u32
+    ensures { result ≡ date_number date }
+{
+    u32::from(date.year) * 512 + u32::from(date.month) * 32 + u32::from(date.day)
+}
+
+// The date of a number, without its law.
+fn numbered(number: u32) -> Date
+    requires { number < 2 ^ 25 }
+    ensures { result ≡ date_of number }
+{
+    Date {
+        year: (number / 512) as u16,
+        month: (number / 32 % 16) as u8,
+        day: (number % 32) as u8,
+    }
+}
+
 #[tactic(auto, unfolding(crate::specs::Date::date_text))]
 fn text_of(date: Date) -> [u8; 10]
     ensures text { result ≡ date_text date }
@@ -98,9 +143,6 @@ fn text_of(date: Date) -> [u8; 10]
 
 // The date of the texts of its three parts.
 fn dated(year: &[u8], month: &[u8], day: &[u8]) -> Option<Date>
-    requires year { length year.now ≤ 4 }
-    requires month { length month.now ≤ 4 }
-    requires day { length day.now ≤ 4 }
     ensures read { result ≡ dated year.now month.now day.now }
     ensures bounds { IfSome result (λ date. IsDate date) }
 {
@@ -114,21 +156,17 @@ fn dated(year: &[u8], month: &[u8], day: &[u8]) -> Option<Date>
     })
 }
 
-// A part of a date of at most four bytes: 0 of question marks, the number of decimal digits where it is at most `limit`.
+// A part of a date: 0 of question marks, the number of decimal digits where it is at most `limit`.
 #[tactic(auto, unfolding(crate::specs::Date::part))]
 fn part(text: &[u8], limit: u16) -> Option<u16>
-    requires { length text.now ≤ 4 }
     ensures read { result ≡ part limit text.now }
     ensures bound { IfSome result (λ number. number ≤ limit) }
 {
     if is_unknown_part(text) {
         return Some(0);
     }
-    if !has_digits_alone(text) {
-        return None;
-    }
-    let number = decimal(text);
-    if number <= limit { Some(number) } else { None }
+    let number = read_decimal(text, u64::from(limit))?;
+    Some(number as u16)
 }
 
 // Whether each byte is a question mark.
@@ -136,27 +174,6 @@ fn is_unknown_part(text: &[u8]) -> bool
     ensures { result ≡ list_all (λ c. c == 63) text.now }
 {
     text.iter().all(|c| *c == b'?')
-}
-
-// Whether each byte is a decimal digit.
-fn has_digits_alone(text: &[u8]) -> bool
-    ensures all { result ≡ list_all is_ascii_digit text.now }
-    ensures each { OnTrue result (AllPass is_ascii_digit text.now) }
-{
-    text.iter().all(|c| c.is_ascii_digit())
-}
-
-// The number that at most four decimal digits write.
-fn decimal(digits: &[u8]) -> u16
-    requires short { length digits.now ≤ 4 }
-    requires digits { AllPass is_ascii_digit digits.now }
-    ensures { result ≡ decimal digits.now }
-{
-    let mut number = 0u16;
-    for digit in digits {
-        number = 10 * number + u16::from(*digit - b'0');
-    }
-    number
 }
 
 // The last digit of `number` as text, or a question mark where `part` is 0.

@@ -1,7 +1,7 @@
 ghost use Rattle.std.specs.Prelude.{◌≡◌, List, ℕ, Option, Some, IsSome, IfOk, IsTrue, ◌↔◌};
 ghost use Rattle.game_tree.specs.Tree.{Variation, line_of};
-ghost use Rattle.game_tree.specs.Items.{joined};
-ghost use Rattle.game_tree.specs.Building.{fresh, bare, with_move, with_nag, with_note, with_variation, read_line, and_last};
+ghost use Rattle.game_tree.specs.Movetext.{joined};
+ghost use Rattle.game_tree.specs.Building.{fresh, bare, with_move, with_nag, with_comment, with_variation, read_line, and_last};
 
 use super::node::{Branch, Node};
 use cell_core::{Move, Text};
@@ -65,9 +65,9 @@ impl OpenLine {
         })
     }
 
-    /// Adds a glyph to the last move.
-    pub(crate) fn annotate(self, nag: u8) -> Result<OpenLine, AllocError>
-        ensures annotated { IfOk result (λ line. line ≡ with_nag nag self) }
+    /// Adds a NAG to the last move.
+    pub(crate) fn nag(self, nag: u8) -> Result<OpenLine, AllocError>
+        ensures nag_added { IfOk result (λ line. line ≡ with_nag nag self) }
     {
         let OpenLine { lead, done, last } = self;
         match last {
@@ -89,7 +89,7 @@ impl OpenLine {
 
     /// Adds a comment to the last move, or to the line where there is none yet.
     pub(crate) fn comment(self, text: Text) -> Result<OpenLine, AllocError>
-        ensures commented { IfOk result (λ line. line ≡ with_note text self) }
+        ensures commented { IfOk result (λ line. line ≡ with_comment text self) }
     {
         if text.is_empty() {
             return Ok(self);

@@ -1,6 +1,7 @@
 ghost use Rattle.std.specs.Prelude.{◌≡◌, IfOk, OnOk, OnErr, IsTrue};
 ghost use Rattle.game_tree.specs.Head.{IsBounded};
-ghost use Rattle.game_tree.specs.Settle.{near_date, first_near_date, event_date_tag, settled, keeps_rule};
+ghost use Rattle.game_tree.specs.Date.{keeps_rule};
+ghost use Rattle.game_tree.specs.Settle.{near_date, first_near_date, event_date_tag, settled, IsSettled};
 
 use super::date::Date;
 use super::head::{Head, Tag};
@@ -20,8 +21,8 @@ pub fn settle(alloc: Global, head: &mut Head) -> Result<(), AllocError>
     ensures ok { OnOk result (head.new ≡ settled head.old) }
     ensures err { OnErr result (head.new ≡ head.old) }
     ensures bounds { IsBounded head.new }
-    ensures rule { IsTrue (keeps_rule (settled head.old)) }
-    ensures again { settled (settled head.old) ≡ settled head.old }
+    ensures rule { OnOk result (IsTrue (keeps_rule head.new.event_date head.new.date)) }
+    ensures settled { OnOk result (IsSettled head.new) }
 {
     settle_event_date(alloc, head)?;
     Ok(())

@@ -1,7 +1,8 @@
-ghost use Rattle.std.specs.Prelude.{◌≡◌, ◌↔◌, IsTrue, All};
+ghost use Rattle.std.specs.Prelude.{◌≡◌, ◌≢◌, ◌↔◌, IsTrue, All};
+ghost use Rattle.std.specs.Bool.{OnTrue};
 ghost use Rattle.std.specs.List.{list_any};
 ghost use Rattle.std.specs.Str.{bytes_eq};
-ghost use Rattle.game_tree.specs.TagName.{is_reserved, IsTagByte, IsTagName};
+ghost use Rattle.game_tree.specs.TagName.{is_reserved, is_tag_byte, IsTagByte, IsTagName};
 
 const FIELD_NAMES: [&[u8]; 12] = [
     b"Event",
@@ -65,8 +66,10 @@ fn has_tag_bytes_alone(name: &[u8]) -> bool
     name.iter().all(|byte| is_tag_byte(*byte))
 }
 
-fn is_tag_byte(byte: u8) -> bool
-    ensures { IsTrue result ↔ IsTagByte byte }
+/// Whether this is a byte of a tag name: one from 33 to 126, and neither `"` nor `]`.
+pub fn is_tag_byte(byte: u8) -> bool
+    ensures byte { result ≡ is_tag_byte byte }
+    ensures not_zero { OnTrue result (byte ≢ 0) }
 {
     33 <= byte && byte <= 126 && byte != b'"' && byte != b']'
 }

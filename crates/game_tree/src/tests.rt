@@ -310,7 +310,7 @@ fn game(alloc: Global, written: &[(u8, u8)]) -> Result<Game, Fail> {
     let mut builder = Builder::new(alloc);
     for (what, to) in written {
         builder = match what {
-            b'!' => builder.annotate(*to)?,
+            b'!' => builder.nag(*to)?,
             b'(' => builder.open(alloc)?,
             b')' => builder.close()?,
             b'{' => builder.comment(Text::try_new(Vec::from_slice(alloc, &[*to])?).unwrap_or(

@@ -17,8 +17,7 @@ use Rattle.chess_laws.specs.declared.setup.Wing.{Wing}
 use Rattle.chess_laws.specs.declared.setup.Wing.TheVariants.{KingSide, QueenSide}
 use Rattle.chess_laws.specs.declared.effect.Effect.{Effect}
 use Rattle.chess_laws.specs.declared.effect.Effect.TheVariants.{Plain, Double, Passing, Castle, Null}
-use Rattle.chess_laws.specs.declared.offset.Offset.{Offset}
-use Rattle.chess_laws.specs.Geometry.{by, file_of, rank_of, Leaps, Walk, king_steps, knight_steps, forward, pawn_captures}
+use Rattle.chess_laws.specs.Geometry.{Offset, by, file_of, rank_of, Leaps, Walk, king_steps, knight_steps, forward, pawn_captures}
 use Rattle.chess_laws.specs.Castling.{king_home, king_target}
 use Rattle.chess_laws.specs.Step.{GoesPlainly, Case, effect_of, effect_on, may_become, promotes_rightly}
 use Rattle.chess_laws.proofs.Shifts.{shift-Some}

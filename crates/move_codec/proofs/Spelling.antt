@@ -14,8 +14,7 @@ use Rattle.cell_core.specs.declared.man.Kind.{Kind}
 use Rattle.cell_core.specs.declared.man.Kind.TheVariants.{King, Queen, Rook, Bishop, Knight, Pawn}
 use Rattle.cell_core.specs.declared.step.Move.{Move}
 use Rattle.cell_core.specs.Board.{Men}
-use Rattle.chess_laws.specs.declared.offset.Offset.{Offset}
-use Rattle.chess_laws.specs.Geometry.{by, file_of, rank_of, Leaps, Runs, king_steps, knight_steps, rook_steps, bishop_steps}
+use Rattle.chess_laws.specs.Geometry.{Offset, by, file_of, rank_of, Leaps, Runs, king_steps, knight_steps, rook_steps, bishop_steps}
 use Rattle.chess_laws.proofs.Shifts.{shift-Some}
 use Rattle.move_codec.specs.Packed.{ahead, gap, pawn_square, pawn_value, promotion, promotion_value, at_difference, by_difference, difference_value, king_differences, knight_differences, on_line, on_diagonal, on_file, other_square, line_value, diagonal_value}
 use Rattle.move_codec.proofs.Strides.{any_passes, and_true, Any-each, Walk-strides}

@@ -1,13 +1,10 @@
--- A walk is looked for only where the step aims at the target.
-use Rattle.std.proofs.Common.{◌∙◌, sym}
-use Rattle.chess_laws.proofs.Running.{run_is, runs_not}
+-- The row is one of this kind of man, and the walk by it is found.
+use Rattle.std.proofs.Common.{sym, ◌∙◌, true, refl}
+use Rattle.chess_laws.specs.Rays.{offset_at}
+use Rattle.chess_laws.proofs.Lines.{runs_by}
 use Rattle.chess_laws.proofs.cases.runs_by.Goals as goal
 
-pub returns : goal.returns
-returns c = rw c.run.ensures (run_is c.args.board.now c.args.step.now c.args.from c.args.to)
-
-pub returns-then-not-aims : goal.returns-then-not-aims
-returns-then-not-aims c = (
-  λ h. absurd (cc),
-  λ runs. absurd (runs_not c.args.board.now c.args.step.now c.args.from c.args.to (sym c.aims.ensures ∙ c.if-not-aims.true) runs),
-)
+pub returns-then-glides : goal.returns-then-glides
+returns-then-glides c =
+    let both = runs_by c.args.board.now (offset_at c.args.row) c.args.from c.args.to true c.run.result (rw c.of_row.ensures.step at c.run.ensures) in
+    ((λ h. ((sym c.glides.ensures ∙ c.if-glides.true), (both.0 h).1)), (λ h. both.1 (refl, h.1)))

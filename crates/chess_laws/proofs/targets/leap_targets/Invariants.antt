@@ -1,7 +1,6 @@
 -- Each step before this one has its target in the set.
 use Rattle.std.proofs.Common.{◌≡◌, ℕ, ◌<◌, get_or}
-use Rattle.chess_laws.specs.declared.offset.Offset.{Offset}
-use Rattle.chess_laws.specs.Geometry.{Leaps}
+use Rattle.chess_laws.specs.Geometry.{Offset, Leaps}
 use Rattle.chess_laws.specs.Targets.{Has}
 use Rattle.chess_laws.proofs.targets.leap_targets.Given as goal
 

@@ -1,7 +1,6 @@
 -- Each step before this one has its walk in the set.
 use Rattle.std.proofs.Common.{◌≡◌, ℕ, ◌<◌, get_or}
-use Rattle.chess_laws.specs.declared.offset.Offset.{Offset}
-use Rattle.chess_laws.specs.Geometry.{Runs}
+use Rattle.chess_laws.specs.Geometry.{Offset, Runs}
 use Rattle.chess_laws.specs.Targets.{Has}
 use Rattle.chess_laws.proofs.targets.run_targets.Given as goal
 

@@ -12,7 +12,7 @@ found text None e h = tt
 found text (Some board) e h = placement_filled text board (sym h)
 
 pub returns-clause-found : goal.returns-clause-found
-returns-clause-found c = rw c.ok_or.ensures.value (found c.args.text.now c.fill.result _ c.fill.ensures.exact)
+returns-clause-found c = rw c.ok_or.ensures.value (found c.args.text.now c.board_of.result _ c.board_of.ensures.exact)
 
 only : {E : Type 0} (text : List ℕ) (o : Option Men) (e : E) (board : Men)
     → o ≡ board_named text → PlacementText text board
@@ -21,4 +21,4 @@ only text o e board h placement = rw (h, placement_fills text board placement) r
 
 pub returns-clause-only : goal.returns-clause-only
 returns-clause-only c = λ board placement.
-    c.ok_or.ensures.value ∙ only c.args.text.now c.fill.result _ board c.fill.ensures.exact placement
+    c.ok_or.ensures.value ∙ only c.args.text.now c.board_of.result _ board c.board_of.ensures.exact placement

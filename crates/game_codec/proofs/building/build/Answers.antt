@@ -1,6 +1,7 @@
 use Rattle.std.proofs.Common.{arith}
 use Rattle.std.proofs.lemmas.Grind.{common_steps}
 use Rattle.std.proofs.lemmas.List.{nil_from_length}
+use Rattle.game_codec.specs.Nests.{tokens_of}
 use Rattle.game_codec.proofs.BuildLaws.{IsBuilt-step, IsBuilt-end, IsBuilt-closed, IsBuilt-whole}
 use Rattle.game_codec.proofs.building.build.Goals as goal
 
@@ -11,12 +12,12 @@ loop-token-preserved c =
 
 pub finish-requires : goal.finish-requires
 finish-requires c =
-    IsBuilt-closed c.args.tokens.now c.args.bytes.now c.loop-token.rest.now c.loop-token.builder c.requires.scripted
+    IsBuilt-closed (tokens_of c.args.tokens.now) c.args.bytes.now c.loop-token.rest.now c.loop-token.builder c.requires.movetext
     (IsBuilt-end c.args.tokens.now c.loop-token.token-index c.args.bytes.now c.loop-token.rest.now c.loop-token.builder c.loop-token-test.false c.loop-token.invariant)
 
 pub returns-clause-ok : goal.returns-clause-ok
 returns-clause-ok c =
-    IsBuilt-whole c.args.tokens.now c.args.bytes.now c.loop-token.rest.now c.loop-token.builder c.in_ok-finish.field-0
+    IsBuilt-whole (tokens_of c.args.tokens.now) c.args.bytes.now c.loop-token.rest.now c.loop-token.builder c.in_ok-finish.field-0
     (IsBuilt-end c.args.tokens.now c.loop-token.token-index c.args.bytes.now c.loop-token.rest.now c.loop-token.builder c.loop-token-test.false c.loop-token.invariant)
     (nil_from_length c.loop-token.rest.now (grind (arith, common_steps)))
     c.in_ok-finish.ensures.meant

@@ -1,6 +1,6 @@
 use Rattle.std.proofs.Common.{ℕ, List, [], ◌∷◌, ◌++◌, ap, ◌∙◌}
 use Rattle.game_tree.specs.Tree.{line_of}
-use Rattle.game_tree.specs.Written.{comment_before, script_of}
+use Rattle.game_tree.specs.Written.{comment_before, movetext_of}
 use Rattle.game_codec.specs.Texts.{ended, texts_of}
 use Rattle.game_codec.specs.Written.{moves_text, tags_text}
 use Rattle.game_codec.proofs.WritingLaws.{game-writes}
@@ -18,11 +18,11 @@ returns-clause-written c =
     c.in_ok-start.ensures.start
     (
     c.in_ok-put_line.ensures.moves
-    ∙ ap (λ (out : List ℕ). out ++ moves_text n n (comment_before c.g.inside.lead (script_of (line_of c.as_slice-2.result.now)))) c.new-body.ensures.moves
+    ∙ ap (λ (out : List ℕ). out ++ moves_text n n (comment_before c.g.inside.lead (movetext_of (line_of c.as_slice-2.result.now)))) c.new-body.ensures.moves
     )
     (
     c.in_ok-put_line.ensures.texts
-    ∙ ap (λ (out : List ℕ). out ++ ended (texts_of (comment_before c.g.inside.lead (script_of (line_of c.as_slice-2.result.now))))) c.new-body.ensures.texts
+    ∙ ap (λ (out : List ℕ). out ++ ended (texts_of (comment_before c.g.inside.lead (movetext_of (line_of c.as_slice-2.result.now))))) c.new-body.ensures.texts
     )
     (c.in_ok-extend_from_slice.ensures.items ∙ ap (λ (bytes : List ℕ). c.put_start.new.out.items ++ bytes) c.as_slice-3.ensures.value)
     c.in_ok-push.ensures.items

@@ -1,6 +1,6 @@
 use Rattle.std.proofs.Common.{◌≡◌, ℕ, ◌++◌, List, ap, subst, ◌∙◌}
 use Rattle.game_tree.specs.Tree.{Played, Variation, line_of}
-use Rattle.game_tree.specs.Written.{comment_before, script_of}
+use Rattle.game_tree.specs.Written.{comment_before, movetext_of}
 use Rattle.game_codec.specs.Texts.{ended, texts_of}
 use Rattle.game_codec.specs.Written.{IsCommentText, LineHasTexts, moves_text}
 use Rattle.game_codec.specs.Place.{numbered_after}
@@ -36,10 +36,10 @@ put_variations-loop-variation-preserved t c =
     record {
       legal = branches_legal-more n.position c.args.variations.now c.loop-variation.variation-index c.variation-item.result left c.loop-variation.invariant.legal;
       moves = variations-more n c.args.variations.now c.loop-variation.variation-index c.variation-item.result _ c.push.new.self.items _ _ _ left c.in_ok-push.ensures.items
-          (written c.push.new.self.items c.in_ok-put_line.ensures.moves (λ i. moves_text n n (comment_before (lead i) (script_of (line i)))))
+          (written c.push.new.self.items c.in_ok-put_line.ensures.moves (λ i. moves_text n n (comment_before (lead i) (movetext_of (line i)))))
           c.in_ok-push-2.ensures.items c.loop-variation.invariant.moves;
       texts = variations_texts-more c.args.variations.now c.loop-variation.variation-index c.variation-item.result _ _ _ left
-          (written c.loop-variation.body.texts.items c.in_ok-put_line.ensures.texts (λ i. ended (texts_of (comment_before (lead i) (script_of (line i))))))
+          (written c.loop-variation.body.texts.items c.in_ok-put_line.ensures.texts (λ i. ended (texts_of (comment_before (lead i) (movetext_of (line i))))))
           c.loop-variation.invariant.texts;
       zero_free = branches_texts-more c.args.variations.now c.loop-variation.variation-index c.variation-item.result _ left
           (subst IsCommentText lead c.in_ok-put_line.ensures.zero_free.0) (subst LineHasTexts line c.in_ok-put_line.ensures.zero_free.1)

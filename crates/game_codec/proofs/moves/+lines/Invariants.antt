@@ -1,7 +1,7 @@
 use Rattle.std.proofs.Common.{◌≡◌, ◌++◌, drop}
 use Rattle.game_tree.specs.Legal.{IsLegalLine, AreLegalBranches}
 use Rattle.game_tree.specs.Tree.{line_of, branches_of}
-use Rattle.game_tree.specs.Written.{script_of}
+use Rattle.game_tree.specs.Written.{movetext_of}
 use Rattle.game_codec.specs.Texts.{texts_of, ended}
 use Rattle.game_codec.specs.Written.{LineHasTexts, BranchesHaveTexts, moves_text}
 use Rattle.game_codec.specs.Writing.{variations_text, variations_texts}
@@ -11,10 +11,10 @@ use Rattle.game_codec.proofs.moves.+lines.Given as goal
 abbrev pub invariant-put_line-loop-node : goal.invariant-put_line-loop-node
 invariant-put_line-loop-node l = record {
   legal : IsLegalLine l.position.position (line_of (drop l.node-index l.line));
-  moves : l.body.moves.items ++ moves_text l.position l.position (script_of (line_of (drop l.node-index l.line)))
-      ≡ l.initial.body.moves.items ++ moves_text l.start l.start (script_of (line_of l.line));
-  texts : l.body.texts.items ++ ended (texts_of (script_of (line_of (drop l.node-index l.line))))
-      ≡ l.initial.body.texts.items ++ ended (texts_of (script_of (line_of l.line)));
+  moves : l.body.moves.items ++ moves_text l.position l.position (movetext_of (line_of (drop l.node-index l.line)))
+      ≡ l.initial.body.moves.items ++ moves_text l.start l.start (movetext_of (line_of l.line));
+  texts : l.body.texts.items ++ ended (texts_of (movetext_of (line_of (drop l.node-index l.line))))
+      ≡ l.initial.body.texts.items ++ ended (texts_of (movetext_of (line_of l.line)));
   zero_free : LineHasTexts (line_of (drop l.node-index l.line)) → LineHasTexts (line_of l.line);
 }
 

@@ -1,8 +1,8 @@
 use Rattle.std.proofs.Common.{◌∙◌, ap}
-use Rattle.game_tree.specs.Items.{Said}
+use Rattle.game_tree.specs.Movetext.{Said}
 use Rattle.game_tree.specs.Building.{Building, read_line}
-use Rattle.game_tree.specs.Written.{comment_before, script_of}
-use Rattle.game_tree.proofs.ScriptLemmas.{built-items_of}
+use Rattle.game_tree.specs.Written.{comment_before, movetext_of}
+use Rattle.game_tree.proofs.MovetextLemmas.{built-items_of}
 use Rattle.game_tree.proofs.WrittenLemmas.{meaning-written}
 use Rattle.game_tree.proofs.builder.Builder.finish.Goals as goal
 
@@ -16,7 +16,7 @@ returns-clause-meant c =
 pub returns-clause-written : goal.returns-clause-written
 returns-clause-written c =
     λ lead line some are e.
-    let s = comment_before lead (script_of line) in
+    let s = comment_before lead (movetext_of line) in
     let tree = meaning-written lead line some are in
     record {
       lead_is =

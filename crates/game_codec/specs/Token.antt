@@ -1,0 +1,12 @@
+-- The items of a record's moves (this project's own, after Scid's format): a packed move, a NAG, the mark of a comment, whose
+-- text stands behind the moves, the beginning and the end of a variation, and the end of the game.
+use Rattle.std.specs.Prelude.{ℕ}
+use Rattle.cell_core.specs.declared.step.Move.{Move}
+
+pub data Token : Type 0 where
+  Play : Move → Token
+  Nag : ℕ → Token
+  Comment : Token
+  Open : Token
+  Close : Token
+  End : Token

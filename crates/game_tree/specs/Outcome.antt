@@ -1,0 +1,21 @@
+-- The texts of results (PGN standard, 8.1.1.7).
+use Rattle.std.specs.Prelude.{ℕ, if◌then◌else◌, List, Option, Some, None, codes}
+use Rattle.std.specs.Str.{bytes_eq}
+use Rattle.game_tree.specs.declared.head.Outcome.{Outcome}
+use Rattle.game_tree.specs.declared.head.Outcome.TheVariants.{White, Black, Draw, Unknown}
+
+-- The text of a result; `*` is one that is unknown or of a game in progress.
+abbrev pub outcome_text : Outcome → List ℕ
+outcome_text White = codes "1-0"
+outcome_text Black = codes "0-1"
+outcome_text Draw = codes "1/2-1/2"
+outcome_text Unknown = codes "*"
+
+-- The result that a text is: exactly one of the four.
+abbrev pub outcome_read : List ℕ → Option Outcome
+outcome_read text =
+    if bytes_eq text (codes "1-0") then Some White
+    else if bytes_eq text (codes "0-1") then Some Black
+    else if bytes_eq text (codes "1/2-1/2") then Some Draw
+    else if bytes_eq text (codes "*") then Some Unknown
+    else None

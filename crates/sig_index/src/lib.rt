@@ -1,0 +1,12 @@
+//! What searches ask of the games of a base: by their heads, by the men on the board, by a position.
+#![tactic(auto)]
+
+mod head_query;
+mod mat_query;
+mod pos_query;
+mod span;
+
+pub use head_query::HeadQuery;
+pub use mat_query::{MatQuery, MatRange};
+pub use pos_query::{Mode, PosQuery};
+pub use span::Span;

@@ -1,0 +1,8 @@
+//! A span of numbers.
+
+/// The numbers from `lo` to `hi`, both among them.
+#[derive(Clone, Copy, Debug, PartialEq, Eq, PartialOrd, Ord, Hash)]
+pub struct Span {
+    pub lo: u64,
+    pub hi: u64,
+}
