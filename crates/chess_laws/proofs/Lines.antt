@@ -91,7 +91,7 @@ any-slide kind P (k, x, less, is, holds) =
     record { row = found.row; glides = found.glides; less = found.less; holds = subst P (sym found.is) holds }
 
 -- and the other way round
-slide-any : (kind : Kind) (P : Offset → Type 0) (row : ℕ) → row < 8 → glides kind row ≡ true → P (offset_at row) → Any P (slides kind)
+pub slide-any : (kind : Kind) (P : Offset → Type 0) (row : ℕ) → row < 8 → glides kind row ≡ true → P (offset_at row) → Any P (slides kind)
 slide-any King P row less is holds = absurd (false≢true is)
 slide-any Queen P zero less is holds = (0, offset_at 0, omega arith, refl, holds)
 slide-any Queen P (suc zero) less is holds = (1, offset_at 1, omega arith, refl, holds)

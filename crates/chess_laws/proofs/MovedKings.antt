@@ -36,7 +36,7 @@ moved-king p m king k c stands from away no_king =
 king-moves : (king : ℕ) (m : Move) → m.from ≡ king → king_after king m ≡ m.to
 king-moves king m h = rw (eq-eqb m.from king h)
 
-king-stays : (king : ℕ) (m : Move) → (m.from ≡ king → ⊥) → king_after king m ≡ king
+pub king-stays : (king : ℕ) (m : Move) → (m.from ≡ king → ⊥) → king_after king m ≡ king
 king-stays king m h = rw (ne_eqb m.from king h)
 
 plain-king : (p : Setup) (m : Move) (king : ℕ) → Sound p → man_at p.board king ≡ Some (man p.side King) → PlainCase p m →

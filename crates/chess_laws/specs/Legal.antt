@@ -1,5 +1,5 @@
 -- What the code of legal moves tests on its way. No public contract cites these words.
-use Rattle.std.specs.Prelude.{◌≡◌, ℕ, zero, suc, ◌+◌, ◌==◌, ◌&&◌, ◌||◌, if◌then◌else◌, Bool, false, nat_lt, nat_le, IsTrue, List, [], ◌++◌, All, Option, Some, None, is_none}
+use Rattle.std.specs.Prelude.{◌≡◌, ℕ, zero, suc, ◌+◌, ◌==◌, ◌&&◌, ◌||◌, if◌then◌else◌, Bool, true, false, nat_lt, nat_le, IsTrue, List, [], ◌++◌, All, Option, Some, None, is_none}
 use Rattle.cell_core.specs.declared.man.Colour.{Colour}
 use Rattle.cell_core.specs.declared.man.Kind.{Kind}
 use Rattle.cell_core.specs.declared.man.Kind.TheVariants.{King, Queen, Rook, Bishop, Knight, Pawn}
@@ -11,6 +11,8 @@ use Rattle.chess_laws.specs.Attacks.{Attacks}
 use Rattle.chess_laws.specs.Castling.{between, has_right}
 use Rattle.chess_laws.specs.declared.setup.Setup.{Setup}
 use Rattle.chess_laws.specs.declared.setup.Wing.{Wing}
+use Rattle.chess_laws.specs.declared.effect.Effect.{Effect}
+use Rattle.chess_laws.specs.declared.effect.Effect.TheVariants.{Plain, Double, Passing, Castle, Null}
 
 -- the one king of this colour stands on this square
 pub record IsOnlyKing (men : Men) (colour : Colour) (s : ℕ) : Type 0 where
@@ -76,3 +78,11 @@ slides Rook = rook_steps
 slides Bishop = bishop_steps
 slides Knight = []
 slides Pawn = []
+
+-- whether a move changes two squares alone, where it begins and where it ends
+abbrev pub is_calm : Effect → Bool
+is_calm Plain = true
+is_calm Double = true
+is_calm Passing = false
+is_calm (Castle wing) = false
+is_calm Null = false

@@ -1,14 +1,16 @@
 -- What the code walks: from the target of an attack back to the attacker. No public contract cites these words.
-use Rattle.std.specs.Prelude.{◌≡◌, ℕ, zero, suc, ◌<◌, ◌⊎◌, Bool, ◌&&◌, ◌==◌, nat_le, List, [], ◌++◌, slice_index_or, Option, Some, None}
+use Rattle.std.specs.Prelude.{◌≡◌, ℕ, zero, suc, ◌<◌, ◌⊎◌, Bool, ◌&&◌, ◌==◌, nat_le, nat_lt, if◌then◌else◌, List, [], ◌++◌, slice_index_or, Option, Some, None}
 use Rattle.std.specs.List.{position_or_len}
 use Rattle.std.proofs.Common.{true, eqb, refl}
 use Rattle.std.proofs.lemmas.Bool.{agree_below, agree_below_at, eqb-true}
 use Rattle.cell_core.specs.declared.man.Colour.{Colour}
 use Rattle.cell_core.specs.declared.man.Kind.{Kind}
-use Rattle.cell_core.specs.declared.man.Kind.TheVariants.{Queen}
+use Rattle.cell_core.specs.declared.man.Kind.TheVariants.{Queen, Rook, Bishop}
 use Rattle.cell_core.specs.declared.man.Man.{Man}
 use Rattle.cell_core.specs.Board.{Men, man_at}
-use Rattle.cell_core.specs.Man.{man}
+use Rattle.cell_core.specs.Man.{man, other}
+use Rattle.chess_laws.specs.declared.setup.Setup.{Setup}
+use Rattle.chess_laws.specs.Legal.{line}
 use Rattle.chess_laws.specs.Geometry.{Offset, by, king_steps, knight_steps, shift, Leaps, Runs}
 
 -- the steps that the code has, by their rows in its tables
@@ -79,3 +81,19 @@ is_named (Some a) t = t == a
 -- whether a table says so of each row and square
 unfoldable pub names_all : (ℕ → ℕ → Option ℕ) → List (List ℕ) → Bool
 names_all f table = agree_below (λ row. agree_below (λ s. is_named (f row s) (entry table row s)) (λ s. true) 64) (λ row. true) 16
+
+-- what slides by the step of a row besides a queen
+abbrev pub glider : ℕ → Kind
+glider row = if nat_lt row 4 then Rook else Bishop
+
+-- a man that leaves a for elsewhere opens the line to s: it stands between s and a man of the colour that slides along it
+pub record Opens (men : Men) (c : Colour) (a s : ℕ) : Type 0 where
+  pub row : ℕ
+  pub less : row < 8
+  pub on_line : line a s ≡ Some row
+  pub slides : SlidesFrom men c (glider row) a (offset_at row)
+
+-- another man than the mover's king stands on the square, and opens no line to it
+pub record Covers (p : Setup) (king a : ℕ) : Type 0 where
+  pub apart : a ≡ king → ⊥
+  pub shut : Opens p.board (other p.side) a king → ⊥

@@ -1,13 +1,14 @@
 ghost use Rattle.std.specs.Prelude.{◌<◌, Some, ◌≡◌, ◌↔◌, ◌⊎◌, IsTrue, Any};
 ghost use Rattle.chess_laws.specs.Attacks.{Attacks};
 ghost use Rattle.chess_laws.specs.Geometry.{pawn_captures};
-ghost use Rattle.chess_laws.specs.Rays.{met, LeapsFrom, SlidesFrom};
+ghost use Rattle.chess_laws.specs.Rays.{glider, met, offset_at, LeapsFrom, Opens, SlidesFrom};
 ghost use Rattle.cell_core.specs.Board.{man_at};
 ghost use Rattle.cell_core.specs.Man.{man};
 ghost use Rattle.cell_core.specs.declared.man.Kind.TheVariants.{Pawn, Queen};
 
 use super::offset::{
     BISHOP_STEPS, BLACK_CAPTURES, KING_STEPS, KNIGHT_STEPS, Offset, ROOK_STEPS, WHITE_CAPTURES,
+    line,
 };
 use cell_core::{Board, Colour, Kind, Man, Square};
 
@@ -101,4 +102,23 @@ fn first_met(board: &Board, step: &Offset, s: Square) -> Option<Man>
         at = step.origin(at)?;
     }
     board.at(at)
+}
+
+// Whether a man that leaves `from` for elsewhere opens the line from a man of this colour to the square `s`.
+pub fn opens(board: &Board, by: Colour, from: Square, s: Square) -> bool
+    ensures { IsTrue result ↔ Opens board.now by from s }
+{
+    match line(from, s) {
+        None => false,
+        Some(row) => slides_along(board, by, row, from),
+    }
+}
+
+// Whether a man of this colour slides to the square by the step of this row.
+fn slides_along(board: &Board, by: Colour, row: u8, s: Square) -> bool
+    requires row { row < 8 }
+    ensures { IsTrue result ↔ SlidesFrom board.now by (glider row) s (offset_at row) }
+{
+    let kind = if row < 4 { Kind::Rook } else { Kind::Bishop };
+    slides_by(board, by, kind, &Offset::of_row(row), s)
 }

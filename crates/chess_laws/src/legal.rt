@@ -1,24 +1,44 @@
 //! Which moves are legal.
-ghost use Rattle.std.specs.Prelude.{◌≡◌, ◌↔◌, IsTrue};
-ghost use Rattle.chess_laws.specs.Legal.{IsOnlyKing, king_after};
+ghost use Rattle.std.specs.Prelude.{◌≡◌, ◌↔◌, IsTrue, false, true};
+ghost use Rattle.std.specs.Bool.{OnTrue};
+ghost use Rattle.chess_laws.specs.Legal.{IsOnlyKing, is_calm, king_after};
+ghost use Rattle.chess_laws.specs.Attacks.{IsInCheck};
+ghost use Rattle.chess_laws.specs.Rays.{Covers};
 ghost use Rattle.chess_laws.specs.Position.{Sound};
-ghost use Rattle.chess_laws.specs.Step.{Legal};
+ghost use Rattle.chess_laws.specs.Step.{board_after, effect_of, Case, Legal};
 
+use super::attack::opens;
 use super::cases::{is_allowed, is_in_check};
+use super::effect::Effect;
 use super::next::{board_after, effect_of};
 use super::setup::Setup;
 use cell_core::{Move, Square};
 
-/// Whether the move is legal for the side to move, whose king stands on this square.
-pub fn is_legal(p: &Setup, king: Square, m: &Move) -> bool
+/// Whether the move is legal for the side to move, whose king stands on this square and is in check or not.
+pub fn is_legal(p: &Setup, king: Square, checked: bool, m: &Move) -> bool
     requires sound { Sound p.now }
     requires king { IsOnlyKing p.now.board p.now.side king }
+    requires check { IsTrue checked ↔ IsInCheck p.now.board p.now.side }
     ensures { IsTrue result ↔ Legal p.now m.now }
 {
     let effect = effect_of(p, m);
     if !is_allowed(p, king, m, effect) {
         return false;
     }
+    if !checked && stays_safe(p, king, m, effect) {
+        return true;
+    }
+    is_safe_after(p, king, m, effect)
+}
+
+// Whether the mover's king is safe on the board after an allowed move.
+fn is_safe_after(p: &Setup, king: Square, m: &Move, effect: Effect) -> bool
+    requires sound { Sound p.now }
+    requires king { IsOnlyKing p.now.board p.now.side king }
+    requires effect { effect ≡ effect_of p.now m.now }
+    requires allowed { Case p.now m.now effect }
+    ensures { IsTrue result ↔ (IsInCheck (board_after p.now m.now effect) p.now.side → ⊥) }
+{
     let board = board_after(p, m, effect);
     !is_in_check(&board, p.side, king_after(king, m))
 }
@@ -28,4 +48,28 @@ pub fn king_after(king: Square, m: &Move) -> Square
     ensures { result ≡ king_after king m.now }
 {
     if m.from == king { m.to } else { king }
+}
+
+// Whether the mover's king, that is not in check, is safe after the move without a look at the board after it.
+fn stays_safe(p: &Setup, king: Square, m: &Move, effect: Effect) -> bool
+    ensures { OnTrue result ((is_calm effect ≡ true) × Covers p.now king m.now.from) }
+{
+    is_calm(effect) && !uncovers(p, king, m.from)
+}
+
+// Whether the move changes two squares alone, where it begins and where it ends.
+fn is_calm(effect: Effect) -> bool
+    ensures { result ≡ is_calm effect }
+{
+    match effect {
+        Effect::Plain | Effect::Double => true,
+        Effect::Passing | Effect::Castle(_) | Effect::Null => false,
+    }
+}
+
+// Whether the mover's king is what leaves this square, or is open to an attack when another man leaves it.
+fn uncovers(p: &Setup, king: Square, from: Square) -> bool
+    ensures { result ≡ false → Covers p.now king from }
+{
+    from == king || opens(&p.board, p.side.other(), from, king)
 }

@@ -1,6 +1,7 @@
 //! Every legal move of a position, in order.
 ghost use Rattle.std.specs.Prelude.{◌≡◌, ◌↔◌, ◌+◌, ◌*◌, ◌<◌, ◌≤◌, IsTrue, []};
 ghost use Rattle.std.specs.Bool.{OnTrue, OnFalse};
+ghost use Rattle.chess_laws.specs.Attacks.{IsInCheck};
 ghost use Rattle.chess_laws.specs.Legal.{IsOnlyKing};
 ghost use Rattle.chess_laws.specs.Position.{Sound};
 ghost use Rattle.chess_laws.specs.Moves.{HasMoreMoves, IsMove, ListsMoves, promotion_number};
@@ -23,7 +24,7 @@ impl Position {
         ensures many { OnFalse result (HasMoreMoves self.now 256) }
         ensures room { OnTrue result (HasMoreMoves self.now 256 → ⊥) }
     {
-        let fits = list_moves(self.setup(), self.king(self.side()), into);
+        let fits = list_moves(self.setup(), self.king(self.side()), self.in_check(), into);
         if !fits {
             into.clear();
         }
@@ -35,22 +36,33 @@ impl Position {
         ensures some { IsTrue result ↔ ((m : Move) × IsMove self.now m) }
     {
         let mut none: ArrayVec<Move, 0> = ArrayVec::new();
-        !list_moves(self.setup(), self.king(self.side()), &mut none)
+        !list_moves(
+            self.setup(),
+            self.king(self.side()),
+            self.in_check(),
+            &mut none,
+        )
     }
 }
 
 /// Lists every legal move but the null move, or answers false at the first for which there is no room. The king of the
 /// side to move stands on the square `king`.
-fn list_moves<const N: usize>(p: &Setup, king: Square, into: &mut ArrayVec<Move, N>) -> bool
+fn list_moves<const N: usize>(
+    p: &Setup,
+    king: Square,
+    checked: bool,
+    into: &mut ArrayVec<Move, N>,
+) -> bool
     requires sound { Sound p.now }
     requires king { IsOnlyKing p.now.board p.now.side king }
+    requires check { IsTrue checked ↔ IsInCheck p.now.board p.now.side }
     ensures listed { OnTrue result (ListsMoves p.now into.new.items) }
     ensures room { OnTrue result (HasMoreMoves p.now N → ⊥) }
     ensures many { OnFalse result (HasMoreMoves p.now N) }
 {
     into.clear();
     for from in 0..64u8 {
-        if !list_from(p, king, Square::at(from), into) {
+        if !list_from(p, king, checked, Square::at(from), into) {
             return false;
         }
     }
@@ -61,11 +73,13 @@ fn list_moves<const N: usize>(p: &Setup, king: Square, into: &mut ArrayVec<Move,
 fn list_from<const N: usize>(
     p: &Setup,
     king: Square,
+    checked: bool,
     from: Square,
     into: &mut ArrayVec<Move, N>,
 ) -> bool
     requires sound { Sound p.now }
     requires king { IsOnlyKing p.now.board p.now.side king }
+    requires check { IsTrue checked ↔ IsInCheck p.now.board p.now.side }
     requires before { ListsBelow p.now N (512 * from) into.old.items }
     ensures listed { OnTrue result (ListsBelow p.now N (512 * (from + 1)) into.new.items) }
     ensures many { OnFalse result (HasMoreMoves p.now N) }
@@ -73,7 +87,7 @@ fn list_from<const N: usize>(
     let targets = targets(p, from);
     let mut at = 0u8;
     while let Some(to) = targets.next(at) {
-        if !list_to(p, king, from, to, into) {
+        if !list_to(p, king, checked, from, to, into) {
             return false;
         }
         at = to.index() + 1;
@@ -85,22 +99,24 @@ fn list_from<const N: usize>(
 fn list_to<const N: usize>(
     p: &Setup,
     king: Square,
+    checked: bool,
     from: Square,
     to: Square,
     into: &mut ArrayVec<Move, N>,
 ) -> bool
     requires sound { Sound p.now }
     requires king { IsOnlyKing p.now.board p.now.side king }
+    requires check { IsTrue checked ↔ IsInCheck p.now.board p.now.side }
     requires on_board { to < 64 }
     requires before { ListsBelow p.now N (512 * from + 8 * to) into.old.items }
     ensures listed { OnTrue result (ListsBelow p.now N (512 * from + 8 * (to + 1)) into.new.items) }
     ensures many { OnFalse result (HasMoreMoves p.now N) }
 {
-    if !add(p, king, from, to, None, into) {
+    if !add(p, king, checked, from, to, None, into) {
         return false;
     }
     if may_promote(p, from, to) {
-        return list_promotions(p, king, from, to, into);
+        return list_promotions(p, king, checked, from, to, into);
     }
     true
 }
@@ -109,27 +125,29 @@ fn list_to<const N: usize>(
 fn list_promotions<const N: usize>(
     p: &Setup,
     king: Square,
+    checked: bool,
     from: Square,
     to: Square,
     into: &mut ArrayVec<Move, N>,
 ) -> bool
     requires sound { Sound p.now }
     requires king { IsOnlyKing p.now.board p.now.side king }
+    requires check { IsTrue checked ↔ IsInCheck p.now.board p.now.side }
     requires on_board { to < 64 }
     requires before { ListsBelow p.now N (512 * from + (8 * to + 1)) into.old.items }
     ensures listed { OnTrue result (ListsBelow p.now N (512 * from + 8 * (to + 1)) into.new.items) }
     ensures many { OnFalse result (HasMoreMoves p.now N) }
 {
-    if !add(p, king, from, to, Some(Kind::Queen), into) {
+    if !add(p, king, checked, from, to, Some(Kind::Queen), into) {
         return false;
     }
-    if !add(p, king, from, to, Some(Kind::Rook), into) {
+    if !add(p, king, checked, from, to, Some(Kind::Rook), into) {
         return false;
     }
-    if !add(p, king, from, to, Some(Kind::Bishop), into) {
+    if !add(p, king, checked, from, to, Some(Kind::Bishop), into) {
         return false;
     }
-    add(p, king, from, to, Some(Kind::Knight), into)
+    add(p, king, checked, from, to, Some(Kind::Knight), into)
 }
 
 /// Whether a pawn of the side to move stands on `from` and `to` is on its last rank.
@@ -143,6 +161,7 @@ fn may_promote(p: &Setup, from: Square, to: Square) -> bool
 fn add<const N: usize>(
     p: &Setup,
     king: Square,
+    checked: bool,
     from: Square,
     to: Square,
     promo: Option<Kind>,
@@ -150,13 +169,14 @@ fn add<const N: usize>(
 ) -> bool
     requires sound { Sound p.now }
     requires king { IsOnlyKing p.now.board p.now.side king }
+    requires check { IsTrue checked ↔ IsInCheck p.now.board p.now.side }
     requires on_board { to < 64 }
     requires before { ListsBefore p.now N (record { from = from; to = to; promo = promo }) into.old.items }
     ensures listed { OnTrue result (ListsBelow p.now N (512 * from + (8 * to + (promotion_number promo + 1))) into.new.items) }
     ensures many { OnFalse result (HasMoreMoves p.now N) }
 {
     let m = Move { from, to, promo };
-    if !is_move(p, king, &m) {
+    if !is_move(p, king, checked, &m) {
         return true;
     }
     if into.is_full() {
@@ -167,10 +187,11 @@ fn add<const N: usize>(
 }
 
 /// Whether the move is a legal one besides the null move.
-fn is_move(p: &Setup, king: Square, m: &Move) -> bool
+fn is_move(p: &Setup, king: Square, checked: bool, m: &Move) -> bool
     requires sound { Sound p.now }
     requires king { IsOnlyKing p.now.board p.now.side king }
+    requires check { IsTrue checked ↔ IsInCheck p.now.board p.now.side }
     ensures { IsTrue result ↔ IsMove p.now m.now }
 {
-    m.to != m.from && is_legal(p, king, m)
+    m.to != m.from && is_legal(p, king, checked, m)
 }

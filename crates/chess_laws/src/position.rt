@@ -229,7 +229,7 @@ impl Position {
     pub fn is_legal(&self, m: Move) -> bool
         ensures legal { IsTrue result ↔ Legal self.now m }
     {
-        is_legal(self.setup(), self.king(self.side()), &m)
+        is_legal(self.setup(), self.king(self.side()), self.in_check(), &m)
     }
 
     /// What kind of half-move a move is, by the man that stands on its first square. It says nothing of whether the move is
@@ -258,7 +258,7 @@ impl Position {
         ensures step { OnTrue result (Step self.old m.now self.new) }
         ensures kept { OnFalse result (self.new ≡ self.old) }
     {
-        let legal = is_legal(self.setup(), self.king(self.side()), m);
+        let legal = is_legal(self.setup(), self.king(self.side()), self.in_check(), m);
         if legal {
             self.play(*m);
         }

@@ -1,0 +1,177 @@
+-- What a move opens: an attack after it was there before, or comes from its target, or runs over the square that it left.
+use Rattle.std.proofs.Common.{◌≡◌, ℕ, zero, suc, ◌<◌, ◌⊎◌, inl, inr, ⊎_elim, Bool, true, false, ltb, Some, None, length, refl, sym, ◌∙◌, ap, arith}
+use Rattle.std.specs.Prelude.{Any}
+use Rattle.std.proofs.lemmas.Bool.{cases_eq, false≢true}
+use Rattle.std.proofs.lemmas.Bool.Decides.{nat_tests}
+use Rattle.cell_core.specs.declared.man.Colour.{Colour}
+use Rattle.cell_core.specs.declared.man.Kind.{Kind}
+use Rattle.cell_core.specs.declared.man.Kind.TheVariants.{King, Queen, Rook, Bishop, Knight, Pawn}
+use Rattle.cell_core.specs.declared.man.Man.{Man}
+use Rattle.cell_core.specs.declared.step.Move.{Move}
+use Rattle.cell_core.specs.Board.{Men, man_at, put}
+use Rattle.cell_core.specs.Man.{man, other}
+use Rattle.chess_laws.specs.declared.setup.Setup.{Setup}
+use Rattle.chess_laws.specs.declared.effect.Effect.{Effect}
+use Rattle.chess_laws.specs.declared.effect.Effect.TheVariants.{Plain, Double, Passing, Castle, Null}
+use Rattle.chess_laws.specs.Geometry.{Offset, Walk, Runs}
+use Rattle.chess_laws.specs.Attacks.{Attacks, AttacksAs, Reaches, IsInCheck}
+use Rattle.chess_laws.specs.Legal.{IsOnlyKing, is_calm, line, glides, slides, king_after}
+use Rattle.chess_laws.specs.Position.{Sound}
+use Rattle.chess_laws.specs.Rays.{Opens, Covers, SlidesFrom, glider, offset_at}
+use Rattle.chess_laws.specs.Step.{effect_of, arriving, moved, board_after, after, Case, Legal}
+use Rattle.chess_laws.proofs.Boards.{man-colour, on_board, put-same, put-other, length-put}
+use Rattle.chess_laws.proofs.Keeping.{arriving-lands, lands_as, moved-other, other-apart}
+use Rattle.chess_laws.proofs.Following.{case-on_board}
+use Rattle.chess_laws.proofs.MovedKings.{only-king-after, king-stays}
+use Rattle.chess_laws.proofs.Lines.{any-slide, slide-any, line-walk}
+
+-- a walk after the move was one before it, or runs over the square that was left
+record Over (men new : Men) (o : Offset) (f a s : ℕ) : Type 0 where
+  before : ℕ
+  first : Walk men o before f a
+  behind : ℕ
+  last : Walk new o behind a s
+
+abbrev Empties : Men → Men → ℕ → Type 0
+Empties men new a = (q : ℕ) → (q ≡ a → ⊥) → man_at new q ≡ None → man_at men q ≡ None
+
+walk-over : (men new : Men) (o : Offset) (a n f s : ℕ) → Empties men new a → Walk new o n f s → Walk men o n f s ⊎ Over men new o f a s
+walk-over men new o a zero f s empties walk = inl walk
+walk-over men new o a (suc n) f s empties (c, step, empty, walk) = elim (cases_eq c a) [
+  | inl here ↦
+      inr (record { before = zero; first = step ∙ ap Some here; behind = n; last = rw here at walk })
+  | inr apart ↦
+      let was : man_at men c ≡ None = empties c apart empty in
+      elim (walk-over men new o a n c s empties walk) [
+        | inl same ↦ inl (c, step, was, same)
+        | inr over ↦ inr (record { before = suc over.before; first = (c, step, was, over.first); behind = over.behind; last = over.last })
+      ]
+]
+
+-- the man that slides over it, seen from there
+slider : (men : Men) (c : Colour) (k : Kind) (row f : ℕ) → glides k row ≡ true → man_at men f ≡ Some (man c k) →
+    (man_at men f ≡ Some (man c (glider row))) ⊎ (man_at men f ≡ Some (man c Queen))
+slider men c King row f is stands = absurd (false≢true is)
+slider men c Queen row f is stands = inr stands
+slider men c Rook row f is stands =
+    let kind : glider row ≡ Rook = rw is in
+    inl (stands ∙ ap (λ k. Some (man c k)) (sym kind))
+slider men c Bishop row f is stands =
+    let high : ltb row 4 ≡ false = grind (arith, nat_tests) in
+    let kind : glider row ≡ Bishop = rw high in
+    inl (stands ∙ ap (λ k. Some (man c k)) (sym kind))
+slider men c Knight row f is stands = absurd (false≢true is)
+slider men c Pawn row f is stands = absurd (false≢true is)
+
+slide-over : (men new : Men) (c : Colour) (k : Kind) (a f s : ℕ) → Empties men new a → f < 64 → man_at men f ≡ Some (man c k) →
+    Any (Runs new f s) (slides k) → Any (Runs men f s) (slides k) ⊎ Opens men c a s
+slide-over men new c k a f s empties less stands any =
+    let slide = any-slide k (Runs new f s) any in
+    let o = offset_at slide.row in
+    elim (walk-over men new o a slide.holds.0 f s empties slide.holds.1) [
+      | inl was ↦ inl (slide-any k (Runs men f s) slide.row slide.less slide.glides (slide.holds.0, was))
+      | inr over ↦
+          inr (record {
+            row = slide.row;
+            less = slide.less;
+            on_line = line-walk new slide.row over.behind a s slide.less over.last;
+            slides = record { from = f; on_board = less; stands = slider men c k slide.row f slide.glides stands; runs = (over.before, over.first) };
+          })
+    ]
+
+-- a man that reached nothing before the move and stands where it stood reaches it over the square that was left
+pub reach-over : (men new : Men) (c : Colour) (k : Kind) (a f s : ℕ) → Empties men new a → f < 64 → man_at men f ≡ Some (man c k) →
+    Reaches new c k f s → Reaches men c k f s ⊎ Opens men c a s
+reach-over men new c King a f s empties less stands reach = inl reach
+reach-over men new c Queen a f s empties less stands reach = slide-over men new c Queen a f s empties less stands reach
+reach-over men new c Rook a f s empties less stands reach = slide-over men new c Rook a f s empties less stands reach
+reach-over men new c Bishop a f s empties less stands reach = slide-over men new c Bishop a f s empties less stands reach
+reach-over men new c Knight a f s empties less stands reach = inl reach
+reach-over men new c Pawn a f s empties less stands reach = inl reach
+
+-- the man that a calm move brings to its target
+pub record Calm (p : Setup) (m : Move) : Type 0 where
+  pub squares : length p.board ≡ 64
+  pub source : m.from < 64
+  pub target : m.to < 64
+  pub kind : Kind
+  pub brings : arriving p m m.promo ≡ Some (man p.side kind)
+
+pub calm : (p : Setup) (m : Move) (e : Effect) → Sound p → effect_of p m ≡ e → is_calm e ≡ true → Case p m e → Calm p m
+calm p m Plain sound is quiet case = record {
+  squares = sound.squares;
+  source = on_board p.board m.from (man p.side case.kind) sound.squares case.stands;
+  target = case-on_board p m Plain sound is case;
+  kind = lands_as case.kind m.promo;
+  brings = arriving-lands p m case.kind m.promo case.stands;
+}
+calm p m Double sound is quiet case = record {
+  squares = sound.squares;
+  source = on_board p.board m.from (man p.side Pawn) sound.squares case.stands;
+  target = case-on_board p m Double sound is case;
+  kind = Pawn;
+  brings = ap (arriving p m) case.promo ∙ case.stands;
+}
+calm p m Passing sound is quiet case = absurd (false≢true quiet)
+calm p m (Castle wing) sound is quiet case = absurd (false≢true quiet)
+calm p m Null sound is quiet case = absurd (false≢true quiet)
+
+calm-board : (p : Setup) (m : Move) (e : Effect) → is_calm e ≡ true → board_after p m e ≡ moved p m
+calm-board p m Plain quiet = refl
+calm-board p m Double quiet = refl
+calm-board p m Passing quiet = absurd (false≢true quiet)
+calm-board p m (Castle wing) quiet = absurd (false≢true quiet)
+calm-board p m Null quiet = absurd (false≢true quiet)
+
+pub calm-lands : (p : Setup) (m : Move) → (c : Calm p m) → man_at (moved p m) m.to ≡ Some (man p.side c.kind)
+calm-lands p m c =
+    put-same (put p.board m.from None) m.to (arriving p m m.promo) (length-put p.board m.from None c.squares) c.target ∙ c.brings
+
+pub calm-empties : (p : Setup) (m : Move) → Calm p m → Empties p.board (moved p m) m.from
+calm-empties p m c q apart empty = elim (cases_eq q m.to) [
+  | inl here ↦
+      let full = calm-lands p m c in
+      let empty' = rw here at empty in
+      absurd (cc)
+  | inr away ↦ sym (moved-other p m q apart away) ∙ empty
+]
+
+-- every man stands where it stood, but for the one on the target
+pub calm-stands : (p : Setup) (m : Move) → Calm p m → (q : ℕ) (x : Man) → (q ≡ m.to → ⊥) → man_at (moved p m) q ≡ Some x → man_at p.board q ≡ Some x
+calm-stands p m c q x away stands = elim (cases_eq q m.from) [
+  | inl here ↦
+      let gone = put-other (put p.board m.from None) m.to q (arriving p m m.promo) away in
+      let empty : man_at (put p.board m.from None) q ≡ None = rw here (put-same p.board m.from None c.squares c.source) in
+      absurd (cc)
+  | inr apart ↦ sym (moved-other p m q apart away) ∙ stands
+]
+
+-- so where the mover's king was safe and no line to it is opened, it is safe
+attack-before : (p : Setup) (m : Move) (s : ℕ) → Calm p m → (Opens p.board (other p.side) m.from s → ⊥) → Attacks (moved p m) (other p.side) s →
+    Attacks p.board (other p.side) s
+attack-before p m s c shut (k, h) =
+    let apart : h.from ≡ m.to → ⊥ = λ e.
+    other-apart p.side (man-colour p.side (other p.side) c.kind k (sym (calm-lands p m c) ∙ ap (man_at (moved p m)) (sym e) ∙ h.stands)) in
+    let was = calm-stands p m c h.from (man (other p.side) k) apart h.stands in
+    elim (reach-over p.board (moved p m) (other p.side) k m.from h.from s (calm-empties p m c) h.on_board was h.reaches) [
+      | inl same ↦ (k, record { from = h.from; on_board = h.on_board; stands = was; reaches = same })
+      | inr opens ↦ absurd (shut opens)
+    ]
+
+pub legal-calm : (p : Setup) (m : Move) (king : ℕ) → Sound p → IsOnlyKing p.board p.side king → Case p m (effect_of p m) → is_calm (effect_of p m) ≡ true →
+    (IsInCheck p.board p.side → ⊥) → Covers p king m.from → Legal p m
+legal-calm p m king sound only case quiet unchecked covers =
+    let c = calm p m (effect_of p m) sound refl quiet case in
+    let board = calm-board p m (effect_of p m) quiet in
+    let next = only-king-after p m king sound only case in
+    let stays = king-stays king m covers.apart in (
+      after p m (effect_of p m),
+      record {
+        allowed = case;
+        becomes = refl;
+        safe = λ check.
+            let at : check.0 ≡ king = next.only check.0 check.1 ∙ stays in
+            let attacked : Attacks (moved p m) (other p.side) king = rw (board, at) at check.2 in
+            unchecked (king, only.stands, attack-before p m king c covers.shut attacked);
+      },
+    )
