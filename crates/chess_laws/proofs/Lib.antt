@@ -21,3 +21,4 @@ pub mod Start
 pub mod Climbing
 pub mod Stepping
 pub mod Initial
+pub mod Deciding

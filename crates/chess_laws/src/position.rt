@@ -44,6 +44,7 @@ impl Model for Position {
 }
 
 impl Position {
+    ghost use Rattle.chess_laws.specs.LegalNow.{attacks_now, in_check_now};
     ghost use Rattle.chess_laws.specs.Position.{Sound, Breaks, setup_of, start_setup, is_start, bits_of};
 
     /// The initial position: White to move, all four rights, no en passant square.
@@ -151,6 +152,7 @@ impl Position {
     /// Whether some man of the colour `by` attacks the square.
     pub fn attacked(&self, by: Colour, s: Square) -> bool
         ensures attacks { IsTrue result ↔ Attacks self.now.board by s }
+        ensures decided { result ≡ attacks_now self.now.board by s }
     {
         attacks(&self.inner.board, by, s)
     }
@@ -158,6 +160,7 @@ impl Position {
     /// Whether the side to move is in check.
     pub fn in_check(&self) -> bool
         ensures check { IsTrue result ↔ IsInCheck self.now.board self.now.side }
+        ensures decided { result ≡ in_check_now self.now.board self.now.side }
     {
         self.attacked(self.inner.side.other(), self.king(self.inner.side))
     }
@@ -222,12 +225,14 @@ fn place(
 
 impl Position {
     ghost use Rattle.chess_laws.specs.declared.setup.Setup.{Setup};
+    ghost use Rattle.chess_laws.specs.LegalNow.{legal_now};
     ghost use Rattle.chess_laws.specs.Step.{effect_of, is_capture, Legal, Step};
     ghost use Rattle.std.specs.Bool.{OnTrue, OnFalse};
 
     /// Whether the move is legal. The null move is legal where the side to move is not in check.
     pub fn is_legal(&self, m: Move) -> bool
         ensures legal { IsTrue result ↔ Legal self.now m }
+        ensures decided { result ≡ legal_now self.now m }
     {
         is_legal(self.setup(), self.king(self.side()), self.in_check(), &m)
     }
