@@ -9,3 +9,4 @@ pub mod Legal
 pub mod Moves
 pub mod Targets
 pub mod LegalNow
+pub mod Checks

@@ -1,0 +1,6 @@
+pub mod BitLemmas
+pub mod FieldLemmas
+pub mod ReadLemmas
+pub mod WrittenLemmas
+pub mod SoundLemmas
+pub mod IndexLemmas

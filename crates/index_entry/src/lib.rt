@@ -1,0 +1,16 @@
+//! The index file: the 47 bytes of a game's entry as plain fields, both ways, and the header in front of the entries.
+#![tactic(auto)]
+
+mod counts;
+mod entry;
+mod fault;
+mod index;
+mod packing;
+mod unpacking;
+
+pub use counts::count_code;
+pub use entry::Entry;
+pub use fault::{EntryFault, IndexFault};
+pub use index::{ENTRY_LEN, HEADER_LEN, IndexHead, entry_of, read_index, write_index};
+pub use packing::pack;
+pub use unpacking::unpack;
