@@ -32,9 +32,9 @@ pub fn rook_home(colour: Colour, wing: Wing) -> Square
     }
 }
 
-/// Where the king goes in castling.
+/// Where the king goes in castling: g1, c1, g8 or c8.
 pub fn king_target(colour: Colour, wing: Wing) -> Square
-    ensures { result ≡ king_target colour wing }
+    ensures square { result ≡ king_target colour wing }
 {
     match (colour, wing) {
         (Colour::White, Wing::KingSide) => Square::at(6),

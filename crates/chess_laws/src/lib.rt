@@ -9,6 +9,7 @@ mod census;
 pub mod effect;
 pub mod fault;
 mod legal;
+mod making;
 mod moves;
 mod next;
 pub mod offset;
@@ -17,7 +18,7 @@ mod rules;
 pub mod setup;
 mod targets;
 
-pub use castling::{rook_home, rook_target};
+pub use castling::{king_target, rook_home, rook_target};
 pub use effect::Effect;
 pub use fault::PlaceFault;
 pub use next::passed_square;

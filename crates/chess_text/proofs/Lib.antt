@@ -4,3 +4,5 @@ pub mod WordLaws
 pub mod FenLaws
 pub mod WritingLaws
 pub mod DigitLaws
+pub mod ShapeLaws
+pub mod SearchLaws

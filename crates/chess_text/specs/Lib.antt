@@ -8,3 +8,7 @@ pub mod Fault
 pub mod Fen
 pub mod FieldReading
 pub mod Written
+pub mod SanShape
+pub mod SanReads
+pub mod SanReading
+pub mod SanSearch

@@ -1,4 +1,4 @@
-//! Why a text is no position.
+//! Why a text is no position, and why it is no move.
 ghost use Rattle.std.specs.Prelude.{◌≡◌};
 ghost use Rattle.chess_text.specs.Fault.{fault_of};
 
@@ -39,4 +39,18 @@ impl From<PlaceFault> for FenFault {
             PlaceFault::EnPassant => FenFault::Field(4),
         }
     }
+}
+
+/// Why a text is no move in Standard Algebraic Notation.
+#[derive(Clone, Copy, Debug, PartialEq, Eq, Error)]
+pub enum SanFault {
+    /// The text is not of the form of a move.
+    #[error("not the text of a move")]
+    Shape,
+    /// No legal move is of the text's form.
+    #[error("no legal move")]
+    NoMove,
+    /// More than one legal move is of the text's form.
+    #[error("ambiguous move")]
+    Two,
 }

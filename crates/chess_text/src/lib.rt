@@ -1,4 +1,4 @@
-//! Chess positions as text: Forsyth-Edwards Notation (FEN).
+//! Chess positions and moves as text: Forsyth-Edwards Notation (FEN) and Standard Algebraic Notation (SAN).
 #![tactic(auto)]
 
 mod fault;
@@ -6,13 +6,20 @@ mod fen;
 mod fields;
 mod letters;
 mod placement;
+mod san_parts;
+mod san_reading;
+mod san_shape;
+mod shape;
 mod squares;
 mod writing;
 
-pub use fault::FenFault;
+pub use fault::{FenFault, SanFault};
 pub use fen::read_fen;
 pub use placement::read_board;
+pub use san_reading::read_san;
 pub use writing::write_fen;
 
+#[cfg(test)]
+mod san_tests;
 #[cfg(test)]
 mod tests;

@@ -1,0 +1,157 @@
+//! Moves read from Standard Algebraic Notation.
+ghost use Rattle.std.specs.Prelude.{◌≡◌, ◌↔◌, IsTrue, IfOk, IfErr, IfSome, MatchOption, MatchResult, Some};
+ghost use Rattle.cell_core.specs.declared.step.Move.{Move};
+ghost use Rattle.chess_laws.specs.Position.{Sound};
+ghost use Rattle.chess_laws.specs.Step.{effect_of, Legal};
+ghost use Rattle.chess_text.specs.declared.fault.SanFault.{SanFault};
+ghost use Rattle.chess_text.specs.declared.shape.Shape.TheVariants.{Castle, Goes, Null};
+ghost use Rattle.chess_text.specs.SanReads.{SanReads, SanFaultOf, Fits, has_own_form};
+ghost use Rattle.chess_text.specs.SanSearch.{AnswersShape, StandsSo, FitsFrom};
+
+use super::fault::SanFault;
+use super::san_shape::shape_of;
+use super::shape::{Going, Shape};
+use cell_core::{Man, Move, Square};
+use chess_laws::{Effect, Position, Setup, Wing, king_target};
+
+/// Reads a move in Standard Algebraic Notation (PGN standard, 8.2.3): `O-O`, `O-O-O`, `0-0`, `0-0-0`, `--` for the null
+/// move, or an optional letter of `KQRBN`, an optional file, an optional rank, an optional `x` or `:`, the target square and
+/// an optional promotion (`=`, which may be left out, and a letter of `QRBN`); then any of `+` and `#`. The signs of capture,
+/// check and mate are not checked.
+///
+/// `Shape` comes exactly where the text is not of this form, `NoMove` where no legal move is of the text's form, and `Two`
+/// where several are.
+pub fn read_san(p: &Position, text: &[u8]) -> Result<Move, SanFault>
+    ensures found { IfOk result (SanReads p.now text.now) }
+    ensures only { (m : Move) → SanReads p.now text.now m → result ≡ Ok m }
+    ensures fault { IfErr result (SanFaultOf p.now text.now) }
+    ensures first { (fault : SanFault) → SanFaultOf p.now text.now fault → result ≡ Err fault }
+{
+    match shape_of(text) {
+        Some(shape) => move_of(p, &shape),
+        None => Err(SanFault::Shape),
+    }
+}
+
+// The one legal move of the shape.
+fn move_of(p: &Position, shape: &Shape) -> Result<Move, SanFault>
+    ensures answers { AnswersShape p.now shape.now result }
+{
+    match shape {
+        Shape::Castle(wing) => castling_of(p, *wing),
+        Shape::Null => null_of(p),
+        Shape::Goes(going) => going_of(p, going),
+    }
+}
+
+// Castling on the wing.
+fn castling_of(p: &Position, wing: Wing) -> Result<Move, SanFault>
+    ensures answers { AnswersShape p.now (Castle wing) result }
+{
+    let side = p.side();
+    let m = Move {
+        from: p.king(side),
+        to: king_target(side, wing),
+        promo: None,
+    };
+    if p.effect(&m) == Effect::Castle(wing) && p.is_legal(m) {
+        Ok(m)
+    } else {
+        Err(SanFault::NoMove)
+    }
+}
+
+// The null move.
+fn null_of(p: &Position) -> Result<Move, SanFault>
+    ensures answers { AnswersShape p.now Null result }
+{
+    let king = p.king(p.side());
+    let number = king.index();
+    let m = Move {
+        from: Square::at(number),
+        to: Square::at(number),
+        promo: None,
+    };
+    if p.effect(&m) == Effect::Null && p.is_legal(m) {
+        Ok(m)
+    } else {
+        Err(SanFault::NoMove)
+    }
+}
+
+// The one man that goes so.
+fn going_of(p: &Position, g: &Going) -> Result<Move, SanFault>
+    ensures answers { AnswersShape p.now (Goes g.now) result }
+{
+    search(p, p.setup(), g)
+}
+
+// The one man that goes so: each square is tried on which such a man stands. The setup is that of the position.
+fn search(p: &Position, setup: &Setup, g: &Going) -> Result<Move, SanFault>
+    requires same { setup.now ≡ p.now }
+    requires sound { Sound p.now }
+    ensures answers { AnswersShape p.now (Goes g.now) result }
+{
+    let mut found = None;
+    for from in 0..64u8 {
+        if let Some(m) = from_square(p, setup, g, Square::at(from)) {
+            if found.is_some() {
+                return Err(SanFault::Two);
+            }
+            found = Some(m);
+        }
+    }
+    found.ok_or(SanFault::NoMove)
+}
+
+// The legal move from the square that goes so.
+fn from_square(p: &Position, setup: &Setup, g: &Going, from: Square) -> Option<Move>
+    requires same { setup.now ≡ p.now }
+    ensures answers { MatchOption result ((m : Move) → Fits p.now (Goes g.now) m → m.from ≡ from → ⊥) (FitsFrom p.now g.now from) }
+{
+    if !stands_so(setup, g, from) {
+        return None;
+    }
+    let m = Move {
+        from,
+        to: g.target,
+        promo: g.promo,
+    };
+    if has_own_form(p.effect(&m)) {
+        return None;
+    }
+    if !p.is_legal(m) {
+        return None;
+    }
+    Some(m)
+}
+
+// Whether such a man stands on the square, as far as the text says where.
+fn stands_so(p: &Setup, g: &Going, s: Square) -> bool
+    ensures answers { IsTrue result ↔ StandsSo p.now g.now s }
+{
+    let man = Man {
+        colour: p.side,
+        kind: g.kind,
+    };
+    p.board.at(s) == Some(man)
+        && is_as_said(s.index() % 8, &g.file)
+        && is_as_said(s.index() / 8, &g.rank)
+}
+
+// Whether a file or a rank is the one that is said, if one is.
+fn is_as_said(line: u8, said: &Option<u8>) -> bool
+    ensures answers { IsTrue result ↔ IfSome said.now (λ wanted. line ≡ wanted) }
+{
+    match said {
+        Some(wanted) => line == *wanted,
+        None => true,
+    }
+}
+
+// Whether the move has a form of its own.
+fn has_own_form(effect: Effect) -> bool
+    ensures exact { result ≡ has_own_form effect }
+{
+    matches!(effect, Effect::Castle(_) | Effect::Null)
+}
