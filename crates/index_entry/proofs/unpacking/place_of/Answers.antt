@@ -1,5 +1,5 @@
 -- The two fields, as they are read.
-use Rattle.std.proofs.Common.{◌≡◌, ◌∙◌, sym, arith}
+use Rattle.std.proofs.Common.{◌≡◌, ◌∙◌, ◌+◌, ◌*◌, ◌/◌, get_or, ap, sym}
 use Rattle.index_entry.specs.Entry.{entry_in}
 use Rattle.index_entry.proofs.ReadLemmas.{offset_read_is, len_read_is}
 use Rattle.index_entry.proofs.unpacking.place_of.Goals as goal
@@ -10,4 +10,4 @@ returns-clause-offset c = c.quad.ensures ∙ sym (offset_read_is c.args.b.now c.
 
 pub returns-clause-len : goal.returns-clause-len
 unfolding entry_in
-returns-clause-len c = ?
+returns-clause-len c = c.split.ensures ∙ ap (λ n. get_or c.args.b.now 6 0 / 128 * 65536 + n) c.word.ensures ∙ sym (len_read_is c.args.b.now c.fits-b)
