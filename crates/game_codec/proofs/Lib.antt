@@ -18,3 +18,6 @@ pub mod WritingLaws
 pub mod DecodeLaws
 pub mod ReadLaws
 pub mod AnswerLaws
+pub mod WalkLaws
+pub mod WalkSteps
+pub mod PassLaws

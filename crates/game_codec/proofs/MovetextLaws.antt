@@ -18,11 +18,11 @@ nest p outer = record { current = p; outer = outer }
 ending-more : (d : ℕ) → ending (d + 1) ≡ Close
 ending-more d = rw add-one refl
 
-ending-inner : (d : ℕ) → 0 < d → ending d ≡ Close
+pub ending-inner : (d : ℕ) → 0 < d → ending d ≡ Close
 ending-inner zero h = absurd (omega (arith, h))
 ending-inner (suc d) h = refl
 
-ending-main : (d : ℕ) → d ≡ 0 → ending d ≡ End
+pub ending-main : (d : ℕ) → d ≡ 0 → ending d ≡ End
 ending-main d h = ap ending h
 
 -- From a movetext to the items

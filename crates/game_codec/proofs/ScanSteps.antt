@@ -40,7 +40,7 @@ HasRead-none start now bytes tokens same none = record {
 }
 
 -- Fewer bytes are left.
-left-drop : (bytes rest : List ℕ) (used : ℕ) → length rest ≤ length bytes → used ≤ length rest → rest ≡ drop (length bytes - length rest) bytes
+pub left-drop : (bytes rest : List ℕ) (used : ℕ) → length rest ≤ length bytes → used ≤ length rest → rest ≡ drop (length bytes - length rest) bytes
     → drop used rest ≡ drop (length bytes - length (drop used rest)) bytes
 left-drop bytes rest used within fits left =
     let sums : length bytes - length rest + used ≡ length bytes - length (drop used rest) = omega (arith, length-drop used rest) in

@@ -6,7 +6,8 @@ use Rattle.game_tree.specs.declared.head.Tag.{Tag}
 use Rattle.game_tree.specs.TagName.{is_free, free_of}
 use Rattle.game_codec.specs.TagSpelling.{BeginsTag, BeginsTags}
 use Rattle.game_codec.specs.TagReading.{tag_at, BreaksTags}
-use Rattle.game_codec.specs.Breach.{TellsBad}
+use Rattle.game_codec.specs.Breach.{Tells, TellsBad}
+use Rattle.game_codec.specs.declared.breach.Breach.{Breach}
 use Rattle.game_codec.specs.declared.breach.Refusal.{Refusal}
 use Rattle.game_codec.specs.declared.breach.Refusal.TheVariants.{Bad, Memory}
 use Rattle.game_codec.specs.declared.fault.RecordWhat.{RecordWhat}
@@ -21,6 +22,17 @@ pub record ReadSoFar (bytes rest : List ℕ) (free : List Tag) : Type 0 where
   pub begins : (more : List Tag) (later : List ℕ) → BeginsTags rest more later → BeginsTags bytes (all ++ more) later
   pub breaks : (more : List Tag) (later : List ℕ) (what : RecordWhat) → BreaksTags rest more later what
       → BreaksTags bytes (all ++ more) later what
+
+-- Of nothing yet.
+pub read_none : (bytes : List ℕ) → ReadSoFar bytes bytes []
+read_none bytes = record {
+  all = [];
+  front = [];
+  spelled = refl;
+  free_are = refl;
+  begins = λ more later begins. begins;
+  breaks = λ more later what breaks. breaks;
+}
 
 pub read_more : (bytes rest later : List ℕ) (free : List Tag) (tag : Tag) → ReadSoFar bytes rest free
     → BeginsTag rest tag later → ReadSoFar bytes later (free ++ free_of (tag ∷ []))
@@ -52,9 +64,13 @@ read_fault : (bytes rest : List ℕ) (free : List Tag) (what : RecordWhat) → R
     → tag_at rest ≡ Err what → (all : List Tag) × BreaksTags bytes all rest what
 read_fault bytes rest free what h fault = (h.all ++ [], h.breaks [] rest what (refl, fault))
 
+pub read_told : (bytes rest : List ℕ) (free : List Tag) (breach : Breach) → ReadSoFar bytes rest free
+    → Tells (λ from what. (from ≡ rest) × (tag_at rest ≡ Err what)) breach
+    → Tells (λ from what. (all : List Tag) × BreaksTags bytes all from what) breach
+read_told bytes rest free breach h (from, left, (here, fault)) = (from, left, rw here (read_fault bytes rest free breach.what h fault))
+
 pub read_refused : (bytes rest : List ℕ) (free : List Tag) (refusal : Refusal) → ReadSoFar bytes rest free
     → TellsBad (λ from what. (from ≡ rest) × (tag_at rest ≡ Err what)) refusal
     → TellsBad (λ from what. (all : List Tag) × BreaksTags bytes all from what) refusal
-read_refused bytes rest free (Bad breach) h (from, left, (here, fault)) =
-    (from, left, rw here (read_fault bytes rest free breach.what h fault))
+read_refused bytes rest free (Bad breach) h told = read_told bytes rest free breach h told
 read_refused bytes rest free Memory h told = tt

@@ -9,7 +9,7 @@ use Rattle.chess_laws.specs.Step.{Step}
 use Rattle.game_tree.specs.Movetext.{Movetext, end}
 use Rattle.game_tree.specs.Legal.{IsLegalLine, AreLegalBranches}
 use Rattle.game_tree.specs.Tree.{Line, ends, goes, Branches, none, more, Played, Variation, line_of, branches_of}
-use Rattle.game_tree.specs.Written.{nags_before, comment_before, movetext_of, variations_before}
+use Rattle.game_tree.specs.Written.{movetext_of_game, nags_before, comment_before, movetext_of, variations_before}
 use Rattle.game_tree.proofs.LegalLemmas.{Step-stepped}
 use Rattle.move_codec.specs.Numbers.{Numbered, numbers_after, text_numbers}
 use Rattle.move_codec.specs.Packed.{encoding}
@@ -19,8 +19,8 @@ use Rattle.chess_text.specs.Written.{fen_text}
 use Rattle.game_codec.specs.Place.{numbered_after}
 use Rattle.game_codec.specs.Start.{standard_start}
 use Rattle.game_codec.specs.Texts.{texts_of, ended}
-use Rattle.game_codec.specs.Written.{IsCommentText, LineHasTexts, BranchesHaveTexts, IsWrittenRecord, body_text, moves_text, own_start, promotion_flags, movetext_of_game, tags_text}
-use Rattle.game_codec.specs.Writing.{comment_text, mark_text, nags_text, node_text, node_texts, variations_text, variations_texts, AddsStart, NodeHasTexts}
+use Rattle.game_codec.specs.Written.{IsWrittenRecord, body_text, moves_text, own_start, promotion_flags, tags_text}
+use Rattle.game_codec.specs.Writing.{comment_text, mark_text, nags_text, node_text, node_texts, variations_text, variations_texts, AddsStart}
 
 -- Moves and marks
 
@@ -137,11 +137,6 @@ legal-more n q line i node left played legal =
     let all : IsLegalLine n.position (line_of (node ∷ drop (i + 1) line)) = subst (λ (ps : List Played). IsLegalLine n.position (line_of ps)) left legal in
     subst (λ (r : Numbered). IsLegalLine r.position (line_of (drop (i + 1) line))) (sym played) all.1.1.1
 
-pub line_texts-more : (line : List Played) (i : ℕ) (node : Played) (all : Type 0) → drop i line ≡ node ∷ drop (i + 1) line → NodeHasTexts node
-    → (LineHasTexts (line_of (drop i line)) → all) → LineHasTexts (line_of (drop (i + 1) line)) → all
-line_texts-more line i node all left has before rest =
-    before (subst (λ (ps : List Played). LineHasTexts (line_of ps)) (sym left) (has.0, (has.1, rest)))
-
 -- behind a line's own comment
 pub texts-lead : (lead : Option (List ℕ)) (line : List Played) (i : ℕ) (old now last : List ℕ) → length line ≤ i → now ≡ old ++ comment_text lead
     → last ++ ended (texts_of (movetext_of (line_of (drop i line)))) ≡ now ++ ended (texts_of (movetext_of (line_of line)))
@@ -191,12 +186,6 @@ branches_legal-more p vs i v left legal =
     let all : AreLegalBranches p (branches_of (v ∷ drop (i + 1) vs)) = subst (λ (ps : List Variation). AreLegalBranches p (branches_of ps)) left legal in
     all.1.1
 
-pub branches_texts-more : (vs : List Variation) (i : ℕ) (v : Variation) (all : Type 0) → drop i vs ≡ v ∷ drop (i + 1) vs
-    → IsCommentText v.lead → LineHasTexts v.line
-    → (BranchesHaveTexts (branches_of (drop i vs)) → all) → BranchesHaveTexts (branches_of (drop (i + 1) vs)) → all
-branches_texts-more vs i v all left lead line before rest =
-    before (subst (λ (ps : List Variation). BranchesHaveTexts (branches_of ps)) (sym left) (lead, (line, rest)))
-
 -- The whole record
 
 -- a start's own bytes, and what was written behind them
@@ -216,20 +205,20 @@ same_body n m s moves texts same moves_are texts_are =
     λ i. (moves_are ∙ ap (λ (k : Numbered). moves_text k k s) same) i ++ 15 ∷ texts_are i
 
 pub record-writes : (tags : List Tag) (g : GameTree) (n : Numbered) (tagged started moved marked all moves texts : List ℕ)
-    → tagged ≡ tags_text tags ++ 0 ∷ [] → AddsStart g.start (promotion_flags g.line) tagged started n
+    → tagged ≡ tags_text tags ++ 0 ∷ [] → AddsStart g.start (promotion_flags g) tagged started n
     → moves ≡ moves_text n n (movetext_of_game g) → texts ≡ ended (texts_of (movetext_of_game g))
     → moved ≡ started ++ moves → marked ≡ moved ++ 15 ∷ [] → all ≡ marked ++ texts → IsWrittenRecord all tags g
 record-writes tags g n tagged started moved marked all moves texts tags_are (inl start) moves_are texts_are put_moves put_end put_texts = record {
-  behind_tags = promotion_flags g.line ∷ (moves ++ 15 ∷ texts);
-  bytes_are = behind_tags tagged (promotion_flags g.line ∷ []) started moved marked all moves texts (tags_text tags) tags_are start.bytes put_moves put_end put_texts;
+  behind_tags = promotion_flags g ∷ (moves ++ 15 ∷ texts);
+  bytes_are = behind_tags tagged (promotion_flags g ∷ []) started moved marked all moves texts (tags_text tags) tags_are start.bytes put_moves put_end put_texts;
   game_is =
       inl (record {
         standard = start.standard;
-        bytes_are = ap (λ (bytes : List ℕ). promotion_flags g.line ∷ bytes) (same_body n standard_start (movetext_of_game g) moves texts start.start_is moves_are texts_are);
+        bytes_are = ap (λ (bytes : List ℕ). promotion_flags g ∷ bytes) (same_body n standard_start (movetext_of_game g) moves texts start.start_is moves_are texts_are);
       });
 }
 record-writes tags g n tagged started moved marked all moves texts tags_are (inr start) moves_are texts_are put_moves put_end put_texts =
-    let flags : ℕ = 1 + promotion_flags g.line in
+    let flags : ℕ = 1 + promotion_flags g in
     let fen : List ℕ = fen_text g.start in
     record {
       behind_tags = (flags ∷ fen ++ 0 ∷ []) ++ (moves ++ 15 ∷ texts);
@@ -244,18 +233,19 @@ record-writes tags g n tagged started moved marked all moves texts tags_are (inr
     }
 
 -- what the code has: the fields of a game
-pub game-writes : (tags : List Tag) (g : GameTree) (start : Setup) (lead : Option (List ℕ)) (items first second : List Played)
-    → record { start = start; lead = lead; line = line_of items } ≡ g → first ≡ items → second ≡ items
+pub game-writes : (tags : List Tag) (g : GameTree) (start : Setup) (lead : Option (List ℕ)) (items line : List Played)
+    → record { start = start; lead = lead; line = line_of items } ≡ g → line ≡ items
     → (n : Numbered) (flags : ℕ) (tagged started moved marked all moves texts : List ℕ)
-    → flags ≡ promotion_flags (line_of first) → tagged ≡ tags_text tags ++ 0 ∷ [] → AddsStart start flags tagged started n
-    → moves ≡ moves_text n n (comment_before lead (movetext_of (line_of second))) → texts ≡ ended (texts_of (comment_before lead (movetext_of (line_of second))))
+    → flags ≡ promotion_flags g → tagged ≡ tags_text tags ++ 0 ∷ [] → AddsStart start flags tagged started n
+    → moves ≡ moves_text n n (comment_before lead (movetext_of (line_of line))) → texts ≡ ended (texts_of (comment_before lead (movetext_of (line_of line))))
     → moved ≡ started ++ moves → marked ≡ moved ++ 15 ∷ [] → all ≡ marked ++ texts → IsWrittenRecord all tags g
-game-writes tags g start lead items first second view first_is second_is n flags tagged started moved marked all moves texts flags_are tags_are adds moves_are texts_are put_moves put_end put_texts =
+game-writes tags g start lead items line view line_is n flags tagged started moved marked all moves texts flags_are tags_are adds moves_are texts_are put_moves put_end put_texts =
+    let made : GameTree = record { start = start; lead = lead; line = line_of items } in
     subst (IsWrittenRecord all tags) view
-    (record-writes tags (record { start = start; lead = lead; line = line_of items }) n tagged started moved marked all moves texts tags_are
-    (subst (λ (k : ℕ). AddsStart start k tagged started n) (flags_are ∙ ap (λ (ps : List Played). promotion_flags (line_of ps)) first_is) adds)
-    (moves_are ∙ ap (λ (ps : List Played). moves_text n n (comment_before lead (movetext_of (line_of ps)))) second_is)
-    (texts_are ∙ ap (λ (ps : List Played). ended (texts_of (comment_before lead (movetext_of (line_of ps))))) second_is)
+    (record-writes tags made n tagged started moved marked all moves texts tags_are
+    (subst (λ (k : ℕ). AddsStart start k tagged started n) (flags_are ∙ sym (ap promotion_flags view)) adds)
+    (moves_are ∙ ap (λ (ps : List Played). moves_text n n (comment_before lead (movetext_of (line_of ps)))) line_is)
+    (texts_are ∙ ap (λ (ps : List Played). ended (texts_of (comment_before lead (movetext_of (line_of ps))))) line_is)
     put_moves put_end put_texts)
 
 -- an own start, part by part

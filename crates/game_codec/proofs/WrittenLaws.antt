@@ -17,7 +17,9 @@ use Rattle.game_tree.specs.Movetext.{Movetext}
 use Rattle.game_tree.specs.Legal.{IsLegalLine, AreLegalBranches, IsLegalGame}
 use Rattle.game_tree.specs.Replay.{stepped}
 use Rattle.game_tree.specs.Tree.{Line, ends, goes, Branches, none, more, depth_of, depth_within}
-use Rattle.game_tree.specs.Written.{nags_before, comment_before, movetext_of, variations_before}
+use Rattle.game_tree.specs.Kept.{IsCommentText, IsLine, AreBranches, IsGame}
+use Rattle.game_tree.specs.Promotions.{has_promotion, has_underpromotion}
+use Rattle.game_tree.specs.Written.{movetext_of_game, nags_before, comment_before, movetext_of, variations_before}
 use Rattle.move_codec.specs.Numbers.{Numbered, AreNumbers}
 use Rattle.move_codec.specs.Packed.{encoding}
 use Rattle.move_codec.proofs.Apart.{encoding-apart}
@@ -26,7 +28,7 @@ use Rattle.move_codec.proofs.Steps.{AreNumbers-step}
 use Rattle.game_codec.specs.Place.{Place, Takes, ending, numbered_after, beginning, after_move, after_comment, variation_of}
 use Rattle.game_codec.specs.Token.{Play}
 use Rattle.game_codec.specs.Moves.{SpellsMoves}
-use Rattle.game_codec.specs.Written.{HasTexts, IsCommentText, LineHasTexts, BranchesHaveTexts, IsWrittenGame, IsWrittenRecord, body_text, line_any, is_promotion, is_underpromotion, moves_text, own_start, promotion_flags, movetext_of_game, tags_text}
+use Rattle.game_codec.specs.Written.{IsWrittenGame, IsWrittenRecord, body_text, moves_text, own_start, promotion_flags, tags_text}
 use Rattle.game_codec.specs.Record.{IsRecord, game_of}
 use Rattle.game_codec.specs.Start.{BeginsStart, standard_start}
 use Rattle.game_codec.specs.TagSpelling.{BeginsTags}
@@ -155,21 +157,21 @@ texts-comment None s is later = later
 texts-comment (Some text) s is later = All-cons IsZeroFree text (texts_of s) is later
 
 mutual
-  texts-line : (l : Line) → LineHasTexts l → All IsZeroFree (texts_of (movetext_of l))
+  texts-line : (l : Line) → IsLine l → All IsZeroFree (texts_of (movetext_of l))
   texts-line ends are = All-nil IsZeroFree
   texts-line (goes m ns comment variations l) are =
       rw (texts-nags ns (comment_before comment (variations_before variations (movetext_of l))))
-      (texts-comment comment (variations_before variations (movetext_of l)) are.0
-      (texts-variations variations (movetext_of l) are.1.0 (texts-line l are.1.1)))
+      (texts-comment comment (variations_before variations (movetext_of l)) are.1.0
+      (texts-variations variations (movetext_of l) are.1.1.0 (texts-line l are.1.1.1)))
 
-  texts-variations : (v : Branches) (s : Movetext) → BranchesHaveTexts v → All IsZeroFree (texts_of s) → All IsZeroFree (texts_of (variations_before v s))
+  texts-variations : (v : Branches) (s : Movetext) → AreBranches v → All IsZeroFree (texts_of s) → All IsZeroFree (texts_of (variations_before v s))
   texts-variations none s are later = later
   texts-variations (more lead line others) s are later =
       All-append IsZeroFree (texts_of (comment_before lead (movetext_of line))) (texts_of (variations_before others s))
       (texts-comment lead (movetext_of line) are.0 (texts-line line are.1.0))
       (texts-variations others s are.1.1 later)
 
-texts-game : (g : GameTree) → HasTexts g → All IsZeroFree (texts_of (movetext_of_game g))
+texts-game : (g : GameTree) → IsGame g → All IsZeroFree (texts_of (movetext_of_game g))
 texts-game g are = texts-comment g.lead (movetext_of g.line) are.lead (texts-line g.line are.line)
 
 -- What a written record says
@@ -188,7 +190,7 @@ set_flag false false = refl
 
 -- the whole record, by its start
 record-of : (bytes : List ℕ) (tags : List Tag) (g : GameTree) (behind : List ℕ) (n : Numbered) → Stands n → n.position ≡ g.start
-    → IsLegalGame g → HasTexts g → All IsTag tags → bytes ≡ tags_text tags ++ 0 ∷ behind
+    → IsLegalGame g → IsGame g → All IsTag tags → bytes ≡ tags_text tags ++ 0 ∷ behind
     → BeginsStart behind n (body_text n (movetext_of_game g)) → IsRecord bytes tags g
 record-of bytes tags g behind n stands same legal has are is begins = record {
   all_tags = tags;
@@ -207,20 +209,20 @@ record-of bytes tags g behind n stands same legal has are is begins = record {
       sym (λ i. game_of (same i) (said i));
 }
 
-pub written-read : (bytes : List ℕ) (tags : List Tag) (g : GameTree) → Sound g.start → IsLegalGame g → HasTexts g → All IsTag tags
+pub written-read : (bytes : List ℕ) (tags : List Tag) (g : GameTree) → IsGame g → IsLegalGame g → All IsTag tags
     → IsWrittenRecord bytes tags g → IsRecord bytes tags g
-written-read bytes tags g sound legal has are written =
+written-read bytes tags g has legal are written =
     elim written.game_is [
       | inl is ↦
           record-of bytes tags g written.behind_tags standard_start
-          (record { sound = subst Sound is.standard sound; numbers = AreNumbers-standard }) (sym is.standard) legal has are written.bytes_are
+          (record { sound = subst Sound is.standard has.start; numbers = AreNumbers-standard }) (sym is.standard) legal has are written.bytes_are
           (subst (λ (b : List ℕ). BeginsStart b standard_start (body_text standard_start (movetext_of_game g))) (sym is.bytes_are)
-          (standard-begins (promotion_flags g.line) (body_text standard_start (movetext_of_game g)) (clear_flag (line_any is_promotion g.line) (line_any is_underpromotion g.line))))
+          (standard-begins (promotion_flags g) (body_text standard_start (movetext_of_game g)) (clear_flag (has_promotion g) (has_underpromotion g))))
       | inr is ↦
           record-of bytes tags g written.behind_tags (own_start g.start)
-          (record { sound = sound; numbers = AreNumbers-text g.start.board sound.squares sound.kings sound.few }) refl legal has are written.bytes_are
+          (record { sound = has.start; numbers = AreNumbers-text g.start.board has.start.squares has.start.kings has.start.few }) refl legal has are written.bytes_are
           (subst (λ (b : List ℕ). BeginsStart b (own_start g.start) (body_text (own_start g.start) (movetext_of_game g))) (sym is.bytes_are)
-          (own-begins (1 + promotion_flags g.line) g.start (body_text (own_start g.start) (movetext_of_game g)) (set_flag (line_any is_promotion g.line) (line_any is_underpromotion g.line)) sound))
+          (own-begins (1 + promotion_flags g) g.start (body_text (own_start g.start) (movetext_of_game g)) (set_flag (has_promotion g) (has_underpromotion g)) has.start))
     ]
 
 -- A game has one written form

@@ -15,3 +15,5 @@ pub mod Writing
 pub mod Nests
 pub mod Adding
 pub mod Flat
+pub mod Walk
+pub mod Walking

@@ -31,3 +31,7 @@ pub record IsRecord (bytes : List ℕ) (tags : List Tag) (game : GameTree) : Typ
   pub then_texts : AreTexts behind_moves (texts_of movetext)
   pub tags_are : tags ≡ free_of all_tags
   pub game_is : game ≡ game_of start.position (meaning movetext)
+
+-- The bytes are a record.
+abbrev pub IsSomeRecord : List ℕ → Type 0
+IsSomeRecord bytes = (tags : List Tag) × ((game : GameTree) × IsRecord bytes tags game)

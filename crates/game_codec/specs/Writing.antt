@@ -11,7 +11,7 @@ use Rattle.move_codec.specs.Numbers.{Numbered}
 use Rattle.move_codec.specs.Packed.{encoding}
 use Rattle.game_codec.specs.Start.{standard_start}
 use Rattle.game_codec.specs.Texts.{texts_of, ended}
-use Rattle.game_codec.specs.Written.{IsCommentText, BranchesHaveTexts, moves_text, own_start}
+use Rattle.game_codec.specs.Written.{moves_text, own_start}
 
 -- the mark of a comment, and its text
 abbrev pub mark_text : Option (List ℕ) → List ℕ
@@ -41,10 +41,6 @@ node_text before node =
 
 abbrev pub node_texts : Played → List ℕ
 node_texts node = comment_text node.comment ++ variations_texts node.variations
-
--- no comment behind the move has a zero byte
-abbrev pub NodeHasTexts : Played → Type 0
-NodeHasTexts node = IsCommentText node.comment × BranchesHaveTexts node.variations
 
 -- the flags and what tells the start were added, and these are the numbers that the men have in the record
 pub record AddsStandard (start : Setup) (flags : ℕ) (old new : List ℕ) (numbered : Numbered) : Type 0 where

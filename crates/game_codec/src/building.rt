@@ -27,9 +27,8 @@ pub(crate) fn build(alloc: Global, tokens: &[Token], bytes: &[u8]) -> Result<Bra
     let mut builder = Builder::new(alloc);
     let mut rest = bytes;
     for token in tokens {
-        let added = add(alloc, builder, token, rest)?;
-        rest = rest.split_at(added.used).1;
-        builder = added.builder;
+        let used = add(alloc, &mut builder, token, rest)?;
+        rest = rest.split_at(used).1;
     }
     if !rest.is_empty() {
         return Err(Refusal::Bad(Breach {
@@ -40,34 +39,27 @@ pub(crate) fn build(alloc: Global, tokens: &[Token], bytes: &[u8]) -> Result<Bra
     Ok(builder.finish()?)
 }
 
-/// The builder after an item, and how many bytes of the texts the item took.
-#[derive(Drop)]
-struct Added {
-    builder: Builder,
-    used: usize,
-}
-
-/// Adds an item, a comment with the text that the bytes begin with.
-fn add(alloc: Global, builder: Builder, token: &Token, bytes: &[u8]) -> Result<Added, Refusal>
-    ensures adds { IfOk result (λ added. Adds (token_of token.now) bytes.now builder added.used added.builder) }
-    ensures used { IfOk result (λ added. added.used ≤ length bytes.now) }
+/// Adds an item, a comment with the text that the bytes begin with, and gives how many bytes of the texts it took.
+fn add(alloc: Global, builder: &mut Builder, token: &Token, bytes: &[u8]) -> Result<usize, Refusal>
+    ensures adds { IfOk result (λ used. Adds (token_of token.now) bytes.now builder.old used builder.new) }
+    ensures used { IfOk result (λ used. used ≤ length bytes.now) }
     ensures lacks { IfErr result (TellsBad (LacksText (token_of token.now) bytes.now)) }
 {
-    let builder = match *token {
+    match *token {
         Token::Comment => return add_comment(alloc, builder, bytes),
         Token::Play(m) => builder.play(alloc, m)?,
         Token::Nag(nag) => builder.nag(nag)?,
         Token::Open => builder.open(alloc)?,
         Token::Close => builder.close()?,
-        Token::End => builder,
-    };
-    Ok(Added { builder, used: 0 })
+        Token::End => {}
+    }
+    Ok(0)
 }
 
 /// Adds a comment with the text that the bytes begin with.
-fn add_comment(alloc: Global, builder: Builder, bytes: &[u8]) -> Result<Added, Refusal>
-    ensures adds { IfOk result (λ added. Adds Comment bytes.now builder added.used added.builder) }
-    ensures used { IfOk result (λ added. added.used ≤ length bytes.now) }
+fn add_comment(alloc: Global, builder: &mut Builder, bytes: &[u8]) -> Result<usize, Refusal>
+    ensures adds { IfOk result (λ used. Adds Comment bytes.now builder.old used builder.new) }
+    ensures used { IfOk result (λ used. used ≤ length bytes.now) }
     ensures lacks { IfErr result (TellsBad (LacksText Comment bytes.now)) }
 {
     let Some(len) = zero_at(bytes) else {
@@ -77,9 +69,6 @@ fn add_comment(alloc: Global, builder: Builder, bytes: &[u8]) -> Result<Added, R
         }));
     };
     let text = Text::from_zero_free(Vec::from_slice(alloc, bytes.split_at(len).0)?);
-    let builder = builder.comment(text)?;
-    Ok(Added {
-        builder,
-        used: len + 1,
-    })
+    builder.comment(text)?;
+    Ok(len + 1)
 }

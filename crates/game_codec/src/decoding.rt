@@ -69,7 +69,7 @@ fn read_record(alloc: Global, bytes: &[u8]) -> Result<(Game, Vec<Tag>), Refusal>
 }
 
 /// The place of a fault, by the length of the record and the number of bytes from the faulty item on.
-fn place_of(len: usize, left: usize, what: RecordWhat) -> u32
+pub(crate) fn place_of(len: usize, left: usize, what: RecordWhat) -> u32
     requires few { len < 2 ^ 32 }
     ensures place { (rest : List ℕ) → length rest ≡ left → result ≡ place_of len rest what }
 {

@@ -1,15 +1,14 @@
 ghost use Rattle.std.specs.Prelude.{◌≡◌, ◌↔◌, ◌<◌, ◌≤◌, ◌⊎◌, ℕ, List, [], ◌∷◌, ◌++◌, All, length, IfOk, IfErr, IsTrue, MatchResult};
-ghost use Rattle.chess_laws.specs.Position.{Sound};
 ghost use Rattle.game_tree.specs.Head.{IsTag};
+ghost use Rattle.game_tree.specs.Kept.{IsGame};
 ghost use Rattle.game_tree.specs.Legal.{IsLegalGame};
 ghost use Rattle.game_codec.specs.Record.{IsRecord};
 ghost use Rattle.game_codec.specs.TagSpelling.{counted};
-ghost use Rattle.game_codec.specs.Written.{HasTexts, IsWrittenRecord, IfTooLong, tags_text};
+ghost use Rattle.game_codec.specs.Written.{IsWrittenRecord, IfTooLong, promotion_flags, tags_text};
 ghost use Rattle.game_codec.specs.Writing.{AddsStart};
 ghost use Rattle.game_codec.specs.declared.fault.EncodeError.TheVariants.{Memory};
 
 use super::fault::EncodeError;
-use super::flags::promotion_flags;
 use super::moves::{Body, put_line};
 use cell_core::Text;
 use chess_laws::{Position, Setup};
@@ -48,12 +47,11 @@ fn whole_record(alloc: Global, g: &Game, tags: &[Tag]) -> Result<Vec<u8>, AllocE
     requires legal { IsLegalGame g.now }
     requires tags { All IsTag tags.now }
     ensures written { IfOk result (λ bytes. IsWrittenRecord bytes.items tags.now g.now) }
-    ensures zero_free { IfOk result (λ _. HasTexts g.now) }
-    ensures sound { IfOk result (λ _. Sound g.now.start) }
+    ensures is_game { IfOk result (λ _. IsGame g.now) }
 {
     let mut out = Vec::new(alloc);
     put_tags(&mut out, tags)?;
-    let flags = promotion_flags(g.line.as_slice());
+    let flags = promotion_flags(g);
     let start = put_start(alloc, &mut out, &g.start, flags)?;
     let mut body = Body::new(alloc);
     put_line(&mut body, &start, &g.lead, g.line.as_slice())?;
@@ -61,6 +59,17 @@ fn whole_record(alloc: Global, g: &Game, tags: &[Tag]) -> Result<Vec<u8>, AllocE
     out.push(15)?;
     out.extend_from_slice(body.texts.as_slice())?;
     Ok(out)
+}
+
+/// The flags that tell of promotions: 2 where there is one in the main line or in a variation, and 4 more where there is
+/// one to another man than a queen.
+fn promotion_flags(g: &Game) -> u8
+    ensures flags { result ≡ promotion_flags g.now }
+    ensures few { result < 8 }
+{
+    let any = if g.has_promotion() { 2 } else { 0 };
+    let under = if g.has_underpromotion() { 4 } else { 0 };
+    any + under
 }
 
 /// Adds the tags with their names written out, and the zero byte behind them.
@@ -97,7 +106,6 @@ fn put_start(
     requires few { flags < 8 }
     ensures start { IfOk result (λ numbered. AddsStart start.now flags out.old.items out.new.items numbered) }
     ensures position { IfOk result (λ numbered. numbered.position ≡ start.now) }
-    ensures sound { IfOk result (λ _. Sound start.now) }
 {
     if is_same_setup(start.setup(), Position::start().setup()) {
         out.push(flags)?;

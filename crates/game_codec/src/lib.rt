@@ -7,10 +7,10 @@ mod building;
 mod decoding;
 mod encoding;
 mod fault;
-mod flags;
 mod moves;
 mod one_reading;
 mod open_lines;
+mod passing;
 mod place;
 mod round_trip;
 mod scanning;
@@ -19,12 +19,14 @@ mod tags;
 mod texts;
 mod token;
 mod tokens;
+mod walk;
 
 pub use decoding::decode_game;
 pub use encoding::encode_game;
 pub use fault::{DecodeError, EncodeError, RecordFault, RecordWhat};
 pub use one_reading::bytes_have_one_reading;
 pub use round_trip::{written_form_is_one, written_records_are_read};
+pub use walk::Walk;
 
 #[cfg(test)]
 mod tests;

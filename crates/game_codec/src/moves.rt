@@ -4,8 +4,8 @@ ghost use Rattle.game_tree.specs.Tree.{line_of, branches_of};
 ghost use Rattle.game_tree.specs.Written.{comment_before, movetext_of};
 ghost use Rattle.game_tree.specs.Legal.{IsLegalLine, AreLegalBranches};
 ghost use Rattle.game_codec.specs.Texts.{texts_of, ended};
-ghost use Rattle.game_codec.specs.Written.{IsCommentText, LineHasTexts, BranchesHaveTexts, moves_text};
-ghost use Rattle.game_codec.specs.Writing.{comment_text, mark_text, nags_text, node_text, node_texts, variations_text, variations_texts, NodeHasTexts};
+ghost use Rattle.game_codec.specs.Written.{moves_text};
+ghost use Rattle.game_codec.specs.Writing.{comment_text, mark_text, nags_text, node_text, node_texts, variations_text, variations_texts};
 
 use cell_core::Text;
 use game_tree::{Branch, Node};
@@ -35,7 +35,6 @@ impl Body {
     fn put_comment(&mut self, comment: &Option<Text>) -> Result<(), AllocError>
         ensures moves { IfOk result (λ _. self.new.moves.items ≡ self.old.moves.items ++ mark_text comment.now) }
         ensures texts { IfOk result (λ _. self.new.texts.items ≡ self.old.texts.items ++ comment_text comment.now) }
-        ensures zero_free { IfOk result (λ _. IsCommentText comment.now) }
     {
         let Some(text) = comment else {
             return Ok(());
@@ -72,7 +71,6 @@ pub(crate) fn put_line(
         ≡ body.old.moves.items ++ moves_text start.now start.now (comment_before lead.now (movetext_of (line_of line.now)))) }
     ensures texts { IfOk result (λ _. body.new.texts.items
         ≡ body.old.texts.items ++ ended (texts_of (comment_before lead.now (movetext_of (line_of line.now))))) }
-    ensures zero_free { IfOk result (λ _. IsCommentText lead.now × LineHasTexts (line_of line.now)) }
 {
     body.put_comment(lead)?;
     let mut position = start.copy();
@@ -90,7 +88,6 @@ fn put_node(body: &mut Body, position: &Numbered, node: &Node) -> Result<(), All
     requires variations { AreLegalBranches position.now.position node.now.variations }
     ensures moves { IfOk result (λ _. body.new.moves.items ≡ body.old.moves.items ++ node_text position.now node.now) }
     ensures texts { IfOk result (λ _. body.new.texts.items ≡ body.old.texts.items ++ node_texts node.now) }
-    ensures zero_free { IfOk result (λ _. NodeHasTexts node.now) }
 {
     let bytes = position.encode_move(node.mv);
     body.moves.extend_from_slice(bytes.as_slice())?;
@@ -110,7 +107,6 @@ fn put_variations(
     requires legal { AreLegalBranches start.now.position (branches_of variations.now) }
     ensures moves { IfOk result (λ _. body.new.moves.items ≡ body.old.moves.items ++ variations_text start.now (branches_of variations.now)) }
     ensures texts { IfOk result (λ _. body.new.texts.items ≡ body.old.texts.items ++ variations_texts (branches_of variations.now)) }
-    ensures zero_free { IfOk result (λ _. BranchesHaveTexts (branches_of variations.now)) }
 {
     for variation in variations {
         body.moves.push(13)?;

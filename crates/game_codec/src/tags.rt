@@ -1,11 +1,11 @@
-ghost use Rattle.std.specs.Prelude.{◌≡◌, ◌+◌, ◌<◌, ◌≤◌, ◌≢◌, List, [], ◌∷◌, ◌++◌, length, drop, Ok, Err, IfOk, IfErr, OnOk, slice_index_or};
+ghost use Rattle.std.specs.Prelude.{◌≡◌, ◌+◌, ◌<◌, ◌≤◌, ◌≢◌, List, [], ◌∷◌, ◌++◌, ℕ, length, drop, Ok, Err, IfOk, IfErr, OnOk, MatchOption, slice_index_or};
 ghost use Rattle.std.specs.List.{list_all};
 ghost use Rattle.std.specs.Bool.{OnTrue};
 ghost use Rattle.cell_core.specs.Text.{IsZeroFree};
 ghost use Rattle.game_tree.specs.TagName.{free_of, is_tag_byte};
 ghost use Rattle.game_tree.specs.declared.head.Tag.{Tag as TagValue};
-ghost use Rattle.game_codec.specs.Breach.{TellsBad};
-ghost use Rattle.game_codec.specs.TagSpelling.{BeginsTags, coded_names};
+ghost use Rattle.game_codec.specs.Breach.{Tells, TellsBad};
+ghost use Rattle.game_codec.specs.TagSpelling.{BeginsTag, BeginsTags, coded_names};
 ghost use Rattle.game_codec.specs.TagReading.{BreaksTags, part_at, value_at, with_name, with_value, date_at, tag_at, is_value_byte};
 ghost use Rattle.game_codec.specs.TagParts.{IsNext, IsParts, tag_of};
 ghost use Rattle.game_codec.specs.declared.fault.RecordWhat.TheVariants as fault;
@@ -63,6 +63,38 @@ pub(crate) fn read_tags(alloc: Global, bytes: &[u8]) -> Result<TagsRead, Refusal
     }
 }
 
+/// How many bytes the extra tags of a record take with the zero byte behind them. Their texts are not kept.
+pub(crate) fn tags_len(bytes: &[u8]) -> Result<usize, Breach>
+    ensures ok { IfOk result (λ used. (all : List TagValue) × BeginsTags bytes.now all (drop used bytes.now)) }
+    ensures used { IfOk result (λ used. used ≤ length bytes.now) }
+    ensures err { IfErr result (Tells (λ rest what. (all : List TagValue) × BreaksTags bytes.now all rest what)) }
+{
+    let mut rest = bytes;
+    loop {
+        match tag_len(rest)? {
+            None => return Ok(bytes.len() - rest.len() + 1),
+            Some(used) => rest = rest.split_at(used).1,
+        }
+    }
+}
+
+// How many bytes the next tag takes, or `None` at the zero byte that ends the tags.
+fn tag_len(bytes: &[u8]) -> Result<Option<usize>, Breach>
+    ensures ok { IfOk result (λ found. MatchOption found ((rest : List ℕ) × (bytes.now ≡ 0 ∷ rest))
+        (λ used. (tag : TagValue) × (BeginsTag bytes.now tag (drop used bytes.now) × ((0 < used) × (used ≤ length bytes.now))))) }
+    ensures err { IfErr result (Tells (λ rest what. (rest ≡ bytes.now) × (tag_at bytes.now ≡ Err what))) }
+{
+    match next_parts(bytes) {
+        Ok(Parts::End) => Ok(None),
+        Ok(Parts::Named { used, .. }) => Ok(Some(1 + used)),
+        Ok(Parts::Dated { .. }) => Ok(Some(4)),
+        Err(what) => Err(Breach {
+            left: bytes.len(),
+            what,
+        }),
+    }
+}
+
 /// Adds a tag, unless its name is reserved.
 fn put_free(tags: &mut Vec<Tag>, tag: Tag) -> Result<(), AllocError>
     ensures free { OnOk result (tags.new.items ≡ tags.old.items ++ free_of (tag ∷ [])) }
@@ -117,6 +149,7 @@ fn tag_of(alloc: Global, name: &[u8], value: &[u8]) -> Result<Tag, AllocError>
 }
 
 /// What the next tag is made of. The bytes used are counted behind its first.
+#[derive(Drop)]
 enum Parts<'a> {
     Named {
         name: &'a [u8],

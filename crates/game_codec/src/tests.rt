@@ -3,7 +3,7 @@ ghost use Rattle.std.specs.Prelude.{All, IfOk};
 ghost use Rattle.game_tree.specs.Head.{IsTag};
 ghost use Rattle.game_tree.specs.Legal.{IsLegalGame};
 
-use super::{DecodeError, EncodeError, RecordFault, RecordWhat, decode_game, encode_game};
+use super::{DecodeError, EncodeError, RecordFault, RecordWhat, Walk, decode_game, encode_game};
 use cell_core::Text;
 use chess_laws::Position;
 use game_tree::{Game, Node, Tag};
@@ -361,4 +361,46 @@ fn one_byte_more(rt: HostRuntime) -> Result<(), Fail> {
         "it is too long"
     );
     Ok(())
+}
+
+/// The walk over a record of at most a thousand bytes.
+fn walk<'a>(bytes: &'a [u8]) -> Result<Walk<'a>, RecordFault> {
+    Walk::new(bytes.split_at(bytes.len().min(1000)).0)
+}
+
+/// Whether the next move of a walk goes from the one square to the other.
+fn plays(walk: &mut Walk<'_>, from: u8, to: u8) -> bool {
+    match walk.step() {
+        Ok(Some(m)) => m.from.index() == from && m.to.index() == to,
+        _ => false,
+    }
+}
+
+/// `1. e4 (1. d4 $14 d5 $15) 1... e5`.
+const VARIED: &[u8] = b"\x00\x00\xcf\x0d\xbf\x0b\x0e\xbf\x0b\x0f\x0e\xcf\x0f";
+
+#[test]
+fn walk_passes_a_variation(rt: HostRuntime) {
+    let Ok(mut walk) = walk(VARIED) else {
+        assert!(rt; false, "it is a record");
+        return;
+    };
+    assert!(rt; plays(&mut walk, 12, 28), "e4");
+    assert!(rt; plays(&mut walk, 52, 36), "e5");
+    assert!(rt; walk.step() == Ok(None), "the game ends");
+    assert!(rt; walk.ply() == 2, "two half-moves");
+}
+
+#[test]
+fn walk_ends_early(rt: HostRuntime) {
+    let Ok(mut walk) = walk(b"\x00\x00\xcf") else {
+        assert!(rt; false, "its tags and its start are there");
+        return;
+    };
+    assert!(rt; plays(&mut walk, 12, 28), "e4");
+    let short = RecordFault {
+        place: 3,
+        what: RecordWhat::Short,
+    };
+    assert!(rt; walk.step() == Err(short), "the record ends");
 }

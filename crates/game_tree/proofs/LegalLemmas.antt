@@ -1,14 +1,13 @@
 -- Legal lines, move by move.
-use Rattle.std.proofs.Common.{◌≡◌, ℕ, ◌+◌, ◌<◌, zero, suc, List, ◌∷◌, Some, length, get_or, take, drop, sym, ap, ◌∙◌, subst, add-one}
+use Rattle.std.proofs.Common.{◌≡◌, ℕ, ◌+◌, ◌<◌, zero, suc, List, ◌∷◌, Some, length, get_or, take, drop, refl, sym, ap, ◌∙◌, subst, add-one, arith}
 use Rattle.std.specs.Prelude.{◌↔◌, fold, slice_get}
 use Rattle.std.proofs.lemmas.List.{drop_more}
-use Rattle.std.proofs.lemmas.Option.{none-some, same_Some}
 use Rattle.cell_core.specs.declared.step.Move.{Move}
 use Rattle.chess_laws.specs.declared.setup.Setup.{Setup}
 use Rattle.chess_laws.specs.Step.{Step}
 use Rattle.game_tree.specs.Tree.{Line, ends, goes, Played, line_of, moves_of}
 use Rattle.game_tree.specs.Game.{GameTree}
-use Rattle.game_tree.specs.Replay.{stepped, next_at, position_at}
+use Rattle.game_tree.specs.Replay.{stepped, plies_of, next_at, position_at}
 use Rattle.game_tree.specs.Legal.{IsComment, IsLegalLine, AreLegalBranches, IsLegalGame}
 
 -- a legal move leads to one position alone
@@ -31,12 +30,11 @@ IsLegalLine-more p q line i n whole under item step comment branches before =
     let with_it = subst (λ (ns : List Played). IsLegalLine p (line_of ns) ↔ whole) left before in
     (λ rest. with_it.0 (one.0 rest), λ all. one.1 (with_it.1 all))
 
-line_steps : (p : Setup) (l : Line) → IsLegalLine p l → (k : ℕ) (m : Move) → slice_get (moves_of l) k ≡ Some m → Step (fold stepped p (take k (moves_of l))) m (fold stepped p (take (suc k) (moves_of l)))
-line_steps p ends legal k m e = absurd (none-some m e)
-line_steps p (goes mv nags comment variations line) legal zero m e =
-    subst (λ (n : Move). Step p n (stepped p mv)) (same_Some mv m e) legal.0
-line_steps p (goes mv nags comment variations line) legal (suc k) m e = line_steps (stepped p mv) line legal.1.1.1 k m e
+line_next : (p : Setup) (l : Line) → IsLegalLine p l → (k : ℕ) → k < length (moves_of l) → (m : Move) × ((slice_get (moves_of l) k ≡ Some m) × Step (fold stepped p (take k (moves_of l))) m (fold stepped p (take (suc k) (moves_of l))))
+line_next p ends legal k under = absurd (omega (arith, under))
+line_next p (goes mv nags comment variations line) legal zero under = (mv, (refl, legal.0))
+line_next p (goes mv nags comment variations line) legal (suc k) under = line_next (stepped p mv) line legal.1.1.1 k (omega (arith, under))
 
--- the replay of a legal game goes by legal moves
-pub IsLegalGame-steps : (g : GameTree) → IsLegalGame g → (k : ℕ) (m : Move) → next_at g k ≡ Some m → Step (position_at g k) m (position_at g (k + 1))
-IsLegalGame-steps g legal k m e = rw add-one (line_steps g.start g.line legal.line k m e)
+-- The replay of a legal game goes by legal moves, one for each ply.
+pub IsLegalGame-next : (g : GameTree) → IsLegalGame g → (k : ℕ) → k < plies_of g → (m : Move) × ((next_at g k ≡ Some m) × Step (position_at g k) m (position_at g (k + 1)))
+IsLegalGame-next g legal k under = rw add-one (line_next g.start g.line legal.line k under)

@@ -1,8 +1,15 @@
+pub mod NameLemmas
 pub mod DecimalLemmas
 pub mod EcoLemmas
 pub mod DateLemmas
+pub mod TagNameLemmas
 pub mod SettleLemmas
+pub mod TagListLemmas
+pub mod TagEditLemmas
 pub mod BuildingLemmas
+pub mod KeptLemmas
+pub mod CountLemmas
+pub mod CommentLemmas
 pub mod MovetextLemmas
 pub mod TreeLemmas
 pub mod LegalLemmas

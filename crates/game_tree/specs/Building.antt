@@ -43,10 +43,24 @@ bare m = record { mv = m; nags = []; comment = None; variations = none }
 abbrev pub with_move : Played → Open → Open
 with_move p o = record { lead = o.lead; done = and_last o.done o.last; last = Some p }
 
+-- a move with one more NAG, with more of its comment, and with one more variation behind the others
+abbrev pub more_nags : ℕ → Played → Played
+more_nags n p = record { mv = p.mv; nags = p.nags ++ n ∷ []; comment = p.comment; variations = p.variations }
+
+abbrev pub more_comment : Option (List ℕ) → Played → Played
+more_comment t p = record { mv = p.mv; nags = p.nags; comment = joined p.comment t; variations = p.variations }
+
+abbrev pub with_branch : Branches → Variation → Branches
+with_branch none v = more v.lead v.line none
+with_branch (more lead line others) v = more lead line (with_branch others v)
+
+abbrev pub more_variations : Variation → Played → Played
+more_variations v p = record { mv = p.mv; nags = p.nags; comment = p.comment; variations = with_branch p.variations v }
+
 -- a NAG belongs to the last move
 abbrev pub with_nag_on : ℕ → Option Played → Option Played
 with_nag_on n None = None
-with_nag_on n (Some p) = Some (record { mv = p.mv; nags = p.nags ++ n ∷ []; comment = p.comment; variations = p.variations })
+with_nag_on n (Some p) = Some (more_nags n p)
 
 abbrev pub with_nag : ℕ → Open → Open
 with_nag n o = record { lead = o.lead; done = o.done; last = with_nag_on n o.last }
@@ -54,21 +68,15 @@ with_nag n o = record { lead = o.lead; done = o.done; last = with_nag_on n o.las
 -- a comment belongs to the last move, or to the line where there is none yet
 abbrev pub with_comment_on : Option (List ℕ) → Option (List ℕ) → List Played → Option Played → Open
 with_comment_on t lead done None = record { lead = joined lead t; done = done; last = None }
-with_comment_on t lead done (Some p) =
-    record { lead = lead; done = done; last = Some (record { mv = p.mv; nags = p.nags; comment = joined p.comment t; variations = p.variations }) }
+with_comment_on t lead done (Some p) = record { lead = lead; done = done; last = Some (more_comment t p) }
 
 abbrev pub with_comment : List ℕ → Open → Open
 with_comment t o = with_comment_on (as_comment t) o.lead o.done o.last
 
--- the variations with one more behind them
-abbrev pub with_branch : Branches → Variation → Branches
-with_branch none v = more v.lead v.line none
-with_branch (more lead line others) v = more lead line (with_branch others v)
-
 -- a variation belongs to the last move
 abbrev pub with_variation_on : Variation → Option Played → Option Played
 with_variation_on v None = None
-with_variation_on v (Some p) = Some (record { mv = p.mv; nags = p.nags; comment = p.comment; variations = with_branch p.variations v })
+with_variation_on v (Some p) = Some (more_variations v p)
 
 abbrev pub with_variation : Variation → Open → Open
 with_variation v o = record { lead = o.lead; done = o.done; last = with_variation_on v o.last }

@@ -2,6 +2,7 @@
 -- variations, and a line's own comment before its first move (PGN standard, 8.2).
 use Rattle.std.specs.Prelude.{ℕ, List, [], ◌∷◌, Option, Some, None}
 use Rattle.game_tree.specs.Tree.{Line, ends, goes, Branches, none, more}
+use Rattle.game_tree.specs.Game.{GameTree}
 use Rattle.game_tree.specs.Movetext.{Movetext, end, move, nag, comment, variation}
 use Rattle.game_tree.specs.Legal.{IsComment}
 
@@ -22,6 +23,10 @@ abbrev mutual
   pub variations_before : Branches → Movetext → Movetext
   variations_before none s = s
   variations_before (more lead line others) s = variation (comment_before lead (movetext_of line)) (variations_before others s)
+
+-- The movetext of a game: its comment, and its main line.
+abbrev pub movetext_of_game : GameTree → Movetext
+movetext_of_game game = comment_before game.lead (movetext_of game.line)
 
 -- no comment of a line is empty
 abbrev mutual

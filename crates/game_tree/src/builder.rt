@@ -1,4 +1,5 @@
-ghost use Rattle.std.specs.Prelude.{◌≡◌, ◌↔◌, ◌<◌, [], length, IsTrue, IsSome, IfOk, List, ℕ, Option};
+//! The builder of trees.
+ghost use Rattle.std.specs.Prelude.{◌≡◌, ◌↔◌, ◌<◌, [], length, IsTrue, IsSome, IfOk, OnOk, List, ℕ, Option};
 ghost use Rattle.game_tree.specs.Item.{Item};
 ghost use Rattle.game_tree.specs.Item as item;
 ghost use Rattle.game_tree.specs.Movetext.{Movetext, items_of, meaning};
@@ -12,11 +13,12 @@ use super::open_line::OpenLine;
 use cell_core::{Move, Text};
 use std::alloc::{AllocError, Global};
 use std::marker::Model;
+use std::mem::replace;
 
 /// Makes the tree of a game from its items in the order in which they are written: moves, NAGs, comments,
 /// and variations between their brackets (PGN standard, section 8.2). It has a stack of the lines that are open.
 ///
-/// Each method takes the builder and gives it back, so that nothing is left of it after want of memory.
+/// After want of memory the builder is spent: what it holds then is not told.
 #[derive(Debug, Drop)]
 pub struct Builder {
     current: OpenLine,
@@ -60,57 +62,45 @@ impl Builder {
     }
 
     /// Adds a move to the innermost line.
-    pub fn play(self, alloc: Global, mv: Move) -> Result<Builder, AllocError>
-        ensures added { IfOk result (λ after. after ≡ added (item.move mv) self) }
+    pub fn play(&mut self, alloc: Global, mv: Move) -> Result<(), AllocError>
+        ensures added { OnOk result (self.new ≡ added (item.move mv) self.old) }
     {
-        let Builder { current, outer } = self;
-        let current = current.play(alloc, mv)?;
-        Ok(Builder { current, outer })
+        self.current.play(alloc, mv)
     }
 
     /// Adds a NAG (numeric annotation glyph) to the last move of the innermost line. Where the line has no move, nothing changes.
-    pub fn nag(self, nag: u8) -> Result<Builder, AllocError>
-        ensures added { IfOk result (λ after. after ≡ added (item.nag nag) self) }
+    pub fn nag(&mut self, nag: u8) -> Result<(), AllocError>
+        ensures added { OnOk result (self.new ≡ added (item.nag nag) self.old) }
     {
-        let Builder { current, outer } = self;
-        let current = current.nag(nag)?;
-        Ok(Builder { current, outer })
+        self.current.nag(nag)
     }
 
     /// Adds a comment to the last move of the innermost line, or to the line's beginning where it has no move yet. An
     /// empty text is no comment. Comments at one place are joined with a space.
-    pub fn comment(self, text: Text) -> Result<Builder, AllocError>
-        ensures added { IfOk result (λ after. after ≡ added (item.comment text) self) }
+    pub fn comment(&mut self, text: Text) -> Result<(), AllocError>
+        ensures added { OnOk result (self.new ≡ added (item.comment text) self.old) }
     {
-        let Builder { current, outer } = self;
-        let current = current.comment(text)?;
-        Ok(Builder { current, outer })
+        self.current.comment(text)
     }
 
     /// Begins a variation of the last move of the innermost line.
-    pub fn open(self, alloc: Global) -> Result<Builder, AllocError>
-        ensures added { IfOk result (λ after. after ≡ added item.opens self) }
+    pub fn open(&mut self, alloc: Global) -> Result<(), AllocError>
+        ensures added { OnOk result (self.new ≡ added item.opens self.old) }
     {
-        let Builder { current, mut outer } = self;
-        outer.push(current)?;
-        Ok(Builder {
-            current: OpenLine::new(alloc),
-            outer,
-        })
+        let round = replace(&mut self.current, OpenLine::new(alloc));
+        self.outer.push(round)?;
+        Ok(())
     }
 
     /// Ends the innermost variation. Where none is open, nothing changes.
-    pub fn close(self) -> Result<Builder, AllocError>
-        ensures added { IfOk result (λ after. after ≡ added item.closes self) }
+    pub fn close(&mut self) -> Result<(), AllocError>
+        ensures added { OnOk result (self.new ≡ added item.closes self.old) }
     {
-        let Builder { current, mut outer } = self;
-        match outer.pop() {
-            None => Ok(Builder { current, outer }),
-            Some(round) => {
-                let current = round.vary(current.finish()?)?;
-                Ok(Builder { current, outer })
-            }
+        if let Some(round) = self.outer.pop() {
+            let inner = replace(&mut self.current, round);
+            self.current.vary(inner.finish()?)?;
         }
+        Ok(())
     }
 
     /// The line that was read, with the comment before its first move, where no variation is open. What was read from the

@@ -1,5 +1,7 @@
+//! Games.
 ghost use Rattle.std.specs.Prelude.{◌≡◌, ◌<◌, ◌^◌, length, IfOk};
 ghost use Rattle.game_tree.specs.Tree.{line_of, moves_of};
+ghost use Rattle.game_tree.specs.Kept.{IsGame};
 ghost use Rattle.game_tree.specs.Replay.{main_moves, plies_of};
 
 use super::node::Node;
@@ -20,12 +22,15 @@ pub struct Game {
 impl Model for Game {
     ghost use Rattle.game_tree.specs.Tree.{line_of};
     ghost use Rattle.game_tree.specs.Game.{GameTree, coded_game};
+    ghost use Rattle.game_tree.specs.Kept.{IsGame};
 
     ghost Value = { GameTree };
 
     ghost coded = { coded_game };
 
     ghost view = { λ g. record { start = g.start; lead = g.lead; line = line_of g.line.items } };
+
+    ghost invariant = { λ g. IsGame (record { start = g.start; lead = g.lead; line = line_of g.line.items }) };
 }
 
 /// The moves of the main line.
@@ -33,7 +38,7 @@ pub fn main_line(alloc: Global, g: &Game) -> Result<Vec<Move>, AllocError>
     ensures moves { IfOk result (λ moves. moves.items ≡ main_moves g.now) }
 {
     let line = g.line.as_slice();
-    let mut moves = Vec::new(alloc);
+    let mut moves = Vec::with_capacity(alloc, line.len())?;
     for node in line {
         moves.push(node.mv)?;
     }
@@ -44,6 +49,8 @@ pub fn main_line(alloc: Global, g: &Game) -> Result<Vec<Move>, AllocError>
 pub fn plies(g: &Game) -> u32
     requires { plies_of g.now < 2 ^ 32 }
     ensures plies { result ≡ plies_of g.now }
+    // What every game keeps.
+    ensures is_game { IsGame g.now }
 {
     count(g.line.as_slice())
 }

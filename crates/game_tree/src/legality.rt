@@ -1,8 +1,11 @@
-ghost use Rattle.std.specs.Prelude.{◌≡◌, ◌↔◌, ◌≤◌, ◌+◌, ℕ, IsTrue};
+//! Which games are legal.
+ghost use Rattle.std.specs.Prelude.{◌≡◌, ◌↔◌, ◌<◌, ◌≤◌, ◌+◌, ℕ, List, Some, None, IsTrue};
 ghost use Rattle.cell_core.specs.declared.step.Move.{Move};
 ghost use Rattle.chess_laws.specs.Step.{Step};
-ghost use Rattle.game_tree.specs.Replay.{position_at, next_at};
+ghost use Rattle.game_tree.specs.Replay.{main_moves, plies_of, position_at, next_at};
 ghost use Rattle.game_tree.specs.Tree.{line_of, branches_of, depth_of, depth_within};
+ghost use Rattle.game_tree.specs.Comments.{with_comments, KeepsTexts};
+ghost use Rattle.game_tree.specs.Game.{GameTree};
 ghost use Rattle.game_tree.specs.Legal.{IsComment, IsLegalLine, AreLegalBranches, IsLegalGame};
 
 use super::game::Game;
@@ -15,9 +18,11 @@ use chess_laws::Position;
 pub fn legal(g: &Game) -> bool
     ensures legal { IsTrue result ↔ IsLegalGame g.now }
 
-    // The replay of a legal game goes from each position to the next by the legal move between them.
-    ensures replay { IsTrue result → (k : ℕ) (m : Move) → next_at g.now k ≡ Some m
-        → Step (position_at g.now k) m (position_at g.now (k + 1)) }
+    // The replay of a legal game goes from each position to the next by the legal move between them, and ends behind the
+    // last.
+    ensures replay { IsTrue result → (k : ℕ) → k < plies_of g.now
+        → (m : Move) × ((next_at g.now k ≡ Some m) × Step (position_at g.now k) m (position_at g.now (k + 1))) }
+    ensures ends { (position_at g.now 0 ≡ g.now.start) × (next_at g.now (plies_of g.now) ≡ None) }
 {
     is_legal_game(g)
 }
@@ -106,3 +111,11 @@ fn are_legal_branches(position: &Position, branches: &[Branch]) -> bool
     }
     true
 }
+
+/// A law: other texts in the comments of a game, none of them empty, leave its moves and the depth of its variations as
+/// they are, and leave a legal game legal.
+pub fn comments_leave_the_moves()
+    ensures moves { (f : List ℕ → List ℕ) (game : GameTree) → main_moves (with_comments f game) ≡ main_moves game }
+    ensures depth { (f : List ℕ → List ℕ) (game : GameTree) → depth_of (with_comments f game).line ≡ depth_of game.line }
+    ensures legal { (f : List ℕ → List ℕ) (game : GameTree) → KeepsTexts f → IsLegalGame game → IsLegalGame (with_comments f game) }
+{}

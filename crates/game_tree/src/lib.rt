@@ -4,7 +4,7 @@
 
 pub mod bounds;
 pub mod builder;
-mod copying;
+mod counts;
 pub mod date;
 mod decimal;
 mod eco;
@@ -16,11 +16,13 @@ mod open_line;
 mod outcome;
 mod promotions;
 pub mod settling;
+mod tag_edit;
 pub mod tag_name;
 pub mod tags;
 
 pub use bounds::{are_bounded, is_name};
 pub use builder::Builder;
+pub use counts::Counts;
 pub use date::Date;
 pub use decimal::read_decimal;
 pub use eco::{eco_text, read_eco};
@@ -29,7 +31,8 @@ pub use head::{Head, HeadRef, Outcome, Rating, Tag};
 pub use legality::legal;
 pub use node::{Branch, Node};
 pub use settling::settle;
-pub use tag_name::{is_reserved, is_tag_byte, is_tag_name};
+pub use tag_edit::{TagEdit, TagEditError, apply};
+pub use tag_name::{is_refused, is_reserved, is_tag_byte, is_tag_name, rating_of, rating_tag};
 pub use tags::Tags;
 
 #[cfg(test)]

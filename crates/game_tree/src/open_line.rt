@@ -1,15 +1,15 @@
-ghost use Rattle.std.specs.Prelude.{◌≡◌, List, ℕ, Option, Some, IsSome, IfOk, IsTrue, ◌↔◌};
+//! A line while its items are read.
+ghost use Rattle.std.specs.Prelude.{◌≡◌, ◌↔◌, ◌++◌, ◌∷◌, [], List, ℕ, Option, Some, IsSome, IfOk, OnOk, IsTrue};
 ghost use Rattle.game_tree.specs.Tree.{Variation, line_of};
-ghost use Rattle.game_tree.specs.Movetext.{joined};
 ghost use Rattle.game_tree.specs.Building.{fresh, bare, with_move, with_nag, with_comment, with_variation, read_line, and_last};
 
-use super::node::{Branch, Node};
+use super::node::{Branch, Node, join};
 use cell_core::{Move, Text};
 use std::alloc::{AllocError, Global};
 use std::marker::Model;
 
-/// A line while it is read. The last move stands apart, since what follows may still belong to it. Each method takes the
-/// line and gives it back, so that nothing is left of it after want of memory.
+/// A line while it is read. The last move stands apart, since what follows may still belong to it. After want of memory it
+/// is spent.
 #[derive(Debug, Drop)]
 pub(crate) struct OpenLine {
     lead: Option<Text>,
@@ -18,13 +18,17 @@ pub(crate) struct OpenLine {
 }
 
 impl Model for OpenLine {
-    ghost use Rattle.game_tree.specs.Building.{Open, coded_open};
+    ghost use Rattle.std.specs.Prelude.{List, ℕ};
+    ghost use Rattle.game_tree.specs.Building.{Open, coded_open, variation_of};
+    ghost use Rattle.game_tree.specs.Kept.{IsVariation};
 
     ghost Value = { Open };
 
     ghost coded = { coded_open };
 
     ghost view = { λ o. record { lead = o.lead; done = o.done.items; last = o.last } };
+
+    ghost invariant = { λ o. IsVariation (variation_of (record { lead = o.lead; done = o.done.items; last = o.last })) };
 }
 
 impl OpenLine {
@@ -47,103 +51,48 @@ impl OpenLine {
     }
 
     /// Adds a move.
-    pub(crate) fn play(self, alloc: Global, mv: Move) -> Result<OpenLine, AllocError>
-        ensures played { IfOk result (λ line. line ≡ with_move (bare mv) self) }
+    pub(crate) fn play(&mut self, alloc: Global, mv: Move) -> Result<(), AllocError>
+        ensures played { OnOk result (self.new ≡ with_move (bare mv) self.old) }
     {
-        let OpenLine { lead, done, last } = self;
-        let done = with_last(done, last)?;
-        let last = Node {
-            mv,
-            nags: Vec::new(alloc),
-            comment: None,
-            variations: Vec::new(alloc),
+        let Some(before) = self.last.replace(Node::new(alloc, mv)) else {
+            return Ok(());
         };
-        Ok(OpenLine {
-            lead,
-            done,
-            last: Some(last),
-        })
+        self.done.push(before)?;
+        Ok(())
     }
 
     /// Adds a NAG to the last move.
-    pub(crate) fn nag(self, nag: u8) -> Result<OpenLine, AllocError>
-        ensures nag_added { IfOk result (λ line. line ≡ with_nag nag self) }
+    pub(crate) fn nag(&mut self, nag: u8) -> Result<(), AllocError>
+        ensures nag_added { OnOk result (self.new ≡ with_nag nag self.old) }
     {
-        let OpenLine { lead, done, last } = self;
-        match last {
-            None => Ok(OpenLine {
-                lead,
-                done,
-                last: None,
-            }),
-            Some(mut node) => {
-                node.nags.push(nag)?;
-                Ok(OpenLine {
-                    lead,
-                    done,
-                    last: Some(node),
-                })
-            }
+        if let Some(node) = &mut self.last {
+            return node.add_nag(nag);
         }
+        Ok(())
     }
 
     /// Adds a comment to the last move, or to the line where there is none yet.
-    pub(crate) fn comment(self, text: Text) -> Result<OpenLine, AllocError>
-        ensures commented { IfOk result (λ line. line ≡ with_comment text self) }
+    pub(crate) fn comment(&mut self, text: Text) -> Result<(), AllocError>
+        ensures commented { OnOk result (self.new ≡ with_comment text self.old) }
     {
         if text.is_empty() {
-            return Ok(self);
+            return Ok(());
         }
-        let OpenLine { lead, done, last } = self;
-        match last {
-            None => Ok(OpenLine {
-                lead: Some(with_text(lead, text)?),
-                done,
-                last: None,
-            }),
-            Some(node) => {
-                let Node {
-                    mv,
-                    nags,
-                    comment,
-                    variations,
-                } = node;
-                let comment = Some(with_text(comment, text)?);
-                Ok(OpenLine {
-                    lead,
-                    done,
-                    last: Some(Node {
-                        mv,
-                        nags,
-                        comment,
-                        variations,
-                    }),
-                })
-            }
+        if let Some(node) = &mut self.last {
+            return node.add_comment(text);
         }
+        self.lead = Some(join(self.lead.take(), text)?);
+        Ok(())
     }
 
     /// Hangs a variation on the last move.
-    #[tactic(auto, using(crate::proofs::BuildingLemmas::building))]
-    pub(crate) fn vary(self, branch: Branch) -> Result<OpenLine, AllocError>
-        ensures varied { IfOk result (λ line. line ≡ with_variation branch self) }
+    pub(crate) fn vary(&mut self, branch: Branch) -> Result<(), AllocError>
+        ensures varied { OnOk result (self.new ≡ with_variation branch self.old) }
     {
-        let OpenLine { lead, done, last } = self;
-        match last {
-            None => Ok(OpenLine {
-                lead,
-                done,
-                last: None,
-            }),
-            Some(mut node) => {
-                node.variations.push(branch)?;
-                Ok(OpenLine {
-                    lead,
-                    done,
-                    last: Some(node),
-                })
-            }
+        if let Some(node) = &mut self.last {
+            return node.add_variation(branch);
         }
+        Ok(())
     }
 
     /// The line as far as it was read, as a variation.
@@ -151,33 +100,14 @@ impl OpenLine {
         ensures lead { IfOk result (λ branch. branch.lead ≡ self.lead) }
         ensures line { IfOk result (λ branch. branch.line ≡ read_line self) }
     {
-        let OpenLine { lead, done, last } = self;
-        let line = with_last(done, last)?;
-        Ok(Branch { lead, line })
-    }
-}
-
-// The moves with the last one behind them.
-fn with_last(mut done: Vec<Node>, last: Option<Node>) -> Result<Vec<Node>, AllocError>
-    ensures { IfOk result (λ all. all.items ≡ and_last done.items last) }
-{
-    if let Some(node) = last {
-        done.push(node)?;
-    }
-    Ok(done)
-}
-
-// A comment with a text of at least one byte behind it, after a space.
-fn with_text(comment: Option<Text>, text: Text) -> Result<Text, AllocError>
-    ensures { IfOk result (λ both. Some both ≡ joined comment (Some text)) }
-{
-    match comment {
-        None => Ok(text),
-        Some(before) => {
-            let mut bytes = before.into_bytes();
-            bytes.push(b' ')?;
-            bytes.extend_from_slice(text.as_bytes())?;
-            Ok(Text::from_zero_free(bytes))
+        let OpenLine {
+            lead,
+            done: mut line,
+            last,
+        } = self;
+        if let Some(node) = last {
+            line.push(node)?;
         }
+        Ok(Branch { lead, line })
     }
 }

@@ -277,7 +277,7 @@ fn mv(from: u8, to: u8) -> Move {
     }
 }
 
-// A line as text: the squares of a move, its glyphs, its comment, and its variations in brackets.
+// A line as text: the squares of a move, its NAGs, its comment, and its variations in brackets.
 #[cycle(printing)]
 fn print_line(alloc: Global, line: &[Node], out: &mut Vec<u8>) -> Result<(), AllocError> {
     for node in line {
@@ -305,11 +305,11 @@ fn print_branches(alloc: Global, branches: &[Branch], out: &mut Vec<u8>) -> Resu
     Ok(())
 }
 
-// Reads a game: a move is its two squares, `!` the glyph 1, `(` and `)` a variation, and other letters a comment.
+// Reads a game: a move is its two squares, `!` a NAG, `(` and `)` a variation, and other letters a comment.
 fn game(alloc: Global, written: &[(u8, u8)]) -> Result<Game, Fail> {
     let mut builder = Builder::new(alloc);
     for (what, to) in written {
-        builder = match what {
+        match what {
             b'!' => builder.nag(*to)?,
             b'(' => builder.open(alloc)?,
             b')' => builder.close()?,
@@ -371,19 +371,18 @@ const PRINTED: [u8; 21] = [
 
 #[test]
 fn items_make_a_tree(rt: HostRuntime) -> Result<(), Fail> {
-    // a comment of the game, glyphs and comments of a move, an empty variation with a comment, and nested variations
+    // A comment of the game, NAGs and comments of a move, an empty variation with a comment, and nested variations
     let game = game(rt.alloc(), &ITEMS)?;
     let moves = main_line(rt.alloc(), &game)?;
     assert!(rt; moves.as_slice() == [mv(12, 28), mv(52, 36)].as_slice());
     assert!(rt; game.line.len() == 2);
-    let copy = game.copied(rt.alloc())?;
     assert!(rt;
-        copy.lead
+        game.lead
             .as_ref()
             .is_some_and(|lead| lead.as_bytes() == b"s".as_slice())
     );
     let mut out = Vec::new(rt.alloc());
-    print_line(rt.alloc(), copy.line.as_slice(), &mut out)?;
+    print_line(rt.alloc(), game.line.as_slice(), &mut out)?;
     assert!(rt; out.as_slice() == PRINTED.as_slice());
     Ok(())
 }

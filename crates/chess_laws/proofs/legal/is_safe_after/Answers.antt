@@ -1,5 +1,4 @@
 -- After an allowed move the mover's one king stands where it is looked for.
-use Rattle.std.proofs.Common.{sym}
 use Rattle.chess_laws.proofs.MovedKings.{only-king-after}
 use Rattle.chess_laws.proofs.legal.is_safe_after.Goals as goal
 
@@ -7,4 +6,4 @@ pub is_in_check-requires : goal.is_in_check-requires
 is_in_check-requires c =
     let case' = rw c.requires.effect at c.requires.allowed in
     let king = only-king-after c.args.p.now c.args.m.now c.args.king c.requires.sound c.requires.king case' in
-    record { king = rw (c.board_after-board.ensures, c.requires.effect, c.king_after.ensures) king }
+    record { king = rw (c.change_board.ensures.board, c.requires.effect, c.king_after.ensures) king }

@@ -7,8 +7,8 @@ use Rattle.game_codec.proofs.building.build.Goals as goal
 
 pub loop-token-preserved : goal.loop-token-preserved
 loop-token-preserved c =
-    IsBuilt-step c.args.tokens.now c.loop-token.token-index c.args.bytes.now c.loop-token.rest.now c.loop-token.builder c.token-item.result c.in_ok-added.added.used c.split_at.result.1.now c.in_ok-added.added.builder
-    c.loop-token-test.true c.token-item.is c.in_ok-added.ensures.adds c.split_at.ensures.back c.loop-token.invariant
+    IsBuilt-step c.args.tokens.now c.loop-token.token-index c.args.bytes.now c.loop-token.rest.now c.loop-token.builder c.token-item.result c.in_ok-used.used c.split_at.result.1.now c.add.new.builder
+    c.loop-token-test.true c.token-item.is c.in_ok-used.ensures.adds c.split_at.ensures.back c.loop-token.invariant
 
 pub finish-requires : goal.finish-requires
 finish-requires c =

@@ -2,9 +2,9 @@ use Rattle.std.proofs.Common.{◌≡◌, ℕ, ◌++◌, List, ap, subst, ◌∙�
 use Rattle.game_tree.specs.Tree.{Played, Variation, line_of}
 use Rattle.game_tree.specs.Written.{comment_before, movetext_of}
 use Rattle.game_codec.specs.Texts.{ended, texts_of}
-use Rattle.game_codec.specs.Written.{IsCommentText, LineHasTexts, moves_text}
+use Rattle.game_codec.specs.Written.{moves_text}
 use Rattle.game_codec.specs.Place.{numbered_after}
-use Rattle.game_codec.proofs.WritingLaws.{left_more, numbered-played, moves-more, texts-more, legal-more, line_texts-more, texts-lead, variations-more, variations_texts-more, branches_legal-more, branches_texts-more}
+use Rattle.game_codec.proofs.WritingLaws.{left_more, numbered-played, moves-more, texts-more, legal-more, texts-lead, variations-more, variations_texts-more, branches_legal-more}
 use Rattle.game_codec.proofs.moves.+lines.Goals as goal
 
 -- what was written, by another name
@@ -20,7 +20,6 @@ put_line-loop-node-preserved t c =
       legal = legal-more c.loop-node.position c.play.new.self c.args.line.now c.loop-node.node-index c.node-item.result left played c.loop-node.invariant.legal;
       moves = moves-more c.loop-node.position c.play.new.self c.args.line.now c.loop-node.node-index c.node-item.result _ _ _ left played c.in_ok-put_node.ensures.moves c.loop-node.invariant.moves;
       texts = texts-more c.args.line.now c.loop-node.node-index c.node-item.result _ _ _ left c.in_ok-put_node.ensures.texts c.loop-node.invariant.texts;
-      zero_free = line_texts-more c.args.line.now c.loop-node.node-index c.node-item.result _ left c.in_ok-put_node.ensures.zero_free c.loop-node.invariant.zero_free;
     }
 
 pub put_line-returns-clause-texts : goal.put_line-returns-clause-texts
@@ -41,7 +40,4 @@ put_variations-loop-variation-preserved t c =
       texts = variations_texts-more c.args.variations.now c.loop-variation.variation-index c.variation-item.result _ _ _ left
           (written c.loop-variation.body.texts.items c.in_ok-put_line.ensures.texts (λ i. ended (texts_of (comment_before (lead i) (movetext_of (line i))))))
           c.loop-variation.invariant.texts;
-      zero_free = branches_texts-more c.args.variations.now c.loop-variation.variation-index c.variation-item.result _ left
-          (subst IsCommentText lead c.in_ok-put_line.ensures.zero_free.0) (subst LineHasTexts line c.in_ok-put_line.ensures.zero_free.1)
-          c.loop-variation.invariant.zero_free;
     }

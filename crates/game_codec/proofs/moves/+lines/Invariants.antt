@@ -3,7 +3,7 @@ use Rattle.game_tree.specs.Legal.{IsLegalLine, AreLegalBranches}
 use Rattle.game_tree.specs.Tree.{line_of, branches_of}
 use Rattle.game_tree.specs.Written.{movetext_of}
 use Rattle.game_codec.specs.Texts.{texts_of, ended}
-use Rattle.game_codec.specs.Written.{LineHasTexts, BranchesHaveTexts, moves_text}
+use Rattle.game_codec.specs.Written.{moves_text}
 use Rattle.game_codec.specs.Writing.{variations_text, variations_texts}
 use Rattle.game_codec.proofs.moves.+lines.Given as goal
 
@@ -15,7 +15,6 @@ invariant-put_line-loop-node l = record {
       ≡ l.initial.body.moves.items ++ moves_text l.start l.start (movetext_of (line_of l.line));
   texts : l.body.texts.items ++ ended (texts_of (movetext_of (line_of (drop l.node-index l.line))))
       ≡ l.initial.body.texts.items ++ ended (texts_of (movetext_of (line_of l.line)));
-  zero_free : LineHasTexts (line_of (drop l.node-index l.line)) → LineHasTexts (line_of l.line);
 }
 
 abbrev pub invariant-put_variations-loop-variation : goal.invariant-put_variations-loop-variation
@@ -25,5 +24,4 @@ invariant-put_variations-loop-variation l = record {
       ≡ l.initial.body.moves.items ++ variations_text l.start (branches_of l.variations);
   texts : l.body.texts.items ++ variations_texts (branches_of (drop l.variation-index l.variations))
       ≡ l.initial.body.texts.items ++ variations_texts (branches_of l.variations);
-  zero_free : BranchesHaveTexts (branches_of (drop l.variation-index l.variations)) → BranchesHaveTexts (branches_of l.variations);
 }

@@ -1,0 +1,26 @@
+use Rattle.std.proofs.Common.{ℕ, List, drop, subst}
+use Rattle.game_codec.specs.Start.{BeginsStart, BreaksStart}
+use Rattle.game_codec.proofs.PassLaws.{if_err}
+use Rattle.game_codec.proofs.WalkSteps.{begun, no_start, no_tags}
+use Rattle.game_codec.proofs.walk.begin.Goals as goal
+
+pub returns-in_err-used-clause-fault : goal.returns-in_err-used-clause-fault
+returns-in_err-used-clause-fault c =
+    let told = c.in_err-used.ensures.err in
+    if_err _ c.from_residual.result (λ some. no_tags c.args.bytes.now told.0 c.in_err-used.field-0.0.what told.2 some)
+
+pub returns-in_err-read-clause-fault : goal.returns-in_err-read-clause-fault
+returns-in_err-read-clause-fault c =
+    let tags = c.in_ok-used.ensures.ok in
+    let told = c.in_err-read.ensures.err in
+    let what = c.in_err-read.field-0.0.what in
+    let breaks = subst (λ (l : List ℕ). BreaksStart l told.0 what) c.split_at.ensures.back told.2 in
+    if_err _ c.from_residual-in_err-read.result (λ some. no_start c.args.bytes.now tags.0 c.in_ok-used.used told.0 what tags.1 breaks some)
+
+pub returns-clause-begun : goal.returns-clause-begun
+returns-clause-begun c =
+    let tags = c.in_ok-used.ensures.ok in
+    let start = c.in_ok-read.read.start in
+    let used = c.in_ok-read.read.used in
+    let then = subst (λ (l : List ℕ). BeginsStart l start (drop used l)) c.split_at.ensures.back c.in_ok-read.ensures.ok in
+    begun c.args.bytes.now tags.0 start c.in_ok-used.used used tags.1 then

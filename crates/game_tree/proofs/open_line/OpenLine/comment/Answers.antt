@@ -1,0 +1,9 @@
+use Rattle.game_tree.proofs.KeptLemmas.{IsLine-last}
+use Rattle.game_tree.proofs.open_line.OpenLine.comment.Goals as goal
+
+pub invariant_of-self : goal.invariant_of-self
+invariant_of-self c =
+    record {
+      lead = c.self.invariant.lead;
+      line = IsLine-last c.self.inside.done.items c.self.inside.last c.add_comment.new.self c.self.invariant.line c.add_comment.ensures.kept;
+    }
