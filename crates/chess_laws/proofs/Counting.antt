@@ -1,5 +1,5 @@
 -- One more man makes one more of the ten counts.
-use Rattle.std.proofs.Common.{◌≡◌, ℕ, zero, suc, ◌+◌, ◌<◌, ◌≤◌, Bool, true, false, cond, List, [], ◌∷◌, ◌++◌, Option, Some, None, length, count_by, get_or, take, refl, sym, ◌∙◌, ap, arith}
+use Rattle.std.proofs.Common.{◌≡◌, ℕ, ◌+◌, ◌<◌, Bool, true, false, cond, List, [], ◌∷◌, ◌++◌, Option, Some, None, length, get_or, take, refl, ◌∙◌, ap, arith}
 use Rattle.std.proofs.lemmas.List.Sums.{sum_by-append}
 use Rattle.std.proofs.lemmas.List.{take_more}
 use Rattle.cell_core.specs.declared.man.Colour.{Colour}
@@ -45,8 +45,18 @@ ten-more f (Some m) = by-man m.colour m.kind
 
 pub counts-more : (xs : Men) (x : Option Man) → counts_of (xs ++ x ∷ []) ≡ more (counts_of xs) x
 counts-more xs x =
-    (rw (count-more xs x White Queen, count-more xs x White Rook, count-more xs x White Bishop, count-more xs x White Knight, count-more xs x White Pawn,
-        count-more xs x Black Queen, count-more xs x Black Rook, count-more xs x Black Bishop, count-more xs x Black Knight, count-more xs x Black Pawn) refl)
+    (rw (
+      count-more xs x White Queen,
+      count-more xs x White Rook,
+      count-more xs x White Bishop,
+      count-more xs x White Knight,
+      count-more xs x White Pawn,
+      count-more xs x Black Queen,
+      count-more xs x Black Rook,
+      count-more xs x Black Bishop,
+      count-more xs x Black Knight,
+      count-more xs x Black Pawn,
+    ) refl)
     ∙ ten-more (count_of xs) x
 
 pub counts-next : (xs : Men) (i : ℕ) → i < length xs → counts_of (take (i + 1) xs) ≡ more (counts_of (take i xs)) (get_or xs i None)

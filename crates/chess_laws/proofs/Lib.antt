@@ -12,6 +12,7 @@ pub mod Rows
 pub mod Lines
 pub mod Checks
 pub mod Counting
+pub mod Untouched
 pub mod Opening
 pub mod Attackers
 pub mod Collecting
