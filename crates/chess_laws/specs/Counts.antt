@@ -32,6 +32,11 @@ abbrev pub more : List ℕ → Option Man → List ℕ
 more counts None = counts
 more counts (Some m) = if nat_lt (slot m) 10 then slice_set counts (slot m) (slice_index_or counts (slot m) 0 + 1) else counts
 
+-- and with one man less
+abbrev pub fewer : List ℕ → Option Man → List ℕ
+fewer counts None = counts
+fewer counts (Some m) = if nat_lt (slot m) 10 then slice_set counts (slot m) (slice_index_or counts (slot m) 0 - 1) else counts
+
 -- the home value of a pawn is 15 down to 8 for a2 to h2, and 7 down to 0 for a7 to h7: the side and the square of a value
 -- (this project's own)
 abbrev pub home_colour : ℕ → Colour

@@ -3,7 +3,7 @@ ghost use Rattle.std.specs.Prelude.{◌≡◌, ◌↔◌, ℕ, ◌<◌, ◌≤�
 ghost use Rattle.std.specs.List.{position};
 ghost use Rattle.cell_core.specs.Man.{is_of, is_man};
 ghost use Rattle.cell_core.specs.declared.man.Kind.TheVariants.{King};
-ghost use Rattle.chess_laws.specs.Counts.{counts_of, count_of, is_home, more, slot};
+ghost use Rattle.chess_laws.specs.Counts.{counts_of, count_of, fewer, is_home, more, slot};
 ghost use Rattle.chess_laws.specs.Position.{king_square};
 
 use cell_core::{Board, Colour, Kind, Man, Square};
@@ -92,6 +92,18 @@ fn count_in(all: &mut [u8; 10], cell: &Option<Man>)
         let place = slot(man);
         if place < 10 {
             all[place] += 1;
+        }
+    }
+}
+
+// One less of the man on this square, where one stands there that is counted.
+pub fn count_out(all: &mut [u8; 10], cell: &Option<Man>)
+    ensures { all.new ≡ fewer all.old cell.now }
+{
+    if let Some(man) = cell {
+        let place = slot(man);
+        if place < 10 {
+            all[place] = all[place].saturating_sub(1);
         }
     }
 }
