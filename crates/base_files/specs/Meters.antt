@@ -6,16 +6,16 @@ use Rattle.base_files.specs.Seen.{Seen}
 use Rattle.base_files.specs.declared.faults.DeviceError.{DeviceError}
 use Rattle.base_files.specs.declared.faults.DeviceError.TheVariants as device
 
--- an input: how many bytes it will still give at most, and how many faults it counted
+-- An input: how many bytes it will still give at most, and how many faults it counted.
 pub record InputMeter : Type 0 where
   pub budget : ℕ
   pub faults : ℕ
 
--- an output: how many faults it counted
+-- An output: how many faults it counted.
 pub record OutputMeter : Type 0 where
   pub faults : ℕ
 
--- the files of a base: the names that were chosen, the known length of the games file, the bytes asked of it, and the faults
+-- The files of a base: the names that were chosen, the known length of the games file, the bytes asked of it, and the faults.
 pub record DiskMeter : Type 0 where
   pub choices : List Choice
   pub known : ℕ
@@ -26,7 +26,7 @@ pub record DiskMeter : Type 0 where
 abbrev pub seen_of : DiskMeter → Seen
 seen_of meter = record { index = None; names = None; games = None; choices = meter.choices; known = meter.known }
 
--- a count of faults after an error: a fault is counted, want of memory is not
+-- A count of faults after an error: a fault is counted, want of memory is not.
 abbrev pub after_error : DeviceError → ℕ → ℕ
 after_error device.Failed faults = raised faults 1
 after_error device.Memory faults = faults

@@ -6,7 +6,7 @@ use Rattle.base_files.specs.Seen.{Seen}
 use Rattle.base_files.specs.declared.part.Part.{Part}
 use Rattle.base_files.specs.declared.part.Part.TheVariants.{Index, Names}
 
--- the three contents, the names that were chosen, the known length of the games file, the bytes asked of it, and the calls
+-- The three contents, the names that were chosen, the known length of the games file, the bytes asked of it, and the calls.
 pub record Shelf : Type 0 where
   pub index : List ℕ
   pub names : List ℕ
@@ -16,7 +16,7 @@ pub record Shelf : Type 0 where
   pub asked : ℕ
   pub calls : Calls
 
--- three contents of which nothing was asked yet, and the numbers of the calls that are to fail
+-- Three contents of which nothing was asked yet, and the numbers of the calls that are to fail.
 abbrev pub new_shelf : List ℕ → List ℕ → List ℕ → List ℕ → Shelf
 new_shelf index names games fails = record {
   index = index;

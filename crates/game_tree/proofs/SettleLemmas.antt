@@ -1,19 +1,26 @@
 -- A settled head is within its bounds, keeps the rule of event dates, and stays as it is when it is settled again.
-use Rattle.std.proofs.Common.{◌≡◌, true, false, List, [], ◌∷◌, ◌++◌, Option, Some, None, IsTrue, refl, sym, ap, ◌∙◌, subst, inl, inr, arith, lit≤}
+use Rattle.std.proofs.Common.{◌≡◌, Bool, true, false, List, [], ◌∷◌, ◌++◌, Option, Some, None, IsTrue, refl, sym, ap, ◌∙◌, subst, inl, inr, arith, lit≤}
 use Rattle.std.specs.Prelude.{not, All, codes}
 use Rattle.std.proofs.lemmas.Bool.{cases_Bool}
 use Rattle.std.proofs.lemmas.Option.{same_Some, none-some}
 use Rattle.std.proofs.lemmas.List.Elements.{All-filter, All-push, All-from_recursion}
 use Rattle.game_tree.specs.Date.{IsDate, unknown_date, is_unknown, is_near, keeps_rule, date_read}
-use Rattle.game_tree.specs.TagName.{IsTagName, IsTagByte, is_reserved}
+use Rattle.game_tree.specs.TagName.{IsTagName, IsTagByte, rating_of, is_reserved}
 use Rattle.game_tree.specs.Head.{IsTag, IsBounded}
-use Rattle.game_tree.specs.Settle.{is_event_date, other_tags, event_date_tag, near_only, near_date, first_of, first_near_date, taken_up, settled}
+use Rattle.game_tree.specs.TagList.{is_named, tags_without}
+use Rattle.game_tree.specs.Settle.{event_date_name, event_date_tag, near_only, near_date, first_of, first_near_date, taken_up, settled}
 use Rattle.game_tree.specs.declared.date.Date.{Date}
 use Rattle.game_tree.specs.declared.head.Tag.{Tag}
 use Rattle.game_tree.specs.declared.head.Head.{Head}
 use Rattle.game_tree.proofs.DateLemmas.{date_read-date_text, date_read-IsDate, date_text-IsName}
 
-others_again : (tags : List Tag) → other_tags (other_tags tags) ≡ other_tags tags
+abbrev is_event_date : Tag → Bool
+is_event_date = is_named event_date_name
+
+abbrev other_tags : List Tag → List Tag
+other_tags = tags_without event_date_name
+
+pub others_again : (tags : List Tag) → other_tags (other_tags tags) ≡ other_tags tags
 others_again [] = refl
 others_again (tag ∷ tags) =
     elim (cases_Bool (is_event_date tag)) [
@@ -21,8 +28,8 @@ others_again (tag ∷ tags) =
       | inr other ↦ rw (other, other) (ap (λ ts. tag ∷ ts) (others_again tags))
     ]
 
--- without tags EventDate there is no date to take up
-first_near-others : (game : Date) (tags : List Tag) → first_near_date game (other_tags tags) ≡ None
+-- Without tags EventDate there is no date to take up.
+pub first_near-others : (game : Date) (tags : List Tag) → first_near_date game (other_tags tags) ≡ None
 unfolding near_date
 first_near-others game [] = refl
 first_near-others game (tag ∷ tags) =
@@ -31,12 +38,12 @@ first_near-others game (tag ∷ tags) =
       | inr other ↦ rw (other, other) (first_near-others game tags)
     ]
 
--- a tag EventDate whose text is of a date outside the rule gives no date
+-- A tag EventDate whose text is of a date outside the rule gives no date.
 near-tag : (game date : Date) → IsDate date → is_near date game ≡ false → near_date game (event_date_tag date) ≡ None
 unfolding near_date
 near-tag game date is far = rw (date_read-date_text date is, far) refl
 
--- a tag of another name gives no date
+-- A tag of another name gives no date.
 near-other : (game : Date) (tag : Tag) → is_event_date tag ≡ false → near_date game tag ≡ None
 unfolding near_date
 near-other game tag other = rw other refl
@@ -49,7 +56,7 @@ first_near-replaced game date (tag ∷ tags) is far =
       | inr other ↦ rw (other, near-other game tag other) (first_near-replaced game date tags is far)
     ]
 
--- what the tags give is within the rule
+-- What the tags give is within the rule.
 record IsWithin (game date : Date) : Type 0 where
   near : is_near date game ≡ true
   bounded : IsDate date
@@ -79,24 +86,24 @@ first_near-within game [] date e = absurd (none-some date e)
 first_near-within game (tag ∷ tags) date e =
     first_of-within game (near_date game tag) (first_near_date game tags) (near_date-within game tag) (first_near-within game tags) date e
 
--- settling by its three rules
-settled-near : (head : Head) → is_near head.event_date head.date ≡ true → settled head ≡ record head { tags = other_tags head.tags }
+-- Settling by its three rules.
+pub settled-near : (head : Head) → is_near head.event_date head.date ≡ true → settled head ≡ record head { tags = other_tags head.tags }
 unfolding settled
 settled-near head near = rw near refl
 
-settled-unknown : (head : Head) → is_near head.event_date head.date ≡ false → is_unknown head.event_date ≡ true → settled head ≡ taken_up head (first_near_date head.date head.tags)
+pub settled-unknown : (head : Head) → is_near head.event_date head.date ≡ false → is_unknown head.event_date ≡ true → settled head ≡ taken_up head (first_near_date head.date head.tags)
 unfolding settled
 settled-unknown head far unknown = rw (far, unknown) refl
 
-settled-far : (head : Head) → is_near head.event_date head.date ≡ false → is_unknown head.event_date ≡ false → settled head ≡ record head { event_date = unknown_date; tags = other_tags head.tags ++ event_date_tag head.event_date ∷ [] }
+pub settled-far : (head : Head) → is_near head.event_date head.date ≡ false → is_unknown head.event_date ≡ false → settled head ≡ record head { event_date = unknown_date; tags = other_tags head.tags ++ event_date_tag head.event_date ∷ [] }
 unfolding settled
 settled-far head far known = rw (far, known) refl
 
--- a date of which the year is unknown is not within the rule
-unknown-far : (game : Date) → is_near unknown_date game ≡ false
+-- A date of which the year is unknown is not within the rule.
+pub unknown-far : (game : Date) → is_near unknown_date game ≡ false
 unknown-far game = refl
 
--- settling again
+-- Settling again.
 taken_up-again : (head : Head) → is_near head.event_date head.date ≡ false → is_unknown head.event_date ≡ true → (found : Option Date) → found ≡ first_near_date head.date head.tags → settled (taken_up head found) ≡ taken_up head found
 taken_up-again head far unknown None found = settled-unknown head far unknown ∙ ap (taken_up head) (sym found)
 taken_up-again head far unknown (Some date) found =
@@ -120,7 +127,7 @@ settled-settled head is =
       ]
     ]
 
--- the rule of event dates
+-- The rule of event dates.
 keeps_rule-near : (head : Head) → is_near head.event_date head.date ≡ true → IsTrue (keeps_rule head.event_date head.date)
 keeps_rule-near head near =
     elim (cases_Bool (is_unknown head.event_date)) [ inl unknown ↦ rw unknown refl | inr known ↦ rw (known, near) refl ]
@@ -146,7 +153,7 @@ settled-keeps_rule head =
       ]
     ]
 
--- the bounds
+-- The bounds.
 with_date : (head : Head) → IsBounded head → (date : Date) → IsDate date → (tags : List Tag) → All IsTag tags → IsBounded (record head { event_date = date; tags = tags })
 with_date head is date dated tags named = record {
   white = is.white;
@@ -171,7 +178,7 @@ event_date-IsTagName = record {
 }
 
 event_date_tag-IsTag : (date : Date) → IsTag (event_date_tag date)
-unfolding is_reserved
+unfolding is_reserved rating_of
 event_date_tag-IsTag date = record { name = event_date-IsTagName; free = refl; value = date_text-IsName date }
 
 others-tags : (tags : List Tag) → All IsTag tags → All IsTag (other_tags tags)

@@ -4,7 +4,7 @@ use Rattle.shell_session.specs.IndexFile.{IsIndex, records, records_len}
 use Rattle.shell_session.specs.Session.{Hit}
 use Rattle.shell_session.proofs.search.add_all.Given as goal
 
--- each game so far has its answer; the files have told nothing else, and were asked for the records so far
+-- Each game so far has its answer; the files have told nothing else, and were asked for the records so far.
 abbrev pub invariant-loop-game : goal.invariant-loop-game
 invariant-loop-game g l = record {
   found : IfSome (g.F.Files.seen l.fn.files).games (λ games. AllZip (Hit l.fn.sought) (records l.index games l.game) l.hits.items);
