@@ -17,7 +17,6 @@ use Rattle.chess_laws.specs.Position.{Sound, HasKings, Keeps, king_square}
 use Rattle.chess_laws.specs.Legal.{king_after}
 use Rattle.chess_laws.specs.Step.{Case, Legal, after, board_after, effect_of}
 use Rattle.chess_laws.proofs.Kings.{is_man-Some, is_man-true, king-only, king-stands}
-use Rattle.chess_laws.proofs.Boards.{only-king}
 use Rattle.chess_laws.proofs.Keeping.{castle-apart}
 use Rattle.chess_laws.proofs.MovedKings.{Keeps-white, Keeps-black, Sound-after}
 use Rattle.move_codec.specs.Numbers.{HasKingFirst, number_of, went, without, movers_after, capture_square}
