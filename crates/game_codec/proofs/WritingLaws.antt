@@ -24,7 +24,7 @@ use Rattle.game_codec.specs.Writing.{comment_text, mark_text, nags_text, node_te
 
 -- Moves and marks
 
--- a line begins with a move, which stands on what was reached alone
+-- A line begins with a move, which stands on what was reached alone.
 moves_text-before : (a b here : Numbered) (l : Line) → moves_text a here (movetext_of l) ≡ moves_text b here (movetext_of l)
 moves_text-before a b here ends = refl
 moves_text-before a b here (goes m ns comment variations l) = refl
@@ -44,7 +44,7 @@ moves-variations before here (more lead line others) s =
     ap (λ (bytes : List ℕ). 13 ∷ inner ++ 14 ∷ bytes) (moves-variations before here others s)
     ∙ ap (λ (bytes : List ℕ). 13 ∷ bytes) (sym (append_assoc inner (14 ∷ variations_text before others) (moves_text before here s)))
 
--- a move and the rest of its line
+-- A move and the rest of its line.
 moves-node : (n : Numbered) (node : Played) (rest : List Played)
     → moves_text n n (movetext_of (line_of (node ∷ rest)))
     ≡ node_text n node ++ moves_text (numbered_after n node.mv) (numbered_after n node.mv) (movetext_of (line_of rest))
@@ -101,12 +101,12 @@ texts-node node rest =
 pub left_more : {A : Type 0} (xs : List A) (i : ℕ) (x : A) → i < length xs → x ≡ get_or xs i x → drop i xs ≡ x ∷ drop (i + 1) xs
 left_more {A} xs i x under item = drop_more xs i x under ∙ ap (λ (y : A). y ∷ drop (i + 1) xs) (sym item)
 
--- one more part was written
+-- One more part was written.
 pub one_more : (left part later now next all : List ℕ) → left ≡ part ++ later → next ≡ now ++ part → now ++ left ≡ all → next ++ later ≡ all
 one_more left part later now next all is wrote before =
     ap (λ (bytes : List ℕ). bytes ++ later) wrote ∙ append_assoc now part later ∙ ap (λ (bytes : List ℕ). now ++ bytes) (sym is) ∙ before
 
--- the position that a move has reached, with its numbers
+-- The position that a move has reached, with its numbers.
 pub numbered-played : (n : Numbered) (m : Move) (q : Numbered) → Step n.position m q.position → q.numbers ≡ numbers_after n.position m n.numbers → q ≡ numbered_after n m
 numbered-played n m q step numbers = λ i. record { position = Step-stepped n.position m q.position step i; numbers = numbers i }
 
@@ -137,7 +137,7 @@ legal-more n q line i node left played legal =
     let all : IsLegalLine n.position (line_of (node ∷ drop (i + 1) line)) = subst (λ (ps : List Played). IsLegalLine n.position (line_of ps)) left legal in
     subst (λ (r : Numbered). IsLegalLine r.position (line_of (drop (i + 1) line))) (sym played) all.1.1.1
 
--- behind a line's own comment
+-- Behind a line's own comment.
 pub texts-lead : (lead : Option (List ℕ)) (line : List Played) (i : ℕ) (old now last : List ℕ) → length line ≤ i → now ≡ old ++ comment_text lead
     → last ++ ended (texts_of (movetext_of (line_of (drop i line)))) ≡ now ++ ended (texts_of (movetext_of (line_of line)))
     → last ≡ old ++ ended (texts_of (comment_before lead (movetext_of (line_of line))))
@@ -150,7 +150,7 @@ texts-lead lead line i old now last whole wrote before =
     ∙ append_assoc old (comment_text lead) all
     ∙ ap (λ (bytes : List ℕ). old ++ bytes) (sym (texts-comment lead (movetext_of (line_of line))))
 
--- a variation between its two marks, and the variations behind it
+-- A variation between its two marks, and the variations behind it.
 pub variations-more : (n : Numbered) (vs : List Variation) (i : ℕ) (v : Variation) (now opened inner next all : List ℕ)
     → drop i vs ≡ v ∷ drop (i + 1) vs → opened ≡ now ++ 13 ∷ [] → inner ≡ opened ++ moves_text n n (comment_before v.lead (movetext_of v.line))
     → next ≡ inner ++ 14 ∷ []
@@ -188,7 +188,7 @@ branches_legal-more p vs i v left legal =
 
 -- The whole record
 
--- a start's own bytes, and what was written behind them
+-- A start's own bytes, and what was written behind them.
 behind_tags : (tagged start started moved marked all moves texts tags : List ℕ) → tagged ≡ tags ++ 0 ∷ [] → started ≡ tagged ++ start
     → moved ≡ started ++ moves → marked ≡ moved ++ 15 ∷ [] → all ≡ marked ++ texts → all ≡ tags ++ 0 ∷ (start ++ (moves ++ 15 ∷ texts))
 behind_tags tagged start started moved marked all moves texts tags tags_are put_start put_moves put_end put_texts =
@@ -232,7 +232,7 @@ record-writes tags g n tagged started moved marked all moves texts tags_are (inr
           });
     }
 
--- what the code has: the fields of a game
+-- What the code has: the fields of a game.
 pub game-writes : (tags : List Tag) (g : GameTree) (start : Setup) (lead : Option (List ℕ)) (items line : List Played)
     → record { start = start; lead = lead; line = line_of items } ≡ g → line ≡ items
     → (n : Numbered) (flags : ℕ) (tagged started moved marked all moves texts : List ℕ)
@@ -248,7 +248,7 @@ game-writes tags g start lead items line view line_is n flags tagged started mov
     (texts_are ∙ ap (λ (ps : List Played). ended (texts_of (comment_before lead (movetext_of (line_of ps))))) line_is)
     put_moves put_end put_texts)
 
--- an own start, part by part
+-- An own start, part by part.
 pub own-adds : (start : Setup) (flags : ℕ) (old opened filled new fen : List ℕ) (n : Numbered) → (start ≡ start_setup → ⊥)
     → opened ≡ old ++ (1 + flags) ∷ [] → fen ≡ fen_text start → filled ≡ opened ++ fen → new ≡ filled ++ 0 ∷ []
     → n.position ≡ start → n.numbers ≡ text_numbers start.board → AddsStart start flags old new n

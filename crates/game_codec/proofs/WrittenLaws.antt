@@ -40,7 +40,7 @@ use Rattle.move_codec.proofs.Text.{AreNumbers-text}
 
 -- What the moves of a line spell
 
--- a position that keeps the rules, and numbers that are its men's
+-- A position that keeps the rules, and numbers that are its men's.
 record Stands (n : Numbered) : Type 0 where
   sound : Sound n.position
   numbers : AreNumbers n.position.board n.numbers
@@ -52,7 +52,7 @@ Stands-after n m stands step = record {
   numbers = AreNumbers-step n.position m (stepped n.position m) n.numbers stands.sound step stands.numbers;
 }
 
--- the byte that ends a line at this depth
+-- The byte that ends a line at this depth.
 abbrev end_byte : ℕ → ℕ
 end_byte zero = 15
 end_byte (suc depth) = 14
@@ -137,7 +137,7 @@ mutual
         ),
       )
 
--- a whole line behind its own comment
+-- A whole line behind its own comment.
 spells-all : (n : Numbered) (lead : Option (List ℕ)) (l : Line) (rest : List ℕ) → Stands n → IsLegalLine n.position l → depth_of l ≤ 200
     → SpellsMoves (beginning 0 n) (comment_before lead (movetext_of l)) (moves_text n n (comment_before lead (movetext_of l)) ++ 15 ∷ rest) rest
 spells-all n lead l rest stands legal within =
@@ -188,7 +188,7 @@ set_flag true false = refl
 set_flag false true = refl
 set_flag false false = refl
 
--- the whole record, by its start
+-- The whole record, by its start.
 record-of : (bytes : List ℕ) (tags : List Tag) (g : GameTree) (behind : List ℕ) (n : Numbered) → Stands n → n.position ≡ g.start
     → IsLegalGame g → IsGame g → All IsTag tags → bytes ≡ tags_text tags ++ 0 ∷ behind
     → BeginsStart behind n (body_text n (movetext_of_game g)) → IsRecord bytes tags g

@@ -13,7 +13,7 @@ use Rattle.game_codec.specs.Start.{standard_start}
 use Rattle.game_codec.specs.Texts.{texts_of, ended}
 use Rattle.game_codec.specs.Written.{moves_text, own_start}
 
--- the mark of a comment, and its text
+-- The mark of a comment, and its text.
 abbrev pub mark_text : Option (List ℕ) → List ℕ
 mark_text None = []
 mark_text (Some text) = 12 ∷ []
@@ -22,19 +22,19 @@ abbrev pub comment_text : Option (List ℕ) → List ℕ
 comment_text None = []
 comment_text (Some text) = text ++ 0 ∷ []
 
--- NAGs
+-- NAGs.
 abbrev pub nags_text : List ℕ → List ℕ
 nags_text [] = []
 nags_text (n ∷ ns) = 11 ∷ n ∷ nags_text ns
 
--- the variations of a move by the position before it, and the texts of their comments
+-- The variations of a move by the position before it, and the texts of their comments.
 abbrev pub variations_text : Numbered → Branches → List ℕ
 variations_text before v = moves_text before before (variations_before v end)
 
 abbrev pub variations_texts : Branches → List ℕ
 variations_texts v = ended (texts_of (variations_before v end))
 
--- a move of a line by the position before it, with what stands behind it, and the texts of the comments
+-- A move of a line by the position before it, with what stands behind it, and the texts of the comments.
 abbrev pub node_text : Numbered → Played → List ℕ
 node_text before node =
     encoding before node.mv ++ (nags_text node.nags ++ (mark_text node.comment ++ variations_text before node.variations))
@@ -42,7 +42,7 @@ node_text before node =
 abbrev pub node_texts : Played → List ℕ
 node_texts node = comment_text node.comment ++ variations_texts node.variations
 
--- the flags and what tells the start were added, and these are the numbers that the men have in the record
+-- The flags and what tells the start were added, and these are the numbers that the men have in the record.
 pub record AddsStandard (start : Setup) (flags : ℕ) (old new : List ℕ) (numbered : Numbered) : Type 0 where
   pub standard : start ≡ start_setup
   pub bytes : new ≡ old ++ (flags ∷ [])

@@ -18,16 +18,16 @@ use Rattle.game_codec.specs.Texts.{texts_of, ended}
 use Rattle.game_codec.specs.declared.fault.EncodeError.{EncodeError}
 use Rattle.game_codec.specs.declared.fault.EncodeError.TheVariants as error
 
--- the tags with their names written out
+-- The tags with their names written out.
 abbrev pub tags_text : List Tag → List ℕ
 tags_text [] = []
 tags_text (tag ∷ tags) = counted tag.name ++ (counted tag.value ++ tags_text tags)
 
--- bit 1 of the flags tells whether the game has a promotion, and bit 2 one to another man than a queen
+-- Bit 1 of the flags tells whether the game has a promotion, and bit 2 one to another man than a queen.
 abbrev pub promotion_flags : GameTree → ℕ
 promotion_flags game = (if has_promotion game then 2 else 0) + (if has_underpromotion game then 4 else 0)
 
--- the packed moves and marks of a movetext, by the position before the last move and the position that was reached
+-- The packed moves and marks of a movetext, by the position before the last move and the position that was reached.
 abbrev pub moves_text : Numbered → Numbered → Movetext → List ℕ
 moves_text before here end = []
 moves_text before here (move m s) = encoding here m ++ moves_text here (numbered_after here m) s
@@ -35,11 +35,11 @@ moves_text before here (nag n s) = 11 ∷ n ∷ moves_text before here s
 moves_text before here (comment text s) = 12 ∷ moves_text before here s
 moves_text before here (variation inner s) = 13 ∷ moves_text before before inner ++ 14 ∷ moves_text before here s
 
--- the moves from a start, the end of the game, and the texts of the comments
+-- The moves from a start, the end of the game, and the texts of the comments.
 abbrev pub body_text : Numbered → Movetext → List ℕ
 body_text start s = moves_text start start s ++ 15 ∷ ended (texts_of s)
 
--- the flags, the FEN of a start other than the initial position, and what follows
+-- The flags, the FEN of a start other than the initial position, and what follows.
 pub record IsWrittenStandard (bytes : List ℕ) (game : GameTree) : Type 0 where
   pub standard : game.start ≡ start_setup
   pub bytes_are : bytes ≡ promotion_flags game ∷ body_text standard_start (movetext_of_game game)
@@ -54,13 +54,13 @@ pub record IsWrittenOwn (bytes : List ℕ) (game : GameTree) : Type 0 where
 abbrev pub IsWrittenGame : List ℕ → GameTree → Type 0
 IsWrittenGame bytes game = IsWrittenStandard bytes game ⊎ IsWrittenOwn bytes game
 
--- the bytes are the written form of the game and the tags
+-- The bytes are the written form of the game and the tags.
 pub record IsWrittenRecord (bytes : List ℕ) (tags : List Tag) (game : GameTree) : Type 0 where
   pub behind_tags : List ℕ
   pub bytes_are : bytes ≡ tags_text tags ++ 0 ∷ behind_tags
   pub game_is : IsWrittenGame behind_tags game
 
--- a record that would be too long has a length of which this holds
+-- A record that would be too long has a length of which this holds.
 abbrev pub IfTooLong : (ℕ → Type 0) → EncodeError → Type 0
 IfTooLong Holds (error.TooLong n) = Holds n
 IfTooLong Holds error.Memory = Unit {0}

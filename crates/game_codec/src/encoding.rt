@@ -1,3 +1,4 @@
+//! Writing records.
 ghost use Rattle.std.specs.Prelude.{◌≡◌, ◌↔◌, ◌<◌, ◌≤◌, ◌⊎◌, ℕ, List, [], ◌∷◌, ◌++◌, All, length, IfOk, IfErr, IsTrue, MatchResult};
 ghost use Rattle.game_tree.specs.Head.{IsTag};
 ghost use Rattle.game_tree.specs.Kept.{IsGame};
@@ -17,7 +18,7 @@ use game_tree::{Game, Tag};
 use move_codec::Numbered;
 use std::alloc::{AllocError, Global};
 
-/// The greatest length of a record, in bytes.
+// The greatest length of a record, in bytes.
 const GREATEST_LENGTH: usize = 131_071;
 
 /// The record of a legal game with these extra tags, which are within their bounds: its one written form. It is read again
@@ -42,7 +43,7 @@ pub fn encode_game(alloc: Global, g: &Game, tags: &[Tag]) -> Result<Vec<u8>, Enc
     }
 }
 
-/// The record, however long it is.
+// The record, however long it is.
 fn whole_record(alloc: Global, g: &Game, tags: &[Tag]) -> Result<Vec<u8>, AllocError>
     requires legal { IsLegalGame g.now }
     requires tags { All IsTag tags.now }
@@ -61,8 +62,8 @@ fn whole_record(alloc: Global, g: &Game, tags: &[Tag]) -> Result<Vec<u8>, AllocE
     Ok(out)
 }
 
-/// The flags that tell of promotions: 2 where there is one in the main line or in a variation, and 4 more where there is
-/// one to another man than a queen.
+// The flags that tell of promotions: 2 where there is one in the main line or in a variation, and 4 more where there is
+// one to another man than a queen.
 fn promotion_flags(g: &Game) -> u8
     ensures flags { result ≡ promotion_flags g.now }
     ensures few { result < 8 }
@@ -72,7 +73,7 @@ fn promotion_flags(g: &Game) -> u8
     any + under
 }
 
-/// Adds the tags with their names written out, and the zero byte behind them.
+// Adds the tags with their names written out, and the zero byte behind them.
 fn put_tags(out: &mut Vec<u8>, tags: &[Tag]) -> Result<(), AllocError>
     requires tags { All IsTag tags.now }
     ensures bytes { IfOk result (λ _. out.new.items ≡ out.old.items ++ (tags_text tags.now ++ 0 ∷ [])) }
@@ -85,7 +86,7 @@ fn put_tags(out: &mut Vec<u8>, tags: &[Tag]) -> Result<(), AllocError>
     Ok(())
 }
 
-/// Adds a text of at most 255 bytes behind its length.
+// Adds a text of at most 255 bytes behind its length.
 fn put_counted(out: &mut Vec<u8>, text: &Text) -> Result<(), AllocError>
     requires short { length text.now ≤ 255 }
     ensures bytes { IfOk result (λ _. out.new.items ≡ out.old.items ++ counted text.now) }
@@ -95,8 +96,8 @@ fn put_counted(out: &mut Vec<u8>, text: &Text) -> Result<(), AllocError>
     Ok(())
 }
 
-/// Adds the flags, and the FEN of a start other than the initial position; gives the start with the numbers that its men
-/// have in the record.
+// Adds the flags, and the FEN of a start other than the initial position; gives the start with the numbers that its men
+// have in the record.
 fn put_start(
     alloc: Global,
     out: &mut Vec<u8>,
@@ -118,7 +119,7 @@ fn put_start(
     Ok(Numbered::from_start(*start))
 }
 
-/// Whether two setups are equal.
+// Whether two setups are equal.
 fn is_same_setup(first: &Setup, second: &Setup) -> bool
     ensures { IsTrue result ↔ (first.now ≡ second.now) }
 {

@@ -4,6 +4,7 @@
 
 mod breach;
 mod building;
+mod checking;
 mod decoding;
 mod encoding;
 mod fault;
@@ -21,6 +22,7 @@ mod token;
 mod tokens;
 mod walk;
 
+pub use checking::first_fault;
 pub use decoding::decode_game;
 pub use encoding::encode_game;
 pub use fault::{DecodeError, EncodeError, RecordFault, RecordWhat};
