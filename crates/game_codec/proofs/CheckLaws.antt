@@ -19,6 +19,9 @@ use Rattle.game_tree.specs.TagName.{free_of}
 use Rattle.game_codec.specs.TagReading.{BreaksTags}
 use Rattle.game_codec.specs.Breach.{Tells}
 use Rattle.game_codec.specs.Checking.{AreSomeTexts}
+use Rattle.game_codec.specs.Nests.{place_after, token_of}
+use Rattle.game_codec.specs.declared.token.Token.{Token as Read}
+use Rattle.game_codec.specs.declared.token.Token.TheVariants as read
 use Rattle.game_codec.specs.Fault.{Breaks}
 use Rattle.game_codec.specs.declared.breach.Breach.{Breach}
 use Rattle.game_codec.specs.declared.fault.RecordWhat.{RecordWhat}
@@ -32,6 +35,17 @@ pub record Spelled (p : Place) (bytes behind : List ℕ) (comments : ℕ) : Type
   pub movetext : Movetext
   pub spells : SpellsMoves p movetext bytes behind
   pub count : length (texts_of movetext) ≡ comments
+
+abbrev pub LineSpelled : Place → List ℕ → ℕ → ℕ → Type 0
+LineSpelled p bytes used comments = (s : Movetext) × (SpellsMoves p s bytes (drop used bytes) × (length (texts_of s) ≡ comments))
+
+pub line_is : (p : Place) (start : Numbered) (bytes behind : List ℕ) (used comments : ℕ) → p ≡ beginning 0 start → behind ≡ drop used bytes
+    → LineSpelled p bytes used comments → Spelled (beginning 0 start) bytes behind comments
+line_is p start bytes behind used comments p_is behind_is line = record {
+  movetext = line.0;
+  spells = rw (← p_is, behind_is) line.1.0;
+  count = line.1.1;
+}
 
 -- Whatever follows from here follows from the beginning of the line.
 pub record HasFollowed (start : Place) (bytes : List ℕ) (now : Place) (rest : List ℕ) (comments : ℕ) : Type 0 where
@@ -50,7 +64,7 @@ HasFollowed-none start bytes = record {
   within = omega arith;
   left = none_read bytes;
   few = omega arith;
-  spells = λ n behind h. h;
+  spells = λ n behind h. let sum : n ≡ 0 + n = omega arith in subst (λ (k : ℕ). Spelled start bytes behind k) sum h;
   breaks = λ u from what h. (u, h);
 }
 
@@ -136,6 +150,58 @@ module _ (start : Place) (bytes : List ℕ) (now : Place) (rest : List ℕ) (com
         count = refl;
       }))
 
+-- The same by the item that was read.
+module _ (start : Place) (bytes : List ℕ) (now : Place) (rest : List ℕ) (comments : ℕ) (has : HasFollowed start bytes now rest comments)
+    (used : ℕ) (fits : used ≤ length rest) (some : 0 < used) (t : Read) (takes : Takes now rest (token_of t) (drop used rest))
+    (after : Place) (after_is : after ≡ place_after now (token_of t)) (later : List ℕ) (later_is : later ≡ drop used rest) where
+  taken : (u : Read) → t ≡ u → Takes now rest (token_of u) (drop used rest)
+  taken u is = subst (λ (v : Read). Takes now rest (token_of v) (drop used rest)) is takes
+
+  passed : (u : Read) → t ≡ u → after ≡ place_after now (token_of u)
+  passed u is = after_is ∙ ap (λ (v : Read). place_after now (token_of v)) is
+
+  pub by_move : (m : Move) → t ≡ read.Play m → HasFollowed start bytes after later comments
+  by_move m is = rw (passed (read.Play m) is, later_is) (played start bytes now rest comments has used fits some m (taken (read.Play m) is))
+
+  pub by_nag : (n : ℕ) → t ≡ read.Nag n → HasFollowed start bytes after later comments
+  by_nag n is = rw (passed (read.Nag n) is, later_is) (nagged start bytes now rest comments has used fits some n (taken (read.Nag n) is))
+
+  pub by_comment : t ≡ read.Comment → HasFollowed start bytes after later (comments + 1)
+  by_comment is = rw (passed read.Comment is, later_is) (noted start bytes now rest comments has used fits some (taken read.Comment is))
+
+  pub by_variation : t ≡ read.Open → (p : Place) → p ≡ variation_of after → (more count : ℕ) → more ≤ length later → count ≤ more
+      → (last : List ℕ) → last ≡ drop more later → LineSpelled p later more count → HasFollowed start bytes after last (comments + count)
+  by_variation is p p_is more count fits' few' last last_is line =
+      let inner : p ≡ variation_of now = p_is ∙ ap variation_of (passed read.Open is) in
+      let spells : SpellsMoves (variation_of now) line.0 (drop used rest) (drop more (drop used rest)) =
+      rw (← later_is) (subst (λ (q : Place). SpellsMoves q line.0 later (drop more later)) inner line.1.0) in
+      let size : length later ≡ length (drop used rest) = ap (λ (l : List ℕ). length l) later_is in
+      rw (passed read.Open is, last_is, later_is)
+      (varied start bytes now rest comments has used fits some [] more count (taken read.Open is) (omega (arith, fits', size)) few'
+      (record { movetext = line.0; spells = spells; count = line.1.1 }))
+
+  pub by_fault : t ≡ read.Open → (p : Place) → p ≡ variation_of after → (breach : Breach)
+      → Tells (λ from what. (u : Upto) × BreaksMoves p u later from what) breach
+      → Tells (λ from what. (u : Upto) × BreaksMoves start u bytes from what) breach
+  by_fault is p p_is breach tells =
+      let inner : p ≡ variation_of now = p_is ∙ ap variation_of (passed read.Open is) in
+      let breaks : BreaksMoves (variation_of now) tells.2.0 (drop used rest) tells.0 breach.what =
+      rw (← later_is) (subst (λ (q : Place). BreaksMoves q tells.2.0 later tells.0 breach.what) inner tells.2.1) in
+      (tells.0, tells.1, in_variation start bytes now rest comments has used fits some tells.2.0 tells.0 breach.what (taken read.Open is) breaks)
+
+  left_is : later ≡ drop (length bytes - length later) bytes
+  left_is = rw later_is (left-drop bytes rest used has.within fits has.left)
+
+  pub by_close : t ≡ read.Close → LineSpelled start bytes (length bytes - length later) comments
+  by_close is =
+      let line = closed start bytes now rest comments has used fits some (taken read.Close is) in
+      (line.movetext, (subst (λ (l : List ℕ). SpellsMoves start line.movetext bytes l) (sym later_is ∙ left_is) line.spells, line.count))
+
+  pub by_end : t ≡ read.End → LineSpelled start bytes (length bytes - length later) comments
+  by_end is =
+      let line = finished start bytes now rest comments has used fits some (taken read.End is) in
+      (line.movetext, (subst (λ (l : List ℕ). SpellsMoves start line.movetext bytes l) (sym later_is ∙ left_is) line.spells, line.count))
+
 pub HasFollowed-breaks : (start : Place) (bytes : List ℕ) (now : Place) (rest : List ℕ) (comments : ℕ) (what : RecordWhat)
     → HasFollowed start bytes now rest comments → FaultAt now rest what → (v : Upto) × BreaksMoves start v bytes rest what
 HasFollowed-breaks start bytes now rest comments what has fault = has.breaks here rest what (refl, fault)
@@ -149,8 +215,7 @@ module _ (bytes behind_tags behind_start behind_moves : List ℕ) (all : List Ta
       let flat = movetext-scans start line.movetext behind_start behind_moves line.spells in
       let found = scans-movetext start flat.0 behind_start behind_moves flat.1.0 texts.0 in
       let same : texts_of found.0 ≡ texts.0 = found.1.1.1.1 (texts.1.1 ∙ sym line.count ∙ sym flat.1.1.1) in
-      let game = game_of start.position (meaning found.0) in
-      (
+      let game = game_of start.position (meaning found.0) in (
         free_of all,
         (
           game,

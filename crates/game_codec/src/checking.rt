@@ -81,13 +81,20 @@ fn check_line(place: Place, bytes: &[u8]) -> Result<LineRead, Breach>
                 rest = rest.split_at(inner.used).1;
                 comments += inner.comments;
             }
-            Token::Close | Token::End => {
+            Token::Close => {
                 return Ok(LineRead {
                     used: bytes.len() - rest.len(),
                     comments,
                 });
             }
-            Token::Play(_) | Token::Nag(_) => {}
+            Token::End => {
+                return Ok(LineRead {
+                    used: bytes.len() - rest.len(),
+                    comments,
+                });
+            }
+            Token::Play(_) => {}
+            Token::Nag(_) => {}
         }
     }
 }
