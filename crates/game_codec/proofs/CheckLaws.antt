@@ -1,18 +1,17 @@
 -- A line, and the texts behind the moves, as far as they were looked at: what is left gives the whole.
-use Rattle.std.proofs.Common.{◌≡◌, ◌≢◌, ℕ, ◌+◌, ◌-◌, ◌<◌, ◌≤◌, List, [], ◌∷◌, ◌++◌, length, take, drop, refl, sym, ap, subst, ◌∙◌, append_assoc, append-nil, length-append, length-drop, inl, inr, arith}
+use Rattle.std.proofs.Common.{◌≡◌, ◌≢◌, ℕ, ◌+◌, ◌-◌, ◌<◌, ◌≤◌, List, [], ◌∷◌, ◌++◌, length, drop, refl, sym, ap, subst, ◌∙◌, append-nil, length-append, length-drop, inl, inr, arith}
 use Rattle.std.specs.Prelude.{All}
 use Rattle.std.proofs.lemmas.List.Elements.{All-nil, All-push}
 use Rattle.cell_core.specs.Text.{IsZeroFree}
 use Rattle.cell_core.specs.declared.step.Move.{Move}
-use Rattle.game_tree.specs.Game.{GameTree}
 use Rattle.game_tree.specs.Movetext.{Movetext, end, move, nag, comment, variation, meaning}
 use Rattle.game_tree.specs.declared.head.Tag.{Tag}
 use Rattle.move_codec.specs.Numbers.{Numbered}
 use Rattle.game_codec.specs.Token.{Token, Play, Nag, Comment, Open, Close, End}
-use Rattle.game_codec.specs.Place.{Place, Takes, FaultAt, ending, beginning, after_move, after_comment, variation_of}
+use Rattle.game_codec.specs.Place.{Place, Takes, FaultAt, beginning, after_move, after_comment, variation_of}
 use Rattle.game_codec.specs.Moves.{SpellsMoves, Upto, here, past_move, past_nag, past_comment, past_variation, inside, BreaksMoves}
 use Rattle.game_codec.specs.Texts.{AreTexts, BreaksTexts, ended, texts_of}
-use Rattle.game_codec.specs.Record.{IsRecord, IsSomeRecord, game_of}
+use Rattle.game_codec.specs.Record.{IsSomeRecord, game_of}
 use Rattle.game_codec.specs.TagSpelling.{BeginsTags}
 use Rattle.game_codec.specs.Start.{BeginsStart, BreaksStart}
 use Rattle.game_tree.specs.TagName.{free_of}

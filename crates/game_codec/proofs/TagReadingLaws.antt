@@ -1,5 +1,5 @@
 -- The bytes begin with a tag exactly where they are read as it.
-use Rattle.std.proofs.Common.{◌≡◌, ◌≢◌, ℕ, ◌+◌, ◌-◌, ◌*◌, ◌/◌, ◌%◌, ◌<◌, ◌≤◌, inl, inr, Bool, true, false, not, ◌&&◌, ◌==◌, nat_le, nat_lt, List, [], ◌∷◌, ◌++◌, Option, Some, None, Result, Ok, Err, length, slice_index_or, get_or, take, drop, refl, sym, ap, subst, ◌∙◌, arith, codes, append_assoc, All, length-append, lit≤}
+use Rattle.std.proofs.Common.{◌≡◌, ◌≢◌, ℕ, ◌+◌, ◌-◌, ◌*◌, ◌/◌, ◌%◌, ◌<◌, ◌≤◌, inl, inr, Bool, true, false, ◌&&◌, ◌==◌, nat_le, nat_lt, List, [], ◌∷◌, ◌++◌, Option, Some, None, Result, Ok, Err, length, slice_index_or, get_or, take, drop, refl, sym, ap, subst, ◌∙◌, arith, codes, append_assoc, All, length-append, lit≤}
 use Rattle.std.specs.List.{list_all, slice_get}
 use Rattle.std.proofs.Math.Nat.{div-div-eq-div-mul}
 use Rattle.std.proofs.lemmas.Bool.{cases_Bool, cond_both, eqb-true, eqb-false, ne_eqb, leb-true, leb-false, le-leb, lt-leb, ltb-false, le-ltb, not-true, and_from, and_parts, not_from_false}

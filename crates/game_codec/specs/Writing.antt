@@ -1,17 +1,15 @@
 -- The parts of a record's moves and texts, as the code writes them one behind the other. No public contract cites these
 -- words.
-use Rattle.std.specs.Prelude.{◌≡◌, ℕ, ◌+◌, ◌⊎◌, List, [], ◌∷◌, ◌++◌, Option, Some, None}
+use Rattle.std.specs.Prelude.{◌≡◌, ℕ, List, [], ◌∷◌, ◌++◌, Option, Some, None}
 use Rattle.chess_laws.specs.declared.setup.Setup.{Setup}
-use Rattle.chess_laws.specs.Position.{start_setup}
-use Rattle.chess_text.specs.Written.{fen_text}
+use Rattle.chess_laws.specs.Position.{is_start}
 use Rattle.game_tree.specs.Movetext.{end}
 use Rattle.game_tree.specs.Tree.{Branches, Played}
 use Rattle.game_tree.specs.Written.{variations_before}
 use Rattle.move_codec.specs.Numbers.{Numbered}
 use Rattle.move_codec.specs.Packed.{encoding}
-use Rattle.game_codec.specs.Start.{standard_start}
 use Rattle.game_codec.specs.Texts.{texts_of, ended}
-use Rattle.game_codec.specs.Written.{moves_text, own_start}
+use Rattle.game_codec.specs.Written.{moves_text, numbered_start, start_text}
 
 -- The mark of a comment, and its text.
 abbrev pub mark_text : Option (List ℕ) → List ℕ
@@ -43,15 +41,6 @@ abbrev pub node_texts : Played → List ℕ
 node_texts node = comment_text node.comment ++ variations_texts node.variations
 
 -- The flags and what tells the start were added, and these are the numbers that the men have in the record.
-pub record AddsStandard (start : Setup) (flags : ℕ) (old new : List ℕ) (numbered : Numbered) : Type 0 where
-  pub standard : start ≡ start_setup
-  pub bytes : new ≡ old ++ (flags ∷ [])
-  pub start_is : numbered ≡ standard_start
-
-pub record AddsOwn (start : Setup) (flags : ℕ) (old new : List ℕ) (numbered : Numbered) : Type 0 where
-  pub own : start ≡ start_setup → ⊥
-  pub bytes : new ≡ old ++ ((1 + flags) ∷ fen_text start ++ 0 ∷ [])
-  pub start_is : numbered ≡ own_start start
-
-abbrev pub AddsStart : Setup → ℕ → List ℕ → List ℕ → Numbered → Type 0
-AddsStart start flags old new numbered = AddsStandard start flags old new numbered ⊎ AddsOwn start flags old new numbered
+pub record AddsStart (start : Setup) (flags : ℕ) (old new : List ℕ) (numbered : Numbered) : Type 0 where
+  pub bytes : new ≡ old ++ start_text (is_start start) start flags
+  pub start_is : numbered ≡ numbered_start (is_start start) start

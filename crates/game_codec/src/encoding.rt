@@ -1,13 +1,12 @@
 //! Writing records.
-ghost use Rattle.std.specs.Prelude.{◌≡◌, ◌↔◌, ◌<◌, ◌≤◌, ◌⊎◌, ℕ, List, [], ◌∷◌, ◌++◌, All, length, IfOk, IfErr, IsTrue, MatchResult};
+ghost use Rattle.std.specs.Prelude.{◌≡◌, ◌↔◌, ◌<◌, ◌≤◌, ℕ, List, [], ◌∷◌, ◌++◌, All, length, IfOk, IfErr, IsTrue};
 ghost use Rattle.game_tree.specs.Head.{IsTag};
 ghost use Rattle.game_tree.specs.Kept.{IsGame};
 ghost use Rattle.game_tree.specs.Legal.{IsLegalGame};
 ghost use Rattle.game_codec.specs.Record.{IsRecord};
 ghost use Rattle.game_codec.specs.TagSpelling.{counted};
-ghost use Rattle.game_codec.specs.Written.{IsWrittenRecord, IfTooLong, promotion_flags, tags_text};
+ghost use Rattle.game_codec.specs.Written.{IfTooLong, longest, promotion_flags, tags_text, written_record};
 ghost use Rattle.game_codec.specs.Writing.{AddsStart};
-ghost use Rattle.game_codec.specs.declared.fault.EncodeError.TheVariants.{Memory};
 
 use super::fault::EncodeError;
 use super::moves::{Body, put_line};
@@ -19,24 +18,22 @@ use move_codec::Numbered;
 use std::alloc::{AllocError, Global};
 
 // The greatest length of a record, in bytes.
-const GREATEST_LENGTH: usize = 131_071;
+const LONGEST: usize = 131_071;
 
 /// The record of a legal game with these extra tags, which are within their bounds: its one written form. It is read again
 /// as the same game and the same tags. `TooLong` comes exactly where it would have more than 131,071 bytes.
 pub fn encode_game(alloc: Global, g: &Game, tags: &[Tag]) -> Result<Vec<u8>, EncodeError>
     requires legal { IsLegalGame g.now }
     requires tags { All IsTag tags.now }
-    ensures written { IfOk result (λ bytes. IsWrittenRecord bytes.items tags.now g.now) }
-    ensures fits { IfOk result (λ bytes. length bytes.items ≤ 131071) }
-    // That form alone is given, and refused only where it is too long or for want of memory.
-    ensures exact { (bytes : List ℕ) → IsWrittenRecord bytes tags.now g.now
-        → MatchResult result (λ written. written.items ≡ bytes) (λ error. (error ≡ Memory) ⊎ (131071 < length bytes)) }
+    ensures written { IfOk result (λ bytes. bytes.items ≡ written_record tags.now g.now) }
+    ensures fits { IfOk result (λ bytes. length bytes.items ≤ longest) }
     ensures read_again { IfOk result (λ bytes. IsRecord bytes.items tags.now g.now) }
-    ensures too_long { IfErr result (IfTooLong (λ n. (bytes : List ℕ) × (IsWrittenRecord bytes tags.now g.now × ((n ≡ length bytes) × (131071 < n))))) }
+    // That form is refused only where it is too long or for want of memory.
+    ensures too_long { IfErr result (IfTooLong (λ n. (n ≡ length (written_record tags.now g.now)) × (longest < n))) }
 {
     let bytes = whole_record(alloc, g, tags)?;
     let len = bytes.len();
-    if len > GREATEST_LENGTH {
+    if len > LONGEST {
         Err(EncodeError::TooLong(len as u64))
     } else {
         Ok(bytes)
@@ -47,7 +44,7 @@ pub fn encode_game(alloc: Global, g: &Game, tags: &[Tag]) -> Result<Vec<u8>, Enc
 fn whole_record(alloc: Global, g: &Game, tags: &[Tag]) -> Result<Vec<u8>, AllocError>
     requires legal { IsLegalGame g.now }
     requires tags { All IsTag tags.now }
-    ensures written { IfOk result (λ bytes. IsWrittenRecord bytes.items tags.now g.now) }
+    ensures written { IfOk result (λ bytes. bytes.items ≡ written_record tags.now g.now) }
     ensures is_game { IfOk result (λ _. IsGame g.now) }
 {
     let mut out = Vec::new(alloc);

@@ -27,7 +27,7 @@ pub use decoding::decode_game;
 pub use encoding::encode_game;
 pub use fault::{DecodeError, EncodeError, RecordFault, RecordWhat};
 pub use one_reading::bytes_have_one_reading;
-pub use round_trip::{written_form_is_one, written_records_are_read};
+pub use round_trip::written_records_are_read;
 pub use walk::Walk;
 
 #[cfg(test)]

@@ -1,4 +1,4 @@
-use Rattle.std.proofs.Common.{rules, ℕ, List, [], drop, sym, subst}
+use Rattle.std.proofs.Common.{rules, [], sym, subst}
 use Rattle.std.proofs.lemmas.Result.{IfOk-weaker, IfErr-weaker, err_from_is_err_and}
 use Rattle.game_codec.specs.Breach.{Tells}
 use Rattle.game_codec.specs.Fault.{Breaks}
