@@ -11,6 +11,8 @@ pub mod Walks
 pub mod Rows
 pub mod Lines
 pub mod Checks
+pub mod Counting
+pub mod Untouched
 pub mod Opening
 pub mod Attackers
 pub mod Collecting
@@ -20,3 +22,6 @@ pub mod Pawns
 pub mod Soundness
 pub mod Start
 pub mod Climbing
+pub mod Stepping
+pub mod Initial
+pub mod Deciding

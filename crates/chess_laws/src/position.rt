@@ -29,25 +29,28 @@ pub struct Position {
     white_king: Square,
     black_king: Square,
     checked: bool,
+    counts: [u8; 10],
 }
 
 impl Model for Position {
     ghost use Rattle.cell_core.specs.declared.man.Colour.TheVariants.{White, Black};
     ghost use Rattle.chess_laws.specs.declared.setup.Setup.{Setup};
     ghost use Rattle.chess_laws.specs.Checks.{in_check};
+    ghost use Rattle.chess_laws.specs.Counts.{counts_of};
     ghost use Rattle.chess_laws.specs.Position.{Keeps, king_square, inverse_Keeps};
 
     ghost Value = { Setup };
 
     ghost view = { λ p. p.inner };
 
-    ghost invariant = { λ p. Keeps p.inner p.white_king p.black_king p.checked };
+    ghost invariant = { λ p. Keeps p.inner p.white_king p.black_king p.checked p.counts };
 
-    ghost inverse = { λ p. record { inner = p; white_king = king_square p.board White; black_king = king_square p.board Black; checked = in_check p } };
+    ghost inverse = { λ p. record { inner = p; white_king = king_square p.board White; black_king = king_square p.board Black; checked = in_check p; counts = counts_of p.board } };
 }
 
 impl Position {
-    ghost use Rattle.chess_laws.specs.Position.{Sound, Breaks, setup_of, start_setup, bits_of};
+    ghost use Rattle.chess_laws.specs.LegalNow.{attacks_now, in_check_now};
+    ghost use Rattle.chess_laws.specs.Position.{Sound, Breaks, setup_of, start_setup, is_start, bits_of};
 
     /// The initial position: White to move, all four rights, no en passant square.
     pub fn start() -> Position
@@ -69,7 +72,23 @@ impl Position {
             white_king: Square::at(4),
             black_king: Square::at(60),
             checked: false,
+            counts: [1, 2, 2, 2, 8, 1, 2, 2, 2, 8],
         }
+    }
+
+    /// Whether it is the initial position.
+    pub fn is_start(&self) -> bool
+        ensures start { IsTrue result ↔ (self.now ≡ start_setup) }
+        ensures decided { result ≡ is_start self.now }
+    {
+        self.setup().is_same(Position::start().setup())
+    }
+
+    /// Whether two positions are the same.
+    pub fn is_same(&self, other: &Position) -> bool
+        ensures same { IsTrue result ↔ (self.now ≡ other.now) }
+    {
+        self.setup().is_same(other.setup())
     }
 
     /// The position of a board, a side to move, castling rights (bits 0 to 3 for White's king's side and queen's side
@@ -140,6 +159,7 @@ impl Position {
     /// Whether some man of the colour `by` attacks the square.
     pub fn attacked(&self, by: Colour, s: Square) -> bool
         ensures attacks { IsTrue result ↔ Attacks self.now.board by s }
+        ensures decided { result ≡ attacks_now self.now.board by s }
     {
         attacks(&self.inner.board, by, s)
     }
@@ -147,6 +167,7 @@ impl Position {
     /// Whether the side to move is in check.
     pub fn in_check(&self) -> bool
         ensures check { IsTrue result ↔ IsInCheck self.now.board self.now.side }
+        ensures decided { result ≡ in_check_now self.now.board self.now.side }
     {
         self.checked
     }
@@ -155,7 +176,7 @@ impl Position {
     pub fn counts(&self) -> [u8; 10]
         ensures counts { result ≡ counts_of self.now.board }
     {
-        counts(&self.inner.board)
+        self.counts
     }
 
     /// The home values of the pawns that stand on their own squares, as bits: 15 down to 8 for a2 to h2, and 7 down to 0
@@ -208,17 +229,20 @@ fn place(
         white_king,
         black_king,
         checked,
+        counts: counts(board),
     })
 }
 
 impl Position {
     ghost use Rattle.chess_laws.specs.declared.setup.Setup.{Setup};
-    ghost use Rattle.chess_laws.specs.Step.{after, effect_of, Legal, Step};
+    ghost use Rattle.chess_laws.specs.LegalNow.{legal_now};
+    ghost use Rattle.chess_laws.specs.Step.{after, effect_of, is_capture, Legal, Step};
     ghost use Rattle.std.specs.Bool.{OnTrue, OnFalse};
 
     /// Whether the move is legal. The null move is legal where the side to move is not in check.
     pub fn is_legal(&self, m: Move) -> bool
         ensures legal { IsTrue result ↔ Legal self.now m }
+        ensures decided { result ≡ legal_now self.now m }
     {
         is_legal(self.setup(), self.king(self.side()), self.in_check(), &m)
     }
@@ -229,6 +253,18 @@ impl Position {
         ensures effect { result ≡ effect_of self.now m.now }
     {
         effect_of(&self.inner, m)
+    }
+
+    /// Whether a move captures a man, on its target or en passant. It says nothing of whether the move is legal.
+    #[tactic(auto, unfolding(crate::specs::Step::is_capture))]
+    pub fn is_capture(&self, m: &Move) -> bool
+        ensures capture { result ≡ is_capture self.now m.now }
+    {
+        match effect_of(&self.inner, m) {
+            Effect::Plain | Effect::Double => self.inner.board.at(m.to).is_some(),
+            Effect::Passing => true,
+            Effect::Castle(_) | Effect::Null => false,
+        }
     }
 
     /// Plays the move where it is legal, and answers whether it is. A position whose move is not legal stays as it was.
@@ -269,11 +305,23 @@ impl Position {
     {
         match self.inner.side {
             Colour::White => {
-                self.checked = make(&mut self.inner, m, effect, self.black_king);
+                self.checked = make(
+                    &mut self.inner,
+                    &mut self.counts,
+                    m,
+                    effect,
+                    self.black_king,
+                );
                 self.white_king = king_after(self.white_king, m);
             }
             Colour::Black => {
-                self.checked = make(&mut self.inner, m, effect, self.white_king);
+                self.checked = make(
+                    &mut self.inner,
+                    &mut self.counts,
+                    m,
+                    effect,
+                    self.white_king,
+                );
                 self.black_king = king_after(self.black_king, m);
             }
         }

@@ -1,11 +1,11 @@
 -- A tree is what its items mean in the order in which they are written.
 use Rattle.std.proofs.Common.{◌≡◌, ℕ, List, [], ◌∷◌, Option, Some, None, refl, ap, ◌∙◌}
 use Rattle.chess_laws.specs.declared.setup.Setup.{Setup}
+use Rattle.chess_laws.specs.Step.{stepped}
 use Rattle.game_tree.specs.Tree.{Line, ends, goes, Branches, none, more}
 use Rattle.game_tree.specs.Movetext.{Movetext, as_comment, joined, Said, meaning}
 use Rattle.game_tree.specs.Legal.{IsComment, IsLegalLine, AreLegalBranches}
 use Rattle.game_tree.specs.Written.{nags_before, comment_before, movetext_of, variations_before, HasComments, HaveComments}
-use Rattle.game_tree.specs.Replay.{stepped}
 
 -- what is said before a line
 abbrev said : List ℕ → Option (List ℕ) → Branches → Line → Said

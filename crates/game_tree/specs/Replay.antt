@@ -2,13 +2,9 @@
 use Rattle.std.specs.Prelude.{ℕ, List, Option, length, take, fold, slice_get}
 use Rattle.cell_core.specs.declared.step.Move.{Move}
 use Rattle.chess_laws.specs.declared.setup.Setup.{Setup}
-use Rattle.chess_laws.specs.Step.{after, effect_of}
+unfoldable pub use Rattle.chess_laws.specs.Step.{stepped}
 use Rattle.game_tree.specs.Tree.{moves_of}
 use Rattle.game_tree.specs.Game.{GameTree}
-
--- what the position becomes by a move
-unfoldable pub stepped : Setup → Move → Setup
-stepped p m = after p m (effect_of p m)
 
 -- the moves of the main line, and how many they are
 abbrev pub main_moves : GameTree → List Move

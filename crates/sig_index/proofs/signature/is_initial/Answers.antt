@@ -10,7 +10,7 @@ use Rattle.cell_core.specs.contracts.board.BoardPartialEq.TheImpl as board
 use Rattle.cell_core.specs.contracts.man.ColourPartialEq.TheImpl as colour
 use Rattle.cell_core.specs.contracts.square.SquarePartialEq.TheImpl as square
 use Rattle.chess_laws.specs.contracts.setup.RightsPartialEq.TheImpl as rights
-use Rattle.game_codec.proofs.encoding.is_same_setup.Goals as goal
+use Rattle.sig_index.proofs.signature.is_initial.Goals as goal
 
 by_parts : (a b : Setup) (r board side rights square : Bool) → r ≡ (board && (side && (rights && square)))
     → Decides board (a.board ≡ b.board) → Decides side (a.side ≡ b.side) → Decides rights (a.rights ≡ b.rights)
@@ -33,13 +33,13 @@ same_square a b = search rules
 
 pub returns : goal.returns
 returns c =
-    by_parts c.args.first.now c.args.second.now c.eq.result
-    ((board.ghosts).eq c.args.first.now.board c.args.second.now.board)
-    ((colour.ghosts).eq c.args.first.now.side c.args.second.now.side)
-    ((rights.ghosts).eq c.args.first.now.rights c.args.second.now.rights)
-    (option_eq (square.ghosts).eq c.args.first.now.en_passant c.args.second.now.en_passant)
+    by_parts c.args.setup.now c.args.initial.now c.eq.result
+    ((board.ghosts).eq c.args.setup.now.board c.args.initial.now.board)
+    ((colour.ghosts).eq c.args.setup.now.side c.args.initial.now.side)
+    ((rights.ghosts).eq c.args.setup.now.rights c.args.initial.now.rights)
+    (option_eq (square.ghosts).eq c.args.setup.now.en_passant c.args.initial.now.en_passant)
     c.eq.ensures
     (slice_eq-Decides (search rules) _ _ _ refl)
-    (same_colour c.args.first.now.side c.args.second.now.side)
-    (same_rights c.args.first.now.rights c.args.second.now.rights)
-    (same_square c.args.first.now.en_passant c.args.second.now.en_passant)
+    (same_colour c.args.setup.now.side c.args.initial.now.side)
+    (same_rights c.args.setup.now.rights c.args.initial.now.rights)
+    (same_square c.args.setup.now.en_passant c.args.initial.now.en_passant)
