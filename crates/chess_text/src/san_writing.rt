@@ -11,6 +11,7 @@ ghost use Rattle.chess_text.specs.Squares.{square_text};
 ghost use Rattle.chess_text.specs.SanShape.{castling_text, null_text};
 ghost use Rattle.chess_text.specs.SanReads.{SanReads};
 ghost use Rattle.chess_text.specs.San.{San, GoingText, IsRival, PieceText, SignText, capture_text, pawn_capture_text, pawn_text, promotion_text};
+ghost use Rattle.chess_text.specs.SanText.{san_text};
 ghost use Rattle.chess_text.specs.SanWriting.{AreRivals, FrontText, RivalsBelow, SignBy, origin_by};
 
 use super::letters::capital_of;
@@ -34,6 +35,7 @@ pub struct Rivals {
 pub fn write_san(p: &Position, m: Move) -> ArrayVec<u8, 8>
     requires legal { Legal p.now m }
     ensures text { San p.now m result.items }
+    ensures exact { result.items ≡ san_text p.now m }
     ensures read_again { SanReads p.now result.items m }
 {
     written(p, p.setup(), &m)
@@ -45,6 +47,7 @@ fn written(p: &Position, setup: &Setup, m: &Move) -> ArrayVec<u8, 8>
     requires same { setup.now ≡ p.now }
     requires sound { Sound p.now }
     ensures text { San p.now m.now result.items }
+    ensures exact { result.items ≡ san_text p.now m.now }
     ensures read_again { SanReads p.now result.items m.now }
 {
     let effect = p.effect(m);

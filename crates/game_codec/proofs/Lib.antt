@@ -21,3 +21,4 @@ pub mod AnswerLaws
 pub mod WalkLaws
 pub mod WalkSteps
 pub mod PassLaws
+pub mod CheckLaws

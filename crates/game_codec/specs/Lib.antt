@@ -17,3 +17,4 @@ pub mod Adding
 pub mod Flat
 pub mod Walk
 pub mod Walking
+pub mod Checking
