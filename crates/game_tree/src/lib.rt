@@ -3,15 +3,15 @@
 #![tactic(auto)]
 
 pub mod bounds;
-pub mod builder;
+mod builder;
 mod counts;
 pub mod date;
 mod decimal;
 mod eco;
-pub mod game;
+mod game;
 pub mod head;
-pub mod legality;
-pub mod node;
+mod legality;
+mod node;
 mod open_line;
 mod outcome;
 mod promotions;
@@ -27,7 +27,7 @@ pub use decimal::read_decimal;
 pub use eco::{eco_text, read_eco};
 pub use game::{Game, main_line, plies};
 pub use head::{Head, HeadRef, Outcome, Rating, Tag};
-pub use legality::legal;
+pub use legality::{DEEPEST, comments_leave_the_moves, legal};
 pub use node::{Branch, Node};
 pub use settling::settle;
 pub use tag_name::{is_reserved, is_tag_byte, is_tag_name};
