@@ -10,6 +10,7 @@ pub mod Kings
 pub mod Walks
 pub mod Rows
 pub mod Lines
+pub mod Checks
 pub mod Opening
 pub mod Attackers
 pub mod Collecting

@@ -1,13 +1,13 @@
 -- Where the kings stand after a move, and what is kept beside the position then.
-use Rattle.std.proofs.Common.{◌≡◌, ℕ, ◌<◌, inl, inr, true, eqb, Some, None, length, refl, sym, ◌∙◌, ap}
+use Rattle.std.proofs.Common.{◌≡◌, ℕ, ◌<◌, inl, inr, true, eqb, Some, None, length, count_by, Bool, refl, sym, ◌∙◌, ap}
 use Rattle.std.proofs.lemmas.Bool.{eq-eqb, ne_eqb, cases_eq}
 use Rattle.cell_core.specs.declared.man.Colour.{Colour}
 use Rattle.cell_core.specs.declared.man.Colour.TheVariants.{White, Black}
 use Rattle.cell_core.specs.declared.man.Kind.{Kind}
 use Rattle.cell_core.specs.declared.man.Kind.TheVariants.{King, Rook, Pawn}
 use Rattle.cell_core.specs.declared.step.Move.{Move}
-use Rattle.cell_core.specs.Board.{man_at, put}
-use Rattle.cell_core.specs.Man.{man, other, same_kind}
+use Rattle.cell_core.specs.Board.{Men, man_at, put}
+use Rattle.cell_core.specs.Man.{man, other, same_kind, is_man}
 use Rattle.chess_laws.specs.declared.setup.Setup.{Setup}
 use Rattle.chess_laws.specs.declared.setup.Wing.{Wing}
 use Rattle.chess_laws.specs.declared.effect.Effect.{Effect}
@@ -15,10 +15,11 @@ use Rattle.chess_laws.specs.declared.effect.Effect.TheVariants.{Plain, Double, P
 use Rattle.chess_laws.specs.Geometry.{rank_of}
 use Rattle.chess_laws.specs.Attacks.{IsInCheck}
 use Rattle.chess_laws.specs.Castling.{rook_home, rook_target}
-use Rattle.chess_laws.specs.Position.{Sound, Keeps}
+use Rattle.chess_laws.specs.Checks.{in_check}
+use Rattle.chess_laws.specs.Position.{Sound, Keeps, king_square}
 use Rattle.chess_laws.specs.Step.{effect_of, last_rank, PlainCase, PassingCase, CastleCase, Case, arriving, moved, passed_square, board_after, after, Legal}
 use Rattle.chess_laws.specs.Legal.{IsOnlyKing, king_after}
-use Rattle.chess_laws.proofs.Kings.{king-only}
+use Rattle.chess_laws.proofs.Kings.{king-only, king-stands}
 use Rattle.chess_laws.proofs.Boards.{only-king, man-colour, man-kind, same_kind-true, put-same, put-other, length-put}
 use Rattle.chess_laws.proofs.Keeping.{other-apart, lands_as, arriving-lands, lands, plain-no_king, moved-other, castle-squares, castle-apart, Lands, CastleSquares}
 use Rattle.chess_laws.proofs.Following.{follows, plain-on_board, target-on_board, case-on_board, Sound-step}
@@ -117,7 +118,7 @@ resting-castle p m w king sound stands at case =
     ∙ moved-other p m king from to
     ∙ stands
 
-resting-king : (p : Setup) (m : Move) (e : Effect) (king : ℕ) → Sound p → man_at p.board king ≡ Some (man (other p.side) King) → effect_of p m ≡ e → Case p m e →
+pub resting-king : (p : Setup) (m : Move) (e : Effect) (king : ℕ) → Sound p → man_at p.board king ≡ Some (man (other p.side) King) → effect_of p m ≡ e → Case p m e →
     man_at (board_after p m e) king ≡ Some (man (other p.side) King)
 resting-king p m Plain king sound stands is case =
     let away : king ≡ m.from → ⊥ = λ e.
@@ -146,31 +147,43 @@ legal-safe p m (q, step) check = step.safe (rw step.becomes check)
 pub Sound-after : (p : Setup) (m : Move) → Sound p → Legal p m → Sound (after p m (effect_of p m))
 Sound-after p m sound legal = Sound-step p m sound (legal-allowed p m legal) (legal-safe p m legal)
 
+-- the one king of each side stands on its first square
+pub first-only : (men : Men) (c : Colour) → count_by (is_man c King) men ≡ 1 → IsOnlyKing men c (king_square men c)
+first-only men c one = record { stands = king-stands men c one; only = λ t h. king-only men c t one h }
+
 -- what is kept beside the position follows it
-pub Keeps-white : (p : Setup) (m : Move) (king resting : ℕ) → p.side ≡ White → Sound p → Legal p m → IsOnlyKing p.board p.side king →
-    man_at p.board resting ≡ Some (man (other p.side) King) → Keeps (after p m (effect_of p m)) (king_after king m) resting
-Keeps-white p m king resting side sound legal only stands =
+pub Keeps-white : (p : Setup) (m : Move) (white black : ℕ) (checked next : Bool) → p.side ≡ White → Keeps p white black checked → Legal p m →
+    next ≡ in_check (after p m (effect_of p m)) → Keeps (after p m (effect_of p m)) (king_after white m) black next
+Keeps-white p m white black checked next side kept legal told =
+    let sound = kept.sound in
     let case = legal-allowed p m legal in
-    let next = Sound-after p m sound legal in
+    let after_it = Sound-after p m sound legal in
     let board = board_after p m (effect_of p m) in
+    let only : IsOnlyKing p.board p.side white = rw (side, kept.white_king) (first-only p.board White (sound.kings White)) in
+    let stands : man_at p.board black ≡ Some (man (other p.side) King) = rw (side, kept.black_king) (king-stands p.board Black (sound.kings Black)) in
     record {
-      sound = next;
-      white_king = king-only board White (king_after king m) (next.kings White)
-          (mover-king p m (effect_of p m) king sound only refl case ∙ ap (λ c. Some (man c King)) side);
-      black_king = king-only board Black resting (next.kings Black)
-          (resting-king p m (effect_of p m) resting sound stands refl case ∙ ap (λ c. Some (man (other c) King)) side);
+      sound = after_it;
+      white_king = king-only board White (king_after white m) (after_it.kings White)
+          (mover-king p m (effect_of p m) white sound only refl case ∙ ap (λ c. Some (man c King)) side);
+      black_king = king-only board Black black (after_it.kings Black)
+          (resting-king p m (effect_of p m) black sound stands refl case ∙ ap (λ c. Some (man (other c) King)) side);
+      check = told;
     }
 
-pub Keeps-black : (p : Setup) (m : Move) (king resting : ℕ) → p.side ≡ Black → Sound p → Legal p m → IsOnlyKing p.board p.side king →
-    man_at p.board resting ≡ Some (man (other p.side) King) → Keeps (after p m (effect_of p m)) resting (king_after king m)
-Keeps-black p m king resting side sound legal only stands =
+pub Keeps-black : (p : Setup) (m : Move) (white black : ℕ) (checked next : Bool) → p.side ≡ Black → Keeps p white black checked → Legal p m →
+    next ≡ in_check (after p m (effect_of p m)) → Keeps (after p m (effect_of p m)) white (king_after black m) next
+Keeps-black p m white black checked next side kept legal told =
+    let sound = kept.sound in
     let case = legal-allowed p m legal in
-    let next = Sound-after p m sound legal in
+    let after_it = Sound-after p m sound legal in
     let board = board_after p m (effect_of p m) in
+    let only : IsOnlyKing p.board p.side black = rw (side, kept.black_king) (first-only p.board Black (sound.kings Black)) in
+    let stands : man_at p.board white ≡ Some (man (other p.side) King) = rw (side, kept.white_king) (king-stands p.board White (sound.kings White)) in
     record {
-      sound = next;
-      white_king = king-only board White resting (next.kings White)
-          (resting-king p m (effect_of p m) resting sound stands refl case ∙ ap (λ c. Some (man (other c) King)) side);
-      black_king = king-only board Black (king_after king m) (next.kings Black)
-          (mover-king p m (effect_of p m) king sound only refl case ∙ ap (λ c. Some (man c King)) side);
+      sound = after_it;
+      white_king = king-only board White white (after_it.kings White)
+          (resting-king p m (effect_of p m) white sound stands refl case ∙ ap (λ c. Some (man (other c) King)) side);
+      black_king = king-only board Black (king_after black m) (after_it.kings Black)
+          (mover-king p m (effect_of p m) black sound only refl case ∙ ap (λ c. Some (man c King)) side);
+      check = told;
     }

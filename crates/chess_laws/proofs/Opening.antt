@@ -1,7 +1,7 @@
 -- What a move opens: an attack after it was there before, or comes from its target, or runs over the square that it left.
-use Rattle.std.proofs.Common.{◌≡◌, ℕ, zero, suc, ◌<◌, ◌⊎◌, inl, inr, ⊎_elim, Bool, true, false, ltb, Some, None, length, refl, sym, ◌∙◌, ap, arith}
+use Rattle.std.proofs.Common.{◌≡◌, ℕ, zero, suc, ◌<◌, ◌⊎◌, inl, inr, ⊎_elim, ◌↔◌, IsTrue, Bool, true, false, ltb, Some, None, length, refl, sym, ◌∙◌, ap, arith}
 use Rattle.std.specs.Prelude.{Any}
-use Rattle.std.proofs.lemmas.Bool.{cases_eq, false≢true}
+use Rattle.std.proofs.lemmas.Bool.{cases_Bool, cases_eq, false≢true}
 use Rattle.std.proofs.lemmas.Bool.Decides.{nat_tests}
 use Rattle.cell_core.specs.declared.man.Colour.{Colour}
 use Rattle.cell_core.specs.declared.man.Kind.{Kind}
@@ -16,13 +16,16 @@ use Rattle.chess_laws.specs.declared.effect.Effect.TheVariants.{Plain, Double, P
 use Rattle.chess_laws.specs.Geometry.{Offset, Walk, Runs}
 use Rattle.chess_laws.specs.Attacks.{Attacks, AttacksAs, Reaches, IsInCheck}
 use Rattle.chess_laws.specs.Legal.{IsOnlyKing, is_calm, line, glides, slides, king_after}
-use Rattle.chess_laws.specs.Position.{Sound}
+use Rattle.chess_laws.specs.Checks.{Hits, in_check}
+use Rattle.chess_laws.specs.Position.{Sound, king_square}
 use Rattle.chess_laws.specs.Rays.{Opens, Covers, SlidesFrom, glider, offset_at}
 use Rattle.chess_laws.specs.Step.{effect_of, arriving, moved, board_after, after, Case, Legal}
-use Rattle.chess_laws.proofs.Boards.{man-colour, on_board, put-same, put-other, length-put}
+use Rattle.chess_laws.proofs.Boards.{man-colour, on_board, other-other, put-same, put-other, length-put}
 use Rattle.chess_laws.proofs.Keeping.{arriving-lands, lands_as, moved-other, other-apart}
 use Rattle.chess_laws.proofs.Following.{case-on_board}
-use Rattle.chess_laws.proofs.MovedKings.{only-king-after, king-stays}
+use Rattle.chess_laws.proofs.MovedKings.{only-king-after, king-stays, resting-king, legal-allowed, Sound-after}
+use Rattle.chess_laws.proofs.Kings.{king-stands, king-only}
+use Rattle.chess_laws.proofs.Checks.{in_check-is, same-told}
 use Rattle.chess_laws.proofs.Lines.{any-slide, slide-any, line-walk}
 
 -- a walk after the move was one before it, or runs over the square that was left
@@ -175,3 +178,57 @@ legal-calm p m king sound only case quiet unchecked covers =
             unchecked (king, only.stands, attack-before p m king c covers.shut attacked);
       },
     )
+
+-- where the man that came does not hit a king and no line to it is opened, it is not in check
+checked-before : (p : Setup) (m : Move) (s : ℕ) → (c : Calm p m) → (Opens p.board p.side m.from s → ⊥) → (Hits (moved p m) p.side m.to s → ⊥) →
+    Attacks (moved p m) p.side s → Attacks p.board p.side s
+checked-before p m s c shut miss (k, h) = elim (cases_eq h.from m.to) [
+  | inl here ↦ absurd (miss (record { kind = k; stands = rw here at h.stands; reaches = rw here at h.reaches }))
+  | inr apart ↦
+      let was = calm-stands p m c h.from (man p.side k) apart h.stands in
+      elim (reach-over p.board (moved p m) p.side k m.from h.from s (calm-empties p m c) h.on_board was h.reaches) [
+        | inl same ↦ (k, record { from = h.from; on_board = h.on_board; stands = was; reaches = same })
+        | inr opens ↦ absurd (shut opens)
+      ]
+]
+
+hits-attack : (men : Men) (c : Colour) (a s : ℕ) → length men ≡ 64 → Hits men c a s → Attacks men c s
+hits-attack men c a s squares h =
+    (h.kind, record { from = a; on_board = on_board men a (man c h.kind) squares h.stands; stands = h.stands; reaches = h.reaches })
+
+-- so the test of what came and of what was opened tells of check
+pub check-told : (p : Setup) (m : Move) (s : ℕ) (opened test : Bool) → Sound p → Legal p m → s ≡ king_square p.board (other p.side) →
+    (opened ≡ false → (is_calm (effect_of p m) ≡ true) × (Opens p.board p.side m.from s → ⊥)) →
+    (IsTrue test ↔ (Hits (board_after p m (effect_of p m)) p.side m.to s ⊎ ((opened ≡ true) × Attacks (board_after p m (effect_of p m)) p.side s))) →
+    test ≡ in_check (after p m (effect_of p m))
+check-told p m s opened test sound legal is shut told =
+    let e = effect_of p m in
+    let men = board_after p m e in
+    let case = legal-allowed p m legal in
+    let next = Sound-after p m sound legal in
+    let stood : man_at p.board s ≡ Some (man (other p.side) King) = rw is (king-stands p.board (other p.side) (sound.kings (other p.side))) in
+    let stands = resting-king p m e s sound stood refl case in
+    let only = king-only men (other p.side) s (next.kings (other p.side)) stands in
+    same-told (IsInCheck men (other p.side)) test (in_check (after p m e)) (
+      λ h. elim (told.0 h) [
+        | inl hits ↦ (s, stands, rw (other-other p.side) (hits-attack men p.side m.to s next.squares hits))
+        | inr full ↦ (s, stands, rw (other-other p.side) full.1)
+      ],
+      λ check.
+          let at : check.0 ≡ s = king-only men (other p.side) check.0 (next.kings (other p.side)) check.1 ∙ sym only in
+          let attacked : Attacks men p.side s = rw (at, other-other p.side) at check.2 in
+          elim (cases_Bool opened) [
+            | inl ajar ↦ told.1 (inr (ajar, attacked))
+            | inr closed ↦ elim (cases_Bool test) [
+              | inl found ↦ found
+              | inr failed ↦
+                  let both = shut closed in
+                  let c = calm p m e sound refl both.0 case in
+                  let board = calm-board p m e both.0 in
+                  let attacked' : Attacks (moved p m) p.side s = rw board at attacked in
+                  let miss : Hits (moved p m) p.side m.to s → ⊥ = λ hits. false≢true (sym failed ∙ told.1 (inl (rw board hits))) in
+                  let before = checked-before p m s c both.1 miss attacked' in
+                  absurd (sound.not_in_check (s, stood, rw (other-other p.side) before))
+            ]
+          ],
+    ) (in_check-is (after p m e) next.kings)

@@ -8,3 +8,4 @@ pub mod Rays
 pub mod Legal
 pub mod Moves
 pub mod Targets
+pub mod Checks

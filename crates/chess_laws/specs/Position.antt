@@ -15,6 +15,7 @@ use Rattle.chess_laws.specs.declared.fault.PlaceFault.{PlaceFault}
 use Rattle.chess_laws.specs.declared.fault.PlaceFault.TheVariants.{Kings, Pawns, TooMany, InCheck, EnPassant}
 use Rattle.chess_laws.specs.Geometry.{rank_of}
 use Rattle.chess_laws.specs.Attacks.{IsInCheck}
+use Rattle.chess_laws.specs.Checks.{in_check}
 use Rattle.chess_laws.specs.Castling.{StandAtHome, has_right, king_home, rook_home}
 
 -- the first square with the king of this colour
@@ -115,12 +116,14 @@ start_setup =
       en_passant = None;
     }
 
--- what is kept beside a position: it keeps the rules, and these are the kings' squares
-pub record Keeps (p : Setup) (white black : ℕ) : Type 0 where
+-- what is kept beside a position: it keeps the rules, these are the kings' squares, and the side to move is in check or not
+pub record Keeps (p : Setup) (white black : ℕ) (checked : Bool) : Type 0 where
   pub sound : Sound p
   pub white_king : white ≡ king_square p.board White
   pub black_king : black ≡ king_square p.board Black
+  pub check : checked ≡ in_check p
 
--- the kings' squares follow from the board, so a position is its setup
-pub inverse_Keeps : (p : Setup) (white black : ℕ) → Keeps p white black → (king_square p.board White ≡ white) × (king_square p.board Black ≡ black)
-inverse_Keeps p white black h = (sym h.white_king, sym h.black_king)
+-- all of it follows from the setup, so a position is its setup
+pub inverse_Keeps : (p : Setup) (white black : ℕ) (checked : Bool) → Keeps p white black checked →
+    (king_square p.board White ≡ white) × ((king_square p.board Black ≡ black) × (in_check p ≡ checked))
+inverse_Keeps p white black checked h = (sym h.white_king, (sym h.black_king, sym h.check))

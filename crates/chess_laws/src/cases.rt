@@ -226,7 +226,7 @@ fn pawn_takes(colour: Colour, from: Square, to: Square) -> bool
 }
 
 /// Whether such a man reaches one square from the other.
-fn reaches(board: &Board, colour: Colour, kind: Kind, from: Square, to: Square) -> bool
+pub fn reaches(board: &Board, colour: Colour, kind: Kind, from: Square, to: Square) -> bool
     ensures { IsTrue result ↔ Reaches board.now colour kind from to }
 {
     match kind {

@@ -10,7 +10,7 @@ ghost use Rattle.chess_laws.specs.Step.{board_after, effect_of, Case, Legal};
 use super::attack::opens;
 use super::cases::{is_allowed, is_in_check};
 use super::effect::Effect;
-use super::next::{board_after, effect_of};
+use super::next::{change_board, effect_of};
 use super::setup::Setup;
 use cell_core::{Move, Square};
 
@@ -21,7 +21,17 @@ pub fn is_legal(p: &Setup, king: Square, checked: bool, m: &Move) -> bool
     requires check { IsTrue checked ↔ IsInCheck p.now.board p.now.side }
     ensures { IsTrue result ↔ Legal p.now m.now }
 {
-    let effect = effect_of(p, m);
+    is_legal_as(p, king, checked, m, effect_of(p, m))
+}
+
+/// Whether the move, which is of this kind, is legal.
+pub fn is_legal_as(p: &Setup, king: Square, checked: bool, m: &Move, effect: Effect) -> bool
+    requires sound { Sound p.now }
+    requires king { IsOnlyKing p.now.board p.now.side king }
+    requires check { IsTrue checked ↔ IsInCheck p.now.board p.now.side }
+    requires effect { effect ≡ effect_of p.now m.now }
+    ensures { IsTrue result ↔ Legal p.now m.now }
+{
     if !is_allowed(p, king, m, effect) {
         return false;
     }
@@ -39,8 +49,9 @@ fn is_safe_after(p: &Setup, king: Square, m: &Move, effect: Effect) -> bool
     requires allowed { Case p.now m.now effect }
     ensures { IsTrue result ↔ (IsInCheck (board_after p.now m.now effect) p.now.side → ⊥) }
 {
-    let board = board_after(p, m, effect);
-    !is_in_check(&board, p.side, king_after(king, m))
+    let mut next = *p;
+    change_board(&mut next, m, effect);
+    !is_in_check(&next.board, p.side, king_after(king, m))
 }
 
 /// Where the king stands after the move: on its target, where the king is what moves.
@@ -58,7 +69,7 @@ fn stays_safe(p: &Setup, king: Square, m: &Move, effect: Effect) -> bool
 }
 
 // Whether the move changes two squares alone, where it begins and where it ends.
-fn is_calm(effect: Effect) -> bool
+pub fn is_calm(effect: Effect) -> bool
     ensures { result ≡ is_calm effect }
 {
     match effect {

@@ -9,6 +9,7 @@ mod census;
 pub mod effect;
 pub mod fault;
 mod legal;
+mod making;
 mod moves;
 mod next;
 pub mod offset;

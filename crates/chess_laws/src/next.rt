@@ -72,34 +72,34 @@ pub fn passed_square(m: &Move) -> Square
     Square::at(8 * (m.from.index() / 8) + m.to.index() % 8)
 }
 
-/// The board after the move.
-pub fn board_after(p: &Setup, m: &Move, effect: Effect) -> Board
-    ensures { result ≡ board_after p.now m.now effect }
+/// Makes the move on the board.
+pub fn change_board(p: &mut Setup, m: &Move, effect: Effect)
+    ensures board { p.new.board ≡ board_after p.old m.now effect }
+    ensures side { p.new.side ≡ p.old.side }
 {
     match effect {
-        Effect::Null => p.board,
-        Effect::Plain | Effect::Double => moved(p, m),
+        Effect::Null => {}
+        Effect::Plain | Effect::Double => move_man(p, m),
         Effect::Passing => {
-            let mut board = moved(p, m);
-            board.set(passed_square(m), None);
-            board
+            move_man(p, m);
+            p.board.set(passed_square(m), None);
         }
         Effect::Castle(wing) => {
-            let mut board = moved(p, m);
-            board.set(rook_home(p.side, wing), None);
+            move_man(p, m);
+            p.board.set(rook_home(p.side, wing), None);
             let rook = Man {
                 colour: p.side,
                 kind: Kind::Rook,
             };
-            board.set(rook_target(p.side, wing), Some(rook));
-            board
+            p.board.set(rook_target(p.side, wing), Some(rook));
         }
     }
 }
 
-/// The board after the man has moved to its target, where it captures what stands there.
-fn moved(p: &Setup, m: &Move) -> Board
-    ensures { result ≡ moved p.now m.now }
+// Takes the man to its target, where it may become another.
+fn move_man(p: &mut Setup, m: &Move)
+    ensures board { p.new.board ≡ moved p.old m.now }
+    ensures side { p.new.side ≡ p.old.side }
 {
     let arriving = match m.promo {
         Some(kind) => Some(Man {
@@ -108,10 +108,8 @@ fn moved(p: &Setup, m: &Move) -> Board
         }),
         None => p.board.at(m.from),
     };
-    let mut board = p.board;
-    board.set(m.from, None);
-    board.set(m.to, arriving);
-    board
+    p.board.set(m.from, None);
+    p.board.set(m.to, arriving);
 }
 
 /// The rights that are left after the move.
@@ -139,15 +137,14 @@ fn en_passant_after(p: &Setup, m: &Move, effect: Effect) -> Option<Square>
     }
 }
 
-/// What the setup becomes by the move, which may be against the rules.
-pub fn after(p: &Setup, m: &Move) -> Setup
-    ensures { result ≡ after p.now m.now (effect_of p.now m.now) }
+/// Makes the move, which may be against the rules.
+pub fn change(p: &mut Setup, m: &Move, effect: Effect)
+    ensures { p.new ≡ after p.old m.now effect }
 {
-    let effect = effect_of(p, m);
-    Setup {
-        board: board_after(p, m, effect),
-        side: p.side.other(),
-        rights: rights_left(p, m, effect),
-        en_passant: en_passant_after(p, m, effect),
-    }
+    let rights = rights_left(p, m, effect);
+    let en_passant = en_passant_after(p, m, effect);
+    change_board(p, m, effect);
+    p.side = p.side.other();
+    p.rights = rights;
+    p.en_passant = en_passant;
 }

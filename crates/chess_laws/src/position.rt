@@ -10,8 +10,9 @@ use super::attack::attacks;
 use super::census::{counts, home_set, only_king};
 use super::effect::Effect;
 use super::fault::PlaceFault;
-use super::legal::{is_legal, king_after};
-use super::next::{after, effect_of};
+use super::legal::{is_legal, is_legal_as, king_after};
+use super::making::make;
+use super::next::effect_of;
 use super::rules::{
     has_few_men, has_fit_en_passant, has_pawns_inside, rests_in_check, standing_rights, start_board,
 };
@@ -24,23 +25,25 @@ use std::marker::Model;
 /// the sixth rank with White to move or on the third with Black to move.
 #[derive(Clone, Copy, Debug, PartialEq, Eq)]
 pub struct Position {
-    pub(crate) inner: Setup,
-    pub(crate) white_king: Square,
-    pub(crate) black_king: Square,
+    inner: Setup,
+    white_king: Square,
+    black_king: Square,
+    checked: bool,
 }
 
 impl Model for Position {
     ghost use Rattle.cell_core.specs.declared.man.Colour.TheVariants.{White, Black};
     ghost use Rattle.chess_laws.specs.declared.setup.Setup.{Setup};
+    ghost use Rattle.chess_laws.specs.Checks.{in_check};
     ghost use Rattle.chess_laws.specs.Position.{Keeps, king_square, inverse_Keeps};
 
     ghost Value = { Setup };
 
     ghost view = { λ p. p.inner };
 
-    ghost invariant = { λ p. Keeps p.inner p.white_king p.black_king };
+    ghost invariant = { λ p. Keeps p.inner p.white_king p.black_king p.checked };
 
-    ghost inverse = { λ p. record { inner = p; white_king = king_square p.board White; black_king = king_square p.board Black } };
+    ghost inverse = { λ p. record { inner = p; white_king = king_square p.board White; black_king = king_square p.board Black; checked = in_check p } };
 }
 
 impl Position {
@@ -65,6 +68,7 @@ impl Position {
             },
             white_king: Square::at(4),
             black_king: Square::at(60),
+            checked: false,
         }
     }
 
@@ -144,7 +148,7 @@ impl Position {
     pub fn in_check(&self) -> bool
         ensures check { IsTrue result ↔ IsInCheck self.now.board self.now.side }
     {
-        self.attacked(self.inner.side.other(), self.king(self.inner.side))
+        self.checked
     }
 
     /// How many queens, rooks, bishops, knights and pawns White has, and then Black.
@@ -193,6 +197,7 @@ fn place(
         return Err(PlaceFault::EnPassant);
     }
     let rights = standing_rights(board, rights);
+    let checked = rests_in_check(board, side.other(), white_king, black_king);
     Ok(Position {
         inner: Setup {
             board: *board,
@@ -202,12 +207,13 @@ fn place(
         },
         white_king,
         black_king,
+        checked,
     })
 }
 
 impl Position {
     ghost use Rattle.chess_laws.specs.declared.setup.Setup.{Setup};
-    ghost use Rattle.chess_laws.specs.Step.{effect_of, Legal, Step};
+    ghost use Rattle.chess_laws.specs.Step.{after, effect_of, Legal, Step};
     ghost use Rattle.std.specs.Bool.{OnTrue, OnFalse};
 
     /// Whether the move is legal. The null move is legal where the side to move is not in check.
@@ -231,9 +237,16 @@ impl Position {
         ensures step { OnTrue result (Step self.old m.now self.new) }
         ensures kept { OnFalse result (self.new ≡ self.old) }
     {
-        let legal = is_legal(self.setup(), self.king(self.side()), self.in_check(), m);
+        let effect = effect_of(self.setup(), m);
+        let legal = is_legal_as(
+            self.setup(),
+            self.king(self.side()),
+            self.in_check(),
+            m,
+            effect,
+        );
         if legal {
-            self.play(*m);
+            self.follow(m, effect);
         }
         legal
     }
@@ -244,18 +257,25 @@ impl Position {
         ensures step { Step self.old m self.new }
         ensures only { (q : Setup) → Step self.old m q → q ≡ self.new }
     {
-        let side = self.side();
-        let mover = king_after(self.king(side), &m);
-        let resting = self.king(side.other());
-        let next = after(self.setup(), &m);
-        let (white_king, black_king) = match side {
-            Colour::White => (mover, resting),
-            Colour::Black => (resting, mover),
-        };
-        *self = Position {
-            inner: next,
-            white_king,
-            black_king,
-        };
+        let effect = effect_of(self.setup(), &m);
+        self.follow(&m, effect);
+    }
+
+    // Plays a legal move of this kind.
+    fn follow(&mut self, m: &Move, effect: Effect)
+        requires legal { Legal self.old m.now }
+        requires effect { effect ≡ effect_of self.old m.now }
+        ensures becomes { self.new ≡ after self.old m.now effect }
+    {
+        match self.inner.side {
+            Colour::White => {
+                self.checked = make(&mut self.inner, m, effect, self.black_king);
+                self.white_king = king_after(self.white_king, m);
+            }
+            Colour::Black => {
+                self.checked = make(&mut self.inner, m, effect, self.white_king);
+                self.black_king = king_after(self.black_king, m);
+            }
+        }
     }
 }

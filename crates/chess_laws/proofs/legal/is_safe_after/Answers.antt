@@ -7,4 +7,4 @@ pub is_in_check-requires : goal.is_in_check-requires
 is_in_check-requires c =
     let case' = rw c.requires.effect at c.requires.allowed in
     let king = only-king-after c.args.p.now c.args.m.now c.args.king c.requires.sound c.requires.king case' in
-    record { king = rw (c.board_after-board.ensures, c.requires.effect, c.king_after.ensures) king }
+    record { king = rw (c.change_board.ensures.board, c.requires.effect, c.king_after.ensures) king }

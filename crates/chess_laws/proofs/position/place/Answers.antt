@@ -1,5 +1,10 @@
 use Rattle.std.proofs.Common.{refl}
 use Rattle.std.proofs.lemmas.Bool.{false≢true}
+use Rattle.chess_laws.specs.Attacks.{IsInCheck}
+use Rattle.chess_laws.specs.Checks.{in_check}
+use Rattle.chess_laws.specs.declared.setup.Setup.{Setup}
+use Rattle.chess_laws.proofs.Boards.{other-other}
+use Rattle.chess_laws.proofs.Checks.{in_check-is, same-told}
 use Rattle.chess_laws.proofs.Soundness.{both_kings, sound_of}
 use Rattle.chess_laws.proofs.position.place.Goals as goal
 
@@ -30,17 +35,21 @@ returns-then-not-has_fit_en_passant-clause-fault c = (
 
 pub invariant_of-result : goal.invariant_of-result
 invariant_of-result c =
+    let sound = sound_of c.args.board.now c.args.side c.args.rights c.standing_rights-rights.result c.args.en_passant
+    c.has_few_men.ensures.squares
+    (both_kings c.args.board.now c.in-Some.ensures.0 c.in-Some-only_king.ensures.0)
+    (c.if-not-has_pawns_inside.ensures.0 refl)
+    (c.if-not-has_few_men.ensures.few.0 refl)
+    (λ h. false≢true (c.if-rests_in_check.ensures.check.1 h))
+    c.standing_rights-rights.ensures
+    (c.if-not-has_fit_en_passant.ensures.0 refl) in
+    let p : Setup = record { board = c.args.board.now; side = c.args.side; rights = c.standing_rights-rights.result; en_passant = c.args.en_passant } in
     record {
-      sound = sound_of c.args.board.now c.args.side c.args.rights c.standing_rights-rights.result c.args.en_passant
-          c.has_few_men.ensures.squares
-          (both_kings c.args.board.now c.in-Some.ensures.0 c.in-Some-only_king.ensures.0)
-          (c.if-not-has_pawns_inside.ensures.0 refl)
-          (c.if-not-has_few_men.ensures.few.0 refl)
-          (λ h. false≢true (c.if-rests_in_check.ensures.check.1 h))
-          c.standing_rights-rights.ensures
-          (c.if-not-has_fit_en_passant.ensures.0 refl);
+      sound = sound;
       white_king = c.in-Some.ensures.1;
       black_king = c.in-Some-only_king.ensures.1;
+      check = same-told (IsInCheck p.board p.side) c.rests_in_check-checked.result (in_check p)
+          (rw (c.other.ensures.side, other-other c.args.side) at c.rests_in_check-checked.ensures.check) (in_check-is p sound.kings);
     }
 
 pub returns-clause-sound : goal.returns-clause-sound

@@ -1,0 +1,20 @@
+-- What came and what was opened tell of check.
+use Rattle.std.proofs.Common.{◌≡◌, ◌↔◌, ◌⊎◌, IsTrue, true, sym, ◌∙◌, ap, subst}
+use Rattle.std.proofs.lemmas.Bool.{OnFalse_at}
+use Rattle.chess_laws.specs.Attacks.{Attacks}
+use Rattle.chess_laws.specs.Checks.{Hits, in_check}
+use Rattle.chess_laws.specs.Step.{after, effect_of}
+use Rattle.chess_laws.proofs.Opening.{check-told}
+use Rattle.chess_laws.proofs.making.make.Goals as goal
+
+pub returns-clause-check : goal.returns-clause-check
+returns-clause-check c =
+    let p = c.args.p.now in
+    let m = c.args.m.now in
+    let next : c.change.new.p ≡ after p m (effect_of p m) = c.change.ensures ∙ ap (after p m) c.requires.effect in
+    let told =
+    subst (λ q. IsTrue c.gives_check.result ↔ (Hits q.board p.side m.to c.args.resting ⊎ ((c.may_open-opened.result ≡ true) × Attacks q.board p.side c.args.resting)))
+    next c.gives_check.ensures in
+    check-told p m c.args.resting c.may_open-opened.result c.gives_check.result c.requires.sound c.requires.legal c.requires.resting
+    (λ shut. rw c.requires.effect at (OnFalse_at shut c.may_open-opened.ensures)) told
+    ∙ ap in_check (sym next)

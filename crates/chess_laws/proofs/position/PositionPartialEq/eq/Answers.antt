@@ -1,0 +1,24 @@
+-- The setups and what is kept beside them are compared.
+use Rattle.std.proofs.Common.{rules, ◌≡◌, Bool, true, false, ◌&&◌, refl, sym, ◌∙◌}
+use Rattle.chess_laws.proofs.position.PositionPartialEq.eq.Goals as goal
+
+turn : (x s w b : Bool) → (((x && s) && w) && b) ≡ (s && (w && (b && x)))
+turn true true true true = refl
+turn true true true false = refl
+turn true true false true = refl
+turn true true false false = refl
+turn true false true true = refl
+turn true false true false = refl
+turn true false false true = refl
+turn true false false false = refl
+turn false true true true = refl
+turn false true true false = refl
+turn false true false true = refl
+turn false true false false = refl
+turn false false true true = refl
+turn false false true false = refl
+turn false false false true = refl
+turn false false false false = refl
+
+pub returns : goal.returns
+returns c = search (rules, turn)

@@ -1,0 +1,58 @@
+//! Making a legal move, and whether it gives check.
+ghost use Rattle.std.specs.Prelude.{◌≡◌, ◌↔◌, ◌⊎◌, IsTrue, true};
+ghost use Rattle.std.specs.Bool.{OnFalse};
+ghost use Rattle.cell_core.specs.Man.{other};
+ghost use Rattle.chess_laws.specs.Attacks.{Attacks, IsInCheck};
+ghost use Rattle.chess_laws.specs.Checks.{Hits, in_check};
+ghost use Rattle.chess_laws.specs.Legal.{is_calm};
+ghost use Rattle.chess_laws.specs.Position.{Sound, king_square};
+ghost use Rattle.chess_laws.specs.Rays.{Opens};
+ghost use Rattle.chess_laws.specs.Step.{after, effect_of, Legal};
+
+use super::attack::{attacks, opens};
+use super::cases::reaches;
+use super::effect::Effect;
+use super::legal::is_calm;
+use super::next::change;
+use super::setup::Setup;
+use cell_core::{Board, Colour, Move, Square};
+
+/// Makes a legal move, and answers whether the other side is in check then, whose king stands on this square.
+pub fn make(p: &mut Setup, m: &Move, effect: Effect, resting: Square) -> bool
+    requires sound { Sound p.old }
+    requires legal { Legal p.old m.now }
+    requires effect { effect ≡ effect_of p.old m.now }
+    requires resting { resting ≡ king_square p.old.board (other p.old.side) }
+    ensures becomes { p.new ≡ after p.old m.now effect }
+    ensures check { result ≡ in_check p.new }
+{
+    let side = p.side;
+    let opened = may_open(p, m, effect, resting);
+    change(p, m, effect);
+    gives_check(&p.board, side, m.to, resting, opened)
+}
+
+// Whether the move may open a line from a man of the mover to the square.
+fn may_open(p: &Setup, m: &Move, effect: Effect, s: Square) -> bool
+    ensures { OnFalse result ((is_calm effect ≡ true) × (Opens p.now.board p.now.side m.now.from s → ⊥)) }
+{
+    !is_calm(effect) || opens(&p.board, p.side, m.from, s)
+}
+
+// Whether the man of this colour that has come to a square attacks another, or, where a line may have been opened, some
+// man does.
+fn gives_check(board: &Board, by: Colour, from: Square, s: Square, opened: bool) -> bool
+    ensures { IsTrue result ↔ (Hits board.now by from s ⊎ ((opened ≡ true) × Attacks board.now by s)) }
+{
+    hits(board, by, from, s) || (opened && attacks(board, by, s))
+}
+
+// Whether a man of this colour stands on one square and reaches another.
+fn hits(board: &Board, by: Colour, from: Square, s: Square) -> bool
+    ensures { IsTrue result ↔ Hits board.now by from s }
+{
+    match board.at(from) {
+        Some(standing) => standing.colour == by && reaches(board, by, standing.kind, from, s),
+        None => false,
+    }
+}
