@@ -1,6 +1,6 @@
 -- A tree while its items are read one by one: the lines that are open, each with its last move apart, since what follows
 -- may still belong to it (this project's own).
-use Rattle.std.specs.Prelude.{◌≡◌, ℕ, List, [], ◌∷◌, ◌++◌, Option, Some, None, refl}
+use Rattle.std.specs.Prelude.{◌≡◌, ◌≢◌, ℕ, IsSome, List, [], ◌∷◌, ◌++◌, Option, Some, None, refl}
 use Rattle.std.specs.Coded.{Coded, code_by, coded×, coded_ℕ, coded_list, coded_option}
 use Rattle.cell_core.specs.declared.step.Move.{Move}
 use Rattle.game_tree.specs.Tree.{Line, Branches, none, more, Played, Variation, line_of}
@@ -89,6 +89,14 @@ variation_of o = record { lead = o.lead; line = read_line o }
 abbrev pub closed : Open → List Open → Building
 closed o [] = record { current = o; outer = [] }
 closed o (round ∷ outer) = record { current = with_variation (variation_of o) round; outer = outer }
+
+-- Where an item may stand: a NAG and a variation behind a move, and the end of a variation where one is open.
+abbrev pub MayStand : Item → Building → Type 0
+MayStand (item.move m) b = Unit {0}
+MayStand (item.nag n) b = IsSome b.current.last
+MayStand (item.comment t) b = Unit {0}
+MayStand item.opens b = IsSome b.current.last
+MayStand item.closes b = b.outer ≢ []
 
 -- the state after one more item
 abbrev pub added : Item → Building → Building
