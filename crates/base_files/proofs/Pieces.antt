@@ -3,7 +3,7 @@ use Rattle.std.proofs.Common.{◌≡◌, ℕ, ◌+◌, ◌≤◌, List, ◌++◌
 use Rattle.std.proofs.lemmas.List.{drop-drop}
 use Rattle.std.proofs.Math.Seq.{take-append_seam}
 
--- what was copied, and what comes after it, are the bytes from that place on
+-- What was copied, and what comes after it, are the bytes from that place on.
 pub given_split : (n next : ℕ) (bytes rest piece over : List ℕ) → rest ≡ drop next bytes → piece ≡ take n rest → n ≤ length rest
     → drop next bytes ≡ take n (piece ++ over) ++ drop (next + n) bytes
 given_split n next bytes rest piece over place copied fits =

@@ -6,35 +6,35 @@ use Rattle.base_files.specs.declared.faults.Stop.{Stop}
 use Rattle.base_files.specs.declared.faults.Stop.TheVariants as stop
 use Rattle.base_files.specs.Counters.{Rose}
 
--- the cause of a device's error, where its count of faults went from `old` to `new`: a fault was counted; want of memory is free
+-- The cause of a device's error, where its count of faults went from `old` to `new`: a fault was counted; want of memory is free.
 abbrev pub HasCause : DeviceError → ℕ → ℕ → Type 0
 HasCause device.Failed old new = Rose old new
 HasCause device.Memory old new = ⊤
 
--- the counts of faults of the three devices of a run: its input, its output and the files of its base
+-- The counts of faults of the three devices of a run: its input, its output and the files of its base.
 pub record Counts : Type 0 where
   pub input : ℕ
   pub output : ℕ
   pub files : ℕ
 
--- the cause of an early end, where the counts went from `old` to `new`: the device that is named counted a fault; want of memory is free
+-- The cause of an early end, where the counts went from `old` to `new`: the device that is named counted a fault; want of memory is free.
 abbrev pub Why : Stop → Counts → Counts → Type 0
 Why stop.Read old new = Rose old.input new.input
 Why stop.Write old new = Rose old.output new.output
 Why stop.Files old new = Rose old.files new.files
 Why stop.Memory old new = ⊤
 
--- the early end that an error of the input is
+-- The early end that an error of the input is.
 abbrev pub input_stop : DeviceError → Stop
 input_stop device.Failed = stop.Read
 input_stop device.Memory = stop.Memory
 
--- the early end that an error of the output is
+-- The early end that an error of the output is.
 abbrev pub output_stop : DeviceError → Stop
 output_stop device.Failed = stop.Write
 output_stop device.Memory = stop.Memory
 
--- the early end that an error of the files is
+-- The early end that an error of the files is.
 abbrev pub files_stop : DeviceError → Stop
 files_stop device.Failed = stop.Files
 files_stop device.Memory = stop.Memory

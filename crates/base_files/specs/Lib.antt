@@ -3,6 +3,8 @@ pub mod Told
 pub mod Chosen
 pub mod Causes
 pub mod Parts
+pub mod Seen
+pub mod Extents
 pub mod Inputs
 pub mod Planned
 pub mod Feeds

@@ -1,27 +1,32 @@
 -- What the adapters over the standard library's streams and files count (this project's own).
-use Rattle.std.specs.Prelude.{ℕ, List}
+use Rattle.std.specs.Prelude.{ℕ, List, None}
 use Rattle.base_files.specs.Counters.{raised}
 use Rattle.base_files.specs.Chosen.{Choice}
+use Rattle.base_files.specs.Seen.{Seen}
 use Rattle.base_files.specs.declared.faults.DeviceError.{DeviceError}
 use Rattle.base_files.specs.declared.faults.DeviceError.TheVariants as device
 
--- an input: how many bytes it will still give at most, and how many faults it counted
+-- An input: how many bytes it will still give at most, and how many faults it counted.
 pub record InputMeter : Type 0 where
   pub budget : ℕ
   pub faults : ℕ
 
--- an output: how many faults it counted
+-- An output: how many faults it counted.
 pub record OutputMeter : Type 0 where
   pub faults : ℕ
 
--- the files of a base: the names that were chosen, the known length of the games file, the bytes asked of it, and the faults
+-- The files of a base: the names that were chosen, the known length of the games file, the bytes asked of it, and the faults.
 pub record DiskMeter : Type 0 where
   pub choices : List Choice
   pub known : ℕ
   pub asked : ℕ
   pub faults : ℕ
 
--- a count of faults after an error: a fault is counted, want of memory is not
+-- What files on a disk show: nothing of their contents.
+abbrev pub seen_of : DiskMeter → Seen
+seen_of meter = record { index = None; names = None; games = None; choices = meter.choices; known = meter.known }
+
+-- A count of faults after an error: a fault is counted, want of memory is not.
 abbrev pub after_error : DeviceError → ℕ → ℕ
 after_error device.Failed faults = raised faults 1
 after_error device.Memory faults = faults

@@ -2,7 +2,7 @@
 use Rattle.base_files.specs.declared.part.Part.{Part}
 use Rattle.base_files.specs.declared.part.Part.TheVariants.{Index, Names}
 
--- that of the part, of what is said of the index file and of the names file
+-- That of the part, of what is said of the index file and of the names file.
 abbrev pub of_part : {T : Type 0} → Part → T → T → T
 of_part Index index names = index
 of_part Names index names = names

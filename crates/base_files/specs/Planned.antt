@@ -5,35 +5,35 @@ use Rattle.base_files.specs.Counters.{raised}
 use Rattle.base_files.specs.declared.faults.DeviceError.{DeviceError}
 use Rattle.base_files.specs.declared.faults.DeviceError.TheVariants as device
 
--- the numbers of the calls that are to fail, how many calls were made, and how many faults were counted
+-- The numbers of the calls that are to fail, how many calls were made, and how many faults were counted.
 pub record Calls : Type 0 where
   pub planned : List ℕ
   pub made : ℕ
   pub faults : ℕ
 
--- the next call is to fail: calls are numbered from 0
+-- The next call is to fail: calls are numbered from 0.
 abbrev pub is_planned : Calls → Bool
 is_planned calls = list_any (λ number. number == calls.made) calls.planned
 
--- after a call that counted no fault
+-- After a call that counted no fault.
 abbrev pub passed : Calls → Calls
 passed calls = record calls { made = raised calls.made 1 }
 
--- after a call that counted a fault
+-- After a call that counted a fault.
 abbrev pub failed : Calls → Calls
 failed calls = record calls { made = raised calls.made 1; faults = raised calls.faults 1 }
 
--- a call that was answered Ok: it was not to fail, and counted no fault
+-- A call that was answered Ok: it was not to fail, and counted no fault.
 pub record Served (old new : Calls) : Type 0 where
   pub unplanned : is_planned old ≡ false
   pub after : new ≡ passed old
 
--- a call that was answered by a fault: it was to fail, and counted the fault
+-- A call that was answered by a fault: it was to fail, and counted the fault.
 pub record FailedAsPlanned (old new : Calls) : Type 0 where
   pub planned : IsTrue (is_planned old)
   pub after : new ≡ failed old
 
--- a call that was answered by this error: a fault was planned and counted, want of memory counts none
+-- A call that was answered by this error: a fault was planned and counted, want of memory counts none.
 abbrev pub Refused : DeviceError → Calls → Calls → Type 0
 Refused device.Failed old new = FailedAsPlanned old new
 Refused device.Memory old new = new ≡ passed old

@@ -1,9 +1,12 @@
 -- The files of a base in memory (this project's own).
-use Rattle.std.specs.Prelude.{ℕ, List, []}
+use Rattle.std.specs.Prelude.{ℕ, List, [], Some}
 use Rattle.base_files.specs.Planned.{Calls}
 use Rattle.base_files.specs.Chosen.{Choice}
+use Rattle.base_files.specs.Seen.{Seen}
+use Rattle.base_files.specs.declared.part.Part.{Part}
+use Rattle.base_files.specs.declared.part.Part.TheVariants.{Index, Names}
 
--- the three contents, the names that were chosen, the known length of the games file, the bytes asked of it, and the calls
+-- The three contents, the names that were chosen, the known length of the games file, the bytes asked of it, and the calls.
 pub record Shelf : Type 0 where
   pub index : List ℕ
   pub names : List ℕ
@@ -13,7 +16,7 @@ pub record Shelf : Type 0 where
   pub asked : ℕ
   pub calls : Calls
 
--- three contents of which nothing was asked yet, and the numbers of the calls that are to fail
+-- Three contents of which nothing was asked yet, and the numbers of the calls that are to fail.
 abbrev pub new_shelf : List ℕ → List ℕ → List ℕ → List ℕ → Shelf
 new_shelf index names games fails = record {
   index = index;
@@ -24,3 +27,18 @@ new_shelf index names games fails = record {
   asked = 0;
   calls = record { planned = fails; made = 0; faults = 0 };
 }
+
+-- What files in memory show: all of their contents.
+abbrev pub seen_of : Shelf → Seen
+seen_of shelf = record {
+  index = Some shelf.index;
+  names = Some shelf.names;
+  games = Some shelf.games;
+  choices = shelf.choices;
+  known = shelf.known;
+}
+
+-- After the whole of a part was replaced.
+abbrev pub put_on : Part → List ℕ → Shelf → Shelf
+put_on Index bytes shelf = record shelf { index = bytes }
+put_on Names bytes shelf = record shelf { names = bytes }

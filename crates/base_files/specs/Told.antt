@@ -1,43 +1,43 @@
 -- Contents that an object may tell: `Some` of the bytes where it tells them, `None` where it does not (this project's own).
 use Rattle.std.specs.Prelude.{◌≡◌, ℕ, List, ◌++◌, take, drop, length, ⊤, Option, None, Some}
 
--- what is told after the bytes are added at its end: an object that tells nothing goes on telling nothing
+-- What is told after the bytes are added at its end: an object that tells nothing goes on telling nothing.
 abbrev pub adds : Option (List ℕ) → List ℕ → Option (List ℕ)
 adds None bytes = None
 adds (Some told) bytes = Some (told ++ bytes)
 
--- the bytes, and then what is told
+-- The bytes, and then what is told.
 abbrev pub before : List ℕ → Option (List ℕ) → Option (List ℕ)
 before bytes None = None
 before bytes (Some told) = Some (bytes ++ told)
 
--- `bytes` is what is told, where anything is
+-- `bytes` is what is told, where anything is.
 abbrev pub Tells : Option (List ℕ) → List ℕ → Type 0
 Tells None bytes = ⊤
 Tells (Some told) bytes = bytes ≡ told
 
--- `count` is the number of bytes told, where they are
+-- `count` is the number of bytes told, where they are.
 abbrev pub TellsLength : Option (List ℕ) → ℕ → Type 0
 TellsLength None count = ⊤
 TellsLength (Some told) count = count ≡ length told
 
--- the `count` bytes from `place` on, of what is told
+-- The `count` bytes from `place` on, of what is told.
 abbrev pub part_told : Option (List ℕ) → ℕ → ℕ → Option (List ℕ)
 part_told None place count = None
 part_told (Some told) place count = Some (take count (drop place told))
 
--- `whole` is `front`, and then other bytes or none
+-- `whole` is `front`, and then other bytes or none.
 abbrev pub IsPrefix : List ℕ → List ℕ → Type 0
 IsPrefix front whole = (rest : List ℕ) × (whole ≡ front ++ rest)
 
--- what was told before is the beginning of what is told now: an object that tells goes on telling
+-- What was told before is the beginning of what is told now: an object that tells goes on telling.
 abbrev pub Grew : Option (List ℕ) → Option (List ℕ) → Type 0
 Grew None None = ⊤
 Grew None (Some new) = ⊥
 Grew (Some old) None = ⊥
 Grew (Some old) (Some new) = IsPrefix old new
 
--- what is told now is the end of what was told before: an object that tells goes on telling
+-- What is told now is the end of what was told before: an object that tells goes on telling.
 abbrev pub Advanced : Option (List ℕ) → Option (List ℕ) → Type 0
 Advanced None None = ⊤
 Advanced None (Some new) = ⊥

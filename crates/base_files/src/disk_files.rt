@@ -1,21 +1,19 @@
 //! The files of a base on a disk.
-ghost use Rattle.std.specs.Prelude.{◌≡◌, ◌+◌, ◌≤◌, [], ◌∷◌, ◌++◌, length, None, IfOk, IfErr, OnOk, OnErr, IsErrOf, MatchResult};
+ghost use Rattle.std.specs.Prelude.{◌≡◌, ◌+◌, ◌≤◌, [], ◌++◌, length, replicate, IfOk, IfErr, OnOk, OnErr, IsErrOf, MatchResult};
 ghost use Rattle.base_files.specs.Counters.{Rose, raised};
 ghost use Rattle.base_files.specs.Causes.{HasCause};
-ghost use Rattle.base_files.specs.Chosen.{choice};
-ghost use Rattle.base_files.specs.Meters.{after_error};
+ghost use Rattle.base_files.specs.Seen.{chose, measured, appended, replaced, AppendedInPart};
+ghost use Rattle.base_files.specs.Meters.{after_error, seen_of};
 
 use crate::chosen::Choices;
+use crate::disk_base::{Ahead, DiskBase, Paths};
 use crate::fault_count::FaultCount;
 use crate::faults::{DeviceError, Failed};
 use crate::files::Files;
 use crate::part::Part;
-use std::alloc::{AllocError, Global};
-use std::fs::{OpenFile, OpenOptions};
-use std::io::{ErrorKind, Read, Seek, SeekFrom};
+use std::alloc::Global;
 use std::marker::Model;
 use std::rt::Files as FileSystem;
-use std::{fs, io};
 
 /// The files `BASE.si4`, `BASE.sn4` and `BASE.sg4` of a file system. It tells nothing of their contents.
 /// The games file is opened once, by `choose`.
@@ -23,19 +21,11 @@ use std::{fs, io};
 pub struct DiskFiles<'r, R: FileSystem> {
     system: &'r R,
     alloc: Global,
-    base: Option<Base<R::File>>,
+    base: Option<DiskBase<R::File>>,
     choices: Choices,
     known: u64,
     asked: u64,
     faults: FaultCount,
-}
-
-/// The base that was chosen: the paths of the files that are read whole, and the opened games file.
-#[derive(Drop)]
-struct Base<F> {
-    index: String,
-    names: String,
-    games: F,
 }
 
 impl<'r, R: FileSystem> Model for DiskFiles<'r, R> {
@@ -64,24 +54,16 @@ impl<'r, R: FileSystem> DiskFiles<'r, R> {
 }
 
 impl<'r, R: FileSystem> Files for DiskFiles<'r, R> {
-    ghost index = { λ _. None };
-
-    ghost names = { λ _. None };
-
-    ghost games = { λ _. None };
-
-    ghost faults = { λ files. files.faults };
+    ghost seen = { λ files. seen_of files };
 
     ghost asked = { λ files. files.asked };
 
-    ghost known = { λ files. files.known };
-
-    ghost choices = { λ files. files.choices };
+    ghost faults = { λ files. files.faults };
 
     fn choose(&mut self, name: &str, create: bool) -> Result<(), DeviceError>
-        ensures chosen { OnOk result (self.new.choices ≡ self.old.choices ++ choice name.now create ∷ []) }
-        ensures chosen_in_vain { IsErrOf result DeviceError.Failed → self.new.choices ≡ self.old.choices ++ choice name.now create ∷ [] }
-        ensures not_chosen { IsErrOf result DeviceError.Memory → self.new.choices ≡ self.old.choices }
+        ensures chosen { OnOk result (seen_of self.new ≡ chose name.now create (seen_of self.old)) }
+        ensures chosen_in_vain { IsErrOf result DeviceError.Failed → seen_of self.new ≡ chose name.now create (seen_of self.old) }
+        ensures not_chosen { IsErrOf result DeviceError.Memory → seen_of self.new ≡ seen_of self.old }
         ensures counts { self.old.faults ≤ self.new.faults }
         ensures cause { IfErr result (λ e. HasCause e self.old.faults self.new.faults) }
         ensures memory { IsErrOf result DeviceError.Memory → self.new.faults ≡ self.old.faults }
@@ -94,10 +76,14 @@ impl<'r, R: FileSystem> Files for DiskFiles<'r, R> {
             Ok(paths) => paths,
             Err(_) => return Err(DeviceError::Memory),
         };
+        let ahead = match Ahead::new(self.alloc) {
+            Ok(ahead) => ahead,
+            Err(_) => return Err(DeviceError::Memory),
+        };
         if self.choices.add(name, create).is_err() {
             return Err(DeviceError::Memory);
         }
-        match paths.open(self.system, create) {
+        match paths.open(ahead, self.system, create) {
             Ok(base) => {
                 self.base = Some(base);
                 Ok(())
@@ -121,19 +107,15 @@ impl<'r, R: FileSystem> Files for DiskFiles<'r, R> {
         let Some(base) = &self.base else {
             return Err(DeviceError::from(self.faults.fault()));
         };
-        let path = match part {
-            Part::Index => &base.index,
-            Part::Names => &base.names,
-        };
-        match read_whole(alloc, self.system, path) {
+        match base.load(alloc, self.system, part) {
             Ok(bytes) => Ok(bytes),
             Err(error) => Err(self.faults.error(error.kind())),
         }
     }
 
     fn games_len(&mut self) -> Result<u64, Failed>
-        ensures now_known { IfOk result (λ n. self.new.known ≡ n) }
-        ensures as_known { OnErr result (self.new.known ≡ self.old.known) }
+        ensures now_known { IfOk result (λ n. seen_of self.new ≡ measured n (seen_of self.old)) }
+        ensures unchanged { OnErr result (seen_of self.new ≡ seen_of self.old) }
         ensures counts { self.old.faults ≤ self.new.faults }
         ensures cause { OnErr result (Rose self.old.faults self.new.faults) }
 
@@ -144,10 +126,10 @@ impl<'r, R: FileSystem> Files for DiskFiles<'r, R> {
         let Some(base) = &self.base else {
             return Err(self.faults.fault());
         };
-        match base.games.metadata() {
-            Ok(metadata) => {
-                self.known = metadata.len();
-                Ok(self.known)
+        match base.games_len() {
+            Ok(len) => {
+                self.known = len;
+                Ok(len)
             }
             Err(_) => Err(self.faults.fault()),
         }
@@ -168,67 +150,58 @@ impl<'r, R: FileSystem> Files for DiskFiles<'r, R> {
         let Some(base) = &mut self.base else {
             return Err(self.faults.fault());
         };
-        match read_at(&mut base.games, offset, &mut into[..len as usize]) {
+        match base.read_games(offset, &mut into[..len as usize]) {
             Ok(()) => Ok(()),
             Err(_) => Err(self.faults.fault()),
         }
     }
-}
 
-/// The paths of the three files of a base.
-#[derive(Drop)]
-struct Paths {
-    index: String,
-    names: String,
-    games: String,
-}
+    fn append_games(&mut self, pad: u32, bytes: &[u8]) -> Result<(), DeviceError>
+        ensures added { OnOk result (seen_of self.new ≡ appended (replicate pad 0 ++ bytes.now) (seen_of self.old)) }
+        ensures in_part { IsErrOf result DeviceError.Failed → AppendedInPart (seen_of self.old) (seen_of self.new) }
+        ensures none_added { IsErrOf result DeviceError.Memory → seen_of self.new ≡ seen_of self.old }
+        ensures counts { self.old.faults ≤ self.new.faults }
+        ensures cause { IfErr result (λ e. HasCause e self.old.faults self.new.faults) }
+        ensures memory { IsErrOf result DeviceError.Memory → self.new.faults ≡ self.old.faults }
 
-impl Paths {
-    /// The paths of the base of this name.
-    fn new(alloc: Global, name: &str) -> Result<Paths, AllocError> {
-        Ok(Paths {
-            index: format!(in alloc; "{name}.si4")?,
-            names: format!(in alloc; "{name}.sn4")?,
-            games: format!(in alloc; "{name}.sg4")?,
-        })
-    }
-
-    /// Opens the base. With `create` each file that is absent becomes an empty file.
-    fn open<R: FileSystem>(self, system: &R, create: bool) -> io::Result<Base<R::File>> {
-        open_file(system, &self.index, create)?;
-        open_file(system, &self.names, create)?;
-        let games = open_file(system, &self.games, create)?;
-        Ok(Base {
-            index: self.index,
-            names: self.names,
-            games,
-        })
-    }
-}
-
-/// Opens a file for reading. With `create` an absent file becomes an empty one; a file that is there is not changed.
-fn open_file<R: FileSystem>(system: &R, path: &str, create: bool) -> io::Result<R::File> {
-    match fs::open(system, path) {
-        Err(error) if create && error.kind() == ErrorKind::NotFound => {
-            OpenOptions::new()
-                .read(true)
-                .write(true)
-                .create(true)
-                .open(system, path)
+        // More than all files promise: a fault is counted once, and nothing else changes.
+        ensures counted { MatchResult result (λ _. self.new.faults ≡ self.old.faults) (λ e. self.new.faults ≡ after_error e self.old.faults) }
+        ensures rest { self.new ≡ record self.old { known = self.new.known; faults = self.new.faults } }
+    {
+        let added = pad as u64 + bytes.len() as u64;
+        let Some(known) = self.known.checked_add(added) else {
+            return Err(DeviceError::from(self.faults.fault()));
+        };
+        let Some(base) = &mut self.base else {
+            return Err(DeviceError::from(self.faults.fault()));
+        };
+        match base.append_games(self.system, self.known, pad, bytes) {
+            Ok(()) => {
+                self.known = known;
+                Ok(())
+            }
+            Err(_) => Err(DeviceError::from(self.faults.fault())),
         }
-        answer => answer,
     }
-}
 
-/// All the bytes of the file at this path.
-fn read_whole<R: FileSystem>(alloc: Global, system: &R, path: &str) -> io::Result<Vec<u8>> {
-    let mut bytes = Vec::new(alloc);
-    fs::open(system, path)?.read_to_end(&mut bytes)?;
-    Ok(bytes)
-}
+    #[tactic(auto, using(crate::proofs::Untold::untold_replaced))]
+    fn replace(&mut self, part: Part, bytes: &[u8]) -> Result<(), DeviceError>
+        ensures put { OnOk result (seen_of self.new ≡ replaced part bytes.now (seen_of self.old)) }
+        ensures unchanged { OnErr result (seen_of self.new ≡ seen_of self.old) }
+        ensures counts { self.old.faults ≤ self.new.faults }
+        ensures cause { IfErr result (λ e. HasCause e self.old.faults self.new.faults) }
+        ensures memory { IsErrOf result DeviceError.Memory → self.new.faults ≡ self.old.faults }
 
-/// Fills `into` from this place of the file on. A file that ends early is an error.
-fn read_at<F: Read + Seek>(file: &mut F, offset: u64, into: &mut [u8]) -> io::Result<()> {
-    file.seek(SeekFrom::Start(offset))?;
-    file.read_exact(into)
+        // More than all files promise: a fault is counted once, and nothing else changes.
+        ensures counted { MatchResult result (λ _. self.new.faults ≡ self.old.faults) (λ e. self.new.faults ≡ after_error e self.old.faults) }
+        ensures rest { self.new ≡ record self.old { faults = self.new.faults } }
+    {
+        let Some(base) = &self.base else {
+            return Err(DeviceError::from(self.faults.fault()));
+        };
+        match base.replace(self.alloc, self.system, part, bytes) {
+            Ok(()) => Ok(()),
+            Err(error) => Err(self.faults.error(error.kind())),
+        }
+    }
 }

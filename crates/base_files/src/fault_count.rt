@@ -1,5 +1,5 @@
 //! The count of faults of an adapter.
-ghost use Rattle.std.specs.Prelude.{◌≡◌, ◌≤◌};
+ghost use Rattle.std.specs.Prelude.{◌≡◌, ◌≤◌, ◌↔◌};
 ghost use Rattle.base_files.specs.Counters.{raised};
 ghost use Rattle.base_files.specs.Meters.{after_error};
 
@@ -40,6 +40,7 @@ impl FaultCount {
 
     /// The error of this kind: refused memory is no fault, every other kind is one, and is counted.
     pub fn error(&mut self, kind: ErrorKind) -> DeviceError
+        ensures kind { (result ≡ DeviceError.Memory) ↔ (kind ≡ ErrorKind.OutOfMemory) }
         ensures counted { self.new ≡ after_error result self.old }
         ensures counts { self.old ≤ self.new }
     {

@@ -1,9 +1,9 @@
 //! The three files of a base.
-ghost use Rattle.std.specs.Prelude.{◌≡◌, ℕ, ◌+◌, ◌<◌, ◌≤◌, Bool, List, [], ◌∷◌, ◌++◌, length, take, Option, IfOk, IfErr, OnOk, OnErr, IsErrOf};
+ghost use Rattle.std.specs.Prelude.{◌≡◌, ℕ, ◌+◌, ◌≤◌, ◌++◌, length, take, replicate, IfOk, IfErr, OnOk, OnErr, IsErrOf};
 ghost use Rattle.base_files.specs.Counters.{Rose, raised};
 ghost use Rattle.base_files.specs.Told.{Tells, TellsLength, part_told};
-ghost use Rattle.base_files.specs.Chosen.{Choice, choice};
 ghost use Rattle.base_files.specs.Parts.{of_part};
+ghost use Rattle.base_files.specs.Seen.{Seen, chose, measured, replaced, appended, AppendedInPart};
 ghost use Rattle.base_files.specs.Causes.{HasCause};
 
 use crate::faults::{DeviceError, Failed};
@@ -12,56 +12,40 @@ use std::alloc::Global;
 
 /// The index file, the names file and the games file of the base that was chosen.
 pub trait Files {
-    // the contents of the three files, where the object tells them
-    ghost index: { Self → Option (List ℕ) };
-
-    ghost names: { Self → Option (List ℕ) };
-
-    ghost games: { Self → Option (List ℕ) };
-
-    // how many faults it has counted
-    ghost faults: { Self → ℕ };
+    // the contents that it tells, the names that it was given, and the length of the games file that is known
+    ghost seen: { Self → Seen };
 
     // how many bytes of the games file it was asked for; this counter stands still at the greatest u64
     ghost asked: { Self → ℕ };
 
-    // the length of the games file that is known, by the last answer of `games_len`
-    ghost known: { Self → ℕ };
-
-    // the names that `choose` was given, the last one last
-    ghost choices: { Self → List Choice };
+    // how many faults it has counted
+    ghost faults: { Self → ℕ };
 
     /// Chooses the base of this name. With `create` each of its files that is absent becomes an empty file;
     /// without it an absent file is a fault. A file that is there is not changed.
     fn choose(&mut self, name: &str, create: bool) -> Result<(), DeviceError>
-        ensures chosen { OnOk result (choices self.new ≡ choices self.old ++ choice name.now create ∷ []) }
-        ensures chosen_in_vain { IsErrOf result DeviceError.Failed → choices self.new ≡ choices self.old ++ choice name.now create ∷ [] }
-        ensures not_chosen { IsErrOf result DeviceError.Memory → choices self.new ≡ choices self.old }
-        ensures contents { (index self.new ≡ index self.old) × (names self.new ≡ names self.old) × (games self.new ≡ games self.old) }
+        ensures chosen { OnOk result (seen self.new ≡ chose name.now create (seen self.old)) }
+        ensures chosen_in_vain { IsErrOf result DeviceError.Failed → seen self.new ≡ chose name.now create (seen self.old) }
+        ensures not_chosen { IsErrOf result DeviceError.Memory → seen self.new ≡ seen self.old }
         ensures none_asked { asked self.new ≡ asked self.old }
-        ensures as_known { known self.new ≡ known self.old }
         ensures counts { faults self.old ≤ faults self.new }
         ensures cause { IfErr result (λ e. HasCause e (faults self.old) (faults self.new)) }
         ensures memory { IsErrOf result DeviceError.Memory → faults self.new ≡ faults self.old };
 
     /// The whole of the index file or of the names file.
     fn load(&mut self, alloc: Global, part: Part) -> Result<Vec<u8>, DeviceError>
-        ensures loaded { IfOk result (λ bytes. Tells (of_part part (index self.old) (names self.old)) bytes.items) }
-        ensures contents { (index self.new ≡ index self.old) × (names self.new ≡ names self.old) × (games self.new ≡ games self.old) }
-        ensures none_chosen { choices self.new ≡ choices self.old }
+        ensures loaded { IfOk result (λ bytes. Tells (of_part part (seen self.old).index (seen self.old).names) bytes.items) }
+        ensures unchanged { seen self.new ≡ seen self.old }
         ensures none_asked { asked self.new ≡ asked self.old }
-        ensures as_known { known self.new ≡ known self.old }
         ensures counts { faults self.old ≤ faults self.new }
         ensures cause { IfErr result (λ e. HasCause e (faults self.old) (faults self.new)) }
         ensures memory { IsErrOf result DeviceError.Memory → faults self.new ≡ faults self.old };
 
     /// The length of the games file in bytes, which is known from then on.
     fn games_len(&mut self) -> Result<u64, Failed>
-        ensures length { IfOk result (λ n. TellsLength (games self.old) n) }
-        ensures now_known { IfOk result (λ n. known self.new ≡ n) }
-        ensures as_known { OnErr result (known self.new ≡ known self.old) }
-        ensures contents { (index self.new ≡ index self.old) × (names self.new ≡ names self.old) × (games self.new ≡ games self.old) }
-        ensures none_chosen { choices self.new ≡ choices self.old }
+        ensures length { IfOk result (λ n. TellsLength (seen self.old).games n) }
+        ensures now_known { IfOk result (λ n. seen self.new ≡ measured n (seen self.old)) }
+        ensures unchanged { OnErr result (seen self.new ≡ seen self.old) }
         ensures none_asked { asked self.new ≡ asked self.old }
         ensures counts { faults self.old ≤ faults self.new }
         ensures cause { OnErr result (Rose (faults self.old) (faults self.new)) };
@@ -70,12 +54,31 @@ pub trait Files {
     /// They lie within the length that is known. They count as asked after a fault too.
     fn read_games(&mut self, offset: u64, len: u32, into: &mut [u8]) -> Result<(), Failed>
         requires room { len ≤ length into.old }
-        requires within { offset + len ≤ known self.old }
-        ensures bytes { OnOk result (Tells (part_told (games self.old) offset len) (take len into.new)) }
+        requires within { offset + len ≤ (seen self.old).known }
+        ensures bytes { OnOk result (Tells (part_told (seen self.old).games offset len) (take len into.new)) }
+        ensures unchanged { seen self.new ≡ seen self.old }
         ensures asks { asked self.new ≡ raised (asked self.old) len }
-        ensures contents { (index self.new ≡ index self.old) × (names self.new ≡ names self.old) × (games self.new ≡ games self.old) }
-        ensures none_chosen { choices self.new ≡ choices self.old }
-        ensures as_known { known self.new ≡ known self.old }
         ensures counts { faults self.old ≤ faults self.new }
         ensures cause { OnErr result (Rose (faults self.old) (faults self.new)) };
+
+    /// Adds `pad` zero bytes and then `bytes` at the end of the games file, which is known to be so much longer from then on.
+    ///
+    /// After a fault the games file begins with what it was, and any bytes may follow. Want of memory changes nothing.
+    fn append_games(&mut self, pad: u32, bytes: &[u8]) -> Result<(), DeviceError>
+        ensures added { OnOk result (seen self.new ≡ appended (replicate pad 0 ++ bytes.now) (seen self.old)) }
+        ensures in_part { IsErrOf result DeviceError.Failed → AppendedInPart (seen self.old) (seen self.new) }
+        ensures none_added { IsErrOf result DeviceError.Memory → seen self.new ≡ seen self.old }
+        ensures none_asked { asked self.new ≡ asked self.old }
+        ensures counts { faults self.old ≤ faults self.new }
+        ensures cause { IfErr result (λ e. HasCause e (faults self.old) (faults self.new)) }
+        ensures memory { IsErrOf result DeviceError.Memory → faults self.new ≡ faults self.old };
+
+    /// Makes `bytes` the whole of the index file or of the names file. After an error the file is as it was.
+    fn replace(&mut self, part: Part, bytes: &[u8]) -> Result<(), DeviceError>
+        ensures put { OnOk result (seen self.new ≡ replaced part bytes.now (seen self.old)) }
+        ensures unchanged { OnErr result (seen self.new ≡ seen self.old) }
+        ensures none_asked { asked self.new ≡ asked self.old }
+        ensures counts { faults self.old ≤ faults self.new }
+        ensures cause { IfErr result (λ e. HasCause e (faults self.old) (faults self.new)) }
+        ensures memory { IsErrOf result DeviceError.Memory → faults self.new ≡ faults self.old };
 }

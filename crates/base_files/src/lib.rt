@@ -2,20 +2,37 @@
 #![tactic(auto)]
 
 mod chosen;
-pub mod disk_files;
+mod disk_base;
+mod disk_files;
+mod extent;
 mod fault_count;
-pub mod faults;
-pub mod files;
-pub mod mem_files;
-pub mod mem_sink;
-pub mod mem_source;
-pub mod part;
+mod faults;
+mod files;
+mod mem_files;
+mod mem_sink;
+mod mem_source;
+mod part;
 mod plan;
-pub mod reading;
-pub mod sink;
-pub mod source;
-pub mod std_sink;
-pub mod std_source;
+mod reading;
+mod sink;
+mod source;
+mod std_sink;
+mod std_source;
 #[cfg(test)]
 mod tests;
-pub mod writing;
+mod writing;
+
+pub use disk_files::DiskFiles;
+pub use extent::Extent;
+pub use faults::{DeviceError, Failed, Stop};
+pub use files::Files;
+pub use mem_files::MemFiles;
+pub use mem_sink::MemSink;
+pub use mem_source::MemSource;
+pub use part::Part;
+pub use reading::{Input, read_to_limit};
+pub use sink::Sink;
+pub use source::Source;
+pub use std_sink::StdSink;
+pub use std_source::StdSource;
+pub use writing::write_all;

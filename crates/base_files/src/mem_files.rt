@@ -1,19 +1,18 @@
 //! The files of a base in memory.
-ghost use Rattle.std.specs.Prelude.{◌≡◌, ℕ, ◌+◌, ◌<◌, ◌≤◌, [], ◌∷◌, ◌++◌, length, take, drop, Some, IfOk, IfErr, OnOk, OnErr, IsErrOf, MatchResult};
+ghost use Rattle.std.specs.Prelude.{◌≡◌, ◌+◌, ◌≤◌, [], ◌∷◌, ◌++◌, length, take, drop, replicate, IfOk, IfErr, OnOk, OnErr, IsErrOf, MatchResult};
 ghost use Rattle.base_files.specs.Counters.{Rose, raised};
-ghost use Rattle.base_files.specs.Told.{Tells, TellsLength, part_told};
-ghost use Rattle.base_files.specs.Chosen.{Choice, choice};
+ghost use Rattle.base_files.specs.Chosen.{choice};
 ghost use Rattle.base_files.specs.Parts.{of_part};
 ghost use Rattle.base_files.specs.Causes.{HasCause};
-ghost use Rattle.base_files.specs.Planned.{Calls, Served, FailedAsPlanned, Refused};
-ghost use Rattle.base_files.specs.Shelves.{Shelf, new_shelf};
+ghost use Rattle.base_files.specs.Planned.{Served, FailedAsPlanned, Refused};
+ghost use Rattle.base_files.specs.Shelves.{Shelf, new_shelf, seen_of, put_on};
 
 use crate::chosen::Choices;
 use crate::faults::{DeviceError, Failed};
 use crate::files::Files;
 use crate::part::Part;
 use crate::plan::Plan;
-use std::alloc::Global;
+use std::alloc::{AllocError, Global};
 use std::marker::Model;
 
 /// Three contents in memory, which are always there.
@@ -93,19 +92,11 @@ impl MemFiles {
 }
 
 impl Files for MemFiles {
-    ghost index = { λ files. Some files.index };
-
-    ghost names = { λ files. Some files.names };
-
-    ghost games = { λ files. Some files.games };
-
-    ghost faults = { λ files. files.calls.faults };
+    ghost seen = { λ files. seen_of files };
 
     ghost asked = { λ files. files.asked };
 
-    ghost known = { λ files. files.known };
-
-    ghost choices = { λ files. files.choices };
+    ghost faults = { λ files. files.calls.faults };
 
     fn choose(&mut self, name: &str, create: bool) -> Result<(), DeviceError>
         ensures chosen { OnOk result (self.new.choices ≡ self.old.choices ++ choice name.now create ∷ []) }
@@ -180,4 +171,55 @@ impl Files for MemFiles {
         into[..len].copy_from_slice(&self.games[start..start + len]);
         Ok(())
     }
+
+    fn append_games(&mut self, pad: u32, bytes: &[u8]) -> Result<(), DeviceError>
+        ensures added { OnOk result (self.new.games ≡ self.old.games ++ (replicate pad 0 ++ bytes.now)) }
+        ensures now_known { OnOk result (self.new.known ≡ self.old.known + length (replicate pad 0 ++ bytes.now)) }
+        ensures none_added { OnErr result ((self.new.games ≡ self.old.games) × (self.new.known ≡ self.old.known)) }
+        ensures counts { self.old.calls.faults ≤ self.new.calls.faults }
+        ensures cause { IfErr result (λ e. HasCause e self.old.calls.faults self.new.calls.faults) }
+        ensures memory { IsErrOf result DeviceError.Memory → self.new.calls.faults ≡ self.old.calls.faults }
+
+        // More than all files promise: which calls fail, and that nothing else changes.
+        ensures planned { MatchResult result (λ _. Served self.old.calls self.new.calls) (λ e. Refused e self.old.calls self.new.calls) }
+        ensures rest { self.new ≡ record self.old { games = self.new.games; known = self.new.known; calls = self.new.calls } }
+    {
+        self.plan.begin()?;
+        add_padded(&mut self.games, pad, bytes)?;
+        self.known += pad as u64 + bytes.len() as u64;
+        Ok(())
+    }
+
+    fn replace(&mut self, part: Part, bytes: &[u8]) -> Result<(), DeviceError>
+        ensures put { OnOk result (self.new ≡ put_on part bytes.now (record self.old { calls = self.new.calls })) }
+        ensures unchanged { OnErr result (self.new ≡ record self.old { calls = self.new.calls }) }
+        ensures counts { self.old.calls.faults ≤ self.new.calls.faults }
+        ensures cause { IfErr result (λ e. HasCause e self.old.calls.faults self.new.calls.faults) }
+        ensures memory { IsErrOf result DeviceError.Memory → self.new.calls.faults ≡ self.old.calls.faults }
+
+        // More than all files promise: which calls fail.
+        ensures planned { MatchResult result (λ _. Served self.old.calls self.new.calls) (λ e. Refused e self.old.calls self.new.calls) }
+    {
+        self.plan.begin()?;
+        let bytes = Vec::from_slice(*self.games.allocator(), bytes)?;
+        match part {
+            Part::Index => self.index = bytes,
+            Part::Names => self.names = bytes,
+        }
+        Ok(())
+    }
+}
+
+// Adds so many zero bytes and then the bytes at the end. Where memory runs out the list is as it was.
+fn add_padded(list: &mut Vec<u8>, pad: u32, bytes: &[u8]) -> Result<(), AllocError>
+    ensures added { OnOk result (list.new.items ≡ list.old.items ++ (replicate pad 0 ++ bytes.now)) }
+    ensures unchanged { OnErr result (list.new.items ≡ list.old.items) }
+{
+    let len = list.len();
+    list.resize(len + pad as usize, 0)?;
+    if let Err(refused) = list.extend_from_slice(bytes) {
+        list.truncate(len);
+        return Err(refused);
+    }
+    Ok(())
 }

@@ -35,6 +35,7 @@ pub fn read_to_limit<S: Source>(
     ensures spent_too_much { IfTooLong result (S.budget source.new + limit < S.budget source.old) }
     ensures advanced { Advanced (S.left source.old) (S.left source.new) }
     ensures spends { S.budget source.new ≤ S.budget source.old }
+    ensures no_further { S.budget source.old ≤ S.budget source.new + limit + 1 }
     ensures counts { S.faults source.old ≤ S.faults source.new }
     ensures cause { IfErr result (λ e. HasCause e (S.faults source.old) (S.faults source.new)) }
 {

@@ -119,22 +119,54 @@ fn a_base_on_a_disk_is_loaded(rt: HostRuntime) -> Result<(), Fail> {
 }
 
 #[test]
-fn games_on_a_disk_are_read(rt: HostRuntime) -> Result<(), Fail> {
+fn games_on_a_disk_are_read_and_added(rt: HostRuntime) -> Result<(), Fail> {
     let paths = ["read.si4", "read.sn4", "read.sg4"];
     write_base(&rt, "abcdefgh", paths)?;
     let mut files = DiskFiles::new(rt.alloc(), &rt);
     files.choose("read", false)?;
-    let len = files.games_len()?;
-    assert_eq!(rt; len, 8);
-    let mut into = [0u8; 3];
+    assert_eq!(rt; files.games_len(), Ok(8));
+    let mut into = [0u8; 4];
     files.read_games(5, 3, &mut into)?;
-    assert_eq!(rt; into, *b"fgh");
+    assert_eq!(rt; into, *b"fgh\0");
+    files.append_games(1, b"xyz")?;
+    assert_eq!(rt; files.games_len(), Ok(12));
+    files.read_games(8, 4, &mut into)?;
+    assert_eq!(rt; into, *b"\0xyz", "what was added is seen at once");
+    remove_base(&rt, paths)?;
+    Ok(())
+}
+
+#[test]
+fn a_games_file_that_became_shorter_is_a_fault(rt: HostRuntime) -> Result<(), Fail> {
+    let paths = ["short.si4", "short.sn4", "short.sg4"];
+    write_base(&rt, "abcdefgh", paths)?;
+    let mut files = DiskFiles::new(rt.alloc(), &rt);
+    files.choose("short", false)?;
+    assert_eq!(rt; files.games_len(), Ok(8));
     write_base(&rt, "abc", paths)?;
+    let mut into = [0u8; 3];
+    assert_eq!(rt; files.read_games(2, 3, &mut into), Err(Failed));
+    assert_eq!(rt; files.append_games(0, b"x"), Err(DeviceError::Failed));
+    remove_base(&rt, paths)?;
+    Ok(())
+}
+
+#[test]
+fn parts_on_a_disk_are_replaced(rt: HostRuntime) -> Result<(), Fail> {
+    let paths = ["parts.si4", "parts.sn4", "parts.sg4"];
+    write_base(&rt, "", paths)?;
+    fs::create_dir(&rt, "parts.sn4.new")?;
+    let mut files = DiskFiles::new(rt.alloc(), &rt);
+    files.choose("parts", false)?;
+    files.replace(Part::Index, b"new")?;
+    assert!(rt; has(rt.alloc(), &mut files, Part::Index, b"new")?);
     assert_eq!(rt;
-        files.read_games(2, 3, &mut into),
-        Err(Failed),
-        "the file became shorter"
+        files.replace(Part::Names, b"new"),
+        Err(DeviceError::Failed),
+        "a folder is in the way"
     );
+    assert!(rt; has(rt.alloc(), &mut files, Part::Names, b"NAMES")?);
+    fs::remove_dir(&rt, "parts.sn4.new")?;
     remove_base(&rt, paths)?;
     Ok(())
 }
@@ -167,6 +199,30 @@ fn planned_faults_of_files(rt: HostRuntime) -> Result<(), Fail> {
     assert_eq!(rt; into, *b"fgh");
     assert_eq!(rt; files.read_games(0, 3, &mut into), Err(Failed), "call 5");
     assert_eq!(rt; files.asked(), 6);
+    Ok(())
+}
+
+#[test]
+fn planned_faults_of_additions(rt: HostRuntime) -> Result<(), Fail> {
+    let index = b"INDEX".to_vec(rt.alloc())?;
+    let games = b"abc".to_vec(rt.alloc())?;
+    let fails = vec![in rt.alloc(); 0, 2]?;
+    let mut files = MemFiles::new(index, Vec::new(rt.alloc()), games, fails);
+    assert_eq!(rt;
+        files.append_games(1, b"de"),
+        Err(DeviceError::Failed),
+        "call 0"
+    );
+    files.append_games(1, b"de")?;
+    assert_eq!(rt; files.games(), b"abc\0de".as_slice());
+    assert_eq!(rt;
+        files.replace(Part::Index, b"new"),
+        Err(DeviceError::Failed),
+        "call 2"
+    );
+    files.replace(Part::Names, b"new")?;
+    assert_eq!(rt; files.index(), b"INDEX".as_slice());
+    assert_eq!(rt; files.names(), b"new".as_slice());
     Ok(())
 }
 

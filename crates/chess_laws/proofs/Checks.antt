@@ -1,5 +1,5 @@
 -- The test of check finds a check exactly where there is one.
-use Rattle.std.proofs.Common.{◌≡◌, ◌↔◌, ℕ, zero, suc, ◌<◌, ◌⊎◌, inl, inr, Bool, true, false, ◌&&◌, ◌||◌, eqb, IsTrue, List, Option, Some, None, refl, sym, ◌∙◌, ap, subst, arith}
+use Rattle.std.proofs.Common.{◌≡◌, ◌↔◌, ℕ, zero, suc, ◌<◌, inl, inr, Bool, true, false, ◌||◌, IsTrue, List, Option, Some, None, refl, sym, ◌∙◌, ap, arith}
 use Rattle.std.specs.Prelude.{Any}
 use Rattle.std.specs.List.{list_any}
 use Rattle.std.proofs.lemmas.Bool.{and_parts, eqb-true, eq-eqb, false≢true, cases_Bool, cases_lt}

@@ -39,13 +39,13 @@ none-is None h = refl
 none-is (Some k) h = absurd (cc)
 
 plain-comes : (p : Setup) (k : Kind) (m : Move) → GoesPlainly p k m → Comes p k m.from m.to
-plain-comes p Pawn m (inl g) = inl g.0
-plain-comes p Pawn m (inr g) = inr (inr g.0)
-plain-comes p King m g = inl g.0
-plain-comes p Queen m g = g.0
-plain-comes p Rook m g = g.0
-plain-comes p Bishop m g = g.0
-plain-comes p Knight m g = g.0
+plain-comes p Pawn m (inl g) = inl g
+plain-comes p Pawn m (inr g) = inr (inr (g.0, inl g.1))
+plain-comes p King m g = inl g
+plain-comes p Queen m g = g
+plain-comes p Rook m g = g
+plain-comes p Bishop m g = g
+plain-comes p Knight m g = g
 
 promo-cases : (last : Bool) (promo : Option Kind) → IsTrue (cond last (may_become promo) (is_none promo)) → (promo ≡ None) ⊎ ((last ≡ true) × IsTrue (may_become promo))
 promo-cases true promo h = inr (refl, h)
@@ -68,8 +68,8 @@ case-fits p m Plain is h leaves = record {
   comes = plain-comes p h.kind m h.goes;
   promotes = plain-promotes p h.kind m h.stands h.promotes;
 }
-case-fits p m Double is h leaves = record { kind = Pawn; stands = h.stands; comes = inr (inl h.walks); promotes = inl h.promo }
-case-fits p m Passing is h leaves = record { kind = Pawn; stands = h.stands; comes = inr (inr h.goes); promotes = inl h.promo }
+case-fits p m Double is h leaves = record { kind = Pawn; stands = h.stands; comes = inr (inl (h.walks, h.target)); promotes = inl h.promo }
+case-fits p m Passing is h leaves = record { kind = Pawn; stands = h.stands; comes = inr (inr (h.goes, inr h.target)); promotes = inl h.promo }
 case-fits p m (Castle wing) is h leaves =
     let at = castle-squares p m wing h.stands is in
     record { kind = King; stands = h.stands; comes = inr (at.from, (wing, at.to)); promotes = inl h.promo }

@@ -1,5 +1,5 @@
 -- What a move opens: an attack after it was there before, or comes from its target, or runs over the square that it left.
-use Rattle.std.proofs.Common.{◌≡◌, ℕ, zero, suc, ◌<◌, ◌⊎◌, inl, inr, ⊎_elim, ◌↔◌, IsTrue, Bool, true, false, ltb, Some, None, length, refl, sym, ◌∙◌, ap, arith}
+use Rattle.std.proofs.Common.{◌≡◌, ℕ, zero, suc, ◌<◌, ◌⊎◌, inl, inr, ◌↔◌, IsTrue, Bool, true, false, ltb, Some, None, length, refl, sym, ◌∙◌, ap, arith}
 use Rattle.std.specs.Prelude.{Any}
 use Rattle.std.proofs.lemmas.Bool.{cases_Bool, cases_eq, false≢true}
 use Rattle.std.proofs.lemmas.Bool.Decides.{nat_tests}
@@ -14,11 +14,11 @@ use Rattle.chess_laws.specs.declared.setup.Setup.{Setup}
 use Rattle.chess_laws.specs.declared.effect.Effect.{Effect}
 use Rattle.chess_laws.specs.declared.effect.Effect.TheVariants.{Plain, Double, Passing, Castle, Null}
 use Rattle.chess_laws.specs.Geometry.{Offset, Walk, Runs}
-use Rattle.chess_laws.specs.Attacks.{Attacks, AttacksAs, Reaches, IsInCheck}
-use Rattle.chess_laws.specs.Legal.{IsOnlyKing, is_calm, line, glides, slides, king_after}
+use Rattle.chess_laws.specs.Attacks.{Attacks, Reaches, IsInCheck}
+use Rattle.chess_laws.specs.Legal.{IsOnlyKing, is_calm, glides, slides}
 use Rattle.chess_laws.specs.Checks.{Hits, in_check}
 use Rattle.chess_laws.specs.Position.{Sound, king_square}
-use Rattle.chess_laws.specs.Rays.{Opens, Covers, SlidesFrom, glider, offset_at}
+use Rattle.chess_laws.specs.Rays.{Opens, Covers, glider, offset_at}
 use Rattle.chess_laws.specs.Step.{effect_of, arriving, moved, board_after, after, Case, Legal}
 use Rattle.chess_laws.proofs.Boards.{man-colour, on_board, other-other, put-same, put-other, length-put}
 use Rattle.chess_laws.proofs.Keeping.{arriving-lands, lands_as, moved-other, other-apart}

@@ -1,5 +1,5 @@
 -- Whether a side is in check as a test, which is what is kept beside a position. No public contract cites these words.
-use Rattle.std.specs.Prelude.{◌≡◌, ℕ, zero, suc, ◌==◌, ◌&&◌, ◌||◌, Bool, false, List, Option, Some, None}
+use Rattle.std.specs.Prelude.{◌≡◌, ℕ, zero, suc, ◌==◌, ◌&&◌, ◌||◌, Bool, false, Option, Some, None}
 use Rattle.std.specs.List.{list_any, position_or_len}
 use Rattle.cell_core.specs.declared.man.Colour.{Colour}
 use Rattle.cell_core.specs.declared.man.Kind.{Kind}
@@ -8,7 +8,7 @@ use Rattle.cell_core.specs.declared.man.Man.{Man}
 use Rattle.cell_core.specs.Board.{Men, man_at}
 use Rattle.cell_core.specs.Man.{man, other, is_man, same_colour}
 use Rattle.chess_laws.specs.declared.setup.Setup.{Setup}
-use Rattle.chess_laws.specs.Geometry.{Offset, shift, king_steps, knight_steps, pawn_captures}
+use Rattle.chess_laws.specs.Geometry.{shift, king_steps, knight_steps, pawn_captures}
 use Rattle.chess_laws.specs.Attacks.{Reaches}
 use Rattle.chess_laws.specs.Legal.{run, slides}
 

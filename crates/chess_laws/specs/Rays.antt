@@ -10,6 +10,7 @@ use Rattle.cell_core.specs.declared.man.Man.{Man}
 use Rattle.cell_core.specs.Board.{Men, man_at}
 use Rattle.cell_core.specs.Man.{man, other}
 use Rattle.chess_laws.specs.declared.setup.Setup.{Setup}
+use Rattle.chess_laws.specs.Attacks.{IsInCheck}
 use Rattle.chess_laws.specs.Legal.{line}
 use Rattle.chess_laws.specs.Geometry.{Offset, by, king_steps, knight_steps, shift, Leaps, Runs}
 
@@ -97,3 +98,8 @@ pub record Opens (men : Men) (c : Colour) (a s : ℕ) : Type 0 where
 pub record Covers (p : Setup) (king a : ℕ) : Type 0 where
   pub apart : a ≡ king → ⊥
   pub shut : Opens p.board (other p.side) a king → ⊥
+
+-- the mover's king is not in check, and is not what leaves the square or is uncovered by it
+pub record Shut (p : Setup) (king a : ℕ) : Type 0 where
+  pub unchecked : IsInCheck p.board p.side → ⊥
+  pub covers : Covers p king a

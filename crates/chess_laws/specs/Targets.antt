@@ -1,5 +1,5 @@
 -- What the code of legal moves collects on its way. No public contract cites these words.
-use Rattle.std.specs.Prelude.{◌≡◌, ℕ, ◌<◌, ◌≤◌, ◌⊎◌, List, length, All, Any, Contains, ◌++◌, Some}
+use Rattle.std.specs.Prelude.{◌≡◌, ℕ, ◌<◌, ◌≤◌, ◌⊎◌, List, length, All, Any, Contains, ◌++◌, Some, None}
 use Rattle.std.specs.Int.{bit_at}
 use Rattle.cell_core.specs.declared.man.Kind.{Kind}
 use Rattle.cell_core.specs.declared.man.Kind.TheVariants.{King, Queen, Rook, Bishop, Knight, Pawn}
@@ -10,7 +10,8 @@ use Rattle.chess_laws.specs.declared.targets.SquareSet.{SquareSet}
 use Rattle.chess_laws.specs.Geometry.{rank_of, forward, pawn_captures, rook_steps, bishop_steps, knight_steps, king_steps, Leaps, Runs, Walk}
 use Rattle.cell_core.specs.Board.{man_at}
 use Rattle.cell_core.specs.Man.{man}
-use Rattle.chess_laws.specs.Step.{last_rank}
+use Rattle.chess_laws.specs.Legal.{IsEnemyOn}
+use Rattle.chess_laws.specs.Step.{last_rank, HasNoOwn}
 use Rattle.chess_laws.specs.Castling.{king_home, king_target}
 use Rattle.chess_laws.specs.Moves.{IsMove, place_of, Ascends}
 
@@ -22,17 +23,22 @@ Has set s = bit_at set.bits s ≡ 1
 abbrev pub CastlesTo : Setup → ℕ → ℕ → Type 0
 CastlesTo p a b = (a ≡ king_home p.side) × ((wing : Wing) × (b ≡ king_target p.side wing))
 
--- a pawn comes from a to b: one square forward, two, or diagonally
+-- a pawn comes from a to b: one square forward or two, to an empty one, or diagonally to an enemy or in passing
+abbrev pub MayTake : Setup → ℕ → Type 0
+MayTake p b = IsEnemyOn p.board p.side b ⊎ (p.en_passant ≡ Some b)
+
 abbrev pub PawnComes : Setup → ℕ → ℕ → Type 0
-PawnComes p a b = Leaps a b (forward p.side) ⊎ (Walk p.board (forward p.side) 1 a b ⊎ Any (Leaps a b) (pawn_captures p.side))
+PawnComes p a b =
+    (Leaps a b (forward p.side) × (man_at p.board b ≡ None))
+    ⊎ ((Walk p.board (forward p.side) 1 a b × (man_at p.board b ≡ None)) ⊎ (Any (Leaps a b) (pawn_captures p.side) × MayTake p b))
 
 -- a man of the side to move and of this kind comes from a to b by some legal move, whatever else that needs
 abbrev pub Comes : Setup → Kind → ℕ → ℕ → Type 0
-Comes p King a b = Any (Leaps a b) king_steps ⊎ CastlesTo p a b
-Comes p Queen a b = Any (Runs p.board a b) (rook_steps ++ bishop_steps)
-Comes p Rook a b = Any (Runs p.board a b) rook_steps
-Comes p Bishop a b = Any (Runs p.board a b) bishop_steps
-Comes p Knight a b = Any (Leaps a b) knight_steps
+Comes p King a b = (Any (Leaps a b) king_steps × HasNoOwn p.board p.side b) ⊎ CastlesTo p a b
+Comes p Queen a b = Any (Runs p.board a b) (rook_steps ++ bishop_steps) × HasNoOwn p.board p.side b
+Comes p Rook a b = Any (Runs p.board a b) rook_steps × HasNoOwn p.board p.side b
+Comes p Bishop a b = Any (Runs p.board a b) bishop_steps × HasNoOwn p.board p.side b
+Comes p Knight a b = Any (Leaps a b) knight_steps × HasNoOwn p.board p.side b
 Comes p Pawn a b = PawnComes p a b
 
 -- the list has the moves whose place is below n, each once and in order, and nothing else, and at most so many fit

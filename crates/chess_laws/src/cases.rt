@@ -70,7 +70,7 @@ fn takes(p: &Setup, m: &Move) -> bool
 }
 
 /// Whether an enemy of this colour stands on the square.
-fn has_enemy(board: &Board, colour: Colour, s: Square) -> bool
+pub fn has_enemy(board: &Board, colour: Colour, s: Square) -> bool
     ensures { IsTrue result ↔ IsEnemyOn board.now colour s }
 {
     match board.at(s) {
@@ -80,7 +80,7 @@ fn has_enemy(board: &Board, colour: Colour, s: Square) -> bool
 }
 
 /// Whether no man of this colour stands on the square.
-fn has_no_own(board: &Board, colour: Colour, s: Square) -> bool
+pub fn has_no_own(board: &Board, colour: Colour, s: Square) -> bool
     ensures { IsTrue result ↔ HasNoOwn board.now colour s }
 {
     match board.at(s) {

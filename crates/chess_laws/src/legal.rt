@@ -1,9 +1,9 @@
 //! Which moves are legal.
-ghost use Rattle.std.specs.Prelude.{◌≡◌, ◌↔◌, IsTrue, false, true};
+ghost use Rattle.std.specs.Prelude.{◌≡◌, ◌↔◌, ◌&&◌, IsTrue, false};
 ghost use Rattle.std.specs.Bool.{OnTrue};
 ghost use Rattle.chess_laws.specs.Legal.{IsOnlyKing, is_calm, king_after};
 ghost use Rattle.chess_laws.specs.Attacks.{IsInCheck};
-ghost use Rattle.chess_laws.specs.Rays.{Covers};
+ghost use Rattle.chess_laws.specs.Rays.{Covers, Shut};
 ghost use Rattle.chess_laws.specs.Position.{Sound};
 ghost use Rattle.chess_laws.specs.Step.{board_after, effect_of, Case, Legal};
 
@@ -32,13 +32,30 @@ pub fn is_legal_as(p: &Setup, king: Square, checked: bool, m: &Move, effect: Eff
     requires effect { effect ≡ effect_of p.now m.now }
     ensures { IsTrue result ↔ Legal p.now m.now }
 {
+    let shut = is_shut(p, king, checked, m.from);
+    is_legal_from(p, king, shut, m, effect)
+}
+
+/// Whether the mover's king is safe after each calm move from this square.
+pub fn is_shut(p: &Setup, king: Square, checked: bool, from: Square) -> bool
+    requires check { IsTrue checked ↔ IsInCheck p.now.board p.now.side }
+    ensures { OnTrue result (Shut p.now king from) }
+{
+    !checked && !uncovers(p, king, from)
+}
+
+/// Whether the move, which is of this kind, is legal, where the square it leaves may be shut.
+pub fn is_legal_from(p: &Setup, king: Square, shut: bool, m: &Move, effect: Effect) -> bool
+    requires sound { Sound p.now }
+    requires king { IsOnlyKing p.now.board p.now.side king }
+    requires shut { OnTrue shut (Shut p.now king m.now.from) }
+    requires effect { effect ≡ effect_of p.now m.now }
+    ensures { IsTrue result ↔ Legal p.now m.now }
+{
     if !is_allowed(p, king, m, effect) {
         return false;
     }
-    if !checked && stays_safe(p, king, m, effect) {
-        return true;
-    }
-    is_safe_after(p, king, m, effect)
+    stays_safe(shut, effect) || is_safe_after(p, king, m, effect)
 }
 
 // Whether the mover's king is safe on the board after an allowed move.
@@ -61,11 +78,11 @@ pub fn king_after(king: Square, m: &Move) -> Square
     if m.from == king { m.to } else { king }
 }
 
-// Whether the mover's king, that is not in check, is safe after the move without a look at the board after it.
-fn stays_safe(p: &Setup, king: Square, m: &Move, effect: Effect) -> bool
-    ensures { OnTrue result ((is_calm effect ≡ true) × Covers p.now king m.now.from) }
+// Whether the mover's king is safe after the move without a look at the board after it.
+fn stays_safe(shut: bool, effect: Effect) -> bool
+    ensures { result ≡ (shut && is_calm effect) }
 {
-    is_calm(effect) && !uncovers(p, king, m.from)
+    shut && is_calm(effect)
 }
 
 // Whether the move changes two squares alone, where it begins and where it ends.

@@ -4,11 +4,13 @@ ghost use Rattle.std.specs.Bool.{OnTrue, OnFalse};
 ghost use Rattle.chess_laws.specs.Attacks.{IsInCheck};
 ghost use Rattle.chess_laws.specs.Legal.{IsOnlyKing};
 ghost use Rattle.chess_laws.specs.Position.{Sound};
+ghost use Rattle.chess_laws.specs.Rays.{Shut};
 ghost use Rattle.chess_laws.specs.Moves.{HasMoreMoves, IsMove, ListsMoves, promotion_number};
 ghost use Rattle.chess_laws.specs.Targets.{ListsBelow, ListsBefore, MayPromote};
 
 use super::cases::{has_own, last_rank};
-use super::legal::is_legal;
+use super::legal::{is_legal_from, is_shut};
+use super::next::effect_of;
 use super::position::Position;
 use super::setup::Setup;
 use super::targets::targets;
@@ -84,10 +86,11 @@ fn list_from<const N: usize>(
     ensures listed { OnTrue result (ListsBelow p.now N (512 * (from + 1)) into.new.items) }
     ensures many { OnFalse result (HasMoreMoves p.now N) }
 {
+    let shut = is_shut(p, king, checked, from);
     let targets = targets(p, from);
     let mut at = 0u8;
     while let Some(to) = targets.next(at) {
-        if !list_to(p, king, checked, from, to, into) {
+        if !list_to(p, king, shut, from, to, into) {
             return false;
         }
         at = to.index() + 1;
@@ -99,24 +102,24 @@ fn list_from<const N: usize>(
 fn list_to<const N: usize>(
     p: &Setup,
     king: Square,
-    checked: bool,
+    shut: bool,
     from: Square,
     to: Square,
     into: &mut ArrayVec<Move, N>,
 ) -> bool
     requires sound { Sound p.now }
     requires king { IsOnlyKing p.now.board p.now.side king }
-    requires check { IsTrue checked ↔ IsInCheck p.now.board p.now.side }
+    requires shut { OnTrue shut (Shut p.now king from) }
     requires on_board { to < 64 }
     requires before { ListsBelow p.now N (512 * from + 8 * to) into.old.items }
     ensures listed { OnTrue result (ListsBelow p.now N (512 * from + 8 * (to + 1)) into.new.items) }
     ensures many { OnFalse result (HasMoreMoves p.now N) }
 {
-    if !add(p, king, checked, from, to, None, into) {
+    if !add(p, king, shut, from, to, None, into) {
         return false;
     }
     if may_promote(p, from, to) {
-        return list_promotions(p, king, checked, from, to, into);
+        return list_promotions(p, king, shut, from, to, into);
     }
     true
 }
@@ -125,29 +128,29 @@ fn list_to<const N: usize>(
 fn list_promotions<const N: usize>(
     p: &Setup,
     king: Square,
-    checked: bool,
+    shut: bool,
     from: Square,
     to: Square,
     into: &mut ArrayVec<Move, N>,
 ) -> bool
     requires sound { Sound p.now }
     requires king { IsOnlyKing p.now.board p.now.side king }
-    requires check { IsTrue checked ↔ IsInCheck p.now.board p.now.side }
+    requires shut { OnTrue shut (Shut p.now king from) }
     requires on_board { to < 64 }
     requires before { ListsBelow p.now N (512 * from + (8 * to + 1)) into.old.items }
     ensures listed { OnTrue result (ListsBelow p.now N (512 * from + 8 * (to + 1)) into.new.items) }
     ensures many { OnFalse result (HasMoreMoves p.now N) }
 {
-    if !add(p, king, checked, from, to, Some(Kind::Queen), into) {
+    if !add(p, king, shut, from, to, Some(Kind::Queen), into) {
         return false;
     }
-    if !add(p, king, checked, from, to, Some(Kind::Rook), into) {
+    if !add(p, king, shut, from, to, Some(Kind::Rook), into) {
         return false;
     }
-    if !add(p, king, checked, from, to, Some(Kind::Bishop), into) {
+    if !add(p, king, shut, from, to, Some(Kind::Bishop), into) {
         return false;
     }
-    add(p, king, checked, from, to, Some(Kind::Knight), into)
+    add(p, king, shut, from, to, Some(Kind::Knight), into)
 }
 
 /// Whether a pawn of the side to move stands on `from` and `to` is on its last rank.
@@ -161,7 +164,7 @@ fn may_promote(p: &Setup, from: Square, to: Square) -> bool
 fn add<const N: usize>(
     p: &Setup,
     king: Square,
-    checked: bool,
+    shut: bool,
     from: Square,
     to: Square,
     promo: Option<Kind>,
@@ -169,14 +172,14 @@ fn add<const N: usize>(
 ) -> bool
     requires sound { Sound p.now }
     requires king { IsOnlyKing p.now.board p.now.side king }
-    requires check { IsTrue checked ↔ IsInCheck p.now.board p.now.side }
+    requires shut { OnTrue shut (Shut p.now king from) }
     requires on_board { to < 64 }
     requires before { ListsBefore p.now N (record { from = from; to = to; promo = promo }) into.old.items }
     ensures listed { OnTrue result (ListsBelow p.now N (512 * from + (8 * to + (promotion_number promo + 1))) into.new.items) }
     ensures many { OnFalse result (HasMoreMoves p.now N) }
 {
     let m = Move { from, to, promo };
-    if !is_move(p, king, checked, &m) {
+    if !is_move(p, king, shut, &m) {
         return true;
     }
     if into.is_full() {
@@ -187,11 +190,11 @@ fn add<const N: usize>(
 }
 
 /// Whether the move is a legal one besides the null move.
-fn is_move(p: &Setup, king: Square, checked: bool, m: &Move) -> bool
+fn is_move(p: &Setup, king: Square, shut: bool, m: &Move) -> bool
     requires sound { Sound p.now }
     requires king { IsOnlyKing p.now.board p.now.side king }
-    requires check { IsTrue checked ↔ IsInCheck p.now.board p.now.side }
+    requires shut { OnTrue shut (Shut p.now king m.now.from) }
     ensures { IsTrue result ↔ IsMove p.now m.now }
 {
-    m.to != m.from && is_legal(p, king, checked, m)
+    m.to != m.from && is_legal_from(p, king, shut, m, effect_of(p, m))
 }

@@ -1,19 +1,20 @@
 //! Where the geometry of a man may lead it, before the other rules are asked.
-ghost use Rattle.std.specs.Prelude.{◌≡◌, ℕ, ◌<◌, ◌≤◌, Any, MatchOption, Some, true};
+ghost use Rattle.std.specs.Prelude.{◌≡◌, ℕ, ◌<◌, ◌≤◌, Any, MatchOption, None, Some, true};
 ghost use Rattle.std.specs.Int.{bit_at};
 ghost use Rattle.cell_core.specs.Board.{man_at};
 ghost use Rattle.cell_core.specs.Man.{man};
 ghost use Rattle.chess_laws.specs.Geometry.{Leaps, Runs, Walk, forward, pawn_captures};
 ghost use Rattle.chess_laws.specs.Legal.{run};
-ghost use Rattle.chess_laws.specs.Targets.{CastlesTo, Comes, Has};
+ghost use Rattle.chess_laws.specs.Targets.{CastlesTo, Comes, Has, MayTake};
+ghost use Rattle.chess_laws.specs.Step.{HasNoOwn};
 
-use super::cases::forward;
+use super::cases::{forward, has_enemy, has_no_own};
 use super::castling::{king_home, king_target};
 use super::offset::{
     BISHOP_STEPS, BLACK_CAPTURES, KING_STEPS, KNIGHT_STEPS, Offset, ROOK_STEPS, WHITE_CAPTURES,
 };
 use super::setup::{Setup, Wing};
-use cell_core::{Board, Colour, Kind, Square};
+use cell_core::{Colour, Kind, Square};
 
 /// A set of squares.
 #[derive(Clone, Copy, Debug, PartialEq, Eq)]
@@ -88,12 +89,12 @@ fn targets_of(p: &Setup, kind: Kind, from: Square) -> SquareSet
     ensures { (b : ℕ) → Comes p.now kind from b → Has result b }
 {
     match kind {
-        Kind::King => castling_targets(p, from, leap_targets(&KING_STEPS, from)),
-        Kind::Queen => run_targets(&p.board, &KING_STEPS, from),
-        Kind::Rook => run_targets(&p.board, &ROOK_STEPS, from),
-        Kind::Bishop => run_targets(&p.board, &BISHOP_STEPS, from),
-        Kind::Knight => leap_targets(&KNIGHT_STEPS, from),
-        Kind::Pawn => way_targets(p, from, capture_targets(p.side, from)),
+        Kind::King => castling_targets(p, from, leap_targets(p, &KING_STEPS, from)),
+        Kind::Queen => run_targets(p, &KING_STEPS, from),
+        Kind::Rook => run_targets(p, &ROOK_STEPS, from),
+        Kind::Bishop => run_targets(p, &BISHOP_STEPS, from),
+        Kind::Knight => leap_targets(p, &KNIGHT_STEPS, from),
+        Kind::Pawn => way_targets(p, from, capture_targets(p, from)),
     }
 }
 
@@ -109,68 +110,120 @@ fn castling_targets(p: &Setup, from: Square, set: SquareSet) -> SquareSet
         .with(king_target(p.side, Wing::QueenSide))
 }
 
-/// The set, and where one and two steps forward lead a pawn from this square.
+/// The set, and where one and two steps forward lead a pawn from this square, over and to empty ones.
 fn way_targets(p: &Setup, from: Square, set: SquareSet) -> SquareSet
-    ensures one { (b : ℕ) → Leaps from b (forward p.now.side) → Has result b }
-    ensures two { (b : ℕ) → Walk p.now.board (forward p.now.side) 1 from b → Has result b }
+    ensures one { (b : ℕ) → Leaps from b (forward p.now.side) → man_at p.now.board b ≡ None → Has result b }
+    ensures two { (b : ℕ) → Walk p.now.board (forward p.now.side) 1 from b → man_at p.now.board b ≡ None → Has result b }
     ensures kept { (b : ℕ) → Has set b → Has result b }
 {
     let step = forward(p.side);
     let Some(next) = step.target(from) else {
         return set;
     };
+    if p.board.at(next).is_some() {
+        return set;
+    }
     match step.target(next) {
-        Some(second) => set.with(next).with(second),
+        Some(second) => with_empty(p, second, set.with(next)),
         None => set.with(next),
     }
 }
 
-/// The squares diagonally in front of a pawn.
-fn capture_targets(side: Colour, from: Square) -> SquareSet
-    ensures { (b : ℕ) → Any (Leaps from b) (pawn_captures side) → Has result b }
+/// The set, and this square where it is empty.
+fn with_empty(p: &Setup, s: Square, set: SquareSet) -> SquareSet
+    ensures added { man_at p.now.board s ≡ None → Has result s }
+    ensures kept { (b : ℕ) → Has set b → Has result b }
 {
-    match side {
-        Colour::White => leap_targets(&WHITE_CAPTURES, from),
-        Colour::Black => leap_targets(&BLACK_CAPTURES, from),
+    if p.board.at(s).is_none() {
+        set.with(s)
+    } else {
+        set
     }
 }
 
-/// Where one of the steps leads.
-fn leap_targets(steps: &[Offset], from: Square) -> SquareSet
-    ensures { (b : ℕ) → Any (Leaps from b) steps.now → Has result b }
+/// The squares diagonally in front of a pawn on which it may capture.
+fn capture_targets(p: &Setup, from: Square) -> SquareSet
+    ensures { (b : ℕ) → Any (Leaps from b) (pawn_captures p.now.side) → MayTake p.now b → Has result b }
+{
+    match p.side {
+        Colour::White => takes_by(p, &WHITE_CAPTURES, from),
+        Colour::Black => takes_by(p, &BLACK_CAPTURES, from),
+    }
+}
+
+/// Where one of the steps leads to an enemy, or to the en passant square.
+fn takes_by(p: &Setup, steps: &[Offset], from: Square) -> SquareSet
+    ensures { (b : ℕ) → Any (Leaps from b) steps.now → MayTake p.now b → Has result b }
 {
     let mut set = SquareSet::empty();
     for step in steps {
         if let Some(to) = step.target(from) {
-            set = set.with(to);
+            set = with_taken(p, to, set);
         }
     }
     set
 }
 
-/// Where equal steps, of one of these, lead over empty squares.
-fn run_targets(board: &Board, steps: &[Offset], from: Square) -> SquareSet
-    ensures { (b : ℕ) → Any (Runs board.now from b) steps.now → Has result b }
+/// The set, and this square where an enemy stands on it or it is the en passant square.
+fn with_taken(p: &Setup, s: Square, set: SquareSet) -> SquareSet
+    ensures added { MayTake p.now s → Has result s }
+    ensures kept { (b : ℕ) → Has set b → Has result b }
+{
+    if has_enemy(&p.board, p.side, s) || p.en_passant == Some(s) {
+        set.with(s)
+    } else {
+        set
+    }
+}
+
+/// Where one of the steps leads, but to no man of the mover's own.
+fn leap_targets(p: &Setup, steps: &[Offset], from: Square) -> SquareSet
+    ensures { (b : ℕ) → Any (Leaps from b) steps.now → HasNoOwn p.now.board p.now.side b → Has result b }
 {
     let mut set = SquareSet::empty();
     for step in steps {
-        set = add_run(board, step, from, set);
+        if let Some(to) = step.target(from) {
+            set = with_free(p, to, set);
+        }
     }
     set
 }
 
-/// The set, and where equal steps of this one lead over empty squares.
-#[tactic(auto, using(crate::proofs::Running::run_is))]
-fn add_run(board: &Board, step: &Offset, from: Square, set: SquareSet) -> SquareSet
-    ensures runs { (b : ℕ) → Runs board.now from b step.now → Has result b }
+/// The set, and this square where no man of the mover's own stands on it.
+fn with_free(p: &Setup, s: Square, set: SquareSet) -> SquareSet
+    ensures added { HasNoOwn p.now.board p.now.side s → Has result s }
     ensures kept { (b : ℕ) → Has set b → Has result b }
 {
-    walk_run(board, step, from, set)
+    if has_no_own(&p.board, p.side, s) {
+        set.with(s)
+    } else {
+        set
+    }
 }
 
-/// The set, and each square on the way by this step to a man or to the edge.
-fn walk_run(board: &Board, step: &Offset, from: Square, set: SquareSet) -> SquareSet
-    ensures runs { (b : ℕ) → run board.now step.now 8 b from ≡ true → Has result b }
+/// Where equal steps, of one of these, lead over empty squares, but to no man of the mover's own.
+fn run_targets(p: &Setup, steps: &[Offset], from: Square) -> SquareSet
+    ensures { (b : ℕ) → Any (Runs p.now.board from b) steps.now → HasNoOwn p.now.board p.now.side b → Has result b }
+{
+    let mut set = SquareSet::empty();
+    for step in steps {
+        set = add_run(p, step, from, set);
+    }
+    set
+}
+
+/// The set, and where equal steps of this one lead over empty squares, but to no man of the mover's own.
+#[tactic(auto, using(crate::proofs::Running::run_is))]
+fn add_run(p: &Setup, step: &Offset, from: Square, set: SquareSet) -> SquareSet
+    ensures runs { (b : ℕ) → Runs p.now.board from b step.now → HasNoOwn p.now.board p.now.side b → Has result b }
+    ensures kept { (b : ℕ) → Has set b → Has result b }
+{
+    walk_run(p, step, from, set)
+}
+
+/// The set, and each square on the way by this step to the edge or to a man, with this one if it is an enemy.
+fn walk_run(p: &Setup, step: &Offset, from: Square, set: SquareSet) -> SquareSet
+    ensures runs { (b : ℕ) → run p.now.board step.now 8 b from ≡ true → HasNoOwn p.now.board p.now.side b → Has result b }
     ensures kept { (b : ℕ) → Has set b → Has result b }
 {
     let mut set = set;
@@ -179,10 +232,10 @@ fn walk_run(board: &Board, step: &Offset, from: Square, set: SquareSet) -> Squar
         let Some(next) = step.target(at) else {
             return set;
         };
-        set = set.with(next);
-        if board.at(next).is_some() {
-            return set;
+        if p.board.at(next).is_some() {
+            return with_free(p, next, set);
         }
+        set = set.with(next);
         at = next;
     }
     set

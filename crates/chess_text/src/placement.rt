@@ -1,5 +1,5 @@
 //! The piece placement, the first field of a FEN.
-ghost use Rattle.std.specs.Prelude.{◌≡◌, IfOk, IfErr};
+ghost use Rattle.std.specs.Prelude.{◌≡◌, IfOk, IfErr, ok_or};
 ghost use Rattle.cell_core.specs.Board.{Men};
 ghost use Rattle.chess_text.specs.Placement.{PlacementText};
 ghost use Rattle.chess_text.specs.Filling.{board_named};
@@ -14,6 +14,7 @@ pub fn read_board(text: &[u8]) -> Result<Board, FenFault>
     ensures found { IfOk result (λ board. PlacementText text.now board) }
     ensures only { (board : Men) → PlacementText text.now board → result ≡ Ok board }
     ensures refused { IfErr result (λ fault. fault ≡ FenFault.Field 1) }
+    ensures exact { result ≡ ok_or (board_named text.now) (FenFault.Field 1) }
 {
     board_of(text).ok_or(FenFault::Field(1))
 }

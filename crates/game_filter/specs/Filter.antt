@@ -3,61 +3,61 @@
 -- operations are those of Scid's filters.
 use Rattle.std.specs.Prelude.{ℕ, ◌+◌, nat_le, ◌&&◌, if◌then◌else◌, List, [], ◌∷◌, Option, Some, None, map, replicate, count_by, is_some}
 
--- the number of games that are in
+-- The number of games that are in.
 abbrev pub count_in : List (Option ℕ) → ℕ
 count_in plies = count_by is_some plies
 
--- the filter of n games that has all of them in, at ply 0
+-- The filter of n games that has all of them in, at ply 0.
 abbrev pub all_in : ℕ → List (Option ℕ)
 all_in n = replicate n (Some 0)
 
--- the filter of n games that has none of them in
+-- The filter of n games that has none of them in.
 abbrev pub all_out : ℕ → List (Option ℕ)
 all_out n = replicate n None
 
--- a game that is in goes out, and one that is out comes in at ply 0
+-- A game that is in goes out, and one that is out comes in at ply 0.
 abbrev pub turned : Option ℕ → Option ℕ
 turned (Some _) = None
 turned None = Some 0
 
--- each game turned
+-- Each game turned.
 abbrev pub negated : List (Option ℕ) → List (Option ℕ)
 negated plies = map turned plies
 
--- a game that is in both filters keeps the own ply, and every other is out
+-- A game that is in both filters keeps the own ply, and every other is out.
 abbrev pub in_both : Option ℕ → Option ℕ → Option ℕ
 in_both (Some own) (Some _) = Some own
 in_both (Some _) None = None
 in_both None _ = None
 
--- a game keeps the own ply where there is one, else it has the other filter's
+-- A game keeps the own ply where there is one, else it has the other filter's.
 abbrev pub in_either : Option ℕ → Option ℕ → Option ℕ
 in_either (Some own) _ = Some own
 in_either None other = other
 
--- two filters of equally many games joined game by game
+-- Two filters of equally many games joined game by game.
 abbrev pub joined : (Option ℕ → Option ℕ → Option ℕ) → List (Option ℕ) → List (Option ℕ) → List (Option ℕ)
 joined join [] _ = []
 joined join (_ ∷ _) [] = []
 joined join (own ∷ owns) (other ∷ others) = join own other ∷ joined join owns others
 
--- the games that are in both filters, at the own plies
+-- The games that are in both filters, at the own plies.
 abbrev pub intersection : List (Option ℕ) → List (Option ℕ) → List (Option ℕ)
 intersection owns others = joined in_both owns others
 
--- the games that are in either filter, at the own plies where there are any
+-- The games that are in either filter, at the own plies where there are any.
 abbrev pub union : List (Option ℕ) → List (Option ℕ) → List (Option ℕ)
 union owns others = joined in_either owns others
 
--- the entry of game i, if i is from first to last, else none
+-- The entry of game i, if i is from first to last, else none.
 abbrev pub entry_within : ℕ → ℕ → ℕ → Option ℕ → Option ℕ
 entry_within first last i ply = if nat_le first i && nat_le i last then ply else None
 
--- the entries of the games from number i on, with every game below first or above last out
+-- The entries of the games from number i on, with every game below first or above last out.
 abbrev pub restricted_from : ℕ → ℕ → ℕ → List (Option ℕ) → List (Option ℕ)
 restricted_from i first last [] = []
 restricted_from i first last (ply ∷ plies) = entry_within first last i ply ∷ restricted_from (i + 1) first last plies
 
--- the filter with every game below first or above last out
+-- The filter with every game below first or above last out.
 abbrev pub restricted : ℕ → ℕ → List (Option ℕ) → List (Option ℕ)
 restricted first last plies = restricted_from 0 first last plies

@@ -1,8 +1,7 @@
 -- What a search leaves in a filter. This project's own; the three ways are those of Scid's searches.
-use Rattle.std.specs.Prelude.{ℕ, List, Option, Some, None, Bool, true, is_some, is_none}
+use Rattle.std.specs.Prelude.{ℕ, Option, Some, None, Bool, true, is_some, is_none}
 use Rattle.game_filter.specs.declared.op.Op.{Op}
 use Rattle.game_filter.specs.declared.op.Op.TheVariants.{Ignore, And, Or}
-use Rattle.game_filter.specs.Filter.{joined}
 
 -- The entry of a game after a search, from its entry before and its first matching ply, if any.
 -- Ignore takes the match for every game; And takes it where the game was in, and leaves the others
@@ -14,12 +13,8 @@ entry_after And None _ = None
 entry_after Or (Some old) _ = Some old
 entry_after Or None first = first
 
--- whether the search looks at a game with this entry: at all games, at those in, at those out
+-- Whether the search looks at a game with this entry: at all games, at those in, at those out.
 abbrev pub looks_at : Op → Option ℕ → Bool
 looks_at Ignore _ = true
 looks_at And old = is_some old
 looks_at Or old = is_none old
-
--- the filter after a search, from the filter before and the first matching ply of each game
-abbrev pub filter_after : Op → List (Option ℕ) → List (Option ℕ) → List (Option ℕ)
-filter_after op olds firsts = joined (entry_after op) olds firsts

@@ -1,7 +1,11 @@
+pub mod NameLemmas
 pub mod DecimalLemmas
 pub mod EcoLemmas
 pub mod DateLemmas
+pub mod TagNameLemmas
 pub mod SettleLemmas
+pub mod TagListLemmas
+pub mod TagEditLemmas
 pub mod BuildingLemmas
 pub mod KeptLemmas
 pub mod CountLemmas

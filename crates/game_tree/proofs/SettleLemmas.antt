@@ -1,19 +1,26 @@
 -- A settled head is within its bounds, keeps the rule of event dates, and stays as it is when it is settled again.
-use Rattle.std.proofs.Common.{◌≡◌, true, false, List, [], ◌∷◌, ◌++◌, Option, Some, None, IsTrue, refl, sym, ap, ◌∙◌, subst, inl, inr, arith, lit≤}
+use Rattle.std.proofs.Common.{◌≡◌, Bool, true, false, List, [], ◌∷◌, ◌++◌, Option, Some, None, IsTrue, refl, sym, ap, ◌∙◌, subst, inl, inr, arith, lit≤}
 use Rattle.std.specs.Prelude.{not, All, codes}
 use Rattle.std.proofs.lemmas.Bool.{cases_Bool}
 use Rattle.std.proofs.lemmas.Option.{same_Some, none-some}
 use Rattle.std.proofs.lemmas.List.Elements.{All-filter, All-push, All-from_recursion}
 use Rattle.game_tree.specs.Date.{IsDate, unknown_date, is_unknown, is_near, keeps_rule, date_read}
-use Rattle.game_tree.specs.TagName.{IsTagName, IsTagByte, is_reserved}
+use Rattle.game_tree.specs.TagName.{IsTagName, IsTagByte, rating_of, is_reserved}
 use Rattle.game_tree.specs.Head.{IsTag, IsBounded}
-use Rattle.game_tree.specs.Settle.{is_event_date, other_tags, event_date_tag, near_only, near_date, first_of, first_near_date, taken_up, settled}
+use Rattle.game_tree.specs.TagList.{is_named, tags_without}
+use Rattle.game_tree.specs.Settle.{event_date_name, event_date_tag, near_only, near_date, first_of, first_near_date, taken_up, settled}
 use Rattle.game_tree.specs.declared.date.Date.{Date}
 use Rattle.game_tree.specs.declared.head.Tag.{Tag}
 use Rattle.game_tree.specs.declared.head.Head.{Head}
 use Rattle.game_tree.proofs.DateLemmas.{date_read-date_text, date_read-IsDate, date_text-IsName}
 
-others_again : (tags : List Tag) → other_tags (other_tags tags) ≡ other_tags tags
+abbrev is_event_date : Tag → Bool
+is_event_date = is_named event_date_name
+
+abbrev other_tags : List Tag → List Tag
+other_tags = tags_without event_date_name
+
+pub others_again : (tags : List Tag) → other_tags (other_tags tags) ≡ other_tags tags
 others_again [] = refl
 others_again (tag ∷ tags) =
     elim (cases_Bool (is_event_date tag)) [
@@ -22,7 +29,7 @@ others_again (tag ∷ tags) =
     ]
 
 -- without tags EventDate there is no date to take up
-first_near-others : (game : Date) (tags : List Tag) → first_near_date game (other_tags tags) ≡ None
+pub first_near-others : (game : Date) (tags : List Tag) → first_near_date game (other_tags tags) ≡ None
 unfolding near_date
 first_near-others game [] = refl
 first_near-others game (tag ∷ tags) =
@@ -80,20 +87,20 @@ first_near-within game (tag ∷ tags) date e =
     first_of-within game (near_date game tag) (first_near_date game tags) (near_date-within game tag) (first_near-within game tags) date e
 
 -- settling by its three rules
-settled-near : (head : Head) → is_near head.event_date head.date ≡ true → settled head ≡ record head { tags = other_tags head.tags }
+pub settled-near : (head : Head) → is_near head.event_date head.date ≡ true → settled head ≡ record head { tags = other_tags head.tags }
 unfolding settled
 settled-near head near = rw near refl
 
-settled-unknown : (head : Head) → is_near head.event_date head.date ≡ false → is_unknown head.event_date ≡ true → settled head ≡ taken_up head (first_near_date head.date head.tags)
+pub settled-unknown : (head : Head) → is_near head.event_date head.date ≡ false → is_unknown head.event_date ≡ true → settled head ≡ taken_up head (first_near_date head.date head.tags)
 unfolding settled
 settled-unknown head far unknown = rw (far, unknown) refl
 
-settled-far : (head : Head) → is_near head.event_date head.date ≡ false → is_unknown head.event_date ≡ false → settled head ≡ record head { event_date = unknown_date; tags = other_tags head.tags ++ event_date_tag head.event_date ∷ [] }
+pub settled-far : (head : Head) → is_near head.event_date head.date ≡ false → is_unknown head.event_date ≡ false → settled head ≡ record head { event_date = unknown_date; tags = other_tags head.tags ++ event_date_tag head.event_date ∷ [] }
 unfolding settled
 settled-far head far known = rw (far, known) refl
 
 -- a date of which the year is unknown is not within the rule
-unknown-far : (game : Date) → is_near unknown_date game ≡ false
+pub unknown-far : (game : Date) → is_near unknown_date game ≡ false
 unknown-far game = refl
 
 -- settling again
@@ -171,7 +178,7 @@ event_date-IsTagName = record {
 }
 
 event_date_tag-IsTag : (date : Date) → IsTag (event_date_tag date)
-unfolding is_reserved
+unfolding is_reserved rating_of
 event_date_tag-IsTag date = record { name = event_date-IsTagName; free = refl; value = date_text-IsName date }
 
 others-tags : (tags : List Tag) → All IsTag tags → All IsTag (other_tags tags)

@@ -1,5 +1,6 @@
 -- What a head may hold (this project's own limits, after those of Scid's index).
-use Rattle.std.specs.Prelude.{◌≡◌, ℕ, ◌<◌, ◌≤◌, ◌^◌, false, List, length, All}
+use Rattle.std.specs.Prelude.{◌≡◌, ℕ, ◌<◌, ◌≤◌, ◌^◌, ◌==◌, nat_le, Bool, false, not, ◌&&◌, List, [], length, All}
+use Rattle.std.specs.List.{list_all}
 use Rattle.cell_core.specs.Text.{IsZeroFree}
 use Rattle.game_tree.specs.Date.{IsDate}
 use Rattle.game_tree.specs.TagName.{IsTagName, is_reserved}
@@ -8,24 +9,28 @@ use Rattle.game_tree.specs.declared.head.Tag.{Tag}
 use Rattle.game_tree.specs.declared.head.Head.{Head}
 use Rattle.game_tree.specs.declared.head.HeadRef.{HeadRef}
 
--- a name of a player, event, site or round, or the value of a tag: at most 255 bytes, none of them zero
+-- A name of a player, event, site or round, or the value of a tag: at most 255 bytes, none of them zero.
 pub record IsName (name : List ℕ) : Type 0 where
   pub short : length name ≤ 255
   pub zero_free : IsZeroFree name
 
--- a rating of at most 4095 and of one of seven kinds; no rating is the value 0 with the kind 0
+-- The same as a test.
+abbrev pub is_name : List ℕ → Bool
+is_name name = nat_le (length name) 255 && list_all (λ byte. not (byte == 0)) name
+
+-- A rating of at most 4095 and of one of seven kinds; no rating is the value 0 with the kind 0.
 pub record IsRating (rating : Rating) : Type 0 where
   pub value : rating.value ≤ 4095
   pub kind : rating.kind ≤ 6
   pub none : rating.value ≡ 0 → rating.kind ≡ 0
 
--- an extra tag: a tag name that is not reserved, and a value
+-- An extra tag: a tag name that is not reserved, and a value.
 pub record IsTag (tag : Tag) : Type 0 where
   pub name : IsTagName tag.name
   pub free : is_reserved tag.name ≡ false
   pub value : IsName tag.value
 
--- the bounds of a head: each field is within its own
+-- The bounds of a head: each field is within its own.
 pub record IsBounded (head : Head) : Type 0 where
   pub white : IsName head.white
   pub black : IsName head.black
@@ -40,7 +45,7 @@ pub record IsBounded (head : Head) : Type 0 where
   pub marks : head.marks < 2 ^ 18
   pub tags : All IsTag head.tags
 
--- the head of these fields and these tags
+-- The head of these fields and these tags.
 abbrev pub head_of : HeadRef → List Tag → Head
 head_of h given = record {
   white = h.white.now;
@@ -58,3 +63,7 @@ head_of h given = record {
   deleted = h.deleted;
   tags = given;
 }
+
+-- A head without its tags.
+abbrev pub without_tags : Head → Head
+without_tags head = record head { tags = [] }

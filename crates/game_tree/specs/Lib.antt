@@ -4,7 +4,9 @@ pub mod Outcome
 pub mod Eco
 pub mod TagName
 pub mod Head
+pub mod TagList
 pub mod Settle
+pub mod TagEdit
 pub mod Tree
 pub mod TreeCode
 pub mod Item

@@ -1,54 +1,54 @@
 -- Where the date of an event stands: as the event date where it follows the rule of event dates, else as a tag
 -- (this project's own).
-use Rattle.std.specs.Prelude.{◌≡◌, Bool, not, if◌then◌else◌, List, [], ◌∷◌, ◌++◌, Option, Some, None, filter, codes}
-use Rattle.std.specs.Str.{bytes_eq}
+use Rattle.std.specs.Prelude.{◌≡◌, ℕ, if◌then◌else◌, List, [], ◌∷◌, ◌++◌, Option, Some, None, codes}
+use Rattle.game_tree.specs.TagList.{is_named, tags_without}
 use Rattle.game_tree.specs.Date.{unknown_date, is_unknown, is_near, date_text, date_read}
 use Rattle.game_tree.specs.declared.date.Date.{Date}
 use Rattle.game_tree.specs.declared.head.Tag.{Tag}
 use Rattle.game_tree.specs.declared.head.Head.{Head}
 
-abbrev pub is_event_date : Tag → Bool
-is_event_date tag = bytes_eq tag.name (codes "EventDate")
-
--- the tags without those named EventDate
-abbrev pub other_tags : List Tag → List Tag
-other_tags tags = filter (λ tag. not (is_event_date tag)) tags
+abbrev pub event_date_name : List ℕ
+event_date_name = codes "EventDate"
 
 abbrev pub event_date_tag : Date → Tag
-event_date_tag date = record { name = codes "EventDate"; value = date_text date }
+event_date_tag date = record { name = event_date_name; value = date_text date }
 
--- the date, where it follows the rule with the game's date
+-- The date, where it follows the rule with the game's date
 abbrev pub near_only : Date → Option Date → Option Date
 near_only game None = None
 near_only game (Some date) = if is_near date game then Some date else None
 
--- the date of a tag EventDate that reads as a date within the rule
+-- The date of a tag EventDate that reads as a date within the rule
 unfoldable pub near_date : Date → Tag → Option Date
-near_date game tag = if is_event_date tag then near_only game (date_read tag.value) else None
+near_date game tag = if is_named event_date_name tag then near_only game (date_read tag.value) else None
 
 abbrev pub first_of : Option Date → Option Date → Option Date
 first_of None later = later
 first_of (Some date) later = Some date
 
--- the first such date of the tags
+-- The first such date of the tags
 abbrev pub first_near_date : Date → List Tag → Option Date
 first_near_date game [] = None
 first_near_date game (tag ∷ tags) = first_of (near_date game tag) (first_near_date game tags)
 
--- a head without an event date, where the tags have this first date within the rule
+-- A head without an event date, where the tags have this first date within the rule
 abbrev pub taken_up : Head → Option Date → Head
 taken_up head None = head
-taken_up head (Some date) = record head { event_date = date; tags = other_tags head.tags }
+taken_up head (Some date) = record head { event_date = date; tags = tags_without event_date_name head.tags }
 
--- the settled head. An event date within the rule removes all tags EventDate. One outside it becomes unknown, and a tag
--- with its text, added last, takes the place of all tags EventDate. Without an event date the first tag EventDate that
--- reads as a date within the rule gives it, and all tags EventDate go; where there is none, the tags stay.
+-- The settled head. An event date within the rule removes all tags EventDate. One outside it becomes unknown, and a tag
+-- With its text, added last, takes the place of all tags EventDate. Without an event date the first tag EventDate that
+-- Reads as a date within the rule gives it, and all tags EventDate go; where there is none, the tags stay.
 unfoldable pub settled : Head → Head
 settled head =
-    if is_near head.event_date head.date then record head { tags = other_tags head.tags }
+    if is_near head.event_date head.date then record head { tags = tags_without event_date_name head.tags }
     else if is_unknown head.event_date then taken_up head (first_near_date head.date head.tags)
-    else record head { event_date = unknown_date; tags = other_tags head.tags ++ event_date_tag head.event_date ∷ [] }
+    else record head { event_date = unknown_date; tags = tags_without event_date_name head.tags ++ event_date_tag head.event_date ∷ [] }
 
--- a head that settling leaves as it is
+-- The head with these dates.
+abbrev pub with_dates : Head → Date → Date → Head
+with_dates head game event = record head { date = game; event_date = event }
+
+-- A head that settling leaves as it is
 abbrev pub IsSettled : Head → Type 0
 IsSettled head = settled head ≡ head

@@ -1,6 +1,9 @@
-ghost use Rattle.std.specs.Prelude.{◌≡◌, ◌↔◌, All, IsTrue};
+//! The bounds of heads and their parts.
+ghost use Rattle.std.specs.Prelude.{◌≡◌, ◌↔◌, ◌==◌, not, All, IsTrue};
+ghost use Rattle.std.specs.List.{list_all};
+ghost use Rattle.cell_core.specs.Text.{IsZeroFree};
 ghost use Rattle.game_tree.specs.Date.{IsDate};
-ghost use Rattle.game_tree.specs.Head.{IsName, IsRating, IsTag, IsBounded};
+ghost use Rattle.game_tree.specs.Head.{IsName, is_name, IsRating, IsTag, IsBounded};
 
 use super::date::Date;
 use super::head::{Head, Rating, Tag};
@@ -61,8 +64,17 @@ impl Tag {
 /// Whether these bytes can be a name or a tag's value: at most 255 bytes, none of them zero.
 pub fn is_name(name: &[u8]) -> bool
     ensures bounded { IsTrue result ↔ IsName name.now }
+    ensures test { result ≡ is_name name.now }
 {
-    name.len() <= 255 && is_zero_free(name)
+    name.len() <= 255 && has_text_bytes_alone(name)
+}
+
+// The same test as `is_zero_free`, with its answer by computing too.
+fn has_text_bytes_alone(name: &[u8]) -> bool
+    ensures each { IsTrue result ↔ IsZeroFree name.now }
+    ensures all { result ≡ list_all (λ byte. not (byte == 0)) name.now }
+{
+    is_zero_free(name)
 }
 
 /// Whether each of these tags is within the bounds of extra tags.

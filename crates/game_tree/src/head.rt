@@ -1,4 +1,6 @@
-ghost use Rattle.std.specs.Prelude.{◌≡◌, IfOk};
+//! Heads of games and their parts.
+ghost use Rattle.std.specs.Prelude.{◌≡◌, [], IfOk};
+ghost use Rattle.cell_core.specs.Text.{IsZeroFree};
 
 use super::date::Date;
 use super::tags::Tags;
@@ -62,11 +64,39 @@ pub struct Head {
 }
 
 impl Head {
-    ghost use Rattle.game_tree.specs.Head.{head_of};
+    ghost use Rattle.game_tree.specs.Head.{head_of, without_tags};
+
+    /// The head of these fields and these tags. It fails only for want of memory.
+    pub fn of(alloc: Global, fields: HeadRef<'_>, tags: Tags) -> Result<Head, AllocError>
+        requires white { IsZeroFree fields.white.now }
+        requires black { IsZeroFree fields.black.now }
+        requires event { IsZeroFree fields.event.now }
+        requires site { IsZeroFree fields.site.now }
+        requires round { IsZeroFree fields.round.now }
+        ensures head { IfOk result (λ head. head ≡ head_of fields.entry tags) }
+    {
+        Ok(Head {
+            white: text_of(alloc, fields.white)?,
+            black: text_of(alloc, fields.black)?,
+            event: text_of(alloc, fields.event)?,
+            site: text_of(alloc, fields.site)?,
+            round: text_of(alloc, fields.round)?,
+            date: fields.date,
+            event_date: fields.event_date,
+            result: fields.result,
+            white_rating: fields.white_rating,
+            black_rating: fields.black_rating,
+            eco: fields.eco,
+            marks: fields.marks,
+            deleted: fields.deleted,
+            tags,
+        })
+    }
 
     /// The head without its tags.
     pub fn fields(&self) -> HeadRef<'_>
         ensures fields { head_of result self.now.tags ≡ self.now }
+        ensures without_tags { head_of result [] ≡ without_tags self.now }
     {
         HeadRef {
             white: self.white.as_bytes(),
@@ -102,4 +132,12 @@ pub struct HeadRef<'a> {
     pub eco: u16,
     pub marks: u32,
     pub deleted: bool,
+}
+
+// A text of these bytes.
+pub(crate) fn text_of(alloc: Global, bytes: &[u8]) -> Result<Text, AllocError>
+    requires { IsZeroFree bytes.now }
+    ensures { IfOk result (λ text. text ≡ bytes.now) }
+{
+    Ok(Text::from_zero_free(Vec::from_slice(alloc, bytes)?))
 }

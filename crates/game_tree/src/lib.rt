@@ -16,6 +16,7 @@ mod open_line;
 mod outcome;
 mod promotions;
 pub mod settling;
+mod tag_edit;
 pub mod tag_name;
 pub mod tags;
 
@@ -30,7 +31,8 @@ pub use head::{Head, HeadRef, Outcome, Rating, Tag};
 pub use legality::{DEEPEST, comments_leave_the_moves, legal};
 pub use node::{Branch, Node};
 pub use settling::settle;
-pub use tag_name::{is_reserved, is_tag_byte, is_tag_name};
+pub use tag_edit::{TagEdit, TagEditError, apply};
+pub use tag_name::{is_refused, is_reserved, is_tag_byte, is_tag_name, rating_of, rating_tag};
 pub use tags::Tags;
 
 #[cfg(test)]

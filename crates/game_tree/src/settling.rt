@@ -1,12 +1,12 @@
+//! Where the date of an event stands.
 ghost use Rattle.std.specs.Prelude.{◌≡◌, IfOk, OnOk, OnErr, IsTrue};
 ghost use Rattle.game_tree.specs.Head.{IsBounded};
 ghost use Rattle.game_tree.specs.Date.{keeps_rule};
-ghost use Rattle.game_tree.specs.Settle.{near_date, first_near_date, event_date_tag, settled, IsSettled};
+ghost use Rattle.game_tree.specs.Settle.{near_date, first_near_date, event_date_tag, with_dates, settled, IsSettled};
 
 use super::date::Date;
-use super::head::{Head, Tag};
-use super::tags::is_event_date;
-use cell_core::Text;
+use super::head::{Head, Tag, text_of};
+use super::tags::is_named;
 use std::alloc::{AllocError, Global};
 
 /// Settles where the date of the event stands. A date is within the rule where its year is known and differs by at most
@@ -24,39 +24,63 @@ pub fn settle(alloc: Global, head: &mut Head) -> Result<(), AllocError>
     ensures rule { OnOk result (IsTrue (keeps_rule head.new.event_date head.new.date)) }
     ensures settled { OnOk result (IsSettled head.new) }
 {
-    settle_event_date(alloc, head)?;
+    settle_head(alloc, head)?;
     Ok(())
 }
 
 // The same, without its laws.
-#[tactic(auto, unfolding(crate::specs::Settle::settled))]
-fn settle_event_date(alloc: Global, head: &mut Head) -> Result<(), AllocError>
+pub(crate) fn settle_head(alloc: Global, head: &mut Head) -> Result<(), AllocError>
     ensures ok { OnOk result (head.new ≡ settled head.old) }
     ensures err { OnErr result (head.new ≡ head.old) }
 {
-    if head.event_date.is_near(head.date) {
-        head.tags.remove_event_dates();
-    } else if !head.event_date.is_unknown() {
-        let tag = event_date_tag(alloc, head.event_date)?;
-        head.tags.replace_event_dates(tag)?;
-        head.event_date = Date::unknown();
-    } else if let Some(date) = first_near_date(head.tags.as_slice(), head.date) {
-        head.tags.remove_event_dates();
-        head.event_date = date;
+    set_dates(alloc, head, head.date, head.event_date)
+}
+
+// Gives a head these dates and settles it. All memory is taken before it changes.
+#[tactic(auto, unfolding(crate::specs::Settle::settled))]
+pub(crate) fn set_dates(
+    alloc: Global,
+    head: &mut Head,
+    date: Date,
+    event_date: Date,
+) -> Result<(), AllocError>
+    ensures ok { OnOk result (head.new ≡ settled (with_dates head.old date event_date)) }
+    ensures err { OnErr result (head.new ≡ head.old) }
+{
+    if event_date.keeps_rule(date) {
+        head.date = date;
+        head.event_date = event_date;
+        settle_in_place(head);
+        return Ok(());
     }
+    let tag = event_date_tag(alloc, event_date)?;
+    head.tags.replace_named(tag)?;
+    head.date = date;
+    head.event_date = Date::unknown();
     Ok(())
 }
 
+// Settles a head whose event date keeps the rule, which takes no memory.
+#[tactic(auto, unfolding(crate::specs::Settle::settled))]
+pub(crate) fn settle_in_place(head: &mut Head)
+    requires { IsTrue (keeps_rule head.old.event_date head.old.date) }
+    ensures { head.new ≡ settled head.old }
+{
+    if head.event_date.is_near(head.date) {
+        head.tags.remove_named(b"EventDate");
+    } else if let Some(date) = first_near_date(head.tags.as_slice(), head.date) {
+        head.tags.remove_named(b"EventDate");
+        head.event_date = date;
+    }
+}
+
 // The tag EventDate with the text of this date.
-fn event_date_tag(alloc: Global, date: Date) -> Result<Tag, AllocError>
+pub(crate) fn event_date_tag(alloc: Global, date: Date) -> Result<Tag, AllocError>
     ensures { IfOk result (λ tag. tag ≡ event_date_tag date) }
 {
-    let name = Vec::from_slice(alloc, b"EventDate")?;
-    let value = Vec::from_slice(alloc, &date.text())?;
-    Ok(Tag {
-        name: Text::from_zero_free(name),
-        value: Text::from_zero_free(value),
-    })
+    let name = text_of(alloc, b"EventDate")?;
+    let value = text_of(alloc, &date.text())?;
+    Ok(Tag { name, value })
 }
 
 // The first date within the rule that a tag EventDate reads as.
@@ -76,7 +100,7 @@ fn first_near_date(tags: &[Tag], game: Date) -> Option<Date>
 fn near_date(tag: &Tag, game: Date) -> Option<Date>
     ensures { result ≡ near_date game tag.now }
 {
-    if !is_event_date(tag) {
+    if !is_named(tag, b"EventDate") {
         return None;
     }
     let date = Date::read(tag.value.as_bytes())?;

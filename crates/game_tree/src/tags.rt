@@ -1,5 +1,7 @@
-ghost use Rattle.std.specs.Prelude.{◌≡◌, [], ◌∷◌, ◌++◌, length, IfOk, OnOk, OnErr};
-ghost use Rattle.game_tree.specs.Settle.{is_event_date, other_tags};
+//! Lists of extra tags.
+ghost use Rattle.std.specs.Prelude.{◌≡◌, ◌≤◌, ◌<◌, ◌+◌, [], ◌∷◌, ◌++◌, length, IfOk, OnOk, OnErr, vec_len, vec_capacity};
+ghost use Rattle.std.specs.List.{position_from};
+ghost use Rattle.game_tree.specs.TagList.{is_named, tags_without, put_tag, with_tag};
 
 use super::head::Tag;
 use std::alloc::{AllocError, Global};
@@ -61,28 +63,110 @@ impl Tags {
         Ok(())
     }
 
-    /// Removes all tags named EventDate.
-    pub(crate) fn remove_event_dates(&mut self)
-        ensures others { self.new ≡ other_tags self.old }
+    /// Removes all tags of this name.
+    pub fn remove_named(&mut self, name: &[u8])
+        ensures others { self.new ≡ tags_without name.now self.old }
     {
-        self.list.retain(|tag| !is_event_date(tag));
+        retain_others(&mut self.list, name);
     }
 
-    /// Removes all tags named EventDate and adds `tag` as the last one, or changes nothing for want of memory.
-    pub(crate) fn replace_event_dates(&mut self, tag: Tag) -> Result<(), AllocError>
-        ensures ok { OnOk result (self.new ≡ other_tags self.old ++ tag ∷ []) }
+    /// Sets a tag: it takes the place of the first of its name, or comes last, and one with an empty value removes all
+    /// of its name. It fails only for want of memory, and then the tags are as before.
+    pub fn set_named(&mut self, tag: Tag) -> Result<(), AllocError>
+        ensures ok { OnOk result (self.new ≡ with_tag tag self.old) }
         ensures err { OnErr result (self.new ≡ self.old) }
     {
         self.list.reserve(1)?;
-        self.list.retain(|other| !is_event_date(other));
-        self.list.push_reserved(tag);
+        set_reserved(&mut self.list, tag);
+        Ok(())
+    }
+
+    /// Removes all tags of the name of `tag` and adds it as the last one, or changes nothing for want of memory.
+    pub(crate) fn replace_named(&mut self, tag: Tag) -> Result<(), AllocError>
+        ensures ok { OnOk result (self.new ≡ tags_without tag.name self.old ++ tag ∷ []) }
+        ensures err { OnErr result (self.new ≡ self.old) }
+    {
+        self.list.reserve(1)?;
+        replace_reserved(&mut self.list, tag);
+        Ok(())
+    }
+
+    /// Sets `tag`, then replaces all tags of the name of `last` by it, or changes nothing for want of memory.
+    pub(crate) fn set_and_replace(&mut self, tag: Tag, last: Tag) -> Result<(), AllocError>
+        ensures ok { OnOk result (self.new ≡ tags_without last.name (with_tag tag self.old) ++ last ∷ []) }
+        ensures err { OnErr result (self.new ≡ self.old) }
+    {
+        self.list.reserve(2)?;
+        set_reserved(&mut self.list, tag);
+        replace_reserved(&mut self.list, last);
         Ok(())
     }
 }
 
-/// Whether the tag is named EventDate.
-pub(crate) fn is_event_date(tag: &Tag) -> bool
-    ensures { result ≡ is_event_date tag.now }
+// Sets a tag where there is room for one more.
+#[tactic(auto, unfolding(crate::specs::TagList::with_tag))]
+fn set_reserved(list: &mut Vec<Tag>, tag: Tag)
+    requires room { vec_len list.old < vec_capacity list.old }
+    ensures items { list.new.items ≡ with_tag tag list.old.items }
+    ensures len { vec_len list.new ≤ vec_len list.old + 1 }
+    ensures capacity { vec_capacity list.new ≡ vec_capacity list.old }
 {
-    tag.name.as_bytes() == b"EventDate".as_slice()
+    if tag.value.is_empty() {
+        retain_others(list, tag.name.as_bytes());
+    } else {
+        put_reserved(list, tag);
+    }
+}
+
+// Puts a tag into the place of the first of its name, or at the end where there is room.
+#[tactic(auto, using(crate::proofs::TagListLemmas::putting))]
+fn put_reserved(list: &mut Vec<Tag>, tag: Tag)
+    requires room { vec_len list.old < vec_capacity list.old }
+    ensures items { list.new.items ≡ put_tag tag list.old.items }
+    ensures len { vec_len list.new ≤ vec_len list.old + 1 }
+    ensures capacity { vec_capacity list.new ≡ vec_capacity list.old }
+{
+    match place_of(list.as_slice(), tag.name.as_bytes()) {
+        Some(place) => list[place] = tag,
+        None => list.push_reserved(tag),
+    }
+}
+
+// Removes all tags of the name of `tag` and adds it as the last one, where there is room.
+fn replace_reserved(list: &mut Vec<Tag>, tag: Tag)
+    requires room { vec_len list.old < vec_capacity list.old }
+    ensures { list.new.items ≡ tags_without tag.name list.old.items ++ tag ∷ [] }
+{
+    retain_others(list, tag.name.as_bytes());
+    list.push_reserved(tag);
+}
+
+// Removes all tags of this name.
+fn retain_others(list: &mut Vec<Tag>, name: &[u8])
+    ensures items { list.new.items ≡ tags_without name.now list.old.items }
+    ensures len { vec_len list.new ≤ vec_len list.old }
+    ensures capacity { vec_capacity list.new ≡ vec_capacity list.old }
+{
+    list.retain(|tag| !is_named(tag, name));
+}
+
+// Where the first tag of this name stands.
+fn place_of(list: &[Tag], name: &[u8]) -> Option<usize>
+    ensures { result ≡ position_from (is_named name.now) 0 list.now }
+{
+    let mut place = 0;
+    for tag in list {
+        if is_named(tag, name) {
+            return Some(place);
+        }
+        place += 1;
+    }
+    None
+}
+
+// Whether the tag has this name.
+pub(crate) fn is_named(tag: &Tag, name: &[u8]) -> bool
+    ensures { result ≡ is_named name.now tag.now }
+{
+    tag.name.as_bytes() == name
 }

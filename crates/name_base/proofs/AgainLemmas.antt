@@ -20,9 +20,9 @@ use Rattle.name_base.proofs.TextLemmas.{name_restored, shared_within, rows_fit_f
 abbrev pub entry_of_row : Row → Entry
 entry_of_row r = record { id = r.id; name = r.name }
 
--- ---- the rows by id
+-- ---- the rows by id.
 
--- their names are the names
+-- Their names are the names.
 pub names_from : (id : ℕ) (names : List (List ℕ)) (fs : List ℕ) → length fs ≡ length names → map (λ r. r.name) (rows_from id names fs) ≡ names
 names_from id [] fs long = refl
 names_from id (name ∷ names) [] long = absurd (omega arith)
@@ -31,7 +31,7 @@ names_from id (name ∷ names) (f ∷ fs) long = ap (λ ns. name ∷ ns) (names_
 length_from : (id : ℕ) (names : List (List ℕ)) (fs : List ℕ) → length fs ≡ length names → length (rows_from id names fs) ≡ length names
 length_from id names fs long = sym (length-map (rows_from id names fs) (λ r. r.name)) ∙ ap length (names_from id names fs long)
 
--- their ids rise
+-- Their ids rise.
 ids_apart : (i id : ℕ) (names : List (List ℕ)) (fs : List ℕ) → i < id → AllByRecursion (λ y. eqb i y ≡ false) (map (λ r. r.id) (rows_from id names fs))
 ids_apart i id [] fs lt = tt
 ids_apart i id (name ∷ names) [] lt = tt
@@ -47,7 +47,7 @@ at_length : (front : List (List ℕ)) (name : List ℕ) (names : List (List ℕ)
 at_length [] name names = refl
 at_length (x ∷ front) name names = at_length front name names
 
--- and each name stands at its id
+-- And each name stands at its id.
 placed_from : (front names : List (List ℕ)) (fs : List ℕ) (id : ℕ) → id ≡ length front → AllByRecursion (λ r. slice_get (front ++ names) r.id ≡ Some r.name) (rows_from id names fs)
 placed_from front [] fs id is = tt
 placed_from front (name ∷ names) [] id is = tt
@@ -62,7 +62,7 @@ named_from id [] fs are = tt
 named_from id (name ∷ names) [] are = tt
 named_from id (name ∷ names) (f ∷ fs) are = (are.0, named_from (id + 1) names fs are.1)
 
--- ---- the rows in order, as they are stored
+-- ---- the rows in order, as they are stored.
 
 entries_are : (width : ℕ) (before : Option (List ℕ)) (rows : List Row) → entries before (stored_rows width before rows) ≡ map entry_of_row rows
 entries_are width before [] = refl
@@ -121,7 +121,7 @@ kind_again limit names fs rows are frequencies order =
       arranged = subst (λ es. Arranges es names) (sym (entries_are width None rows)) arranged;
     }
 
--- the written form is a names file with these lists
+-- The written form is a names file with these lists.
 pub text_again : (lists : NameLists) (f : Frequencies) (bytes : List ℕ) → AreSound lists → AreFrequencies lists.players f.players → AreFrequencies lists.events f.events → AreFrequencies lists.sites f.sites → AreFrequencies lists.rounds f.rounds
     → IsNamesText lists f bytes → NameFile bytes lists
 text_again lists f bytes sound fp fe fs fr t = record {

@@ -19,7 +19,7 @@ use Rattle.name_base.proofs.NameLemmas.{list_any-map, bytes_equiv}
 abbrev pub ids_of : List Entry → List ℕ
 ids_of es = map (λ e. e.id) es
 
--- ---- lists
+-- ---- lists.
 
 slice_get-set_same : {X : Type 0} (xs : List X) (i : ℕ) (v : X) → i < length xs → slice_get (set xs i v) i ≡ Some v
 slice_get-set_same [] i v lt = absurd (omega arith)
@@ -33,17 +33,17 @@ slice_get-set_other (x ∷ xs) zero (suc j) v ne = refl
 slice_get-set_other (x ∷ xs) (suc i) zero v ne = refl
 slice_get-set_other (x ∷ xs) (suc i) (suc j) v ne = slice_get-set_other xs i j v (λ e. ne (ap suc e))
 
--- two facts of each
+-- Two facts of each.
 both_of_each : {X : Type 0} (P Q R : X → Type 0) (xs : List X) → ((x : X) → P x → Q x → R x) → AllByRecursion P xs → AllByRecursion Q xs → AllByRecursion R xs
 both_of_each P Q R [] f p q = tt
 both_of_each P Q R (x ∷ xs) f p q = (f x p.0 q.0, both_of_each P Q R xs f p.1 q.1)
 
--- what holds at each place holds of each
+-- What holds at each place holds of each.
 from_places : {X : Type 0} (P : X → Type 0) (xs : List X) → ((i : ℕ) → i < length xs → IfSome (slice_get xs i) P) → AllByRecursion P xs
 from_places P [] h = tt
 from_places P (x ∷ xs) h = (h 0 (omega arith), from_places P xs (λ i lt. h (suc i) (omega arith)))
 
--- a test that no element passes
+-- A test that no element passes.
 none_pass : {X : Type 0} (p : X → Bool) (xs : List X) → list_any p xs ≡ false → AllByRecursion (λ x. p x ≡ false) xs
 none_pass p [] e = tt
 none_pass p (x ∷ xs) e = by (p x) e (none_pass p xs)
@@ -57,7 +57,7 @@ module _ {K : Type 0} (eq : K → K → Bool) (laws : IsEquivalence eq) where
   apart_here x [] y ys h = h.0
   apart_here x (z ∷ zs) y ys h = apart_here x zs y ys h.1
 
-  -- in a list without repeats, an element is not among those before it
+  -- In a list without repeats, an element is not among those before it.
   pub distinct_before : (xs : List K) (y : K) (ys : List K) → IsDistinct eq (xs ++ y ∷ ys) → list_any (eq y) xs ≡ false
   distinct_before [] y ys d = refl
   distinct_before (x ∷ xs) y ys d =
@@ -65,7 +65,7 @@ module _ {K : Type 0} (eq : K → K → Bool) (laws : IsEquivalence eq) where
       let rest : list_any (eq y) xs ≡ false = distinct_before xs y ys (IsDistinct-tail eq x (xs ++ y ∷ ys) d) in
       λ i. head i || rest i
 
--- ---- names at the places of their ids
+-- ---- names at the places of their ids.
 
 pub length-put_names : (es : List Entry) (names : List (List ℕ)) → length (put_names es names) ≡ length names
 length-put_names [] names = refl
@@ -89,7 +89,7 @@ placed (e ∷ es) names d below = (
       (placed es names (IsDistinct-tail eqb e.id (ids_of es) d) below.1),
 )
 
--- ---- each id below the count is there
+-- ---- each id below the count is there.
 
 below_listed : (count : ℕ) (es : List Entry) (q : ℕ) → AllByRecursion (λ e. e.id < count) es → list_any (eqb q) (ids_of es) ≡ true → q < count
 below_listed count [] q h e = absurd (true≢false (sym e))
@@ -113,7 +113,7 @@ covers count es are all i lt = by (has_id es i) refl
         let few = length-le_from_distinct_below (i ∷ ids_of es) count more (λ q h. below_listed count (record { id = i; name = [] } ∷ es) q (lt, are.below) h) in
         absurd (omega (arith, few, length-map es (λ e. e.id), all))
 
--- an entry with an id, at its place
+-- An entry with an id, at its place.
 pub record Found (P : Entry → Type 0) (es : List Entry) (i : ℕ) : Type 0 where
   pub place : ℕ
   pub entry : Entry
@@ -129,7 +129,7 @@ found P (x ∷ es) i h e = by (eqb i x.id) refl e (found P es i h.1)
     by true same e rest = record { place = 0; entry = x; at = refl; id = sym (eqb-true i x.id same); holds = h.0 }
     by false other e rest = let f = rest e in record { place = suc f.place; entry = f.entry; at = f.at; id = f.id; holds = f.holds }
 
--- entries with two ids have two names
+-- Entries with two ids have two names.
 entries_apart_at : (es : List Entry) → IsDistinct bytes_eq (names_of es) → (p q : ℕ) (e f : Entry) → slice_get es p ≡ Some e → slice_get es q ≡ Some f → p < q → bytes_eq e.name f.name ≡ false
 entries_apart_at es once p q e f at_p at_q lt =
     let named_p : slice_get (names_of es) p ≡ Some e.name = slice_get-map (λ e. e.name) es p ∙ ap (option_map (λ e. e.name)) at_p in
@@ -154,11 +154,11 @@ module _ (count : ℕ) (es : List Entry) (are : AreMet count es) (all : length e
   unfolding by_id
   placed_by_id = placed es (replicate count []) are.ids (subst (λ n. AllByRecursion (λ e. e.id < n) es) (sym (length-replicate count [])) are.below)
 
-  -- the names by id are arranged
+  -- The names by id are arranged.
   pub by_id-Arranges : Arranges es (by_id count es)
   by_id-Arranges = record { ids = are.ids; once = are.once; count = length-by_id ∙ sym all; placed = placed_by_id }
 
-  -- and no other names are
+  -- And no other names are.
   pub by_id-only : (names : List (List ℕ)) → Arranges es names → by_id count es ≡ names
   by_id-only names arranged = same_lists (by_id count es) names (length-by_id ∙ sym (arranged.count ∙ all)) each
     where
@@ -172,7 +172,7 @@ module _ (count : ℕ) (es : List Entry) (are : AreMet count es) (all : length e
           let there : get_or names k d ≡ f.entry.name = get_or_from_slice_get names k f.entry.name d (ap (slice_get names) (sym f.id) ∙ f.holds.1) in
           here ∙ sym there
 
-  -- names that are arranged are names of a kind
+  -- Names that are arranged are names of a kind.
   pub arranged-AreNames : (names : List (List ℕ)) → Arranges es names → AreNames count names
   arranged-AreNames names arranged = record {
     each = from_places IsName names (λ i lt. let f = at i lt in subst (λ o. IfSome o IsName) (sym (ap (slice_get names) (sym f.id) ∙ f.holds.0)) f.holds.1);

@@ -9,7 +9,7 @@ use Rattle.name_base.specs.NameLists.{has_zero}
 use Rattle.name_base.specs.NamesFile.{shared_byte}
 use Rattle.name_base.specs.Reading.{◌>>=◌, number_at, skip_at, byte_at, shared_at, own_at}
 
--- a list of bytes
+-- A list of bytes.
 abbrev pub IsBytes : List ℕ → Type 0
 IsBytes bytes = (i : ℕ) → get_or bytes i 0 < 256
 
@@ -19,7 +19,7 @@ IsBytes-drop n bytes h i = rw get_or-drop (h (n + i))
 pub IsBytes-rest : (byte : ℕ) (bytes : List ℕ) → IsBytes (byte ∷ bytes) → IsBytes bytes
 IsBytes-rest byte bytes h i = h (suc i)
 
--- a number of at most three bytes is below 2 ^ 24
+-- A number of at most three bytes is below 2 ^ 24.
 pub big_number-small : (n : ℕ) (bytes : List ℕ) → n ≤ 3 → IsBytes bytes → big_number n bytes < 16777216
 big_number-small zero bytes le fits = omega arith
 big_number-small (suc zero) bytes le fits = let h = big_from-lt 0 1 bytes fits in omega (arith, h)
@@ -48,14 +48,14 @@ big_bytes-number_3 (a ∷ b ∷ c ∷ rest) fits le =
     let e = three_back a b c (fits 0) (fits 1) (fits 2) (big_number 3 (a ∷ b ∷ c ∷ rest)) (omega arith) in
     λ i. e.0 i ∷ e.1 i ∷ e.2 i ∷ []
 
--- ---- steps that may fail
+-- ---- steps that may fail.
 
--- the value of a step that did not fail
+-- The value of a step that did not fail.
 pub bind_ok : {A B E : Type 0} (r : Result A E) (f : A → Result B E) (y : B) → (r >>= f) ≡ Ok y → (x : A) × (r ≡ Ok x) × (f x ≡ Ok y)
 bind_ok (Ok x) f y e = (x, refl, e)
 bind_ok (Err d) f y e = absurd cc
 
--- a test that did not fail
+-- A test that did not fail.
 pub guard_ok : {A E : Type 0} (b : Bool) (d : E) (r : Result A E) (y : A) → cond b (Err d) r ≡ Ok y → (b ≡ false) × (r ≡ Ok y)
 guard_ok true d r y e = absurd cc
 guard_ok false d r y e = (refl, e)
@@ -66,14 +66,14 @@ ok_of x = Ok x
 pub ok_is : {A E : Type 0} (x y : A) → ok_of {A = A} {E = E} x ≡ ok_of y → x ≡ y
 ok_is x y e = cc
 
--- ---- what a field took, and that it is read again
+-- ---- what a field took, and that it is read again.
 
--- the bytes are the field's and then the rest, which are bytes
+-- The bytes are the field's and then the rest, which are bytes.
 pub record Takes (bytes text rest : List ℕ) : Type 0 where
   pub parts : bytes ≡ text ++ rest
   pub fits : IsBytes rest
 
--- the widths of a number here
+-- The widths of a number here.
 pub record IsWidth (w : ℕ) : Type 0 where
   pub back : (bytes : List ℕ) → IsBytes bytes → w ≤ length bytes → big_bytes w (big_number w bytes) ≡ take w bytes
   pub small : (bytes : List ℕ) → IsBytes bytes → big_number w bytes < 16777216
@@ -125,7 +125,7 @@ pub byte_again : (b : ℕ) (rest : List ℕ) → byte_at (b ∷ rest) ≡ Ok (b,
 unfolding byte_at
 byte_again b rest = refl
 
--- neither of two tests
+-- Neither of two tests.
 pub neither : (a b : Bool) → (a || b) ≡ false → (a ≡ false) × (b ≡ false)
 neither true b e = absurd cc
 neither false b e = (refl, e)

@@ -19,7 +19,7 @@ use Rattle.name_base.specs.Reading.{◌>>=◌, Answers, blamed, number_at, skip_
 use Rattle.name_base.proofs.FieldLemmas.{IsBytes, IsBytes-drop, Takes, width_3, bind_ok, guard_ok, ok_is, number_takes, number_again, skip_takes, skip_again}
 use Rattle.name_base.proofs.KindLemmas.{blamed_ok, kind_takes, kind_again}
 
--- a test that passed
+-- A test that passed.
 guard_yes : {A E : Type 0} (b : Bool) (d : E) (x y : A) → cond b (Ok x) (Err d) ≡ Ok y → (b ≡ true) × (x ≡ y)
 guard_yes true d x y e = (refl, cc)
 guard_yes false d x y e = absurd cc
@@ -62,7 +62,7 @@ count_again kind count rest le =
     let small = limit_small kind in
     rw (number_again 3 count rest (omega arith), le-ltb (limit_of kind) count le) refl
 
--- what four numbers took
+-- What four numbers took.
 record FourTake (P : PerKind → Type 0) (bytes : List ℕ) (x : PerKind × List ℕ) : Type 0 where
   spelled : bytes ≡ four_bytes x.0 x.1
   holds : P x.0
@@ -131,7 +131,7 @@ greatest_again n rest are =
       number_again 3 n.rounds rest are.rounds,
     ) refl
 
--- what the header took
+-- What the header took.
 record HeaderTakes (bytes : List ℕ) (x : Header × List ℕ) : Type 0 where
   stamp : List ℕ
   spelled : bytes ≡ header_bytes stamp x.0 x.1
@@ -172,7 +172,7 @@ header_again stamp h rest stamped counts greatest =
       greatest_again h.greatest rest greatest,
     ) refl
 
--- ---- the two laws
+-- ---- the two laws.
 
 pub names_take : (bytes : List ℕ) (lists : NameLists) → IsBytes bytes → names_at bytes ≡ Ok lists → NameFile bytes lists
 unfolding names_at
@@ -216,7 +216,7 @@ names_again bytes lists f =
     let rounds = kind_again Round (round_shape f.header) f.rounds lists.rounds f.rest (omega (arith, f.counts.rounds)) f.round_names in
     rw (f.spelled, header, players, events, sites, rounds) refl
 
--- what a call that reads exactly found
+-- What a call that reads exactly found.
 pub is_found : (bytes : List ℕ) (r : Result NameLists NamesError) → IsBytes bytes → Answers (λ names. names) r (names_at bytes) → IfOk r (λ names. NameFile bytes names)
 is_found bytes (Ok names) fits exact = names_take bytes names fits exact
 is_found bytes (Err e) fits exact = tt

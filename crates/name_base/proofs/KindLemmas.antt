@@ -19,12 +19,12 @@ use Rattle.name_base.proofs.FieldLemmas.{IsBytes, bind_ok, ok_is}
 use Rattle.name_base.proofs.PieceLemmas.{entry_of, entry_takes, entry_again}
 use Rattle.name_base.proofs.ByIdLemmas.{ids_of, distinct_before, by_id-Arranges, by_id-only, arranged-AreNames}
 
--- a step that did not fail, with its place
+-- A step that did not fail, with its place.
 pub blamed_ok : {A : Type 0} (kind : Option NameKind) (index : ℕ) (r : Result A NameWhat) (x : A) → blamed kind index r ≡ Ok x → r ≡ Ok x
 blamed_ok kind index (Ok y) x e = ap Ok (ok_is y x e)
 blamed_ok kind index (Err what) x e = absurd cc
 
--- one more name keeps what holds of those that were met
+-- One more name keeps what holds of those that were met.
 pub AreMet-push : (count : ℕ) (met : List Entry) (e : Entry) → AreMet count met → e.id < count → IsName e.name → has_id met e.id ≡ false → is_in (names_of met) e.name ≡ false → AreMet count (met ++ e ∷ [])
 AreMet-push count met e are lt is new_id new_name = record {
   ids = subst (IsDistinct eqb) (sym (map-append (λ e. e.id) met (e ∷ []))) (IsDistinct-push nat_eq_equiv (ids_of met) e.id are.ids (list_any-map (λ e. e.id) (eqb e.id) met ∙ new_id));
@@ -33,7 +33,7 @@ AreMet-push count met e are lt is new_id new_name = record {
   each = AllByRecursion-push (λ e. IsName e.name) met e are.each is;
 }
 
--- the last name, after one more
+-- The last name, after one more.
 at_end : {X : Type 0} (xs : List X) (y : X) → slice_get (xs ++ y ∷ []) (length xs) ≡ Some y
 at_end [] y = refl
 at_end (x ∷ xs) y = at_end xs y
@@ -46,7 +46,7 @@ last_at xs y =
 pub last_name-push : (met : List Entry) (e : Entry) → last_name (met ++ e ∷ []) ≡ Some e.name
 last_name-push met e = slice_get-map (λ e. e.name) (met ++ e ∷ []) (length (met ++ e ∷ []) - 1) ∙ ap (option_map (λ e. e.name)) (last_at met e)
 
--- what so many names took, after those that were met
+-- What so many names took, after those that were met.
 pub record EntriesTake (shape : Shape) (n : ℕ) (met : List Entry) (bytes : List ℕ) (after : List Entry × List ℕ) : Type 0 where
   pub stored : List Stored
   pub count : length stored ≡ n
@@ -78,7 +78,7 @@ entries_take kind shape (suc n) met bytes x fits are e =
       rest = rest.rest;
     }
 
--- stored names that fit are read again
+-- Stored names that fit are read again.
 pub entries_again : (kind : NameKind) (shape : Shape) (stored : List Stored) (met : List Entry) (rest : List ℕ) → shape.count ≤ 16777216 → AllFit shape (last_name met) stored
     → IsDistinct eqb (ids_of (met ++ entries (last_name met) stored)) → IsDistinct bytes_eq (names_of (met ++ entries (last_name met) stored))
     → entries_at kind shape (length stored) met (kind_bytes shape (last_name met) stored rest) ≡ Ok (met ++ entries (last_name met) stored, rest)
@@ -117,7 +117,7 @@ all_names : (shape : Shape) (before : Option (List ℕ)) (stored : List Stored) 
 all_names shape before [] fit = tt
 all_names shape before (s ∷ stored) fit = (fit.0.name, all_names shape (Some (name_after before s)) stored fit.1)
 
--- what the names of a kind took
+-- What the names of a kind took.
 pub record KindTakes (shape : Shape) (bytes : List ℕ) (x : List (List ℕ) × List ℕ) : Type 0 where
   pub stored : List Stored
   pub spelled : bytes ≡ kind_bytes shape None stored x.1
@@ -149,7 +149,7 @@ kind_again kind shape stored names rest le stores =
     let are : AreMet shape.count es = record { ids = stores.arranged.ids; once = stores.arranged.once; below = all_below shape None stored stores.each; each = all_names shape None stored stores.each } in
     ap (λ r. r >>= λ es. Ok (by_id shape.count es.0, es.1)) read ∙ ap (λ ns. Ok (ns, rest)) (by_id-only shape.count es are all names stores.arranged)
 
--- names that a file stores are names of a kind
+-- Names that a file stores are names of a kind.
 pub stores-AreNames : (shape : Shape) (stored : List Stored) (names : List (List ℕ)) → StoresKind shape stored names → AreNames shape.count names
 stores-AreNames shape stored names stores =
     let es : List Entry = entries None stored in

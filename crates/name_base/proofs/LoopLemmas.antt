@@ -19,7 +19,7 @@ use Rattle.name_base.proofs.PieceLemmas.{entry_of, entry_takes}
 use Rattle.name_base.proofs.ByIdLemmas.{distinct_before, put_names-push, by_id-Arranges, arranged-AreNames}
 use Rattle.name_base.proofs.KindLemmas.{blamed_ok, AreMet-push}
 
--- ---- names put at the places of their ids
+-- ---- names put at the places of their ids.
 
 all_of_front : {X : Type 0} (P : X → Type 0) (xs : List X) (y : X) → AllByRecursion P (xs ++ y ∷ []) → AllByRecursion P xs
 all_of_front P [] y h = tt
@@ -47,11 +47,11 @@ module _ {X : Type 0} (f : X → List ℕ) where
       ∙ ap (λ es. put_names es (map f names)) (sym (map-append entry after ((k, id) ∷ [])) ∙ ap (map entry) (sym is))
       ∙ so_far
 
-  -- the names that were put, once no entry is left
+  -- The names that were put, once no entry is left.
   pub all_put : (before : List (X × ℕ)) (names : List (List ℕ)) (total : List (List ℕ)) → length before ≡ 0 → put_names (map entry before) names ≡ total → names ≡ total
   all_put before names total none so_far = subst (λ es. put_names (map entry es) names ≡ total) (nil_from_length before none) so_far
 
-  -- ---- names inserted one after the other
+  -- ---- names inserted one after the other.
 
   pub insert_next : (keys after : List X) (k : X) (left rest : List X) (names : List (List ℕ)) → map f keys ++ map f left ≡ names → left ≡ k ∷ rest → IsDistinct bytes_eq names
       → after ≡ insert_key (λ x y. bytes_eq (f x) (f y)) keys k → map f after ++ map f rest ≡ names
@@ -61,7 +61,7 @@ module _ {X : Type 0} (f : X → List ℕ) where
       let last : map f after ≡ map f keys ++ f k ∷ [] = ap (map f) done ∙ names_inserted f keys k ∙ ap (λ b. if b then map f keys else map f keys ++ f k ∷ []) new in
       ap (λ l. l ++ map f rest) last ∙ append_assoc (map f keys) (f k ∷ []) (map f rest) ∙ whole
 
--- ---- names read one after the other
+-- ---- names read one after the other.
 
 module _ (kind : NameKind) (shape : Shape) (i : ℕ) (met : List Entry) (bytes : List ℕ) (total : Result (List Entry × List ℕ) NameFault)
     (lt : i < shape.count) (index : i ≡ length met) (so_far : entries_at kind shape (shape.count - i) met bytes ≡ total) where
@@ -92,7 +92,7 @@ module _ (kind : NameKind) (shape : Shape) (i : ℕ) (met : List Entry) (bytes :
         bytes_left = t.rest;
       }
 
--- once all were read
+-- Once all were read.
 pub all_read : (kind : NameKind) (shape : Shape) (i : ℕ) (met : List Entry) (bytes : List ℕ) (total : Result (List Entry × List ℕ) NameFault) → shape.count ≤ i
     → entries_at kind shape (shape.count - i) met bytes ≡ total → total ≡ Ok (met, bytes)
 unfolding entries_at
@@ -104,12 +104,12 @@ pub none_left : {X : Type 0} (es : List X) → (0 < length es → false ≡ true
 none_left [] h = refl
 none_left (x ∷ xs) h = absurd (true≢false (sym (h (omega arith))))
 
--- what holds of the entries of a map holds of the names that were met
+-- What holds of the entries of a map holds of the names that were met.
 pub below_entries : {X : Type 0} (f : X → List ℕ) (count : ℕ) (es : List (X × ℕ)) → AllByRecursion (λ e. e.id < count) (map (entry f) es) → AllByRecursion (λ p. p.1 < count) es
 below_entries f count [] h = tt
 below_entries f count (e ∷ es) h = (h.0, below_entries f count es h.1)
 
--- the names of a kind by id, once all were met
+-- The names of a kind by id, once all were met.
 pub names_by_id : (count limit : ℕ) (es : List Entry) (names : List (List ℕ)) → AreMet count es → length es ≡ count → count ≤ limit → names ≡ by_id count es → AreNames limit names
 names_by_id count limit es names are all le is =
     AreNames-wider count limit names le (subst (AreNames count) (sym is) (arranged-AreNames count es are all (by_id count es) (by_id-Arranges count es are all)))

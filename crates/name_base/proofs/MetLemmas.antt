@@ -18,11 +18,11 @@ plain : (b : Bool) → (b || false) ≡ b
 plain true = refl
 plain false = refl
 
--- whether an id was met, after one more
+-- Whether an id was met, after one more.
 pub has_id-push : (met : List Entry) (e : Entry) (id : ℕ) → has_id (met ++ e ∷ []) id ≡ (has_id met id || eqb id e.id)
 has_id-push met e id = list_any-append (λ e. eqb id e.id) met (e ∷ []) ∙ ap (λ b. has_id met id || b) (plain (eqb id e.id))
 
--- one more mark
+-- One more mark.
 pub IsReading-push : (taken : List Bool) (met : List Entry) (e : Entry) → e.id < length taken → IsReading taken met → IsReading (set taken e.id true) (met ++ e ∷ [])
 IsReading-push taken met e lt is = record {
   few = rw length-set is.few;
@@ -45,7 +45,7 @@ module _ {X : Type 0} (f : X → List ℕ) where
   abbrev entry : X × ℕ → Entry
   entry p = record { id = p.1; name = f p.0 }
 
-  -- a name is found where it was met
+  -- A name is found where it was met.
   pub found_is_in : (name : List ℕ) (es : List (X × ℕ)) → is_some (lookup (λ k. bytes_eq name (f k)) es) ≡ is_in (names_of (map entry es)) name
   found_is_in name [] = refl
   found_is_in name (e ∷ es) = by (bytes_eq name (f e.0)) (found_is_in name es)
@@ -55,7 +55,7 @@ module _ {X : Type 0} (f : X → List ℕ) where
       by true rest = refl
       by false rest = rest
 
-  -- a name that was not met comes last
+  -- A name that was not met comes last.
   new_last : (k : X) (id : ℕ) (es : List (X × ℕ)) → is_in (names_of (map entry es)) (f k) ≡ false → insert_entry (λ x y. bytes_eq (f x) (f y)) es k id ≡ es ++ (k, id) ∷ []
   new_last k id [] new = refl
   new_last k id (e ∷ es) new = by (bytes_eq (f k) (f e.0)) new (new_last k id es)
@@ -72,7 +72,7 @@ module _ {X : Type 0} (f : X → List ℕ) where
       ap (map entry) (done ∙ new_last k id es ((λ i. is_in (names_of (seen i)) (is i)) ∙ new))
       ∙ map-append entry es ((k, id) ∷ []) ∙ (λ i. seen i ++ record { id = id; name = is i } ∷ [])
 
-  -- the last name
+  -- The last name.
   pub last_is : (es : List (X × ℕ)) (met : List Entry) (k : X) (id : ℕ) → map entry es ≡ met → Some (k, id) ≡ slice_get es (length es - 1) → Some (f k) ≡ last_name met
   last_is es met k id seen at =
       let n : ℕ = length es - 1 in

@@ -20,14 +20,14 @@ module _ {X Y : Type 0} (f : X → Y) (p : Y → Bool) where
   list_any-map [] = refl
   list_any-map (x ∷ xs) = ap (λ b. p (f x) || b) (list_any-map xs)
 
--- a place in a mapped list is the place in the list
+-- A place in a mapped list is the place in the list.
 pub position-map : {X Y : Type 0} (f : X → Y) (p : Y → Bool) (xs : List X) → position p (map f xs) ≡ position (λ x. p (f x)) xs
 position-map f p xs =
     let at = prefix_len-map f (λ y. not (p y)) xs in
     let long = length-map xs f in
     λ i. cond (ltb (at i) (long i)) (Some (at i)) None
 
--- there is a place exactly where an element passes
+-- There is a place exactly where an element passes.
 found_is : {X : Type 0} (p : X → Bool) (xs : List X) → ltb (position_or_len p xs) (length xs) ≡ list_any p xs
 found_is p [] = refl
 found_is p (x ∷ xs) = by (p x) (found_is p xs)
@@ -36,7 +36,7 @@ found_is p (x ∷ xs) = by (p x) (found_is p xs)
     by true rest = grind (arith, nat_tests)
     by false rest = (let e : ltb (1 + position_or_len p xs) (length (x ∷ xs)) ≡ ltb (position_or_len p xs) (length xs) = grind (arith, nat_tests) in e) ∙ rest
 
--- a name has an id exactly where it is among the names
+-- A name has an id exactly where it is among the names.
 pub absent : (names : List (List ℕ)) (name : List ℕ) → id_in names name ≡ None → is_in names name ≡ false
 absent names name none = sym (found_is (bytes_eq name) names) ∙ by (ltb (position_or_len (bytes_eq name) names) (length names)) (position_or_len (bytes_eq name) names) none
   where
@@ -51,7 +51,7 @@ present names name id some = sym (found_is (bytes_eq name) names) ∙ by (ltb (p
     by true n e = refl
     by false n e = cc
 
--- a name that is there changes nothing, and a new one comes last
+-- A name that is there changes nothing, and a new one comes last.
 pub with_name-present : (names : List (List ℕ)) (name : List ℕ) (id : ℕ) → Some id ≡ id_in names name → names ≡ with_name names name
 with_name-present names name id some = sym (ap (λ b. if b then names else names ++ name ∷ []) (present names name id some))
 
@@ -74,7 +74,7 @@ pub AreNames-none : (limit : ℕ) → AreNames limit []
 unfolding IsDistinct
 AreNames-none limit = record { each = tt; once = tt; within = omega arith }
 
--- a new name below the limit keeps the rules
+-- A new name below the limit keeps the rules.
 pub AreNames-push : (limit : ℕ) (names : List (List ℕ)) (name : List ℕ) → AreNames limit names → IsName name → id_in names name ≡ None → length names < limit → AreNames limit (names ++ name ∷ [])
 AreNames-push limit names name are is none room = record {
   each = AllByRecursion-push IsName names name are.each is;
@@ -82,7 +82,7 @@ AreNames-push limit names name are is none room = record {
   within = rw length_push (omega arith);
 }
 
--- a cut keeps the rules
+-- A cut keeps the rules.
 pub AreNames-take : (limit n : ℕ) (names : List (List ℕ)) → AreNames limit names → AreNames limit (take n names)
 AreNames-take limit n names are = record {
   each = AllByRecursion-take IsName n names are.each;
@@ -90,7 +90,7 @@ AreNames-take limit n names are = record {
   within = rw length-take (omega (arith, are.within));
 }
 
--- what an insert into a set of keys leaves, seen as names
+-- What an insert into a set of keys leaves, seen as names.
 pub names_inserted : {X : Type 0} (f : X → List ℕ) (keys : List X) (k : X) → map f (insert_key (λ x y. bytes_eq (f x) (f y)) keys k) ≡ with_name (map f keys) (f k)
 names_inserted f keys k =
     ap (λ b. map f (if b then keys else keys ++ k ∷ [])) (sym (list_any-map f (bytes_eq (f k)) keys))
@@ -104,16 +104,16 @@ pub names_added : {X : Type 0} (f : X → List ℕ) (keys after : List X) (k : X
     → map f keys ≡ names → f k ≡ name → after ≡ insert_key (λ x y. bytes_eq (f x) (f y)) keys k → map f after ≡ with_name names name
 names_added f keys after k names name seen is done = ap (map f) done ∙ names_inserted f keys k ∙ (λ i. with_name (seen i) (is i))
 
--- with_name of a new name below the limit keeps the rules
+-- with_name of a new name below the limit keeps the rules.
 pub AreNames-with_name : (limit : ℕ) (names : List (List ℕ)) (name : List ℕ) → AreNames limit names → IsName name → id_in names name ≡ None → length names < limit → AreNames limit (with_name names name)
 AreNames-with_name limit names name are is none room =
     subst (AreNames limit) (sym (with_name-absent names name none)) (AreNames-push limit names name are is none room)
 
--- what a cut of the keys leaves, seen as names
+-- What a cut of the keys leaves, seen as names.
 pub names_cut : {X : Type 0} (f : X → List ℕ) (keys after : List X) (n : ℕ) (names : List (List ℕ))
     → map f keys ≡ names → after ≡ take n keys → map f after ≡ take n names
 names_cut f keys after n names seen done = ap (map f) done ∙ sym (take-map f n keys) ∙ ap (take n) seen
 
--- a greater limit
+-- A greater limit.
 pub AreNames-wider : (count limit : ℕ) (names : List (List ℕ)) → count ≤ limit → AreNames count names → AreNames limit names
 AreNames-wider count limit names le are = record { each = are.each; once = are.once; within = omega (arith, are.within) }

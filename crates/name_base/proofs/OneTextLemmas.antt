@@ -21,7 +21,7 @@ use Rattle.name_base.proofs.AgainLemmas.{names_from, permuted}
 abbrev cmp : List ℕ → List ℕ → Ordering
 cmp a b = slice_cmp nat_cmp a b
 
--- an element of a list
+-- An element of a list.
 abbrev In : {X : Type 0} → X → List X → Type 0
 In x [] = ⊥
 In x (y ∷ ys) = (x ≡ y) ⊎ In x ys
@@ -35,7 +35,7 @@ all_in P [] x h i = absurd i
 all_in P (y ∷ ys) x h (inl same) = subst P (sym same) h.0
 all_in P (y ∷ ys) x h (inr i) = all_in P ys x h.1 i
 
--- rows whose names rise
+-- Rows whose names rise.
 abbrev Rises : List Row → Type 0
 Rises [] = Unit {0}
 Rises (r ∷ rows) = AllByRecursion (λ q. cmp r.name q.name ≡ Less) rows × Rises rows
@@ -55,7 +55,7 @@ same_first x y xs ys rx ry (inl e) i = e
 same_first x y xs ys rx ry (inr i) (inl e) = sym e
 same_first x y xs ys rx ry (inr i) (inr j) = absurd (never_both x.name y.name (all_in (λ q. cmp x.name q.name ≡ Less) xs y rx j) (all_in (λ q. cmp y.name q.name ≡ Less) ys x ry i))
 
--- two lists that rise and have the same rows are one
+-- Two lists that rise and have the same rows are one.
 one_list : (xs ys : List Row) → Rises xs → Rises ys → ((r : Row) → In r xs → In r ys) → ((r : Row) → In r ys → In r xs) → xs ≡ ys
 one_list [] [] rx ry f g = refl
 one_list [] (y ∷ ys) rx ry f g = absurd (g y (inl refl))
@@ -67,7 +67,7 @@ one_list (x ∷ xs) (y ∷ ys) rx ry f g =
     (λ r i. not_first r x xs (λ e. never_less r.name (subst (λ (q : Row). cmp q.name r.name ≡ Less) (sym same ∙ sym e) (all_in (λ q. cmp y.name q.name ≡ Less) ys r ry.0 i))) (g r (inr i))) in
     λ i. same i ∷ others i
 
--- names that do not fall and differ rise
+-- Names that do not fall and differ rise.
 less_from : (a b : List ℕ) → is_lt (cmp b a) ≡ false → bytes_eq a b ≡ false → cmp a b ≡ Less
 less_from a b up apart = by (cmp b a) refl
   where
@@ -110,7 +110,7 @@ one_order limit names fs xs ys are frequencies ox oy =
     one_list xs ys (rises_from xs (names_rise xs ox.sorted once_x)) (rises_from ys (names_rise ys oy.sorted once_y))
     (within (rows_from 0 names fs) xs ys ox.same oy.same) (within (rows_from 0 names fs) ys xs oy.same ox.same)
 
--- two written forms of the same lists are one
+-- Two written forms of the same lists are one.
 pub one_text : (lists : NameLists) (f : Frequencies) (a b : List ℕ) → AreSound lists → AreFrequencies lists.players f.players → AreFrequencies lists.events f.events → AreFrequencies lists.sites f.sites → AreFrequencies lists.rounds f.rounds
     → IsNamesText lists f a → IsNamesText lists f b → a ≡ b
 one_text lists f a b sound fp fe fs fr ta tb =

@@ -13,7 +13,7 @@ use Rattle.name_base.specs.NamesFile.{Stored, Entry, Fits, id_width, frequency_w
 use Rattle.name_base.specs.Reading.{◌>>=◌, Piece, number_at, skip_at, byte_at, shared_at, own_at, id_at, piece_at, entry_at, has_id, names_of, last_name, name_of_piece}
 use Rattle.name_base.proofs.FieldLemmas.{IsBytes, Takes, IsWidth, width_2, width_3, bind_ok, guard_ok, ok_is, number_takes, number_again, skip_takes, skip_again, byte_takes, byte_again, shared_takes, shared_again, own_takes, own_again, neither}
 
--- ---- the id
+-- ---- the id.
 
 id_width-IsWidth : (count : ℕ) → IsWidth (id_width count)
 id_width-IsWidth count = by (ltb count 65536)
@@ -45,7 +45,7 @@ id_again : (count : ℕ) (met : List Entry) (id : ℕ) (rest : List ℕ) → id 
 unfolding id_at
 id_again count met id rest lt le new = rw (number_again (id_width count) id rest (id_width-fits count id lt le), lt-leb count id lt, new) refl
 
--- ---- the name
+-- ---- the name.
 
 list_any-take : {X : Type 0} (p : X → Bool) (n : ℕ) (xs : List X) → list_any p xs ≡ false → list_any p (take n xs) ≡ false
 list_any-take p zero xs e = refl
@@ -56,7 +56,7 @@ list_any-take p (suc n) (x ∷ xs) e = by (p x) e (list_any-take p n xs)
     by true e rest = absurd cc
     by false e rest = rest e
 
--- what holds of each holds of the one at a place
+-- What holds of each holds of the one at a place.
 pub at_place : {X : Type 0} (P : X → Type 0) (xs : List X) (i : ℕ) → AllByRecursion P xs → IfSome (slice_get xs i) P
 at_place P [] i h = tt
 at_place P (x ∷ xs) zero h = h.0
@@ -66,7 +66,7 @@ names_hold : (P : List ℕ → Type 0) (met : List Entry) → AllByRecursion (λ
 names_hold P [] h = tt
 names_hold P (e ∷ es) h = (h.0, names_hold P es h.1)
 
--- the last name holds no zero byte
+-- The last name holds no zero byte.
 last_whole : (met : List Entry) → AllByRecursion (λ e. IsName e.name) met → has_zero (unwrap_or (last_name met) []) ≡ false
 last_whole met each = by (last_name met) (at_place IsName (names_of met) (length met - 1) (names_hold IsName met each))
   where
@@ -80,7 +80,7 @@ no_zero_joined a b ea eb = list_any-append (λ byte. eqb byte 0) a b ∙ (λ i. 
 abbrev pub stored_of : List ℕ → Piece → Stored
 stored_of frequency p = record { id = p.id; frequency = frequency; shared = p.shared; own = p.own }
 
--- what the parts of a name took
+-- What the parts of a name took.
 pub record PieceTakes (shape : Shape) (met : List Entry) (bytes : List ℕ) (p : Piece) : Type 0 where
   pub frequency : List ℕ
   pub spelled : bytes ≡ stored_bytes shape (last_name met) (stored_of frequency p) p.rest
@@ -122,7 +122,7 @@ piece_takes shape met bytes p fits each e =
     } in
     subst (PieceTakes shape met bytes) (ok_is made p o.2) whole
 
--- the parts of a stored name are read again
+-- The parts of a stored name are read again.
 pub piece_again : (shape : Shape) (met : List Entry) (s : Stored) (rest : List ℕ) → shape.count ≤ 16777216 → Fits shape (last_name met) s → has_id met s.id ≡ false
     → piece_at shape met (stored_bytes shape (last_name met) s rest) ≡ Ok (record { id = s.id; shared = s.shared; own = s.own; rest = rest })
 unfolding piece_at stored_bytes
@@ -137,12 +137,12 @@ piece_again shape met s rest le fits new =
     let o = own_again ((s.shared + length s.own) - s.shared) s.own rest own-is own_whole in
     rw (a, b, c, d, o) refl
 
--- ---- a whole name
+-- ---- a whole name.
 
 abbrev pub entry_of : Option (List ℕ) → Stored → Entry
 entry_of before s = record { id = s.id; name = name_after before s }
 
--- what a name took, after those that were met
+-- What a name took, after those that were met.
 pub record EntryTakes (shape : Shape) (met : List Entry) (bytes : List ℕ) (after : List Entry × List ℕ) : Type 0 where
   pub stored : Stored
   pub spelled : bytes ≡ stored_bytes shape (last_name met) stored after.1

@@ -18,13 +18,13 @@ use Rattle.name_base.specs.NameLists.{AreNames, IsName}
 use Rattle.name_base.specs.NamesFile.{id_width, frequency_width, name_after, shared_byte, stored_bytes, kind_bytes, magic, four_bytes, header_bytes}
 use Rattle.name_base.specs.NamesText.{Row, rows_from, IsOrderOf, shared_len, stored_row, stored_rows, name_bytes, greatest_of, FitsShape}
 
--- nothing is shared with nothing
+-- Nothing is shared with nothing.
 pub share_none : (xs ys : List ℕ) → length ys ≡ 0 → common_prefix_len eqb xs ys ≡ 0
 share_none [] ys e = refl
 share_none (x ∷ xs) [] e = refl
 share_none (x ∷ xs) (y ∷ ys) e = absurd (omega arith)
 
--- the element at a place stands before those after it
+-- The element at a place stands before those after it.
 drop_next : {X : Type 0} (xs : List X) (i : ℕ) (x : X) → slice_get xs i ≡ Some x → drop i xs ≡ x ∷ drop (i + 1) xs
 drop_next [] i x e = absurd cc
 drop_next (y ∷ ys) zero x e = let same : y ≡ x = cc in ap (λ z. z ∷ ys) same
@@ -34,7 +34,7 @@ pub row_next : (id i : ℕ) (names : List (List ℕ)) (fs : List ℕ) (name : Li
     → rows_from id (drop i names) (drop i fs) ≡ record { id = id; frequency = f; name = name } ∷ rows_from (id + 1) (drop (i + 1) names) (drop (i + 1) fs)
 row_next id i names fs name f a b = λ k. rows_from id (drop_next names i name a k) (drop_next fs i f b k)
 
--- one more row
+-- One more row.
 pub rows_more : {X : Type 0} (view : X → Row) (rows after : List X) (x : X) (i : ℕ) (names : List (List ℕ)) (fs : List ℕ) (total : List Row)
     → after ≡ rows ++ x ∷ [] → slice_get names i ≡ Some ((view x).name) → slice_get fs i ≡ Some ((view x).frequency) → (view x).id ≡ i
     → map view rows ++ rows_from i (drop i names) (drop i fs) ≡ total → map view after ++ rows_from (i + 1) (drop (i + 1) names) (drop (i + 1) fs) ≡ total
@@ -50,7 +50,7 @@ first_not_less Less p e = e
 first_not_less Equal p e = refl
 first_not_less Greater p e = refl
 
--- rows in an order that begins with the names are in the order of the names
+-- Rows in an order that begins with the names are in the order of the names.
 pub sorted_names : {X : Type 0} (view : X → Row) (cmp : X → X → Ordering) (then : X → X → Ordering) (xs : List X)
     → ((x y : X) → cmp x y ≡ ordering_then (slice_cmp nat_cmp (view x).name (view y).name) (then x y)) → IsSorted cmp xs → IsSortedByKey (λ r. r.name) (slice_cmp nat_cmp) (map view xs)
 sorted_names view cmp then [] by_name sorted k d low high = absurd (omega arith)
@@ -63,7 +63,7 @@ sorted_names {X = X} view cmp then (x ∷ xs) by_name sorted k d low high =
     (λ i. is_lt (slice_cmp nat_cmp (named_b i).name (named_a i).name))
     ∙ first_not_less (slice_cmp nat_cmp (view b).name (view a).name) (then b a) (sym (ap is_lt (by_name b a)) ∙ sorted k x low long)
 
--- ---- a row as it is stored
+-- ---- a row as it is stored.
 
 shared_takes_both : (xs ys : List ℕ) → take (common_prefix_len eqb xs ys) xs ≡ take (common_prefix_len eqb xs ys) ys
 shared_takes_both [] ys = refl
@@ -77,7 +77,7 @@ shared_takes_both (x ∷ xs) (y ∷ ys) = by (eqb x y) refl (shared_takes_both x
         ap (λ k. take k (x ∷ xs)) n ∙ (λ i. eqb-true x y e i ∷ rest i) ∙ ap (λ k. take k (y ∷ ys)) (sym n)
     by false e rest = refl
 
--- the prefix and the own bytes are the name again
+-- The prefix and the own bytes are the name again.
 pub name_restored : (width : ℕ) (before : Option (List ℕ)) (r : Row) → name_after before (stored_row width before r) ≡ r.name
 name_restored width None r = refl
 name_restored width (Some before) r =
@@ -87,7 +87,7 @@ pub shared_within : (before : Option (List ℕ)) (name : List ℕ) → (shared_l
 shared_within None name = (omega arith, omega arith)
 shared_within (Some before) name = let h = common_prefix_len-le eqb before name in (h.1, h.0)
 
--- a stored row: its id, its frequency and its name
+-- A stored row: its id, its frequency and its name.
 pub row_bytes : (shape : Shape) (before : Option (List ℕ)) (r : Row) (rest : List ℕ)
     → stored_bytes shape before (stored_row (frequency_width shape.greatest) before r) rest
     ≡ big_bytes (id_width shape.count) r.id ++ (big_bytes (frequency_width shape.greatest) r.frequency ++ name_bytes before r.name rest)
@@ -96,7 +96,7 @@ row_bytes shape before r rest =
     let len : shared_len before r.name + length (drop (shared_len before r.name) r.name) ≡ length r.name = omega (arith, length-drop (shared_len before r.name) r.name, (shared_within before r.name).0) in
     ap (λ n. big_bytes (id_width shape.count) r.id ++ (big_bytes (frequency_width shape.greatest) r.frequency ++ (n ∷ (shared_byte before (shared_len before r.name) ++ (drop (shared_len before r.name) r.name ++ rest))))) len
 
--- a number after another, and then a name
+-- A number after another, and then a name.
 pub row_put : (old one two new : List ℕ) (shape : Shape) (before : Option (List ℕ)) (r : Row) → one ≡ old ++ big_bytes (id_width shape.count) r.id → two ≡ one ++ big_bytes (frequency_width shape.greatest) r.frequency
     → ((rest : List ℕ) → new ++ rest ≡ two ++ name_bytes before r.name rest)
     → (rest : List ℕ) → new ++ rest ≡ old ++ stored_bytes shape before (stored_row (frequency_width shape.greatest) before r) rest
@@ -107,7 +107,7 @@ row_put old one two new shape before r a b c rest =
     ∙ append_assoc old (big_bytes (id_width shape.count) r.id) (big_bytes (frequency_width shape.greatest) r.frequency ++ name_bytes before r.name rest)
     ∙ ap (λ t. old ++ t) (sym (row_bytes shape before r rest))
 
--- one more row
+-- One more row.
 pub row_more : {X : Type 0} (view : X → Row) (rows : List X) (x : X) (i : ℕ) (shape : Shape) (before : Option (List ℕ)) (old new : List ℕ) (total : List ℕ → List ℕ)
     → slice_get rows i ≡ Some x
     → ((rest : List ℕ) → new ++ rest ≡ old ++ stored_bytes shape before (stored_row (frequency_width shape.greatest) before (view x)) rest)
@@ -119,7 +119,7 @@ row_more view rows x i shape before old new total at put so_far rest =
     ∙ ap (λ xs. old ++ kind_bytes shape before (stored_rows (frequency_width shape.greatest) before (map view xs)) rest) (sym (drop_next rows i x at))
     ∙ so_far rest
 
--- ---- one text after another
+-- ---- one text after another.
 
 pub put_after : (old text new rest : List ℕ) → new ≡ old ++ text → new ++ rest ≡ old ++ (text ++ rest)
 put_after old text new rest is = ap (λ t. t ++ rest) is ∙ append_assoc old text rest
@@ -141,7 +141,7 @@ header_put old a b c d stamp h pa pb pc pd rest =
     ∙ put_after a stamp b (four_bytes h.counts (four_bytes h.greatest rest)) pb
     ∙ put_after old magic a (stamp ++ four_bytes h.counts (four_bytes h.greatest rest)) pa
 
--- ---- the fields hold the rows of a kind
+-- ---- the fields hold the rows of a kind.
 
 greatest_small_from : (fs : List ℕ) → AllByRecursion (λ n. n < 2 ^ 24) fs → greatest_of fs < 2 ^ 24
 greatest_small_from [] h = omega arith

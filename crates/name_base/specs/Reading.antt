@@ -50,7 +50,7 @@ unfoldable pub byte_at : List ℕ → Result (ℕ × List ℕ) NameWhat
 byte_at [] = Err Short
 byte_at (byte ∷ bytes) = Ok (byte, bytes)
 
--- ---- the header
+-- ---- the header.
 
 -- The magic, passed over.
 unfoldable pub magic_at : List ℕ → Result (List ℕ) NameWhat
@@ -89,7 +89,7 @@ header_at bytes = do
   greatest ← greatest_at counts.1
   Ok (record { counts = counts.0; greatest = greatest.0 }, greatest.1)
 
--- ---- one name, after those of its kind that were met before it
+-- ---- one name, after those of its kind that were met before it.
 
 -- Whether an id was met.
 abbrev pub has_id : List Entry → ℕ → Bool
@@ -146,7 +146,7 @@ entry_at shape met bytes = do
   p ← piece_at shape met bytes
   if is_in (names_of met) (name_of_piece met p) then Err Repeated else Ok (met ++ record { id = p.id; name = name_of_piece met p } ∷ [], p.rest)
 
--- ---- a kind, and the whole file
+-- ---- a kind, and the whole file.
 
 -- A fault, with its place.
 abbrev pub blamed : {A : Type 0} → Option NameKind → ℕ → Result A NameWhat → Result A NameFault

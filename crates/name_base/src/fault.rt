@@ -1,6 +1,7 @@
 //! Why a names file is not read.
 use crate::NameKind;
 use std::alloc::{AllocError, AllocFailed};
+use std::fmt;
 use thiserror::Error;
 
 /// What is wrong with the bytes of a names file.
@@ -33,8 +34,7 @@ pub enum NameWhat {
 }
 
 /// The first fault of a names file, in the order of its bytes.
-#[derive(Clone, Copy, Debug, Drop, PartialEq, Eq, Hash, Error)]
-#[error("names file, {kind:?}, name {index}: {what}")]
+#[derive(Clone, Copy, Debug, Drop, PartialEq, Eq, Hash)]
 pub struct NameFault {
     /// The kind of the faulty name, or none in the header.
     pub kind: Option<NameKind>,
@@ -42,6 +42,17 @@ pub struct NameFault {
     pub index: u32,
     pub what: NameWhat,
 }
+
+impl fmt::Display for NameFault {
+    fn fmt(&self, f: &mut fmt::Formatter<'_>) -> fmt::Result {
+        match self.kind {
+            None => write!(f, "header: {}", self.what),
+            Some(kind) => write!(f, "{kind} {}: {}", self.index, self.what),
+        }
+    }
+}
+
+impl std::error::Error for NameFault {}
 
 /// Why `read_names` gives no names.
 #[derive(Clone, Copy, Debug, Drop, PartialEq, Eq, Error)]

@@ -2,6 +2,8 @@
 ghost use Rattle.std.specs.Prelude.{◌≡◌};
 ghost use Rattle.name_base.specs.NameLists.{limit_of};
 
+use std::fmt;
+
 /// A kind of name, in the order of the names file.
 #[derive(Clone, Copy, Debug, Drop, PartialEq, Eq, PartialOrd, Ord, Hash)]
 pub enum NameKind {
@@ -10,6 +12,17 @@ pub enum NameKind {
     Event,
     Site,
     Round,
+}
+
+impl fmt::Display for NameKind {
+    fn fmt(&self, f: &mut fmt::Formatter<'_>) -> fmt::Result {
+        f.write_str(match self {
+            NameKind::Player => "player",
+            NameKind::Event => "event",
+            NameKind::Site => "site",
+            NameKind::Round => "round",
+        })
+    }
 }
 
 impl NameKind {

@@ -106,6 +106,7 @@ impl Names {
         ensures count { result ≡ length (of_kind kind self.now) }
         ensures sound { AreSound self.now }
     {
+        // Reading the field makes the type's invariant known, which gives the clause `sound`.
         let _ = &self.players;
         self.set(kind).len()
     }

@@ -1,4 +1,5 @@
-//! Shows how the players of a names file begin. Each line of standard input is three numbers: how many players there are, how
+//! Shows how the players of a names file begin: a program and not a test, since files of so many names are too long for a test.
+//! Each line of standard input is three numbers: how many players there are, how
 //! often the first of them is used, where each other is used once, and how many bytes to show. The players are called `000000`,
 //! `000001` and so on, by id. The answer is a line with the bytes after the header, and whether the file is read as the same names.
 #![tactic(auto)]
@@ -15,6 +16,12 @@ struct Table {
     shown: usize,
 }
 
+/// The bytes of the header of a names file.
+const HEADER_LEN: usize = 36;
+
+/// Six digits tell so many players apart.
+const MOST_PLAYERS: u32 = 1_000_000;
+
 fn main(rt: HostRuntime) -> anyhow::Result<()> {
     for line in rt.lines(rt.alloc()) {
         let line = line?;
@@ -23,7 +30,7 @@ fn main(rt: HostRuntime) -> anyhow::Result<()> {
             continue;
         };
         let text = names_file(rt.alloc(), &table)?;
-        for byte in text.as_slice().iter().skip(36).take(table.shown) {
+        for byte in text.as_slice().iter().skip(HEADER_LEN).take(table.shown) {
             print!(rt; "{byte:02x}")?;
         }
         if is_read_again(rt.alloc(), &table, text.as_slice())? {
@@ -35,12 +42,15 @@ fn main(rt: HostRuntime) -> anyhow::Result<()> {
     Ok(())
 }
 
-/// The table of a line.
+/// The table of a line: three numbers of so many players at most as six digits tell apart.
 fn asked(line: &str) -> Option<Table> {
     let mut words = line.split(' ');
     let players = words.next()?.parse::<u32>().ok()?;
     let first_uses = words.next()?.parse::<u32>().ok()?;
     let shown = words.next()?.parse::<usize>().ok()?;
+    if players > MOST_PLAYERS || words.next().is_some() {
+        return None;
+    }
     Some(Table {
         players,
         first_uses,
@@ -66,9 +76,8 @@ fn names_of(alloc: Global, table: &Table) -> anyhow::Result<Names> {
     let mut names = Names::new(alloc);
     for number in 0..table.players {
         let name = digits(number);
-        if !name.contains(&0) {
-            names.add(alloc, NameKind::Player, &name)?;
-        }
+        ensure!(!name.contains(&0), "a zero byte in a name");
+        names.add(alloc, NameKind::Player, &name)?;
     }
     Ok(names)
 }

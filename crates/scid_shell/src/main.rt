@@ -8,10 +8,7 @@ ghost use Rattle.shell_session.specs.declared.status.Status.TheVariants as done;
 
 mod messages;
 
-use base_files::disk_files::DiskFiles;
-use base_files::faults::DeviceError;
-use base_files::std_sink::StdSink;
-use base_files::std_source::StdSource;
+use base_files::{DeviceError, DiskFiles, StdSink, StdSource};
 use messages::{HELP, VERSION, message};
 use shell_session::{LaterWhat, Status, session};
 use std::io::ErrorKind;
@@ -76,11 +73,11 @@ fn flushed(status: Status, outcome: Result<(), DeviceError>) -> Status
 
 /// Says on standard error how the session ended, unless it is done, and gives the exit code.
 fn end(rt: &HostRuntime, status: Status) -> ExitCode {
-    if let Some(line) = message(status) {
-        let _ = eprintln!(rt; "{line}");
-    }
-    if let Status::BadRecord { game, fault } = status {
-        let _ = eprintln!(rt; "bad record: game {game}, {fault}");
-    }
+    let line = message(&status);
+    let _ = match status {
+        Status::Done => Ok(()),
+        Status::BadRecord { game, fault } => eprintln!(rt; "{line}game {game}, {fault}"),
+        _ => eprintln!(rt; "{line}"),
+    };
     ExitCode::from(status.exit_code())
 }

@@ -1,8 +1,7 @@
 //! What the program says besides the text of a session.
 
-ghost use Rattle.std.specs.Prelude.{◌≡◌, ◌⊎◌, ℕ, None};
-ghost use Rattle.game_codec.specs.declared.fault.RecordFault.{RecordFault};
-ghost use Rattle.shell_session.specs.declared.status.Status.TheVariants as ended;
+ghost use Rattle.std.specs.Prelude.{◌≡◌};
+ghost use Rattle.scid_shell.specs.Messages.{line_of};
 
 use shell_session::Status;
 
@@ -16,22 +15,27 @@ Runs a script over the Scid base BASE.si4, BASE.sn4, BASE.sg4.
                      each with its first such ply
 
 BOARD is the first field of a FEN, and SIDE is w or b.
+
+Exit status: 0 done, 2 bad record, 3 read fault, 4 write fault, 5 files fault,
+8 out of memory, 9 later: words, an index or a script that this version does
+not read. What it was is told on standard error.
 ";
 
 /// The answer to `--version`.
 pub const VERSION: &str = "scid_shell 0.1.0\n";
 
-/// The line on standard error for a session that is not done, unless it tells a fault.
-pub fn message(status: Status) -> Option<&'static str>
-    ensures silent { result ≡ None → (status ≡ ended.Done) ⊎ ((game : ℕ) × ((fault : RecordFault) × (status ≡ ended.BadRecord game fault))) }
-    ensures done { status ≡ ended.Done → result ≡ None }
+/// The line on standard error for a session that is not done; of a bad record its beginning, which the game and the fault
+/// follow.
+pub fn message(status: &Status) -> &'static str
+    ensures line { result.now ≡ line_of status.now }
 {
     match status {
-        Status::Done | Status::BadRecord { .. } => None,
-        Status::Later(_) => Some("later"),
-        Status::ReadFault => Some("read fault"),
-        Status::WriteFault => Some("write fault"),
-        Status::FilesFault => Some("files fault"),
-        Status::Memory => Some("out of memory"),
+        Status::Done => "",
+        Status::BadRecord { .. } => "bad record: ",
+        Status::Later(_) => "later",
+        Status::ReadFault => "read fault",
+        Status::WriteFault => "write fault",
+        Status::FilesFault => "files fault",
+        Status::Memory => "out of memory",
     }
 }

@@ -12,17 +12,18 @@ use Rattle.shell_session.specs.declared.status.Status.TheVariants.{Done, Later, 
 use Rattle.shell_session.specs.declared.status.LaterWhat.TheVariants as later
 use Rattle.shell_session.specs.Endings.{EndsEarly, WroteFront}
 use Rattle.shell_session.specs.HitText.{find_text}
-use Rattle.shell_session.specs.IndexFile.{extent_at, game_count, record_in, records}
+use Rattle.base_files.specs.Extents.{record_in}
+use Rattle.shell_session.specs.IndexFile.{extent_at, game_count, records}
 use Rattle.shell_session.specs.Refusals.{OpeningRefused}
 use Rattle.shell_session.specs.Session.{Answers, BeginsAnswer, Finds, IsFirstFaulty, Opens, given}
 use Rattle.shell_session.specs.Words.{AreBase}
 use Rattle.shell_session.proofs.Searching.{whole_of_hits}
 
--- nothing is added where the bytes taken stay the same
+-- Nothing is added where the bytes taken stay the same.
 pub none_added : (taken : List ℕ) (after : Option (List ℕ)) → after ≡ Some taken → after ≡ Some (taken ++ [])
 none_added taken after same = same ∙ ap (λ (l : List ℕ). Some l) (sym (append-nil taken))
 
--- the answer of a session whose opening ends it
+-- The answer of a session whose opening ends it.
 pub opening_answers : (words : List (List ℕ)) (name index games script : List ℕ) (status : Status) → AreBase words name → OpeningRefused (Some index) (Some games) status → Answers (given words index games script) status []
 opening_answers words name index games script (Later later.Index) base refused = ((name, base), refused, refl)
 opening_answers words name index games script FilesFault base refused = refl
@@ -34,7 +35,7 @@ opening_answers words name index games script Done base refused = absurd refused
 opening_answers words name index games script ReadFault base refused = absurd refused
 opening_answers words name index games script WriteFault base refused = absurd refused
 
--- a front part of the text that was written is one of the whole answer
+-- A front part of the text that was written is one of the whole answer.
 front_begins : (words : List (List ℕ)) (index games script taken : List ℕ) (after : Option (List ℕ)) → Opens (given words index games script) →
     WroteFront index (Some games) (Some script) (Some taken) after →
     (text : List ℕ) × (after ≡ Some (taken ++ text)) × BeginsAnswer (given words index games script) text
@@ -53,7 +54,7 @@ front_begins words index games script taken (Some now) opens wrote =
       },
     )
 
--- the answer of a session whose search ends early
+-- The answer of a session whose search ends early.
 pub early_answers : (words : List (List ℕ)) (index games script taken : List ℕ) (after : Option (List ℕ)) (status : Status) → Opens (given words index games script) →
     EndsEarly index (Some games) (Some script) (Some taken) after status →
     (text : List ℕ) × (after ≡ Some (taken ++ text)) × Answers (given words index games script) status text
@@ -73,7 +74,7 @@ early_answers words index games script taken after (Later later.Words) opens end
 early_answers words index games script taken after (Later later.Index) opens ends = absurd ends
 early_answers words index games script taken after Done opens ends = absurd ends
 
--- what holds of each of the records holds of any one of them
+-- What holds of each of the records holds of any one of them.
 record_of_more : (P : List ℕ → Type 0) (index games : List ℕ) (i k : ℕ) → All P (records index games (k + suc i)) → P (record_in games (extent_at index i))
 record_of_more P index games i zero all =
     let A : ℕ → Type 0 = λ n. All P (records index games n) in
@@ -91,14 +92,14 @@ record_of_all P index games n i below all =
     let e : n ≡ n - suc i + suc i = omega arith in
     record_of_more P index games i (n - suc i) (subst A e all)
 
--- where there is a whole answer, no record is faulty
+-- Where there is a whole answer, no record is faulty.
 pub none_faulty : (words : List (List ℕ)) (index games script text : List ℕ) (game : ℕ) (fault : RecordFault) → Finds (given words index games script) text → ¬ IsFirstFaulty index games game fault
 none_faulty words index games script text game fault finds faulty =
     let all : All IsSomeRecord (records index games (game_count index)) = whole_of_hits finds.sought (records index games (game_count index)) finds.hits finds.found in
     let whole : IsSomeRecord (record_in games (extent_at index game)) = record_of_all IsSomeRecord index games (game_count index) game faulty.in_base all in
     record-unbroken (record_in games (extent_at index game)) whole.0 whole.1.0 fault whole.1.1 faulty.faulty
 
--- where there is a whole answer and no device has a fault, a search ends early for want of memory alone
+-- Where there is a whole answer and no device has a fault, a search ends early for want of memory alone.
 pub ends_for_memory : (words : List (List ℕ)) (index games script text : List ℕ) (before after : Option (List ℕ)) (status : Status) → Finds (given words index games script) text →
     EndsEarly index (Some games) (Some script) before after status → (status ≡ ReadFault → ⊥) → (status ≡ WriteFault → ⊥) → (status ≡ FilesFault → ⊥) → status ≡ Memory
 ends_for_memory words index games script text before after (Later later.Script) finds ends no_read no_write no_files = absurd (ends.0 finds.sought finds.asks.asked)
@@ -111,14 +112,14 @@ ends_for_memory words index games script text before after (Later later.Words) f
 ends_for_memory words index games script text before after (Later later.Index) finds ends no_read no_write no_files = absurd ends
 ends_for_memory words index games script text before after Done finds ends no_read no_write no_files = absurd ends
 
--- what a files object tells is what it is known to tell: the index that was read, and the length of the games file
+-- What a files object tells is what it is known to tell: the index that was read, and the length of the games file.
 pub told_is : (told : Option (List ℕ)) (bytes index : List ℕ) → told ≡ Some index → Tells told bytes → bytes ≡ index
 told_is told bytes index same tells = let T : Option (List ℕ) → Type 0 = λ o. Tells o bytes in subst T same tells
 
 pub told_length_is : (told : Option (List ℕ)) (count : ℕ) (games : List ℕ) → told ≡ Some games → TellsLength told count → count ≡ length games
 told_length_is told count games same tells = let T : Option (List ℕ) → Type 0 = λ o. TellsLength o count in subst T same tells
 
--- how a search ended, of what is told
+-- How a search ended, of what is told.
 pub ends_told : (opened index games script : List ℕ) (told_games told_script before after : Option (List ℕ)) (status : Status) →
     opened ≡ index → told_games ≡ Some games → told_script ≡ Some script → EndsEarly opened told_games told_script before after status →
     EndsEarly index (Some games) (Some script) before after status
@@ -128,6 +129,6 @@ ends_told opened index games script told_games told_script before after status s
     let S : Option (List ℕ) → Type 0 = λ o. EndsEarly index (Some games) o before after status in
     subst S same_script (subst G same_games (subst I same_index ends))
 
--- a count that rose since a later moment rose since an earlier one
+-- A count that rose since a later moment rose since an earlier one.
 pub Rose-earlier : (a b c : ℕ) → a ≤ b → Rose b c → Rose a c
 Rose-earlier a b c before rose = elim rose [ inl more ↦ inl (omega arith) | inr last ↦ inr last ]

@@ -5,7 +5,7 @@ use Rattle.base_files.specs.Told.{adds, Grew}
 use Rattle.base_files.proofs.Telling.{Grew-adds, Grew-trans, adds-append}
 use Rattle.shell_session.specs.HitText.{hit_line, hit_lines, count_line, find_text}
 
--- the lines of two runs of games, one behind the other
+-- The lines of two runs of games, one behind the other.
 pub hit_lines-append : (n : ℕ) (xs ys : List (Option ℕ)) → hit_lines n (xs ++ ys) ≡ hit_lines n xs ++ hit_lines (n + length xs) ys
 hit_lines-append n [] ys = rw add-zero refl
 hit_lines-append n (Some ply ∷ xs) ys =
@@ -14,14 +14,14 @@ hit_lines-append n (Some ply ∷ xs) ys =
 hit_lines-append n (None ∷ xs) ys =
     let e : n + suc (length xs) ≡ n + 1 + length xs = omega arith in rw e (hit_lines-append (n + 1) xs ys)
 
--- the lines of one game more
+-- The lines of one game more.
 pub hit_lines-more : (hits : List (Option ℕ)) (i : ℕ) → i < length hits → hit_lines 0 (take (i + 1) hits) ≡ hit_lines 0 (take i hits) ++ hit_lines i (get_or hits i None ∷ [])
 hit_lines-more hits i below =
     let within : i ≤ length hits = omega arith in
     let e : hit_lines 0 (take i hits ++ get_or hits i None ∷ []) ≡ hit_lines 0 (take i hits) ++ hit_lines (0 + length (take i hits)) (get_or hits i None ∷ []) = hit_lines-append 0 (take i hits) (get_or hits i None ∷ []) in
     rw (take_more hits i None below) (e ∙ ap (λ (n : ℕ). hit_lines 0 (take i hits) ++ hit_lines n (get_or hits i None ∷ [])) (zero-add (length (take i hits)) ∙ length-take-le i hits within))
 
--- the lines of the first games are a front part of the whole text
+-- The lines of the first games are a front part of the whole text.
 pub find_text-begins : (told : Option (List ℕ)) (hits : List (Option ℕ)) (i : ℕ) → Grew (adds told (hit_lines 0 (take i hits))) (adds told (find_text hits))
 find_text-begins told hits i =
     let lines : List ℕ = hit_lines 0 (take i hits) in
@@ -33,7 +33,7 @@ find_text-begins told hits i =
     let Q : Option (List ℕ) → Type 0 = λ t. Grew (adds told lines) t in
     subst P (sym e) (subst Q (sym (adds-append told lines (later ++ count))) (Grew-adds (adds told lines) (later ++ count)))
 
--- a game's lines, put behind the text that waits
+-- A game's lines, put behind the text that waits.
 pub lines_put : (told taken taken' : Option (List ℕ)) (text text' : List ℕ) (hits : List (Option ℕ)) (i game : ℕ) → i < length hits → game ≡ i →
     adds taken text ≡ adds told (hit_lines 0 (take i hits)) → adds taken' text' ≡ adds taken (text ++ hit_lines game (get_or hits i None ∷ [])) →
     adds taken' text' ≡ adds told (hit_lines 0 (take (i + 1) hits))
@@ -43,7 +43,7 @@ lines_put told taken taken' text text' hits i game below numbered before now =
     ∙ adds-append taken text more ∙ ap (λ (t : Option (List ℕ)). adds t more) before ∙ sym (adds-append told (hit_lines 0 (take i hits)) more)
     ∙ ap (λ (l : List ℕ). adds told l) (sym (hit_lines-more hits i below))
 
--- what was taken of the lines so far and of one game's lines is a front part of the whole text
+-- What was taken of the lines so far and of one game's lines is a front part of the whole text.
 pub begun : (told taken taken' : Option (List ℕ)) (text : List ℕ) (hits : List (Option ℕ)) (i game : ℕ) → i < length hits → game ≡ i →
     adds taken text ≡ adds told (hit_lines 0 (take i hits)) →
     Grew taken' (adds taken (text ++ hit_lines game (get_or hits i None ∷ []))) → Grew taken' (adds told (find_text hits))
@@ -53,14 +53,14 @@ begun told taken taken' text hits i game below numbered before grew =
     lines_put told taken taken text (text ++ hit_lines game (get_or hits i None ∷ [])) hits i game below numbered before refl in
     Grew-trans taken' (adds told (hit_lines 0 (take (i + 1) hits))) (adds told (find_text hits)) (subst P e grew) (find_text-begins told hits (i + 1))
 
--- what was taken before the text that waits is a front part of the whole text
+-- What was taken before the text that waits is a front part of the whole text.
 pub waiting : (told taken : Option (List ℕ)) (text : List ℕ) (hits : List (Option ℕ)) (i : ℕ) →
     adds taken text ≡ adds told (hit_lines 0 (take i hits)) → Grew taken (adds told (find_text hits))
 waiting told taken text hits i before =
     let P : Option (List ℕ) → Type 0 = λ t. Grew taken t in
     Grew-trans taken (adds told (hit_lines 0 (take i hits))) (adds told (find_text hits)) (subst P before (Grew-adds taken text)) (find_text-begins told hits i)
 
--- the whole text, where all games' lines and the count are added
+-- The whole text, where all games' lines and the count are added.
 pub all_put : (told taken : Option (List ℕ)) (text whole : List ℕ) (hits : List (Option ℕ)) (i count games : ℕ) →
     length hits ≤ i → count ≡ count_by is_some hits → games ≡ length hits →
     adds taken text ≡ adds told (hit_lines 0 (take i hits)) → whole ≡ text ++ count_line count games →

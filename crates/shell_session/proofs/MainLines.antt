@@ -13,8 +13,8 @@ use Rattle.game_tree.proofs.LegalLemmas.{Step-stepped}
 use Rattle.shell_session.specs.declared.placed.Placed.{Placed}
 use Rattle.shell_session.specs.Placed.{FirstPly, placed}
 
--- what is left of a main line from a position on: it is legal, and it goes on as the game does; the board and side sought
--- stood at no ply before
+-- What is left of a main line from a position on: it is legal, and it goes on as the game does; the board and side sought
+-- stood at no ply before.
 pub record Replays (game : GameTree) (sought : Placed) (line : Line) (position : Setup) (ply : ℕ) : Type 0 where
   pub legal : IsLegalLine position line
   pub along : (k : ℕ) → fold stepped position (take k (moves_of line)) ≡ position_at game (ply + k)
@@ -33,13 +33,13 @@ Replays-start game sought line legal same = record {
   before = λ earlier under. absurd (omega arith);
 }
 
--- the position that was reached is that of the game
+-- The position that was reached is that of the game.
 pub Replays-here : (game : GameTree) (sought : Placed) (line : Line) (position : Setup) (ply : ℕ) → Replays game sought line position ply → position ≡ position_at game ply
 Replays-here game sought line position ply r =
     let here : ply + 0 ≡ ply = omega arith in
     r.along 0 ∙ ap (position_at game) here
 
--- one move more
+-- One move more.
 pub Replays-more : (game : GameTree) (sought : Placed) (line : List Played) (i : ℕ) (n : Played) (p q : Setup) → i < length line → n ≡ get_or line i n
     → Replays game sought (line_of (drop i line)) p i → placed p ≢ sought → Step p n.mv q → Replays game sought (line_of (drop (i + 1) line)) q (i + 1)
 Replays-more game sought line i n p q under item r other step =
@@ -60,14 +60,14 @@ Replays-more game sought line i n p q under item r other step =
       ];
     }
 
--- the ply that was reached has what is sought
+-- The ply that was reached has what is sought.
 pub Replays-found : (game : GameTree) (sought : Placed) (line : Line) (p : Setup) (ply : ℕ) → Replays game sought line p ply → placed p ≡ sought → FirstPly game sought (Some ply)
 Replays-found game sought line p ply r stands =
     let c = r.count in
     let within : ply ≤ plies_of game = omega (arith, c) in
     (within, (sym (ap placed (Replays-here game sought line p ply r)) ∙ stands, r.before))
 
--- no ply has it
+-- No ply has it.
 pub Replays-none : (game : GameTree) (sought : Placed) (p : Setup) (ply : ℕ) → Replays game sought ends p ply → placed p ≢ sought → FirstPly game sought None
 Replays-none game sought p ply r other k within =
     let c : ply + 0 ≡ plies_of game = r.count in

@@ -9,19 +9,19 @@ use Rattle.shell_session.specs.FindLine.{FindScript}
 use Rattle.shell_session.specs.HitText.{find_text}
 use Rattle.shell_session.specs.Session.{AreHits, IsFirstFaulty}
 
--- the script asks for this board and side, and these are the answers of all games
+-- The script asks for this board and side, and these are the answers of all games.
 pub record Found (index : List ℕ) (games script : Option (List ℕ)) (sought : Placed) (hits : List (Option ℕ)) : Type 0 where
   pub asked : IfSome script (λ s. FindScript s sought)
   pub found : IfSome games (λ g. AreHits sought index g hits)
 
--- the whole text was written
+-- The whole text was written.
 pub record WroteAll (index : List ℕ) (games script before after : Option (List ℕ)) : Type 0 where
   pub sought : Placed
   pub hits : List (Option ℕ)
   pub finds : Found index games script sought hits
   pub written : after ≡ adds before (find_text hits)
 
--- a front part of the text was written, which may be empty
+-- A front part of the text was written, which may be empty.
 pub record WroteFront (index : List ℕ) (games script before after : Option (List ℕ)) : Type 0 where
   pub sought : Placed
   pub hits : List (Option ℕ)
@@ -29,7 +29,7 @@ pub record WroteFront (index : List ℕ) (games script before after : Option (Li
   pub none_lost : Grew before after
   pub no_more : Grew after (adds before (find_text hits))
 
--- what each status says
+-- What each status says.
 abbrev pub EndsEarly : List ℕ → Option (List ℕ) → Option (List ℕ) → Option (List ℕ) → Option (List ℕ) → Status → Type 0
 EndsEarly index games script before after (Later later.Script) = IfSome script (λ s. (sought : Placed) → ¬ FindScript s sought) × (after ≡ before)
 EndsEarly index games script before after (BadRecord game fault) =

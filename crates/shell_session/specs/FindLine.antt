@@ -5,18 +5,18 @@ use Rattle.cell_core.specs.declared.man.Colour.TheVariants.{White, Black}
 use Rattle.chess_text.specs.Placement.{PlacementText}
 use Rattle.shell_session.specs.declared.placed.Placed.{Placed}
 
--- the letter of a side
+-- The letter of a side.
 abbrev pub side_letter : Colour → ℕ
 side_letter White = 119
 side_letter Black = 98
 
--- the words `find BOARD SIDE`, with one space between them
+-- The words `find BOARD SIDE`, with one space between them.
 pub record FindWords (line : List ℕ) (sought : Placed) : Type 0 where
   pub placement : List ℕ
   pub spelled : line ≡ codes "find " ++ placement ++ 32 ∷ side_letter sought.side ∷ []
   pub board : PlacementText placement sought.board
 
--- a script of at most 4,096 bytes that is this one line, with its line feed or without one
+-- A script of at most 4,096 bytes that is this one line, with its line feed or without one.
 pub record FindScript (script : List ℕ) (sought : Placed) : Type 0 where
   pub within : length script ≤ 4096
   pub line : List ℕ

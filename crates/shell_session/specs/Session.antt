@@ -14,11 +14,12 @@ use Rattle.game_codec.specs.Record.{IsRecord, IsSomeRecord}
 use Rattle.game_codec.specs.Fault.{IsRecordFault}
 use Rattle.shell_session.specs.FindLine.{FindScript}
 use Rattle.shell_session.specs.HitText.{find_text}
-use Rattle.shell_session.specs.IndexFile.{IsIndex, extent_at, game_count, record_in, records}
+use Rattle.base_files.specs.Extents.{record_in}
+use Rattle.shell_session.specs.IndexFile.{IsIndex, extent_at, game_count, records}
 use Rattle.shell_session.specs.Placed.{FirstPly}
 use Rattle.shell_session.specs.Words.{AreBase}
 
--- what a session is given: its words, the index file and the games file of the base, and the script
+-- What a session is given: its words, the index file and the games file of the base, and the script.
 pub record Given : Type 0 where
   pub words : List (List ℕ)
   pub index : List ℕ
@@ -28,35 +29,35 @@ pub record Given : Type 0 where
 abbrev pub given : List (List ℕ) → List ℕ → List ℕ → List ℕ → Given
 given words index games script = record { words = words; index = index; games = games; script = script }
 
--- a game's answer to a search: the first ply of its main line at which the board and side sought stand
+-- A game's answer to a search: the first ply of its main line at which the board and side sought stand.
 pub record Hit (sought : Placed) (bytes : List ℕ) (hit : Option ℕ) : Type 0 where
   pub tags : List Tag
   pub game : GameTree
   pub decoded : IsRecord bytes tags game
   pub first : FirstPly game sought hit
 
--- the answers of all games, in their order
+-- The answers of all games, in their order.
 abbrev pub AreHits : Placed → List ℕ → List ℕ → List (Option ℕ) → Type 0
 AreHits sought index games hits = AllZip (Hit sought) (records index games (game_count index)) hits
 
--- this game is the first whose bytes are no record, and this is their first fault
+-- This game is the first whose bytes are no record, and this is their first fault.
 pub record IsFirstFaulty (index games : List ℕ) (game : ℕ) (fault : RecordFault) : Type 0 where
   pub in_base : game < game_count index
   pub records_before : All IsSomeRecord (records index games game)
   pub faulty : IsRecordFault (record_in games (extent_at index game)) fault
 
--- the words name a base, and its index can be read
+-- The words name a base, and its index can be read.
 pub record Opens (given : Given) : Type 0 where
   pub name : List ℕ
   pub named : AreBase given.words name
   pub indexed : IsIndex given.index (length given.games)
 
--- the base opens, and the script asks for this board and side
+-- The base opens, and the script asks for this board and side.
 pub record Asks (given : Given) (sought : Placed) : Type 0 where
   pub opens : Opens given
   pub asked : FindScript given.script sought
 
--- the whole answer: the text of the hits
+-- The whole answer: the text of the hits.
 pub record Finds (given : Given) (text : List ℕ) : Type 0 where
   pub sought : Placed
   pub asks : Asks given sought
@@ -64,13 +65,13 @@ pub record Finds (given : Given) (text : List ℕ) : Type 0 where
   pub found : AreHits sought given.index given.games hits
   pub written : text ≡ find_text hits
 
--- the text is a front part of the whole answer, which may be empty
+-- The text is a front part of the whole answer, which may be empty.
 pub record BeginsAnswer (given : Given) (text : List ℕ) : Type 0 where
   pub whole : List ℕ
   pub finds : Finds given whole
   pub begins : IsPrefix text whole
 
--- what each status says of what was given, and of the text that was written. The words are looked at first, then the index, then the script, then the records
+-- What each status says of what was given, and of the text that was written. The words are looked at first, then the index, then the script, then the records.
 abbrev pub Answers : Given → Status → List ℕ → Type 0
 Answers given Done text = Finds given text
 Answers given (Later later.Words) text = ((name : List ℕ) → ¬ AreBase given.words name) × (text ≡ [])
@@ -82,11 +83,11 @@ Answers given WriteFault text = BeginsAnswer given text
 Answers given FilesFault text = text ≡ []
 Answers given Memory text = (text ≡ []) ⊎ BeginsAnswer given text
 
--- the base of the words was chosen once, as it is, and nothing else
+-- The base of the words was chosen once, as it is, and nothing else.
 abbrev pub ChoosesBase : List (List ℕ) → List Choice → List Choice → Type 0
 ChoosesBase words old new = (name : List ℕ) × AreBase words name × (new ≡ old ++ choice name false ∷ [])
 
--- which bases were chosen: none where the words name none, and none or the one where memory ran out
+-- Which bases were chosen: none where the words name none, and none or the one where memory ran out.
 abbrev pub Chooses : Status → List (List ℕ) → List Choice → List Choice → Type 0
 Chooses (Later later.Words) words old new = new ≡ old
 Chooses Memory words old new = (new ≡ old) ⊎ ChoosesBase words old new

@@ -5,9 +5,7 @@ ghost use Rattle.base_files.specs.Causes.{HasCause};
 ghost use Rattle.base_files.specs.Told.{Grew, adds};
 ghost use Rattle.shell_session.specs.HitText.{count_line, find_text, hit_line, hit_lines};
 
-use base_files::faults::DeviceError;
-use base_files::sink::Sink;
-use base_files::writing::write_all;
+use base_files::{DeviceError, Sink, write_all};
 use std::alloc::{AllocError, Global};
 
 /// How many bytes of text are put together before they are written.

@@ -1,8 +1,10 @@
 //! The index file `.si4`, as far as the games are found by it.
 
 ghost use Rattle.std.specs.Prelude.{◌≡◌, ◌↔◌, ◌≤◌, ◌<◌, ℕ, ◌+◌, ◌*◌, ◌^◌, length, IsTrue};
-ghost use Rattle.shell_session.specs.IndexFile.{HasEntries, IsIndex, IsPlaced, extent_at, game_count};
+ghost use Rattle.base_files.specs.Extents.{IsPlaced};
+ghost use Rattle.shell_session.specs.IndexFile.{HasEntries, IsIndex, extent_at, game_count};
 
+use base_files::Extent;
 use byteorder::{BigEndian, ByteOrder};
 
 /// The bytes of the header.
@@ -13,13 +15,6 @@ pub(crate) const ENTRY_LEN: usize = 47;
 
 /// The bytes of a block of the games file.
 pub(crate) const BLOCK_LEN: usize = 131_072;
-
-/// Where a record stands in the games file: its first byte and its number of bytes.
-#[derive(Clone, Copy, Debug, PartialEq, Eq)]
-pub struct Extent {
-    pub offset: u64,
-    pub len: u32,
-}
 
 /// The first eight bytes of an index.
 const MAGIC: &[u8; 8] = b"Scid.si\0";

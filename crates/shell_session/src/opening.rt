@@ -2,6 +2,7 @@
 
 ghost use Rattle.std.specs.Prelude.{◌≡◌, ◌≤◌, [], ◌∷◌, ◌++◌, ◌⊎◌, Bool, false, IfOk, IfErr, OnOk};
 ghost use Rattle.base_files.specs.Chosen.{choice};
+ghost use Rattle.base_files.specs.Seen.{SameContents};
 ghost use Rattle.base_files.specs.Counters.{Rose};
 ghost use Rattle.base_files.specs.Told.{Tells, TellsLength};
 ghost use Rattle.shell_session.specs.IndexFile.{IsIndex};
@@ -9,20 +10,19 @@ ghost use Rattle.shell_session.specs.Refusals.{OpeningRefused};
 
 use crate::index_file::is_index;
 use crate::status::{LaterWhat, Status};
-use base_files::files::Files;
-use base_files::part::Part;
+use base_files::{Files, Part};
 use std::alloc::Global;
 
 /// Chooses the base of this name as it is, and reads its index, each record of which then lies in its place.
 pub(crate) fn open<F: Files>(alloc: Global, files: &mut F, name: &str) -> Result<Vec<u8>, Status>
-    ensures indexed { IfOk result (λ index. IsIndex index.items (F.known files.new)) }
-    ensures index_told { IfOk result (λ index. Tells (F.index files.old) index.items) }
-    ensures len_told { OnOk result (TellsLength (F.games files.old) (F.known files.new)) }
-    ensures refused { IfErr result (OpeningRefused (F.index files.old) (F.games files.old)) }
-    ensures chosen { OnOk result (F.choices files.new ≡ F.choices files.old ++ choice name.now false ∷ []) }
-    ensures chosen_in_vain { IfErr result (λ status. (status ≡ Status.Memory) ⊎ (F.choices files.new ≡ F.choices files.old ++ choice name.now false ∷ [])) }
-    ensures once { (F.choices files.new ≡ F.choices files.old) ⊎ (F.choices files.new ≡ F.choices files.old ++ choice name.now false ∷ []) }
-    ensures contents { (F.index files.new ≡ F.index files.old) × (F.names files.new ≡ F.names files.old) × (F.games files.new ≡ F.games files.old) }
+    ensures indexed { IfOk result (λ index. IsIndex index.items (F.seen files.new).known) }
+    ensures index_told { IfOk result (λ index. Tells (F.seen files.old).index index.items) }
+    ensures len_told { OnOk result (TellsLength (F.seen files.old).games (F.seen files.new).known) }
+    ensures refused { IfErr result (OpeningRefused (F.seen files.old).index (F.seen files.old).games) }
+    ensures chosen { OnOk result ((F.seen files.new).choices ≡ (F.seen files.old).choices ++ choice name.now false ∷ []) }
+    ensures chosen_in_vain { IfErr result (λ status. (status ≡ Status.Memory) ⊎ ((F.seen files.new).choices ≡ (F.seen files.old).choices ++ choice name.now false ∷ [])) }
+    ensures once { ((F.seen files.new).choices ≡ (F.seen files.old).choices) ⊎ ((F.seen files.new).choices ≡ (F.seen files.old).choices ++ choice name.now false ∷ []) }
+    ensures contents { SameContents (F.seen files.old) (F.seen files.new) }
     ensures none_asked { F.asked files.new ≡ F.asked files.old }
     ensures counts { F.faults files.old ≤ F.faults files.new }
     ensures cause { IfErr result (λ status. status ≡ Status.FilesFault → Rose (F.faults files.old) (F.faults files.new)) }

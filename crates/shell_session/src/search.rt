@@ -2,17 +2,18 @@
 
 ghost use Rattle.std.specs.Prelude.{◌≡◌, ◌≤◌, ◌<◌, ◌+◌, ◌^◌, ℕ, [], ◌∷◌, ◌++◌, Option, length, IfOk, IfErr, IfSome, OnOk};
 ghost use Rattle.base_files.specs.Counters.{Rose};
-ghost use Rattle.shell_session.specs.IndexFile.{IsIndex, IsPlaced, extent_at, game_count, record_in, records_len};
+ghost use Rattle.base_files.specs.Extents.{IsPlaced, record_in};
+ghost use Rattle.shell_session.specs.IndexFile.{IsIndex, extent_at, game_count, records_len};
 ghost use Rattle.game_codec.specs.Fault.{IsRecordFault};
 ghost use Rattle.shell_session.specs.Refusals.{GameRefused, SearchRefused};
 ghost use Rattle.shell_session.specs.Session.{AreHits, Hit};
 ghost use Rattle.game_codec.specs.declared.fault.RecordFault.{RecordFault as Refused};
 
-use crate::index_file::{BLOCK_LEN, Extent, count_of, extent_of_game};
+use crate::index_file::{BLOCK_LEN, count_of, extent_of_game};
 use crate::main_line::first_ply;
 use crate::placed::Placed;
 use crate::status::Status;
-use base_files::files::Files;
+use base_files::{Extent, Files};
 use game_codec::{DecodeError, RecordFault, decode_game};
 use std::alloc::Global;
 
@@ -33,13 +34,12 @@ pub(crate) fn search<F: Files>(
     index: &[u8],
     sought: &Placed,
 ) -> Result<Vec<Option<u32>>, Status>
-    requires { IsIndex index.now (F.known files.old) }
-    ensures found { IfOk result (λ hits. IfSome (F.games files.old) (λ games. AreHits sought.now index.now games hits.items)) }
+    requires { IsIndex index.now (F.seen files.old).known }
+    ensures found { IfOk result (λ hits. IfSome (F.seen files.old).games (λ games. AreHits sought.now index.now games hits.items)) }
     ensures few { IfOk result (λ hits. length hits.items < 2 ^ 32) }
-    ensures refused { IfErr result (SearchRefused index.now (F.games files.old)) }
+    ensures refused { IfErr result (SearchRefused index.now (F.seen files.old).games) }
     ensures asks { F.asked files.new ≤ F.asked files.old + records_len index.now (game_count index.now) }
-    ensures contents { (F.index files.new ≡ F.index files.old) × (F.names files.new ≡ F.names files.old) × (F.games files.new ≡ F.games files.old) }
-    ensures none_chosen { F.choices files.new ≡ F.choices files.old }
+    ensures unchanged { F.seen files.new ≡ F.seen files.old }
     ensures counts { F.faults files.old ≤ F.faults files.new }
     ensures cause { IfErr result (λ status. status ≡ Status.FilesFault → Rose (F.faults files.old) (F.faults files.new)) }
 {
@@ -62,15 +62,14 @@ fn add_all<F: Files>(
     block: &mut [u8],
     hits: &mut Vec<Option<u32>>,
 ) -> Result<(), Status>
-    requires indexed { IsIndex index.now (F.known files.old) }
+    requires indexed { IsIndex index.now (F.seen files.old).known }
     requires room { length block.old ≡ 131072 }
     requires empty { hits.old.items ≡ [] }
-    ensures found { OnOk result (IfSome (F.games files.old) (λ games. AreHits sought.now index.now games hits.new.items)) }
+    ensures found { OnOk result (IfSome (F.seen files.old).games (λ games. AreHits sought.now index.now games hits.new.items)) }
     ensures few { OnOk result (length hits.new.items < 2 ^ 32) }
-    ensures refused { IfErr result (SearchRefused index.now (F.games files.old)) }
+    ensures refused { IfErr result (SearchRefused index.now (F.seen files.old).games) }
     ensures asks { F.asked files.new ≤ F.asked files.old + records_len index.now (game_count index.now) }
-    ensures contents { (F.index files.new ≡ F.index files.old) × (F.names files.new ≡ F.names files.old) × (F.games files.new ≡ F.games files.old) }
-    ensures none_chosen { F.choices files.new ≡ F.choices files.old }
+    ensures unchanged { F.seen files.new ≡ F.seen files.old }
     ensures counts { F.faults files.old ≤ F.faults files.new }
     ensures cause { IfErr result (λ status. status ≡ Status.FilesFault → Rose (F.faults files.old) (F.faults files.new)) }
 {
@@ -90,15 +89,13 @@ fn add_hit<F: Files>(
     block: &mut [u8],
     hits: &mut Vec<Option<u32>>,
 ) -> Result<(), Status>
-    requires indexed { IsIndex index.now (F.known files.old) }
+    requires indexed { IsIndex index.now (F.seen files.old).known }
     requires in_base { game < game_count index.now }
     requires room { length block.old ≡ 131072 }
-    ensures added { OnOk result ((hit : Option ℕ) × (hits.new.items ≡ hits.old.items ++ hit ∷ []) × IfSome (F.games files.old) (λ games. Hit sought.now (record_in games (extent_at index.now game)) hit)) }
-    ensures refused { IfErr result (GameRefused index.now (F.games files.old) game) }
+    ensures added { OnOk result ((hit : Option ℕ) × (hits.new.items ≡ hits.old.items ++ hit ∷ []) × IfSome (F.seen files.old).games (λ games. Hit sought.now (record_in games (extent_at index.now game)) hit)) }
+    ensures refused { IfErr result (GameRefused index.now (F.seen files.old).games game) }
     ensures asks { F.asked files.new ≤ F.asked files.old + (extent_at index.now game).len }
-    ensures contents { (F.index files.new ≡ F.index files.old) × (F.names files.new ≡ F.names files.old) × (F.games files.new ≡ F.games files.old) }
-    ensures none_chosen { F.choices files.new ≡ F.choices files.old }
-    ensures as_known { F.known files.new ≡ F.known files.old }
+    ensures unchanged { F.seen files.new ≡ F.seen files.old }
     ensures counts { F.faults files.old ≤ F.faults files.new }
     ensures cause { IfErr result (λ status. status ≡ Status.FilesFault → Rose (F.faults files.old) (F.faults files.new)) }
 {
@@ -118,14 +115,12 @@ fn game_hit<F: Files>(
     sought: &Placed,
     block: &mut [u8],
 ) -> Result<Option<u32>, GameFault>
-    requires placed { IsPlaced (F.known files.old) extent }
+    requires placed { IsPlaced (F.seen files.old).known extent }
     requires room { length block.old ≡ 131072 }
-    ensures found { IfOk result (λ hit. IfSome (F.games files.old) (λ games. Hit sought.now (record_in games extent) hit)) }
-    ensures faulty { (fault : Refused) → result ≡ Err (GameFault.Record fault) → IfSome (F.games files.old) (λ games. IsRecordFault (record_in games extent) fault) }
+    ensures found { IfOk result (λ hit. IfSome (F.seen files.old).games (λ games. Hit sought.now (record_in games extent) hit)) }
+    ensures faulty { (fault : Refused) → result ≡ Err (GameFault.Record fault) → IfSome (F.seen files.old).games (λ games. IsRecordFault (record_in games extent) fault) }
     ensures asks { F.asked files.new ≤ F.asked files.old + extent.len }
-    ensures contents { (F.index files.new ≡ F.index files.old) × (F.names files.new ≡ F.names files.old) × (F.games files.new ≡ F.games files.old) }
-    ensures none_chosen { F.choices files.new ≡ F.choices files.old }
-    ensures as_known { F.known files.new ≡ F.known files.old }
+    ensures unchanged { F.seen files.new ≡ F.seen files.old }
     ensures counts { F.faults files.old ≤ F.faults files.new }
     ensures cause { result ≡ Err GameFault.Files → Rose (F.faults files.old) (F.faults files.new) }
 {

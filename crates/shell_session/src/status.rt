@@ -4,7 +4,7 @@ ghost use Rattle.std.specs.Prelude.{◌≡◌};
 ghost use Rattle.shell_session.specs.Stops.{status_of};
 ghost use Rattle.shell_session.specs.ExitCodes.{exit_code_of};
 
-use base_files::faults::Stop;
+use base_files::Stop;
 use game_codec::RecordFault;
 
 /// How a session ended.

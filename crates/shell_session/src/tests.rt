@@ -2,10 +2,7 @@
 
 use crate::run::session;
 use crate::status::{LaterWhat, Status};
-use base_files::disk_files::DiskFiles;
-use base_files::mem_files::MemFiles;
-use base_files::mem_sink::MemSink;
-use base_files::mem_source::MemSource;
+use base_files::{DiskFiles, MemFiles, MemSink, MemSource};
 use game_codec::{RecordFault, RecordWhat};
 use move_codec::MoveFault;
 use std::alloc::{AllocError, Global};

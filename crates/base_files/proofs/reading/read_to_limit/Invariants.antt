@@ -2,7 +2,7 @@ use Rattle.std.proofs.Common.{◌≡◌, ◌≤◌, ◌+◌, vec_len, length}
 use Rattle.base_files.specs.Told.{before}
 use Rattle.base_files.proofs.reading.read_to_limit.Given as goal
 
--- what was read and what is left make the whole, within the limit and paid from the budget; no fault is forgotten
+-- What was read and what is left make the whole, within the limit and paid from the budget; no fault is forgotten.
 abbrev pub invariant-pieces : goal.invariant-pieces
 invariant-pieces g l = record {
   whole : g.S.Source.left l.fn.source ≡ before l.bytes.items (g.S.Source.left l.source);
@@ -12,6 +12,6 @@ invariant-pieces g l = record {
   faults : g.S.Source.faults l.fn.source ≤ g.S.Source.faults l.source;
 }
 
--- each piece that is not the last is paid from the budget
+-- Each piece that is not the last is paid from the budget.
 abbrev pub decreases-pieces : goal.decreases-pieces
 decreases-pieces g l = g.S.Source.budget l.source

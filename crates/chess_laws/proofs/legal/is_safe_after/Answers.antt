@@ -1,5 +1,4 @@
 -- After an allowed move the mover's one king stands where it is looked for.
-use Rattle.std.proofs.Common.{sym}
 use Rattle.chess_laws.proofs.MovedKings.{only-king-after}
 use Rattle.chess_laws.proofs.legal.is_safe_after.Goals as goal
 

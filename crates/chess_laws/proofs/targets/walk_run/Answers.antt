@@ -1,23 +1,24 @@
 -- What the walk finds is the square that was added, or lies behind it.
 use Rattle.std.proofs.Common.{◌∙◌, sym, arith, inl, inr, subst}
+use Rattle.chess_laws.specs.Step.{HasNoOwn}
 use Rattle.chess_laws.specs.Targets.{Has}
 use Rattle.chess_laws.proofs.Collecting.{run-next, run-at_edge, run-at_end, some≢none}
 use Rattle.chess_laws.proofs.targets.walk_run.Goals as goal
 
 pub returns-in_default-clause-runs : goal.returns-in_default-clause-runs
-returns-in_default-clause-runs c = λ b found.
+returns-in_default-clause-runs c = λ b found free.
     elim (c.loop-i.invariant.ahead b found) [
       | inl here ↦ here
-      | inr ahead ↦ absurd (run-at_edge c.args.board.now c.args.step.now c.loop-i._i c.loop-i.at b (omega arith) (sym c.target.ensures ∙ c.in_default.is) ahead)
+      | inr ahead ↦ absurd (run-at_edge c.args.p.now.board c.args.step.now c.loop-i._i c.loop-i.at b (omega arith) (sym c.target.ensures ∙ c.in_default.is) ahead)
     ]
 
 pub returns-then-is_some-clause-runs : goal.returns-then-is_some-clause-runs
-returns-then-is_some-clause-runs c = λ b found.
+returns-then-is_some-clause-runs c = λ b found free.
     elim (c.loop-i.invariant.ahead b found) [
-      | inl here ↦ c.with-set.ensures.kept b here
+      | inl here ↦ c.with_free.ensures.kept b here
       | inr ahead ↦
-          elim (run-next c.args.board.now c.args.step.now c.loop-i._i c.loop-i.at b c.in-Some.next (omega arith) (sym c.target.ensures ∙ c.in-Some.is) ahead) [
-            | inl same ↦ subst (λ s. Has c.with-set.result s) same c.with-set.ensures.added
+          elim (run-next c.args.p.now.board c.args.step.now c.loop-i._i c.loop-i.at b c.in-Some.next (omega arith) (sym c.target.ensures ∙ c.in-Some.is) ahead) [
+            | inl same ↦ subst (λ s. Has c.with_free.result s) same (c.with_free.ensures.added (subst (λ s. HasNoOwn c.args.p.now.board c.args.p.now.side s) (sym same) free))
             | inr further ↦ absurd (some≢none c.at.result (sym c.is_some.ensures ∙ c.if-is_some.true) (c.at.ensures.man ∙ further.0))
           ]
     ]
@@ -29,7 +30,7 @@ loop-i-preserved c = record {
       elim (c.loop-i.invariant.ahead b found) [
         | inl here ↦ inl (c.with-set.ensures.kept b here)
         | inr ahead ↦
-            elim (run-next c.args.board.now c.args.step.now c.loop-i._i c.loop-i.at b c.in-Some.next (omega arith) (sym c.target.ensures ∙ c.in-Some.is) ahead) [
+            elim (run-next c.args.p.now.board c.args.step.now c.loop-i._i c.loop-i.at b c.in-Some.next (omega arith) (sym c.target.ensures ∙ c.in-Some.is) ahead) [
               | inl same ↦ inl (subst (λ s. Has c.with-set.result s) same c.with-set.ensures.added)
               | inr further ↦ inr further.1
             ]
@@ -37,8 +38,8 @@ loop-i-preserved c = record {
 }
 
 pub returns-clause-runs : goal.returns-clause-runs
-returns-clause-runs c = λ b found.
+returns-clause-runs c = λ b found free.
     elim (c.loop-i.invariant.ahead b found) [
       | inl here ↦ here
-      | inr ahead ↦ absurd (run-at_end c.args.board.now c.args.step.now c.loop-i._i c.loop-i.at b (omega arith) ahead)
+      | inr ahead ↦ absurd (run-at_end c.args.p.now.board c.args.step.now c.loop-i._i c.loop-i.at b (omega arith) ahead)
     ]

@@ -7,5 +7,5 @@ use Rattle.chess_laws.proofs.targets.walk_run.Given as goal
 abbrev pub invariant-loop-i : goal.invariant-loop-i
 invariant-loop-i l = record {
   kept : (b : ℕ) → Has l.fn.set b → Has l.set b;
-  ahead : (b : ℕ) → run l.board l.step 8 b l.fn.from ≡ true → Has l.set b ⊎ (run l.board l.step (8 - l._i) b l.at ≡ true);
+  ahead : (b : ℕ) → run l.p.board l.step 8 b l.fn.from ≡ true → Has l.set b ⊎ (run l.p.board l.step (8 - l._i) b l.at ≡ true);
 }

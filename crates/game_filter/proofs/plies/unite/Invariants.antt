@@ -3,7 +3,7 @@ use Rattle.game_filter.specs.Filter.{in_either, count_in}
 use Rattle.game_filter.proofs.Passes.{joined_below}
 use Rattle.game_filter.proofs.plies.unite.Given as goal
 
--- the games below i are joined, and those of them that are in are counted
+-- The games below i are joined, and those of them that are in are counted.
 abbrev pub invariant-loop-i : goal.invariant-loop-i
 invariant-loop-i l = record {
   changed : l.plies ≡ joined_below in_either l.i l.fn.plies l.others;

@@ -2,4 +2,4 @@ use Rattle.game_tree.proofs.SettleLemmas.{settled-IsBounded}
 use Rattle.game_tree.proofs.settling.settle.Goals as goal
 
 pub returns-clause-bounds : goal.returns-clause-bounds
-returns-clause-bounds c = rw c.in_ok-settle_event_date.ensures.ok (settled-IsBounded c.args.head.now c.requires)
+returns-clause-bounds c = rw c.in_ok-settle_head.ensures.ok (settled-IsBounded c.args.head.now c.requires)

@@ -24,7 +24,7 @@ loop-hit-preserved g c = record {
 pub returns-in_err-put_count-clause-no_more : goal.returns-in_err-put_count-clause-no_more
 returns-in_err-put_count-clause-no_more g c = waiting _ _ _ c.args.hits.now c.loop-hit.hit-index c.loop-hit.invariant.lines
 
--- what was taken and the last piece are the whole text
+-- What was taken and the last piece are the whole text.
 whole_text : (g : given.Over) (c : goal.After-drop-text-2 g) → adds (g.K.Sink.taken c.loop-hit.out) c.as_bytes.result.now ≡ adds (g.K.Sink.taken c.args.out.now) (find_text c.args.hits.now)
 whole_text g c =
     let end : length c.args.hits.now ≤ c.loop-hit.hit-index = c.loop-hit-test.false in

@@ -3,7 +3,7 @@ use Rattle.base_files.specs.Told.{adds, Grew}
 use Rattle.shell_session.specs.HitText.{hit_lines}
 use Rattle.shell_session.proofs.hit_text.write_hits.Given as goal
 
--- what was taken and the text that waits are the lines of the games so far
+-- What was taken and the text that waits are the lines of the games so far.
 abbrev pub invariant-loop-hit : goal.invariant-loop-hit
 invariant-loop-hit g l = record {
   lines : adds (g.K.Sink.taken l.out) (string_bytes l.text) ≡ adds (g.K.Sink.taken l.fn.out) (hit_lines 0 (take l.hit-index l.hits));

@@ -1,5 +1,5 @@
 -- Where nothing is told of the contents, what the trait says of them holds of itself.
-use Rattle.std.proofs.Common.{refl, rules, ℕ, List, None, Result, Ok, Err, IfOk}
+use Rattle.std.proofs.Common.{rules, ℕ, List, None, Result, Ok, Err, IfOk}
 use Rattle.std.specs.Prelude.{⊤}
 use Rattle.base_files.specs.Told.{Tells}
 use Rattle.base_files.specs.Parts.{of_part}
@@ -19,26 +19,11 @@ untold_load : (part : Part) {T E : Type 0} (bytes_of : T → List ℕ) (r : Resu
 untold_load part bytes_of (Ok v) = untold_part part (bytes_of v)
 untold_load part bytes_of (Err e) = tt
 
-pub choose-tells : goal.choose-tells
-choose-tells g c = record {
-  chosen = search rules;
-  chosen_in_vain = search rules;
-  not_chosen = search rules;
-  contents = (refl, refl, refl);
-  none_asked = search rules;
-  as_known = search rules;
-  counts = search rules;
-  cause = search rules;
-  memory = search rules;
-}
-
 pub load-tells : goal.load-tells
 load-tells g c = record {
   loaded = untold_load c.args.part (λ v. v.items) c.result;
-  contents = (refl, refl, refl);
-  none_chosen = search rules;
+  unchanged = search rules;
   none_asked = search rules;
-  as_known = search rules;
   counts = search rules;
   cause = search rules;
   memory = search rules;
@@ -48,9 +33,7 @@ pub games_len-tells : goal.games_len-tells
 games_len-tells g c = record {
   length = always_ok c.result;
   now_known = search rules;
-  as_known = search rules;
-  contents = (refl, refl, refl);
-  none_chosen = search rules;
+  unchanged = search rules;
   none_asked = search rules;
   counts = search rules;
   cause = search rules;
@@ -59,10 +42,8 @@ games_len-tells g c = record {
 pub read_games-tells : goal.read_games-tells
 read_games-tells g c = record {
   bytes = always_ok c.result;
+  unchanged = search rules;
   asks = search rules;
-  contents = (refl, refl, refl);
-  none_chosen = search rules;
-  as_known = search rules;
   counts = search rules;
   cause = search rules;
 }

@@ -1,5 +1,5 @@
 -- The setups and what is kept beside them are compared.
-use Rattle.std.proofs.Common.{rules, ◌≡◌, Bool, true, false, ◌&&◌, refl, sym, ◌∙◌}
+use Rattle.std.proofs.Common.{rules, ◌≡◌, Bool, true, false, ◌&&◌, refl}
 use Rattle.chess_laws.proofs.position.PositionPartialEq.eq.Goals as goal
 
 turn : (x s w b : Bool) → (((x && s) && w) && b) ≡ (s && (w && (b && x)))

@@ -1,0 +1,10 @@
+//! Where records go in the games file: behind its end, and never over the end of a block.
+#![tactic(auto)]
+
+mod fault;
+mod store;
+#[cfg(test)]
+mod tests;
+
+pub use fault::StoreError;
+pub use store::Store;

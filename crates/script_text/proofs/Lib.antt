@@ -1,0 +1,5 @@
+pub mod WordLaws
+pub mod NumberLaws
+pub mod ItemLaws
+pub mod LengthLaws
+pub mod SpellingLaws

@@ -1,0 +1,46 @@
+-- The arguments of a command: which is the first that is missing, not closed or not of its form (this project's own).
+use Rattle.std.specs.Prelude.{ℕ, ◌+◌, nat_le, if◌then◌else◌, List, length, slice_get, Option, option_and_then, ok_or, Result, Ok, Err}
+use Rattle.script_text.specs.declared.fault.ScriptFault.{ScriptFault}
+use Rattle.script_text.specs.declared.fault.ScriptFault.TheVariants.{Argument, Extra}
+use Rattle.script_text.specs.Words.{Word}
+
+infixl 10 ◌>>=◌
+-- The second step, unless the first has a fault.
+abbrev pub ◌>>=◌ : {A B : Type 0} → Result A ScriptFault → (A → Result B ScriptFault) → Result B ScriptFault
+(Ok x) >>= next = next x
+(Err fault) >>= next = Err fault
+
+-- The text of word n; none where the word is missing or not closed.
+abbrev pub text_at : List Word → ℕ → Option (List ℕ)
+text_at words n = option_and_then (λ word. word) (slice_get words n)
+
+-- What argument n stands for, by its form.
+abbrev pub argument : {A : Type 0} → ℕ → (List ℕ → Option A) → List Word → Result A ScriptFault
+argument n form words = ok_or (option_and_then form (text_at words n)) (Argument n)
+
+-- No word, closed or not, follows n arguments.
+abbrev pub no_more : ℕ → List Word → Result (Unit {0}) ScriptFault
+no_more n words = if nat_le (length words) (n + 1) then Ok tt else Err Extra
+
+-- One argument, two or three, and no more.
+unfoldable pub one : {A : Type 0} → (List ℕ → Option A) → List Word → Result A ScriptFault
+one first words = do
+  x ← argument 1 first words
+  done ← no_more 1 words
+  Ok x
+
+unfoldable pub two : {A B : Type 0} → (List ℕ → Option A) → (List ℕ → Option B) → List Word → Result (A × B) ScriptFault
+two first second words = do
+  x ← argument 1 first words
+  y ← argument 2 second words
+  done ← no_more 2 words
+  Ok (x, y)
+
+unfoldable pub three : {A B C : Type 0} → (List ℕ → Option A) → (List ℕ → Option B) → (List ℕ → Option C) → List Word
+    → Result (A × B × C) ScriptFault
+three first second third words = do
+  x ← argument 1 first words
+  y ← argument 2 second words
+  z ← argument 3 third words
+  done ← no_more 3 words
+  Ok (x, y, z)

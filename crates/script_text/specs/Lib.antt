@@ -1,0 +1,11 @@
+pub mod Words
+pub mod Cutting
+pub mod Answer
+pub mod Forms
+pub mod Numbers
+pub mod Arguments
+pub mod Items
+pub mod HeadItems
+pub mod MatItems
+pub mod Reading
+pub mod Spelling

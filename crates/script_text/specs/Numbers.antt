@@ -1,0 +1,47 @@
+-- Numbers and spans of numbers (this project's own).
+use Rattle.std.specs.Prelude.{ℕ, ◌==◌, nat_le, if◌then◌else◌, List, [], ◌∷◌, Option, Some, None, option_map, option_and_then}
+use Rattle.game_tree.specs.Decimal.{decimal_read}
+use Rattle.game_tree.specs.Eco.{eco_read}
+use Rattle.sig_index.specs.declared.span.Span.{Span}
+
+-- A number: decimal digits, below 2^64.
+abbrev pub number : List ℕ → Option ℕ
+number word = decimal_read 18446744073709551615 word
+
+-- GAMES of demo: a number of at most 100,000.
+abbrev pub demo_games : List ℕ → Option ℕ
+demo_games word = decimal_read 100000 word
+
+-- What stands before the first such byte, and what stands behind it.
+abbrev pub with_byte : ℕ → List ℕ × List ℕ → List ℕ × List ℕ
+with_byte byte parts = (byte ∷ parts.0, parts.1)
+
+abbrev pub split_once : ℕ → List ℕ → Option (List ℕ × List ℕ)
+split_once at [] = None
+split_once at (byte ∷ text) = if byte == at then Some ([], text) else option_map (with_byte byte) (split_once at text)
+
+-- The two ends of LO..HI: the first dot has another right behind it.
+abbrev pub behind_dot : List ℕ → List ℕ → Option (List ℕ × List ℕ)
+behind_dot lo [] = None
+behind_dot lo (byte ∷ hi) = if byte == 46 then Some (lo, hi) else None
+
+unfoldable pub ends : List ℕ → Option (List ℕ × List ℕ)
+ends text = option_and_then (λ parts. behind_dot parts.0 parts.1) (split_once 46 text)
+
+-- The span between two ends that read as numbers, where the lower one is not above the upper one.
+abbrev pub between : Option ℕ → Option ℕ → Option Span
+between None hi = None
+between (Some lo) None = None
+between (Some lo) (Some hi) = if nat_le lo hi then Some (record { lo = lo; hi = hi }) else None
+
+-- LO..HI with ends that are read so.
+abbrev pub span : (List ℕ → Option ℕ) → List ℕ → Option Span
+span end text = option_and_then (λ parts. between (end parts.0) (end parts.1)) (ends text)
+
+-- LO..HI with numbers of at most so much.
+unfoldable pub span_within : ℕ → List ℕ → Option Span
+span_within limit text = span (decimal_read limit) text
+
+-- LO..HI with opening codes.
+unfoldable pub eco_span : List ℕ → Option Span
+eco_span text = span eco_read text

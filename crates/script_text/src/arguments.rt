@@ -1,0 +1,132 @@
+//! The arguments of a command.
+ghost use Rattle.std.specs.Prelude.{◌≡◌, ◌≤◌, None, Some, IfOk, IfErr, MatchResult};
+ghost use Rattle.std.specs.Option.{option_map};
+ghost use Rattle.cell_core.specs.Text.{IsZeroFree};
+ghost use Rattle.chess_text.specs.Filling.{board_named};
+ghost use Rattle.script_text.specs.Forms.{side, switch, mark_bit, filter_name, body_end};
+ghost use Rattle.script_text.specs.Numbers.{number, demo_games};
+ghost use Rattle.script_text.specs.Arguments.{text_at, no_more, one, two, three};
+ghost use Rattle.script_text.specs.declared.fault.ScriptFault.TheVariants.{Argument};
+
+use crate::fault::ScriptFault;
+use crate::forms::{board, body_end, filter_name, mark_bit, side, switch};
+use crate::numbers::{demo_games, number};
+use crate::words::Word;
+use cell_core::{Board, Colour};
+
+/// The text of argument `n`; the fault where the word is missing or not closed.
+pub(crate) fn text_at(words: &[Word], n: u32) -> Result<&[u8], ScriptFault>
+    ensures { MatchResult result (λ text. text_at words.now n ≡ Some text.now)
+        (λ fault. (text_at words.now n ≡ None) × (fault ≡ Argument n)) }
+{
+    let word = words.get(n as usize).ok_or(ScriptFault::Argument(n))?;
+    word.text().ok_or(ScriptFault::Argument(n))
+}
+
+/// The fault where a word, closed or not, follows `n` arguments.
+pub(crate) fn no_more(words: &[Word], n: u32) -> Result<(), ScriptFault>
+    requires { n ≤ 9 }
+    ensures { result ≡ no_more n words.now }
+{
+    if words.len() <= n as usize + 1 {
+        Ok(())
+    } else {
+        Err(ScriptFault::Extra)
+    }
+}
+
+/// No argument.
+pub(crate) fn none(words: &[Word]) -> Result<(), ScriptFault>
+    ensures { result ≡ no_more 0 words.now }
+{
+    no_more(words, 0)
+}
+
+/// BOARD SIDE
+#[tactic(auto, unfolding(crate::specs::Arguments::two))]
+pub(crate) fn board_and_side(words: &[Word]) -> Result<(Board, Colour), ScriptFault>
+    ensures { result ≡ two board_named side words.now }
+{
+    let board = board(text_at(words, 1)?).ok_or(ScriptFault::Argument(1))?;
+    let side = side(text_at(words, 2)?).ok_or(ScriptFault::Argument(2))?;
+    no_more(words, 2)?;
+    Ok((board, side))
+}
+
+/// One number.
+#[tactic(auto, unfolding(crate::specs::Arguments::one))]
+pub(crate) fn one_number(words: &[Word]) -> Result<u64, ScriptFault>
+    ensures { result ≡ one number words.now }
+{
+    let number = number(text_at(words, 1)?).ok_or(ScriptFault::Argument(1))?;
+    no_more(words, 1)?;
+    Ok(number)
+}
+
+/// Two numbers.
+#[tactic(auto, unfolding(crate::specs::Arguments::two))]
+pub(crate) fn two_numbers(words: &[Word]) -> Result<(u64, u64), ScriptFault>
+    ensures { result ≡ two number number words.now }
+{
+    let first = number(text_at(words, 1)?).ok_or(ScriptFault::Argument(1))?;
+    let second = number(text_at(words, 2)?).ok_or(ScriptFault::Argument(2))?;
+    no_more(words, 2)?;
+    Ok((first, second))
+}
+
+/// NAME of a filter.
+#[tactic(auto, unfolding(crate::specs::Arguments::one))]
+pub(crate) fn one_name(words: &[Word]) -> Result<&[u8], ScriptFault>
+    ensures named { MatchResult result (λ name. one filter_name words.now ≡ Ok name.now) (λ fault. one filter_name words.now ≡ Err fault) }
+    ensures free { IfOk result (λ name. IsZeroFree name.now) }
+{
+    let name = filter_name(text_at(words, 1)?).ok_or(ScriptFault::Argument(1))?;
+    no_more(words, 1)?;
+    Ok(name)
+}
+
+/// `<<WORD`
+#[tactic(auto, unfolding(crate::specs::Arguments::one))]
+pub(crate) fn one_body(words: &[Word]) -> Result<&[u8], ScriptFault>
+    ensures ends { MatchResult result (λ end. one body_end words.now ≡ Ok end.now) (λ fault. one body_end words.now ≡ Err fault) }
+    ensures free { IfOk result (λ end. IsZeroFree end.now) }
+{
+    let end = body_end(text_at(words, 1)?).ok_or(ScriptFault::Argument(1))?;
+    no_more(words, 1)?;
+    Ok(end)
+}
+
+/// G `<<WORD`
+#[tactic(auto, unfolding(crate::specs::Arguments::two))]
+pub(crate) fn number_and_body(words: &[Word]) -> Result<(u64, &[u8]), ScriptFault>
+    ensures ends { MatchResult result (λ given. two number body_end words.now ≡ Ok (given.0, given.1.now)) (λ fault. two number body_end words.now ≡ Err fault) }
+    ensures free { IfOk result (λ given. IsZeroFree given.1.now) }
+{
+    let number = number(text_at(words, 1)?).ok_or(ScriptFault::Argument(1))?;
+    let end = body_end(text_at(words, 2)?).ok_or(ScriptFault::Argument(2))?;
+    no_more(words, 2)?;
+    Ok((number, end))
+}
+
+/// G LETTER `on` or `off`
+#[tactic(auto, unfolding(crate::specs::Arguments::three))]
+pub(crate) fn mark_arguments(words: &[Word]) -> Result<(u64, u8, bool), ScriptFault>
+    ensures { result ≡ three number mark_bit switch words.now }
+{
+    let number = number(text_at(words, 1)?).ok_or(ScriptFault::Argument(1))?;
+    let bit = mark_bit(text_at(words, 2)?).ok_or(ScriptFault::Argument(2))?;
+    let on = switch(text_at(words, 3)?).ok_or(ScriptFault::Argument(3))?;
+    no_more(words, 3)?;
+    Ok((number, bit, on))
+}
+
+/// SEED GAMES
+#[tactic(auto, unfolding(crate::specs::Arguments::two))]
+pub(crate) fn demo_arguments(words: &[Word]) -> Result<(u64, u32), ScriptFault>
+    ensures { result ≡ two number demo_games words.now }
+{
+    let seed = number(text_at(words, 1)?).ok_or(ScriptFault::Argument(1))?;
+    let games = demo_games(text_at(words, 2)?).ok_or(ScriptFault::Argument(2))?;
+    no_more(words, 2)?;
+    Ok((seed, games))
+}

@@ -1,0 +1,22 @@
+//! The lines of a script as commands: words, quoted parts, the forms of arguments, and the first fault of a line.
+#![tactic(auto)]
+
+mod arguments;
+mod command;
+mod fault;
+mod forms;
+mod head_items;
+mod items;
+mod mat_items;
+mod numbers;
+mod reading;
+mod spelling;
+mod words;
+
+pub use command::Command;
+pub use fault::{CommandError, ScriptFault};
+pub use reading::read_command;
+pub use spelling::quoted_words_are_read;
+
+#[cfg(test)]
+mod tests;

@@ -1,0 +1,251 @@
+//! Lines are read as commands.
+ghost use Rattle.std.specs.Prelude.{◌≡◌, ◌≤◌, ◌<◌, length, IfOk, IfErr, Ok};
+ghost use Rattle.cell_core.specs.Text.{IsZeroFree};
+ghost use Rattle.script_text.specs.Words.{Word, words_of};
+ghost use Rattle.script_text.specs.Answer.{Answers};
+ghost use Rattle.script_text.specs.Reading.{search, search_position, searching, filtering, saving_filters, showing, editing, ending, command_of, shorn, is_remark, reading};
+ghost use Rattle.script_text.specs.declared.fault.CommandError.TheVariants.{Memory};
+
+use crate::arguments::{
+    board_and_side, demo_arguments, mark_arguments, no_more, number_and_body, one_body, one_name,
+    one_number, text_at, two_numbers,
+};
+use crate::command::Command;
+use crate::fault::{CommandError, ScriptFault};
+use crate::forms::{SearchKind, board, mode, op, search_kind, side};
+use crate::items::{head_items, mat_items};
+use crate::words::{Word, cut};
+use cell_core::Text;
+use game_filter::Op;
+use sig_index::PosQuery;
+use std::alloc::Global;
+
+// A text of these bytes.
+fn text(alloc: Global, bytes: &[u8]) -> Result<Text, CommandError>
+    requires { IsZeroFree bytes.now }
+    ensures text { IfOk result (λ text. text ≡ bytes.now) }
+    ensures memory { IfErr result (λ error. error ≡ Memory) }
+{
+    Ok(Text::from_zero_free(Vec::from_slice(alloc, bytes)?))
+}
+
+// The arguments of a search of positions.
+#[tactic(auto, unfolding(crate::specs::Reading::search_position))]
+fn search_position(operation: Op, words: &[Word]) -> Result<Command, ScriptFault>
+    ensures { result ≡ search_position operation words.now }
+{
+    let mode = mode(text_at(words, 3)?).ok_or(ScriptFault::Argument(3))?;
+    let board = board(text_at(words, 4)?).ok_or(ScriptFault::Argument(4))?;
+    let side = side(text_at(words, 5)?).ok_or(ScriptFault::Argument(5))?;
+    no_more(words, 5)?;
+    Ok(Command::SearchPosition(operation, PosQuery { mode, board, side }))
+}
+
+// The arguments of a search.
+#[tactic(auto, unfolding(crate::specs::Reading::search))]
+fn search(alloc: Global, words: &[Word]) -> Result<Command, CommandError>
+    requires { length words.now < 4294967290 }
+    ensures { Answers result (search words.now) }
+{
+    let operation = op(text_at(words, 1)?).ok_or(ScriptFault::Argument(1))?;
+    let kind = search_kind(text_at(words, 2)?).ok_or(ScriptFault::Argument(2))?;
+    match kind {
+        SearchKind::Position => Ok(search_position(operation, words)?),
+        SearchKind::Material => Ok(Command::SearchMaterial(operation, mat_items(words)?)),
+        SearchKind::Header => Ok(Command::SearchHeader(operation, head_items(alloc, words)?)),
+    }
+}
+
+// Commands that look for positions.
+#[tactic(auto, unfolding(crate::specs::Reading::searching))]
+fn searching(alloc: Global, name: &[u8], words: &[Word]) -> Result<Command, CommandError>
+    requires { length words.now < 4294967290 }
+    ensures { Answers result (searching name.now words.now) }
+{
+    if name == b"find".as_slice() {
+        let (board, side) = board_and_side(words)?;
+        return Ok(Command::Find(board, side));
+    }
+    if name == b"search".as_slice() {
+        return search(alloc, words);
+    }
+    if name == b"tree".as_slice() {
+        let (board, side) = board_and_side(words)?;
+        return Ok(Command::Tree(board, side));
+    }
+    filtering(alloc, name, words)
+}
+
+// Commands that change the filter by itself.
+#[tactic(auto, unfolding(crate::specs::Reading::filtering))]
+fn filtering(alloc: Global, name: &[u8], words: &[Word]) -> Result<Command, CommandError>
+    ensures { Answers result (filtering name.now words.now) }
+{
+    if name == b"reset".as_slice() {
+        no_more(words, 0)?;
+        return Ok(Command::Reset);
+    }
+    if name == b"clear".as_slice() {
+        no_more(words, 0)?;
+        return Ok(Command::Clear);
+    }
+    if name == b"negate".as_slice() {
+        no_more(words, 0)?;
+        return Ok(Command::Negate);
+    }
+    if name == b"restrict".as_slice() {
+        let (first, last) = two_numbers(words)?;
+        return Ok(Command::Restrict(first, last));
+    }
+    saving_filters(alloc, name, words)
+}
+
+// Commands on saved filters.
+#[tactic(auto, unfolding(crate::specs::Reading::saving_filters))]
+fn saving_filters(alloc: Global, name: &[u8], words: &[Word]) -> Result<Command, CommandError>
+    ensures { Answers result (saving_filters name.now words.now) }
+{
+    if name == b"keep".as_slice() {
+        return Ok(Command::Keep(text(alloc, one_name(words)?)?));
+    }
+    if name == b"use".as_slice() {
+        return Ok(Command::Take(text(alloc, one_name(words)?)?));
+    }
+    if name == b"and".as_slice() {
+        return Ok(Command::And(text(alloc, one_name(words)?)?));
+    }
+    if name == b"or".as_slice() {
+        return Ok(Command::Or(text(alloc, one_name(words)?)?));
+    }
+    if name == b"drop".as_slice() {
+        return Ok(Command::Drop(text(alloc, one_name(words)?)?));
+    }
+    showing(alloc, name, words)
+}
+
+// Commands that show games and change nothing.
+#[tactic(auto, unfolding(crate::specs::Reading::showing))]
+fn showing(alloc: Global, name: &[u8], words: &[Word]) -> Result<Command, CommandError>
+    ensures { Answers result (showing name.now words.now) }
+{
+    if name == b"hits".as_slice() {
+        no_more(words, 0)?;
+        return Ok(Command::Hits);
+    }
+    if name == b"list".as_slice() {
+        no_more(words, 0)?;
+        return Ok(Command::List);
+    }
+    if name == b"show".as_slice() {
+        return Ok(Command::Show(one_number(words)?));
+    }
+    if name == b"export".as_slice() {
+        no_more(words, 0)?;
+        return Ok(Command::Export);
+    }
+    if name == b"info".as_slice() {
+        no_more(words, 0)?;
+        return Ok(Command::Info);
+    }
+    editing(alloc, name, words)
+}
+
+// Commands that change games.
+#[tactic(auto, unfolding(crate::specs::Reading::editing))]
+fn editing(alloc: Global, name: &[u8], words: &[Word]) -> Result<Command, CommandError>
+    ensures { Answers result (editing name.now words.now) }
+{
+    if name == b"import".as_slice() {
+        return Ok(Command::Import(text(alloc, one_body(words)?)?));
+    }
+    if name == b"replace".as_slice() {
+        let (game, end) = number_and_body(words)?;
+        return Ok(Command::Replace(game, text(alloc, end)?));
+    }
+    if name == b"delete".as_slice() {
+        return Ok(Command::Delete(one_number(words)?));
+    }
+    if name == b"undelete".as_slice() {
+        return Ok(Command::Undelete(one_number(words)?));
+    }
+    if name == b"mark".as_slice() {
+        let (game, bit, on) = mark_arguments(words)?;
+        return Ok(Command::Mark(game, bit, on));
+    }
+    Ok(ending(name, words)?)
+}
+
+// Commands for the base as a whole, and the end.
+#[tactic(auto, unfolding(crate::specs::Reading::ending))]
+fn ending(name: &[u8], words: &[Word]) -> Result<Command, ScriptFault>
+    ensures { result ≡ ending name.now words.now }
+{
+    if name == b"save".as_slice() {
+        no_more(words, 0)?;
+        return Ok(Command::Save);
+    }
+    if name == b"demo".as_slice() {
+        let (seed, games) = demo_arguments(words)?;
+        return Ok(Command::Demo(seed, games));
+    }
+    if name == b"quit".as_slice() {
+        no_more(words, 0)?;
+        return Ok(Command::Quit);
+    }
+    Err(ScriptFault::Unknown)
+}
+
+// The command of the words of a line.
+fn command_of(alloc: Global, words: &[Word]) -> Result<Command, CommandError>
+    requires { length words.now < 4294967290 }
+    ensures { Answers result (command_of words.now) }
+{
+    let Some(first) = words.first() else {
+        return Ok(Command::Nothing);
+    };
+    match first.text() {
+        Some(name) => searching(alloc, name, words),
+        None => Err(CommandError::Bad(ScriptFault::Unknown)),
+    }
+}
+
+// The line without its last carriage return.
+#[tactic(auto, unfolding(crate::specs::Reading::shorn))]
+fn shorn(line: &[u8]) -> &[u8]
+    ensures { result.now ≡ shorn line.now }
+{
+    match line {
+        [rest @ .., b'\r'] => rest,
+        _ => line,
+    }
+}
+
+// Whether the line begins with `#`.
+fn is_remark(line: &[u8]) -> bool
+    ensures { result ≡ is_remark line.now }
+{
+    match line {
+        [b'#', ..] => true,
+        _ => false,
+    }
+}
+
+/// The command that a line of a script says. The line stands without its line feed.
+///
+/// # Errors
+///
+/// `Bad` with the first fault of the line, and `Memory`.
+#[tactic(auto, unfolding(crate::specs::Reading::reading), using(crate::proofs::LengthLaws::words_short))]
+pub fn read_command(alloc: Global, line: &[u8]) -> Result<Command, CommandError>
+    ensures exact { Answers result (reading line.now) }
+{
+    if is_remark(line) {
+        return Ok(Command::Nothing);
+    }
+    let line = shorn(line);
+    if line.len() > 65_536 {
+        return Err(CommandError::Bad(ScriptFault::TooLong));
+    }
+    let words = cut(alloc, line)?;
+    command_of(alloc, words.as_slice())
+}
