@@ -38,15 +38,15 @@ Scans-Fit start bytes tokens halt scans = scans-fit _ [] bytes tokens halt refl 
 
 some-nag : (n : ℕ) (last : Option Played) → IsSome last → IsSome (with_nag_on n last)
 some-nag n None is = is
-some-nag n (Some p) is = tt
+some-nag n (Some p) is = refl
 
 some-comment : (t lead : Option (List ℕ)) (done : List Played) (last : Option Played) → IsSome last → IsSome (with_comment_on t lead done last).last
 some-comment t lead done None is = is
-some-comment t lead done (Some p) is = tt
+some-comment t lead done (Some p) is = refl
 
 some-variation : (v : Variation) (last : Option Played) → IsSome last → IsSome (with_variation_on v last)
 some-variation v None is = is
-some-variation v (Some p) is = tt
+some-variation v (Some p) is = refl
 
 -- The tree has moves where the items that are left need them.
 pub record Fits (left : List Token) (b : Building) : Type 0 where
@@ -82,13 +82,13 @@ closed-fits has (h ∷ outer) current (l ∷ lines) left round fit = record {
 
 pub Fits-more : (token : Token) (left : List Token) (bytes : List ℕ) (b : Building) (used : ℕ) (after : Building) → Adds token bytes b used after → Fits (token ∷ left) b → Fits left after
 Fits-more (Play m) left bytes b used after adds fits =
-    rw adds.1 (record { has = true; outer = fits.outer; innermost = λ yes. tt; round = fits.round; fit = fits.fit })
+    rw adds.1 (record { has = true; outer = fits.outer; innermost = λ yes. refl; round = fits.round; fit = fits.fit })
 Fits-more (Nag n) left bytes b used after adds fits =
     rw adds.1 (record { has = fits.has; outer = fits.outer; innermost = λ yes. some-nag n b.current.last (fits.innermost yes); round = fits.round; fit = fits.fit.1 })
 Fits-more Comment left bytes b used after adds fits =
     rw adds.1.1 (record { has = fits.has; outer = fits.outer; innermost = λ yes. some-comment (as_comment adds.0) b.current.lead b.current.done b.current.last (fits.innermost yes); round = fits.round; fit = fits.fit })
 Fits-more Open left bytes b used after adds fits =
-    rw adds.1 (record { has = false; outer = fits.has ∷ fits.outer; innermost = λ yes. absurd yes; round = (fits.innermost, fits.round); fit = fits.fit.1 })
+    rw adds.1 (record { has = false; outer = fits.has ∷ fits.outer; innermost = λ yes. cc; round = (fits.innermost, fits.round); fit = fits.fit.1 })
 Fits-more Close left bytes b used after adds fits = rw adds.1 (closed-fits fits.has fits.outer b.current b.outer left fits.round fits.fit)
 Fits-more End left bytes b used after adds fits =
     rw adds.1 (record { has = fits.has; outer = fits.outer; innermost = fits.innermost; round = fits.round; fit = fits.fit })
@@ -108,4 +108,4 @@ module _ (tokens : List Read) (i : ℕ) (b : Building) (token : Read) (under : i
 
 -- Nothing was read.
 pub Fits-begun : (tokens : List Token) → Fit false [] tokens → Fits tokens opening
-Fits-begun tokens fit = record { has = false; outer = []; innermost = λ yes. absurd yes; round = tt; fit = fit }
+Fits-begun tokens fit = record { has = false; outer = []; innermost = λ yes. cc; round = tt; fit = fit }

@@ -6,11 +6,10 @@ use Rattle.game_codec.proofs.BuildLaws.{IsBuilt-step, IsBuilt-end, IsBuilt-close
 use Rattle.game_codec.proofs.FittingLaws.{Fits-begun, Fits-add, Fits-step}
 use Rattle.game_codec.proofs.building.build.Goals as goal
 
-pub loop-token-established : goal.loop-token-established
-loop-token-established c = ?
-
 pub add-requires : goal.add-requires
-add-requires c = Fits-add c.args.tokens.now c.loop-token.token-index c.loop-token.builder c.token-item.result c.loop-token-test.true c.token-item.is c.loop-token.invariant.fits
+add-requires c = record {
+  may = Fits-add c.args.tokens.now c.loop-token.token-index c.loop-token.builder c.token-item.result c.loop-token-test.true c.token-item.is c.loop-token.invariant.fits;
+}
 
 pub loop-token-preserved : goal.loop-token-preserved
 loop-token-preserved c =
@@ -24,9 +23,10 @@ loop-token-preserved c =
     }
 
 pub finish-requires : goal.finish-requires
-finish-requires c =
-    IsBuilt-closed (tokens_of c.args.tokens.now) c.args.bytes.now c.loop-token.rest.now c.loop-token.builder c.requires.movetext
-    (IsBuilt-end c.args.tokens.now c.loop-token.token-index c.args.bytes.now c.loop-token.rest.now c.loop-token.builder c.loop-token-test.false c.loop-token.invariant.built)
+finish-requires c = record {
+  whole = IsBuilt-closed (tokens_of c.args.tokens.now) c.args.bytes.now c.loop-token.rest.now c.loop-token.builder c.requires.movetext
+      (IsBuilt-end c.args.tokens.now c.loop-token.token-index c.args.bytes.now c.loop-token.rest.now c.loop-token.builder c.loop-token-test.false c.loop-token.invariant.built);
+}
 
 pub returns-clause-ok : goal.returns-clause-ok
 returns-clause-ok c =
