@@ -6,3 +6,6 @@ pub mod WritingLaws
 pub mod DigitLaws
 pub mod ShapeLaws
 pub mod SearchLaws
+pub mod PawnLaws
+pub mod WrittenSan
+pub mod RivalLaws

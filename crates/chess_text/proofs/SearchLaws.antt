@@ -1,21 +1,18 @@
 -- The search for a move of a shape finds the one that there is.
-use Rattle.std.proofs.Common.{◌≡◌, ◌↔◌, ℕ, ◌+◌, ◌<◌, ◌≤◌, ◌⊎◌, inl, inr, Bool, true, false, IsTrue, List, length, is_some, MatchOption, Option, Some, None, Result, Ok, Err, MatchResult, IfOk, IfErr, IfSome, ok_or, refl, sym, ◌∙◌, ap, subst, arith}
+use Rattle.std.proofs.Common.{◌≡◌, ◌↔◌, ℕ, ◌+◌, ◌<◌, ◌≤◌, inl, inr, Bool, true, false, IsTrue, List, is_some, MatchOption, Option, Some, None, Result, Ok, Err, IfOk, IfErr, ok_or, refl, sym, ◌∙◌, ap, subst, arith}
 use Rattle.std.proofs.lemmas.Bool.{cases_lt, eq-eqb, false≢true}
-use Rattle.cell_core.specs.declared.man.Kind.{Kind}
-use Rattle.cell_core.specs.declared.man.Kind.TheVariants.{King, Queen, Rook, Bishop, Knight, Pawn}
-use Rattle.cell_core.specs.declared.man.Man.{Man}
+use Rattle.cell_core.specs.declared.man.Kind.TheVariants.{King}
 use Rattle.cell_core.specs.declared.step.Move.{Move}
 use Rattle.cell_core.specs.Board.{man_at}
 use Rattle.cell_core.specs.Man.{man}
 use Rattle.chess_laws.specs.declared.setup.Setup.{Setup}
 use Rattle.chess_laws.specs.declared.setup.Wing.{Wing}
-use Rattle.chess_laws.specs.declared.effect.Effect.{Effect}
 use Rattle.chess_laws.specs.declared.effect.Effect.TheVariants as effect
 use Rattle.chess_laws.specs.Position.{Sound}
-use Rattle.chess_laws.specs.Castling.{king_home, king_target}
-use Rattle.chess_laws.specs.Step.{effect_of, effect_as, Legal, Case, CastleCase, NullCase}
+use Rattle.chess_laws.specs.Castling.{king_target}
+use Rattle.chess_laws.specs.Step.{effect_of, Legal, CastleCase, NullCase}
 use Rattle.chess_laws.proofs.Boards.{on_board}
-use Rattle.chess_laws.proofs.Keeping.{CastleSquares, castle-squares}
+use Rattle.chess_laws.proofs.Keeping.{castle-squares}
 use Rattle.chess_laws.proofs.MovedKings.{legal-allowed}
 use Rattle.chess_text.specs.declared.shape.Going.{Going}
 use Rattle.chess_text.specs.declared.shape.Shape.{Shape}
@@ -23,18 +20,18 @@ use Rattle.chess_text.specs.declared.shape.Shape.TheVariants.{Castle, Null, Goes
 use Rattle.chess_text.specs.declared.fault.SanFault.{SanFault}
 use Rattle.chess_text.specs.declared.fault.SanFault.TheVariants as fault
 use Rattle.chess_text.specs.SanShape.{HasShape}
-use Rattle.chess_text.specs.SanReads.{Fits, GoesSo, SanReads, FitsNone, FitsTwo, SanFaultOf}
+use Rattle.chess_text.specs.SanReads.{Fits, SanReads, SanFaultOf}
 use Rattle.chess_text.specs.SanReading.{shape_named}
-use Rattle.chess_text.specs.SanSearch.{IsOnly, AreTwo, NotOne, AnswersShape, FitsFrom, IsOnlyBelow, FoundBelow}
+use Rattle.chess_text.specs.SanSearch.{AreTwo, AnswersShape, FitsFrom, FoundBelow}
 use Rattle.chess_text.proofs.ShapeLaws.{shape-only, shape-found, one-shape}
 
 -- ---- square by square
 
 -- two moves of the shape from one square are the same
-same-move : (a b : Move) → a.from ≡ b.from → a.to ≡ b.to → a.promo ≡ b.promo → a ≡ b
+pub same-move : (a b : Move) → a.from ≡ b.from → a.to ≡ b.to → a.promo ≡ b.promo → a ≡ b
 same-move a b from to promo = rw (from, to, promo) refl
 
-same-from : (p : Setup) (g : Going) (a b : Move) → Fits p (Goes g) a → Fits p (Goes g) b → a.from ≡ b.from → a ≡ b
+pub same-from : (p : Setup) (g : Going) (a b : Move) → Fits p (Goes g) a → Fits p (Goes g) b → a.from ≡ b.from → a ≡ b
 same-from p g a b h k from =
     same-move a b from (h.of_shape.target ∙ sym k.of_shape.target) (h.of_shape.promo ∙ sym k.of_shape.promo)
 

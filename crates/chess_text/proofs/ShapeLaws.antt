@@ -1,7 +1,7 @@
 -- A text has at most one shape, and the reader finds it.
-use Rattle.std.proofs.Common.{◌≡◌, ◌≢◌, ℕ, zero, suc, ◌+◌, ◌*◌, ◌/◌, ◌%◌, ◌-◌, ◌<◌, ◌≤◌, ◌⊎◌, inl, inr, ◌==◌, ◌&&◌, ◌||◌, nat_le, nat_lt, Bool, true, false, cond, List, [], ◌∷◌, ◌++◌, Option, Some, None, is_some, IsTrue, IfSome, drop, refl, sym, ◌∙◌, ap, subst, arith, append_assoc, option_map}
-use Rattle.std.specs.List.{AllByRecursion, list_all}
-use Rattle.std.proofs.lemmas.Bool.{ltb-true, leb-true, false≢true, and_parts, or_cases, eqb-true, eqb-false, cases_Bool}
+use Rattle.std.proofs.Common.{◌≡◌, ℕ, zero, suc, ◌+◌, ◌<◌, ◌≤◌, ◌⊎◌, inl, inr, ◌==◌, nat_le, nat_lt, Bool, true, false, cond, List, [], ◌∷◌, ◌++◌, Option, Some, None, is_some, IsTrue, IfSome, refl, sym, ◌∙◌, ap, subst, arith, append_assoc}
+use Rattle.std.specs.List.{list_all}
+use Rattle.std.proofs.lemmas.Bool.{ltb-true, leb-true, false≢true, and_parts, or_cases, eqb-true, cases_Bool}
 use Rattle.cell_core.specs.declared.man.Kind.{Kind}
 use Rattle.cell_core.specs.declared.man.Kind.TheVariants.{King, Queen, Rook, Bishop, Knight, Pawn}
 use Rattle.chess_laws.specs.declared.setup.Wing.{Wing}
@@ -13,8 +13,8 @@ use Rattle.chess_text.specs.declared.shape.Shape.{Shape}
 use Rattle.chess_text.specs.declared.shape.Shape.TheVariants.{Castle, Null, Goes}
 use Rattle.chess_text.specs.Letters.{capital_of}
 use Rattle.chess_text.specs.Squares.{file_text, rank_text, square_text}
-use Rattle.chess_text.specs.SanShape.{man_text, castling_text, castling_digits, null_text, part, IsCaptureSign, IsPromotion, IsGoing, IsMoveText, AreSigns, HasShape}
-use Rattle.chess_text.specs.SanReading.{promotion_named, piece_named, file_named, rank_named, is_capture_sign, is_sign, front, behind, or_pawn, begins, passed, square_from, square_front, behind_square, promotion_front, behind_promotion, aimed, ended, from_square, from_capture, from_rank, from_file, from_kind, going_named, is_form, form_named, shape_from, shape_named}
+use Rattle.chess_text.specs.SanShape.{man_text, castling_text, castling_digits, null_text, part, IsCaptureSign, IsPromotion, IsMoveText, AreSigns, HasShape}
+use Rattle.chess_text.specs.SanReading.{promotion_named, piece_named, file_named, rank_named, is_capture_sign, is_sign, front, behind, or_pawn, begins, passed, square_from, square_front, behind_square, promotion_front, behind_promotion, aimed, ended, from_capture, from_rank, from_file, from_kind, going_named, is_form, form_named, shape_from, shape_named}
 
 -- ---- what the bytes of files and ranks name
 

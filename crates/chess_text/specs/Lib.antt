@@ -12,3 +12,5 @@ pub mod SanShape
 pub mod SanReads
 pub mod SanReading
 pub mod SanSearch
+pub mod San
+pub mod SanWriting

@@ -9,6 +9,7 @@ mod placement;
 mod san_parts;
 mod san_reading;
 mod san_shape;
+mod san_writing;
 mod shape;
 mod squares;
 mod writing;
@@ -17,6 +18,7 @@ pub use fault::{FenFault, SanFault};
 pub use fen::read_fen;
 pub use placement::read_board;
 pub use san_reading::read_san;
+pub use san_writing::write_san;
 pub use writing::write_fen;
 
 #[cfg(test)]

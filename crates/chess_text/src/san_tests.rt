@@ -1,5 +1,5 @@
 //! Outside vectors of SAN.
-use super::{SanFault, read_fen, read_san};
+use super::{SanFault, read_fen, read_san, write_san};
 use cell_core::{Kind, Move};
 use std::test::Fail;
 
@@ -17,8 +17,7 @@ const PROMOTES: &str = "3r3k/4P3/8/8/8/8/8/4K3 w - - 0 1";
 
 const KNIGHTS: &str = "4k3/8/8/8/8/N3N3/8/N3K3 w - - 0 1";
 
-const READ: [(&str, &str, Result<(u8, u8, Option<Kind>), SanFault>); 14] = [
-    (START, "e4", Ok((12, 28, None))),
+const READ: [(&str, &str, Result<(u8, u8, Option<Kind>), SanFault>); 13] = [
     (START, "Nf3", Ok((6, 21, None))),
     (START, "Ng1-f3", Err(SanFault::Shape)),
     (START, "e4+#", Ok((12, 28, None))),
@@ -43,6 +42,44 @@ fn texts_read(rt: HostRuntime) -> Result<(), Fail> {
             wanted,
             "{text}"
         );
+    }
+    Ok(())
+}
+
+// Positions, texts of moves as they are read, and as they are written.
+const WRITTEN: [(&str, &str, &str); 16] = [
+    (START, "Nf3", "Nf3"),
+    (START, "--", "--"),
+    ("4k3/8/8/8/8/N7/8/N3N2K w - - 0 1", "Na1c2", "Na1c2"),
+    ("4k3/8/8/8/8/N3N3/8/N3K3 w - - 0 1", "Na1c2", "N1c2"),
+    ("4k3/8/8/8/8/8/8/N3KN2 w - - 0 1", "Nfd2", "Nd2"),
+    ("8/6k1/8/8/4Q2Q/8/8/K6Q w - - 0 1", "Qh4e1", "Qh4e1"),
+    ("4k3/8/8/8/1b6/2N5/8/4K1N1 w - - 0 1", "Ne2", "Ne2"),
+    ("4k3/8/8/3pP3/8/8/8/4K3 w - d6 0 1", "ed6", "exd6"),
+    (CASTLES, "0-0", "O-O"),
+    ("5k2/8/8/8/8/8/8/4K2R w K - 0 1", "O-O", "O-O+"),
+    ("8/8/8/8/8/8/7R/R3K2k b Q - 0 1", "Kxh2", "Kxh2"),
+    ("3k4/2p1p3/8/8/8/8/8/R3K3 w Q - 0 1", "O-O-O", "O-O-O+"),
+    (PROMOTES, "e8Q", "e8=Q+"),
+    (PROMOTES, "exd8R", "exd8=R+"),
+    ("3r3k/4P1pp/8/8/8/8/8/4K3 w - - 0 1", "exd8Q", "exd8=Q#"),
+    ("k7/8/1K6/8/8/8/8/7R w - - 0 1", "Rh8", "Rh8#"),
+];
+
+#[test]
+fn moves_written(rt: HostRuntime) -> Result<(), Fail> {
+    for (fen, text, written) in WRITTEN {
+        let position = read_fen(fen.as_bytes()).ok().ok_or(fen)?;
+        match read_san(&position, text.as_bytes()) {
+            Ok(m) => {
+                assert_eq!(rt;
+                    write_san(&position, m).as_slice(),
+                    written.as_bytes(),
+                    "{text}"
+                );
+            }
+            Err(_) => assert_eq!(rt; "", written, "{text}"),
+        }
     }
     Ok(())
 }

@@ -12,11 +12,11 @@ use Rattle.chess_laws.specs.declared.setup.Setup.{Setup}
 use Rattle.chess_laws.specs.declared.effect.Effect.{Effect}
 use Rattle.chess_laws.specs.declared.effect.Effect.TheVariants.{Plain, Double, Passing, Castle, Null}
 use Rattle.chess_laws.specs.Castling.{rook_home, rook_target}
-use Rattle.chess_laws.specs.Position.{Sound, HasKings, king_square}
+use Rattle.chess_laws.specs.Checks.{in_check}
+use Rattle.chess_laws.specs.Position.{Sound, HasKings, Keeps, king_square}
 use Rattle.chess_laws.specs.Legal.{king_after}
-use Rattle.chess_laws.specs.Step.{Case, Legal, board_after, effect_of}
+use Rattle.chess_laws.specs.Step.{Case, Legal, after, board_after, effect_of}
 use Rattle.chess_laws.proofs.Kings.{is_man-Some, is_man-true, king-only, king-stands}
-use Rattle.chess_laws.proofs.Boards.{only-king}
 use Rattle.chess_laws.proofs.Keeping.{castle-apart}
 use Rattle.chess_laws.proofs.MovedKings.{Keeps-white, Keeps-black, Sound-after}
 use Rattle.move_codec.specs.Numbers.{HasKingFirst, number_of, went, without, movers_after, capture_square}
@@ -63,17 +63,27 @@ record KingsAfter (p : Setup) (m : Move) : Type 0 where
 
 kings_after : (p : Setup) (m : Move) (side : Colour) → p.side ≡ side → Sound p → Legal p m → KingsAfter p m
 kings_after p m White is sound legal =
-    let stands : (c : Colour) → man_at p.board (king_square p.board c) ≡ Some (man c King) = λ c. king-stands p.board c (sound.kings c) in
-    let keeps = Keeps-white p m (king_square p.board p.side) (king_square p.board (other p.side)) is sound legal
-    (only-king p.board p.side (king_square p.board p.side) sound.kings (stands p.side)) (stands (other p.side)) in
+    let kept : Keeps p (king_square p.board p.side) (king_square p.board (other p.side)) (in_check p) = record {
+      sound = sound;
+      white_king = ap (king_square p.board) is;
+      black_king = ap (λ c. king_square p.board (other c)) is;
+      check = refl;
+    } in
+    let keeps = Keeps-white p m (king_square p.board p.side) (king_square p.board (other p.side)) (in_check p) (in_check (after p m (effect_of p m)))
+    is kept legal refl in
     record {
       mover = ap (king_square (board_after p m (effect_of p m))) is ∙ sym keeps.white_king;
       resting = ap (λ c. king_square (board_after p m (effect_of p m)) (other c)) is ∙ sym keeps.black_king;
     }
 kings_after p m Black is sound legal =
-    let stands : (c : Colour) → man_at p.board (king_square p.board c) ≡ Some (man c King) = λ c. king-stands p.board c (sound.kings c) in
-    let keeps = Keeps-black p m (king_square p.board p.side) (king_square p.board (other p.side)) is sound legal
-    (only-king p.board p.side (king_square p.board p.side) sound.kings (stands p.side)) (stands (other p.side)) in
+    let kept : Keeps p (king_square p.board (other p.side)) (king_square p.board p.side) (in_check p) = record {
+      sound = sound;
+      white_king = ap (λ c. king_square p.board (other c)) is;
+      black_king = ap (king_square p.board) is;
+      check = refl;
+    } in
+    let keeps = Keeps-black p m (king_square p.board (other p.side)) (king_square p.board p.side) (in_check p) (in_check (after p m (effect_of p m)))
+    is kept legal refl in
     record {
       mover = ap (king_square (board_after p m (effect_of p m))) is ∙ sym keeps.black_king;
       resting = ap (λ c. king_square (board_after p m (effect_of p m)) (other c)) is ∙ sym keeps.white_king;

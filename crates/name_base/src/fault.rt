@@ -44,7 +44,7 @@ pub struct NameFault {
 }
 
 impl fmt::Display for NameFault {
-    fn fmt(&self, f: &mut fmt::Formatter<'_>) -> fmt::Result {
+    fn fmt<W: fmt::Write>(&self, f: &mut fmt::Formatter<W>) -> fmt::Result {
         match self.kind {
             None => write!(f, "header: {}", self.what),
             Some(kind) => write!(f, "{kind} {}: {}", self.index, self.what),

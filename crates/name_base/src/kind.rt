@@ -15,7 +15,7 @@ pub enum NameKind {
 }
 
 impl fmt::Display for NameKind {
-    fn fmt(&self, f: &mut fmt::Formatter<'_>) -> fmt::Result {
+    fn fmt<W: fmt::Write>(&self, f: &mut fmt::Formatter<W>) -> fmt::Result {
         f.write_str(match self {
             NameKind::Player => "player",
             NameKind::Event => "event",

@@ -1,0 +1,15 @@
+use Rattle.std.specs.Option.{option_to_list}
+use Rattle.chess_text.proofs.RivalLaws.{san-by}
+use Rattle.chess_text.proofs.WrittenSan.{san-reads}
+use Rattle.chess_text.proofs.san_writing.written.Goals as goal
+
+pub returns-clause-text : goal.returns-clause-text
+returns-clause-text c =
+    san-by c.args.p.now c.args.m.now c.effect-effect.result _ c.front_of-text.result.items (option_to_list c.sign_of.result) c.effect-effect.ensures.effect
+    c.front_of-text.ensures.text c.sign_of.ensures.sign c.push_sign.ensures.text
+
+pub returns-clause-read_again : goal.returns-clause-read_again
+returns-clause-read_again c =
+    san-reads c.args.p.now c.args.m.now _ c.requires.sound c.requires.legal
+    (san-by c.args.p.now c.args.m.now c.effect-effect.result _ c.front_of-text.result.items (option_to_list c.sign_of.result) c.effect-effect.ensures.effect
+    c.front_of-text.ensures.text c.sign_of.ensures.sign c.push_sign.ensures.text)
