@@ -24,7 +24,7 @@ kind_number Bishop = 3
 kind_number Knight = 4
 kind_number Pawn = 5
 
--- whether two colours, or two kinds, are the same
+-- whether two colours, two kinds, or two men are the same
 abbrev pub same_colour : Colour → Colour → Bool
 same_colour White White = true
 same_colour White Black = false
@@ -33,6 +33,9 @@ same_colour Black Black = true
 
 abbrev pub same_kind : Kind → Kind → Bool
 same_kind a b = kind_number a == kind_number b
+
+abbrev pub same_man : Man → Man → Bool
+same_man a b = same_colour a.colour b.colour && same_kind a.kind b.kind
 
 -- whether such a man stands on a square, and whether some man of this colour does
 abbrev pub is_man : Colour → Kind → Option Man → Bool

@@ -1,5 +1,6 @@
-ghost use Rattle.std.specs.Prelude.{◌≡◌, None, replicate, length};
-ghost use Rattle.cell_core.specs.Board.{man_at, put};
+//! The board of 64 squares.
+ghost use Rattle.std.specs.Prelude.{◌≡◌, ◌↔◌, IsTrue, None, replicate, length};
+ghost use Rattle.cell_core.specs.Board.{man_at, put, same_men};
 
 use super::man::Man;
 use super::square::Square;
@@ -62,5 +63,13 @@ impl Board {
         ensures squares { length self.new ≡ 64 }
     {
         self.cells[s.index() as usize] = man;
+    }
+
+    /// Whether the same men stand on the same squares.
+    pub fn is_same(&self, other: &Board) -> bool
+        ensures same { IsTrue result ↔ (self.now ≡ other.now) }
+        ensures decided { result ≡ same_men self.now other.now }
+    {
+        self == other
     }
 }

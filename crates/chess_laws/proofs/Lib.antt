@@ -20,3 +20,6 @@ pub mod Pawns
 pub mod Soundness
 pub mod Start
 pub mod Climbing
+pub mod Stepping
+pub mod Initial
+pub mod Deciding

@@ -155,22 +155,26 @@ still men o (suc n) a b files ranks walk =
     let rest = still men o n walk.0 b files ranks walk.3 in
     (rest.0 ∙ same, walk.1 ∙ ap Some same)
 
-runs-run : (men : Men) (o : Offset) (a b : ℕ) → Runs men a b o → run men o 8 b a ≡ true
-runs-run men o a b (n, walk) = elim (cases_order o.left o.right) [
+-- a walk over empty squares has fewer than eight squares between
+pub short-walk : (men : Men) (o : Offset) (a b : ℕ) → Runs men a b o → (n : ℕ) × (n < 8) × Walk men o n a b
+short-walk men o a b (n, walk) = elim (cases_order o.left o.right) [
   | inl files ↦ elim (cases_order o.down o.up) [
     | inl ranks ↦
         let here = still men o n a b files ranks walk in
-        walk-run men o 8 zero a b (omega arith) (here.1 ∙ ap Some (sym here.0))
+        (zero, omega arith, here.1 ∙ ap Some (sym here.0))
     | inr apart ↦ elim apart [
-      | inl net ↦ walk-run men o 8 n a b (let far = up men o n a b net walk in let end = walk-ends men o n a b walk in omega arith) walk
-      | inr net ↦ walk-run men o 8 n a b (down-short men o n a b net walk) walk
+      | inl net ↦ (n, (let far = up men o n a b net walk in let end = walk-ends men o n a b walk in omega arith), walk)
+      | inr net ↦ (n, down-short men o n a b net walk, walk)
     ]
   ]
   | inr apart ↦ elim apart [
-    | inl net ↦ walk-run men o 8 n a b (let far = right men o n a b net walk in omega arith) walk
-    | inr net ↦ walk-run men o 8 n a b (let far = left men o n a b net walk in omega arith) walk
+    | inl net ↦ (n, (let far = right men o n a b net walk in omega arith), walk)
+    | inr net ↦ (n, (let far = left men o n a b net walk in omega arith), walk)
   ]
 ]
+
+runs-run : (men : Men) (o : Offset) (a b : ℕ) → Runs men a b o → run men o 8 b a ≡ true
+runs-run men o a b runs = let short = short-walk men o a b runs in walk-run men o 8 short.0 a b short.1 short.2
 
 -- the code's walk of at most eight steps finds each walk, and nothing else
 pub run_is : (men : Men) (o : Offset) (a b : ℕ) → IsTrue (run men o 8 b a) ↔ Runs men a b o

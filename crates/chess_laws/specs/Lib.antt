@@ -8,4 +8,5 @@ pub mod Rays
 pub mod Legal
 pub mod Moves
 pub mod Targets
+pub mod LegalNow
 pub mod Checks

@@ -1,12 +1,12 @@
 -- What a position is, and the rules that every position keeps.
-use Rattle.std.specs.Prelude.{◌≡◌, ℕ, ◌+◌, ◌/◌, ◌%◌, ◌^◌, ◌<◌, ◌≤◌, ◌==◌, ◌&&◌, ◌++◌, Bool, true, if◌then◌else◌, IsTrue, [], ◌∷◌, Option, Some, None, length, replicate, count_by}
+use Rattle.std.specs.Prelude.{◌≡◌, ℕ, ◌+◌, ◌/◌, ◌%◌, ◌^◌, ◌<◌, ◌≤◌, ◌==◌, ◌&&◌, ◌++◌, Bool, true, if◌then◌else◌, IsTrue, [], ◌∷◌, Option, Some, None, is_none, length, replicate, count_by}
 use Rattle.std.specs.List.{position_or_len}
 use Rattle.std.proofs.Common.{sym}
 use Rattle.cell_core.specs.declared.man.Colour.{Colour}
 use Rattle.cell_core.specs.declared.man.Colour.TheVariants.{White, Black}
 use Rattle.cell_core.specs.declared.man.Kind.TheVariants.{King, Queen, Rook, Bishop, Knight, Pawn}
-use Rattle.cell_core.specs.Board.{Men, man_at}
-use Rattle.cell_core.specs.Man.{man, other, is_man, is_of}
+use Rattle.cell_core.specs.Board.{Men, man_at, same_men}
+use Rattle.cell_core.specs.Man.{man, other, is_man, is_of, same_colour}
 use Rattle.chess_laws.specs.declared.setup.Rights.{Rights}
 use Rattle.chess_laws.specs.declared.setup.Setup.{Setup}
 use Rattle.chess_laws.specs.declared.setup.Wing.{Wing}
@@ -115,6 +115,14 @@ start_setup =
       rights = record { white_king_side = true; white_queen_side = true; black_king_side = true; black_queen_side = true };
       en_passant = None;
     }
+
+-- whether all four rights are left
+abbrev pub has_all_rights : Rights → Bool
+has_all_rights r = r.white_king_side && (r.white_queen_side && (r.black_king_side && r.black_queen_side))
+
+-- whether it is the initial position: its men, White to move, all four rights and no en passant square
+unfoldable pub is_start : Setup → Bool
+is_start p = same_men p.board start_men && (same_colour p.side White && (has_all_rights p.rights && is_none p.en_passant))
 
 -- what is kept beside a position: it keeps the rules, these are the kings' squares, and the side to move is in check or not
 pub record Keeps (p : Setup) (white black : ℕ) (checked : Bool) : Type 0 where

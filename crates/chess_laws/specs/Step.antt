@@ -1,5 +1,5 @@
 -- The moves of chess: which are legal, and what they lead to (FIDE Laws, Article 3).
-use Rattle.std.specs.Prelude.{◌≡◌, ℕ, ◌+◌, ◌&&◌, not, ◌==◌, ◌⊎◌, Bool, true, false, if◌then◌else◌, IsTrue, All, Any, Option, Some, None, is_none}
+use Rattle.std.specs.Prelude.{◌≡◌, ℕ, ◌+◌, ◌&&◌, not, ◌==◌, ◌⊎◌, Bool, true, false, if◌then◌else◌, IsTrue, All, Any, Option, Some, None, is_none, is_some}
 use Rattle.cell_core.specs.declared.man.Colour.{Colour}
 use Rattle.cell_core.specs.declared.man.Colour.TheVariants.{White, Black}
 use Rattle.cell_core.specs.declared.man.Kind.{Kind}
@@ -187,6 +187,22 @@ after p m e =
       rights = rights_left p m e;
       en_passant = en_passant_after p m e;
     }
+
+-- what the position becomes by a move: a legal move leads there, and nowhere else
+unfoldable pub stepped : Setup → Move → Setup
+stepped p m = after p m (effect_of p m)
+
+-- whether a move captures: a man stands on its target, or it is a capture en passant; castling and the null move, which go
+-- to no man, capture nothing
+abbrev pub captures_by : Effect → Setup → Move → Bool
+captures_by Plain p m = is_some (man_at p.board m.to)
+captures_by Double p m = is_some (man_at p.board m.to)
+captures_by Passing p m = true
+captures_by (Castle wing) p m = false
+captures_by Null p m = false
+
+unfoldable pub is_capture : Setup → Move → Bool
+is_capture p m = captures_by (effect_of p m) p m
 
 -- the move m leads from p to q: it is allowed by the rules of its kind, q is what the position becomes, and the mover's
 -- king is not attacked in q (FIDE Laws, Article 3.9.2)

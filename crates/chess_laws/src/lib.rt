@@ -2,7 +2,7 @@
 //! and what they lead to.
 #![tactic(auto)]
 
-pub mod attack;
+mod attack;
 mod cases;
 mod castling;
 mod census;
@@ -12,7 +12,7 @@ mod legal;
 mod making;
 mod moves;
 mod next;
-pub mod offset;
+mod offset;
 pub mod position;
 mod rules;
 pub mod setup;

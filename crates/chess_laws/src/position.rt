@@ -47,7 +47,8 @@ impl Model for Position {
 }
 
 impl Position {
-    ghost use Rattle.chess_laws.specs.Position.{Sound, Breaks, setup_of, start_setup, bits_of};
+    ghost use Rattle.chess_laws.specs.LegalNow.{attacks_now, in_check_now};
+    ghost use Rattle.chess_laws.specs.Position.{Sound, Breaks, setup_of, start_setup, is_start, bits_of};
 
     /// The initial position: White to move, all four rights, no en passant square.
     pub fn start() -> Position
@@ -70,6 +71,21 @@ impl Position {
             black_king: Square::at(60),
             checked: false,
         }
+    }
+
+    /// Whether it is the initial position.
+    pub fn is_start(&self) -> bool
+        ensures start { IsTrue result ↔ (self.now ≡ start_setup) }
+        ensures decided { result ≡ is_start self.now }
+    {
+        self.setup().is_same(Position::start().setup())
+    }
+
+    /// Whether two positions are the same.
+    pub fn is_same(&self, other: &Position) -> bool
+        ensures same { IsTrue result ↔ (self.now ≡ other.now) }
+    {
+        self.setup().is_same(other.setup())
     }
 
     /// The position of a board, a side to move, castling rights (bits 0 to 3 for White's king's side and queen's side
@@ -140,6 +156,7 @@ impl Position {
     /// Whether some man of the colour `by` attacks the square.
     pub fn attacked(&self, by: Colour, s: Square) -> bool
         ensures attacks { IsTrue result ↔ Attacks self.now.board by s }
+        ensures decided { result ≡ attacks_now self.now.board by s }
     {
         attacks(&self.inner.board, by, s)
     }
@@ -147,6 +164,7 @@ impl Position {
     /// Whether the side to move is in check.
     pub fn in_check(&self) -> bool
         ensures check { IsTrue result ↔ IsInCheck self.now.board self.now.side }
+        ensures decided { result ≡ in_check_now self.now.board self.now.side }
     {
         self.checked
     }
@@ -213,12 +231,14 @@ fn place(
 
 impl Position {
     ghost use Rattle.chess_laws.specs.declared.setup.Setup.{Setup};
-    ghost use Rattle.chess_laws.specs.Step.{after, effect_of, Legal, Step};
+    ghost use Rattle.chess_laws.specs.LegalNow.{legal_now};
+    ghost use Rattle.chess_laws.specs.Step.{after, effect_of, is_capture, Legal, Step};
     ghost use Rattle.std.specs.Bool.{OnTrue, OnFalse};
 
     /// Whether the move is legal. The null move is legal where the side to move is not in check.
     pub fn is_legal(&self, m: Move) -> bool
         ensures legal { IsTrue result ↔ Legal self.now m }
+        ensures decided { result ≡ legal_now self.now m }
     {
         is_legal(self.setup(), self.king(self.side()), self.in_check(), &m)
     }
@@ -229,6 +249,18 @@ impl Position {
         ensures effect { result ≡ effect_of self.now m.now }
     {
         effect_of(&self.inner, m)
+    }
+
+    /// Whether a move captures a man, on its target or en passant. It says nothing of whether the move is legal.
+    #[tactic(auto, unfolding(crate::specs::Step::is_capture))]
+    pub fn is_capture(&self, m: &Move) -> bool
+        ensures capture { result ≡ is_capture self.now m.now }
+    {
+        match effect_of(&self.inner, m) {
+            Effect::Plain | Effect::Double => self.inner.board.at(m.to).is_some(),
+            Effect::Passing => true,
+            Effect::Castle(_) | Effect::Null => false,
+        }
     }
 
     /// Plays the move where it is legal, and answers whether it is. A position whose move is not legal stays as it was.

@@ -1,4 +1,5 @@
-ghost use Rattle.std.specs.Prelude.{◌≡◌};
+//! What a position is made of.
+ghost use Rattle.std.specs.Prelude.{◌≡◌, ◌↔◌, IsTrue};
 ghost use Rattle.chess_laws.specs.Position.{bits_of};
 
 use cell_core::{Board, Colour, Square};
@@ -39,4 +40,22 @@ pub struct Setup {
     pub side: Colour,
     pub rights: Rights,
     pub en_passant: Option<Square>,
+}
+
+impl Setup {
+    /// Whether two setups are the same.
+    pub fn is_same(&self, other: &Setup) -> bool
+        ensures same { IsTrue result ↔ (self.now ≡ other.now) }
+    {
+        if self.side != other.side {
+            return false;
+        }
+        if self.en_passant != other.en_passant {
+            return false;
+        }
+        if self.rights != other.rights {
+            return false;
+        }
+        self.board.is_same(&other.board)
+    }
 }

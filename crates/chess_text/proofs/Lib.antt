@@ -9,3 +9,4 @@ pub mod SearchLaws
 pub mod PawnLaws
 pub mod WrittenSan
 pub mod RivalLaws
+pub mod OneText

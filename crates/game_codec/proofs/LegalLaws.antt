@@ -1,20 +1,13 @@
 -- A game that a record spells is legal.
-use Rattle.std.proofs.Common.{ℕ, ◌+◌, ◌≤◌, List, [], ◌∷◌, Option, Some, None, length, ap, subst, arith}
-use Rattle.cell_core.specs.declared.step.Move.{Move}
-use Rattle.chess_laws.specs.declared.setup.Setup.{Setup}
-use Rattle.chess_laws.specs.Step.{Step, Legal}
+use Rattle.std.proofs.Common.{ℕ, ◌+◌, ◌≤◌, List, [], ◌∷◌, Option, Some, None, length, ap, arith}
 use Rattle.game_tree.specs.Tree.{depth_of, depth_within}
 use Rattle.game_tree.specs.Movetext.{Movetext, end, move, nag, comment, variation, as_comment, joined, Said, meaning}
 use Rattle.game_tree.specs.Legal.{IsComment, IsLegalLine, AreLegalBranches, IsLegalGame}
-use Rattle.game_tree.specs.Replay.{stepped}
-use Rattle.game_tree.proofs.LegalLemmas.{Step-stepped}
+use Rattle.chess_laws.proofs.Stepping.{Legal-stepped}
 use Rattle.move_codec.specs.Numbers.{Numbered}
 use Rattle.game_codec.specs.Place.{Place, beginning, after_move, after_comment, variation_of}
 use Rattle.game_codec.specs.Moves.{SpellsMoves}
 use Rattle.game_codec.specs.Record.{game_of}
-
-Legal-stepped : (p : Setup) (m : Move) → Legal p m → Step p m (stepped p m)
-Legal-stepped p m legal = subst (Step p m) (Step-stepped p m legal.0 legal.1) legal.1
 
 joined-IsComment : (text : List ℕ) (later : Option (List ℕ)) → IsComment later → IsComment (joined (as_comment text) later)
 joined-IsComment [] later is = is

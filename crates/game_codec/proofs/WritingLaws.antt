@@ -10,7 +10,7 @@ use Rattle.game_tree.specs.Movetext.{Movetext, end}
 use Rattle.game_tree.specs.Legal.{IsLegalLine, AreLegalBranches}
 use Rattle.game_tree.specs.Tree.{Line, ends, goes, Branches, none, more, Played, Variation, line_of, branches_of}
 use Rattle.game_tree.specs.Written.{movetext_of_game, nags_before, comment_before, movetext_of, variations_before}
-use Rattle.game_tree.proofs.LegalLemmas.{Step-stepped}
+use Rattle.chess_laws.proofs.Stepping.{Step-stepped}
 use Rattle.move_codec.specs.Numbers.{Numbered, numbers_after, text_numbers}
 use Rattle.move_codec.specs.Packed.{encoding}
 use Rattle.game_tree.specs.Game.{GameTree}

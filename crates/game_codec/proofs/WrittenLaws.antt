@@ -6,7 +6,7 @@ use Rattle.std.proofs.lemmas.List.Elements.{All-append, All-cons, All-nil}
 use Rattle.cell_core.specs.declared.step.Move.{Move}
 use Rattle.chess_laws.specs.declared.setup.Setup.{Setup}
 use Rattle.chess_laws.specs.Position.{Sound}
-use Rattle.chess_laws.specs.Step.{Step, Legal}
+use Rattle.chess_laws.specs.Step.{Step, Legal, stepped}
 use Rattle.chess_laws.proofs.MovedKings.{Sound-after}
 use Rattle.cell_core.specs.Text.{IsZeroFree}
 use Rattle.game_tree.specs.Game.{GameTree}
@@ -15,7 +15,6 @@ use Rattle.game_tree.specs.declared.head.Tag.{Tag}
 use Rattle.game_tree.proofs.WrittenLemmas.{meaning-written, HasComments-legal}
 use Rattle.game_tree.specs.Movetext.{Movetext}
 use Rattle.game_tree.specs.Legal.{IsLegalLine, AreLegalBranches, IsLegalGame}
-use Rattle.game_tree.specs.Replay.{stepped}
 use Rattle.game_tree.specs.Tree.{Line, ends, goes, Branches, none, more, depth_of, depth_within}
 use Rattle.game_tree.specs.Kept.{IsCommentText, IsLine, AreBranches, IsGame}
 use Rattle.game_tree.specs.Promotions.{has_promotion, has_underpromotion}

@@ -4,7 +4,7 @@
 -- order; those behind a variation still belong to the move that it hangs on.
 use Rattle.std.specs.Prelude.{◌≡◌, ℕ, zero, suc, ◌+◌, ◌<◌, ◌≤◌, ◌⊎◌, Bool, true, false, IsTrue, List, [], ◌∷◌, Ok, Err, drop}
 use Rattle.cell_core.specs.declared.step.Move.{Move}
-use Rattle.game_tree.specs.Replay.{stepped}
+use Rattle.chess_laws.specs.Step.{stepped}
 use Rattle.game_tree.specs.Legal.{deepest}
 use Rattle.move_codec.specs.Numbers.{Numbered, numbers_after}
 use Rattle.move_codec.specs.Packed.{Decodes, is_mark}

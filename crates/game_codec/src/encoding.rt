@@ -11,7 +11,7 @@ ghost use Rattle.game_codec.specs.declared.fault.EncodeError.TheVariants.{Memory
 use super::fault::EncodeError;
 use super::moves::{Body, put_line};
 use cell_core::Text;
-use chess_laws::{Position, Setup};
+use chess_laws::Position;
 use chess_text::write_fen;
 use game_tree::{Game, Tag};
 use move_codec::Numbered;
@@ -107,7 +107,7 @@ fn put_start(
     ensures start { IfOk result (λ numbered. AddsStart start.now flags out.old.items out.new.items numbered) }
     ensures position { IfOk result (λ numbered. numbered.position ≡ start.now) }
 {
-    if is_same_setup(start.setup(), Position::start().setup()) {
+    if start.is_start() {
         out.push(flags)?;
         return Ok(Numbered::standard());
     }
@@ -116,11 +116,4 @@ fn put_start(
     out.extend_from_slice(fen.as_bytes())?;
     out.push(0)?;
     Ok(Numbered::from_start(*start))
-}
-
-/// Whether two setups are equal.
-fn is_same_setup(first: &Setup, second: &Setup) -> bool
-    ensures { IsTrue result ↔ (first.now ≡ second.now) }
-{
-    first == second
 }

@@ -4,7 +4,7 @@ use Rattle.std.specs.Prelude.{◌+◌, max, option_map}
 use Rattle.chess_laws.specs.declared.setup.Setup.{Setup}
 use Rattle.game_tree.specs.Tree.{Line, ends, goes, Branches, none, more, moves_of, depth_of, depth_within}
 use Rattle.game_tree.specs.Game.{GameTree}
-use Rattle.game_tree.specs.Replay.{stepped}
+use Rattle.chess_laws.specs.Step.{stepped}
 use Rattle.game_tree.specs.Legal.{IsComment, IsLegalLine, AreLegalBranches, IsLegalGame}
 use Rattle.game_tree.specs.Comments.{line_with_comments, branches_with_comments, with_comments, KeepsTexts}
 

@@ -13,7 +13,7 @@ use Rattle.game_tree.specs.Decimal.{decimal_read}
 use Rattle.game_tree.specs.declared.date.Date.{Date}
 use Rattle.game_tree.proofs.DecimalLemmas.{decimal_read-bound}
 
--- a test holds of every number below a bound
+-- A test holds of every number below a bound.
 abbrev all_below : (ℕ → Bool) → ℕ → Bool
 all_below test zero = true
 all_below test (suc n) = test n && all_below test n
@@ -103,7 +103,7 @@ date_read-IsDate text date e =
       ]
     ]
 
--- a date's text is a value of a tag
+-- A date's text is a value of a tag.
 shown-some : (part number : ℕ) → shown part number ≢ 0
 shown-some part number e =
     elim (cases_Bool (eqb part 0)) [ inl none ↦ absurd (suc-ne-zero 62 (rw none at e)) | inr some ↦ let sum : 48 + number % 10 ≡ 0 = rw some at e in omega arith ]

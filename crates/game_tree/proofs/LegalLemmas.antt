@@ -4,16 +4,12 @@ use Rattle.std.specs.Prelude.{◌↔◌, fold, slice_get}
 use Rattle.std.proofs.lemmas.List.{drop_more}
 use Rattle.cell_core.specs.declared.step.Move.{Move}
 use Rattle.chess_laws.specs.declared.setup.Setup.{Setup}
-use Rattle.chess_laws.specs.Step.{Step}
+use Rattle.chess_laws.specs.Step.{Step, stepped}
+pub use Rattle.chess_laws.proofs.Stepping.{Step-stepped}
 use Rattle.game_tree.specs.Tree.{Line, ends, goes, Played, line_of, moves_of}
 use Rattle.game_tree.specs.Game.{GameTree}
-use Rattle.game_tree.specs.Replay.{stepped, plies_of, next_at, position_at}
+use Rattle.game_tree.specs.Replay.{plies_of, next_at, position_at}
 use Rattle.game_tree.specs.Legal.{IsComment, IsLegalLine, AreLegalBranches, IsLegalGame}
-
--- a legal move leads to one position alone
-pub Step-stepped : (p : Setup) (m : Move) (q : Setup) → Step p m q → q ≡ stepped p m
-unfolding stepped
-Step-stepped p m q step = step.becomes
 
 here : (p q : Setup) (n : Played) (ns : List Played) → Step p n.mv q → IsComment n.comment → AreLegalBranches p n.variations → IsLegalLine q (line_of ns) ↔ IsLegalLine p (line_of (n ∷ ns))
 here p q n ns step comment branches =
@@ -22,7 +18,7 @@ here p q n ns step comment branches =
       λ whole. subst (λ (r : Setup). IsLegalLine r (line_of ns)) (sym e) whole.1.1.1,
     )
 
--- one more move of a line: what is left is legal exactly where it was with this move
+-- One more move of a line: what is left is legal exactly where it was with this move.
 pub IsLegalLine-more : (p q : Setup) (line : List Played) (i : ℕ) (n : Played) (whole : Type 0) → i < length line → n ≡ get_or line i n → Step p n.mv q → IsComment n.comment → AreLegalBranches p n.variations → (IsLegalLine p (line_of (drop i line)) ↔ whole) → (IsLegalLine q (line_of (drop (i + 1) line)) ↔ whole)
 IsLegalLine-more p q line i n whole under item step comment branches before =
     let left : drop i line ≡ n ∷ drop (i + 1) line = drop_more line i n under ∙ ap (λ (m : Played). m ∷ drop (i + 1) line) (sym item) in

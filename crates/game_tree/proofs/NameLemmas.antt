@@ -1,6 +1,6 @@
 -- No byte of a text is zero, as a test and as a fact.
 use Rattle.std.proofs.Common.{◌≡◌, ◌↔◌, ℕ, Bool, true, not, List, [], ◌∷◌, IsTrue, refl}
-use Rattle.std.specs.Prelude.{◌≢◌, ◌==◌, All}
+use Rattle.std.specs.Prelude.{◌≢◌, ◌==◌}
 use Rattle.std.specs.Bool.{one_answer}
 use Rattle.std.specs.List.{list_all}
 use Rattle.std.proofs.lemmas.Bool.{and_parts, and_from, eqb-false, ne_eqb, not-true, not_from_false}

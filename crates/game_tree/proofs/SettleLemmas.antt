@@ -28,7 +28,7 @@ others_again (tag ∷ tags) =
       | inr other ↦ rw (other, other) (ap (λ ts. tag ∷ ts) (others_again tags))
     ]
 
--- without tags EventDate there is no date to take up
+-- Without tags EventDate there is no date to take up.
 pub first_near-others : (game : Date) (tags : List Tag) → first_near_date game (other_tags tags) ≡ None
 unfolding near_date
 first_near-others game [] = refl
@@ -38,12 +38,12 @@ first_near-others game (tag ∷ tags) =
       | inr other ↦ rw (other, other) (first_near-others game tags)
     ]
 
--- a tag EventDate whose text is of a date outside the rule gives no date
+-- A tag EventDate whose text is of a date outside the rule gives no date.
 near-tag : (game date : Date) → IsDate date → is_near date game ≡ false → near_date game (event_date_tag date) ≡ None
 unfolding near_date
 near-tag game date is far = rw (date_read-date_text date is, far) refl
 
--- a tag of another name gives no date
+-- A tag of another name gives no date.
 near-other : (game : Date) (tag : Tag) → is_event_date tag ≡ false → near_date game tag ≡ None
 unfolding near_date
 near-other game tag other = rw other refl
@@ -56,7 +56,7 @@ first_near-replaced game date (tag ∷ tags) is far =
       | inr other ↦ rw (other, near-other game tag other) (first_near-replaced game date tags is far)
     ]
 
--- what the tags give is within the rule
+-- What the tags give is within the rule.
 record IsWithin (game date : Date) : Type 0 where
   near : is_near date game ≡ true
   bounded : IsDate date
@@ -86,7 +86,7 @@ first_near-within game [] date e = absurd (none-some date e)
 first_near-within game (tag ∷ tags) date e =
     first_of-within game (near_date game tag) (first_near_date game tags) (near_date-within game tag) (first_near-within game tags) date e
 
--- settling by its three rules
+-- Settling by its three rules.
 pub settled-near : (head : Head) → is_near head.event_date head.date ≡ true → settled head ≡ record head { tags = other_tags head.tags }
 unfolding settled
 settled-near head near = rw near refl
@@ -99,11 +99,11 @@ pub settled-far : (head : Head) → is_near head.event_date head.date ≡ false 
 unfolding settled
 settled-far head far known = rw (far, known) refl
 
--- a date of which the year is unknown is not within the rule
+-- A date of which the year is unknown is not within the rule.
 pub unknown-far : (game : Date) → is_near unknown_date game ≡ false
 unknown-far game = refl
 
--- settling again
+-- Settling again.
 taken_up-again : (head : Head) → is_near head.event_date head.date ≡ false → is_unknown head.event_date ≡ true → (found : Option Date) → found ≡ first_near_date head.date head.tags → settled (taken_up head found) ≡ taken_up head found
 taken_up-again head far unknown None found = settled-unknown head far unknown ∙ ap (taken_up head) (sym found)
 taken_up-again head far unknown (Some date) found =
@@ -127,7 +127,7 @@ settled-settled head is =
       ]
     ]
 
--- the rule of event dates
+-- The rule of event dates.
 keeps_rule-near : (head : Head) → is_near head.event_date head.date ≡ true → IsTrue (keeps_rule head.event_date head.date)
 keeps_rule-near head near =
     elim (cases_Bool (is_unknown head.event_date)) [ inl unknown ↦ rw unknown refl | inr known ↦ rw (known, near) refl ]
@@ -153,7 +153,7 @@ settled-keeps_rule head =
       ]
     ]
 
--- the bounds
+-- The bounds.
 with_date : (head : Head) → IsBounded head → (date : Date) → IsDate date → (tags : List Tag) → All IsTag tags → IsBounded (record head { event_date = date; tags = tags })
 with_date head is date dated tags named = record {
   white = is.white;

@@ -1,11 +1,11 @@
 -- What edits of heads keep, and that settling goes beside the parts that it does not ask for.
-use Rattle.std.proofs.Common.{◌≡◌, ℕ, ◌≤◌, ◌<◌, ◌^◌, Bool, true, false, eqb, List, [], ◌∷◌, ◌++◌, Option, Some, None, Result, Ok, Err, IsTrue, refl, sym, ap, subst, ◌∙◌, inl, inr, arith}
-use Rattle.std.specs.Prelude.{not, ◌&&◌, ◌||◌, ◌==◌, ◌≢◌, nat_le, if◌then◌else◌, All, codes, length}
+use Rattle.std.proofs.Common.{◌≡◌, ℕ, ◌≤◌, ◌<◌, ◌^◌, Bool, true, false, eqb, List, [], ◌∷◌, ◌++◌, Option, Some, None, Result, Ok, refl, sym, ap, subst, ◌∙◌, inl, inr, arith}
+use Rattle.std.specs.Prelude.{not, ◌&&◌, ◌==◌, nat_le, if◌then◌else◌, All, codes, length}
 use Rattle.std.specs.List.{list_all}
 use Rattle.std.specs.Str.{bytes_eq}
-use Rattle.std.proofs.lemmas.Bool.{cases_Bool, and_parts, eqb-true, eqb-false, leb-true, not-true, false_from_ne_true}
-use Rattle.std.proofs.lemmas.Option.{same_Some, none-some}
-use Rattle.std.proofs.lemmas.List.Elements.{All-nil, All-cons, All-head, All-tail, All-filter}
+use Rattle.std.proofs.lemmas.Bool.{cases_Bool, and_parts, eqb-true, eqb-false, leb-true, false_from_ne_true}
+use Rattle.std.proofs.lemmas.Option.{same_Some}
+use Rattle.std.proofs.lemmas.List.Elements.{All-cons, All-head, All-tail, All-filter}
 use Rattle.std.proofs.lemmas.List.Sums.{AllPass-from_list_all}
 use Rattle.std.proofs.lemmas.Slice.Eq.{bytes_eq-Decides}
 use Rattle.cell_core.specs.declared.man.Colour.{Colour}
@@ -17,7 +17,7 @@ use Rattle.game_tree.specs.TagName.{is_refused, is_reserved, is_tag_byte, is_tag
 use Rattle.game_tree.specs.Head.{IsBounded, IsName, is_name, IsRating, IsTag}
 use Rattle.game_tree.specs.Settle.{event_date_name, event_date_tag, first_near_date, taken_up, with_dates, settled, IsSettled}
 use Rattle.game_tree.specs.TagList.{is_named, tags_without, put_tag, with_tag}
-use Rattle.game_tree.specs.TagEdit.{valued, eco_value, rating_with, rating_edit, rating_or_extra, named_edit, IsEdit, edit_of, with_event_date, with_extra, changed, edited}
+use Rattle.game_tree.specs.TagEdit.{valued, eco_value, rating_with, rating_edit, rating_or_extra, named_edit, IsEdit, edit_of, with_event_date, changed, edited}
 use Rattle.game_tree.specs.declared.date.Date.{Date}
 use Rattle.game_tree.specs.declared.head.Tag.{Tag}
 use Rattle.game_tree.specs.declared.head.Head.{Head}
@@ -31,7 +31,7 @@ use Rattle.game_tree.proofs.DateLemmas.{date_read-IsDate}
 use Rattle.game_tree.proofs.DecimalLemmas.{decimal_read-bound}
 use Rattle.game_tree.proofs.EcoLemmas.{eco_read-bound}
 use Rattle.game_tree.proofs.TagNameLemmas.{rating_of-kind}
-use Rattle.game_tree.proofs.SettleLemmas.{settled-near, settled-unknown, settled-far, settled-settled, settled-IsBounded, first_near-others, others_again, unknown-far}
+use Rattle.game_tree.proofs.SettleLemmas.{settled-near, settled-unknown, settled-far, settled-settled, settled-IsBounded, first_near-others, others_again}
 
 -- ---- settling changes the event date and the tags alone
 

@@ -4,24 +4,24 @@ use Rattle.std.specs.List.{list_all}
 use Rattle.game_tree.specs.Decimal.{decimal_read}
 use Rattle.game_tree.specs.declared.date.Date.{Date}
 
--- the date of which nothing is known
+-- The date of which nothing is known.
 abbrev pub unknown_date : Date
 unknown_date = record { year = 0; month = 0; day = 0 }
 
 abbrev pub is_unknown : Date → Bool
 is_unknown d = (d.year == 0) && (d.month == 0) && (d.day == 0)
 
--- the greatest year, month and day of a date that is kept (this project's own; zero is unknown)
+-- The greatest year, month and day of a date that is kept (this project's own; zero is unknown).
 pub record IsDate (d : Date) : Type 0 where
   pub year : d.year ≤ 2047
   pub month : d.month ≤ 12
   pub day : d.day ≤ 31
 
--- the last digit of a number, or a question mark where the part of the date is unknown
+-- The last digit of a number, or a question mark where the part of the date is unknown.
 abbrev pub shown : ℕ → ℕ → ℕ
-shown part number = if part == 0 then 63 else 48 + number % 10
+shown whole number = if whole == 0 then 63 else 48 + number % 10
 
--- the text of a date, as `1994.05.??`
+-- The text of a date, as `1994.05.??`.
 unfoldable pub date_text : Date → List ℕ
 date_text d =
     shown d.year (d.year / 1000)
@@ -36,23 +36,23 @@ date_text d =
     ∷ shown d.day d.day
     ∷ []
 
--- a part of a date's text that is at most a limit: question marks mean unknown, which is 0, and digits their number
+-- A part of a date's text that is at most a limit: question marks mean unknown, which is 0, and digits their number.
 unfoldable pub part : ℕ → List ℕ → Option ℕ
 part limit text =
     if list_all (λ c. c == 63) text then Some 0 else decimal_read limit text
 
--- the date of three parts, where all are there
+-- The date of three parts, where all are there.
 abbrev pub of_parts : Option ℕ → Option ℕ → Option ℕ → Option Date
 of_parts (Some y) (Some m) (Some d) = Some (record { year = y; month = m; day = d })
 of_parts (Some y) (Some m) None = None
 of_parts (Some y) None d = None
 of_parts None m d = None
 
--- the date of the texts of its three parts
+-- The date of the texts of its three parts.
 abbrev pub dated : List ℕ → List ℕ → List ℕ → Option Date
 dated y m d = of_parts (part 2047 y) (part 12 m) (part 31 d)
 
--- the date that a text reads as: the whole form, or its year alone, or its year and month
+-- The date that a text reads as: the whole form, or its year alone, or its year and month.
 unfoldable pub date_read : List ℕ → Option Date
 date_read text =
     if length text == 4 then dated text (codes "??") (codes "??")
@@ -70,7 +70,7 @@ date_number d = d.year * 512 + d.month * 32 + d.day
 abbrev pub date_of : ℕ → Date
 date_of number = record { year = number / 512; month = number / 32 % 16; day = number % 32 }
 
--- the rule of event dates (this project's own): a known year that differs by at most 3 from the game's known year
+-- The rule of event dates (this project's own): a known year that differs by at most 3 from the game's known year.
 abbrev pub is_near : Date → Date → Bool
 is_near event game =
     nat_le 1 event.year && nat_le event.year 2047 && nat_le 1 game.year

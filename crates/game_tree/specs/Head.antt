@@ -45,6 +45,14 @@ pub record IsBounded (head : Head) : Type 0 where
   pub marks : head.marks < 2 ^ 18
   pub tags : All IsTag head.tags
 
+-- No name of these fields has a zero byte.
+pub record HasTexts (h : HeadRef) : Type 0 where
+  pub white : IsZeroFree h.white.now
+  pub black : IsZeroFree h.black.now
+  pub event : IsZeroFree h.event.now
+  pub site : IsZeroFree h.site.now
+  pub round : IsZeroFree h.round.now
+
 -- The head of these fields and these tags.
 abbrev pub head_of : HeadRef → List Tag → Head
 head_of h given = record {

@@ -1,10 +1,9 @@
 -- Which games are legal (FIDE Laws, Article 3, for the moves; PGN standard, 8.2, for lines and variations).
 use Rattle.std.specs.Prelude.{◌≢◌, ℕ, ◌≤◌, List, [], Option, Some, None}
 use Rattle.chess_laws.specs.declared.setup.Setup.{Setup}
-use Rattle.chess_laws.specs.Step.{Step}
+use Rattle.chess_laws.specs.Step.{Step, stepped}
 use Rattle.game_tree.specs.Tree.{Line, ends, goes, Branches, none, more, depth_of}
 use Rattle.game_tree.specs.Game.{GameTree}
-use Rattle.game_tree.specs.Replay.{stepped}
 
 -- A comment is not empty.
 abbrev pub IsComment : Option (List ℕ) → Type 0

@@ -13,12 +13,12 @@ event_date_name = codes "EventDate"
 abbrev pub event_date_tag : Date → Tag
 event_date_tag date = record { name = event_date_name; value = date_text date }
 
--- The date, where it follows the rule with the game's date
+-- The date, where it follows the rule with the game's date.
 abbrev pub near_only : Date → Option Date → Option Date
 near_only game None = None
 near_only game (Some date) = if is_near date game then Some date else None
 
--- The date of a tag EventDate that reads as a date within the rule
+-- The date of a tag EventDate that reads as a date within the rule.
 unfoldable pub near_date : Date → Tag → Option Date
 near_date game tag = if is_named event_date_name tag then near_only game (date_read tag.value) else None
 
@@ -26,12 +26,12 @@ abbrev pub first_of : Option Date → Option Date → Option Date
 first_of None later = later
 first_of (Some date) later = Some date
 
--- The first such date of the tags
+-- The first such date of the tags.
 abbrev pub first_near_date : Date → List Tag → Option Date
 first_near_date game [] = None
 first_near_date game (tag ∷ tags) = first_of (near_date game tag) (first_near_date game tags)
 
--- A head without an event date, where the tags have this first date within the rule
+-- A head without an event date, where the tags have this first date within the rule.
 abbrev pub taken_up : Head → Option Date → Head
 taken_up head None = head
 taken_up head (Some date) = record head { event_date = date; tags = tags_without event_date_name head.tags }
@@ -49,6 +49,6 @@ settled head =
 abbrev pub with_dates : Head → Date → Date → Head
 with_dates head game event = record head { date = game; event_date = event }
 
--- A head that settling leaves as it is
+-- A head that settling leaves as it is.
 abbrev pub IsSettled : Head → Type 0
 IsSettled head = settled head ≡ head

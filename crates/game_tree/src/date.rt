@@ -1,3 +1,4 @@
+//! Dates and their texts.
 ghost use Rattle.std.specs.Prelude.{◌≡◌, ◌==◌, ◌≤◌, ◌<◌, ◌^◌, length, IfSome};
 ghost use Rattle.std.specs.List.{list_all};
 ghost use Rattle.cell_core.specs.Text.{IsZeroFree};
@@ -176,11 +177,11 @@ fn is_unknown_part(text: &[u8]) -> bool
     text.iter().all(|c| *c == b'?')
 }
 
-// The last digit of `number` as text, or a question mark where `part` is 0.
-fn shown(part: u16, number: u16) -> u8
-    ensures { result ≡ shown part number }
+// The last digit of `number` as text, or a question mark where the whole part of the date is 0.
+fn shown(whole: u16, number: u16) -> u8
+    ensures { result ≡ shown whole number }
 {
-    if part == 0 {
+    if whole == 0 {
         b'?'
     } else {
         b'0' + (number % 10) as u8

@@ -4,7 +4,7 @@ ghost use Rattle.std.specs.List.{AllPass, list_all};
 ghost use Rattle.std.specs.Bool.{OnTrue};
 ghost use Rattle.std.specs.Char.{is_ascii_digit};
 ghost use Rattle.std.specs.Fmt.{decimal};
-ghost use Rattle.game_tree.specs.Decimal.{decimal_value, decimal_read};
+ghost use Rattle.game_tree.specs.Decimal.{decimal_value, decimal_read, IsPadded};
 
 /// The number that `text` writes in decimal digits, at most `limit`. Leading zeros do no harm. `None` where the text is
 /// empty, has a byte that is no digit, or writes a greater number.
@@ -12,6 +12,7 @@ ghost use Rattle.game_tree.specs.Decimal.{decimal_value, decimal_read};
 pub fn read_decimal(text: &[u8], limit: u64) -> Option<u64>
     ensures read { result ≡ decimal_read limit text.now }
     ensures bound { IfSome result (λ number. number ≤ limit) }
+    ensures padded { IfSome result (λ number. IsPadded text.now number) }
     ensures written { (n : ℕ) → n ≤ limit → text.now ≡ decimal n → result ≡ Some n }
 {
     number_of(text, limit)

@@ -64,15 +64,11 @@ pub struct Head {
 }
 
 impl Head {
-    ghost use Rattle.game_tree.specs.Head.{head_of, without_tags};
+    ghost use Rattle.game_tree.specs.Head.{head_of, without_tags, HasTexts};
 
     /// The head of these fields and these tags. It fails only for want of memory.
     pub fn of(alloc: Global, fields: HeadRef<'_>, tags: Tags) -> Result<Head, AllocError>
-        requires white { IsZeroFree fields.white.now }
-        requires black { IsZeroFree fields.black.now }
-        requires event { IsZeroFree fields.event.now }
-        requires site { IsZeroFree fields.site.now }
-        requires round { IsZeroFree fields.round.now }
+        requires texts { HasTexts fields }
         ensures head { IfOk result (λ head. head ≡ head_of fields.entry tags) }
     {
         Ok(Head {
@@ -97,6 +93,7 @@ impl Head {
     pub fn fields(&self) -> HeadRef<'_>
         ensures fields { head_of result self.now.tags ≡ self.now }
         ensures without_tags { head_of result [] ≡ without_tags self.now }
+        ensures texts { HasTexts result }
     {
         HeadRef {
             white: self.white.as_bytes(),

@@ -2,23 +2,23 @@
 //! results, ratings and tags.
 #![tactic(auto)]
 
-pub mod bounds;
+mod bounds;
 mod builder;
 mod counts;
-pub mod date;
+mod date;
 mod decimal;
 mod eco;
 mod game;
-pub mod head;
+mod head;
 mod legality;
 mod node;
 mod open_line;
 mod outcome;
 mod promotions;
-pub mod settling;
+mod settling;
 mod tag_edit;
-pub mod tag_name;
-pub mod tags;
+mod tag_name;
+mod tags;
 
 pub use bounds::{are_bounded, is_name};
 pub use builder::Builder;
@@ -35,5 +35,7 @@ pub use tag_edit::{TagEdit, TagEditError, apply};
 pub use tag_name::{is_refused, is_reserved, is_tag_byte, is_tag_name, rating_of, rating_tag};
 pub use tags::Tags;
 
+#[cfg(test)]
+mod edit_tests;
 #[cfg(test)]
 mod tests;

@@ -4,3 +4,4 @@ pub mod ReadLemmas
 pub mod WrittenLemmas
 pub mod SoundLemmas
 pub mod IndexLemmas
+pub mod KeptLemmas

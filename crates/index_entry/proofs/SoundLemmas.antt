@@ -31,19 +31,19 @@ field-lt b (p ∷ ps) =
     power_step (bit_in b p) (field b ps) (2 ^ length ps) (2 ^ suc (length ps)) bit (field-lt b ps) (ap (λ n. 2 ^ n) (omega arith) ∙ pow-add 2 1 (length ps))
 
 -- The tests of a read that found no fault.
-record Passed (b : List ℕ) : Type 0 where
-  outcome : field b places.outcome ≤ 3
-  eco : field b places.eco ≤ 65500
-  month : (date_in b).month ≤ 12
-  event_month : (event_date_in b).month ≤ 12
-  white : is_bad_rating (field b places.white_kind) (field b places.white_value) ≡ false
-  black : is_bad_rating (field b places.black_kind) (field b places.black_value) ≡ false
+pub record Passed (b : List ℕ) : Type 0 where
+  pub outcome : field b places.outcome ≤ 3
+  pub eco : field b places.eco ≤ 65500
+  pub month : (date_in b).month ≤ 12
+  pub event_month : (event_date_in b).month ≤ 12
+  pub white : is_bad_rating (field b places.white_kind) (field b places.white_value) ≡ false
+  pub black : is_bad_rating (field b places.black_kind) (field b places.black_value) ≡ false
 
 guard : (t : Bool) (f : EntryFault) (rest : Option EntryFault) (entry e : Entry) → first_of (cond t (Some f) rest) entry ≡ Ok e → (t ≡ false) × (first_of rest entry ≡ Ok e)
 guard true f rest entry e is = absurd cc
 guard false f rest entry e is = (refl, is)
 
-passed : (b : List ℕ) (e : Entry) → entry_read b ≡ Ok e → Passed b × (entry_in b ≡ e)
+pub passed : (b : List ℕ) (e : Entry) → entry_read b ≡ Ok e → Passed b × (entry_in b ≡ e)
 unfolding entry_read fault_in
 passed b e is =
     let bad = is_bad_rating (field b places.white_kind) (field b places.white_value) || is_bad_rating (field b places.black_kind) (field b places.black_value) in
@@ -79,13 +79,13 @@ unknown_sound : IsDate unknown_date
 unknown_sound = record { year = omega arith; month = omega arith; day = omega arith }
 
 -- What the test of an event date says.
-record Has (year code : ℕ) : Type 0 where
-  code_some : 0 < code
-  year_some : 0 < year
-  low : 4 < year + code
-  high : year + code < 2052
+pub record Has (year code : ℕ) : Type 0 where
+  pub code_some : 0 < code
+  pub year_some : 0 < year
+  pub low : 4 < year + code
+  pub high : year + code < 2052
 
-has_is : (year code : ℕ) → has_event_date year code ≡ true → Has year code
+pub has_is : (year code : ℕ) → has_event_date year code ≡ true → Has year code
 has_is year code e =
     let a = and_parts (ltb 0 code && ltb 0 year && ltb 4 (year + code)) (ltb (year + code) 2052) e in
     let b = and_parts (ltb 0 code && ltb 0 year) (ltb 4 (year + code)) a.0 in

@@ -4,7 +4,7 @@ ghost use Rattle.index_entry.specs.Counts.{count_code};
 
 /// The code that an entry keeps of a number of variations, comments or NAGs: up to 10 the number itself, from 11 on one code for
 /// several numbers.
-pub fn count_code(count: u32) -> u8
+pub fn count_code(count: u64) -> u8
     ensures code { result ≡ count_code count }
     ensures small { result < 16 }
 {

@@ -13,4 +13,7 @@ pub use entry::Entry;
 pub use fault::{EntryFault, IndexFault};
 pub use index::{ENTRY_LEN, HEADER_LEN, IndexHead, entry_of, read_index, write_index};
 pub use packing::pack;
-pub use unpacking::unpack;
+pub use unpacking::{place_of, unpack};
+
+#[cfg(test)]
+mod tests;

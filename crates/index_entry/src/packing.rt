@@ -1,8 +1,8 @@
 //! The 47 bytes of an entry.
-ghost use Rattle.std.specs.Prelude.{◌≡◌, ◌≤◌, ◌<◌, ◌+◌, ◌*◌, ◌^◌, ◌++◌, IsTrue, length, slice_index, take, drop};
+ghost use Rattle.std.specs.Prelude.{ℕ, List, Ok, ◌≡◌, ◌≤◌, ◌<◌, ◌+◌, ◌*◌, ◌^◌, ◌++◌, IsTrue, length, slice_index, take, drop};
 ghost use Rattle.game_tree.specs.Date.{IsDate, keeps_rule};
 ghost use Rattle.game_tree.specs.Head.{IsRating};
-ghost use Rattle.index_entry.specs.Entry.{IsEntry, IsWritten};
+ghost use Rattle.index_entry.specs.Entry.{IsEntry, IsWritten, AreCleared, entry_read};
 ghost use Rattle.index_entry.specs.Writing.{byte_of, code_of, flags_of, counts_of, event_number, dates_word, rating_word, place_bytes, id_bytes, game_bytes, two_of, last_bytes, written};
 
 use crate::Entry;
@@ -13,6 +13,10 @@ pub fn pack(e: &Entry) -> [u8; 47]
     requires { IsEntry e.now }
     // The bytes say the entry, and have zeros in all places that say nothing.
     ensures written { IsWritten result e.now }
+    // Unpacked, they give the entry.
+    ensures read_again { entry_read result ≡ Ok e.now }
+    // Of whatever bytes the entry was unpacked, they are those with zeros in the places of theirs that say nothing.
+    ensures cleared { (bytes : List ℕ) → entry_read bytes ≡ Ok e.now → AreCleared bytes result }
 {
     write_entry(e)
 }

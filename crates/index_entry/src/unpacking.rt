@@ -2,7 +2,7 @@
 ghost use Rattle.std.specs.Prelude.{◌≡◌, ◌≤◌, ◌<◌, ◌+◌, ◌*◌, ◌^◌, map, IfOk};
 ghost use Rattle.std.specs.List.{range_with_len};
 ghost use Rattle.byteorder.specs.Endian.{big_from};
-ghost use Rattle.index_entry.specs.Entry.{IsEntry, entry_read};
+ghost use Rattle.index_entry.specs.Entry.{IsEntry, entry_in, entry_read};
 ghost use Rattle.index_entry.specs.Reading.{outcome_at, eco_at, event_at, dates_at, rating_at, material_at, home_at, entry_at};
 
 use crate::{Entry, EntryFault};
@@ -21,6 +21,14 @@ pub fn unpack(b: &[u8; 47]) -> Result<Entry, EntryFault>
     ensures sound { IfOk result IsEntry }
 {
     read_entry(b)
+}
+
+/// Where the record of an entry begins in the games file, and its length, whatever the other fields say.
+pub fn place_of(b: &[u8; 47]) -> (u32, u32)
+    ensures offset { result.0 ≡ (entry_in b.now).offset }
+    ensures len { result.1 ≡ (entry_in b.now).len }
+{
+    (quad(b, 0), split(b[6] / 128, word(b, 4)))
 }
 
 #[tactic(auto, unfolding(crate::specs::Reading::entry_at, crate::specs::Reading::fields_at))]

@@ -7,5 +7,6 @@ pub mod Arguments
 pub mod Items
 pub mod HeadItems
 pub mod MatItems
+pub mod Tagging
 pub mod Reading
 pub mod Spelling

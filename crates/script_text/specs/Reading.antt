@@ -6,7 +6,7 @@ use Rattle.chess_text.specs.Filling.{board_named}
 use Rattle.game_filter.specs.declared.op.Op.{Op}
 use Rattle.sig_index.specs.Queries.{any_head, any_material}
 use Rattle.script_text.specs.declared.command.Command.{Command}
-use Rattle.script_text.specs.declared.command.Command.TheVariants.{Nothing, Find, SearchPosition, SearchMaterial, SearchHeader, Reset, Clear, Negate, Restrict, Keep, Take, And, Or, Drop, Hits, List as Listing, Show, Export, Import, Replace, Delete, Undelete, Mark, Tree, Save, Info, Demo, Quit}
+use Rattle.script_text.specs.declared.command.Command.TheVariants.{Nothing, Find, SearchPosition, SearchMaterial, SearchHeader, Reset, Clear, Negate, Restrict, Keep, Take, And, Or, Drop, Hits, List as Listing, Show, Export, Import, Replace, Tag, Delete, Undelete, Mark, Tree, Save, Info, Demo, Quit}
 use Rattle.script_text.specs.declared.fault.ScriptFault.{ScriptFault}
 use Rattle.script_text.specs.declared.fault.ScriptFault.TheVariants.{TooLong, Unknown}
 use Rattle.script_text.specs.declared.forms.SearchKind.{SearchKind}
@@ -14,9 +14,10 @@ use Rattle.script_text.specs.declared.forms.SearchKind.TheVariants as kind
 use Rattle.script_text.specs.Words.{Word, words_of}
 use Rattle.script_text.specs.Forms.{side, op, search_kind, mode, switch, mark_bit, filter_name, body_end}
 use Rattle.script_text.specs.Numbers.{number, demo_games}
-use Rattle.script_text.specs.Arguments.{◌>>=◌, argument, no_more, one, two, three}
+use Rattle.script_text.specs.Arguments.{◌>>=◌, text_at, argument, no_more, one, two, three}
 use Rattle.script_text.specs.Items.{items}
 use Rattle.script_text.specs.HeadItems.{head_item}
+use Rattle.script_text.specs.Tagging.{tag_edit}
 use Rattle.script_text.specs.MatItems.{mat_item}
 
 -- The command that is made of its arguments, or their fault.
@@ -46,6 +47,15 @@ search words = do
   looks_at ← argument 2 search_kind words
   search_of looks_at operation words
 
+-- tag NUMBER NAME VALUE
+unfoldable pub tag : List Word → Result Command ScriptFault
+tag words = do
+  game ← argument 1 number words
+  name ← argument 2 (λ word. Some word) words
+  edit ← tag_edit name (text_at words 3)
+  done ← no_more 3 words
+  Ok (Tag game edit)
+
 -- ---- the table of commands
 
 unfoldable pub ending : List ℕ → List Word → Result Command ScriptFault
@@ -59,6 +69,7 @@ unfoldable pub editing : List ℕ → List Word → Result Command ScriptFault
 editing name words =
     if bytes_eq name (codes "import") then made Import (one body_end words)
     else if bytes_eq name (codes "replace") then made (λ given. Replace given.0 given.1) (two number body_end words)
+    else if bytes_eq name (codes "tag") then tag words
     else if bytes_eq name (codes "delete") then made Delete (one number words)
     else if bytes_eq name (codes "undelete") then made Undelete (one number words)
     else if bytes_eq name (codes "mark") then made (λ given. Mark given.0 given.1 given.2) (three number mark_bit switch words)

@@ -1,6 +1,7 @@
 //! The commands of a script.
 use cell_core::{Board, Colour, Text};
 use game_filter::Op;
+use game_tree::TagEdit;
 use sig_index::{HeadQuery, MatQuery, PosQuery};
 
 /// What a line of a script says.
@@ -46,6 +47,8 @@ pub enum Command {
     Import(Text),
     /// `replace G <<WORD`, with the word that ends the body.
     Replace(u64, Text),
+    /// `tag G NAME VALUE`
+    Tag(u64, TagEdit),
     /// `delete G`
     Delete(u64),
     /// `undelete G`

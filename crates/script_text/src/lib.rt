@@ -11,6 +11,7 @@ mod mat_items;
 mod numbers;
 mod reading;
 mod spelling;
+mod tagging;
 mod words;
 
 pub use command::Command;

@@ -14,6 +14,7 @@ use crate::command::Command;
 use crate::fault::{CommandError, ScriptFault};
 use crate::forms::{SearchKind, board, mode, op, search_kind, side};
 use crate::items::{head_items, mat_items};
+use crate::tagging::tag;
 use crate::words::{Word, cut};
 use cell_core::Text;
 use game_filter::Op;
@@ -161,6 +162,9 @@ fn editing(alloc: Global, name: &[u8], words: &[Word]) -> Result<Command, Comman
     if name == b"replace".as_slice() {
         let (game, end) = number_and_body(words)?;
         return Ok(Command::Replace(game, text(alloc, end)?));
+    }
+    if name == b"tag".as_slice() {
+        return tag(alloc, words);
     }
     if name == b"delete".as_slice() {
         return Ok(Command::Delete(one_number(words)?));

@@ -4,12 +4,12 @@ use Rattle.std.specs.Prelude.{fold}
 use Rattle.std.proofs.lemmas.Bool.{cases_lt}
 use Rattle.std.proofs.lemmas.List.{drop_more}
 use Rattle.chess_laws.specs.declared.setup.Setup.{Setup}
-use Rattle.chess_laws.specs.Step.{Step}
+use Rattle.chess_laws.specs.Step.{Step, stepped}
 use Rattle.game_tree.specs.Game.{GameTree}
 use Rattle.game_tree.specs.Tree.{Line, ends, Played, line_of, moves_of}
-use Rattle.game_tree.specs.Replay.{stepped, position_at, plies_of}
+use Rattle.game_tree.specs.Replay.{position_at, plies_of}
 use Rattle.game_tree.specs.Legal.{IsLegalGame, IsLegalLine}
-use Rattle.game_tree.proofs.LegalLemmas.{Step-stepped}
+use Rattle.chess_laws.proofs.Stepping.{Step-stepped}
 use Rattle.shell_session.specs.declared.placed.Placed.{Placed}
 use Rattle.shell_session.specs.Placed.{FirstPly, placed}
 

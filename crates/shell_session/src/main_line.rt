@@ -6,7 +6,6 @@ ghost use Rattle.game_tree.specs.Replay.{plies_of};
 ghost use Rattle.shell_session.specs.Placed.{FirstPly, placed};
 
 use crate::placed::Placed;
-use cell_core::Board;
 use chess_laws::Position;
 use game_tree::Game;
 
@@ -38,12 +37,5 @@ pub(crate) fn first_ply(game: &Game, sought: &Placed) -> Option<u32>
 fn stands_at(position: &Position, sought: &Placed) -> bool
     ensures { IsTrue result ↔ (placed position.now ≡ sought.now) }
 {
-    position.side() == sought.side && is_same_board(position.board(), &sought.board)
-}
-
-/// Whether two boards have the same men on the same squares.
-fn is_same_board(board: &Board, other: &Board) -> bool
-    ensures { IsTrue result ↔ (board.now ≡ other.now) }
-{
-    board == other
+    position.side() == sought.side && position.board().is_same(&sought.board)
 }
