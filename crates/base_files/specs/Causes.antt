@@ -11,19 +11,6 @@ abbrev pub HasCause : DeviceError → ℕ → ℕ → Type 0
 HasCause device.Failed old new = Rose old new
 HasCause device.Memory old new = ⊤
 
--- The counts of faults of the three devices of a run: its input, its output and the files of its base.
-pub record Counts : Type 0 where
-  pub input : ℕ
-  pub output : ℕ
-  pub files : ℕ
-
--- The cause of an early end, where the counts went from `old` to `new`: the device that is named counted a fault; want of memory is free.
-abbrev pub Why : Stop → Counts → Counts → Type 0
-Why stop.Read old new = Rose old.input new.input
-Why stop.Write old new = Rose old.output new.output
-Why stop.Files old new = Rose old.files new.files
-Why stop.Memory old new = ⊤
-
 -- The early end that an error of the input is.
 abbrev pub input_stop : DeviceError → Stop
 input_stop device.Failed = stop.Read

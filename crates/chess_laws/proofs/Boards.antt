@@ -91,7 +91,7 @@ pub record Goes (men : Men) (a b : ℕ) (c : Colour) (k j : Kind) : Type 0 where
 Goes-apart : (men : Men) (a b : ℕ) (c : Colour) (k j : Kind) → Goes men a b c k j → a ≡ b → ⊥
 Goes-apart men a b c k j g h = g.no_own k (rw (← h) g.from)
 
-Goes-count : (men : Men) (a b : ℕ) (c : Colour) (k j : Kind) → Goes men a b c k j → (p : Option Man → Bool) → p None ≡ false →
+pub Goes-count : (men : Men) (a b : ℕ) (c : Colour) (k j : Kind) → Goes men a b c k j → (p : Option Man → Bool) → p None ≡ false →
     count_by p (relocate men a b (Some (man c j))) + one_if (p (Some (man c k))) + one_if (p (man_at men b)) ≡ count_by p men + one_if (p (Some (man c j)))
 Goes-count men a b c k j g p none =
     let x : Option Man = Some (man c j) in

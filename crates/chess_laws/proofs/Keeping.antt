@@ -103,7 +103,7 @@ double-inside Black men a b own walk =
     (omega arith, omega arith)
 
 -- a plain move never ends on a man of its own side
-plain-no_own : (p : Setup) (m : Move) (k : Kind) → GoesPlainly p k m → (i : Kind) → man_at p.board m.to ≡ Some (man p.side i) → ⊥
+pub plain-no_own : (p : Setup) (m : Move) (k : Kind) → GoesPlainly p k m → (i : Kind) → man_at p.board m.to ≡ Some (man p.side i) → ⊥
 plain-no_own p m Pawn (inl g) i h = cc
 plain-no_own p m Pawn (inr g) i h = other-apart p.side (sym (man-colour (other p.side) p.side g.1.0 i (sym g.1.1 ∙ h)))
 plain-no_own p m King g i h = g.1 i h

@@ -11,6 +11,8 @@ pub mod Walks
 pub mod Rows
 pub mod Lines
 pub mod Checks
+pub mod Counting
+pub mod Untouched
 pub mod Opening
 pub mod Attackers
 pub mod Collecting

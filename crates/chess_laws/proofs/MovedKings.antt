@@ -1,5 +1,5 @@
 -- Where the kings stand after a move, and what is kept beside the position then.
-use Rattle.std.proofs.Common.{◌≡◌, ℕ, ◌<◌, inl, inr, true, eqb, Some, None, length, count_by, Bool, refl, sym, ◌∙◌, ap}
+use Rattle.std.proofs.Common.{◌≡◌, ℕ, ◌<◌, inl, inr, true, eqb, Some, None, length, count_by, Bool, List, refl, sym, ◌∙◌, ap}
 use Rattle.std.proofs.lemmas.Bool.{eq-eqb, ne_eqb, cases_eq}
 use Rattle.cell_core.specs.declared.man.Colour.{Colour}
 use Rattle.cell_core.specs.declared.man.Colour.TheVariants.{White, Black}
@@ -16,6 +16,7 @@ use Rattle.chess_laws.specs.Geometry.{rank_of}
 use Rattle.chess_laws.specs.Attacks.{IsInCheck}
 use Rattle.chess_laws.specs.Castling.{rook_home, rook_target}
 use Rattle.chess_laws.specs.Checks.{in_check}
+use Rattle.chess_laws.specs.Counts.{counts_of}
 use Rattle.chess_laws.specs.Position.{Sound, Keeps, king_square}
 use Rattle.chess_laws.specs.Step.{effect_of, last_rank, PlainCase, PassingCase, CastleCase, Case, arriving, moved, passed_square, board_after, after, Legal}
 use Rattle.chess_laws.specs.Legal.{IsOnlyKing, king_after}
@@ -152,9 +153,10 @@ pub first-only : (men : Men) (c : Colour) → count_by (is_man c King) men ≡ 1
 first-only men c one = record { stands = king-stands men c one; only = λ t h. king-only men c t one h }
 
 -- what is kept beside the position follows it
-pub Keeps-white : (p : Setup) (m : Move) (white black : ℕ) (checked next : Bool) → p.side ≡ White → Keeps p white black checked → Legal p m →
-    next ≡ in_check (after p m (effect_of p m)) → Keeps (after p m (effect_of p m)) (king_after white m) black next
-Keeps-white p m white black checked next side kept legal told =
+pub Keeps-white : (p : Setup) (m : Move) (white black : ℕ) (checked next : Bool) (counts men : List ℕ) → p.side ≡ White → Keeps p white black checked counts → Legal p m →
+    next ≡ in_check (after p m (effect_of p m)) → men ≡ counts_of (board_after p m (effect_of p m)) →
+    Keeps (after p m (effect_of p m)) (king_after white m) black next men
+Keeps-white p m white black checked next counts men side kept legal told counted =
     let sound = kept.sound in
     let case = legal-allowed p m legal in
     let after_it = Sound-after p m sound legal in
@@ -168,11 +170,13 @@ Keeps-white p m white black checked next side kept legal told =
       black_king = king-only board Black black (after_it.kings Black)
           (resting-king p m (effect_of p m) black sound stands refl case ∙ ap (λ c. Some (man (other c) King)) side);
       check = told;
+      census = counted;
     }
 
-pub Keeps-black : (p : Setup) (m : Move) (white black : ℕ) (checked next : Bool) → p.side ≡ Black → Keeps p white black checked → Legal p m →
-    next ≡ in_check (after p m (effect_of p m)) → Keeps (after p m (effect_of p m)) white (king_after black m) next
-Keeps-black p m white black checked next side kept legal told =
+pub Keeps-black : (p : Setup) (m : Move) (white black : ℕ) (checked next : Bool) (counts men : List ℕ) → p.side ≡ Black → Keeps p white black checked counts → Legal p m →
+    next ≡ in_check (after p m (effect_of p m)) → men ≡ counts_of (board_after p m (effect_of p m)) →
+    Keeps (after p m (effect_of p m)) white (king_after black m) next men
+Keeps-black p m white black checked next counts men side kept legal told counted =
     let sound = kept.sound in
     let case = legal-allowed p m legal in
     let after_it = Sound-after p m sound legal in
@@ -186,4 +190,5 @@ Keeps-black p m white black checked next side kept legal told =
       black_king = king-only board Black (king_after black m) (after_it.kings Black)
           (mover-king p m (effect_of p m) black sound only refl case ∙ ap (λ c. Some (man c King)) side);
       check = told;
+      census = counted;
     }

@@ -1,11 +1,12 @@
 -- How many men of each kind there are, and which pawns stand at home.
-use Rattle.std.specs.Prelude.{ℕ, ◌-◌, nat_lt, if◌then◌else◌, Bool, List, [], ◌∷◌, count_by}
+use Rattle.std.specs.Prelude.{ℕ, ◌+◌, ◌-◌, nat_lt, if◌then◌else◌, Bool, List, [], ◌∷◌, count_by, Option, Some, None, slice_index_or, slice_set}
 use Rattle.cell_core.specs.declared.man.Colour.{Colour}
 use Rattle.cell_core.specs.declared.man.Colour.TheVariants.{White, Black}
 use Rattle.cell_core.specs.declared.man.Kind.{Kind}
-use Rattle.cell_core.specs.declared.man.Kind.TheVariants.{Queen, Rook, Bishop, Knight, Pawn}
+use Rattle.cell_core.specs.declared.man.Kind.TheVariants.{King, Queen, Rook, Bishop, Knight, Pawn}
 use Rattle.cell_core.specs.Board.{Men, man_at}
-use Rattle.cell_core.specs.Man.{is_man}
+use Rattle.cell_core.specs.Man.{is_man, kind_number, same_kind}
+use Rattle.cell_core.specs.declared.man.Man.{Man}
 
 -- how many men of this colour and kind stand on the board
 abbrev pub count_of : Men → Colour → Kind → ℕ
@@ -17,6 +18,24 @@ counts_of men =
     count_of men White Queen ∷ count_of men White Rook ∷ count_of men White Bishop ∷ count_of men White Knight ∷ count_of men White Pawn
     ∷ count_of men Black Queen ∷ count_of men Black Rook ∷ count_of men Black Bishop ∷ count_of men Black Knight ∷ count_of men Black Pawn
     ∷ []
+
+-- the place of a man's count among the ten; a king has none
+abbrev pub place_in : Colour → ℕ → ℕ
+place_in White n = n
+place_in Black n = 5 + n
+
+abbrev pub slot : Man → ℕ
+slot m = if same_kind m.kind King then 10 else place_in m.colour (kind_number m.kind - 1)
+
+-- the counts with one man more
+abbrev pub more : List ℕ → Option Man → List ℕ
+more counts None = counts
+more counts (Some m) = if nat_lt (slot m) 10 then slice_set counts (slot m) (slice_index_or counts (slot m) 0 + 1) else counts
+
+-- and with one man less
+abbrev pub fewer : List ℕ → Option Man → List ℕ
+fewer counts None = counts
+fewer counts (Some m) = if nat_lt (slot m) 10 then slice_set counts (slot m) (slice_index_or counts (slot m) 0 - 1) else counts
 
 -- the home value of a pawn is 15 down to 8 for a2 to h2, and 7 down to 0 for a7 to h7: the side and the square of a value
 -- (this project's own)

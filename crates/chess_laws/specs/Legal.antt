@@ -86,3 +86,7 @@ is_calm Double = true
 is_calm Passing = false
 is_calm (Castle wing) = false
 is_calm Null = false
+
+-- whether a king or a rook that may castle has this square for its home
+abbrev pub is_home_square : ℕ → Bool
+is_home_square s = (s == 4) || ((s == 60) || ((s == 0) || ((s == 7) || ((s == 56) || (s == 63)))))

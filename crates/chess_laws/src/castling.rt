@@ -1,9 +1,9 @@
 //! Castling: where king and rook stand and go, and which rights are left.
-ghost use Rattle.std.specs.Prelude.{◌≡◌, ◌↔◌, IsTrue, All, None};
+ghost use Rattle.std.specs.Prelude.{◌≡◌, ◌↔◌, ◌||◌, IsTrue, All, None};
 ghost use Rattle.cell_core.specs.Board.{man_at};
 ghost use Rattle.cell_core.specs.Man.{other};
 ghost use Rattle.chess_laws.specs.Attacks.{Attacks};
-ghost use Rattle.chess_laws.specs.Legal.{AreSafe};
+ghost use Rattle.chess_laws.specs.Legal.{AreSafe, is_home_square};
 ghost use Rattle.chess_laws.specs.Castling.{king_home, king_target, rook_home, rook_target, between, king_path, has_right, touches, keeps, rights_after};
 
 use super::attack::attacks;
@@ -72,12 +72,30 @@ pub fn has_right(rights: &Rights, colour: Colour, wing: Wing) -> bool
 pub fn rights_after(rights: &Rights, m: &Move) -> Rights
     ensures { result ≡ rights_after rights.now m.now }
 {
+    if !touches_home(m) {
+        return *rights;
+    }
     Rights {
         white_king_side: keeps(rights, m, Colour::White, Wing::KingSide),
         white_queen_side: keeps(rights, m, Colour::White, Wing::QueenSide),
         black_king_side: keeps(rights, m, Colour::Black, Wing::KingSide),
         black_queen_side: keeps(rights, m, Colour::Black, Wing::QueenSide),
     }
+}
+
+// Whether the move begins or ends on the home square of a king or a rook that may castle.
+fn touches_home(m: &Move) -> bool
+    ensures { result ≡ (is_home_square m.now.from || is_home_square m.now.to) }
+{
+    is_home_square(m.from) || is_home_square(m.to)
+}
+
+// Whether a king or a rook that may castle has this square for its home.
+fn is_home_square(s: Square) -> bool
+    ensures { result ≡ is_home_square s }
+{
+    let s = s.index();
+    s == 4 || s == 60 || s == 0 || s == 7 || s == 56 || s == 63
 }
 
 /// Whether a right is there and is left after the move.

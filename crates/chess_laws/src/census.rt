@@ -1,9 +1,9 @@
 //! What is counted on a board.
-ghost use Rattle.std.specs.Prelude.{◌≡◌, ◌↔◌, ℕ, ◌<◌, ◌≤◌, IsTrue, IsBitSet, count_by, MatchOption, ◌≢◌, length};
+ghost use Rattle.std.specs.Prelude.{◌≡◌, ◌↔◌, ℕ, ◌<◌, ◌≤◌, IsTrue, IsBitSet, count_by, MatchOption, ◌≢◌, length, slice_index_or};
 ghost use Rattle.std.specs.List.{position};
 ghost use Rattle.cell_core.specs.Man.{is_of, is_man};
 ghost use Rattle.cell_core.specs.declared.man.Kind.TheVariants.{King};
-ghost use Rattle.chess_laws.specs.Counts.{counts_of, count_of, is_home};
+ghost use Rattle.chess_laws.specs.Counts.{counts_of, count_of, fewer, is_home, more, slot};
 ghost use Rattle.chess_laws.specs.Position.{king_square};
 
 use cell_core::{Board, Colour, Kind, Man, Square};
@@ -51,13 +51,6 @@ fn count(board: &Board, colour: Colour, kind: Kind) -> usize
         .count()
 }
 
-/// How many men of this colour and kind there are, which is at most the 64 squares.
-fn tally(board: &Board, colour: Colour, kind: Kind) -> u8
-    ensures { result ≡ count_of board.now colour kind }
-{
-    count(board, colour, kind) as u8
-}
-
 /// Whether a man of this colour stands on a square.
 fn holds_side(cell: &Option<Man>, colour: Colour) -> bool
     ensures { result ≡ is_of colour cell.now }
@@ -82,18 +75,55 @@ pub fn holds(cell: &Option<Man>, colour: Colour, kind: Kind) -> bool
 pub fn counts(board: &Board) -> [u8; 10]
     ensures { result ≡ counts_of board.now }
 {
-    [
-        tally(board, Colour::White, Kind::Queen),
-        tally(board, Colour::White, Kind::Rook),
-        tally(board, Colour::White, Kind::Bishop),
-        tally(board, Colour::White, Kind::Knight),
-        tally(board, Colour::White, Kind::Pawn),
-        tally(board, Colour::Black, Kind::Queen),
-        tally(board, Colour::Black, Kind::Rook),
-        tally(board, Colour::Black, Kind::Bishop),
-        tally(board, Colour::Black, Kind::Knight),
-        tally(board, Colour::Black, Kind::Pawn),
-    ]
+    let cells = board.cells();
+    let mut all = [0u8; 10];
+    for cell in cells {
+        count_in(&mut all, cell);
+    }
+    all
+}
+
+// One more of the man on this square, where one stands there that is counted.
+fn count_in(all: &mut [u8; 10], cell: &Option<Man>)
+    requires room { (s : ℕ) → slice_index_or all.old s 0 < 64 }
+    ensures { all.new ≡ more all.old cell.now }
+{
+    if let Some(man) = cell {
+        let place = slot(man);
+        if place < 10 {
+            all[place] += 1;
+        }
+    }
+}
+
+// One less of the man on this square, where one stands there that is counted.
+pub fn count_out(all: &mut [u8; 10], cell: &Option<Man>)
+    ensures { all.new ≡ fewer all.old cell.now }
+{
+    if let Some(man) = cell {
+        let place = slot(man);
+        if place < 10 {
+            all[place] = all[place].saturating_sub(1);
+        }
+    }
+}
+
+// The place of a man's count among the ten, and 10 for a king.
+fn slot(man: &Man) -> usize
+    ensures { result ≡ slot man.now }
+{
+    let first = match man.colour {
+        Colour::White => 0,
+        Colour::Black => 5,
+    };
+    match man.kind {
+        Kind::King => 10,
+        Kind::Queen => first,
+        Kind::Rook => first + 1,
+        Kind::Bishop => first + 2,
+        Kind::Knight => first + 3,
+        Kind::Pawn => first + 4,
+    }
 }
 
 /// The home values of the pawns that stand on their own squares, as bits.

@@ -1,9 +1,10 @@
 //! Making a legal move, and whether it gives check.
-ghost use Rattle.std.specs.Prelude.{◌≡◌, ◌↔◌, ◌⊎◌, IsTrue, true};
-ghost use Rattle.std.specs.Bool.{OnFalse};
+ghost use Rattle.std.specs.Prelude.{◌≡◌, ◌↔◌, ◌⊎◌, ◌&&◌, IsTrue, is_none, true};
+ghost use Rattle.std.specs.Bool.{OnFalse, OnTrue};
 ghost use Rattle.cell_core.specs.Man.{other};
 ghost use Rattle.chess_laws.specs.Attacks.{Attacks, IsInCheck};
 ghost use Rattle.chess_laws.specs.Checks.{Hits, in_check};
+ghost use Rattle.chess_laws.specs.Counts.{counts_of, fewer};
 ghost use Rattle.chess_laws.specs.Legal.{is_calm};
 ghost use Rattle.chess_laws.specs.Position.{Sound, king_square};
 ghost use Rattle.chess_laws.specs.Rays.{Opens};
@@ -11,25 +12,50 @@ ghost use Rattle.chess_laws.specs.Step.{after, effect_of, Legal};
 
 use super::attack::{attacks, opens};
 use super::cases::reaches;
+use super::census::{self, count_out};
 use super::effect::Effect;
 use super::legal::is_calm;
 use super::next::change;
 use super::setup::Setup;
-use cell_core::{Board, Colour, Move, Square};
+use cell_core::{Board, Colour, Man, Move, Square};
 
-/// Makes a legal move, and answers whether the other side is in check then, whose king stands on this square.
-pub fn make(p: &mut Setup, m: &Move, effect: Effect, resting: Square) -> bool
+/// Makes a legal move and keeps the ten counts, and answers whether the other side is in check then, whose king stands on
+/// this square.
+pub fn make(p: &mut Setup, counts: &mut [u8; 10], m: &Move, effect: Effect, resting: Square) -> bool
     requires sound { Sound p.old }
     requires legal { Legal p.old m.now }
     requires effect { effect ≡ effect_of p.old m.now }
     requires resting { resting ≡ king_square p.old.board (other p.old.side) }
+    requires census { counts.old ≡ counts_of p.old.board }
     ensures becomes { p.new ≡ after p.old m.now effect }
     ensures check { result ≡ in_check p.new }
+    ensures census { counts.new ≡ counts_of p.new.board }
 {
     let side = p.side;
     let opened = may_open(p, m, effect, resting);
+    let taken = p.board.at(m.to);
     change(p, m, effect);
+    recount(counts, &p.board, &taken, takes_alone(m, effect));
     gives_check(&p.board, side, m.to, resting, opened)
+}
+
+// Whether the move changes the counts by the man on its target alone.
+fn takes_alone(m: &Move, effect: Effect) -> bool
+    ensures { result ≡ (is_calm effect && is_none m.now.promo) }
+{
+    is_calm(effect) && m.promo.is_none()
+}
+
+// The counts of the board, which are those before without the man that was taken, if that is all.
+fn recount(counts: &mut [u8; 10], board: &Board, taken: &Option<Man>, alone: bool)
+    ensures one { OnTrue alone (counts.new ≡ fewer counts.old taken.now) }
+    ensures all { OnFalse alone (counts.new ≡ counts_of board.now) }
+{
+    if alone {
+        count_out(counts, taken);
+    } else {
+        *counts = census::counts(board);
+    }
 }
 
 // Whether the move may open a line from a man of the mover to the square.

@@ -86,8 +86,11 @@ fn list_from<const N: usize>(
     ensures listed { OnTrue result (ListsBelow p.now N (512 * (from + 1)) into.new.items) }
     ensures many { OnFalse result (HasMoreMoves p.now N) }
 {
-    let shut = is_shut(p, king, checked, from);
     let targets = targets(p, from);
+    if targets.is_empty() {
+        return true;
+    }
+    let shut = is_shut(p, king, checked, from);
     let mut at = 0u8;
     while let Some(to) = targets.next(at) {
         if !list_to(p, king, shut, from, to, into) {

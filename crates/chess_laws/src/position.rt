@@ -29,21 +29,23 @@ pub struct Position {
     white_king: Square,
     black_king: Square,
     checked: bool,
+    counts: [u8; 10],
 }
 
 impl Model for Position {
     ghost use Rattle.cell_core.specs.declared.man.Colour.TheVariants.{White, Black};
     ghost use Rattle.chess_laws.specs.declared.setup.Setup.{Setup};
     ghost use Rattle.chess_laws.specs.Checks.{in_check};
+    ghost use Rattle.chess_laws.specs.Counts.{counts_of};
     ghost use Rattle.chess_laws.specs.Position.{Keeps, king_square, inverse_Keeps};
 
     ghost Value = { Setup };
 
     ghost view = { λ p. p.inner };
 
-    ghost invariant = { λ p. Keeps p.inner p.white_king p.black_king p.checked };
+    ghost invariant = { λ p. Keeps p.inner p.white_king p.black_king p.checked p.counts };
 
-    ghost inverse = { λ p. record { inner = p; white_king = king_square p.board White; black_king = king_square p.board Black; checked = in_check p } };
+    ghost inverse = { λ p. record { inner = p; white_king = king_square p.board White; black_king = king_square p.board Black; checked = in_check p; counts = counts_of p.board } };
 }
 
 impl Position {
@@ -70,6 +72,7 @@ impl Position {
             white_king: Square::at(4),
             black_king: Square::at(60),
             checked: false,
+            counts: [1, 2, 2, 2, 8, 1, 2, 2, 2, 8],
         }
     }
 
@@ -173,7 +176,7 @@ impl Position {
     pub fn counts(&self) -> [u8; 10]
         ensures counts { result ≡ counts_of self.now.board }
     {
-        counts(&self.inner.board)
+        self.counts
     }
 
     /// The home values of the pawns that stand on their own squares, as bits: 15 down to 8 for a2 to h2, and 7 down to 0
@@ -226,6 +229,7 @@ fn place(
         white_king,
         black_king,
         checked,
+        counts: counts(board),
     })
 }
 
@@ -301,11 +305,23 @@ impl Position {
     {
         match self.inner.side {
             Colour::White => {
-                self.checked = make(&mut self.inner, m, effect, self.black_king);
+                self.checked = make(
+                    &mut self.inner,
+                    &mut self.counts,
+                    m,
+                    effect,
+                    self.black_king,
+                );
                 self.white_king = king_after(self.white_king, m);
             }
             Colour::Black => {
-                self.checked = make(&mut self.inner, m, effect, self.white_king);
+                self.checked = make(
+                    &mut self.inner,
+                    &mut self.counts,
+                    m,
+                    effect,
+                    self.white_king,
+                );
                 self.black_king = king_after(self.black_king, m);
             }
         }

@@ -1,5 +1,6 @@
 //! Where the geometry of a man may lead it, before the other rules are asked.
 ghost use Rattle.std.specs.Prelude.{◌≡◌, ℕ, ◌<◌, ◌≤◌, Any, MatchOption, None, Some, true};
+ghost use Rattle.std.specs.Bool.{OnTrue};
 ghost use Rattle.std.specs.Int.{bit_at};
 ghost use Rattle.cell_core.specs.Board.{man_at};
 ghost use Rattle.cell_core.specs.Man.{man};
@@ -26,6 +27,13 @@ impl SquareSet {
     /// The set with no square.
     fn empty() -> SquareSet {
         SquareSet { bits: 0 }
+    }
+
+    /// Whether no square is in the set.
+    pub fn is_empty(&self) -> bool
+        ensures empty { OnTrue result ((k : ℕ) → Has self.now k → ⊥) }
+    {
+        self.bits == 0
     }
 
     /// The set with this square too.

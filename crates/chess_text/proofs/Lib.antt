@@ -10,3 +10,4 @@ pub mod PawnLaws
 pub mod WrittenSan
 pub mod RivalLaws
 pub mod OneText
+pub mod TextLaws

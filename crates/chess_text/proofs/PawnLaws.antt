@@ -16,7 +16,7 @@ use Rattle.chess_laws.specs.Step.{effect_of, Legal, Case, GoesPlainly}
 use Rattle.chess_laws.proofs.Boards.{man-colour, man-kind}
 use Rattle.chess_laws.proofs.Shifts.{shift-Some}
 use Rattle.chess_laws.proofs.MovedKings.{legal-allowed}
-use Rattle.chess_text.specs.San.{is_capture}
+use Rattle.chess_laws.specs.Step.{is_capture}
 
 -- one rank ahead
 Ahead : Colour → ℕ → ℕ → Type 0

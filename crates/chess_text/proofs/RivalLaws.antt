@@ -75,7 +75,7 @@ one-rival p k m n seen rival h = record {
       (λ e. (rival, eqb-true (rank_of n) (rank_of m.from) e), λ both. eq-eqb (rank_of n) (rank_of m.from) both.1) h.on_rank;
 }
 
-within : (p : Setup) (k : Kind) (m : Move) (s : ℕ) → Sound p → IsRival p k m s → s < 64
+pub within : (p : Setup) (k : Kind) (m : Move) (s : ℕ) → Sound p → IsRival p k m s → s < 64
 within p k m s sound rival = on_board p.board s (man p.side k) sound.squares rival.stands
 
 whole : (P : ℕ → Type 0) (n : ℕ) (b : Bool) → ((s : ℕ) → P s → s < n) → IsTrue b ↔ SomeBelow n P → IsTrue b ↔ ((s : ℕ) × P s)
@@ -97,7 +97,7 @@ all-rivals p k m n seen sound more h =
 never : (P : Type 0) (b : Bool) → IsTrue b ↔ P → b ≡ false → P → ⊥
 never P b h e some = false≢true (sym e ∙ h.1 some)
 
-origin-from : (p : Setup) (k : Kind) (m : Move) (any file rank : Bool) → IsTrue any ↔ HasRival p k m → IsTrue file ↔ HasRivalOnFile p k m
+pub origin-from : (p : Setup) (k : Kind) (m : Move) (any file rank : Bool) → IsTrue any ↔ HasRival p k m → IsTrue file ↔ HasRivalOnFile p k m
     → IsTrue rank ↔ HasRivalOnRank p k m → OriginText p k m (origin_by (record { any = any; on_file = file; on_rank = rank }) m.from)
 origin-from p k m false file rank a f r = inl (never _ false a refl, refl)
 origin-from p k m true false rank a f r = inr (inl (a.0 refl, (never _ false f refl, refl)))

@@ -22,7 +22,8 @@ use Rattle.chess_text.specs.Letters.{capital_of}
 use Rattle.chess_text.specs.Squares.{file_text, rank_text, square_text}
 use Rattle.chess_text.specs.SanShape.{man_text, null_text, part, IsCaptureSign, IsPromotion, AreSigns}
 use Rattle.chess_text.specs.SanReads.{has_own_form, Fits, SanReads}
-use Rattle.chess_text.specs.San.{IsRival, OriginText, is_capture, capture_text, promotion_text, pawn_capture_text, pawn_text, PieceText, KindText, GoingText, SignText, IsSigned, SanBy, San}
+use Rattle.chess_laws.specs.Step.{is_capture}
+use Rattle.chess_text.specs.San.{IsRival, OriginText, capture_text, promotion_text, pawn_capture_text, pawn_text, PieceText, KindText, GoingText, SignText, IsSigned, SanBy, San}
 use Rattle.chess_text.proofs.SearchLaws.{same-move, same-from, castle-one, null-one}
 use Rattle.chess_text.proofs.PawnLaws.{one-square, one-pawn}
 

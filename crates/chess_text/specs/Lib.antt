@@ -14,3 +14,4 @@ pub mod SanReading
 pub mod SanSearch
 pub mod San
 pub mod SanWriting
+pub mod SanText

@@ -1,5 +1,5 @@
 -- The text of a legal move in Standard Algebraic Notation (PGN standard, 8.2.3).
-use Rattle.std.specs.Prelude.{◌≡◌, ℕ, ◌⊎◌, Bool, true, false, is_some, if◌then◌else◌, List, [], ◌∷◌, ◌++◌, Option, Some, None, codes}
+use Rattle.std.specs.Prelude.{◌≡◌, ℕ, ◌⊎◌, if◌then◌else◌, List, [], ◌∷◌, ◌++◌, Option, Some, None, codes}
 use Rattle.cell_core.specs.declared.man.Kind.{Kind}
 use Rattle.cell_core.specs.declared.man.Kind.TheVariants.{King, Queen, Rook, Bishop, Knight, Pawn}
 use Rattle.cell_core.specs.declared.man.Man.{Man}
@@ -12,7 +12,7 @@ use Rattle.chess_laws.specs.declared.effect.Effect.TheVariants.{Plain, Double, P
 use Rattle.chess_laws.specs.Attacks.{IsInCheck}
 use Rattle.chess_laws.specs.Geometry.{file_of, rank_of}
 use Rattle.chess_laws.specs.Moves.{IsMove}
-use Rattle.chess_laws.specs.Step.{effect_of, after, Legal}
+use Rattle.chess_laws.specs.Step.{effect_of, after, is_capture, Legal}
 use Rattle.chess_text.specs.Letters.{capital_of}
 use Rattle.chess_text.specs.Squares.{file_text, rank_text, square_text}
 use Rattle.chess_text.specs.SanShape.{castling_text, null_text}
@@ -41,17 +41,6 @@ OriginText p k m text =
     ⊎ ((HasRival p k m × ((HasRivalOnFile p k m → ⊥) × (text ≡ file_text (file_of m.from))))
     ⊎ ((HasRivalOnFile p k m × ((HasRivalOnRank p k m → ⊥) × (text ≡ rank_text (rank_of m.from))))
     ⊎ (HasRivalOnFile p k m × (HasRivalOnRank p k m × (text ≡ square_text m.from)))))
-
--- Whether a move captures: a man stands on its target, or it is a capture en passant.
-abbrev pub captures_by : Effect → Setup → Move → Bool
-captures_by Plain p m = is_some (man_at p.board m.to)
-captures_by Double p m = is_some (man_at p.board m.to)
-captures_by Passing p m = true
-captures_by (Castle wing) p m = false
-captures_by Null p m = false
-
-unfoldable pub is_capture : Setup → Move → Bool
-is_capture p m = captures_by (effect_of p m) p m
 
 -- The sign of a capture.
 abbrev pub capture_text : Setup → Move → List ℕ

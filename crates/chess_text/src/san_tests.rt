@@ -17,7 +17,16 @@ const PROMOTES: &str = "3r3k/4P3/8/8/8/8/8/4K3 w - - 0 1";
 
 const KNIGHTS: &str = "4k3/8/8/8/8/N3N3/8/N3K3 w - - 0 1";
 
-const READ: [(&str, &str, Result<(u8, u8, Option<Kind>), SanFault>); 13] = [
+const CHECKED: &str = "rnbqkbnr/ppppp1pp/5p2/7Q/4P3/8/PPPP1PPP/RNB1KBNR b KQkq - 1 2";
+
+const TWO: &str = "rnbqkb1r/ppp1pppp/3p1n2/8/8/3P1N2/PPP1PPPP/RNBQKB1R w KQkq - 0 3";
+
+const PINNED: &str = "4k3/8/8/8/1b6/2N5/8/4K1N1 w - - 0 1";
+
+const READ: [(&str, &str, Result<(u8, u8, Option<Kind>), SanFault>); 16] = [
+    (CHECKED, "--", Err(SanFault::NoMove)),
+    (TWO, "Nd2", Err(SanFault::Two)),
+    (PINNED, "Ne2", Ok((6, 12, None))),
     (START, "Nf3", Ok((6, 21, None))),
     (START, "Ng1-f3", Err(SanFault::Shape)),
     (START, "e4+#", Ok((12, 28, None))),

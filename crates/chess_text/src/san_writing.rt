@@ -10,7 +10,8 @@ ghost use Rattle.chess_text.specs.Letters.{capital_of};
 ghost use Rattle.chess_text.specs.Squares.{square_text};
 ghost use Rattle.chess_text.specs.SanShape.{castling_text, null_text};
 ghost use Rattle.chess_text.specs.SanReads.{SanReads};
-ghost use Rattle.chess_text.specs.San.{San, GoingText, IsRival, PieceText, SignText, capture_text, is_capture, pawn_capture_text, pawn_text, promotion_text};
+ghost use Rattle.chess_text.specs.San.{San, GoingText, IsRival, PieceText, SignText, capture_text, pawn_capture_text, pawn_text, promotion_text};
+ghost use Rattle.chess_text.specs.SanText.{san_text};
 ghost use Rattle.chess_text.specs.SanWriting.{AreRivals, FrontText, RivalsBelow, SignBy, origin_by};
 
 use super::letters::capital_of;
@@ -34,6 +35,7 @@ pub struct Rivals {
 pub fn write_san(p: &Position, m: Move) -> ArrayVec<u8, 8>
     requires legal { Legal p.now m }
     ensures text { San p.now m result.items }
+    ensures exact { result.items ≡ san_text p.now m }
     ensures read_again { SanReads p.now result.items m }
 {
     written(p, p.setup(), &m)
@@ -45,6 +47,7 @@ fn written(p: &Position, setup: &Setup, m: &Move) -> ArrayVec<u8, 8>
     requires same { setup.now ≡ p.now }
     requires sound { Sound p.now }
     ensures text { San p.now m.now result.items }
+    ensures exact { result.items ≡ san_text p.now m.now }
     ensures read_again { SanReads p.now result.items m.now }
 {
     let effect = p.effect(m);
@@ -175,7 +178,7 @@ fn push_pawn_capture(text: &mut ArrayVec<u8, 8>, p: &Position, m: &Move)
     ensures text { text.new.items ≡ text.old.items ++ pawn_capture_text p.now m.now }
     ensures short { length text.new.items ≤ length text.old.items + 2 }
 {
-    if is_capture(p, m) {
+    if p.is_capture(m) {
         text.push(file_letter(m.from));
         text.push(b'x');
     }
@@ -224,7 +227,7 @@ fn push_capture(text: &mut ArrayVec<u8, 8>, p: &Position, m: &Move)
     ensures text { text.new.items ≡ text.old.items ++ capture_text p.now m.now }
     ensures short { length text.new.items ≤ length text.old.items + 1 }
 {
-    if is_capture(p, m) {
+    if p.is_capture(m) {
         text.push(b'x');
     }
 }
@@ -335,16 +338,4 @@ fn is_rival(p: &Position, setup: &Setup, kind: Kind, m: &Move, s: Square) -> boo
         to: m.to,
         promo: None,
     })
-}
-
-// Whether the move captures a man, on its target or en passant.
-#[tactic(auto, unfolding(crate::specs::San::is_capture))]
-fn is_capture(p: &Position, m: &Move) -> bool
-    ensures exact { result ≡ is_capture p.now m.now }
-{
-    match p.effect(m) {
-        Effect::Plain | Effect::Double => p.board().at(m.to).is_some(),
-        Effect::Passing => true,
-        Effect::Castle(_) | Effect::Null => false,
-    }
 }

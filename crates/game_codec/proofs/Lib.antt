@@ -22,3 +22,4 @@ pub mod AnswerLaws
 pub mod WalkLaws
 pub mod WalkSteps
 pub mod PassLaws
+pub mod CheckLaws

@@ -18,3 +18,4 @@ pub mod Fitting
 pub mod Flat
 pub mod Walk
 pub mod Walking
+pub mod Checking

@@ -1,3 +1,4 @@
+//! Making the tree of a record from the items of its moves and its texts.
 ghost use Rattle.std.specs.Prelude.{◌≡◌, ◌≤◌, ℕ, false, [], List, length, IfOk, IfErr};
 ghost use Rattle.game_tree.specs.Movetext.{Movetext, items_of, meaning};
 ghost use Rattle.game_tree.specs.Building.{Gives};
@@ -41,7 +42,7 @@ pub(crate) fn build(alloc: Global, tokens: &[Token], bytes: &[u8]) -> Result<Bra
     Ok(builder.finish()?)
 }
 
-/// Adds an item, a comment with the text that the bytes begin with, and gives how many bytes of the texts it took.
+// Adds an item, a comment with the text that the bytes begin with, and gives how many bytes of the texts it took.
 fn add(alloc: Global, builder: &mut Builder, token: &Token, bytes: &[u8]) -> Result<usize, Refusal>
     requires may { MayAdd (token_of token.now) builder.old }
     ensures adds { IfOk result (λ used. Adds (token_of token.now) bytes.now builder.old used builder.new) }
@@ -59,7 +60,7 @@ fn add(alloc: Global, builder: &mut Builder, token: &Token, bytes: &[u8]) -> Res
     Ok(0)
 }
 
-/// Adds a comment with the text that the bytes begin with.
+// Adds a comment with the text that the bytes begin with.
 fn add_comment(alloc: Global, builder: &mut Builder, bytes: &[u8]) -> Result<usize, Refusal>
     ensures adds { IfOk result (λ used. Adds Comment bytes.now builder.old used builder.new) }
     ensures used { IfOk result (λ used. used ≤ length bytes.now) }

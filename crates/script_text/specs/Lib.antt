@@ -10,3 +10,4 @@ pub mod MatItems
 pub mod Tagging
 pub mod Reading
 pub mod Spelling
+pub mod Sound

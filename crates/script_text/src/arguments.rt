@@ -1,5 +1,5 @@
 //! The arguments of a command.
-ghost use Rattle.std.specs.Prelude.{◌≡◌, ◌≤◌, None, Some, IfOk, IfErr, MatchResult};
+ghost use Rattle.std.specs.Prelude.{◌≡◌, ◌≤◌, ◌<◌, None, Some, IfOk, IfErr, MatchResult};
 ghost use Rattle.std.specs.Option.{option_map};
 ghost use Rattle.cell_core.specs.Text.{IsZeroFree};
 ghost use Rattle.chess_text.specs.Filling.{board_named};
@@ -111,7 +111,8 @@ pub(crate) fn number_and_body(words: &[Word]) -> Result<(u64, &[u8]), ScriptFaul
 /// G LETTER `on` or `off`
 #[tactic(auto, unfolding(crate::specs::Arguments::three))]
 pub(crate) fn mark_arguments(words: &[Word]) -> Result<(u64, u8, bool), ScriptFault>
-    ensures { result ≡ three number mark_bit switch words.now }
+    ensures exact { result ≡ three number mark_bit switch words.now }
+    ensures bounds { IfOk result (λ given. given.1 < 18) }
 {
     let number = number(text_at(words, 1)?).ok_or(ScriptFault::Argument(1))?;
     let bit = mark_bit(text_at(words, 2)?).ok_or(ScriptFault::Argument(2))?;

@@ -1,9 +1,10 @@
 //! The items of a search of heads.
-ghost use Rattle.std.specs.Prelude.{◌≡◌, ◌==◌, not, IfOk, IfErr};
+ghost use Rattle.std.specs.Prelude.{◌≡◌, ◌==◌, not, IfOk, IfErr, IfSome};
 ghost use Rattle.std.specs.List.{list_all};
 ghost use Rattle.std.specs.Bool.{OnTrue};
 ghost use Rattle.cell_core.specs.Text.{IsZeroFree};
 ghost use Rattle.script_text.specs.HeadItems.{name_text, number_span, name_item, span_item, head_item};
+ghost use Rattle.script_text.specs.Sound.{IsHeadQuery};
 ghost use Rattle.script_text.specs.declared.fault.CommandError.TheVariants.{Memory};
 
 use crate::fault::CommandError;
@@ -23,6 +24,7 @@ pub(crate) fn head_item(
     value: &[u8],
 ) -> Result<Option<HeadQuery>, CommandError>
     ensures added { IfOk result (λ longer. longer ≡ head_item query key.now value.now) }
+    ensures bounds { IfOk result (λ longer. IsHeadQuery query → IfSome longer IsHeadQuery) }
     ensures memory { IfErr result (λ error. error ≡ Memory) }
 {
     if key == b"result".as_slice() {
@@ -58,6 +60,7 @@ fn span_item(
     value: &[u8],
 ) -> Result<Option<HeadQuery>, CommandError>
     ensures added { IfOk result (λ longer. longer ≡ span_item query key.now value.now) }
+    ensures bounds { IfOk result (λ longer. IsHeadQuery query → IfSome longer IsHeadQuery) }
     ensures memory { IfErr result (λ error. error ≡ Memory) }
 {
     if key == b"year".as_slice() {
@@ -107,6 +110,7 @@ fn name_item(
     value: &[u8],
 ) -> Result<Option<HeadQuery>, CommandError>
     ensures added { IfOk result (λ longer. longer ≡ name_item query key.now value.now) }
+    ensures bounds { IfOk result (λ longer. IsHeadQuery query → IfSome longer IsHeadQuery) }
     ensures memory { IfErr result (λ error. error ≡ Memory) }
 {
     let Some(text) = name_text(alloc, value)? else {

@@ -1,10 +1,11 @@
 //! Items KEY=VALUE of a search, each key at most once and one item at least.
-ghost use Rattle.std.specs.Prelude.{◌≡◌, [], ◌<◌, length, IfOk, IfErr};
+ghost use Rattle.std.specs.Prelude.{◌≡◌, [], ◌<◌, length, IfOk, IfErr, IfSome};
 ghost use Rattle.std.specs.Option.{option_map};
 ghost use Rattle.sig_index.specs.Queries.{any_head, any_material};
 ghost use Rattle.script_text.specs.Items.{key_and_value, is_keyed, has_key, new_item, with_item, with_items, items};
 ghost use Rattle.script_text.specs.HeadItems.{head_item};
 ghost use Rattle.script_text.specs.MatItems.{mat_item};
+ghost use Rattle.script_text.specs.Sound.{IsHeadQuery};
 ghost use Rattle.script_text.specs.Answer.{Answers};
 ghost use Rattle.script_text.specs.declared.fault.CommandError.TheVariants.{Memory};
 
@@ -60,6 +61,7 @@ fn with_head_item(
     word: &Word,
 ) -> Result<Option<HeadQuery>, CommandError>
     ensures added { IfOk result (λ longer. longer ≡ with_item head_item before.now query word.now) }
+    ensures bounds { IfOk result (λ longer. IsHeadQuery query → IfSome longer IsHeadQuery) }
     ensures memory { IfErr result (λ error. error ≡ Memory) }
 {
     let Some((key, value)) = new_item(before, word) else {
@@ -80,7 +82,8 @@ fn with_mat_item(before: &[Word], query: MatQuery, word: &Word) -> Option<MatQue
 #[tactic(auto, unfolding(crate::specs::Items::items))]
 pub(crate) fn head_items(alloc: Global, words: &[Word]) -> Result<HeadQuery, CommandError>
     requires { length words.now < 4294967290 }
-    ensures { Answers result (items head_item any_head words.now) }
+    ensures exact { Answers result (items head_item any_head words.now) }
+    ensures bounds { IfOk result IsHeadQuery }
 {
     if words.len() <= 3 {
         return Err(CommandError::Bad(ScriptFault::Argument(3)));
@@ -92,7 +95,8 @@ pub(crate) fn head_items(alloc: Global, words: &[Word]) -> Result<HeadQuery, Com
 #[tactic(auto, using(crate::proofs::ItemLaws::item_missed, crate::proofs::ItemLaws::item_added, crate::proofs::ItemLaws::items_end))]
 fn all_head_items(alloc: Global, items: &[Word]) -> Result<HeadQuery, CommandError>
     requires { length items.now < 4294967290 }
-    ensures { Answers result (with_items head_item [] items.now any_head) }
+    ensures exact { Answers result (with_items head_item [] items.now any_head) }
+    ensures bounds { IfOk result IsHeadQuery }
 {
     let mut query = HeadQuery::any();
     for n in 0..items.len() {

@@ -4,6 +4,7 @@ ghost use Rattle.cell_core.specs.Text.{IsZeroFree};
 ghost use Rattle.script_text.specs.Words.{Word, words_of};
 ghost use Rattle.script_text.specs.Answer.{Answers};
 ghost use Rattle.script_text.specs.Reading.{search, search_position, searching, filtering, saving_filters, showing, editing, ending, command_of, shorn, is_remark, reading};
+ghost use Rattle.script_text.specs.Sound.{IsSound};
 ghost use Rattle.script_text.specs.declared.fault.CommandError.TheVariants.{Memory};
 
 use crate::arguments::{
@@ -33,7 +34,8 @@ fn text(alloc: Global, bytes: &[u8]) -> Result<Text, CommandError>
 // The arguments of a search of positions.
 #[tactic(auto, unfolding(crate::specs::Reading::search_position))]
 fn search_position(operation: Op, words: &[Word]) -> Result<Command, ScriptFault>
-    ensures { result ≡ search_position operation words.now }
+    ensures exact { result ≡ search_position operation words.now }
+    ensures bounds { IfOk result IsSound }
 {
     let mode = mode(text_at(words, 3)?).ok_or(ScriptFault::Argument(3))?;
     let board = board(text_at(words, 4)?).ok_or(ScriptFault::Argument(4))?;
@@ -46,7 +48,8 @@ fn search_position(operation: Op, words: &[Word]) -> Result<Command, ScriptFault
 #[tactic(auto, unfolding(crate::specs::Reading::search))]
 fn search(alloc: Global, words: &[Word]) -> Result<Command, CommandError>
     requires { length words.now < 4294967290 }
-    ensures { Answers result (search words.now) }
+    ensures exact { Answers result (search words.now) }
+    ensures bounds { IfOk result IsSound }
 {
     let operation = op(text_at(words, 1)?).ok_or(ScriptFault::Argument(1))?;
     let kind = search_kind(text_at(words, 2)?).ok_or(ScriptFault::Argument(2))?;
@@ -61,7 +64,8 @@ fn search(alloc: Global, words: &[Word]) -> Result<Command, CommandError>
 #[tactic(auto, unfolding(crate::specs::Reading::searching))]
 fn searching(alloc: Global, name: &[u8], words: &[Word]) -> Result<Command, CommandError>
     requires { length words.now < 4294967290 }
-    ensures { Answers result (searching name.now words.now) }
+    ensures exact { Answers result (searching name.now words.now) }
+    ensures bounds { IfOk result IsSound }
 {
     if name == b"find".as_slice() {
         let (board, side) = board_and_side(words)?;
@@ -80,7 +84,8 @@ fn searching(alloc: Global, name: &[u8], words: &[Word]) -> Result<Command, Comm
 // Commands that change the filter by itself.
 #[tactic(auto, unfolding(crate::specs::Reading::filtering))]
 fn filtering(alloc: Global, name: &[u8], words: &[Word]) -> Result<Command, CommandError>
-    ensures { Answers result (filtering name.now words.now) }
+    ensures exact { Answers result (filtering name.now words.now) }
+    ensures bounds { IfOk result IsSound }
 {
     if name == b"reset".as_slice() {
         no_more(words, 0)?;
@@ -104,7 +109,8 @@ fn filtering(alloc: Global, name: &[u8], words: &[Word]) -> Result<Command, Comm
 // Commands on saved filters.
 #[tactic(auto, unfolding(crate::specs::Reading::saving_filters))]
 fn saving_filters(alloc: Global, name: &[u8], words: &[Word]) -> Result<Command, CommandError>
-    ensures { Answers result (saving_filters name.now words.now) }
+    ensures exact { Answers result (saving_filters name.now words.now) }
+    ensures bounds { IfOk result IsSound }
 {
     if name == b"keep".as_slice() {
         return Ok(Command::Keep(text(alloc, one_name(words)?)?));
@@ -127,7 +133,8 @@ fn saving_filters(alloc: Global, name: &[u8], words: &[Word]) -> Result<Command,
 // Commands that show games and change nothing.
 #[tactic(auto, unfolding(crate::specs::Reading::showing))]
 fn showing(alloc: Global, name: &[u8], words: &[Word]) -> Result<Command, CommandError>
-    ensures { Answers result (showing name.now words.now) }
+    ensures exact { Answers result (showing name.now words.now) }
+    ensures bounds { IfOk result IsSound }
 {
     if name == b"hits".as_slice() {
         no_more(words, 0)?;
@@ -154,7 +161,8 @@ fn showing(alloc: Global, name: &[u8], words: &[Word]) -> Result<Command, Comman
 // Commands that change games.
 #[tactic(auto, unfolding(crate::specs::Reading::editing))]
 fn editing(alloc: Global, name: &[u8], words: &[Word]) -> Result<Command, CommandError>
-    ensures { Answers result (editing name.now words.now) }
+    ensures exact { Answers result (editing name.now words.now) }
+    ensures bounds { IfOk result IsSound }
 {
     if name == b"import".as_slice() {
         return Ok(Command::Import(text(alloc, one_body(words)?)?));
@@ -182,7 +190,8 @@ fn editing(alloc: Global, name: &[u8], words: &[Word]) -> Result<Command, Comman
 // Commands for the base as a whole, and the end.
 #[tactic(auto, unfolding(crate::specs::Reading::ending))]
 fn ending(name: &[u8], words: &[Word]) -> Result<Command, ScriptFault>
-    ensures { result ≡ ending name.now words.now }
+    ensures exact { result ≡ ending name.now words.now }
+    ensures bounds { IfOk result IsSound }
 {
     if name == b"save".as_slice() {
         no_more(words, 0)?;
@@ -202,7 +211,8 @@ fn ending(name: &[u8], words: &[Word]) -> Result<Command, ScriptFault>
 // The command of the words of a line.
 fn command_of(alloc: Global, words: &[Word]) -> Result<Command, CommandError>
     requires { length words.now < 4294967290 }
-    ensures { Answers result (command_of words.now) }
+    ensures exact { Answers result (command_of words.now) }
+    ensures bounds { IfOk result IsSound }
 {
     let Some(first) = words.first() else {
         return Ok(Command::Nothing);
@@ -234,7 +244,8 @@ fn is_remark(line: &[u8]) -> bool
     }
 }
 
-/// The command that a line of a script says. The line stands without its line feed.
+/// The command that a line of a script says. The line stands without its line feed. A mark's bit is below 18, and a tag's
+/// edit is within the bounds of heads.
 ///
 /// # Errors
 ///
@@ -242,6 +253,7 @@ fn is_remark(line: &[u8]) -> bool
 #[tactic(auto, unfolding(crate::specs::Reading::reading), using(crate::proofs::LengthLaws::words_short))]
 pub fn read_command(alloc: Global, line: &[u8]) -> Result<Command, CommandError>
     ensures exact { Answers result (reading line.now) }
+    ensures bounds { IfOk result IsSound }
 {
     if is_remark(line) {
         return Ok(Command::Nothing);

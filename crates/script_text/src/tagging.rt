@@ -5,6 +5,7 @@ ghost use Rattle.script_text.specs.Answer.{Answers, Fails};
 ghost use Rattle.script_text.specs.Arguments.{text_at};
 ghost use Rattle.script_text.specs.Tagging.{tag_edit};
 ghost use Rattle.script_text.specs.Reading.{tag};
+ghost use Rattle.script_text.specs.Sound.{IsSound};
 
 use crate::arguments::{no_more, text_at};
 use crate::command::Command;
@@ -18,6 +19,7 @@ use std::alloc::Global;
 #[tactic(auto, unfolding(crate::specs::Reading::tag))]
 pub(crate) fn tag(alloc: Global, words: &[Word]) -> Result<Command, CommandError>
     ensures exact { Answers result (tag words.now) }
+    ensures bounds { IfOk result IsSound }
 {
     let game = number(text_at(words, 1)?).ok_or(ScriptFault::Argument(1))?;
     let name = text_at(words, 2)?;

@@ -128,7 +128,3 @@ ends_told opened index games script told_games told_script before after status s
     let G : Option (List ℕ) → Type 0 = λ o. EndsEarly index o told_script before after status in
     let S : Option (List ℕ) → Type 0 = λ o. EndsEarly index (Some games) o before after status in
     subst S same_script (subst G same_games (subst I same_index ends))
-
--- A count that rose since a later moment rose since an earlier one.
-pub Rose-earlier : (a b c : ℕ) → a ≤ b → Rose b c → Rose a c
-Rose-earlier a b c before rose = elim rose [ inl more ↦ inl (omega arith) | inr last ↦ inr last ]

@@ -4,6 +4,9 @@ use Rattle.std.proofs.lemmas.Bool.{OnFalse_at}
 use Rattle.chess_laws.specs.Attacks.{Attacks}
 use Rattle.chess_laws.specs.Checks.{Hits, in_check}
 use Rattle.chess_laws.specs.Step.{after, effect_of}
+use Rattle.std.specs.Bool.{OnFalse}
+use Rattle.chess_laws.specs.Counts.{counts_of}
+use Rattle.chess_laws.proofs.Counting.{counts-after}
 use Rattle.chess_laws.proofs.Opening.{check-told}
 use Rattle.chess_laws.proofs.making.make.Goals as goal
 
@@ -18,3 +21,13 @@ returns-clause-check c =
     check-told p m c.args.resting c.may_open-opened.result c.gives_check.result c.requires.sound c.requires.legal c.requires.resting
     (λ shut. rw c.requires.effect at (OnFalse_at shut c.may_open-opened.ensures)) told
     ∙ ap in_check (sym next)
+
+pub returns-clause-census : goal.returns-clause-census
+returns-clause-census c =
+    let p = c.args.p.now in
+    let m = c.args.m.now in
+    let next : c.change.new.p ≡ after p m (effect_of p m) = c.change.ensures ∙ ap (after p m) c.requires.effect in
+    let one = rw (c.requires.census, c.at-taken.ensures.man) at c.recount.ensures.one in
+    let all = subst (λ q. OnFalse c.takes_alone.result (c.recount.new.counts ≡ counts_of q.board)) next c.recount.ensures.all in
+    counts-after p m c.takes_alone.result c.recount.new.counts c.requires.sound c.requires.legal (rw c.requires.effect at c.takes_alone.ensures) one all
+    ∙ ap (λ q. counts_of q.board) (sym next)

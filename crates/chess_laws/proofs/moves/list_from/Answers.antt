@@ -20,3 +20,13 @@ returns-clause-listed g c =
     c.loop-to.invariant.listed in
     let same : 512 * c.args.from + 8 * 64 ≡ 512 * (c.args.from + 1) = omega arith in
     subst (λ n. ListsBelow c.args.p.now g.row.N n c.loop-to.into.items) same all
+
+pub returns-then-is_empty-clause-listed : goal.returns-then-is_empty-clause-listed
+returns-then-is_empty-clause-listed g c =
+    let first : 512 * c.args.from ≡ 512 * c.args.from + 8 * 0 = omega arith in
+    let all : ListsBelow c.args.p.now g.row.N (512 * c.args.from + 8 * 64) c.args.into.now.items =
+    lists-targets c.args.p.now g.row.N c.args.from 0 64 c.args.into.now.items c.targets-targets.result
+    c.requires.sound (omega arith) (omega arith) c.targets-targets.ensures (λ b from less has. c.if-is_empty.ensures.empty b has)
+    (subst (λ n. ListsBelow c.args.p.now g.row.N n c.args.into.now.items) first c.requires.before) in
+    let same : 512 * c.args.from + 8 * 64 ≡ 512 * (c.args.from + 1) = omega arith in
+    subst (λ n. ListsBelow c.args.p.now g.row.N n c.args.into.now.items) same all

@@ -50,6 +50,7 @@ invariant_of-result c =
       black_king = c.in-Some-only_king.ensures.1;
       check = same-told (IsInCheck p.board p.side) c.rests_in_check-checked.result (in_check p)
           (rw (c.other.ensures.side, other-other c.args.side) at c.rests_in_check-checked.ensures.check) (in_check-is p sound.kings);
+      census = c.counts.ensures;
     }
 
 pub returns-clause-sound : goal.returns-clause-sound

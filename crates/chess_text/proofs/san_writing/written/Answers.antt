@@ -1,5 +1,8 @@
 use Rattle.std.specs.Option.{option_to_list}
 use Rattle.chess_text.proofs.RivalLaws.{san-by}
+use Rattle.chess_text.specs.SanText.{san_text}
+use Rattle.chess_text.proofs.OneText.{one-text}
+use Rattle.chess_text.proofs.TextLaws.{computed}
 use Rattle.chess_text.proofs.WrittenSan.{san-reads}
 use Rattle.chess_text.proofs.san_writing.written.Goals as goal
 
@@ -7,6 +10,13 @@ pub returns-clause-text : goal.returns-clause-text
 returns-clause-text c =
     san-by c.args.p.now c.args.m.now c.effect-effect.result _ c.front_of-text.result.items (option_to_list c.sign_of.result) c.effect-effect.ensures.effect
     c.front_of-text.ensures.text c.sign_of.ensures.sign c.push_sign.ensures.text
+
+pub returns-clause-exact : goal.returns-clause-exact
+returns-clause-exact c =
+    one-text c.args.p.now c.args.m.now _ (san_text c.args.p.now c.args.m.now)
+    (san-by c.args.p.now c.args.m.now c.effect-effect.result _ c.front_of-text.result.items (option_to_list c.sign_of.result) c.effect-effect.ensures.effect
+    c.front_of-text.ensures.text c.sign_of.ensures.sign c.push_sign.ensures.text)
+    (computed c.args.p.now c.args.m.now c.requires.sound c.requires.legal)
 
 pub returns-clause-read_again : goal.returns-clause-read_again
 returns-clause-read_again c =

@@ -1,9 +1,10 @@
 use Rattle.std.proofs.Common.{◌≡◌, ◌∙◌, ℕ, inr, subst, List, [], Option, Some, length, map, string_bytes}
+use Rattle.base_files.proofs.Rising.{Rose-after}
 use Rattle.shell_session.specs.Endings.{EndsEarly}
 use Rattle.shell_session.specs.IndexFile.{IsIndex}
 use Rattle.shell_session.specs.Refusals.{OpeningRefused}
 use Rattle.shell_session.specs.Session.{Opens, given}
-use Rattle.shell_session.proofs.Answering.{early_answers, ends_for_memory, ends_told, none_added, opening_answers, told_is, told_length_is, Rose-earlier}
+use Rattle.shell_session.proofs.Answering.{early_answers, ends_for_memory, ends_told, none_added, opening_answers, told_is, told_length_is}
 use Rattle.shell_session.proofs.run.session.Goals as goal
 
 pub returns-in-Err-clause-answers : goal.returns-in-Err-clause-answers
@@ -34,4 +35,4 @@ returns-clause-completes g c index games script text told_index told_games told_
     inr (ends_for_memory _ index games script text _ _ c.in-Err-find.status finds ends
     (λ is. no_input (c.in-Err-find.ensures.read_fault is))
     (λ is. no_output (c.in-Err-find.ensures.write_fault is))
-    (λ is. no_files (Rose-earlier _ _ _ c.open.ensures.counts (c.in-Err-find.ensures.files_fault is))))
+    (λ is. no_files (Rose-after _ _ _ c.open.ensures.counts (c.in-Err-find.ensures.files_fault is))))

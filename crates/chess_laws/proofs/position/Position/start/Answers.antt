@@ -9,4 +9,4 @@ use Rattle.chess_laws.proofs.position.Position.start.Goals as goal
 pub invariant_of-result : goal.invariant_of-result
 unfolding in_check shift run
 invariant_of-result c =
-    rw (c.start_board-board.ensures) (record { sound = start-sound; white_king = c.at.ensures.numbered; black_king = c.at-2.ensures.numbered; check = refl })
+    rw (c.start_board-board.ensures) (record { sound = start-sound; white_king = c.at.ensures.numbered; black_king = c.at-2.ensures.numbered; check = refl; census = refl })

@@ -1,0 +1,157 @@
+-- One more man makes one more of the ten counts.
+use Rattle.std.proofs.Common.{◌≡◌, ℕ, ◌+◌, ◌-◌, ◌<◌, ◌&&◌, is_none, Bool, true, false, cond, List, [], ◌∷◌, ◌++◌, Option, Some, None, length, get_or, take, refl, sym, ◌∙◌, ap, arith}
+use Rattle.std.proofs.lemmas.List.Sums.{sum_by-append}
+use Rattle.std.proofs.lemmas.List.{take_more}
+use Rattle.cell_core.specs.declared.man.Colour.{Colour}
+use Rattle.cell_core.specs.declared.man.Colour.TheVariants.{White, Black}
+use Rattle.cell_core.specs.declared.man.Kind.{Kind}
+use Rattle.cell_core.specs.declared.man.Kind.TheVariants.{King, Queen, Rook, Bishop, Knight, Pawn}
+use Rattle.cell_core.specs.declared.man.Man.{Man}
+use Rattle.cell_core.specs.declared.step.Move.{Move}
+use Rattle.cell_core.specs.Board.{Men, man_at}
+use Rattle.cell_core.specs.Man.{man, is_man}
+use Rattle.chess_laws.specs.Counts.{counts_of, count_of, fewer, more}
+use Rattle.std.specs.Bool.{OnTrue, OnFalse}
+use Rattle.std.proofs.lemmas.Bool.{and_parts, false≢true}
+use Rattle.chess_laws.specs.declared.setup.Setup.{Setup}
+use Rattle.chess_laws.specs.declared.effect.Effect.{Effect}
+use Rattle.chess_laws.specs.declared.effect.Effect.TheVariants.{Plain, Double, Passing, Castle, Null}
+use Rattle.chess_laws.specs.Legal.{is_calm}
+use Rattle.chess_laws.specs.Position.{Sound}
+use Rattle.chess_laws.specs.Step.{Case, Legal, effect_of, board_after}
+use Rattle.chess_laws.proofs.Boards.{Goes, Goes-count, one_if, relocate}
+use Rattle.chess_laws.proofs.Keeping.{plain-no_own, plain-no_king}
+use Rattle.chess_laws.proofs.Following.{case-on_board}
+use Rattle.chess_laws.proofs.MovedKings.{legal-allowed}
+
+one-more : (b : Bool) (n : ℕ) → n + (0 + cond b 1 0) ≡ cond b (n + 1) n
+one-more true n = omega arith
+one-more false n = omega arith
+
+count-more : (xs : Men) (x : Option Man) (c : Colour) (k : Kind) → count_of (xs ++ x ∷ []) c k ≡ cond (is_man c k x) (count_of xs c k + 1) (count_of xs c k)
+count-more xs x c k = sum_by-append (λ y. cond (is_man c k y) 1 0) xs (x ∷ []) ∙ one-more (is_man c k x) (count_of xs c k)
+
+-- ten counts, each by its colour and kind
+abbrev ten : (Colour → Kind → ℕ) → List ℕ
+ten f =
+    f White Queen ∷ f White Rook ∷ f White Bishop ∷ f White Knight ∷ f White Pawn
+    ∷ f Black Queen ∷ f Black Rook ∷ f Black Bishop ∷ f Black Knight ∷ f Black Pawn
+    ∷ []
+
+ten-more : (f : Colour → Kind → ℕ) (x : Option Man) → ten (λ c k. cond (is_man c k x) (f c k + 1) (f c k)) ≡ more (ten f) x
+ten-more f None = refl
+ten-more f (Some m) = by-man m.colour m.kind
+  where
+    by-man : (c : Colour) (k : Kind) → ten (λ d j. cond (is_man d j (Some (man c k))) (f d j + 1) (f d j)) ≡ more (ten f) (Some (man c k))
+    by-man White King = refl
+    by-man White Queen = refl
+    by-man White Rook = refl
+    by-man White Bishop = refl
+    by-man White Knight = refl
+    by-man White Pawn = refl
+    by-man Black King = refl
+    by-man Black Queen = refl
+    by-man Black Rook = refl
+    by-man Black Bishop = refl
+    by-man Black Knight = refl
+    by-man Black Pawn = refl
+
+pub counts-more : (xs : Men) (x : Option Man) → counts_of (xs ++ x ∷ []) ≡ more (counts_of xs) x
+counts-more xs x =
+    (rw (
+      count-more xs x White Queen,
+      count-more xs x White Rook,
+      count-more xs x White Bishop,
+      count-more xs x White Knight,
+      count-more xs x White Pawn,
+      count-more xs x Black Queen,
+      count-more xs x Black Rook,
+      count-more xs x Black Bishop,
+      count-more xs x Black Knight,
+      count-more xs x Black Pawn,
+    ) refl)
+    ∙ ten-more (count_of xs) x
+
+pub counts-next : (xs : Men) (i : ℕ) → i < length xs → counts_of (take (i + 1) xs) ≡ more (counts_of (take i xs)) (get_or xs i None)
+counts-next xs i less = ap counts_of (take_more xs i None less) ∙ counts-more (take i xs) (get_or xs i None)
+
+ten-fewer : (f : Colour → Kind → ℕ) (x : Option Man) → ten (λ c k. cond (is_man c k x) (f c k - 1) (f c k)) ≡ fewer (ten f) x
+ten-fewer f None = refl
+ten-fewer f (Some m) = by-man m.colour m.kind
+  where
+    by-man : (c : Colour) (k : Kind) → ten (λ d j. cond (is_man d j (Some (man c k))) (f d j - 1) (f d j)) ≡ fewer (ten f) (Some (man c k))
+    by-man White King = refl
+    by-man White Queen = refl
+    by-man White Rook = refl
+    by-man White Bishop = refl
+    by-man White Knight = refl
+    by-man White Pawn = refl
+    by-man Black King = refl
+    by-man Black Queen = refl
+    by-man Black Rook = refl
+    by-man Black Bishop = refl
+    by-man Black Knight = refl
+    by-man Black Pawn = refl
+
+one-fewer : (b : Bool) (one n before : ℕ) → n + one + one_if b ≡ before + one → n ≡ cond b (before - 1) before
+one-fewer true one n before h = omega arith
+one-fewer false one n before h = omega arith
+
+-- a man that goes elsewhere and stays what it is takes one man from the counts at most
+goes-counts : (men : Men) (a b : ℕ) (c : Colour) (k : Kind) → Goes men a b c k k → counts_of (relocate men a b (Some (man c k))) ≡ fewer (counts_of men) (man_at men b)
+goes-counts men a b c k goes =
+    let new = relocate men a b (Some (man c k)) in
+    let each : (d : Colour) (j : Kind) → count_of new d j ≡ cond (is_man d j (man_at men b)) (count_of men d j - 1) (count_of men d j) =
+    λ d j. one-fewer (is_man d j (man_at men b)) (one_if (is_man d j (Some (man c k)))) (count_of new d j) (count_of men d j) (Goes-count men a b c k k goes (is_man d j) refl) in
+    (rw (
+      each White Queen,
+      each White Rook,
+      each White Bishop,
+      each White Knight,
+      each White Pawn,
+      each Black Queen,
+      each Black Rook,
+      each Black Bishop,
+      each Black Knight,
+      each Black Pawn,
+    ) refl)
+    ∙ ten-fewer (count_of men) (man_at men b)
+
+none-is : (x : Option Kind) → is_none x ≡ true → x ≡ None
+none-is None h = refl
+none-is (Some k) h = absurd (cc)
+
+calm-counts : (p : Setup) (m : Move) (e : Effect) → Sound p → effect_of p m ≡ e → is_calm e ≡ true → m.promo ≡ None → Case p m e →
+    counts_of (board_after p m e) ≡ fewer (counts_of p.board) (man_at p.board m.to)
+calm-counts p m Plain sound is quiet none case =
+    let goes : Goes p.board m.from m.to p.side case.kind case.kind = record {
+      squares = sound.squares;
+      from = case.stands;
+      target = case-on_board p m Plain sound is case;
+      no_own = plain-no_own p m case.kind case.goes;
+      no_king = plain-no_king p m case.kind sound case.stands case.goes;
+      same_king = refl;
+    } in
+    rw (none, case.stands) (goes-counts p.board m.from m.to p.side case.kind goes)
+calm-counts p m Double sound is quiet none case =
+    let goes : Goes p.board m.from m.to p.side Pawn Pawn = record {
+      squares = sound.squares;
+      from = case.stands;
+      target = case-on_board p m Double sound is case;
+      no_own = λ i h. cc case.target;
+      no_king = λ d h. cc case.target;
+      same_king = refl;
+    } in
+    rw (none, case.stands) (goes-counts p.board m.from m.to p.side Pawn goes)
+calm-counts p m Passing sound is quiet none case = absurd (false≢true quiet)
+calm-counts p m (Castle wing) sound is quiet none case = absurd (false≢true quiet)
+calm-counts p m Null sound is quiet none case = absurd (false≢true quiet)
+
+-- the counts after a legal move: those before without the man on its target, or those of the board
+pub counts-after : (p : Setup) (m : Move) (alone : Bool) (new : List ℕ) → Sound p → Legal p m → alone ≡ (is_calm (effect_of p m) && is_none m.promo) →
+    OnTrue alone (new ≡ fewer (counts_of p.board) (man_at p.board m.to)) → OnFalse alone (new ≡ counts_of (board_after p m (effect_of p m))) →
+    new ≡ counts_of (board_after p m (effect_of p m))
+counts-after p m true new sound legal is one all =
+    let both = and_parts (is_calm (effect_of p m)) (is_none m.promo) (sym is) in
+    one ∙ sym (calm-counts p m (effect_of p m) sound refl both.0 (none-is m.promo both.1) (legal-allowed p m legal))
+counts-after p m false new sound legal is one all = all

@@ -1,0 +1,34 @@
+-- Each part of the signature.
+use Rattle.std.proofs.Common.{[], not, ap, ◌∙◌, sym}
+use Rattle.std.specs.Prelude.{min, length}
+use Rattle.std.proofs.lemmas.Bool.{cond-true, cond-false}
+use Rattle.chess_laws.specs.declared.setup.Setup.{Setup}
+use Rattle.game_tree.specs.Game.{GameTree}
+use Rattle.game_tree.specs.Tree.{Line, line_of, moves_of}
+use Rattle.game_tree.specs.Counts.{variations_of, comments_of, nags_of}
+use Rattle.game_tree.proofs.TreeLemmas.{length-moves_of}
+use Rattle.sig_index.specs.Signature.{material_of, left_of, home_list}
+use Rattle.sig_index.proofs.SigLemmas.{own_is, code_is}
+use Rattle.sig_index.proofs.signature.sig_of.Goals as goal
+use Rattle.sig_index.proofs.signature.sig_of.Goals.{then-own_start, else-own_start}
+
+pub returns : goal.returns
+returns c =
+    record {
+      signature = record {
+        material = c.material_of.ensures ∙ ap (λ (p : Setup). material_of p.board) c.replayed-last.ensures.last;
+        own_start = own_is c.is_initial-own_start.result c.setup.result.now c.setup-2.result.now c.args.g.now.start _ c.is_initial-own_start.ensures
+            (c.setup.ensures.setup ∙ ap (λ (g : GameTree). g.start) c.g.view_is) (c.setup-2.ensures.setup ∙ c.start.ensures.start);
+        home = elim c.if-own_start.branch [
+          | then-own_start w ↦ w.result-is ∙ w.home_list.ensures ∙ ap home_list (sym (cond-true (not c.is_initial-own_start.result) [] (left_of c.args.g.now) (ap not w.if-own_start.true)))
+          | else-own_start w ↦ w.result-is ∙ c.replayed-last.ensures.left ∙ ap home_list (sym (cond-false (not c.is_initial-own_start.result) [] (left_of c.args.g.now) (ap not w.if-own_start.false)))
+        ];
+        plies = c.min.ensures ∙ ap (λ n. min n 1023) (sym (length-moves_of c.as_slice.result.now)
+            ∙ ap (λ (l : Line). length (moves_of l)) (ap line_of c.as_slice.ensures.value ∙ ap (λ (g : GameTree). g.line) c.g.view_is));
+        promo = c.has_promotion.ensures.has;
+        under = c.has_underpromotion.ensures.has;
+        vars = c.count_code.ensures.code ∙ code_is (variations_of c.args.g.now) c.counts-counts.result.variations c.counts-counts.ensures.variations;
+        comments = c.count_code-2.ensures.code ∙ code_is (comments_of c.args.g.now) c.counts-counts.result.comments c.counts-counts.ensures.comments;
+        nags = c.count_code-3.ensures.code ∙ code_is (nags_of c.args.g.now) c.counts-counts.result.nags c.counts-counts.ensures.nags;
+      };
+    }

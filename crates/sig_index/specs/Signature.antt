@@ -1,0 +1,64 @@
+-- The signature of a game: what of it decides that some searches need not read it (this project's own, but the counts and the marks of
+-- promotions, which Scid's format keeps).
+use Rattle.std.specs.Prelude.{◌≡◌, ◌-◌, ℕ, min, not, if◌then◌else◌, List, [], ◌∷◌, ◌++◌, length, map, replicate}
+use Rattle.std.specs.List.{filter, range_with_len}
+use Rattle.std.specs.Bool.{MatchBool}
+use Rattle.cell_core.specs.declared.man.Colour.TheVariants.{White, Black}
+use Rattle.cell_core.specs.declared.man.Kind.TheVariants.{Queen, Rook, Bishop, Knight, Pawn}
+use Rattle.cell_core.specs.Board.{Men}
+use Rattle.chess_laws.specs.Counts.{count_of, is_home}
+use Rattle.chess_laws.specs.declared.setup.Setup.{Setup}
+use Rattle.chess_laws.specs.Position.{start_setup}
+use Rattle.game_tree.specs.Game.{GameTree}
+use Rattle.game_tree.specs.Replay.{plies_of, position_at}
+use Rattle.game_tree.specs.Promotions.{has_promotion, has_underpromotion}
+use Rattle.game_tree.specs.Counts.{variations_of, comments_of, nags_of}
+use Rattle.index_entry.specs.Counts.{count_code}
+use Rattle.sig_index.specs.declared.signature.Sig.{Sig}
+use Rattle.sig_index.specs.declared.signature.HomeList.{HomeList}
+
+-- The men of a board: queens, rooks, bishops, knights and pawns, White's and then Black's. More than three of a kind count as three, but
+-- for pawns.
+abbrev pub material_of : Men → List ℕ
+material_of men =
+    min (count_of men White Queen) 3 ∷ min (count_of men White Rook) 3 ∷ min (count_of men White Bishop) 3 ∷ min (count_of men White Knight) 3
+    ∷ count_of men White Pawn
+    ∷ min (count_of men Black Queen) 3 ∷ min (count_of men Black Rook) 3 ∷ min (count_of men Black Bishop) 3 ∷ min (count_of men Black Knight) 3
+    ∷ count_of men Black Pawn
+    ∷ []
+
+-- The home values of all pawns.
+abbrev pub all_homes : List ℕ
+all_homes = range_with_len 0 16
+
+-- The home values among some whose pawns are not at home in the first of these positions, and then those of the others that are not at
+-- home in the second, and so on.
+abbrev pub leaving : List ℕ → List Setup → List ℕ
+leaving homes [] = []
+leaving homes (p ∷ positions) =
+    filter (λ value. not (is_home p.board value)) homes ++ leaving (filter (λ value. is_home p.board value) homes) positions
+
+-- The positions after each move of the main line.
+abbrev pub positions_of : GameTree → List Setup
+positions_of game = map (position_at game) (range_with_len 1 (plies_of game))
+
+-- The home values of the pawns that left their own squares along the main line, by moving or by being captured, in their order.
+abbrev pub left_of : GameTree → List ℕ
+left_of game = leaving all_homes (positions_of game)
+
+-- Home values as a list of sixteen that has zeros behind them.
+abbrev pub home_list : List ℕ → HomeList
+home_list values = record { count = length values; values = values ++ replicate (16 - length values) 0 }
+
+-- The signature of a game: of the last position of its main line, of that line, and of all its lines. An own start is a start other than
+-- the initial position (FIDE Laws, Article 2.3), and has no home values. More than 1,023 plies count as 1,023.
+pub record IsSig (game : GameTree) (s : Sig) : Type 0 where
+  pub material : s.material ≡ material_of (position_at game (plies_of game)).board
+  pub own_start : MatchBool s.own_start (game.start ≡ start_setup → ⊥) (game.start ≡ start_setup)
+  pub home : s.home ≡ home_list (if s.own_start then [] else left_of game)
+  pub plies : s.plies ≡ min (plies_of game) 1023
+  pub promo : s.promo ≡ has_promotion game
+  pub under : s.under ≡ has_underpromotion game
+  pub vars : s.vars ≡ count_code (variations_of game)
+  pub comments : s.comments ≡ count_code (comments_of game)
+  pub nags : s.nags ≡ count_code (nags_of game)
