@@ -1,3 +1,4 @@
+//! Men: their colours and kinds.
 ghost use Rattle.std.specs.Prelude.{◌≡◌};
 ghost use Rattle.cell_core.specs.Man.{other};
 

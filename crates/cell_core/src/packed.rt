@@ -1,3 +1,4 @@
+//! The board packed into 32 bytes, both ways.
 ghost use Rattle.std.specs.Prelude.{◌≡◌, ◌+◌, ◌*◌, ◌<◌, ◌≤◌, length, slice_index};
 ghost use Rattle.cell_core.specs.Packed.{man_of, men_of, nibble_of, packed_of};
 

@@ -1,3 +1,4 @@
+//! The squares of the board.
 ghost use Rattle.std.specs.Prelude.{◌≡◌, ◌<◌, ◌≤◌, SomeIff};
 
 use std::marker::Model;

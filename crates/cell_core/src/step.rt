@@ -1,3 +1,4 @@
+//! A half-move as a value.
 use super::man::Kind;
 use super::square::Square;
 

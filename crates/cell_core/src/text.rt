@@ -1,3 +1,4 @@
+//! Texts without a zero byte.
 ghost use Rattle.std.specs.Prelude.{◌≡◌, ◌↔◌, [], length, IsTrue, IfOk, IfErr, OnErr, MatchResult};
 ghost use Rattle.cell_core.specs.Text.{IsZeroFree};
 

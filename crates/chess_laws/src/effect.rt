@@ -1,3 +1,4 @@
+//! The kinds of half-moves.
 use super::setup::Wing;
 
 /// What kind of half-move a move is.

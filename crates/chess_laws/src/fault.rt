@@ -1,3 +1,5 @@
+//! Why a setup is no position.
+
 /// Why a setup is no position: the first rule that it breaks, in this order.
 #[derive(Clone, Copy, Debug, PartialEq, Eq)]
 pub enum PlaceFault {

@@ -1,3 +1,4 @@
+//! Positions that keep the rules, and the moves from them.
 ghost use Rattle.std.specs.Prelude.{◌≡◌, ◌↔◌, ℕ, ◌<◌, IsTrue, IsBitSet, IfOk, IfErr, Some};
 ghost use Rattle.cell_core.specs.Board.{man_at};
 ghost use Rattle.cell_core.specs.Man.{man};

@@ -1,5 +1,5 @@
 -- A move has one text.
-use Rattle.std.proofs.Common.{◌≡◌, ℕ, inl, inr, List, [], ◌∷◌, ◌++◌, Option, Some, None, refl, sym, ◌∙◌, ap}
+use Rattle.std.proofs.Common.{◌≡◌, ℕ, inl, inr, List, ◌∷◌, ◌++◌, Option, Some, None, sym, ◌∙◌, ap}
 use Rattle.cell_core.specs.declared.man.Kind.{Kind}
 use Rattle.cell_core.specs.declared.man.Kind.TheVariants.{King, Queen, Rook, Bishop, Knight, Pawn}
 use Rattle.cell_core.specs.declared.man.Man.{Man}
@@ -8,10 +8,10 @@ use Rattle.cell_core.specs.Board.{man_at}
 use Rattle.chess_laws.specs.declared.setup.Setup.{Setup}
 use Rattle.chess_laws.specs.declared.effect.Effect.{Effect}
 use Rattle.chess_laws.specs.declared.effect.Effect.TheVariants.{Plain, Double, Passing, Castle, Null}
-use Rattle.chess_laws.specs.Step.{effect_of, after}
+use Rattle.chess_laws.specs.Step.{effect_of}
 use Rattle.chess_text.specs.Letters.{capital_of}
 use Rattle.chess_text.specs.Squares.{square_text}
-use Rattle.chess_text.specs.San.{IsRival, HasRival, HasRivalOnFile, HasRivalOnRank, OriginText, capture_text, PieceText, KindText, GoingText, SignText, IsSigned, SanBy, San}
+use Rattle.chess_text.specs.San.{HasRival, HasRivalOnFile, OriginText, capture_text, PieceText, KindText, GoingText, SignText, IsSigned, SanBy, San}
 
 from-file : (p : Setup) (k : Kind) (m : Move) → HasRivalOnFile p k m → HasRival p k m
 from-file p k m (s, rival, same) = (s, rival)

@@ -1,7 +1,7 @@
 -- What is computed is the text of the move.
-use Rattle.std.proofs.Common.{◌≡◌, ◌↔◌, ℕ, zero, suc, ◌<◌, ◌≤◌, ◌==◌, ◌&&◌, ◌||◌, not, ◌⊎◌, inl, inr, Bool, true, false, IsTrue, List, [], ◌∷◌, ◌++◌, if◌then◌else◌, Option, Some, None, codes, refl, sym, ◌∙◌, ap, subst, arith}
+use Rattle.std.proofs.Common.{◌≡◌, ◌↔◌, ℕ, zero, suc, ◌<◌, ◌==◌, ◌&&◌, ◌||◌, not, inl, inr, Bool, true, false, IsTrue, [], if◌then◌else◌, Option, Some, None, codes, refl, arith}
 use Rattle.std.specs.Bool.{Decides}
-use Rattle.std.proofs.lemmas.Bool.Decides.{Decides-and, Decides-not, Decides-eqb, Decides-like}
+use Rattle.std.proofs.lemmas.Bool.Decides.{Decides-and, Decides-eqb}
 use Rattle.std.proofs.lemmas.Bool.{false≢true, cases_lt, and_parts, and_from, or_cases, ne_eqb, eqb-false, not-true}
 use Rattle.cell_core.specs.declared.man.Kind.{Kind}
 use Rattle.cell_core.specs.declared.man.Kind.TheVariants.{King, Queen, Rook, Bishop, Knight, Pawn}
@@ -15,16 +15,14 @@ use Rattle.chess_laws.specs.declared.effect.Effect.TheVariants.{Plain, Double, P
 use Rattle.chess_laws.specs.Attacks.{IsInCheck}
 use Rattle.chess_laws.specs.Position.{Sound}
 use Rattle.chess_laws.specs.Geometry.{file_of, rank_of}
-use Rattle.chess_laws.specs.Moves.{IsMove}
-use Rattle.chess_laws.specs.Step.{effect_of, after, Legal, Case, may_become}
+use Rattle.chess_laws.specs.Step.{effect_of, after, Legal, Case}
 use Rattle.chess_laws.specs.LegalNow.{some_below, in_check_now, legal_now}
 use Rattle.chess_laws.proofs.Boards.{on_board}
 use Rattle.chess_laws.proofs.Deciding.{in_check-Decides, legal-Decides}
 use Rattle.chess_laws.proofs.Following.{case-on_board}
 use Rattle.chess_laws.proofs.Kings.{is_man-Some, is_man-true}
 use Rattle.chess_laws.proofs.MovedKings.{legal-allowed, Sound-after}
-use Rattle.chess_text.specs.Letters.{capital_of}
-use Rattle.chess_text.specs.San.{IsRival, HasRival, HasRivalOnFile, HasRivalOnRank, OriginText, PieceText, KindText, GoingText, HasMove, SignText, SanBy, San}
+use Rattle.chess_text.specs.San.{IsRival, OriginText, KindText, GoingText, HasMove, SignText, SanBy, San}
 use Rattle.chess_text.specs.SanText.{is_rival_now, origin_now, kind_now, going_now, some_promotion, has_move_now, sign_now, san_now, san_text}
 use Rattle.chess_text.proofs.RivalLaws.{origin-from, within}
 use Rattle.chess_text.proofs.WrittenSan.{MayName, case-named}

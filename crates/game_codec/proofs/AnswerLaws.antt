@@ -15,14 +15,14 @@ use Rattle.game_codec.proofs.DecodeLaws.{break-found, break-only, break-one}
 use Rattle.game_codec.proofs.LegalLaws.{record-legal}
 use Rattle.game_codec.proofs.TagLaws.{BeginsTags-IsTag}
 
--- a record's game is legal, and its tags are within their bounds
+-- A record's game is legal, and its tags are within their bounds.
 pub is-legal : (bytes : List ℕ) (tags : List Tag) (game : GameTree) → IsRecord bytes tags game → IsLegalGame game
 is-legal bytes tags game r = subst IsLegalGame (sym r.game_is) (record-legal r.start r.movetext r.behind_start r.behind_moves r.then_moves)
 
 pub are-tags : (bytes : List ℕ) (tags : List Tag) (game : GameTree) → IsRecord bytes tags game → All IsTag tags
 are-tags bytes tags game r = subst (All IsTag) (sym r.tags_are) (BeginsTags-IsTag bytes r.all_tags r.behind_tags r.tags_first)
 
--- what is told of the place where a fault was met
+-- What is told of the place where a fault was met.
 abbrev pub IsPlaced : List ℕ → Breach → ℕ → Type 0
 IsPlaced bytes breach place = (rest : List ℕ) → length rest ≡ breach.left → place ≡ place_of (length bytes) rest breach.what
 

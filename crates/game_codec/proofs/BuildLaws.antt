@@ -17,7 +17,7 @@ use Rattle.game_codec.specs.Nests.{token_of, tokens_of}
 use Rattle.game_codec.specs.declared.token.Token.{Token as Read}
 use Rattle.game_codec.specs.Token.{Token, Play, Nag, Comment, Open, Close, End}
 
--- the tree is built as far as the items that are left, with the texts before these bytes
+-- The tree is built as far as the items that are left, with the texts before these bytes.
 pub record IsBuilt (tokens left : List Token) (bytes rest : List ℕ) (b : Building) : Type 0 where
   pub read : List (List ℕ)
   pub zero_free : All IsZeroFree read
@@ -25,14 +25,14 @@ pub record IsBuilt (tokens left : List Token) (bytes rest : List ℕ) (b : Build
   pub count : length read + comments_in left ≡ comments_in tokens
   pub onward : (texts : List (List ℕ)) → built (dealt left texts) b ≡ built (dealt tokens (read ++ texts)) opening
 
-ended-push : (texts : List (List ℕ)) (text rest : List ℕ) → ended (texts ++ text ∷ []) ++ rest ≡ ended texts ++ (text ++ 0 ∷ rest)
+pub ended-push : (texts : List (List ℕ)) (text rest : List ℕ) → ended (texts ++ text ∷ []) ++ rest ≡ ended texts ++ (text ++ 0 ∷ rest)
 ended-push [] text rest = append_assoc text (0 ∷ []) rest
 ended-push (t ∷ texts) text rest =
     append_assoc t (0 ∷ ended (texts ++ text ∷ [])) rest
     ∙ ap (λ (bytes : List ℕ). t ++ 0 ∷ bytes) (ended-push texts text rest)
     ∙ sym (append_assoc t (0 ∷ ended texts) (text ++ 0 ∷ rest))
 
--- one more item
+-- One more item.
 module _ (tokens left : List Token) (bytes rest : List ℕ) (b : Building) where
   passed : (token : Token) (used : ℕ) (after : Building) → comments_in (token ∷ left) ≡ comments_in left → ((texts : List (List ℕ)) → built (dealt left texts) after ≡ built (dealt (token ∷ left) texts) b) → used ≡ 0 → IsBuilt tokens (token ∷ left) bytes rest b → IsBuilt tokens left bytes (drop used rest) after
   passed token used after none same unused is =
@@ -74,18 +74,18 @@ module _ (tokens : List Read) (i : ℕ) (bytes rest : List ℕ) (b : Building) w
   pub IsBuilt-end : length tokens ≤ i → IsBuilt (tokens_of tokens) (tokens_of (drop i tokens)) bytes rest b → IsBuilt (tokens_of tokens) [] bytes rest b
   IsBuilt-end all is = subst (λ (left : List Read). IsBuilt (tokens_of tokens) (tokens_of left) bytes rest b) (drop_of_length-le tokens all) is
 
--- at the end of the items
+-- At the end of the items.
 module _ (tokens : List Token) (bytes rest : List ℕ) (b : Building) where
   built-read : (is : IsBuilt tokens [] bytes rest b) → b ≡ built (dealt tokens is.read) opening
   built-read is = is.onward [] ∙ ap (λ (all : List (List ℕ)). built (dealt tokens all) opening) (append-nil is.read)
 
-  -- all lines round the main line are closed
+  -- All lines round the main line are closed.
   pub IsBuilt-closed : AreMovetext tokens → IsBuilt tokens [] bytes rest b → b.outer ≡ []
   IsBuilt-closed movetext is =
       let movetext = movetext is.read in
       (built-items_of movetext.0 b (built-read is ∙ ap (λ (items : List Item). built items opening) (sym movetext.1))).whole
 
-  -- the texts are those of the bytes, and the tree is what a movetext with these texts means
+  -- The texts are those of the bytes, and the tree is what a movetext with these texts means.
   pub IsBuilt-whole : (branch : Variation) → IsBuilt tokens [] bytes rest b → rest ≡ [] → ((s : Movetext) → b ≡ built (items_of s) opening → Gives branch (meaning s).comment (meaning s).line) → (texts : List (List ℕ)) × (AreTexts bytes texts × ((length texts ≡ comments_in tokens) × ((s : Movetext) → items_of s ≡ dealt tokens texts → Gives branch (meaning s).comment (meaning s).line)))
   IsBuilt-whole branch is none meant = (
     is.read,

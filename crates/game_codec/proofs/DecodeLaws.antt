@@ -45,7 +45,7 @@ read-record bytes tags game read =
       game_is = λ i. record { start = read.start_is i; lead = meant.0 i; line = meant.1 i };
     }
 
--- a record's parts, with the items that its movetext's are
+-- A record's parts, with the items that its movetext's are.
 record IsFlattened (bytes : List ℕ) (all_tags : List Tag) (start : Numbered) (s : Movetext) : Type 0 where
   pub tokens : List Token
   pub flat : IsFlat bytes all_tags start tokens (texts_of s)
@@ -142,11 +142,11 @@ flat_break bytes rest what broken =
 
 -- One reading alone
 
--- the same beginning: the same tags, and the same bytes behind them
+-- The same beginning: the same tags, and the same bytes behind them.
 at_start : (bytes : List ℕ) (a b : List Tag) (r s : List ℕ) (start : Numbered) (rest : List ℕ) → BeginsTags bytes a r → BeginsTags bytes b s → BeginsStart s start rest → BeginsStart r start rest
 at_start bytes a b r s start rest f g h = subst (λ (l : List ℕ). BeginsStart l start rest) (sym (BeginsTags-one bytes a b r s f g).1) h
 
--- the same start, and the same bytes behind it
+-- The same start, and the same bytes behind it.
 at_moves : (bytes : List ℕ) (a b : Numbered) (r s : List ℕ) (tokens : List Token) (stop : Stop) → BeginsStart bytes a r → BeginsStart bytes b s → Scans (nest_of b) s tokens stop → Scans (nest_of a) r tokens stop
 at_moves bytes a b r s tokens stop f g h =
     let same = BeginsStart-one bytes a b r s f g in
@@ -239,7 +239,7 @@ module _ (bytes rest rest' : List ℕ) (what what' : RecordWhat) where
       let same = BeginsTags-one bytes a.tags b.tags a.behind_tags b.behind_tags a.tags_first b.tags_first in
       BreaksStart-one a.behind_tags rest rest' what what' a.breaks (subst (λ (l : List ℕ). BreaksStart l rest' what') (sym same.1) b.breaks)
 
-  -- the start is there, and has no fault
+  -- The start is there, and has no fault.
   start_whole : (a : BreaksInStart bytes rest what) (tags : List Tag) (behind_tags : List ℕ) (start : Numbered) (behind_start : List ℕ)
       → BeginsTags bytes tags behind_tags → BeginsStart behind_tags start behind_start → ⊥
   start_whole a tags behind_tags start behind_start first then =
@@ -268,7 +268,7 @@ module _ (bytes rest rest' : List ℕ) (what what' : RecordWhat) where
       (subst (λ (l : List ℕ). BreaksTexts (comments_in a.tokens) l rest' what') (sym same.1)
       (subst (λ (ts : List Token). BreaksTexts (comments_in ts) b.behind_moves rest' what') (sym same.0) b.breaks))
 
--- of two faults one stands in an earlier part, or both in the same
+-- Of two faults one stands in an earlier part, or both in the same.
 module _ (bytes rest rest' : List ℕ) (what what' : RecordWhat) where
   from_texts : IsFlatInTexts bytes rest what → FlatBreaks bytes rest' what' → SameFault rest what rest' what'
   from_texts a broken =
@@ -333,14 +333,14 @@ module _ (bytes rest rest' : List ℕ) (what what' : RecordWhat) where
         ]
       ]
 
--- bytes that are a record have no fault
+-- Bytes that are a record have no fault.
 pub record-unbroken : (bytes : List ℕ) (tags : List Tag) (game : GameTree) (fault : RecordFault) → IsRecord bytes tags game → IsRecordFault bytes fault → ⊥
 record-unbroken bytes tags game fault r broken =
     break-only bytes tags game broken.rest fault.what (flat_break bytes broken.rest fault.what broken.breaks) r
 
--- bytes are a record of one game and one list of tags
+-- Bytes are a record of one game and one list of tags
 
--- movetexts of the same items mean the same
+-- Movetexts of the same items mean the same.
 same_meaning : (s t : Movetext) → items_of s ≡ items_of t → ((meaning s).comment ≡ (meaning t).comment) × ((meaning s).line ≡ (meaning t).line)
 same_meaning s t same =
     let one = built-items_of s (built (items_of s) opening) refl in
@@ -365,7 +365,7 @@ record-read bytes tags game r =
 pub record-one : (bytes : List ℕ) (tags others : List Tag) (game other : GameTree) → IsRecord bytes tags game → IsRecord bytes others other → (tags ≡ others) × (game ≡ other)
 record-one bytes tags others game other r = read-only bytes tags others game other (record-read bytes tags game r)
 
--- and have one first fault
+-- And have one first fault.
 pub fault-one : (bytes : List ℕ) (fault other : RecordFault) → IsRecordFault bytes fault → IsRecordFault bytes other → fault ≡ other
 fault-one bytes fault other f g =
     let same = break-one bytes f.rest g.rest fault.what other.what (flat_break bytes f.rest fault.what f.breaks) g.breaks in

@@ -11,11 +11,11 @@ use Rattle.game_codec.specs.Token.{Token, Play, Nag, Comment, Open, Close, End}
 use Rattle.game_codec.specs.declared.fault.RecordWhat.{RecordWhat}
 use Rattle.game_codec.specs.declared.fault.RecordWhat.TheVariants as what
 
--- an item with the bytes behind it, or a fault
+-- An item with the bytes behind it, or a fault.
 abbrev Answer : Type 0
 Answer = Result (Token × List ℕ) RecordWhat
 
--- what a mark and the bytes behind it are at a place
+-- What a mark and the bytes behind it are at a place.
 abbrev nag_at : List ℕ → Answer
 nag_at [] = Err what.Short
 nag_at (n ∷ later) = Ok (Nag n, later)
@@ -32,12 +32,12 @@ marked p byte later =
     (cond (eqb p.depth 0) (Err what.Mark) (Ok (Close, later)))
     (cond (eqb p.depth 0) (Ok (End, later)) (Err what.Mark)))))
 
--- what a move is, by what its bytes decode to
+-- What a move is, by what its bytes decode to.
 abbrev moved : List ℕ → Result (Move × ℕ) MoveFault → Answer
 moved bytes (Ok decoded) = Ok (Play decoded.0, drop decoded.1 bytes)
 moved bytes (Err fault) = Err (what.Move fault)
 
--- how bytes come to an answer
+-- How bytes come to an answer.
 data Told (p : Place) (bytes : List ℕ) (a : Answer) : Type 0 where
   ends : bytes ≡ [] → a ≡ Err what.Short → Told p bytes a
   marks : (byte : ℕ) (later : List ℕ) → bytes ≡ byte ∷ later → is_mark byte ≡ true → a ≡ marked p byte later → Told p bytes a
@@ -51,7 +51,7 @@ same_mark p bytes a b x y later rest first second is_a is_b =
     let tail : later ≡ rest = cc in
     is_a ∙ (rw (head, tail) (sym is_b))
 
--- an answer is the only one
+-- An answer is the only one.
 Told-one : (p : Place) (bytes : List ℕ) (a b : Answer) → Told p bytes a → Told p bytes b → a ≡ b
 Told-one p bytes a b first second =
     elim first [
@@ -92,7 +92,7 @@ Takes-told p bytes Open r h = marks 13 r h.2 refl (told_open p r h.0 h.1)
 Takes-told p bytes Close r h = marks 14 r h.1 refl (told_close p r h.0)
 Takes-told p bytes End r h = marks 15 r h.1 refl (rw h.0 refl)
 
--- and so is a fault
+-- And so is a fault
 
 told_depth : (p : Place) (later : List ℕ) → IsTrue p.has_move → 200 ≤ p.depth → ◌≡◌ {A = Answer} (Err what.Depth) (marked p 13 later)
 told_depth p later move deep = let test : ltb p.depth 200 ≡ false = grind (arith, nat_tests) in rw (move, test) refl
@@ -130,19 +130,19 @@ same_taken a b r s h =
     let same : ◌≡◌ {A = Token × List ℕ} (a, r) (b, s) = cc in
     (ap (λ (x : Token × List ℕ). x.0) same, ap (λ (x : Token × List ℕ). x.1) same)
 
--- the bytes at a place begin with one item, and the same bytes follow it
+-- The bytes at a place begin with one item, and the same bytes follow it.
 pub Takes-one : (p : Place) (bytes : List ℕ) (a b : Token) (r s : List ℕ) → Takes p bytes a r → Takes p bytes b s → (a ≡ b) × (r ≡ s)
 Takes-one p bytes a b r s first second =
     same_taken a b r s (Told-one p bytes (Ok (a, r)) (Ok (b, s)) (Takes-told p bytes a r first) (Takes-told p bytes b s second))
 
--- an item that may stand at a place is no fault
+-- An item that may stand at a place is no fault.
 pub Takes-unbroken : (p : Place) (bytes : List ℕ) (a : Token) (r : List ℕ) (w : RecordWhat) → Takes p bytes a r → FaultAt p bytes w → ⊥
 Takes-unbroken p bytes a r w takes fault =
     let same : ◌≡◌ {A = Answer} (Ok (a, r)) (Err w) =
     Told-one p bytes (Ok (a, r)) (Err w) (Takes-told p bytes a r takes) (FaultAt-told p bytes w fault) in
     absurd (cc)
 
--- what is wrong at a place is one fault
+-- What is wrong at a place is one fault.
 pub FaultAt-one : (p : Place) (bytes : List ℕ) (w v : RecordWhat) → FaultAt p bytes w → FaultAt p bytes v → w ≡ v
 FaultAt-one p bytes w v first second =
     let same : ◌≡◌ {A = Answer} (Err w) (Err v) =

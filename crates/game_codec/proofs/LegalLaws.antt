@@ -14,7 +14,7 @@ joined-IsComment [] later is = is
 joined-IsComment (c ∷ cs) None is = λ e. omega (arith, ap length e)
 joined-IsComment (c ∷ cs) (Some text) is = λ e. omega (arith, ap length e)
 
--- what is said of the move before a place, and what follows it, is legal, and no deeper than a record goes
+-- What is said of the move before a place, and what follows it, is legal, and no deeper than a record goes.
 record IsLegalSaid (p : Place) (said : Said) : Type 0 where
   comment : IsComment said.comment
   variations : AreLegalBranches p.before.position said.variations

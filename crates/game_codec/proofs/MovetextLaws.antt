@@ -14,7 +14,7 @@ use Rattle.game_codec.specs.declared.fault.RecordWhat.{RecordWhat}
 abbrev nest : Place → List Place → Nest
 nest p outer = record { current = p; outer = outer }
 
--- what ends a line inside another
+-- What ends a line inside another.
 ending-more : (d : ℕ) → ending (d + 1) ≡ Close
 ending-more d = rw add-one refl
 
@@ -27,7 +27,7 @@ ending-main d h = ap ending h
 
 -- From a movetext to the items
 
--- the items of a movetext, and others behind them
+-- The items of a movetext, and others behind them.
 abbrev tokens_then : Movetext → List Token → List Token
 tokens_then end more = more
 tokens_then (move m s) more = Play m ∷ tokens_then s more
@@ -102,12 +102,12 @@ breaks-scans start u bytes rest w breaks = scanned (beginning 0 start) [] u byte
 
 -- From the items to a movetext
 
--- the lines that are open lie one inside the other
-abbrev AreStacked : ℕ → List Place → Type 0
+-- The lines that are open lie one inside the other.
+abbrev pub AreStacked : ℕ → List Place → Type 0
 AreStacked depth [] = depth ≡ 0
 AreStacked depth (q ∷ outer) = (depth ≡ q.depth + 1) × AreStacked q.depth outer
 
--- from a place on the bytes begin with what is left of the innermost line, and then with what is left of each line round it
+-- From a place on the bytes begin with what is left of the innermost line, and then with what is left of each line round it.
 abbrev SpellAll : Place → List Place → Movetext → List Movetext → List ℕ → List ℕ → Type 0
 SpellAll p [] s [] bytes rest = SpellsMoves p s bytes rest
 SpellAll p [] s (t ∷ ss) bytes rest = ⊥
@@ -128,7 +128,7 @@ SpellAll-begun p p' s s' bytes later begun [] (t ∷ ss) rest all = absurd all
 SpellAll-begun p p' s s' bytes later begun (q ∷ outer) [] rest all = absurd all
 SpellAll-begun p p' s s' bytes later begun (q ∷ outer) (t ∷ ss) rest all = (all.0, begun all.0 all.1, all.2)
 
--- the items that are left are those of such movetexts
+-- The items that are left are those of such movetexts.
 record Regrouped (p : Place) (outer : List Place) (bytes : List ℕ) (tokens : List Token) (texts : List (List ℕ)) (rest : List ℕ) : Type 0 where
   movetext : Movetext
   round : List Movetext
@@ -232,7 +232,7 @@ scans-movetext start tokens bytes rest scans texts =
         (s, (spelled, (sym (append-nil (items_of s)) ∙ items, (ap length (sym all) ∙ count, λ e. sym all ∙ dealt_out e))))
     alone s (t ∷ ss) spelled items count dealt_out = absurd spelled
 
--- some movetexts for the innermost lines that are whole, and then the items of a line up to a fault
+-- Some movetexts for the innermost lines that are whole, and then the items of a line up to a fault.
 abbrev BreakAll : Place → List Place → List Movetext → Upto → List ℕ → List ℕ → RecordWhat → Type 0
 BreakAll p outer [] u bytes rest w = BreaksMoves p u bytes rest w
 BreakAll p [] (s ∷ ss) u bytes rest w = ⊥

@@ -14,12 +14,12 @@ use Rattle.game_codec.specs.declared.fault.RecordWhat.{RecordWhat}
 use Rattle.game_codec.specs.Token.{Token}
 use Rattle.game_codec.proofs.MovetextLaws.{scans-movetext}
 
--- what a refusal tells of a part it tells of the whole
+-- What a refusal tells of a part it tells of the whole.
 tells_on : (P Q : List ℕ → RecordWhat → Type 0) (refusal : Refusal) → ((rest : List ℕ) (w : RecordWhat) → P rest w → Q rest w) → TellsBad P refusal → TellsBad Q refusal
 tells_on P Q (Bad breach) on tells = (tells.0, tells.1, on tells.0 breach.what tells.2)
 tells_on P Q Memory on tells = tt
 
--- the tags and the start of a record, by the numbers of their bytes
+-- The tags and the start of a record, by the numbers of their bytes.
 pub record Begun (bytes behind_tags behind_start : List ℕ) (start : Numbered) : Type 0 where
   pub tags : List Tag
   pub tags_first : BeginsTags bytes tags behind_tags
@@ -33,7 +33,7 @@ begun bytes behind_tags behind_start used used' tags start e e' first then = rec
   then_start = subst (BeginsStart behind_tags start) (sym e') then;
 }
 
--- a fault in the moves
+-- A fault in the moves.
 pub scan-broken : (bytes behind_tags behind_start : List ℕ) (start : Numbered) (refusal : Refusal) → Begun bytes behind_tags behind_start start
     → TellsBad (λ rest w. (tokens : List Token) × Scans (nest_of start) behind_start tokens (Err (rest, w))) refusal → TellsBad (FlatBreaks bytes) refusal
 scan-broken bytes behind_tags behind_start start refusal b tells =
@@ -51,7 +51,7 @@ scan-broken bytes behind_tags behind_start start refusal b tells =
     }))))
     tells
 
--- a fault in the texts
+-- A fault in the texts.
 pub build-broken : (bytes behind_tags behind_start behind_moves : List ℕ) (used : ℕ) (start : Numbered) (tokens tokens' : List Token) (refusal : Refusal)
     → Begun bytes behind_tags behind_start start → behind_moves ≡ drop used behind_start → tokens' ≡ tokens
     → Scans (nest_of start) behind_start tokens (Ok (drop used behind_start)) → TellsBad (BreaksTexts (comments_in tokens') behind_moves) refusal
@@ -72,7 +72,7 @@ build-broken bytes behind_tags behind_start behind_moves used start tokens token
     }))))
     tells
 
--- the items that were read are those of a movetext
+-- The items that were read are those of a movetext.
 pub movetext : (start : Numbered) (bytes rest : List ℕ) (tokens tokens' : List Token) → tokens' ≡ tokens → Scans (nest_of start) bytes tokens (Ok rest) → AreMovetext tokens'
 movetext start bytes rest tokens tokens' same scans =
     subst AreMovetext (sym same) (λ texts. let found = scans-movetext start tokens bytes rest scans texts in (found.0, found.1.1.0))

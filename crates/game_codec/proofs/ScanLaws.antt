@@ -5,7 +5,7 @@ use Rattle.game_codec.specs.Scanning.{Nest, IsInner, Scans, Stop, StopsAt, nest_
 use Rattle.game_codec.specs.Token.{Token, End}
 use Rattle.game_codec.proofs.ItemLaws.{Takes-one, Takes-unbroken, FaultAt-one}
 
--- two stops are one
+-- Two stops are one.
 abbrev pub IsSameStop : Stop → Stop → Type 0
 IsSameStop (Ok r) (Ok s) = r ≡ s
 IsSameStop (Err f) (Err g) = (f.0 ≡ g.0) × (f.1 ≡ g.1)
@@ -19,14 +19,14 @@ StopsAt-one n bytes (Err f) (Ok s) first second = Takes-unbroken n.current bytes
 StopsAt-one n bytes (Err f) (Err g) first second =
     (first.0 ∙ sym second.0, FaultAt-one n.current bytes f.1 g.1 first.1 second.1)
 
--- where the reading stops, no further item stands
+-- Where the reading stops, no further item stands.
 StopsAt-last : (n : Nest) (bytes : List ℕ) (s : Stop) (token : Token) (later : List ℕ) → StopsAt n bytes s → IsInner token
     → Takes n.current bytes token later → ⊥
 StopsAt-last n bytes (Ok r) token later stops inner takes =
     subst IsInner (Takes-one n.current bytes token End later r takes stops).0 inner
 StopsAt-last n bytes (Err f) token later stops inner takes = Takes-unbroken n.current bytes token later f.1 takes stops.1
 
--- bytes are read as the same items, and the same stops the reading
+-- Bytes are read as the same items, and the same stops the reading.
 pub Scans-one : (n : Nest) (bytes : List ℕ) (a b : List Token) (s t : Stop) → Scans n bytes a s → Scans n bytes b t → (a ≡ b) × IsSameStop s t
 Scans-one n bytes [] [] s t first second = (refl, StopsAt-one n bytes s t first second)
 Scans-one n bytes [] (b ∷ tail') s t first (inner, (later, takes, more)) = absurd (StopsAt-last n bytes s b later first inner takes)

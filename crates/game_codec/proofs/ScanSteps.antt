@@ -8,7 +8,6 @@ use Rattle.game_codec.specs.Nests.{token_of, tokens_of}
 use Rattle.game_codec.specs.Scanning.{Nest, IsInner, Scans, Stop, nest_after}
 use Rattle.game_codec.specs.declared.breach.Refusal.{Refusal}
 use Rattle.game_codec.specs.declared.breach.Refusal.TheVariants.{Bad, Memory}
-use Rattle.game_codec.specs.declared.fault.RecordWhat.{RecordWhat}
 use Rattle.game_codec.specs.declared.token.Token.{Token as Read}
 use Rattle.game_codec.specs.declared.token.Token.TheVariants as read
 

@@ -14,7 +14,7 @@ use Rattle.game_codec.specs.Moves.{SpellsMoves}
 use Rattle.game_codec.specs.Record.{IsRecord}
 use Rattle.game_codec.specs.Token.{Token, Play, Nag, Comment, Open, Close, End}
 
--- an item takes a byte at least
+-- An item takes a byte at least.
 Takes-longer : (p : Place) (bytes : List ℕ) (token : Token) (later : List ℕ) → Takes p bytes token later → length later < length bytes
 Takes-longer p bytes (Play m) later takes =
     let used = Decodes-used p.here bytes m takes.1.0 takes.1.1 in
@@ -42,7 +42,7 @@ Spells-longer p (variation inner s) bytes rest spells =
       Spells-longer p s spells.2.0 rest spells.2.2,
     )
 
--- what is behind the tags, and behind the start, is shorter
+-- What is behind the tags, and behind the start, is shorter.
 Tags-longer : (bytes : List ℕ) (tags : List Tag) (rest : List ℕ) → BeginsTags bytes tags rest → length rest ≤ length bytes
 Tags-longer bytes [] rest begins = let e = ap (λ (l : List ℕ). length l) begins in omega (arith, e)
 Tags-longer bytes (tag ∷ tags) rest begins =

@@ -21,7 +21,7 @@ use Rattle.game_codec.proofs.SameFault.{SameFault}
 use Rattle.game_codec.proofs.SameFaultLaws.{SameFault-same, SameFault-short}
 use Rattle.game_codec.proofs.ZeroLaws.{text_ends-one, text_ends-zero}
 
--- ---- a text is the FEN of one position, or of none
+-- A text is the FEN of one position, or of none
 
 same_Ok : (p q : Setup) → ◌≡◌ {A = Result Setup FenFault} (Ok p) (Ok q) → p ≡ q
 same_Ok p q e = cc
@@ -38,18 +38,18 @@ fen-unbroken text p fault h broken =
     let e : ◌≡◌ {A = Result Setup FenFault} (Ok p) (Err fault) = answers_first text (Ok p) answers fault broken in
     cc
 
--- ---- one start
+-- One start
 
 same_numbered : (a b : Numbered) → a.position ≡ b.position → a.numbers ≡ b.numbers → a ≡ b
 same_numbered a b position numbers =
     ap (λ (p : Setup). record a { position = p }) position ∙ ap (λ (n : Numbers). record b { numbers = n }) numbers
 
--- two texts that flags and a zero byte enclose are one
+-- Two texts that flags and a zero byte enclose are one.
 text-one : (bytes : List ℕ) (f g : ℕ) (t u r s : List ℕ) → IsZeroFree t → IsZeroFree u → bytes ≡ f ∷ t ++ 0 ∷ r
     → bytes ≡ g ∷ u ++ 0 ∷ s → (t ≡ u) × (r ≡ s)
 text-one bytes f g t u r s free free' e e' = text_ends-one t u r s free free' (cc)
 
--- the flags of two readings of the same bytes are the same
+-- The flags of two readings of the same bytes are the same.
 flags-one : (bytes : List ℕ) (f g : ℕ) (r s : List ℕ) → bytes ≡ f ∷ r → bytes ≡ g ∷ s → f ≡ g
 flags-one bytes f g r s e e' = cc
 
@@ -70,7 +70,7 @@ BeginsStart-one bytes a b r s (inr h) (inr k) =
     = fen-one k.text a.position b.position (subst (λ (t : List ℕ). FenReads t a.position) texts.0 h.reads) k.reads in
     (same_numbered a b position (h.numbers ∙ ap (λ (p : Setup). text_numbers p.board) position ∙ sym k.numbers), texts.1)
 
--- ---- a start or a fault
+-- A start or a fault
 
 own-not_cut : (bytes : List ℕ) (a : Numbered) (r : List ℕ) → IsOwnStart bytes a r → IsCutStart bytes → ⊥
 own-not_cut bytes a r h k =
@@ -88,7 +88,7 @@ cut-not_bad bytes s h k =
     let e = rest-one bytes h.flags k.flags h.text s h.spelled k.spelled in
     text_ends-zero k.text k.later (rw (e ∙ k.text_is) at h.zero_free)
 
--- a fault of the start is one of three
+-- A fault of the start is one of three.
 data Faulty (bytes rest : List ℕ) (w : RecordWhat) : Type 0 where
   empty : w ≡ what.Short → bytes ≡ [] → Faulty bytes rest w
   cut : w ≡ what.Short → IsCutStart bytes → Faulty bytes rest w
@@ -138,7 +138,7 @@ pub BreaksStart-one : (bytes : List ℕ) (r s : List ℕ) (w v : RecordWhat) →
     → SameFault r w s v
 BreaksStart-one bytes r s w v h k = alike bytes r s w v (faulty bytes r w h) (faulty bytes s v k)
 
--- ---- what is written
+-- What is written
 
 pub standard-begins : (flags : ℕ) (rest : List ℕ) → flags % 2 ≡ 0 → BeginsStart (flags ∷ rest) standard_start rest
 standard-begins flags rest clear = inl (record { flags = flags; clear = clear; spelled = refl; start_is = refl })
@@ -156,7 +156,7 @@ own-begins flags p rest set sound =
       numbers = refl;
     })
 
--- ---- what is read
+-- What is read
 
 pub BeginsStart-Sound : (bytes : List ℕ) (a : Numbered) (r : List ℕ) → BeginsStart bytes a r → Sound a.position
 BeginsStart-Sound bytes a r (inl h) = rw h.start_is start-sound

@@ -11,7 +11,7 @@ use Rattle.game_codec.specs.Written.{tags_text}
 use Rattle.game_codec.specs.declared.fault.RecordWhat.{RecordWhat}
 use Rattle.game_codec.proofs.TagReadingLaws.{tag_at-BeginsTag, BeginsTag-one, BeginsTag-name, BeginsTag-value, tag_at-end}
 
--- ---- the end, a tag and a fault exclude one another
+-- The end, a tag and a fault exclude one another
 
 end-not_tag : (bytes : List ℕ) (r : List ℕ) (tag : Tag) (later : List ℕ) → bytes ≡ 0 ∷ r → BeginsTag bytes tag later → ⊥
 end-not_tag bytes r tag later e h =
@@ -32,7 +32,7 @@ tag-not_fault bytes tag later w h fault = let read = tag_at-BeginsTag bytes tag 
 same_fault : (w v : RecordWhat) → ◌≡◌ {A = Result (Option (Tag × List ℕ)) RecordWhat} (Err w) (Err v) → w ≡ v
 same_fault w v e = cc
 
--- ---- one reading
+-- One reading
 
 pub BeginsTags-one : (bytes : List ℕ) (a b : List Tag) (r s : List ℕ) → BeginsTags bytes a r → BeginsTags bytes b s
     → (a ≡ b) × (r ≡ s)
@@ -64,7 +64,7 @@ BreaksTags-one bytes (t ∷ a) (u ∷ b) r s w v (later, tag, more) (later', tag
     let one = BeginsTag-one bytes t u later later' tag tag' in
     BreaksTags-one later' a b r s w v (subst (λ (l : List ℕ). BreaksTags l a r w) one.1 more) more'
 
--- ---- tags within their bounds
+-- Tags within their bounds
 
 pub BeginsTags-IsTag : (bytes : List ℕ) (a : List Tag) (r : List ℕ) → BeginsTags bytes a r → All IsTag (free_of a)
 BeginsTags-IsTag bytes [] r h = All-nil IsTag

@@ -1,5 +1,5 @@
 -- The bytes begin with a tag exactly where they are read as it.
-use Rattle.std.proofs.Common.{◌≡◌, ◌≢◌, ℕ, ◌+◌, ◌-◌, ◌*◌, ◌/◌, ◌%◌, ◌<◌, ◌≤◌, inl, inr, Bool, true, false, not, ◌&&◌, ◌==◌, nat_le, nat_lt, List, [], ◌∷◌, ◌++◌, Option, Some, None, Result, Ok, Err, length, slice_index_or, get_or, take, drop, refl, sym, ap, subst, ◌∙◌, arith, codes, append_assoc, All, length-append, lit≤}
+use Rattle.std.proofs.Common.{◌≡◌, ◌≢◌, ℕ, ◌+◌, ◌-◌, ◌*◌, ◌/◌, ◌%◌, ◌<◌, ◌≤◌, inl, inr, Bool, true, false, ◌&&◌, ◌==◌, nat_le, nat_lt, List, [], ◌∷◌, ◌++◌, Option, Some, None, Result, Ok, Err, length, slice_index_or, get_or, take, drop, refl, sym, ap, subst, ◌∙◌, arith, codes, append_assoc, All, length-append, lit≤}
 use Rattle.std.specs.List.{list_all, slice_get}
 use Rattle.std.proofs.Math.Nat.{div-div-eq-div-mul}
 use Rattle.std.proofs.lemmas.Bool.{cases_Bool, cond_both, eqb-true, eqb-false, ne_eqb, leb-true, leb-false, le-leb, lt-leb, ltb-false, le-ltb, not-true, and_from, and_parts, not_from_false}
@@ -16,7 +16,7 @@ use Rattle.game_codec.specs.TagReading.{Part, part_at, is_value_byte, value_at, 
 use Rattle.game_codec.specs.declared.fault.RecordWhat.{RecordWhat}
 use Rattle.game_codec.specs.declared.fault.RecordWhat.TheVariants.{TagName, TagValue}
 
--- ---- texts of which each byte passes a test
+-- Texts of which each byte passes a test
 
 all_pass : (good : ℕ → Bool) (P : ℕ → Type 0) → ((b : ℕ) → P b → good b ≡ true) → (text : List ℕ) → All P text
     → list_all good text ≡ true
@@ -42,7 +42,7 @@ all_right : (P : ℕ → Type 0) (xs ys : List ℕ) → All P (xs ++ ys) → All
 all_right P [] ys h = h
 all_right P (x ∷ xs) ys h = all_right P xs ys (All-tail P x (xs ++ ys) h)
 
--- ---- a part of some length
+-- A part of some length
 
 part_reads : (good : ℕ → Bool) (what : RecordWhat) (text later : List ℕ) → list_all good text ≡ true
     → part_at good what (length text) (text ++ later) ≡ Ok (text, later)
@@ -52,7 +52,7 @@ part_reads good what text later pass =
     = le-ltb (length (text ++ later)) (length text) (omega (arith, length-append {A = ℕ})) in
     rw (take_at text later (length text) refl, drop_at text later (length text) refl, pass, size) refl
 
--- what a part that was read is
+-- What a part that was read is.
 record WasPart (good : ℕ → Bool) (n : ℕ) (bytes : List ℕ) (part : Part) : Type 0 where
   size : length part.0 ≡ n
   pass : list_all good part.0 ≡ true
@@ -78,7 +78,7 @@ part_was good what n bytes part h =
       | inr fails ↦ let e = rw fails at h in absurd (cc)
     ]
 
--- ---- a value behind its length
+-- A value behind its length
 
 value_reads : (value later : List ℕ) → IsName value → value_at (counted value ++ later) ≡ Ok (value, later)
 unfolding value_at
@@ -101,7 +101,7 @@ value_was (n ∷ bytes) part small h =
       cc,
     )
 
--- ---- a packed date
+-- A packed date
 
 number_of : (n : ℕ) → 65536 * (n / 65536) + 256 * (n / 256 % 256) + n % 256 ≡ n
 number_of n =
@@ -127,7 +127,7 @@ number_was n =
     let d : n / 32 / 16 ≡ n / 512 = div-div-eq-div-mul n 32 16 in
     omega arith
 
--- ---- reading what spells a tag
+-- Reading what spells a tag
 
 spelled_out-reads : (tag : Tag) (later : List ℕ) → IsTagName tag.name → IsName tag.value
     → tag_at ((counted tag.name ++ counted tag.value) ++ later) ≡ Ok (Some (tag, later))
@@ -178,7 +178,7 @@ tag_at-BeginsTag bytes tag later (spelled, inr (inr h), e) =
     let same = same_tag (record { name = codes "EventDate"; value = date_text h.date }) tag (sym h.name) (sym h.value) in
     rw (e, h.spelled) (dated-reads h.date later h.kept ∙ ap (λ (t : Tag). Ok (Some (t, later))) same)
 
--- ---- what was read spells a tag
+-- What was read spells a tag
 
 with_name_was : (r : Result Part RecordWhat) (tag : Tag) (later : List ℕ) → with_name r ≡ Ok (Some (tag, later))
     → (part : Part) × (r ≡ Ok part) × (with_value part.0 (value_at part.1) ≡ Ok (Some (tag, later)))
@@ -245,7 +245,7 @@ coded-was code bytes tag later above below small h =
       cc,
     )
 
--- a number below 2^24 from its three bytes
+-- A number below 2^24 from its three bytes.
 number_bytes : (a b c : ℕ) → a < 256 → b < 256 → c < 256
     → ((65536 * a + 256 * b + c) / 65536 ≡ a) × ((65536 * a + 256 * b + c) / 256 % 256 ≡ b)
     × ((65536 * a + 256 * b + c) % 256 ≡ c)
@@ -321,7 +321,7 @@ BeginsTag-one bytes tag tag' later later' h k =
     (sym (tag_at-BeginsTag bytes tag later h) ∙ tag_at-BeginsTag bytes tag' later' k) in
     (ap (λ (q : Tag × List ℕ). q.0) e, ap (λ (q : Tag × List ℕ). q.1) e)
 
--- ---- what a tag that was read may be
+-- What a tag that was read may be
 
 is_tag_name : List ℕ → Bool
 is_tag_name name = nat_le 1 (length name) && nat_le (length name) 240 && list_all is_tag_byte name
@@ -374,7 +374,7 @@ BeginsTag-value bytes tag later (spelled, inl h, e) = h.value
 BeginsTag-value bytes tag later (spelled, inr (inl h), e) = h.value
 BeginsTag-value bytes tag later (spelled, inr (inr h), e) = rw h.value (date_text_name h.date)
 
--- ---- the zero byte that ends the tags
+-- The zero byte that ends the tags
 
 with_value-some : (name : List ℕ) (r : Result Part RecordWhat) → with_value name r ≡ Ok None → ⊥
 with_value-some name (Err what) h = cc
@@ -423,7 +423,7 @@ end-tag_at (code ∷ bytes) h =
           ]
     ]
 
--- ---- one step of reading
+-- One step of reading
 
 pub next_tag-is : (bytes : List ℕ) (tag read : Tag) (used : ℕ) → ((i : ℕ) → get_or bytes i 0 < 256) → tag ≡ read
     → tag_at bytes ≡ Ok (Some (read, drop used (drop 1 bytes))) → used ≤ length (drop 1 bytes) → 0 < length bytes

@@ -12,8 +12,8 @@ use Rattle.game_codec.specs.declared.breach.Refusal.{Refusal}
 use Rattle.game_codec.specs.declared.breach.Refusal.TheVariants.{Bad, Memory}
 use Rattle.game_codec.specs.declared.fault.RecordWhat.{RecordWhat}
 
--- behind some tags of the bytes this is left, and those of them without a reserved name are these: whatever is read from
--- here on, tags or a fault, is read of all the bytes behind them
+-- Behind some tags of the bytes this is left, and those of them without a reserved name are these: whatever is read from
+-- here on, tags or a fault, is read of all the bytes behind them.
 pub record ReadSoFar (bytes rest : List ℕ) (free : List Tag) : Type 0 where
   pub all : List Tag
   pub front : List ℕ
@@ -46,7 +46,7 @@ read_more bytes rest later free tag h next = record {
       rw (append_assoc h.all (tag ∷ []) more) (h.breaks (tag ∷ more) end what (later, next, from));
 }
 
--- the zero byte ends the tags
+-- The zero byte ends the tags.
 pub read_all : (bytes rest : List ℕ) (free : List Tag) (used : ℕ) → ReadSoFar bytes rest free
     → ((later : List ℕ) × (rest ≡ 0 ∷ later)) → used ≡ length bytes - length rest + 1
     → (all : List Tag) × (BeginsTags bytes all (drop used bytes) × (free ≡ free_of all))
@@ -59,7 +59,7 @@ read_all bytes rest free used h (later, end) is =
     = ap (λ (b : List ℕ). drop used b) spelled ∙ drop_at (h.front ++ 0 ∷ []) later used size in
     (h.all ++ [], (rw left (h.begins [] later end), rw (append-nil h.all) h.free_are))
 
--- a fault ends them
+-- A fault ends them.
 read_fault : (bytes rest : List ℕ) (free : List Tag) (what : RecordWhat) → ReadSoFar bytes rest free
     → tag_at rest ≡ Err what → (all : List Tag) × BreaksTags bytes all rest what
 read_fault bytes rest free what h fault = (h.all ++ [], h.breaks [] rest what (refl, fault))

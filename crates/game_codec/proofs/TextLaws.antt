@@ -24,8 +24,8 @@ ended-one (t ∷ a) (u ∷ b) free free' e =
 pub AreTexts-one : (bytes : List ℕ) (a b : List (List ℕ)) → AreTexts bytes a → AreTexts bytes b → a ≡ b
 AreTexts-one bytes a b h k = ended-one a b h.zero_free k.zero_free (sym h.spelled ∙ k.spelled)
 
--- the first of two lists of texts that the same bytes begin with is the shorter one: the bytes behind it begin with the
--- texts that it lacks
+-- The first of two lists of texts that the same bytes begin with is the shorter one: the bytes behind it begin with the
+-- texts that it lacks.
 abbrev GoesOn : List (List ℕ) → List (List ℕ) → List ℕ → List ℕ → Type 0
 GoesOn a b r s = (more : List (List ℕ)) × (length b ≡ length a + length more) × (r ≡ ended more ++ s)
 
@@ -40,18 +40,18 @@ goes_on (t ∷ a) (u ∷ b) r s few free free' e =
     let later = goes_on a b r s (omega arith) (All-tail IsZeroFree t a free) (All-tail IsZeroFree u b free') i.1 in
     (later.0, let size = later.1 in omega arith, later.2)
 
--- where both lists have as many texts, the same bytes follow
+-- Where both lists have as many texts, the same bytes follow.
 same_rest : (a b : List (List ℕ)) (r s : List ℕ) → length a ≡ length b → GoesOn a b r s → r ≡ s
 same_rest a b r s same ([], size, spelled) = spelled
 same_rest a b r s same (t ∷ more, size, spelled) = absurd (omega arith)
 
--- where the second has more texts, the bytes behind the first have a zero byte
+-- Where the second has more texts, the bytes behind the first have a zero byte.
 has_zero : (a b : List (List ℕ)) (r s : List ℕ) → length a < length b → GoesOn a b r s → IsZeroFree r → ⊥
 has_zero a b r s fewer ([], size, spelled) free = omega arith
 has_zero a b r s fewer (t ∷ more, size, spelled) free =
     text_ends-zero t (ended more ++ s) (rw (spelled, append_assoc t (0 ∷ ended more) s) at free)
 
--- a fault of the texts is one of two
+-- A fault of the texts is one of two.
 abbrev Faulty : ℕ → ℕ → List ℕ → RecordWhat → Type 0
 Faulty read due rest w =
     ((w ≡ what.Short) × (read < due) × IsZeroFree rest) ⊎ ((w ≡ what.Extra) × (read ≡ due) × (rest ≢ []))

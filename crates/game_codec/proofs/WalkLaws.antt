@@ -1,5 +1,5 @@
 -- What stands at the front of a main line, and what is passed in a variation, by the first byte.
-use Rattle.std.proofs.Common.{◌≡◌, ℕ, zero, suc, ◌+◌, ◌-◌, ◌/◌, ◌%◌, ◌<◌, ◌≤◌, ◌⊎◌, inl, inr, Bool, true, false, cond, eqb, ◌&&◌, nat_le, nat_lt, List, [], ◌∷◌, Option, Some, None, Ok, Err, length, drop, refl, sym, ap, subst, ◌∙◌, add-one, arith}
+use Rattle.std.proofs.Common.{◌≡◌, ℕ, zero, suc, ◌+◌, ◌-◌, ◌/◌, ◌%◌, ◌<◌, ◌≤◌, ◌⊎◌, inl, inr, Bool, true, false, cond, eqb, ◌&&◌, nat_le, nat_lt, List, [], ◌∷◌, Option, Some, None, Ok, drop, refl, sym, ap, subst, ◌∙◌, add-one, arith}
 use Rattle.std.specs.Prelude.{Result, slice_get}
 use Rattle.std.proofs.lemmas.Bool.{and_parts, leb-true}
 use Rattle.std.proofs.lemmas.Bool.Decides.{nat_tests}
@@ -17,9 +17,9 @@ use Rattle.move_codec.specs.Numbers.{Numbered, squares_of}
 use Rattle.move_codec.specs.Packed.{Decodes, diagonal_move, diagonal_square, is_diagonal, is_mark, king_differences, knight_differences, by_difference, named, named_by, named_from, named_value, on_diagonal, on_line, pawn_square, promotion, to_square}
 use Rattle.move_codec.proofs.Decoding.{to_square-takes}
 use Rattle.game_codec.specs.Token.{Token, Play, Close, End}
-use Rattle.game_codec.specs.Place.{Place, Takes, IsMoveDue, ending, numbered_after, after_move, after_comment, variation_of}
+use Rattle.game_codec.specs.Place.{Place, Takes, IsMoveDue, numbered_after, after_move, after_comment, variation_of}
 use Rattle.game_codec.specs.Moves.{SpellsMoves}
-use Rattle.game_codec.specs.Walking.{GoesOn, AtItem, IsInside, Within}
+use Rattle.game_codec.specs.Walking.{GoesOn, IsInside, Within}
 use Rattle.game_codec.proofs.MovetextLaws.{ending-inner, ending-main}
 
 -- The second byte of a move

@@ -1,14 +1,12 @@
 -- A walk from one half-move of a main line to the next.
-use Rattle.std.proofs.Common.{◌≡◌, ℕ, zero, suc, ◌+◌, ◌-◌, ◌<◌, ◌≤◌, List, [], ◌∷◌, Option, Some, None, Ok, Err, length, drop, take, refl, sym, ap, subst, ◌∙◌, add-one, length-drop, arith}
+use Rattle.std.proofs.Common.{◌≡◌, ℕ, zero, suc, ◌+◌, List, [], ◌∷◌, Some, None, Ok, Err, length, drop, take, refl, sym, ap, subst, ◌∙◌, add-one, length-drop, arith}
 use Rattle.std.specs.Prelude.{fold, slice_get}
 use Rattle.std.proofs.lemmas.List.{drop-drop}
 use Rattle.cell_core.specs.declared.step.Move.{Move}
 use Rattle.chess_laws.specs.declared.setup.Setup.{Setup}
 use Rattle.chess_laws.specs.Step.{Step}
 use Rattle.game_tree.specs.Game.{GameTree}
-use Rattle.game_tree.specs.Movetext.{meaning}
-use Rattle.game_tree.specs.Replay.{main_moves, next_at, plies_of, position_at, stepped}
-use Rattle.game_tree.specs.Tree.{moves_of}
+use Rattle.game_tree.specs.Replay.{main_moves, next_at, stepped}
 use Rattle.game_tree.specs.declared.head.Tag.{Tag}
 use Rattle.game_tree.proofs.LegalLemmas.{Step-stepped}
 use Rattle.move_codec.specs.declared.fault.MoveFault.{MoveFault}
@@ -19,7 +17,7 @@ use Rattle.move_codec.proofs.Decoding.{same_ok}
 use Rattle.game_codec.specs.TagSpelling.{BeginsTags}
 use Rattle.game_codec.specs.TagReading.{BreaksTags}
 use Rattle.game_codec.specs.Start.{BeginsStart, BreaksStart}
-use Rattle.game_codec.specs.Place.{Place, IsMoveDue, beginning, numbered_after}
+use Rattle.game_codec.specs.Place.{IsMoveDue, beginning, numbered_after}
 use Rattle.game_codec.specs.Moves.{SpellsMoves}
 use Rattle.game_codec.specs.Record.{IsRecord, IsSomeRecord}
 use Rattle.game_codec.specs.Walking.{GoesOn, IsBehind}

@@ -1,30 +1,29 @@
 -- What the code writes part by part is the written form.
-use Rattle.std.proofs.Common.{◌≡◌, ℕ, ◌+◌, ◌<◌, ◌≤◌, List, [], ◌∷◌, ◌++◌, Option, Some, None, length, get_or, drop, inl, inr, refl, sym, ap, subst, ◌∙◌, append_assoc, append-nil}
+use Rattle.std.proofs.Common.{◌≡◌, ℕ, ◌+◌, ◌<◌, ◌≤◌, List, [], ◌∷◌, ◌++◌, Option, Some, None, length, get_or, drop, refl, sym, ap, subst, ◌∙◌, append_assoc, append-nil, true, false}
 use Rattle.std.proofs.lemmas.List.{drop_more}
 use Rattle.std.proofs.Math.ListN.{drop_of_length-le}
 use Rattle.cell_core.specs.declared.step.Move.{Move}
 use Rattle.chess_laws.specs.declared.setup.Setup.{Setup}
-use Rattle.chess_laws.specs.Position.{start_setup}
+use Rattle.chess_laws.specs.Position.{start_setup, is_start}
 use Rattle.chess_laws.specs.Step.{Step}
 use Rattle.game_tree.specs.Movetext.{Movetext, end}
 use Rattle.game_tree.specs.Legal.{IsLegalLine, AreLegalBranches}
 use Rattle.game_tree.specs.Tree.{Line, ends, goes, Branches, none, more, Played, Variation, line_of, branches_of}
 use Rattle.game_tree.specs.Written.{movetext_of_game, nags_before, comment_before, movetext_of, variations_before}
 use Rattle.chess_laws.proofs.Stepping.{Step-stepped}
-use Rattle.move_codec.specs.Numbers.{Numbered, numbers_after, text_numbers}
+use Rattle.move_codec.specs.Numbers.{Numbered, numbers_after, text_numbers, standard_numbers}
 use Rattle.move_codec.specs.Packed.{encoding}
 use Rattle.game_tree.specs.Game.{GameTree}
 use Rattle.game_tree.specs.declared.head.Tag.{Tag}
 use Rattle.chess_text.specs.Written.{fen_text}
 use Rattle.game_codec.specs.Place.{numbered_after}
-use Rattle.game_codec.specs.Start.{standard_start}
 use Rattle.game_codec.specs.Texts.{texts_of, ended}
-use Rattle.game_codec.specs.Written.{IsWrittenRecord, body_text, moves_text, own_start, promotion_flags, tags_text}
+use Rattle.game_codec.specs.Written.{body_text, moves_text, numbered_start, promotion_flags, start_text, tags_text, written_record}
 use Rattle.game_codec.specs.Writing.{comment_text, mark_text, nags_text, node_text, node_texts, variations_text, variations_texts, AddsStart}
 
 -- Moves and marks
 
--- a line begins with a move, which stands on what was reached alone
+-- A line begins with a move, which stands on what was reached alone.
 moves_text-before : (a b here : Numbered) (l : Line) → moves_text a here (movetext_of l) ≡ moves_text b here (movetext_of l)
 moves_text-before a b here ends = refl
 moves_text-before a b here (goes m ns comment variations l) = refl
@@ -44,7 +43,7 @@ moves-variations before here (more lead line others) s =
     ap (λ (bytes : List ℕ). 13 ∷ inner ++ 14 ∷ bytes) (moves-variations before here others s)
     ∙ ap (λ (bytes : List ℕ). 13 ∷ bytes) (sym (append_assoc inner (14 ∷ variations_text before others) (moves_text before here s)))
 
--- a move and the rest of its line
+-- A move and the rest of its line.
 moves-node : (n : Numbered) (node : Played) (rest : List Played)
     → moves_text n n (movetext_of (line_of (node ∷ rest)))
     ≡ node_text n node ++ moves_text (numbered_after n node.mv) (numbered_after n node.mv) (movetext_of (line_of rest))
@@ -101,12 +100,12 @@ texts-node node rest =
 pub left_more : {A : Type 0} (xs : List A) (i : ℕ) (x : A) → i < length xs → x ≡ get_or xs i x → drop i xs ≡ x ∷ drop (i + 1) xs
 left_more {A} xs i x under item = drop_more xs i x under ∙ ap (λ (y : A). y ∷ drop (i + 1) xs) (sym item)
 
--- one more part was written
+-- One more part was written.
 pub one_more : (left part later now next all : List ℕ) → left ≡ part ++ later → next ≡ now ++ part → now ++ left ≡ all → next ++ later ≡ all
 one_more left part later now next all is wrote before =
     ap (λ (bytes : List ℕ). bytes ++ later) wrote ∙ append_assoc now part later ∙ ap (λ (bytes : List ℕ). now ++ bytes) (sym is) ∙ before
 
--- the position that a move has reached, with its numbers
+-- The position that a move has reached, with its numbers.
 pub numbered-played : (n : Numbered) (m : Move) (q : Numbered) → Step n.position m q.position → q.numbers ≡ numbers_after n.position m n.numbers → q ≡ numbered_after n m
 numbered-played n m q step numbers = λ i. record { position = Step-stepped n.position m q.position step i; numbers = numbers i }
 
@@ -137,7 +136,7 @@ legal-more n q line i node left played legal =
     let all : IsLegalLine n.position (line_of (node ∷ drop (i + 1) line)) = subst (λ (ps : List Played). IsLegalLine n.position (line_of ps)) left legal in
     subst (λ (r : Numbered). IsLegalLine r.position (line_of (drop (i + 1) line))) (sym played) all.1.1.1
 
--- behind a line's own comment
+-- Behind a line's own comment.
 pub texts-lead : (lead : Option (List ℕ)) (line : List Played) (i : ℕ) (old now last : List ℕ) → length line ≤ i → now ≡ old ++ comment_text lead
     → last ++ ended (texts_of (movetext_of (line_of (drop i line)))) ≡ now ++ ended (texts_of (movetext_of (line_of line)))
     → last ≡ old ++ ended (texts_of (comment_before lead (movetext_of (line_of line))))
@@ -150,7 +149,7 @@ texts-lead lead line i old now last whole wrote before =
     ∙ append_assoc old (comment_text lead) all
     ∙ ap (λ (bytes : List ℕ). old ++ bytes) (sym (texts-comment lead (movetext_of (line_of line))))
 
--- a variation between its two marks, and the variations behind it
+-- A variation between its two marks, and the variations behind it.
 pub variations-more : (n : Numbered) (vs : List Variation) (i : ℕ) (v : Variation) (now opened inner next all : List ℕ)
     → drop i vs ≡ v ∷ drop (i + 1) vs → opened ≡ now ++ 13 ∷ [] → inner ≡ opened ++ moves_text n n (comment_before v.lead (movetext_of v.line))
     → next ≡ inner ++ 14 ∷ []
@@ -188,7 +187,7 @@ branches_legal-more p vs i v left legal =
 
 -- The whole record
 
--- a start's own bytes, and what was written behind them
+-- A start's own bytes, and what was written behind them.
 behind_tags : (tagged start started moved marked all moves texts tags : List ℕ) → tagged ≡ tags ++ 0 ∷ [] → started ≡ tagged ++ start
     → moved ≡ started ++ moves → marked ≡ moved ++ 15 ∷ [] → all ≡ marked ++ texts → all ≡ tags ++ 0 ∷ (start ++ (moves ++ 15 ∷ texts))
 behind_tags tagged start started moved marked all moves texts tags tags_are put_start put_moves put_end put_texts =
@@ -207,58 +206,46 @@ same_body n m s moves texts same moves_are texts_are =
 pub record-writes : (tags : List Tag) (g : GameTree) (n : Numbered) (tagged started moved marked all moves texts : List ℕ)
     → tagged ≡ tags_text tags ++ 0 ∷ [] → AddsStart g.start (promotion_flags g) tagged started n
     → moves ≡ moves_text n n (movetext_of_game g) → texts ≡ ended (texts_of (movetext_of_game g))
-    → moved ≡ started ++ moves → marked ≡ moved ++ 15 ∷ [] → all ≡ marked ++ texts → IsWrittenRecord all tags g
-record-writes tags g n tagged started moved marked all moves texts tags_are (inl start) moves_are texts_are put_moves put_end put_texts = record {
-  behind_tags = promotion_flags g ∷ (moves ++ 15 ∷ texts);
-  bytes_are = behind_tags tagged (promotion_flags g ∷ []) started moved marked all moves texts (tags_text tags) tags_are start.bytes put_moves put_end put_texts;
-  game_is =
-      inl (record {
-        standard = start.standard;
-        bytes_are = ap (λ (bytes : List ℕ). promotion_flags g ∷ bytes) (same_body n standard_start (movetext_of_game g) moves texts start.start_is moves_are texts_are);
-      });
-}
-record-writes tags g n tagged started moved marked all moves texts tags_are (inr start) moves_are texts_are put_moves put_end put_texts =
-    let flags : ℕ = 1 + promotion_flags g in
-    let fen : List ℕ = fen_text g.start in
-    record {
-      behind_tags = (flags ∷ fen ++ 0 ∷ []) ++ (moves ++ 15 ∷ texts);
-      bytes_are = behind_tags tagged (flags ∷ fen ++ 0 ∷ []) started moved marked all moves texts (tags_text tags) tags_are start.bytes put_moves put_end put_texts;
-      game_is =
-          inr (record {
-            own = start.own;
-            bytes_are =
-                ap (λ (bytes : List ℕ). flags ∷ bytes) (append_assoc fen (0 ∷ []) (moves ++ 15 ∷ texts))
-                ∙ ap (λ (bytes : List ℕ). flags ∷ fen ++ 0 ∷ bytes) (same_body n (own_start g.start) (movetext_of_game g) moves texts start.start_is moves_are texts_are);
-          });
-    }
+    → moved ≡ started ++ moves → marked ≡ moved ++ 15 ∷ [] → all ≡ marked ++ texts → all ≡ written_record tags g
+record-writes tags g n tagged started moved marked all moves texts tags_are start moves_are texts_are put_moves put_end put_texts =
+    let begun : List ℕ = start_text (is_start g.start) g.start (promotion_flags g) in
+    behind_tags tagged begun started moved marked all moves texts (tags_text tags) tags_are start.bytes put_moves put_end put_texts
+    ∙ ap (λ (body : List ℕ). tags_text tags ++ 0 ∷ (begun ++ body))
+    (same_body n (numbered_start (is_start g.start) g.start) (movetext_of_game g) moves texts start.start_is moves_are texts_are)
 
--- what the code has: the fields of a game
+-- What the code has: the fields of a game.
 pub game-writes : (tags : List Tag) (g : GameTree) (start : Setup) (lead : Option (List ℕ)) (items line : List Played)
     → record { start = start; lead = lead; line = line_of items } ≡ g → line ≡ items
     → (n : Numbered) (flags : ℕ) (tagged started moved marked all moves texts : List ℕ)
     → flags ≡ promotion_flags g → tagged ≡ tags_text tags ++ 0 ∷ [] → AddsStart start flags tagged started n
     → moves ≡ moves_text n n (comment_before lead (movetext_of (line_of line))) → texts ≡ ended (texts_of (comment_before lead (movetext_of (line_of line))))
-    → moved ≡ started ++ moves → marked ≡ moved ++ 15 ∷ [] → all ≡ marked ++ texts → IsWrittenRecord all tags g
+    → moved ≡ started ++ moves → marked ≡ moved ++ 15 ∷ [] → all ≡ marked ++ texts → all ≡ written_record tags g
 game-writes tags g start lead items line view line_is n flags tagged started moved marked all moves texts flags_are tags_are adds moves_are texts_are put_moves put_end put_texts =
     let made : GameTree = record { start = start; lead = lead; line = line_of items } in
-    subst (IsWrittenRecord all tags) view
-    (record-writes tags made n tagged started moved marked all moves texts tags_are
+    record-writes tags made n tagged started moved marked all moves texts tags_are
     (subst (λ (k : ℕ). AddsStart start k tagged started n) (flags_are ∙ sym (ap promotion_flags view)) adds)
     (moves_are ∙ ap (λ (ps : List Played). moves_text n n (comment_before lead (movetext_of (line_of ps)))) line_is)
     (texts_are ∙ ap (λ (ps : List Played). ended (texts_of (comment_before lead (movetext_of (line_of ps))))) line_is)
-    put_moves put_end put_texts)
+    put_moves put_end put_texts
+    ∙ ap (written_record tags) view
 
--- an own start, part by part
-pub own-adds : (start : Setup) (flags : ℕ) (old opened filled new fen : List ℕ) (n : Numbered) → (start ≡ start_setup → ⊥)
+-- The initial position, and an own start part by part.
+pub standard-adds : (start : Setup) (flags : ℕ) (old new : List ℕ) (n : Numbered) → is_start start ≡ true → new ≡ old ++ flags ∷ []
+    → n.position ≡ start_setup → n.numbers ≡ standard_numbers → AddsStart start flags old new n
+standard-adds start flags old new n initial put_flags position numbers = record {
+  bytes = rw initial put_flags;
+  start_is = rw initial (λ i. record { position = position i; numbers = numbers i });
+}
+
+pub own-adds : (start : Setup) (flags : ℕ) (old opened filled new fen : List ℕ) (n : Numbered) → is_start start ≡ false
     → opened ≡ old ++ (1 + flags) ∷ [] → fen ≡ fen_text start → filled ≡ opened ++ fen → new ≡ filled ++ 0 ∷ []
     → n.position ≡ start → n.numbers ≡ text_numbers start.board → AddsStart start flags old new n
-own-adds start flags old opened filled new fen n own put_flags fen_is put_fen put_zero position numbers =
-    inr (record {
-      own = own;
-      bytes =
-          put_zero
-          ∙ ap (λ (bytes : List ℕ). bytes ++ 0 ∷ []) (put_fen ∙ (λ i. put_flags i ++ fen_is i))
-          ∙ ap (λ (bytes : List ℕ). bytes ++ 0 ∷ []) (append_assoc old ((1 + flags) ∷ []) (fen_text start))
-          ∙ append_assoc old ((1 + flags) ∷ fen_text start) (0 ∷ []);
-      start_is = λ i. record { position = position i; numbers = numbers i };
-    })
+own-adds start flags old opened filled new fen n own put_flags fen_is put_fen put_zero position numbers = record {
+  bytes =
+      rw own
+      (put_zero
+      ∙ ap (λ (bytes : List ℕ). bytes ++ 0 ∷ []) (put_fen ∙ (λ i. put_flags i ++ fen_is i))
+      ∙ ap (λ (bytes : List ℕ). bytes ++ 0 ∷ []) (append_assoc old ((1 + flags) ∷ []) (fen_text start))
+      ∙ append_assoc old ((1 + flags) ∷ fen_text start) (0 ∷ []));
+  start_is = rw own (λ i. record { position = position i; numbers = numbers i });
+}

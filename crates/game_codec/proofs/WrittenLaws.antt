@@ -1,11 +1,14 @@
 -- The written form is a record of the game and the tags.
-use Rattle.std.proofs.Common.{◌≡◌, ℕ, zero, suc, ◌+◌, ◌%◌, ◌<◌, ◌≤◌, max, Bool, true, false, IsTrue, List, [], ◌∷◌, ◌++◌, Option, Some, None, length, inl, inr, refl, sym, ap, subst, ◌∙◌, append_assoc, add-one, arith}
+use Rattle.std.proofs.Common.{◌≡◌, ℕ, zero, suc, ◌+◌, ◌%◌, ◌<◌, ◌≤◌, max, Bool, true, false, IsTrue, List, [], ◌∷◌, ◌++◌, Option, Some, None, length, refl, sym, ap, subst, append_assoc, add-one, arith}
 use Rattle.std.specs.Prelude.{All, if◌then◌else◌}
 use Rattle.std.proofs.Math.Seq.{drop-append_seam}
 use Rattle.std.proofs.lemmas.List.Elements.{All-append, All-cons, All-nil}
 use Rattle.cell_core.specs.declared.step.Move.{Move}
 use Rattle.chess_laws.specs.declared.setup.Setup.{Setup}
-use Rattle.chess_laws.specs.Position.{Sound}
+use Rattle.chess_laws.specs.Position.{Sound, start_setup, is_start}
+use Rattle.chess_laws.proofs.Initial.{is_start-Decides}
+use Rattle.chess_text.specs.Written.{fen_text}
+use Rattle.std.specs.Bool.{Decides}
 use Rattle.chess_laws.specs.Step.{Step, Legal, stepped}
 use Rattle.chess_laws.proofs.MovedKings.{Sound-after}
 use Rattle.cell_core.specs.Text.{IsZeroFree}
@@ -27,9 +30,9 @@ use Rattle.move_codec.proofs.Steps.{AreNumbers-step}
 use Rattle.game_codec.specs.Place.{Place, Takes, ending, numbered_after, beginning, after_move, after_comment, variation_of}
 use Rattle.game_codec.specs.Token.{Play}
 use Rattle.game_codec.specs.Moves.{SpellsMoves}
-use Rattle.game_codec.specs.Written.{IsWrittenGame, IsWrittenRecord, body_text, moves_text, own_start, promotion_flags, tags_text}
+use Rattle.game_codec.specs.Written.{body_text, moves_text, numbered_start, own_start, promotion_flags, start_text, tags_text, written_record}
 use Rattle.game_codec.specs.Record.{IsRecord, game_of}
-use Rattle.game_codec.specs.Start.{BeginsStart, standard_start}
+use Rattle.game_codec.specs.Start.{BeginsStart}
 use Rattle.game_codec.specs.TagSpelling.{BeginsTags}
 use Rattle.game_codec.specs.Texts.{ended, texts_of}
 use Rattle.game_codec.proofs.TagLaws.{tags_text-begins, free_of-IsTag}
@@ -39,7 +42,7 @@ use Rattle.move_codec.proofs.Text.{AreNumbers-text}
 
 -- What the moves of a line spell
 
--- a position that keeps the rules, and numbers that are its men's
+-- A position that keeps the rules, and numbers that are its men's.
 record Stands (n : Numbered) : Type 0 where
   sound : Sound n.position
   numbers : AreNumbers n.position.board n.numbers
@@ -51,7 +54,7 @@ Stands-after n m stands step = record {
   numbers = AreNumbers-step n.position m (stepped n.position m) n.numbers stands.sound step stands.numbers;
 }
 
--- the byte that ends a line at this depth
+-- The byte that ends a line at this depth.
 abbrev end_byte : ℕ → ℕ
 end_byte zero = 15
 end_byte (suc depth) = 14
@@ -136,7 +139,7 @@ mutual
         ),
       )
 
--- a whole line behind its own comment
+-- A whole line behind its own comment.
 spells-all : (n : Numbered) (lead : Option (List ℕ)) (l : Line) (rest : List ℕ) → Stands n → IsLegalLine n.position l → depth_of l ≤ 200
     → SpellsMoves (beginning 0 n) (comment_before lead (movetext_of l)) (moves_text n n (comment_before lead (movetext_of l)) ++ 15 ∷ rest) rest
 spells-all n lead l rest stands legal within =
@@ -187,7 +190,7 @@ set_flag true false = refl
 set_flag false true = refl
 set_flag false false = refl
 
--- the whole record, by its start
+-- The whole record, by its start.
 record-of : (bytes : List ℕ) (tags : List Tag) (g : GameTree) (behind : List ℕ) (n : Numbered) → Stands n → n.position ≡ g.start
     → IsLegalGame g → IsGame g → All IsTag tags → bytes ≡ tags_text tags ++ 0 ∷ behind
     → BeginsStart behind n (body_text n (movetext_of_game g)) → IsRecord bytes tags g
@@ -208,32 +211,27 @@ record-of bytes tags g behind n stands same legal has are is begins = record {
       sym (λ i. game_of (same i) (said i));
 }
 
-pub written-read : (bytes : List ℕ) (tags : List Tag) (g : GameTree) → IsGame g → IsLegalGame g → All IsTag tags
-    → IsWrittenRecord bytes tags g → IsRecord bytes tags g
-written-read bytes tags g has legal are written =
-    elim written.game_is [
-      | inl is ↦
-          record-of bytes tags g written.behind_tags standard_start
-          (record { sound = subst Sound is.standard has.start; numbers = AreNumbers-standard }) (sym is.standard) legal has are written.bytes_are
-          (subst (λ (b : List ℕ). BeginsStart b standard_start (body_text standard_start (movetext_of_game g))) (sym is.bytes_are)
-          (standard-begins (promotion_flags g) (body_text standard_start (movetext_of_game g)) (clear_flag (has_promotion g) (has_underpromotion g))))
-      | inr is ↦
-          record-of bytes tags g written.behind_tags (own_start g.start)
-          (record { sound = has.start; numbers = AreNumbers-text g.start.board has.start.squares has.start.kings has.start.few }) refl legal has are written.bytes_are
-          (subst (λ (b : List ℕ). BeginsStart b (own_start g.start) (body_text (own_start g.start) (movetext_of_game g))) (sym is.bytes_are)
-          (own-begins (1 + promotion_flags g) g.start (body_text (own_start g.start) (movetext_of_game g)) (set_flag (has_promotion g) (has_underpromotion g)) has.start))
-    ]
+stands-start : (initial : Bool) (p : Setup) → Decides initial (p ≡ start_setup) → Sound p → Stands (numbered_start initial p)
+stands-start true p is sound = record { sound = subst Sound (is.0 refl) sound; numbers = AreNumbers-standard }
+stands-start false p is sound = record { sound = sound; numbers = AreNumbers-text p.board sound.squares sound.kings sound.few }
 
--- A game has one written form
+start-position : (initial : Bool) (p : Setup) → Decides initial (p ≡ start_setup) → (numbered_start initial p).position ≡ p
+start-position true p is = sym (is.0 refl)
+start-position false p is = refl
 
-written_game-one : (a b : List ℕ) (g : GameTree) → IsWrittenGame a g → IsWrittenGame b g → a ≡ b
-written_game-one a b g (inl first) (inl second) = first.bytes_are ∙ sym second.bytes_are
-written_game-one a b g (inl first) (inr second) = absurd (second.own first.standard)
-written_game-one a b g (inr first) (inl second) = absurd (first.own second.standard)
-written_game-one a b g (inr first) (inr second) = first.bytes_are ∙ sym second.bytes_are
+begins-start : (initial : Bool) (p : Setup) (any under : Bool) (rest : List ℕ) → Sound p
+    → BeginsStart (start_text initial p ((if any then 2 else 0) + (if under then 4 else 0)) ++ rest) (numbered_start initial p) rest
+begins-start true p any under rest sound = standard-begins ((if any then 2 else 0) + (if under then 4 else 0)) rest (clear_flag any under)
+begins-start false p any under rest sound =
+    let flags : ℕ = 1 + ((if any then 2 else 0) + (if under then 4 else 0)) in
+    subst (λ (bytes : List ℕ). BeginsStart (flags ∷ bytes) (own_start p) rest) (sym (append_assoc (fen_text p) (0 ∷ []) rest))
+    (own-begins flags p rest (set_flag any under) sound)
 
-pub IsWrittenRecord-one : (a b : List ℕ) (tags : List Tag) (g : GameTree) → IsWrittenRecord a tags g → IsWrittenRecord b tags g → a ≡ b
-IsWrittenRecord-one a b tags g first second =
-    first.bytes_are
-    ∙ ap (λ (behind : List ℕ). tags_text tags ++ 0 ∷ behind) (written_game-one first.behind_tags second.behind_tags g first.game_is second.game_is)
-    ∙ sym second.bytes_are
+pub written-read : (tags : List Tag) (g : GameTree) → IsGame g → IsLegalGame g → All IsTag tags → IsRecord (written_record tags g) tags g
+written-read tags g has legal are =
+    let initial = is_start g.start in
+    let decides = is_start-Decides g.start in
+    let n = numbered_start initial g.start in
+    record-of (written_record tags g) tags g (start_text initial g.start (promotion_flags g) ++ body_text n (movetext_of_game g)) n
+    (stands-start initial g.start decides has.start) (start-position initial g.start decides) legal has are refl
+    (begins-start initial g.start (has_promotion g) (has_underpromotion g) (body_text n (movetext_of_game g)) has.start)

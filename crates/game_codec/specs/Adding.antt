@@ -7,12 +7,12 @@ use Rattle.game_codec.specs.Token.{Token, Play, Nag, Comment, Open, Close, End}
 use Rattle.game_codec.specs.declared.fault.RecordWhat.{RecordWhat}
 use Rattle.game_codec.specs.declared.fault.RecordWhat.TheVariants.{Short}
 
--- a text that the bytes begin with, with the zero byte that ends it
+-- A text that the bytes begin with, with the zero byte that ends it.
 pub record BeginsText (text bytes : List ℕ) (used : ℕ) : Type 0 where
   pub zero_free : IsZeroFree text
   pub spelled : bytes ≡ text ++ 0 ∷ drop used bytes
 
--- the tree after an item, and how many bytes of the texts the item takes
+-- The tree after an item, and how many bytes of the texts the item takes.
 abbrev pub Adds : Token → List ℕ → Building → ℕ → Building → Type 0
 Adds (Play m) bytes before used after = (used ≡ 0) × (after ≡ added (item.move m) before)
 Adds (Nag n) bytes before used after = (used ≡ 0) × (after ≡ added (item.nag n) before)
@@ -21,7 +21,7 @@ Adds Open bytes before used after = (used ≡ 0) × (after ≡ added item.opens 
 Adds Close bytes before used after = (used ≡ 0) × (after ≡ added item.closes before)
 Adds End bytes before used after = (used ≡ 0) × (after ≡ before)
 
--- the item is a comment for which no text stands there
+-- The item is a comment for which no text stands there.
 pub record LacksText (token : Token) (bytes rest : List ℕ) (what : RecordWhat) : Type 0 where
   pub is_comment : token ≡ Comment
   pub rest_is : rest ≡ bytes

@@ -5,11 +5,11 @@ use Rattle.game_codec.specs.declared.breach.Refusal.{Refusal}
 use Rattle.game_codec.specs.declared.breach.Refusal.TheVariants.{Bad, Memory}
 use Rattle.game_codec.specs.declared.fault.RecordWhat.{RecordWhat}
 
--- so many bytes are left from a place on at which this holds of what is wrong
+-- So many bytes are left from a place on at which this holds of what is wrong.
 abbrev pub Tells : (List ℕ → RecordWhat → Type 0) → Breach → Type 0
 Tells Holds breach = (rest : List ℕ) × (length rest ≡ breach.left) × Holds rest breach.what
 
--- where it is no want of memory
+-- Where it is no want of memory.
 abbrev pub TellsBad : (List ℕ → RecordWhat → Type 0) → Refusal → Type 0
 TellsBad Holds (Bad breach) = Tells Holds breach
 TellsBad Holds Memory = Unit {0}

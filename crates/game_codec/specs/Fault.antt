@@ -16,19 +16,19 @@ use Rattle.game_codec.specs.declared.fault.RecordFault.{RecordFault}
 use Rattle.game_codec.specs.declared.fault.RecordWhat.{RecordWhat}
 use Rattle.game_codec.specs.declared.fault.RecordWhat.TheVariants as what
 
--- the fault stands in the tags
+-- The fault stands in the tags.
 pub record BreaksInTags (bytes rest : List ℕ) (what : RecordWhat) : Type 0 where
   pub tags : List Tag
   pub breaks : BreaksTags bytes tags rest what
 
--- in the start, behind whole tags
+-- In the start, behind whole tags.
 pub record BreaksInStart (bytes rest : List ℕ) (what : RecordWhat) : Type 0 where
   pub tags : List Tag
   pub behind_tags : List ℕ
   pub tags_first : BeginsTags bytes tags behind_tags
   pub breaks : BreaksStart behind_tags rest what
 
--- in the moves
+-- In the moves.
 pub record BreaksInMoves (bytes rest : List ℕ) (what : RecordWhat) : Type 0 where
   pub tags : List Tag
   pub start : Numbered
@@ -39,7 +39,7 @@ pub record BreaksInMoves (bytes rest : List ℕ) (what : RecordWhat) : Type 0 wh
   pub then_start : BeginsStart behind_tags start behind_start
   pub breaks : BreaksMoves (beginning 0 start) upto behind_start rest what
 
--- in the texts of the comments
+-- In the texts of the comments.
 pub record BreaksInTexts (bytes rest : List ℕ) (what : RecordWhat) : Type 0 where
   pub tags : List Tag
   pub start : Numbered
@@ -52,13 +52,13 @@ pub record BreaksInTexts (bytes rest : List ℕ) (what : RecordWhat) : Type 0 wh
   pub then_moves : SpellsMoves (beginning 0 start) movetext behind_start behind_moves
   pub breaks : BreaksTexts (length (texts_of movetext)) behind_moves rest what
 
--- the bytes have this fault, and these bytes stand from the faulty item on
+-- The bytes have this fault, and these bytes stand from the faulty item on.
 abbrev pub Breaks : List ℕ → List ℕ → RecordWhat → Type 0
 Breaks bytes rest what =
     BreaksInTags bytes rest what ⊎ (BreaksInStart bytes rest what ⊎ (BreaksInMoves bytes rest what ⊎ BreaksInTexts bytes rest what))
 
--- the place of a fault by the record's length and the bytes from the faulty item on: the item's first byte, and the
--- record's length where it ends early
+-- The place of a fault by the record's length and the bytes from the faulty item on: the item's first byte, and the
+-- record's length where it ends early.
 abbrev pub place_of : ℕ → List ℕ → RecordWhat → ℕ
 place_of len rest what.Short = len
 place_of len rest (what.Move move.Short) = len
@@ -74,13 +74,13 @@ place_of len rest what.TwoComments = len - length rest
 place_of len rest what.Depth = len - length rest
 place_of len rest what.Extra = len - length rest
 
--- this is the first fault of the bytes
+-- This is the first fault of the bytes.
 pub record IsRecordFault (bytes : List ℕ) (fault : RecordFault) : Type 0 where
   pub rest : List ℕ
   pub breaks : Breaks bytes rest fault.what
   pub place : fault.place ≡ place_of (length bytes) rest fault.what
 
--- an error that is no want of memory tells a fault of which this holds
+-- An error that is no want of memory tells a fault of which this holds.
 abbrev pub IfBad : (RecordFault → Type 0) → DecodeError → Type 0
 IfBad Holds (error.Bad fault) = Holds fault
 IfBad Holds error.Memory = Unit {0}

@@ -14,7 +14,7 @@ use Rattle.game_codec.specs.Scanning.{Scans, nest_of, comments_in, dealt}
 use Rattle.game_codec.specs.Token.{Token}
 use Rattle.game_codec.specs.declared.fault.RecordWhat.{RecordWhat}
 
--- the parts of a record
+-- The parts of a record.
 pub record IsFlat (bytes : List ℕ) (all_tags : List Tag) (start : Numbered) (tokens : List Token) (texts : List (List ℕ)) : Type 0 where
   pub behind_tags : List ℕ
   pub behind_start : List ℕ
@@ -25,7 +25,7 @@ pub record IsFlat (bytes : List ℕ) (all_tags : List Tag) (start : Numbered) (t
   pub then_texts : AreTexts behind_moves texts
   pub count : length texts ≡ comments_in tokens
 
--- what is read: these tags and this game, which is what the items mean where they are those of a movetext
+-- What is read: these tags and this game, which is what the items mean where they are those of a movetext.
 pub record IsRead (bytes : List ℕ) (tags : List Tag) (game : GameTree) : Type 0 where
   pub all_tags : List Tag
   pub start : Numbered
@@ -36,7 +36,7 @@ pub record IsRead (bytes : List ℕ) (tags : List Tag) (game : GameTree) : Type 
   pub start_is : game.start ≡ start.position
   pub meant : (s : Movetext) → items_of s ≡ dealt tokens texts → (game.lead ≡ (meaning s).comment) × (game.line ≡ (meaning s).line)
 
--- a fault in the moves, and one in the texts
+-- A fault in the moves, and one in the texts.
 pub record IsFlatInMoves (bytes rest : List ℕ) (what : RecordWhat) : Type 0 where
   pub tags : List Tag
   pub start : Numbered

@@ -7,7 +7,7 @@ use Rattle.game_codec.specs.Place.{Place, Takes, FaultAt, ending, after_move, af
 use Rattle.game_codec.specs.Token.{Play, Nag, Comment, Open}
 use Rattle.game_codec.specs.declared.fault.RecordWhat.{RecordWhat}
 
--- from this place on the bytes begin with the items of the movetext and the end of its line, and these bytes follow. The
+-- From this place on the bytes begin with the items of the movetext and the end of its line, and these bytes follow. The
 -- texts of comments stand elsewhere.
 abbrev pub SpellsMoves : Place → Movetext → List ℕ → List ℕ → Type 0
 SpellsMoves p end bytes rest = Takes p bytes (ending p.depth) rest
@@ -18,8 +18,8 @@ SpellsMoves p (variation inner s) bytes rest =
     (later : List ℕ) × Takes p bytes Open later
     × ((behind : List ℕ) × SpellsMoves (variation_of p) inner later behind × SpellsMoves p s behind rest)
 
--- the items of a line up to a place where something is wrong: each whole variation before it, and at last it stands here or
--- inside a variation that has begun
+-- The items of a line up to a place where something is wrong: each whole variation before it, and at last it stands here or
+-- inside a variation that has begun.
 pub data Upto : Type 0 where
   here : Upto
   past_move : Move → Upto → Upto
@@ -28,7 +28,7 @@ pub data Upto : Type 0 where
   past_variation : Movetext → Upto → Upto
   inside : Upto → Upto
 
--- from this place on the bytes begin with these items, and what follows them, from there on, has this fault
+-- From this place on the bytes begin with these items, and what follows them, from there on, has this fault.
 abbrev pub BreaksMoves : Place → Upto → List ℕ → List ℕ → RecordWhat → Type 0
 BreaksMoves p here bytes rest what = (rest ≡ bytes) × FaultAt p bytes what
 BreaksMoves p (past_move m u) bytes rest what =

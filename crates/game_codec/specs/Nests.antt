@@ -1,5 +1,5 @@
 -- A place, the open lines and the items as the code keeps them. No public contract cites these words.
-use Rattle.std.specs.Prelude.{ℕ, true, false, List, [], ◌∷◌, Option, Some, None}
+use Rattle.std.specs.Prelude.{true, false, List, [], ◌∷◌, Option, Some, None}
 use Rattle.cell_core.specs.declared.step.Move.{Move}
 use Rattle.chess_laws.specs.Step.{Legal}
 use Rattle.move_codec.specs.Numbers.{Numbered}

@@ -5,6 +5,7 @@
 use Rattle.std.specs.Prelude.{◌≡◌, ℕ, zero, suc, ◌+◌, ◌<◌, ◌≤◌, ◌⊎◌, Bool, true, false, IsTrue, List, [], ◌∷◌, Ok, Err, drop}
 use Rattle.cell_core.specs.declared.step.Move.{Move}
 use Rattle.chess_laws.specs.Step.{stepped}
+use Rattle.game_tree.specs.Legal.{deepest}
 use Rattle.move_codec.specs.Numbers.{Numbered, numbers_after}
 use Rattle.move_codec.specs.Packed.{Decodes, is_mark}
 use Rattle.game_codec.specs.Token.{Token, Play, Nag, Comment, Open, Close, End}
@@ -21,15 +22,15 @@ pub record Place : Type 0 where
   pub has_move : Bool
   pub has_comment : Bool
 
--- the position and the numbers after a move
+-- The position and the numbers after a move.
 abbrev pub numbered_after : Numbered → Move → Numbered
 numbered_after n m = record { position = stepped n.position m; numbers = numbers_after n.position m n.numbers }
 
--- the beginning of a line with so many variations open
+-- The beginning of a line with so many variations open.
 abbrev pub beginning : ℕ → Numbered → Place
 beginning depth n = record { depth = depth; before = n; here = n; has_move = false; has_comment = false }
 
--- the place behind a move, behind a comment, and where a variation of the last move begins: at the position before it
+-- The place behind a move, behind a comment, and where a variation of the last move begins: at the position before it.
 abbrev pub after_move : Place → Move → Place
 after_move p m = record { depth = p.depth; before = p.here; here = numbered_after p.here m; has_move = true; has_comment = false }
 
@@ -39,36 +40,36 @@ after_comment p = record { depth = p.depth; before = p.before; here = p.here; ha
 abbrev pub variation_of : Place → Place
 variation_of p = beginning (p.depth + 1) p.before
 
--- the first byte is no mark, so that a move is due
+-- The first byte is no mark, so that a move is due.
 abbrev pub IsMoveDue : List ℕ → Type 0
 IsMoveDue bytes = (byte : ℕ) × (later : List ℕ) × (bytes ≡ byte ∷ later) × (is_mark byte ≡ false)
 
--- the bytes begin with this item, which may stand at the place, and these bytes follow it
+-- The bytes begin with this item, which may stand at the place, and these bytes follow it.
 abbrev pub Takes : Place → List ℕ → Token → List ℕ → Type 0
 Takes p bytes (Play m) later = IsMoveDue bytes × ((used : ℕ) × Decodes p.here bytes (Ok (m, used)) × (later ≡ drop used bytes))
 Takes p bytes (Nag n) later = IsTrue p.has_move × (bytes ≡ 11 ∷ n ∷ later)
 Takes p bytes Comment later = (p.has_comment ≡ false) × (bytes ≡ 12 ∷ later)
-Takes p bytes Open later = IsTrue p.has_move × (p.depth < 200) × (bytes ≡ 13 ∷ later)
+Takes p bytes Open later = IsTrue p.has_move × (p.depth < deepest) × (bytes ≡ 13 ∷ later)
 Takes p bytes Close later = (0 < p.depth) × (bytes ≡ 14 ∷ later)
 Takes p bytes End later = (p.depth ≡ 0) × (bytes ≡ 15 ∷ later)
 
--- what ends a line at this depth
+-- What ends a line at this depth.
 abbrev pub ending : ℕ → Token
 ending zero = End
 ending (suc depth) = Close
 
--- a NAG or a variation before the first move of its line, or an end that is not the line's
+-- A NAG or a variation before the first move of its line, or an end that is not the line's.
 abbrev pub IsMisplaced : Place → List ℕ → Type 0
 IsMisplaced p [] = ⊥
 IsMisplaced p (byte ∷ later) =
     ((p.has_move ≡ false) × ((byte ≡ 11) ⊎ (byte ≡ 13))) ⊎ (((p.depth ≡ 0) × (byte ≡ 14)) ⊎ ((0 < p.depth) × (byte ≡ 15)))
 
--- the bytes begin with no item that may stand at the place, and this is why
+-- The bytes begin with no item that may stand at the place, and this is why.
 abbrev pub FaultAt : Place → List ℕ → RecordWhat → Type 0
 FaultAt p bytes what.Short = (bytes ≡ []) ⊎ (IsTrue p.has_move × (bytes ≡ 11 ∷ []))
 FaultAt p bytes what.Mark = IsMisplaced p bytes
 FaultAt p bytes what.TwoComments = IsTrue p.has_comment × ((later : List ℕ) × (bytes ≡ 12 ∷ later))
-FaultAt p bytes what.Depth = IsTrue p.has_move × ((200 ≤ p.depth) × ((later : List ℕ) × (bytes ≡ 13 ∷ later)))
+FaultAt p bytes what.Depth = IsTrue p.has_move × ((deepest ≤ p.depth) × ((later : List ℕ) × (bytes ≡ 13 ∷ later)))
 FaultAt p bytes (what.Move fault) = IsMoveDue bytes × Decodes p.here bytes (Err fault)
 FaultAt p bytes what.TagCode = ⊥
 FaultAt p bytes what.TagName = ⊥

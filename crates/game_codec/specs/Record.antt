@@ -13,11 +13,11 @@ use Rattle.game_codec.specs.Place.{beginning}
 use Rattle.game_codec.specs.Moves.{SpellsMoves}
 use Rattle.game_codec.specs.Texts.{AreTexts, texts_of}
 
--- the game that begins at this position and of which this is said
+-- The game that begins at this position and of which this is said.
 abbrev pub game_of : Setup → Said → GameTree
 game_of start said = record { start = start; lead = said.comment; line = said.line }
 
--- the bytes are a record of this game and these extra tags
+-- The bytes are a record of this game and these extra tags.
 pub record IsRecord (bytes : List ℕ) (tags : List Tag) (game : GameTree) : Type 0 where
   pub all_tags : List Tag
   pub start : Numbered

@@ -8,7 +8,7 @@ use Rattle.game_codec.specs.Place.{Place, Takes, FaultAt, beginning, after_move,
 use Rattle.game_codec.specs.Token.{Token, Play, Nag, Comment, Open, Close, End}
 use Rattle.game_codec.specs.declared.fault.RecordWhat.{RecordWhat}
 
--- the place after an item in the innermost line, and the lines round it
+-- The place after an item in the innermost line, and the lines round it.
 pub record Nest : Type 0 where
   pub current : Place
   pub outer : List Place
@@ -25,11 +25,11 @@ nest_after n Open = record { current = variation_of n.current; outer = n.current
 nest_after n Close = nested_out n.current n.outer
 nest_after n End = n
 
--- the beginning of a game
+-- The beginning of a game.
 abbrev pub nest_of : Numbered → Nest
 nest_of start = record { current = beginning 0 start; outer = [] }
 
--- what stops the reading of items: the end of the game, with the bytes behind it, or a fault, with the bytes from it on
+-- What stops the reading of items: the end of the game, with the bytes behind it, or a fault, with the bytes from it on.
 abbrev pub Stop : Type 0
 Stop = Result (List ℕ) (List ℕ × RecordWhat)
 
@@ -37,7 +37,7 @@ abbrev pub StopsAt : Nest → List ℕ → Stop → Type 0
 StopsAt n bytes (Ok rest) = Takes n.current bytes End rest
 StopsAt n bytes (Err fault) = (fault.0 ≡ bytes) × FaultAt n.current bytes fault.1
 
--- an item that does not end the game
+-- An item that does not end the game.
 abbrev pub IsInner : Token → Type 0
 IsInner (Play m) = Unit {0}
 IsInner (Nag n) = Unit {0}
@@ -46,13 +46,13 @@ IsInner Open = Unit {0}
 IsInner Close = Unit {0}
 IsInner End = ⊥
 
--- the bytes begin with these items, and then this stops the reading
+-- The bytes begin with these items, and then this stops the reading.
 abbrev pub Scans : Nest → List ℕ → List Token → Stop → Type 0
 Scans n bytes [] stop = StopsAt n bytes stop
 Scans n bytes (token ∷ tokens) stop =
     IsInner token × ((later : List ℕ) × Takes n.current bytes token later × Scans (nest_after n token) later tokens stop)
 
--- how many comments are among the items
+-- How many comments are among the items.
 abbrev pub comments_in : List Token → ℕ
 comments_in [] = 0
 comments_in (Play m ∷ tokens) = comments_in tokens
@@ -62,7 +62,7 @@ comments_in (Open ∷ tokens) = comments_in tokens
 comments_in (Close ∷ tokens) = comments_in tokens
 comments_in (End ∷ tokens) = comments_in tokens
 
--- the items of a tree, with the texts of their comments dealt out in order
+-- The items of a tree, with the texts of their comments dealt out in order.
 abbrev pub dealt : List Token → List (List ℕ) → List Item
 dealt [] texts = []
 dealt (Play m ∷ tokens) texts = item.move m ∷ dealt tokens texts
@@ -73,6 +73,6 @@ dealt (Open ∷ tokens) texts = item.opens ∷ dealt tokens texts
 dealt (Close ∷ tokens) texts = item.closes ∷ dealt tokens texts
 dealt (End ∷ tokens) texts = dealt tokens texts
 
--- whatever the texts are, the items are those of a movetext
+-- Whatever the texts are, the items are those of a movetext.
 abbrev pub AreMovetext : List Token → Type 0
 AreMovetext tokens = (texts : List (List ℕ)) → (s : Movetext) × (items_of s ≡ dealt tokens texts)

@@ -9,19 +9,19 @@ use Rattle.move_codec.specs.Numbers.{Numbered, standard_numbers, text_numbers}
 use Rattle.game_codec.specs.declared.fault.RecordWhat.{RecordWhat}
 use Rattle.game_codec.specs.declared.fault.RecordWhat.TheVariants as what
 
--- the initial position with the numbers of the standard start (FIDE Laws, Article 2.3)
+-- The initial position with the numbers of the standard start (FIDE Laws, Article 2.3).
 abbrev pub standard_start : Numbered
 standard_start = record { position = start_setup; numbers = standard_numbers }
 
--- the bytes begin with flags that say the standard start
+-- The bytes begin with flags that say the standard start.
 pub record IsStandardStart (bytes : List ℕ) (start : Numbered) (rest : List ℕ) : Type 0 where
   pub flags : ℕ
   pub clear : flags % 2 ≡ 0
   pub spelled : bytes ≡ flags ∷ rest
   pub start_is : start ≡ standard_start
 
--- the bytes begin with flags that say an own start, a FEN of its position and a zero byte. Its men have the numbers of
--- the FEN's order, also where it is the initial position
+-- The bytes begin with flags that say an own start, a FEN of its position and a zero byte. Its men have the numbers of
+-- the FEN's order, also where it is the initial position.
 pub record IsOwnStart (bytes : List ℕ) (start : Numbered) (rest : List ℕ) : Type 0 where
   pub flags : ℕ
   pub set : flags % 2 ≡ 1
@@ -31,11 +31,11 @@ pub record IsOwnStart (bytes : List ℕ) (start : Numbered) (rest : List ℕ) : 
   pub reads : FenReads text start.position
   pub numbers : start.numbers ≡ text_numbers start.position.board
 
--- the bytes begin with flags and this start
+-- The bytes begin with flags and this start.
 abbrev pub BeginsStart : List ℕ → Numbered → List ℕ → Type 0
 BeginsStart bytes start rest = IsStandardStart bytes start rest ⊎ IsOwnStart bytes start rest
 
--- an own start without the zero byte behind its FEN
+-- An own start without the zero byte behind its FEN.
 pub record IsCutStart (bytes : List ℕ) : Type 0 where
   pub flags : ℕ
   pub set : flags % 2 ≡ 1
@@ -43,7 +43,7 @@ pub record IsCutStart (bytes : List ℕ) : Type 0 where
   pub zero_free : IsZeroFree text
   pub spelled : bytes ≡ flags ∷ text
 
--- an own start whose text is no FEN. The fault's place is the first byte of the text.
+-- An own start whose text is no FEN. The fault's place is the first byte of the text.
 pub record IsBadStart (bytes : List ℕ) (rest : List ℕ) : Type 0 where
   pub flags : ℕ
   pub set : flags % 2 ≡ 1
@@ -55,7 +55,7 @@ pub record IsBadStart (bytes : List ℕ) (rest : List ℕ) : Type 0 where
   pub fault : FenFault
   pub faulty : FenFaultOf text fault
 
--- the bytes begin with no start, and from here on stands the fault
+-- The bytes begin with no start, and from here on stands the fault.
 abbrev pub BreaksStart : List ℕ → List ℕ → RecordWhat → Type 0
 BreaksStart bytes rest what.Short = (bytes ≡ []) ⊎ IsCutStart bytes
 BreaksStart bytes rest what.Fen = IsBadStart bytes rest

@@ -9,11 +9,11 @@ use Rattle.game_codec.specs.TagSpelling.{coded_names, BeginsTag}
 use Rattle.game_codec.specs.declared.fault.RecordWhat.{RecordWhat}
 use Rattle.game_codec.specs.declared.fault.RecordWhat.TheVariants.{TagCode, TagName, TagValue, Short}
 
--- a text and the bytes behind it
+-- A text and the bytes behind it.
 abbrev pub Part : Type 0
 Part = List ℕ × List ℕ
 
--- the first n bytes, each of which passes a test
+-- The first n bytes, each of which passes a test.
 unfoldable pub part_at : (ℕ → Bool) → RecordWhat → ℕ → List ℕ → Result Part RecordWhat
 part_at good what n bytes =
     if not (list_all good (take n bytes)) then Err what
@@ -23,12 +23,12 @@ part_at good what n bytes =
 abbrev pub is_value_byte : ℕ → Bool
 is_value_byte byte = not (byte == 0)
 
--- a value behind its length
+-- A value behind its length.
 unfoldable pub value_at : List ℕ → Result Part RecordWhat
 value_at [] = Err Short
 value_at (n ∷ bytes) = part_at is_value_byte TagValue n bytes
 
--- the tag of this name and the value that follows
+-- The tag of this name and the value that follows.
 abbrev pub with_value : List ℕ → Result Part RecordWhat → Result (Option (Tag × List ℕ)) RecordWhat
 with_value name (Err what) = Err what
 with_value name (Ok part) = Ok (Some (record { name = name; value = part.0 }, part.1))
@@ -37,7 +37,7 @@ abbrev pub with_name : Result Part RecordWhat → Result (Option (Tag × List �
 with_name (Err what) = Err what
 with_name (Ok part) = with_value part.0 (value_at part.1)
 
--- the tag EventDate with the date of three bytes
+-- The tag EventDate with the date of three bytes.
 abbrev pub dated : ℕ → List ℕ → Result (Option (Tag × List ℕ)) RecordWhat
 dated number rest =
     if nat_le (number / 512) 2047 && nat_le (number / 32 % 16) 12
@@ -50,7 +50,7 @@ date_at (a ∷ []) = Err Short
 date_at (a ∷ b ∷ []) = Err Short
 date_at (a ∷ b ∷ c ∷ rest) = dated (65536 * a + 256 * b + c) rest
 
--- the next tag and the bytes behind it, none at the zero byte that ends the tags, or the first fault
+-- The next tag and the bytes behind it, none at the zero byte that ends the tags, or the first fault.
 unfoldable pub tag_at : List ℕ → Result (Option (Tag × List ℕ)) RecordWhat
 tag_at [] = Err Short
 tag_at (code ∷ bytes) =
@@ -60,7 +60,7 @@ tag_at (code ∷ bytes) =
     else if nat_le code 254 then Err TagCode
     else date_at bytes
 
--- the bytes begin with spellings of these tags, and what follows from there on is no tag but has this fault
+-- The bytes begin with spellings of these tags, and what follows from there on is no tag but has this fault.
 abbrev pub BreaksTags : List ℕ → List Tag → List ℕ → RecordWhat → Type 0
 BreaksTags bytes [] rest what = (rest ≡ bytes) × (tag_at bytes ≡ Err what)
 BreaksTags bytes (tag ∷ tags) rest what = (later : List ℕ) × BeginsTag bytes tag later × BreaksTags later tags rest what

@@ -7,30 +7,30 @@ use Rattle.game_tree.specs.TagName.{IsTagName}
 use Rattle.game_tree.specs.declared.date.Date.{Date}
 use Rattle.game_tree.specs.declared.head.Tag.{Tag}
 
--- the names of the codes from 241 on
+-- The names of the codes from 241 on.
 abbrev pub coded_names : List (List ℕ)
 coded_names =
     codes "WhiteCountry" ∷ codes "BlackCountry" ∷ codes "Annotator" ∷ codes "PlyCount" ∷ codes "EventDate"
     ∷ codes "Opening" ∷ codes "Variation" ∷ codes "Setup" ∷ codes "Source" ∷ codes "SetUp" ∷ []
 
--- a text behind its length
+-- A text behind its length.
 abbrev pub counted : List ℕ → List ℕ
 counted text = length text ∷ text
 
--- a tag with its name written out
+-- A tag with its name written out.
 pub record IsSpelledOut (bytes : List ℕ) (tag : Tag) : Type 0 where
   pub name : IsTagName tag.name
   pub value : IsName tag.value
   pub spelled : bytes ≡ counted tag.name ++ counted tag.value
 
--- a tag with a code for its name: 241 for the first of the names, and so on
+-- A tag with a code for its name: 241 for the first of the names, and so on.
 pub record IsCoded (bytes : List ℕ) (tag : Tag) : Type 0 where
   pub number : ℕ
   pub name : slice_get coded_names number ≡ Some tag.name
   pub value : IsName tag.value
   pub spelled : bytes ≡ (241 + number) ∷ counted tag.value
 
--- the tag EventDate with a packed date, whose text is its value
+-- The tag EventDate with a packed date, whose text is its value.
 pub record IsDated (bytes : List ℕ) (tag : Tag) : Type 0 where
   pub date : Date
   pub kept : IsDate date
@@ -38,15 +38,15 @@ pub record IsDated (bytes : List ℕ) (tag : Tag) : Type 0 where
   pub value : tag.value ≡ date_text date
   pub spelled : bytes ≡ 255 ∷ date_number date / 65536 ∷ date_number date / 256 % 256 ∷ date_number date % 256 ∷ []
 
--- the bytes spell the tag
+-- The bytes spell the tag.
 abbrev pub SpellsTag : List ℕ → Tag → Type 0
 SpellsTag bytes tag = IsSpelledOut bytes tag ⊎ (IsCoded bytes tag ⊎ IsDated bytes tag)
 
--- the bytes begin with a spelling of the tag, and these bytes follow it
+-- The bytes begin with a spelling of the tag, and these bytes follow it.
 abbrev pub BeginsTag : List ℕ → Tag → List ℕ → Type 0
 BeginsTag bytes tag later = (spelled : List ℕ) × SpellsTag spelled tag × (bytes ≡ spelled ++ later)
 
--- the bytes begin with spellings of the tags in their order and the zero byte behind them, and these bytes follow
+-- The bytes begin with spellings of the tags in their order and the zero byte behind them, and these bytes follow.
 abbrev pub BeginsTags : List ℕ → List Tag → List ℕ → Type 0
 BeginsTags bytes [] rest = bytes ≡ 0 ∷ rest
 BeginsTags bytes (tag ∷ tags) rest = (later : List ℕ) × BeginsTag bytes tag later × BeginsTags later tags rest

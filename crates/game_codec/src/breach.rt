@@ -1,3 +1,4 @@
+//! A fault in a part of a record, before its place is known.
 ghost use Rattle.std.specs.Prelude.{◌≡◌};
 ghost use Rattle.game_codec.specs.declared.breach.Refusal.TheVariants as refusal;
 

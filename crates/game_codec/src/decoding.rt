@@ -1,3 +1,4 @@
+//! Reading records.
 ghost use Rattle.std.specs.Prelude.{◌≡◌, ℕ, ◌<◌, ◌≤◌, ◌^◌, ◌⊎◌, List, All, length, IfOk, IfErr, MatchResult};
 ghost use Rattle.game_tree.specs.Game.{GameTree};
 ghost use Rattle.game_tree.specs.Head.{IsTag};
@@ -48,7 +49,7 @@ pub fn decode_game(alloc: Global, bytes: &[u8]) -> Result<(Game, Vec<Tag>), Deco
     }
 }
 
-/// The same with a fault by the number of bytes from the faulty item on.
+// The same with a fault by the number of bytes from the faulty item on.
 fn read_record(alloc: Global, bytes: &[u8]) -> Result<(Game, Vec<Tag>), Refusal>
     ensures ok { IfOk result (λ read. IsRead bytes.now read.1.items read.0) }
     ensures err { IfErr result (TellsBad (FlatBreaks bytes.now)) }

@@ -1,12 +1,12 @@
-ghost use Rattle.std.specs.Prelude.{◌≡◌, ◌↔◌, ◌<◌, ◌≤◌, ◌⊎◌, ℕ, List, [], ◌∷◌, ◌++◌, All, length, IfOk, IfErr, IsTrue, MatchResult};
+//! Writing records.
+ghost use Rattle.std.specs.Prelude.{◌≡◌, ◌↔◌, ◌<◌, ◌≤◌, ℕ, List, [], ◌∷◌, ◌++◌, All, length, IfOk, IfErr, IsTrue};
 ghost use Rattle.game_tree.specs.Head.{IsTag};
 ghost use Rattle.game_tree.specs.Kept.{IsGame};
 ghost use Rattle.game_tree.specs.Legal.{IsLegalGame};
 ghost use Rattle.game_codec.specs.Record.{IsRecord};
 ghost use Rattle.game_codec.specs.TagSpelling.{counted};
-ghost use Rattle.game_codec.specs.Written.{IsWrittenRecord, IfTooLong, promotion_flags, tags_text};
+ghost use Rattle.game_codec.specs.Written.{IfTooLong, longest, promotion_flags, tags_text, written_record};
 ghost use Rattle.game_codec.specs.Writing.{AddsStart};
-ghost use Rattle.game_codec.specs.declared.fault.EncodeError.TheVariants.{Memory};
 
 use super::fault::EncodeError;
 use super::moves::{Body, put_line};
@@ -17,36 +17,34 @@ use game_tree::{Game, Tag};
 use move_codec::Numbered;
 use std::alloc::{AllocError, Global};
 
-/// The greatest length of a record, in bytes.
-const GREATEST_LENGTH: usize = 131_071;
+// The greatest length of a record, in bytes.
+const LONGEST: usize = 131_071;
 
 /// The record of a legal game with these extra tags, which are within their bounds: its one written form. It is read again
 /// as the same game and the same tags. `TooLong` comes exactly where it would have more than 131,071 bytes.
 pub fn encode_game(alloc: Global, g: &Game, tags: &[Tag]) -> Result<Vec<u8>, EncodeError>
     requires legal { IsLegalGame g.now }
     requires tags { All IsTag tags.now }
-    ensures written { IfOk result (λ bytes. IsWrittenRecord bytes.items tags.now g.now) }
-    ensures fits { IfOk result (λ bytes. length bytes.items ≤ 131071) }
-    // That form alone is given, and refused only where it is too long or for want of memory.
-    ensures exact { (bytes : List ℕ) → IsWrittenRecord bytes tags.now g.now
-        → MatchResult result (λ written. written.items ≡ bytes) (λ error. (error ≡ Memory) ⊎ (131071 < length bytes)) }
+    ensures written { IfOk result (λ bytes. bytes.items ≡ written_record tags.now g.now) }
+    ensures fits { IfOk result (λ bytes. length bytes.items ≤ longest) }
     ensures read_again { IfOk result (λ bytes. IsRecord bytes.items tags.now g.now) }
-    ensures too_long { IfErr result (IfTooLong (λ n. (bytes : List ℕ) × (IsWrittenRecord bytes tags.now g.now × ((n ≡ length bytes) × (131071 < n))))) }
+    // That form is refused only where it is too long or for want of memory.
+    ensures too_long { IfErr result (IfTooLong (λ n. (n ≡ length (written_record tags.now g.now)) × (longest < n))) }
 {
     let bytes = whole_record(alloc, g, tags)?;
     let len = bytes.len();
-    if len > GREATEST_LENGTH {
+    if len > LONGEST {
         Err(EncodeError::TooLong(len as u64))
     } else {
         Ok(bytes)
     }
 }
 
-/// The record, however long it is.
+// The record, however long it is.
 fn whole_record(alloc: Global, g: &Game, tags: &[Tag]) -> Result<Vec<u8>, AllocError>
     requires legal { IsLegalGame g.now }
     requires tags { All IsTag tags.now }
-    ensures written { IfOk result (λ bytes. IsWrittenRecord bytes.items tags.now g.now) }
+    ensures written { IfOk result (λ bytes. bytes.items ≡ written_record tags.now g.now) }
     ensures is_game { IfOk result (λ _. IsGame g.now) }
 {
     let mut out = Vec::new(alloc);
@@ -61,8 +59,8 @@ fn whole_record(alloc: Global, g: &Game, tags: &[Tag]) -> Result<Vec<u8>, AllocE
     Ok(out)
 }
 
-/// The flags that tell of promotions: 2 where there is one in the main line or in a variation, and 4 more where there is
-/// one to another man than a queen.
+// The flags that tell of promotions: 2 where there is one in the main line or in a variation, and 4 more where there is
+// one to another man than a queen.
 fn promotion_flags(g: &Game) -> u8
     ensures flags { result ≡ promotion_flags g.now }
     ensures few { result < 8 }
@@ -72,7 +70,7 @@ fn promotion_flags(g: &Game) -> u8
     any + under
 }
 
-/// Adds the tags with their names written out, and the zero byte behind them.
+// Adds the tags with their names written out, and the zero byte behind them.
 fn put_tags(out: &mut Vec<u8>, tags: &[Tag]) -> Result<(), AllocError>
     requires tags { All IsTag tags.now }
     ensures bytes { IfOk result (λ _. out.new.items ≡ out.old.items ++ (tags_text tags.now ++ 0 ∷ [])) }
@@ -85,7 +83,7 @@ fn put_tags(out: &mut Vec<u8>, tags: &[Tag]) -> Result<(), AllocError>
     Ok(())
 }
 
-/// Adds a text of at most 255 bytes behind its length.
+// Adds a text of at most 255 bytes behind its length.
 fn put_counted(out: &mut Vec<u8>, text: &Text) -> Result<(), AllocError>
     requires short { length text.now ≤ 255 }
     ensures bytes { IfOk result (λ _. out.new.items ≡ out.old.items ++ counted text.now) }
@@ -95,8 +93,8 @@ fn put_counted(out: &mut Vec<u8>, text: &Text) -> Result<(), AllocError>
     Ok(())
 }
 
-/// Adds the flags, and the FEN of a start other than the initial position; gives the start with the numbers that its men
-/// have in the record.
+// Adds the flags, and the FEN of a start other than the initial position; gives the start with the numbers that its men
+// have in the record.
 fn put_start(
     alloc: Global,
     out: &mut Vec<u8>,

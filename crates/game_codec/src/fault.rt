@@ -1,3 +1,4 @@
+//! What is wrong with a record, and why one is not read or written.
 ghost use Rattle.std.specs.Prelude.{◌≡◌};
 ghost use Rattle.game_codec.specs.declared.fault.EncodeError.TheVariants as encode;
 

@@ -4,6 +4,7 @@
 
 mod breach;
 mod building;
+mod checking;
 mod decoding;
 mod encoding;
 mod fault;
@@ -21,11 +22,12 @@ mod token;
 mod tokens;
 mod walk;
 
+pub use checking::first_fault;
 pub use decoding::decode_game;
 pub use encoding::encode_game;
 pub use fault::{DecodeError, EncodeError, RecordFault, RecordWhat};
 pub use one_reading::bytes_have_one_reading;
-pub use round_trip::{written_form_is_one, written_records_are_read};
+pub use round_trip::written_records_are_read;
 pub use walk::Walk;
 
 #[cfg(test)]

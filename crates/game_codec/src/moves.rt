@@ -1,3 +1,4 @@
+//! Writing the moves of a record and the texts of its comments.
 ghost use Rattle.std.specs.Prelude.{◌≡◌, ◌++◌, [], IfOk};
 ghost use Rattle.chess_laws.specs.Step.{Legal};
 ghost use Rattle.game_tree.specs.Tree.{line_of, branches_of};
@@ -31,7 +32,7 @@ impl Body {
         }
     }
 
-    /// Adds a comment, where there is one.
+    // Adds a comment, where there is one.
     fn put_comment(&mut self, comment: &Option<Text>) -> Result<(), AllocError>
         ensures moves { IfOk result (λ _. self.new.moves.items ≡ self.old.moves.items ++ mark_text comment.now) }
         ensures texts { IfOk result (λ _. self.new.texts.items ≡ self.old.texts.items ++ comment_text comment.now) }
@@ -45,7 +46,7 @@ impl Body {
         Ok(())
     }
 
-    /// Adds the NAGs of a move.
+    // Adds the NAGs of a move.
     fn put_nags(&mut self, nags: &[u8]) -> Result<(), AllocError>
         ensures moves { IfOk result (λ _. self.new.moves.items ≡ self.old.moves.items ++ nags_text nags.now) }
         ensures texts { IfOk result (λ _. self.new.texts ≡ self.old.texts) }
@@ -81,7 +82,7 @@ pub(crate) fn put_line(
     Ok(())
 }
 
-/// Adds a move of a line, by the position before it, with its NAGs, its comment and its variations.
+// Adds a move of a line, by the position before it, with its NAGs, its comment and its variations.
 #[cycle(lines)]
 fn put_node(body: &mut Body, position: &Numbered, node: &Node) -> Result<(), AllocError>
     requires legal { Legal position.now.position node.now.mv }
@@ -97,7 +98,7 @@ fn put_node(body: &mut Body, position: &Numbered, node: &Node) -> Result<(), All
     Ok(())
 }
 
-/// Adds the variations of a move, which begin at the position before it.
+// Adds the variations of a move, which begin at the position before it.
 #[cycle(lines)]
 fn put_variations(
     body: &mut Body,

@@ -1,3 +1,4 @@
+//! Reading the start of a game from its record.
 ghost use Rattle.std.specs.Prelude.{◌≡◌, ◌+◌, ◌%◌, ◌≤◌, ℕ, ◌∷◌, length, drop, IfOk, IfErr};
 ghost use Rattle.game_codec.specs.Breach.{Tells};
 ghost use Rattle.game_codec.specs.Start.{BeginsStart, BreaksStart, IsOwnStart};
@@ -39,7 +40,7 @@ pub(crate) fn read_start(bytes: &[u8]) -> Result<StartRead, Breach>
     }
 }
 
-/// Reads an own start, behind the flags. The bytes used count the flags too.
+// Reads an own start, behind the flags. The bytes used count the flags too.
 fn read_own_start(bytes: &[u8]) -> Result<StartRead, Breach>
     ensures ok { IfOk result (λ read. (flags : ℕ) → flags % 2 ≡ 1 → IsOwnStart (flags ∷ bytes.now) read.start (drop read.used (flags ∷ bytes.now))) }
     ensures used { IfOk result (λ read. read.used ≤ length bytes.now + 1) }

@@ -1,3 +1,4 @@
+//! Reading the extra tags of a record.
 ghost use Rattle.std.specs.Prelude.{◌≡◌, ◌+◌, ◌<◌, ◌≤◌, ◌≢◌, List, [], ◌∷◌, ◌++◌, ℕ, length, drop, Ok, Err, IfOk, IfErr, OnOk, MatchOption, slice_index_or};
 ghost use Rattle.std.specs.List.{list_all};
 ghost use Rattle.std.specs.Bool.{OnTrue};
@@ -16,7 +17,7 @@ use cell_core::Text;
 use game_tree::{Date, Tag, is_reserved, is_tag_byte};
 use std::alloc::{AllocError, Global};
 
-/// The names that the codes from 241 on stand for.
+// The names that the codes from 241 on stand for.
 const CODED_NAMES: [&[u8]; 10] = [
     b"WhiteCountry",
     b"BlackCountry",
@@ -95,7 +96,7 @@ fn tag_len(bytes: &[u8]) -> Result<Option<usize>, Breach>
     }
 }
 
-/// Adds a tag, unless its name is reserved.
+// Adds a tag, unless its name is reserved.
 fn put_free(tags: &mut Vec<Tag>, tag: Tag) -> Result<(), AllocError>
     ensures free { OnOk result (tags.new.items ≡ tags.old.items ++ free_of (tag ∷ [])) }
 {
@@ -105,14 +106,14 @@ fn put_free(tags: &mut Vec<Tag>, tag: Tag) -> Result<(), AllocError>
     Ok(())
 }
 
-/// What the bytes behind a tag begin with: another tag of so many bytes, or the zero byte.
+// What the bytes behind a tag begin with: another tag of so many bytes, or the zero byte.
 #[derive(Debug, Drop)]
 enum Next {
     Tag { tag: Tag, used: usize },
     End,
 }
 
-/// The next tag.
+// The next tag.
 fn next_tag(alloc: Global, bytes: &[u8]) -> Result<Next, Refusal>
     ensures ok { IfOk result (IsNext bytes.now) }
     ensures err { IfErr result (TellsBad (λ rest what. (rest ≡ bytes.now) × (tag_at bytes.now ≡ Err what))) }
@@ -134,7 +135,7 @@ fn next_tag(alloc: Global, bytes: &[u8]) -> Result<Next, Refusal>
     }
 }
 
-/// A tag of these texts.
+// A tag of these texts.
 fn tag_of(alloc: Global, name: &[u8], value: &[u8]) -> Result<Tag, AllocError>
     requires name { IsZeroFree name.now }
     requires value { IsZeroFree value.now }
@@ -148,7 +149,7 @@ fn tag_of(alloc: Global, name: &[u8], value: &[u8]) -> Result<Tag, AllocError>
     })
 }
 
-/// What the next tag is made of. The bytes used are counted behind its first.
+// What the next tag is made of. The bytes used are counted behind its first.
 #[derive(Drop)]
 enum Parts<'a> {
     Named {
@@ -162,7 +163,7 @@ enum Parts<'a> {
     End,
 }
 
-/// The parts of the next tag, or its first fault.
+// The parts of the next tag, or its first fault.
 fn next_parts<'a>(bytes: &'a [u8]) -> Result<Parts<'a>, RecordWhat>
     ensures ok { IfOk result (IsParts (tag_at bytes.now) (drop 1 bytes.now)) }
     ensures some { IfOk result (λ parts. 0 < length bytes.now) }
@@ -174,7 +175,7 @@ fn next_parts<'a>(bytes: &'a [u8]) -> Result<Parts<'a>, RecordWhat>
     }
 }
 
-/// The parts of a tag that begins with this byte, and those behind it.
+// The parts of a tag that begins with this byte, and those behind it.
 #[tactic(auto, unfolding(crate::specs::TagReading::tag_at))]
 fn parts_of<'a>(code: u8, bytes: &'a [u8]) -> Result<Parts<'a>, RecordWhat>
     ensures ok { IfOk result (IsParts (tag_at (code ∷ bytes.now)) bytes.now) }
@@ -195,7 +196,7 @@ fn parts_of<'a>(code: u8, bytes: &'a [u8]) -> Result<Parts<'a>, RecordWhat>
     dated(bytes)
 }
 
-/// The name that a code stands for.
+// The name that a code stands for.
 fn coded_name(number: u8) -> &'static [u8]
     requires { number < 10 }
     ensures name { result.now ≡ slice_index_or coded_names number [] }
@@ -204,7 +205,7 @@ fn coded_name(number: u8) -> &'static [u8]
     CODED_NAMES[usize::from(number)]
 }
 
-/// A tag whose name has `len` bytes, behind the length.
+// A tag whose name has `len` bytes, behind the length.
 fn spelled_out<'a>(bytes: &'a [u8], len: usize) -> Result<Parts<'a>, RecordWhat>
     ensures ok { IfOk result (IsParts (with_name (part_at is_tag_byte fault.TagName len bytes.now)) bytes.now) }
     ensures err { IfErr result (λ what. with_name (part_at is_tag_byte fault.TagName len bytes.now) ≡ Err what) }
@@ -218,7 +219,7 @@ fn spelled_out<'a>(bytes: &'a [u8], len: usize) -> Result<Parts<'a>, RecordWhat>
     })
 }
 
-/// A tag with one of the names that have a code, behind the code.
+// A tag with one of the names that have a code, behind the code.
 fn coded<'a>(number: u8, bytes: &'a [u8]) -> Result<Parts<'a>, RecordWhat>
     requires { number < 10 }
     ensures ok { IfOk result (IsParts (with_value (slice_index_or coded_names number []) (value_at bytes.now)) bytes.now) }
@@ -232,7 +233,7 @@ fn coded<'a>(number: u8, bytes: &'a [u8]) -> Result<Parts<'a>, RecordWhat>
     })
 }
 
-/// A packed date, behind its code.
+// A packed date, behind its code.
 #[tactic(auto, unfolding(crate::specs::TagReading::date_at))]
 fn dated<'a>(bytes: &'a [u8]) -> Result<Parts<'a>, RecordWhat>
     ensures ok { IfOk result (IsParts (date_at bytes.now) bytes.now) }
@@ -250,7 +251,7 @@ fn dated<'a>(bytes: &'a [u8]) -> Result<Parts<'a>, RecordWhat>
     }
 }
 
-/// A name of `len` bytes. A byte that no name may have is told before an early end.
+// A name of `len` bytes. A byte that no name may have is told before an early end.
 #[tactic(auto, unfolding(crate::specs::TagReading::part_at))]
 fn name_part(bytes: &[u8], len: usize) -> Result<&[u8], RecordWhat>
     ensures ok { IfOk result (λ name. part_at is_tag_byte fault.TagName len bytes.now ≡ Ok (name.now, drop len bytes.now)) }
@@ -266,7 +267,7 @@ fn name_part(bytes: &[u8], len: usize) -> Result<&[u8], RecordWhat>
     }
 }
 
-/// A value behind its length.
+// A value behind its length.
 #[tactic(auto, unfolding(crate::specs::TagReading::value_at))]
 fn value_part(bytes: &[u8]) -> Result<&[u8], RecordWhat>
     ensures ok { IfOk result (λ value. value_at bytes.now ≡ Ok (value.now, drop (1 + length value.now) bytes.now)) }
@@ -280,7 +281,7 @@ fn value_part(bytes: &[u8]) -> Result<&[u8], RecordWhat>
     }
 }
 
-/// A value of `len` bytes. A zero byte is told before an early end.
+// A value of `len` bytes. A zero byte is told before an early end.
 #[tactic(auto, unfolding(crate::specs::TagReading::part_at))]
 fn counted(bytes: &[u8], len: usize) -> Result<&[u8], RecordWhat>
     ensures ok { IfOk result (λ value. part_at is_value_byte fault.TagValue len bytes.now ≡ Ok (value.now, drop len bytes.now)) }
@@ -296,7 +297,7 @@ fn counted(bytes: &[u8], len: usize) -> Result<&[u8], RecordWhat>
     }
 }
 
-/// The bytes that are there, where they are as many as are due.
+// The bytes that are there, where they are as many as are due.
 fn whole(there: &[u8], len: usize) -> Result<&[u8], RecordWhat>
     ensures ok { IfOk result (λ part. (part.now ≡ there.now) × (len ≤ length there.now)) }
     ensures err { IfErr result (λ what. (what ≡ fault.Short) × (length there.now < len)) }

@@ -11,7 +11,7 @@ use move_codec::MoveFault;
 use std::alloc::{AllocError, Global};
 use std::test::Fail;
 
-/// What is read of at most a thousand bytes.
+// What is read of at most a thousand bytes.
 fn decoded(alloc: Global, bytes: &[u8]) -> Result<(Game, Vec<Tag>), DecodeError>
     ensures legal { IfOk result (λ read. IsLegalGame read.0) }
     ensures tags { IfOk result (λ read. All IsTag read.1.items) }
@@ -19,7 +19,7 @@ fn decoded(alloc: Global, bytes: &[u8]) -> Result<(Game, Vec<Tag>), DecodeError>
     decode_game(alloc, bytes.split_at(bytes.len().min(1000)).0)
 }
 
-/// What is read of a record and written again.
+// What is read of a record and written again.
 fn again(alloc: Global, bytes: &[u8]) -> Option<Vec<u8>> {
     match decoded(alloc, bytes) {
         Ok((game, tags)) => encode_game(alloc, &game, tags.as_slice()).ok(),
@@ -27,16 +27,16 @@ fn again(alloc: Global, bytes: &[u8]) -> Option<Vec<u8>> {
     }
 }
 
-/// `{Start} 1. e4 $1 $14 {Best}} (1. d4 d5 (1... Nf6)) 1... e5`.
+// `{Start} 1. e4 $1 $14 {Best}} (1. d4 d5 (1... Nf6)) 1... e5`.
 const NESTED: &[u8] =
     b"\x00\x00\x0c\xcf\x0b\x01\x0b\x0e\x0c\x0d\xbf\xbf\x0d\x61\x0e\x0e\xcf\x0f\x53\x74\x61\x72\x74\x00\x42\x65\x73\x74\x7d\x00";
 
-/// Whether a move goes from the one square to the other.
+// Whether a move goes from the one square to the other.
 fn goes(node: &Node, from: u8, to: u8) -> bool {
     node.mv.from.index() == from && node.mv.to.index() == to
 }
 
-/// Whether a comment is this text.
+// Whether a comment is this text.
 fn says(comment: &Option<Text>, text: &[u8]) -> bool {
     match comment {
         None => false,
@@ -97,8 +97,8 @@ fn variations_of_a_record(rt: HostRuntime) {
     assert!(rt; goes(knight, 62, 45), "Nf6");
 }
 
-/// Records as they are written: of whole games, of starts of their own with promotions, of nested variations, with NAGs
-/// that look like marks, and with a tag.
+// Records as they are written: of whole games, of starts of their own with promotions, of nested variations, with NAGs
+// that look like marks, and with a tag.
 const WRITTEN: [&[u8]; 10] = [
     b"\x00\x00\x0f",
     b"\x00\x00\xcf\xa1\xbf\xbf\x28\xb0\x26\x61\x4a\xcf\xb2\x43\x60\x33\x44\x09\x61\x4f\x04\x36\x01\x3b\x0f",
@@ -122,7 +122,7 @@ fn written_records_are_written_again(rt: HostRuntime) {
     }
 }
 
-/// The marks of 1. e4 $1 {x} (1. d4) in every order but the written one.
+// The marks of 1. e4 $1 {x} (1. d4) in every order but the written one.
 const ORDERS: [&[u8]; 5] = [
     b"\x00\x00\xcf\x0b\x01\x0d\xbf\x0e\x0c\x0fx\x00",
     b"\x00\x00\xcf\x0c\x0b\x01\x0d\xbf\x0e\x0fx\x00",
@@ -144,9 +144,9 @@ fn marks_stand_in_any_order(rt: HostRuntime) {
     }
 }
 
-/// Records in another form, and their written form: NAGs before and behind a variation; comments of a move and of its
-/// variation; comments without a text; a coded name and a packed date; a tag of a reserved name; the FEN of the initial
-/// position, with the numbers of its order; flags that are not looked at.
+// Records in another form, and their written form: NAGs before and behind a variation; comments of a move and of its
+// variation; comments without a text; every coded name, two of them reserved, and a packed date; a tag of a reserved name; the FEN of the initial
+// position, with the numbers of its order; flags that are not looked at.
 const OTHERWISE: [(&[u8], &[u8]); 9] = [
     (
         b"\x00\x00\xcf\x0c\x0b\x01\x0d\xbf\x0e\x0b\x0e\x0fx\x00",
@@ -157,7 +157,10 @@ const OTHERWISE: [(&[u8], &[u8]); 9] = [
         b"\x00\x00\xcf\x0c\x0d\xbf\x0c\x0e\x0fy\x00x\x00",
     ),
     (b"\x00\x00\x0c\xcf\x0c\x0f\x00\x00", b"\x00\x00\xcf\x0f"),
-    (b"\xf3\x01x\x00\x00\x0f", b"\x09Annotator\x01x\x00\x00\x0f"),
+    (
+        b"\xf1\x01a\xf2\x01b\xf3\x01c\xf4\x01d\xf5\x01e\xf6\x01f\xf7\x01g\xf8\x01h\xf9\x01i\xfa\x01j\x00\x00\x0f",
+        b"\x0cWhiteCountry\x01a\x0cBlackCountry\x01b\x09Annotator\x01c\x08PlyCount\x01d\x09EventDate\x01e\x07Opening\x01f\x09Variation\x01g\x06Source\x01i\x00\x00\x0f",
+    ),
     (
         b"\xff\x0f\xa8\x22\x00\x00\x0f",
         b"\x09EventDate\x0a2004.01.02\x00\x00\x0f",
@@ -171,8 +174,9 @@ const OTHERWISE: [(&[u8], &[u8]); 9] = [
     (b"\x01!\x00\x00\x00\x0f", b"\x01!\x00\x00\x00\x0f"),
 ];
 
-/// Records that are nearly faulty: for each fault the nearest bytes that have none.
-const NEIGHBOURS: [&[u8]; 16] = [
+// Records that are nearly faulty: for each fault the nearest bytes that have none; and a name of 240 bytes.
+const NEIGHBOURS: [&[u8]; 17] = [
+    b"\xf0aaaaaaaaaaaaaaaaaaaaaaaaaaaaaaaaaaaaaaaaaaaaaaaaaaaaaaaaaaaaaaaaaaaaaaaaaaaaaaaaaaaaaaaaaaaaaaaaaaaaaaaaaaaaaaaaaaaaaaaaaaaaaaaaaaaaaaaaaaaaaaaaaaaaaaaaaaaaaaaaaaaaaaaaaaaaaaaaaaaaaaaaaaaaaaaaaaaaaaaaaaaaaaaaaaaaaaaaaaaaaaaaaaaaaaaaaaaaaaaa\x00\x00\x00\x0f",
     b"\xfa\x00\x00\x00\x0f",
     b"\x01!\x00\x00\x00\x0f",
     b"\x01~\x00\x00\x00\x0f",
@@ -208,7 +212,7 @@ fn records_in_another_form_are_read(rt: HostRuntime) {
     }
 }
 
-/// Bytes that are no record, the place of their first fault, and what it is.
+// Bytes that are no record, the place of their first fault, and what it is.
 const FAULTY: [(&[u8], u32, RecordWhat); 39] = [
     (b"\xfb\x00\x00\x0f", 0, RecordWhat::TagCode),
     (b"\x01a\x01b\xfe\x00\x00\x0f", 4, RecordWhat::TagCode),
@@ -291,7 +295,7 @@ fn first_faults(rt: HostRuntime) {
     }
 }
 
-/// A record of `depth` variations, one in the other, each of the first move.
+// A record of `depth` variations, one in the other, each of the first move.
 fn nested(alloc: Global, depth: usize) -> Result<Vec<u8>, AllocError> {
     let mut bytes = Vec::from_slice(alloc, b"\x00\x00")?;
     for _ in 0..depth {
@@ -329,7 +333,7 @@ fn one_variation_too_deep(rt: HostRuntime) -> Result<(), Fail> {
     Ok(())
 }
 
-/// The length of the record of a game without moves and with a comment of `len` bytes, or how long it would be.
+// The length of the record of a game without moves and with a comment of `len` bytes, or how long it would be.
 fn length_of_comment(alloc: Global, len: usize) -> Result<Result<usize, EncodeError>, AllocError> {
     let text = Text::try_new(vec![in alloc; b'x'; len]?);
     let game = Game {
@@ -363,12 +367,12 @@ fn one_byte_more(rt: HostRuntime) -> Result<(), Fail> {
     Ok(())
 }
 
-/// The walk over a record of at most a thousand bytes.
+// The walk over a record of at most a thousand bytes.
 fn walk<'a>(bytes: &'a [u8]) -> Result<Walk<'a>, RecordFault> {
     Walk::new(bytes.split_at(bytes.len().min(1000)).0)
 }
 
-/// Whether the next move of a walk goes from the one square to the other.
+// Whether the next move of a walk goes from the one square to the other.
 fn plays(walk: &mut Walk<'_>, from: u8, to: u8) -> bool {
     match walk.step() {
         Ok(Some(m)) => m.from.index() == from && m.to.index() == to,
@@ -376,7 +380,7 @@ fn plays(walk: &mut Walk<'_>, from: u8, to: u8) -> bool {
     }
 }
 
-/// `1. e4 (1. d4 $14 d5 $15) 1... e5`.
+// `1. e4 (1. d4 $14 d5 $15) 1... e5`.
 const VARIED: &[u8] = b"\x00\x00\xcf\x0d\xbf\x0b\x0e\xbf\x0b\x0f\x0e\xcf\x0f";
 
 #[test]

@@ -1,3 +1,4 @@
+//! Texts that a zero byte ends.
 ghost use Rattle.std.specs.Prelude.{◌≡◌, ◌+◌, ◌<◌, ◌∷◌, ◌++◌, length, take, drop, MatchOption};
 ghost use Rattle.cell_core.specs.Text.{IsZeroFree};
 

@@ -188,31 +188,11 @@ fn change(alloc: Global, head: &mut Head, edit: &TagEdit) -> Result<(), AllocErr
         TagEdit::Date(date) => set_dates(alloc, head, *date, head.event_date)?,
         TagEdit::EventDate(date) => set_event_date(alloc, head, *date)?,
         TagEdit::Extra(tag) => set_tag(alloc, head, tag)?,
-        TagEdit::Event(text) => {
-            let text = text.copied(alloc)?;
-            settle_head(alloc, head)?;
-            head.event = text;
-        }
-        TagEdit::Site(text) => {
-            let text = text.copied(alloc)?;
-            settle_head(alloc, head)?;
-            head.site = text;
-        }
-        TagEdit::Round(text) => {
-            let text = text.copied(alloc)?;
-            settle_head(alloc, head)?;
-            head.round = text;
-        }
-        TagEdit::White(text) => {
-            let text = text.copied(alloc)?;
-            settle_head(alloc, head)?;
-            head.white = text;
-        }
-        TagEdit::Black(text) => {
-            let text = text.copied(alloc)?;
-            settle_head(alloc, head)?;
-            head.black = text;
-        }
+        TagEdit::Event(text) => head.event = settle_and_copy(alloc, head, text)?,
+        TagEdit::Site(text) => head.site = settle_and_copy(alloc, head, text)?,
+        TagEdit::Round(text) => head.round = settle_and_copy(alloc, head, text)?,
+        TagEdit::White(text) => head.white = settle_and_copy(alloc, head, text)?,
+        TagEdit::Black(text) => head.black = settle_and_copy(alloc, head, text)?,
         TagEdit::Result(outcome) => {
             settle_head(alloc, head)?;
             head.result = *outcome;
@@ -231,6 +211,17 @@ fn change(alloc: Global, head: &mut Head, edit: &TagEdit) -> Result<(), AllocErr
         }
     }
     Ok(())
+}
+
+// Settles the head, and copies a text for it first.
+fn settle_and_copy(alloc: Global, head: &mut Head, text: &Text) -> Result<Text, AllocError>
+    ensures ok { OnOk result (head.new ≡ settled head.old) }
+    ensures copy { IfOk result (λ copy. copy ≡ text.now) }
+    ensures err { OnErr result (head.new ≡ head.old) }
+{
+    let copy = text.copied(alloc)?;
+    settle_head(alloc, head)?;
+    Ok(copy)
 }
 
 // Gives the head this event date in place of its own and of all tags EventDate, and settles it.

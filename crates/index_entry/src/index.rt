@@ -1,7 +1,7 @@
 //! The index file: its header, and where the entries stand.
 ghost use Rattle.std.specs.Prelude.{◌≡◌, ◌≤◌, ◌<◌, ◌+◌, ◌*◌, ◌++◌, ◌^◌, IfOk, OnOk, Ok, length, take, drop};
 ghost use Rattle.byteorder.specs.Endian.{big_bytes};
-ghost use Rattle.index_entry.specs.Index.{number_in, index_read, entry_bytes, IsIndexHead, index_bytes};
+ghost use Rattle.index_entry.specs.Index.{number_in, head_in, index_read, entry_bytes, IsIndexHead, index_bytes};
 
 use crate::IndexFault;
 use byteorder::{BigEndian, ByteOrder};
@@ -45,6 +45,7 @@ pub struct IndexHead {
 #[tactic(auto, unfolding(crate::specs::Index::index_read, crate::specs::Index::head_in))]
 pub fn read_index(bytes: &[u8]) -> Result<IndexHead, IndexFault>
     ensures exact { result ≡ index_read bytes.now }
+    ensures head { IfOk result (λ head. head ≡ head_in bytes.now) }
     // The entries of all games are there.
     ensures whole { IfOk result (λ head. 182 + 47 * head.games ≤ length bytes.now) }
     ensures sound { IfOk result IsIndexHead }

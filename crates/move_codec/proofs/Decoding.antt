@@ -1,6 +1,7 @@
 -- What is decoded, from what is named and whether it is legal.
-use Rattle.std.proofs.Common.{suc, ◌<◌, ◌≤◌, length, arith, ◌≡◌, ℕ, ◌/◌, ◌%◌, Bool, true, false, cond, eqb, List, [], ◌∷◌, Option, Some, None, Ok, Err, ◌⊎◌, inl, inr, sym, ap}
+use Rattle.std.proofs.Common.{suc, ◌<◌, ◌≤◌, ◌-◌, length, arith, ◌≡◌, ℕ, ◌/◌, ◌%◌, Bool, true, false, ◌&&◌, cond, eqb, leb, ltb, refl, subst, List, [], ◌∷◌, Option, Some, None, Ok, Err, ◌⊎◌, inl, inr, sym, ap}
 use Rattle.std.specs.Prelude.{Result, slice_get}
+use Rattle.std.proofs.lemmas.Bool.Decides.{nat_tests}
 use Rattle.cell_core.specs.declared.man.Colour.{Colour}
 use Rattle.cell_core.specs.declared.man.Kind.{Kind}
 use Rattle.cell_core.specs.declared.man.Kind.TheVariants.{King, Queen, Rook, Bishop, Knight, Pawn}
@@ -12,7 +13,7 @@ use Rattle.chess_laws.specs.Step.{Legal}
 use Rattle.move_codec.specs.declared.fault.MoveFault.{MoveFault}
 use Rattle.move_codec.specs.declared.fault.MoveFault.TheVariants.{Short, NoMan, Value, Illegal}
 use Rattle.move_codec.specs.Numbers.{Numbered, squares_of}
-use Rattle.move_codec.specs.Packed.{Decodes, diagonal_move, diagonal_square, king_differences, knight_differences, by_difference, named, named_by, named_from, named_value, on_diagonal, on_line, pawn_square, promotion, to_square}
+use Rattle.move_codec.specs.Packed.{Decodes, HasHighSecond, diagonal_move, diagonal_square, is_diagonal, king_differences, knight_differences, by_difference, named, named_by, named_from, named_value, on_diagonal, on_line, pawn_square, promotion, to_square}
 
 -- no move is refused as illegal before its legality is looked at
 abbrev Plain : Result (Move × ℕ) MoveFault → Type 0
@@ -123,3 +124,53 @@ named-used n (byte ∷ rest) decoded h =
       | inl one ↦ (omega arith, (omega arith, omega arith))
       | inr two ↦ (omega arith, (omega arith, omega arith))
     ]
+
+-- a second byte is at least 64: only a queen's diagonal move has one
+abbrev High : List ℕ → Result (Move × ℕ) MoveFault → Type 0
+High rest named = (decoded : Move × ℕ) (byte : ℕ) → named ≡ Ok decoded → decoded.1 ≡ 2 → slice_get rest 0 ≡ Some byte → 64 ≤ byte
+
+high_from : (high low other : Bool) (to square : ℕ) → cond ((high && low) && other) (Some square) None ≡ Some to → high ≡ true
+high_from true low other to square h = refl
+high_from false low other to square h = absurd (cc)
+
+diagonal-byte : (from byte : ℕ) (promo : Option Kind) (square : Option ℕ) (decoded : Move × ℕ) → square ≡ diagonal_square from byte
+    → to_square from promo 2 square ≡ Ok decoded → 64 ≤ byte
+diagonal-byte from byte promo None decoded is h = absurd (cc)
+diagonal-byte from byte promo (Some to) decoded is h =
+    let high : leb 64 byte ≡ true = high_from (leb 64 byte) (ltb byte 128) (is_diagonal from (byte - 64)) to (byte - 64) (sym is) in
+    grind (arith, nat_tests)
+
+diagonal-high : (from : ℕ) (rest : List ℕ) → High rest (diagonal_move from rest)
+diagonal-high from [] decoded byte h two at = absurd (cc)
+diagonal-high from (first ∷ rest) decoded byte h two at =
+    let same : first ≡ byte = cc in
+    subst (λ b. 64 ≤ b) same (diagonal-byte from first None (diagonal_square from first) decoded refl h)
+
+one-high : (from : ℕ) (promo : Option Kind) (square : Option ℕ) (rest : List ℕ) → High rest (to_square from promo 1 square)
+one-high from promo square rest decoded byte h two at = let one = to_square-takes from promo 1 square decoded h in absurd (omega arith)
+
+queen-high : (own : Bool) (from value : ℕ) (rest : List ℕ) → High rest (cond own (diagonal_move from rest) (to_square from None 1 (on_line from value)))
+queen-high true from value rest = diagonal-high from rest
+queen-high false from value rest = one-high from None (on_line from value) rest
+
+value-high : (kind : Kind) (side : Colour) (from value : ℕ) (rest : List ℕ) → High rest (named_value kind side from value rest)
+unfolding named_value
+value-high King side from value rest = one-high from None (by_difference king_differences from value) rest
+value-high Queen side from value rest = queen-high (eqb value (file_of from)) from value rest
+value-high Rook side from value rest = one-high from None (on_line from value) rest
+value-high Bishop side from value rest = one-high from None (on_diagonal from value) rest
+value-high Knight side from value rest = one-high from None (by_difference knight_differences from value) rest
+value-high Pawn side from value rest = one-high from (promotion value) (pawn_square side from value) rest
+
+by-high : (o : Option Man) (side : Colour) (from value : ℕ) (rest : List ℕ) → High rest (named_by o side from value rest)
+by-high None side from value rest decoded byte h two at = absurd (cc)
+by-high (Some man) side from value rest decoded byte h two at = value-high man.kind side from value rest decoded byte h two at
+
+from-high : (n : Numbered) (o : Option ℕ) (value : ℕ) (rest : List ℕ) → High rest (named_from n o value rest)
+from-high n None value rest decoded byte h two at = absurd (cc)
+from-high n (Some from) value rest decoded byte h two at = by-high (man_at n.position.board from) n.position.side from value rest decoded byte h two at
+
+pub named-second : (n : Numbered) (bytes : List ℕ) (decoded : Move × ℕ) → named n bytes ≡ Ok decoded → HasHighSecond bytes decoded.1
+named-second n [] decoded h byte two at = absurd (cc)
+named-second n (first ∷ rest) decoded h byte two at =
+    from-high n (slice_get (squares_of n.position.side n.numbers) (first / 16)) (first % 16) rest decoded byte h two at

@@ -13,6 +13,7 @@ use Rattle.chess_laws.specs.declared.effect.Effect.{Effect}
 use Rattle.chess_laws.specs.declared.effect.Effect.TheVariants.{Plain, Double, Passing, Castle, Null}
 use Rattle.chess_laws.specs.Castling.{rook_home, rook_target}
 use Rattle.chess_laws.specs.Checks.{in_check}
+use Rattle.chess_laws.specs.Counts.{counts_of}
 use Rattle.chess_laws.specs.Position.{Sound, HasKings, Keeps, king_square}
 use Rattle.chess_laws.specs.Legal.{king_after}
 use Rattle.chess_laws.specs.Step.{Case, Legal, after, board_after, effect_of}
@@ -63,27 +64,29 @@ record KingsAfter (p : Setup) (m : Move) : Type 0 where
 
 kings_after : (p : Setup) (m : Move) (side : Colour) → p.side ≡ side → Sound p → Legal p m → KingsAfter p m
 kings_after p m White is sound legal =
-    let kept : Keeps p (king_square p.board p.side) (king_square p.board (other p.side)) (in_check p) = record {
+    let kept : Keeps p (king_square p.board p.side) (king_square p.board (other p.side)) (in_check p) (counts_of p.board) = record {
       sound = sound;
       white_king = ap (king_square p.board) is;
       black_king = ap (λ c. king_square p.board (other c)) is;
       check = refl;
+      census = refl;
     } in
     let keeps = Keeps-white p m (king_square p.board p.side) (king_square p.board (other p.side)) (in_check p) (in_check (after p m (effect_of p m)))
-    is kept legal refl in
+    (counts_of p.board) (counts_of (board_after p m (effect_of p m))) is kept legal refl refl in
     record {
       mover = ap (king_square (board_after p m (effect_of p m))) is ∙ sym keeps.white_king;
       resting = ap (λ c. king_square (board_after p m (effect_of p m)) (other c)) is ∙ sym keeps.black_king;
     }
 kings_after p m Black is sound legal =
-    let kept : Keeps p (king_square p.board (other p.side)) (king_square p.board p.side) (in_check p) = record {
+    let kept : Keeps p (king_square p.board (other p.side)) (king_square p.board p.side) (in_check p) (counts_of p.board) = record {
       sound = sound;
       white_king = ap (λ c. king_square p.board (other c)) is;
       black_king = ap (king_square p.board) is;
       check = refl;
+      census = refl;
     } in
     let keeps = Keeps-black p m (king_square p.board (other p.side)) (king_square p.board p.side) (in_check p) (in_check (after p m (effect_of p m)))
-    is kept legal refl in
+    (counts_of p.board) (counts_of (board_after p m (effect_of p m))) is kept legal refl refl in
     record {
       mover = ap (king_square (board_after p m (effect_of p m))) is ∙ sym keeps.black_king;
       resting = ap (λ c. king_square (board_after p m (effect_of p m)) (other c)) is ∙ sym keeps.white_king;

@@ -1,6 +1,6 @@
 -- Packed moves (this project's own): a byte with the man's number in the high nibble and a value in the low one, and for
 -- a queen's diagonal move a second byte.
-use Rattle.std.specs.Prelude.{◌≡◌, ℕ, ◌+◌, ◌-◌, ◌*◌, ◌/◌, ◌%◌, ◌==◌, ◌&&◌, ◌||◌, not, nat_lt, nat_le, if◌then◌else◌, Bool, List, [], ◌∷◌, Option, Some, None, option_and_then, Result, Ok, Err, slice_get}
+use Rattle.std.specs.Prelude.{◌≡◌, ℕ, ◌+◌, ◌-◌, ◌*◌, ◌/◌, ◌%◌, ◌≤◌, ◌==◌, ◌&&◌, ◌||◌, not, nat_lt, nat_le, if◌then◌else◌, Bool, List, [], ◌∷◌, Option, Some, None, option_and_then, Result, Ok, Err, slice_get}
 use Rattle.std.specs.List.{position_or_len}
 use Rattle.cell_core.specs.declared.man.Colour.{Colour}
 use Rattle.cell_core.specs.declared.man.Colour.TheVariants.{White, Black}
@@ -131,6 +131,10 @@ Decodes n bytes (Err NoMan) = named n bytes ≡ Err NoMan
 Decodes n bytes (Err Value) = named n bytes ≡ Err Value
 Decodes n bytes (Err Illegal) =
     (decoded : Move × ℕ) × ((named n bytes ≡ Ok decoded) × (Legal n.position decoded.0 → ⊥))
+
+-- where two of these bytes are a move, the second is at least 64, as no first byte need be
+abbrev pub HasHighSecond : List ℕ → ℕ → Type 0
+HasHighSecond bytes size = (byte : ℕ) → size ≡ 2 → slice_get bytes 1 ≡ Some byte → 64 ≤ byte
 
 -- The bytes of a move
 

@@ -1,3 +1,5 @@
+//! Why bytes are no packed move.
+
 /// Why bytes are no packed move of a position. The first that applies comes, in this order.
 #[derive(Clone, Copy, Debug, PartialEq, Eq)]
 pub enum MoveFault {

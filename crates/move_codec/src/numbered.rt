@@ -1,8 +1,10 @@
-ghost use Rattle.std.specs.Prelude.{◌≡◌, ℕ, ◌+◌, ◌*◌, ◌<◌, ◌≤◌, false, List, ◌∷◌, ◌++◌, Ok, IfOk, length};
+//! A position with the numbers of its men: packed moves decoded, played and encoded.
+ghost use Rattle.std.specs.Prelude.{◌≡◌, ◌↔◌, ℕ, ◌+◌, ◌*◌, ◌<◌, ◌≤◌, false, List, ◌∷◌, ◌++◌, Ok, IsTrue, IfOk, IfErr, length};
+ghost use Rattle.std.specs.Bool.{OnTrue, OnFalse};
 ghost use Rattle.chess_laws.specs.Position.{start_setup};
 ghost use Rattle.chess_laws.specs.Step.{Legal, Step};
 ghost use Rattle.move_codec.specs.Numbers.{numbers_after, standard_numbers, text_numbers};
-ghost use Rattle.move_codec.specs.Packed.{Decodes, diagonal_move, encoding, is_mark, named, named_value, rest_of, to_square, value_of};
+ghost use Rattle.move_codec.specs.Packed.{Decodes, HasHighSecond, diagonal_move, encoding, is_mark, named, named_value, rest_of, to_square, value_of};
 
 use super::fault::MoveFault;
 use super::numbers::Numbers;
@@ -73,6 +75,7 @@ impl Numbered {
     pub fn decode_move(&self, bytes: &[u8]) -> Result<(Move, u8), MoveFault>
         ensures decodes { Decodes self.now bytes.now result }
         ensures used { IfOk result (λ decoded. (0 < decoded.1) × ((decoded.1 ≤ 2) × (decoded.1 ≤ length bytes.now))) }
+        ensures second { IfOk result (λ decoded. HasHighSecond bytes.now decoded.1) }
     {
         let (m, used) = self.named(bytes)?;
         if self.position.is_legal(Move {
@@ -93,6 +96,40 @@ impl Numbered {
         ensures numbers { self.new.numbers ≡ numbers_after self.old.position m self.old.numbers }
     {
         self.follow(&m);
+    }
+
+    /// Plays the legal move that the first bytes name, in place, and gives what `decode_move` does. After a fault nothing
+    /// has changed.
+    pub fn advance(&mut self, bytes: &[u8]) -> Result<(Move, u8), MoveFault>
+        ensures decodes { Decodes self.old bytes.now result }
+        ensures used { IfOk result (λ decoded. (0 < decoded.1) × ((decoded.1 ≤ 2) × (decoded.1 ≤ length bytes.now))) }
+        ensures second { IfOk result (λ decoded. HasHighSecond bytes.now decoded.1) }
+        ensures step { IfOk result (λ decoded. Step self.old.position decoded.0 self.new.position) }
+        ensures numbers { IfOk result (λ decoded. self.new.numbers ≡ numbers_after self.old.position decoded.0 self.old.numbers) }
+        ensures kept { IfErr result (λ _. self.new ≡ self.old) }
+    {
+        let (m, used) = self.named(bytes)?;
+        if self.follow_legal(&m) {
+            Ok((m, used))
+        } else {
+            Err(MoveFault::Illegal)
+        }
+    }
+
+    /// Plays a move where it is legal, and answers whether it is.
+    fn follow_legal(&mut self, m: &Move) -> bool
+        ensures legal { IsTrue result ↔ Legal self.old.position m.now }
+        ensures step { OnTrue result (Step self.old.position m.now self.new.position) }
+        ensures numbers { OnTrue result (self.new.numbers ≡ numbers_after self.old.position m.now self.old.numbers) }
+        ensures kept { OnFalse result (self.new ≡ self.old) }
+    {
+        let mover = self.position.setup().side;
+        let effect = self.position.effect(m);
+        let legal = self.position.advance(m);
+        if legal {
+            self.numbers.follow(mover, m, effect);
+        }
+        legal
     }
 
     /// `play` of a lent move.

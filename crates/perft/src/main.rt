@@ -1,5 +1,5 @@
 //! Counts the lines of legal moves from a position. Each line of standard input is a depth, one digit, and a FEN; the
-//! answer is a line with the number of different lines of so many half-moves.
+//! answer is a line with the number of different lines of so many half-moves, or with what is wrong.
 #![tactic(auto)]
 
 use arrayvec::ArrayVec;
@@ -12,40 +12,46 @@ fn main(rt: HostRuntime) -> io::Result<()> {
     for line in rt.lines(rt.alloc()) {
         let line = line?;
         match asked(line.as_bytes()) {
-            Some((depth, position)) => {
-                let count = nodes(&position, depth);
-                println!(rt; "{count}")?;
-            }
+            Some((depth, position)) => match nodes(&position, depth) {
+                Some(count) => println!(rt; "{count}")?,
+                None => println!(rt; "too many moves")?,
+            },
             None => println!(rt; "no depth and position")?,
         }
     }
     Ok(())
 }
 
-/// The depth and the position of a line.
+/// The depth and the position of a line, where it begins with a digit and has a FEN behind it.
 fn asked(line: &[u8]) -> Option<(u8, Position)> {
     let (digit, fen) = line.split_first()?;
+    if !digit.is_ascii_digit() {
+        return None;
+    }
     let depth = digit.checked_sub(b'0')?;
     let position = read_fen(fen).ok()?;
     Some((depth, position))
 }
 
-/// How many lines of `depth` half-moves there are. The last half-move is counted, not played.
-fn nodes(position: &Position, depth: u8) -> u64 {
+/// How many lines of `depth` half-moves there are, the one of no half-move among them, or `None` where a position on the
+/// way has more legal moves than the list holds, or the lines are more than the number holds. The last half-move is
+/// counted, not played.
+fn nodes(position: &Position, depth: u8) -> Option<u64> {
+    if depth == 0 {
+        return Some(1);
+    }
     let mut moves: ArrayVec<Move, 256> = ArrayVec::new();
-    if depth == 0 || !position.legal_moves(&mut moves) {
-        return 0;
+    if !position.legal_moves(&mut moves) {
+        return None;
     }
     if depth == 1 {
-        return moves.len() as u64;
+        return Some(moves.len() as u64);
     }
     let mut all = 0u64;
     for m in moves.as_slice() {
         let mut next = *position;
-        if next.is_legal(*m) {
-            next.play(*m);
-            all = all.saturating_add(nodes(&next, depth - 1));
-        }
+        next.play(*m);
+        all = all.checked_add(nodes(&next, depth - 1)?)?;
     }
-    all
+    Some(all)
 }

@@ -1,3 +1,4 @@
+pub mod IndexReading
 pub mod Answering
 pub mod FindLines
 pub mod HitLines

@@ -5,22 +5,10 @@ ghost use Rattle.base_files.specs.Extents.{IsPlaced};
 ghost use Rattle.shell_session.specs.IndexFile.{HasEntries, IsIndex, extent_at, game_count};
 
 use base_files::Extent;
-use byteorder::{BigEndian, ByteOrder};
-
-/// The bytes of the header.
-pub(crate) const HEADER_LEN: usize = 182;
-
-/// The bytes of one game's entry.
-pub(crate) const ENTRY_LEN: usize = 47;
+use index_entry::{entry_of, place_of, read_index};
 
 /// The bytes of a block of the games file.
 pub(crate) const BLOCK_LEN: usize = 131_072;
-
-/// The first eight bytes of an index.
-const MAGIC: &[u8; 8] = b"Scid.si\0";
-
-/// The version of the format that the program reads.
-const VERSION: u16 = 400;
 
 /// Whether this is an index that the program reads, beside a games file of `games_len` bytes.
 pub(crate) fn is_index(index: &[u8], games_len: u64) -> bool
@@ -29,20 +17,11 @@ pub(crate) fn is_index(index: &[u8], games_len: u64) -> bool
     has_entries(index) && are_placed(index, games_len)
 }
 
-/// Whether the header is whole and of version 400, with an entry for each game.
+/// Whether the header can be read and there is an entry for each game.
 fn has_entries(index: &[u8]) -> bool
     ensures { IsTrue result ↔ HasEntries index.now }
 {
-    if index.len() < HEADER_LEN {
-        return false;
-    }
-    if !index.starts_with(MAGIC) {
-        return false;
-    }
-    if BigEndian::read_u16(&index[8..]) != VERSION {
-        return false;
-    }
-    index.len() == HEADER_LEN + ENTRY_LEN * count_of(index) as usize
+    read_index(index).is_ok()
 }
 
 /// Whether each record lies in its place.
@@ -61,10 +40,13 @@ fn are_placed(index: &[u8], games_len: u64) -> bool
 /// The header's number of games.
 #[tactic(auto, unfolding(crate::specs::IndexFile::game_count))]
 pub(crate) fn count_of(index: &[u8]) -> u32
-    requires { 182 ≤ length index.now }
+    requires { HasEntries index.now }
     ensures { result ≡ game_count index.now }
 {
-    BigEndian::read_u24(&index[14..])
+    match read_index(index) {
+        Ok(head) => head.games,
+        Err(_) => 0,
+    }
 }
 
 /// Where the record of a game stands.
@@ -74,12 +56,10 @@ pub(crate) fn extent_of_game(index: &[u8], game: u32) -> Extent
     ensures extent { result ≡ extent_at index.now game }
     ensures four_bytes { result.offset < 2 ^ 32 }
 {
-    let entry = &index[HEADER_LEN + ENTRY_LEN * game as usize..];
-    let low = u32::from(BigEndian::read_u16(&entry[4..]));
-    let high = u32::from(entry[6] / 128);
+    let (offset, len) = place_of(&entry_of(index, game));
     Extent {
-        offset: u64::from(BigEndian::read_u32(entry)),
-        len: low + 65_536 * high,
+        offset: u64::from(offset),
+        len,
     }
 }
 

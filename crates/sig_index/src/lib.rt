@@ -12,3 +12,6 @@ pub use mat_query::{MatQuery, MatRange};
 pub use pos_query::{Mode, PosQuery};
 pub use signature::{HomeList, Sig, sig_of};
 pub use span::Span;
+
+#[cfg(test)]
+mod tests;

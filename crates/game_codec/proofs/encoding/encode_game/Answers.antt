@@ -1,18 +1,9 @@
-use Rattle.std.proofs.Common.{◌<◌, List, ℕ, length, inr, subst, arith}
-use Rattle.game_codec.proofs.WrittenLaws.{written-read, IsWrittenRecord-one}
+use Rattle.std.proofs.Common.{ℕ, List, sym, subst}
+use Rattle.game_codec.specs.Record.{IsRecord}
+use Rattle.game_codec.proofs.WrittenLaws.{written-read}
 use Rattle.game_codec.proofs.encoding.encode_game.Goals as goal
 
-pub returns-else-len-gt-GREATEST_LENGTH-clause-read_again : goal.returns-else-len-gt-GREATEST_LENGTH-clause-read_again
-returns-else-len-gt-GREATEST_LENGTH-clause-read_again c =
-    written-read c.in_ok-bytes.bytes.items c.args.tags.now c.args.g.now c.in_ok-bytes.ensures.is_game c.requires.legal
-    c.requires.tags c.in_ok-bytes.ensures.written
-
-pub returns-else-len-gt-GREATEST_LENGTH-clause-exact : goal.returns-else-len-gt-GREATEST_LENGTH-clause-exact
-returns-else-len-gt-GREATEST_LENGTH-clause-exact c = λ bytes written.
-    IsWrittenRecord-one c.in_ok-bytes.bytes.items bytes c.args.tags.now c.args.g.now c.in_ok-bytes.ensures.written written
-
-pub returns-then-len-gt-GREATEST_LENGTH-clause-exact : goal.returns-then-len-gt-GREATEST_LENGTH-clause-exact
-returns-then-len-gt-GREATEST_LENGTH-clause-exact c = λ bytes written.
-    let long : 131071 < length c.in_ok-bytes.bytes.items = omega arith in
-    inr (subst (λ (given : List ℕ). 131071 < length given)
-    (IsWrittenRecord-one c.in_ok-bytes.bytes.items bytes c.args.tags.now c.args.g.now c.in_ok-bytes.ensures.written written) long)
+pub returns-else-len-gt-LONGEST-clause-read_again : goal.returns-else-len-gt-LONGEST-clause-read_again
+returns-else-len-gt-LONGEST-clause-read_again c =
+    subst (λ (bytes : List ℕ). IsRecord bytes c.args.tags.now c.args.g.now) (sym c.in_ok-bytes.ensures.written)
+    (written-read c.args.tags.now c.args.g.now c.in_ok-bytes.ensures.is_game c.requires.legal c.requires.tags)

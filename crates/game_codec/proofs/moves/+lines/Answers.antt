@@ -7,7 +7,7 @@ use Rattle.game_codec.specs.Place.{numbered_after}
 use Rattle.game_codec.proofs.WritingLaws.{left_more, numbered-played, moves-more, texts-more, legal-more, texts-lead, variations-more, variations_texts-more, branches_legal-more}
 use Rattle.game_codec.proofs.moves.+lines.Goals as goal
 
--- what was written, by another name
+-- What was written, by another name.
 written : {new : List ℕ} (old : List ℕ) {part same : List ℕ} → new ≡ old ++ part → part ≡ same → new ≡ old ++ same
 written old is e = is ∙ ap (λ (bytes : List ℕ). old ++ bytes) e
 

@@ -7,7 +7,7 @@ use Rattle.game_codec.specs.Written.{moves_text}
 use Rattle.game_codec.specs.Writing.{variations_text, variations_texts}
 use Rattle.game_codec.proofs.moves.+lines.Given as goal
 
--- what is left gives the same as all
+-- What is left gives the same as all.
 abbrev pub invariant-put_line-loop-node : goal.invariant-put_line-loop-node
 invariant-put_line-loop-node l = record {
   legal : IsLegalLine l.position.position (line_of (drop l.node-index l.line));

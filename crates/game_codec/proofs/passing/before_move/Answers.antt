@@ -1,4 +1,4 @@
-use Rattle.game_codec.proofs.PassLaws.{HasCome-due, HasCome-more, if_err}
+use Rattle.game_codec.proofs.PassLaws.{if_err}
 use Rattle.game_codec.proofs.passing.before_move.Goals as goal
 
 pub returns-in_err-at_front-clause-fault : goal.returns-in_err-at_front-clause-fault

@@ -1,4 +1,4 @@
-use Rattle.std.proofs.Common.{rules, Err, List, ℕ}
+use Rattle.std.proofs.Common.{rules, Err, List}
 use Rattle.game_codec.specs.Breach.{TellsBad}
 use Rattle.game_codec.specs.Token.{Token}
 use Rattle.game_codec.specs.Scanning.{Scans, nest_of}

@@ -6,7 +6,7 @@ use Rattle.move_codec.specs.Numbers.{Numbered, text_numbers}
 use Rattle.game_codec.specs.Start.{IsOwnStart}
 use Rattle.game_codec.proofs.start.read_own_start.Goals as goal
 
--- the text before the first zero byte, and what stands behind it and the flags
+-- The text before the first zero byte, and what stands behind it and the flags.
 own_start : (flags n : ℕ) (bytes text : List ℕ) (p : Setup) (start : Numbered) → flags % 2 ≡ 1 → IsZeroFree (take n bytes)
     → bytes ≡ take n bytes ++ 0 ∷ drop (n + 1) bytes → text ≡ take n bytes → FenReads text p → start.position ≡ p
     → start.numbers ≡ text_numbers p.board → IsOwnStart (flags ∷ bytes) start (drop (n + 2) (flags ∷ bytes))

@@ -1,4 +1,4 @@
-use Rattle.std.proofs.Common.{rules, ℕ, List, [], ◌∷◌, ◌++◌, refl}
+use Rattle.std.proofs.Common.{rules, List, [], ◌∷◌, ◌++◌, refl}
 use Rattle.game_tree.specs.TagName.{free_of}
 use Rattle.game_tree.specs.declared.head.Tag.{Tag}
 use Rattle.game_codec.specs.Breach.{Tells}

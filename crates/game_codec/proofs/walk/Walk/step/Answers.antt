@@ -1,4 +1,4 @@
-use Rattle.std.proofs.Common.{ℕ, ◌≡◌, sym, ap, subst, ◌∙◌, arith}
+use Rattle.std.proofs.Common.{sym, ap, subst, ◌∙◌, arith}
 use Rattle.game_tree.specs.Replay.{next_at}
 use Rattle.game_codec.specs.Record.{IsRecord, IsSomeRecord}
 use Rattle.game_codec.specs.Walk.{Walked}

@@ -3,13 +3,13 @@ use Rattle.std.proofs.lemmas.Bool.{false≢true}
 use Rattle.std.proofs.lemmas.Result.{err_from_is_err_and}
 use Rattle.chess_laws.specs.Step.{Legal}
 use Rattle.move_codec.specs.Numbers.{Numbered}
-use Rattle.move_codec.proofs.Decoding.{Decodes-fault, Decodes-legal, Decodes-illegal, named-used}
+use Rattle.move_codec.proofs.Decoding.{Decodes-fault, Decodes-legal, Decodes-illegal, named-used, named-second}
 use Rattle.move_codec.proofs.numbered.Numbered.decode_move.Goals as goal
 
 pub returns-in_err-m : goal.returns-in_err-m
 returns-in_err-m c =
     let p = err_from_is_err_and c.from_residual.result c.from_residual.ensures.1 in
-    rw (p.1, p.2) (record { decodes = Decodes-fault c.args.self.now c.args.bytes.now c.in_err-m.field-0.0 (sym c.named.ensures ∙ c.in_err-m.was); used = tt })
+    rw (p.1, p.2) (record { decodes = Decodes-fault c.args.self.now c.args.bytes.now c.in_err-m.field-0.0 (sym c.named.ensures ∙ c.in_err-m.was); used = tt; second = tt })
 
 pub returns-then-is_legal : goal.returns-then-is_legal
 returns-then-is_legal c =
@@ -18,6 +18,7 @@ returns-then-is_legal c =
       decodes = Decodes-legal c.args.self.now c.args.bytes.now (c.in_ok-m.m, c.in_ok-m.used) (sym c.named.ensures ∙ c.in_ok-m.was)
           (subst (λ (n : Numbered). Legal n.position c.in_ok-m.m) c.self.view_is legal);
       used = named-used c.args.self.now c.args.bytes.now (c.in_ok-m.m, c.in_ok-m.used) (sym c.named.ensures ∙ c.in_ok-m.was);
+      second = named-second c.args.self.now c.args.bytes.now (c.in_ok-m.m, c.in_ok-m.used) (sym c.named.ensures ∙ c.in_ok-m.was);
     }
 
 pub returns-else-is_legal : goal.returns-else-is_legal
@@ -26,4 +27,5 @@ returns-else-is_legal c =
       decodes = Decodes-illegal c.args.self.now c.args.bytes.now (c.in_ok-m.m, c.in_ok-m.used) (sym c.named.ensures ∙ c.in_ok-m.was)
           (λ legal. false≢true (sym c.if-is_legal.false ∙ c.is_legal.ensures.legal.1 (subst (λ (n : Numbered). Legal n.position c.in_ok-m.m) (sym c.self.view_is) legal)));
       used = tt;
+      second = tt;
     }
