@@ -10,6 +10,7 @@ pub mod ItemLaws
 pub mod ScanSteps
 pub mod ScanLaws
 pub mod MovetextLaws
+pub mod FittingLaws
 pub mod BuildLaws
 pub mod LegalLaws
 pub mod ShortLaws

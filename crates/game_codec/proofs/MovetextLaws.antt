@@ -103,7 +103,7 @@ breaks-scans start u bytes rest w breaks = scanned (beginning 0 start) [] u byte
 -- From the items to a movetext
 
 -- The lines that are open lie one inside the other.
-abbrev AreStacked : ℕ → List Place → Type 0
+abbrev pub AreStacked : ℕ → List Place → Type 0
 AreStacked depth [] = depth ≡ 0
 AreStacked depth (q ∷ outer) = (depth ≡ q.depth + 1) × AreStacked q.depth outer
 

@@ -14,6 +14,7 @@ pub mod Breach
 pub mod Writing
 pub mod Nests
 pub mod Adding
+pub mod Fitting
 pub mod Flat
 pub mod Walk
 pub mod Walking

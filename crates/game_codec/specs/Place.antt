@@ -5,6 +5,7 @@
 use Rattle.std.specs.Prelude.{◌≡◌, ℕ, zero, suc, ◌+◌, ◌<◌, ◌≤◌, ◌⊎◌, Bool, true, false, IsTrue, List, [], ◌∷◌, Ok, Err, drop}
 use Rattle.cell_core.specs.declared.step.Move.{Move}
 use Rattle.chess_laws.specs.Step.{stepped}
+use Rattle.game_tree.specs.Legal.{deepest}
 use Rattle.move_codec.specs.Numbers.{Numbered, numbers_after}
 use Rattle.move_codec.specs.Packed.{Decodes, is_mark}
 use Rattle.game_codec.specs.Token.{Token, Play, Nag, Comment, Open, Close, End}
@@ -48,7 +49,7 @@ abbrev pub Takes : Place → List ℕ → Token → List ℕ → Type 0
 Takes p bytes (Play m) later = IsMoveDue bytes × ((used : ℕ) × Decodes p.here bytes (Ok (m, used)) × (later ≡ drop used bytes))
 Takes p bytes (Nag n) later = IsTrue p.has_move × (bytes ≡ 11 ∷ n ∷ later)
 Takes p bytes Comment later = (p.has_comment ≡ false) × (bytes ≡ 12 ∷ later)
-Takes p bytes Open later = IsTrue p.has_move × (p.depth < 200) × (bytes ≡ 13 ∷ later)
+Takes p bytes Open later = IsTrue p.has_move × (p.depth < deepest) × (bytes ≡ 13 ∷ later)
 Takes p bytes Close later = (0 < p.depth) × (bytes ≡ 14 ∷ later)
 Takes p bytes End later = (p.depth ≡ 0) × (bytes ≡ 15 ∷ later)
 
@@ -68,7 +69,7 @@ abbrev pub FaultAt : Place → List ℕ → RecordWhat → Type 0
 FaultAt p bytes what.Short = (bytes ≡ []) ⊎ (IsTrue p.has_move × (bytes ≡ 11 ∷ []))
 FaultAt p bytes what.Mark = IsMisplaced p bytes
 FaultAt p bytes what.TwoComments = IsTrue p.has_comment × ((later : List ℕ) × (bytes ≡ 12 ∷ later))
-FaultAt p bytes what.Depth = IsTrue p.has_move × ((200 ≤ p.depth) × ((later : List ℕ) × (bytes ≡ 13 ∷ later)))
+FaultAt p bytes what.Depth = IsTrue p.has_move × ((deepest ≤ p.depth) × ((later : List ℕ) × (bytes ≡ 13 ∷ later)))
 FaultAt p bytes (what.Move fault) = IsMoveDue bytes × Decodes p.here bytes (Err fault)
 FaultAt p bytes what.TagCode = ⊥
 FaultAt p bytes what.TagName = ⊥

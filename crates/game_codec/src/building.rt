@@ -1,9 +1,10 @@
 //! Making the tree of a record from the items of its moves and its texts.
-ghost use Rattle.std.specs.Prelude.{◌≡◌, ◌≤◌, ℕ, List, length, IfOk, IfErr};
+ghost use Rattle.std.specs.Prelude.{◌≡◌, ◌≤◌, ℕ, false, [], List, length, IfOk, IfErr};
 ghost use Rattle.game_tree.specs.Movetext.{Movetext, items_of, meaning};
 ghost use Rattle.game_tree.specs.Building.{Gives};
 ghost use Rattle.game_codec.specs.Adding.{Adds, LacksText};
 ghost use Rattle.game_codec.specs.Breach.{TellsBad};
+ghost use Rattle.game_codec.specs.Fitting.{MayAdd, Fit};
 ghost use Rattle.game_codec.specs.Nests.{token_of, tokens_of};
 ghost use Rattle.game_codec.specs.Scanning.{AreMovetext, comments_in, dealt};
 ghost use Rattle.game_codec.specs.Texts.{AreTexts, BreaksTexts};
@@ -21,6 +22,7 @@ use std::alloc::Global;
 /// where the record does.
 pub(crate) fn build(alloc: Global, tokens: &[Token], bytes: &[u8]) -> Result<Branch, Refusal>
     requires movetext { AreMovetext (tokens_of tokens.now) }
+    requires fit { Fit false [] (tokens_of tokens.now) }
     ensures ok { IfOk result (λ branch. (texts : List (List ℕ)) × (AreTexts bytes.now texts × ((length texts ≡ comments_in (tokens_of tokens.now))
         × ((s : Movetext) → items_of s ≡ dealt (tokens_of tokens.now) texts → Gives branch (meaning s).comment (meaning s).line)))) }
     ensures err { IfErr result (TellsBad (BreaksTexts (comments_in (tokens_of tokens.now)) bytes.now)) }
@@ -42,6 +44,7 @@ pub(crate) fn build(alloc: Global, tokens: &[Token], bytes: &[u8]) -> Result<Bra
 
 // Adds an item, a comment with the text that the bytes begin with, and gives how many bytes of the texts it took.
 fn add(alloc: Global, builder: &mut Builder, token: &Token, bytes: &[u8]) -> Result<usize, Refusal>
+    requires may { MayAdd (token_of token.now) builder.old }
     ensures adds { IfOk result (λ used. Adds (token_of token.now) bytes.now builder.old used builder.new) }
     ensures used { IfOk result (λ used. used ≤ length bytes.now) }
     ensures lacks { IfErr result (TellsBad (LacksText (token_of token.now) bytes.now)) }

@@ -1,5 +1,6 @@
 //! The lines that are open while a record's moves are read.
 ghost use Rattle.std.specs.Prelude.{◌≡◌, ◌<◌, ◌≤◌, IsTrue, length, drop, IfOk, IfErr, OnOk};
+ghost use Rattle.game_tree.specs.Legal.{deepest};
 ghost use Rattle.game_codec.specs.Place.{Takes, FaultAt};
 ghost use Rattle.game_codec.specs.Token.{Open, Close};
 ghost use Rattle.game_codec.specs.Breach.{TellsBad};
@@ -67,7 +68,7 @@ impl OpenLines {
 
     // Goes on in a variation of the last move.
     fn open(&mut self) -> Result<(), AllocError>
-        requires room { self.old.current.depth < 200 }
+        requires room { self.old.current.depth < deepest }
         ensures after { OnOk result (self.new ≡ nest_after self.old Open) }
     {
         let variation = self.current.variation();

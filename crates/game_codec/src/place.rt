@@ -1,5 +1,6 @@
 //! A place in a line of a record's moves, as it is while they are read.
 ghost use Rattle.std.specs.Prelude.{◌≡◌, ◌+◌, ◌<◌, ◌≤◌, length, drop, IfOk, IfErr};
+ghost use Rattle.game_tree.specs.Legal.{deepest};
 ghost use Rattle.game_codec.specs.Place.{beginning, variation_of, after_comment, FaultAt, IsMoveDue, Takes};
 ghost use Rattle.chess_laws.specs.Step.{Legal};
 ghost use Rattle.game_codec.specs.Nests.{holding, place_after, token_of};
@@ -49,7 +50,7 @@ impl Place {
 
     /// The beginning of a variation of the last move.
     pub(crate) fn variation(&self) -> Place
-        requires room { self.now.depth < 200 }
+        requires room { self.now.depth < deepest }
         ensures variation { result ≡ variation_of self.now }
     {
         Place::beginning(self.depth + 1, &self.before)

@@ -6,6 +6,7 @@ ghost use Rattle.game_codec.specs.Nests.{place_after, token_of};
 use super::fault::RecordWhat;
 use super::place::Place;
 use super::token::Token;
+use game_tree::DEEPEST;
 
 /// An item of a record's moves, and how many bytes it takes.
 #[derive(Debug, Drop)]
@@ -81,7 +82,7 @@ fn opening(place: &Place) -> Result<NextToken, RecordWhat>
 {
     if !place.has_move() {
         Err(RecordWhat::Mark)
-    } else if place.depth() >= 200 {
+    } else if place.depth() >= DEEPEST {
         Err(RecordWhat::Depth)
     } else {
         Ok(NextToken {

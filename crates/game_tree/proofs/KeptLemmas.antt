@@ -18,7 +18,7 @@ pub IsLine-push : (ps : List Played) (p : Played) → IsLine (line_of ps) → Is
 IsLine-push [] p are is = (is.nags, (is.comment, (is.variations, tt)))
 IsLine-push (q ∷ ps) p are is = (are.0, (are.1.0, (are.1.1.0, IsLine-push ps p are.1.1.1 is)))
 
--- the moves before the last one, and the last one in another's place
+-- The moves before the last one, and the last one in another's place.
 pub IsLine-before : (ps : List Played) (last : Option Played) → IsLine (line_of (and_last ps last)) → IsLine (line_of ps)
 IsLine-before ps None are = are
 IsLine-before [] (Some p) are = tt

@@ -18,7 +18,7 @@ here p q n ns step comment branches =
       λ whole. subst (λ (r : Setup). IsLegalLine r (line_of ns)) (sym e) whole.1.1.1,
     )
 
--- one more move of a line: what is left is legal exactly where it was with this move
+-- One more move of a line: what is left is legal exactly where it was with this move.
 pub IsLegalLine-more : (p q : Setup) (line : List Played) (i : ℕ) (n : Played) (whole : Type 0) → i < length line → n ≡ get_or line i n → Step p n.mv q → IsComment n.comment → AreLegalBranches p n.variations → (IsLegalLine p (line_of (drop i line)) ↔ whole) → (IsLegalLine q (line_of (drop (i + 1) line)) ↔ whole)
 IsLegalLine-more p q line i n whole under item step comment branches before =
     let left : drop i line ≡ n ∷ drop (i + 1) line = drop_more line i n under ∙ ap (λ (m : Played). m ∷ drop (i + 1) line) (sym item) in

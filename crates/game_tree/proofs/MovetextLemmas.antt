@@ -6,7 +6,7 @@ use Rattle.game_tree.specs.Item as item
 use Rattle.game_tree.specs.Movetext.{Movetext, end, move, nag, comment, variation, items_of, as_comment, joined, Said, meaning}
 use Rattle.game_tree.specs.Building.{Open, Building, fresh, opening, and_last, read_line, bare, with_move, with_nag, with_comment, with_branch, with_variation, variation_of, built}
 
--- lines and variations one behind the other
+-- Lines and variations one behind the other.
 abbrev line_then : Line → Line → Line
 line_then ends l = l
 line_then (goes m n c v k) l = goes m n c v (line_then k l)
@@ -41,7 +41,7 @@ joined-assoc (Some a) None c = refl
 joined-assoc (Some a) (Some b) None = refl
 joined-assoc (Some a) (Some b) (Some c) = ap Some (append_assoc a (32 ∷ b) (32 ∷ c))
 
--- an open line with what is said of its last move
+-- An open line with what is said of its last move.
 abbrev marked_on : Said → Option (List ℕ) → List Played → Option Played → Open
 marked_on r lead done None = record { lead = joined lead r.comment; done = done; last = None }
 marked_on r lead done (Some p) =
@@ -54,7 +54,7 @@ marked_on r lead done (Some p) =
 abbrev marked : Said → Open → Open
 marked r o = marked_on r o.lead o.done o.last
 
--- an open line with the moves of a line behind it
+-- An open line with the moves of a line behind it.
 abbrev with_moves : Line → Open → Open
 with_moves ends o = o
 with_moves (goes m n c v l) o = with_moves l (with_move (record { mv = m; nags = n; comment = c; variations = v }) o)
@@ -113,7 +113,7 @@ read_line-with_moves (goes m n c v l) o =
     ∙ ap (λ k. line_then k l) (line_of-push (and_last o.done o.last) (record { mv = m; nags = n; comment = c; variations = v }))
     ∙ line_then-assoc (read_line o) (goes m n c v ends) l
 
--- the items of a movetext, read after others and before the rest
+-- The items of a movetext, read after others and before the rest.
 built-movetext : (s : Movetext) (rest : List Item) (o : Open) (outer : List Open) → built (items_of s ++ rest) (record { current = o; outer = outer }) ≡ built rest (record { current = extended (meaning s) o; outer = outer })
 built-movetext end rest o outer = ap (λ (c : Open). built rest (record { current = c; outer = outer })) (sym (marked-end o.lead o.done o.last))
 built-movetext (move m s) rest o outer =
@@ -135,7 +135,7 @@ built-movetext (variation inner s) rest o outer =
     variation-fresh : (r : Said) → variation_of (extended r fresh) ≡ record { lead = r.comment; line = r.line }
     variation-fresh r = λ i. record { lead = lead-with_moves r.line (marked r fresh) i; line = read_line-with_moves r.line (marked r fresh) i }
 
--- what was read from the items of a movetext alone
+-- What was read from the items of a movetext alone.
 pub record Reads (s : Movetext) (b : Building) : Type 0 where
   pub whole : b.outer ≡ []
   pub lead : b.current.lead ≡ (meaning s).comment

@@ -7,7 +7,7 @@ use Rattle.game_tree.specs.Movetext.{Movetext, as_comment, joined, Said, meaning
 use Rattle.game_tree.specs.Legal.{IsComment, IsLegalLine, AreLegalBranches}
 use Rattle.game_tree.specs.Written.{nags_before, comment_before, movetext_of, variations_before, HasComments, HaveComments}
 
--- what is said before a line
+-- What is said before a line.
 abbrev said : List ℕ → Option (List ℕ) → Branches → Line → Said
 said n c v l = record { nags = n; comment = c; variations = v; line = l }
 
@@ -41,11 +41,11 @@ mutual
       let rest = meaning-variations others is.1.1 s l e in
       λ i. said (rest i).nags (rest i).comment (more (inner i).comment (inner i).line (rest i).variations) (rest i).line
 
--- the whole game: its comment, and its line
+-- The whole game: its comment, and its line.
 pub meaning-written : (lead : Option (List ℕ)) (l : Line) → IsComment lead → HasComments l → meaning (comment_before lead (movetext_of l)) ≡ said [] lead none l
 meaning-written lead l some is = meaning-comment lead some (movetext_of l) none l (meaning-movetext_of l is)
 
--- a legal line has no empty comment
+-- A legal line has no empty comment.
 mutual
   pub HasComments-legal : (p : Setup) (l : Line) → IsLegalLine p l → HasComments l
   HasComments-legal p ends is = tt

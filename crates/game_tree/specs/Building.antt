@@ -1,6 +1,6 @@
 -- A tree while its items are read one by one: the lines that are open, each with its last move apart, since what follows
 -- may still belong to it (this project's own).
-use Rattle.std.specs.Prelude.{◌≡◌, ℕ, List, [], ◌∷◌, ◌++◌, Option, Some, None, refl}
+use Rattle.std.specs.Prelude.{◌≡◌, ◌≢◌, ℕ, IsSome, List, [], ◌∷◌, ◌++◌, Option, Some, None, refl}
 use Rattle.std.specs.Coded.{Coded, code_by, coded×, coded_ℕ, coded_list, coded_option}
 use Rattle.cell_core.specs.declared.step.Move.{Move}
 use Rattle.game_tree.specs.Tree.{Line, Branches, none, more, Played, Variation, line_of}
@@ -9,41 +9,41 @@ use Rattle.game_tree.specs.Item.{Item}
 use Rattle.game_tree.specs.Item as item
 use Rattle.game_tree.specs.Movetext.{as_comment, joined}
 
--- an open line: its comment, the moves before the last one, and the last one
+-- An open line: its comment, the moves before the last one, and the last one.
 pub record Open : Type 0 where
   pub lead : Option (List ℕ)
   pub done : List Played
   pub last : Option Played
 
--- the innermost open line, and those round it from the inside out
+-- The innermost open line, and those round it from the inside out.
 pub record Building : Type 0 where
   pub current : Open
   pub outer : List Open
 
--- a line of which nothing was read
+-- A line of which nothing was read.
 abbrev pub fresh : Open
 fresh = record { lead = None; done = []; last = None }
 
 abbrev pub opening : Building
 opening = record { current = fresh; outer = [] }
 
--- a list with one more element where there is one
+-- A list with one more element where there is one.
 abbrev pub and_last : {X : Type 0} → List X → Option X → List X
 and_last xs None = xs
 and_last xs (Some x) = xs ++ x ∷ []
 
--- the line as far as it was read
+-- The line as far as it was read.
 abbrev pub read_line : Open → Line
 read_line o = line_of (and_last o.done o.last)
 
--- a move of which nothing more was read
+-- A move of which nothing more was read.
 abbrev pub bare : Move → Played
 bare m = record { mv = m; nags = []; comment = None; variations = none }
 
 abbrev pub with_move : Played → Open → Open
 with_move p o = record { lead = o.lead; done = and_last o.done o.last; last = Some p }
 
--- a move with one more NAG, with more of its comment, and with one more variation behind the others
+-- A move with one more NAG, with more of its comment, and with one more variation behind the others.
 abbrev pub more_nags : ℕ → Played → Played
 more_nags n p = record { mv = p.mv; nags = p.nags ++ n ∷ []; comment = p.comment; variations = p.variations }
 
@@ -57,7 +57,7 @@ with_branch (more lead line others) v = more lead line (with_branch others v)
 abbrev pub more_variations : Variation → Played → Played
 more_variations v p = record { mv = p.mv; nags = p.nags; comment = p.comment; variations = with_branch p.variations v }
 
--- a NAG belongs to the last move
+-- A NAG belongs to the last move.
 abbrev pub with_nag_on : ℕ → Option Played → Option Played
 with_nag_on n None = None
 with_nag_on n (Some p) = Some (more_nags n p)
@@ -65,7 +65,7 @@ with_nag_on n (Some p) = Some (more_nags n p)
 abbrev pub with_nag : ℕ → Open → Open
 with_nag n o = record { lead = o.lead; done = o.done; last = with_nag_on n o.last }
 
--- a comment belongs to the last move, or to the line where there is none yet
+-- A comment belongs to the last move, or to the line where there is none yet.
 abbrev pub with_comment_on : Option (List ℕ) → Option (List ℕ) → List Played → Option Played → Open
 with_comment_on t lead done None = record { lead = joined lead t; done = done; last = None }
 with_comment_on t lead done (Some p) = record { lead = lead; done = done; last = Some (more_comment t p) }
@@ -73,7 +73,7 @@ with_comment_on t lead done (Some p) = record { lead = lead; done = done; last =
 abbrev pub with_comment : List ℕ → Open → Open
 with_comment t o = with_comment_on (as_comment t) o.lead o.done o.last
 
--- a variation belongs to the last move
+-- A variation belongs to the last move.
 abbrev pub with_variation_on : Variation → Option Played → Option Played
 with_variation_on v None = None
 with_variation_on v (Some p) = Some (more_variations v p)
@@ -81,16 +81,24 @@ with_variation_on v (Some p) = Some (more_variations v p)
 abbrev pub with_variation : Variation → Open → Open
 with_variation v o = record { lead = o.lead; done = o.done; last = with_variation_on v o.last }
 
--- the variation that an open line is
+-- The variation that an open line is.
 abbrev pub variation_of : Open → Variation
 variation_of o = record { lead = o.lead; line = read_line o }
 
--- the end of a variation hangs it on the last move of the line round it
+-- The end of a variation hangs it on the last move of the line round it.
 abbrev pub closed : Open → List Open → Building
 closed o [] = record { current = o; outer = [] }
 closed o (round ∷ outer) = record { current = with_variation (variation_of o) round; outer = outer }
 
--- the state after one more item
+-- Where an item may stand: a NAG and a variation behind a move, and the end of a variation where one is open.
+abbrev pub MayStand : Item → Building → Type 0
+MayStand (item.move m) b = Unit {0}
+MayStand (item.nag n) b = IsSome b.current.last
+MayStand (item.comment t) b = Unit {0}
+MayStand item.opens b = IsSome b.current.last
+MayStand item.closes b = b.outer ≢ []
+
+-- The state after one more item.
 abbrev pub added : Item → Building → Building
 added (item.move m) b = record { current = with_move (bare m) b.current; outer = b.outer }
 added (item.nag n) b = record { current = with_nag n b.current; outer = b.outer }
@@ -98,12 +106,12 @@ added (item.comment t) b = record { current = with_comment t b.current; outer = 
 added item.opens b = record { current = fresh; outer = b.current ∷ b.outer }
 added item.closes b = closed b.current b.outer
 
--- the state after these items
+-- The state after these items.
 abbrev pub built : List Item → Building → Building
 built [] b = b
 built (next ∷ items) b = built items (added next b)
 
--- what was read has this comment and this line
+-- What was read has this comment and this line.
 pub record Gives (read : Variation) (lead : Option (List ℕ)) (line : Line) : Type 0 where
   pub lead_is : read.lead ≡ lead
   pub line_is : read.line ≡ line

@@ -5,13 +5,13 @@ use Rattle.chess_laws.specs.Step.{Step, stepped}
 use Rattle.game_tree.specs.Tree.{Line, ends, goes, Branches, none, more, depth_of}
 use Rattle.game_tree.specs.Game.{GameTree}
 
--- a comment is not empty
+-- A comment is not empty.
 abbrev pub IsComment : Option (List ℕ) → Type 0
 IsComment None = Unit {0}
 IsComment (Some text) = text ≢ []
 
--- a line is a chain of legal moves from its position, and each variation one from the position before the move that it
--- hangs on; no comment is empty
+-- A line is a chain of legal moves from its position, and each variation one from the position before the move that it
+-- hangs on; no comment is empty.
 abbrev mutual
   pub IsLegalLine : Setup → Line → Type 0
   IsLegalLine p ends = Unit {0}
@@ -22,9 +22,12 @@ abbrev mutual
   AreLegalBranches p none = Unit {0}
   AreLegalBranches p (more lead line others) = IsComment lead × (IsLegalLine p line × AreLegalBranches p others)
 
--- a game is legal where all its lines are and at most 200 variations are open at one place (the limit is this project's
--- own)
+-- How many variations may be open at one place (this project's own).
+abbrev pub deepest : ℕ
+deepest = 200
+
+-- A game is legal where all its lines are and no more variations than that are open at one place.
 pub record IsLegalGame (g : GameTree) : Type 0 where
   pub lead : IsComment g.lead
   pub line : IsLegalLine g.start g.line
-  pub depth : depth_of g.line ≤ 200
+  pub depth : depth_of g.line ≤ deepest

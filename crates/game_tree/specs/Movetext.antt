@@ -6,7 +6,7 @@ use Rattle.game_tree.specs.Item.{Item}
 use Rattle.game_tree.specs.Item as item
 use Rattle.game_tree.specs.Tree.{Line, ends, goes, Branches, none, more}
 
--- the items of a line in their order, with each variation where it stands
+-- The items of a line in their order, with each variation where it stands.
 pub data Movetext : Type 0 where
   end : Movetext
   move : Move → Movetext → Movetext
@@ -14,7 +14,7 @@ pub data Movetext : Type 0 where
   comment : List ℕ → Movetext → Movetext
   variation : Movetext → Movetext → Movetext
 
--- the items of a movetext, a variation's between its two brackets
+-- The items of a movetext, a variation's between its two brackets.
 abbrev pub items_of : Movetext → List Item
 items_of end = []
 items_of (move m s) = item.move m ∷ items_of s
@@ -22,26 +22,26 @@ items_of (nag n s) = item.nag n ∷ items_of s
 items_of (comment t s) = item.comment t ∷ items_of s
 items_of (variation inner s) = item.opens ∷ items_of inner ++ item.closes ∷ items_of s
 
--- a comment as a tree has it: an empty text is none
+-- A comment as a tree has it: an empty text is none.
 abbrev pub as_comment : List ℕ → Option (List ℕ)
 as_comment [] = None
 as_comment (c ∷ cs) = Some (c ∷ cs)
 
--- two comments at one place, joined with a space
+-- Two comments at one place, joined with a space.
 abbrev pub joined : Option (List ℕ) → Option (List ℕ) → Option (List ℕ)
 joined None later = later
 joined (Some t) None = Some t
 joined (Some t) (Some u) = Some (t ++ 32 ∷ u)
 
--- what a movetext says of the move before it (or, at the beginning of a line, its comment alone of the line), and the line
--- of the moves that follow
+-- What a movetext says of the move before it (or, at the beginning of a line, its comment alone of the line), and the line
+-- of the moves that follow.
 pub record Said : Type 0 where
   pub nags : List ℕ
   pub comment : Option (List ℕ)
   pub variations : Branches
   pub line : Line
 
--- what a movetext means. The marks after a move may stand in any order; comments at one place are joined.
+-- What a movetext means. The marks after a move may stand in any order; comments at one place are joined.
 abbrev pub meaning : Movetext → Said
 meaning end = record { nags = []; comment = None; variations = none; line = ends }
 meaning (move m s) =

@@ -13,34 +13,34 @@ mutual
     none : Branches
     more : Option (List ℕ) → Line → Branches → Branches
 
--- one move of a line
+-- One move of a line.
 pub record Played : Type 0 where
   pub mv : Move
   pub nags : List ℕ
   pub comment : Option (List ℕ)
   pub variations : Branches
 
--- one variation of a move
+-- One variation of a move.
 pub record Variation : Type 0 where
   pub lead : Option (List ℕ)
   pub line : Line
 
--- the line of these moves
+-- The line of these moves.
 abbrev pub line_of : List Played → Line
 line_of [] = ends
 line_of (p ∷ ps) = goes p.mv p.nags p.comment p.variations (line_of ps)
 
--- the variations of a move, in their order
+-- The variations of a move, in their order.
 abbrev pub branches_of : List Variation → Branches
 branches_of [] = none
 branches_of (v ∷ vs) = more v.lead v.line (branches_of vs)
 
--- the moves of a line, without its variations
+-- The moves of a line, without its variations.
 abbrev pub moves_of : Line → List Move
 moves_of ends = []
 moves_of (goes mv nags comment variations line) = mv ∷ moves_of line
 
--- how many variations are open at most at a place of a line
+-- How many variations are open at most at a place of a line.
 abbrev mutual
   pub depth_of : Line → ℕ
   depth_of ends = 0

@@ -74,7 +74,7 @@ abbrev pub coded_variation : Coded Variation
 coded_variation =
     code_by (Option (List ℕ) × Line) (coded× coded_comment coded_line) (λ v. (v.lead, v.line)) (λ t. record { lead = t.0; line = t.1 }) (λ _. refl)
 
--- sizes by which a part of a tree is smaller than the whole
+-- Sizes by which a part of a tree is smaller than the whole.
 abbrev mutual
   pub line_size : Line → ℕ
   line_size ends = 0

@@ -28,7 +28,7 @@ abbrev mutual
 abbrev pub movetext_of_game : GameTree → Movetext
 movetext_of_game game = comment_before game.lead (movetext_of game.line)
 
--- no comment of a line is empty
+-- No comment of a line is empty.
 abbrev mutual
   pub HasComments : Line → Type 0
   HasComments ends = Unit {0}

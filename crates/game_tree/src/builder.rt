@@ -6,7 +6,7 @@ ghost use Rattle.game_tree.specs.Movetext.{Movetext, items_of, meaning};
 ghost use Rattle.game_tree.specs.Tree.{Line};
 ghost use Rattle.game_tree.specs.Legal.{IsComment};
 ghost use Rattle.game_tree.specs.Written.{comment_before, movetext_of, HasComments};
-ghost use Rattle.game_tree.specs.Building.{opening, added, built, read_line, Gives};
+ghost use Rattle.game_tree.specs.Building.{opening, MayStand, added, built, read_line, Gives};
 
 use super::node::Branch;
 use super::open_line::OpenLine;
@@ -68,8 +68,9 @@ impl Builder {
         self.current.play(alloc, mv)
     }
 
-    /// Adds a NAG (numeric annotation glyph) to the last move of the innermost line. Where the line has no move, nothing changes.
+    /// Adds a NAG (numeric annotation glyph) to the last move of the innermost line, which has one (`has_move`).
     pub fn nag(&mut self, nag: u8) -> Result<(), AllocError>
+        requires may { MayStand (item.nag nag) self.old }
         ensures added { OnOk result (self.new ≡ added (item.nag nag) self.old) }
     {
         self.current.nag(nag)
@@ -83,8 +84,9 @@ impl Builder {
         self.current.comment(text)
     }
 
-    /// Begins a variation of the last move of the innermost line.
+    /// Begins a variation of the last move of the innermost line, which has one (`has_move`).
     pub fn open(&mut self, alloc: Global) -> Result<(), AllocError>
+        requires may { MayStand item.opens self.old }
         ensures added { OnOk result (self.new ≡ added item.opens self.old) }
     {
         let round = replace(&mut self.current, OpenLine::new(alloc));
@@ -92,8 +94,9 @@ impl Builder {
         Ok(())
     }
 
-    /// Ends the innermost variation. Where none is open, nothing changes.
+    /// Ends the innermost variation, where one is open (`depth`).
     pub fn close(&mut self) -> Result<(), AllocError>
+        requires may { MayStand item.closes self.old }
         ensures added { OnOk result (self.new ≡ added item.closes self.old) }
     {
         if let Some(round) = self.outer.pop() {
@@ -106,7 +109,7 @@ impl Builder {
     /// The line that was read, with the comment before its first move, where no variation is open. What was read from the
     /// items of a movetext alone is what the movetext means, and what was read from the items of a tree is that tree.
     pub fn finish(self) -> Result<Branch, AllocError>
-        requires { self.outer ≡ [] }
+        requires whole { self.outer ≡ [] }
         ensures lead { IfOk result (λ read. read.lead ≡ self.current.lead) }
         ensures line { IfOk result (λ read. read.line ≡ read_line self.current) }
         ensures meant { IfOk result (λ read. (s : Movetext) → self ≡ built (items_of s) opening → Gives read (meaning s).comment (meaning s).line) }

@@ -1,6 +1,7 @@
 //! Games.
 ghost use Rattle.std.specs.Prelude.{◌≡◌, ◌<◌, ◌^◌, length, IfOk};
 ghost use Rattle.game_tree.specs.Tree.{line_of, moves_of};
+ghost use Rattle.game_tree.specs.Game.{has_own_start};
 ghost use Rattle.game_tree.specs.Kept.{IsGame};
 ghost use Rattle.game_tree.specs.Replay.{main_moves, plies_of};
 
@@ -31,6 +32,15 @@ impl Model for Game {
     ghost view = { λ g. record { start = g.start; lead = g.lead; line = line_of g.line.items } };
 
     ghost invariant = { λ g. IsGame (record { start = g.start; lead = g.lead; line = line_of g.line.items }) };
+}
+
+impl Game {
+    /// Whether the game has a start of its own, other than the initial position.
+    pub fn has_own_start(&self) -> bool
+        ensures own { result ≡ has_own_start self.now }
+    {
+        !self.start.is_start()
+    }
 }
 
 /// The moves of the main line.

@@ -13,7 +13,10 @@ use super::node::{Branch, Node};
 use cell_core::Text;
 use chess_laws::Position;
 
-/// Whether each line of the game is a chain of legal moves from its own position, at most 200 variations are open at
+/// How many variations may be open at one place of a game.
+pub const DEEPEST: u32 = 200;
+
+/// Whether each line of the game is a chain of legal moves from its own position, at most `DEEPEST` variations are open at
 /// one place, and no comment is empty.
 pub fn legal(g: &Game) -> bool
     ensures legal { IsTrue result ↔ IsLegalGame g.now }
@@ -32,7 +35,7 @@ fn is_legal_game(g: &Game) -> bool
     ensures { IsTrue result ↔ IsLegalGame g.now }
 {
     is_comment(&g.lead)
-        && is_within(g.line.as_slice(), 200)
+        && is_within(g.line.as_slice(), DEEPEST)
         && is_legal_line(&g.start, g.line.as_slice())
 }
 

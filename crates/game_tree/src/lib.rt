@@ -3,15 +3,15 @@
 #![tactic(auto)]
 
 mod bounds;
-pub mod builder;
+mod builder;
 mod counts;
 mod date;
 mod decimal;
 mod eco;
-pub mod game;
+mod game;
 mod head;
-pub mod legality;
-pub mod node;
+mod legality;
+mod node;
 mod open_line;
 mod outcome;
 mod promotions;
@@ -28,7 +28,7 @@ pub use decimal::read_decimal;
 pub use eco::{eco_text, read_eco};
 pub use game::{Game, main_line, plies};
 pub use head::{Head, HeadRef, Outcome, Rating, Tag};
-pub use legality::legal;
+pub use legality::{DEEPEST, comments_leave_the_moves, legal};
 pub use node::{Branch, Node};
 pub use settling::settle;
 pub use tag_edit::{TagEdit, TagEditError, apply};

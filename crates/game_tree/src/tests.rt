@@ -305,19 +305,26 @@ fn print_branches(alloc: Global, branches: &[Branch], out: &mut Vec<u8>) -> Resu
     Ok(())
 }
 
-// Reads a game: a move is its two squares, `!` a NAG, `(` and `)` a variation, and other letters a comment.
+// Adds an item: a move is its two squares, `!` a NAG, `(` and `)` a variation, and other letters a comment.
+fn add(alloc: Global, builder: &mut Builder, what: u8, to: u8) -> Result<(), Fail> {
+    match what {
+        b'!' if builder.has_move() => builder.nag(to)?,
+        b'(' if builder.has_move() => builder.open(alloc)?,
+        b')' if builder.depth() > 0 => builder.close()?,
+        b'{' => {
+            let text = Text::try_new(Vec::from_slice(alloc, &[to])?);
+            builder.comment(text.unwrap_or(Text::new(alloc)))?;
+        }
+        b'!' | b'(' | b')' => return Err("an item stands where it may not".into()),
+        from => builder.play(alloc, mv(from, to))?,
+    }
+    Ok(())
+}
+
 fn game(alloc: Global, written: &[(u8, u8)]) -> Result<Game, Fail> {
     let mut builder = Builder::new(alloc);
     for (what, to) in written {
-        match what {
-            b'!' => builder.nag(*to)?,
-            b'(' => builder.open(alloc)?,
-            b')' => builder.close()?,
-            b'{' => builder.comment(Text::try_new(Vec::from_slice(alloc, &[*to])?).unwrap_or(
-                Text::new(alloc),
-            ))?,
-            from => builder.play(alloc, mv(*from, *to))?,
-        };
+        add(alloc, &mut builder, *what, *to)?;
     }
     if builder.depth() > 0 {
         return Err("a variation is open".into());

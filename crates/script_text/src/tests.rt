@@ -55,6 +55,23 @@ fn first_faults(rt: HostRuntime) -> Result<(), Fail> {
     Ok(())
 }
 
+const TAG_FAULTS: [(&str, ScriptFault); 6] = [
+    ("tag x", ScriptFault::Argument(1)),
+    ("tag 0 FEN", ScriptFault::Argument(2)),
+    ("tag 0 White", ScriptFault::Argument(3)),
+    ("tag 0 WhiteElo 4096", ScriptFault::Argument(3)),
+    ("tag 0 Date 2003/01/02", ScriptFault::Argument(3)),
+    ("tag 0 EventDate 2003.01.02 x", ScriptFault::Extra),
+];
+
+#[test]
+fn first_faults_of_tags(rt: HostRuntime) -> Result<(), Fail> {
+    for (line, fault) in TAG_FAULTS {
+        assert_eq!(rt; fault_of(rt.alloc(), line)?, Some(fault), "{line}");
+    }
+    Ok(())
+}
+
 const SEARCH_FAULTS: [(&str, ScriptFault); 18] = [
     ("search", ScriptFault::Argument(1)),
     ("search all header white=A", ScriptFault::Argument(1)),

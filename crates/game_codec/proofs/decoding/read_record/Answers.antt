@@ -1,7 +1,8 @@
-use Rattle.std.proofs.Common.{rules, drop, ap}
+use Rattle.std.proofs.Common.{rules, Ok, drop, ap}
 use Rattle.game_codec.specs.Breach.{TellsBad}
 use Rattle.game_codec.specs.Nests.{tokens_of}
 use Rattle.game_codec.specs.Flat.{FlatBreaks}
+use Rattle.game_codec.proofs.FittingLaws.{Scans-Fit}
 use Rattle.game_codec.proofs.ReadLaws.{begun, scan-broken, build-broken, movetext}
 use Rattle.game_codec.proofs.decoding.read_record.Goals as goal
 
@@ -17,6 +18,7 @@ pub build-requires : goal.build-requires
 build-requires c = record {
   movetext = movetext c.in_ok-start.start.start c.split_at-2.result.1.now (drop c.in_ok-scanned.scanned.used c.split_at-2.result.1.now) (tokens_of c.in_ok-scanned.scanned.tokens.items)
       (tokens_of c.as_slice.result.now) (ap tokens_of c.as_slice.ensures.value) c.in_ok-scanned.ensures.ok;
+  fit = rw (ap tokens_of c.as_slice.ensures.value) (Scans-Fit c.in_ok-start.start.start c.split_at-2.result.1.now (tokens_of c.in_ok-scanned.scanned.tokens.items) (Ok (drop c.in_ok-scanned.scanned.used c.split_at-2.result.1.now)) c.in_ok-scanned.ensures.ok);
 }
 
 pub returns-in_err-lead-clause-err : goal.returns-in_err-lead-clause-err
