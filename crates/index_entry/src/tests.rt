@@ -176,6 +176,71 @@ fn reads_words(rt: HostRuntime) -> Result<(), Fail> {
     Ok(())
 }
 
+/// An entry with great ids, each another one.
+const GREAT_IDS: Changes = &[
+    (4, 0xff),
+    (5, 0xff),
+    (6, 0x80),
+    (9, 0xff),
+    (10, 0xff),
+    (11, 0xff),
+    (12, 0xff),
+    (13, 0xfe),
+    (14, 0xff),
+    (15, 0xff),
+    (16, 0xff),
+    (17, 0xff),
+    (18, 0xfe),
+    (19, 0xff),
+    (20, 0xff),
+];
+
+#[test]
+fn reads_great_ids(rt: HostRuntime) -> Result<(), Fail> {
+    let bytes = changed(&[0; 47], GREAT_IDS);
+    let entry = unpack(&bytes)?;
+    assert_eq!(rt; entry.len, 131_071);
+    assert_eq!(rt; entry.white, 1_048_575);
+    assert_eq!(rt; entry.black, 1_048_574);
+    assert_eq!(rt; entry.event, 524_287);
+    assert_eq!(rt; entry.site, 524_286);
+    assert_eq!(rt; entry.round, 262_143);
+    assert_eq!(rt; pack(&entry), bytes);
+    Ok(())
+}
+
+/// A game with two variations, comments and NAGs, and one of six half-moves in which the pawns of e2, d7 and h7 left.
+#[test]
+fn reads_counts_and_home_values(rt: HostRuntime) -> Result<(), Fail> {
+    let entry = unpack(&changed(&[0; 47], &[(21, 0x02), (22, 0x22)]))?;
+    assert_eq!(rt; [entry.vars, entry.comments, entry.nags], [2, 2, 2]);
+    let bytes = changed(&[0; 47], &[(37, 6), (38, 3), (39, 0xb4)]);
+    let entry = unpack(&bytes)?;
+    assert_eq!(rt; entry.plies, 6);
+    assert_eq!(rt; entry.home_count, 3);
+    assert_eq!(rt;
+        entry.home,
+        [11, 4, 0, 0, 0, 0, 0, 0, 0, 0, 0, 0, 0, 0, 0, 0]
+    );
+    assert_eq!(rt; pack(&entry), bytes);
+    Ok(())
+}
+
+/// A game of 2000 with an event of 2003, and with none.
+#[test]
+fn reads_dates(rt: HostRuntime) -> Result<(), Fail> {
+    let bytes = changed(&[0; 47], &[(25, 0xe2), (26, 0x2f), (27, 0xa0), (28, 0xaa)]);
+    let entry = unpack(&bytes)?;
+    assert_eq!(rt; entry.event_date.year, 2003);
+    assert_eq!(rt; pack(&entry), bytes);
+    let bytes = changed(&[0; 47], &[(26, 0x0f), (27, 0xa0), (28, 0xaa)]);
+    let entry = unpack(&bytes)?;
+    assert_eq!(rt; entry.date.year, 2000);
+    assert_eq!(rt; entry.event_date.year, 0);
+    assert_eq!(rt; pack(&entry), bytes);
+    Ok(())
+}
+
 /// An index of one game.
 const HEAD: IndexHead = IndexHead {
     kind: 7,
