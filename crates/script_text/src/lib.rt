@@ -20,4 +20,6 @@ pub use reading::read_command;
 pub use spelling::quoted_words_are_read;
 
 #[cfg(test)]
+mod tag_tests;
+#[cfg(test)]
 mod tests;

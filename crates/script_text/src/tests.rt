@@ -1,4 +1,5 @@
-//! Lines of scripts: what they say, and the first fault of those that say nothing.
+//! Tests of lines of scripts: what they say, and the first fault of those that say nothing.
+use super::ScriptFault::{Argument, Extra, Unknown};
 use super::{Command, CommandError, ScriptFault, read_command};
 use cell_core::Colour;
 use game_filter::Op;
@@ -16,137 +17,419 @@ fn fault_of(alloc: Global, line: &str) -> Result<Option<ScriptFault>, CommandErr
     }
 }
 
-const FAULTS: [(&str, ScriptFault); 24] = [
-    ("serch", ScriptFault::Unknown),
-    ("\"quit", ScriptFault::Unknown),
-    ("quit \"", ScriptFault::Extra),
-    ("reset now", ScriptFault::Extra),
-    ("find", ScriptFault::Argument(1)),
-    ("find 8/8 w", ScriptFault::Argument(1)),
-    ("find 8/8/8/8/8/8/8/8", ScriptFault::Argument(2)),
-    ("find 8/8/8/8/8/8/8/8 W", ScriptFault::Argument(2)),
-    ("find 8/8/8/8/8/8/8/8 w w", ScriptFault::Extra),
-    ("delete", ScriptFault::Argument(1)),
-    ("delete \"0", ScriptFault::Argument(1)),
-    ("delete -1", ScriptFault::Argument(1)),
-    ("delete 18446744073709551616", ScriptFault::Argument(1)),
-    ("delete 0 0", ScriptFault::Extra),
-    ("restrict x y z", ScriptFault::Argument(1)),
-    ("restrict 1", ScriptFault::Argument(2)),
-    ("keep a-b", ScriptFault::Argument(1)),
-    (
-        "keep abcdefghijklmnopqrstuvwxyz0123456",
-        ScriptFault::Argument(1),
-    ),
-    ("import END", ScriptFault::Argument(1)),
-    ("replace 0 <<", ScriptFault::Argument(2)),
-    ("replace 0 <<END x", ScriptFault::Extra),
-    ("mark 0 D on", ScriptFault::Argument(2)),
-    ("mark 0 W yes", ScriptFault::Argument(3)),
-    ("demo 1 100001", ScriptFault::Argument(2)),
-];
+// A line and its fault, or none where it says a command.
+pub(crate) type Row = (&'static str, Option<ScriptFault>);
 
-// Each argument missing, not closed, out of form, and one word too many.
-#[test]
-fn first_faults(rt: HostRuntime) -> Result<(), Fail> {
-    for (line, fault) in FAULTS {
-        assert_eq!(rt; fault_of(rt.alloc(), line)?, Some(fault), "{line}");
+// The first line that is read otherwise than its row says.
+pub(crate) fn misread(
+    alloc: Global,
+    rows: &'static [Row],
+) -> Result<Option<&'static str>, CommandError> {
+    for (line, fault) in rows {
+        if fault_of(alloc, line)? != *fault {
+            return Ok(Some(*line));
+        }
     }
-    Ok(())
+    Ok(None)
 }
 
-const TAG_FAULTS: [(&str, ScriptFault); 6] = [
-    ("tag x", ScriptFault::Argument(1)),
-    ("tag 0 FEN", ScriptFault::Argument(2)),
-    ("tag 0 White", ScriptFault::Argument(3)),
-    ("tag 0 WhiteElo 4096", ScriptFault::Argument(3)),
-    ("tag 0 Date 2003/01/02", ScriptFault::Argument(3)),
-    ("tag 0 EventDate 2003.01.02 x", ScriptFault::Extra),
+// The commands that have no arguments, and words that are no command.
+const ALONE: [Row; 23] = [
+    ("reset", None),
+    ("reset now", Some(Extra)),
+    ("clear", None),
+    ("clear now", Some(Extra)),
+    ("negate", None),
+    ("negate now", Some(Extra)),
+    ("hits", None),
+    ("hits now", Some(Extra)),
+    ("list", None),
+    ("list now", Some(Extra)),
+    ("export", None),
+    ("export now", Some(Extra)),
+    ("info", None),
+    ("info now", Some(Extra)),
+    ("save", None),
+    ("save now", Some(Extra)),
+    ("quit", None),
+    ("quit now", Some(Extra)),
+    ("quit \"", Some(Extra)),
+    ("serch", Some(Unknown)),
+    ("Quit", Some(Unknown)),
+    ("\"quit", Some(Unknown)),
+    ("\"\" quit", Some(Unknown)),
 ];
 
 #[test]
-fn first_faults_of_tags(rt: HostRuntime) -> Result<(), Fail> {
-    for (line, fault) in TAG_FAULTS {
-        assert_eq!(rt; fault_of(rt.alloc(), line)?, Some(fault), "{line}");
-    }
+fn commands_without_arguments(rt: HostRuntime) -> Result<(), Fail> {
+    assert_eq!(rt; misread(rt.alloc(), &ALONE)?, None);
     Ok(())
 }
 
-const SEARCH_FAULTS: [(&str, ScriptFault); 18] = [
-    ("search", ScriptFault::Argument(1)),
-    ("search all header white=A", ScriptFault::Argument(1)),
-    ("search ignore heads white=A", ScriptFault::Argument(2)),
-    ("search ignore header", ScriptFault::Argument(3)),
-    ("search ignore header white", ScriptFault::Argument(3)),
-    ("search ignore header colour=A", ScriptFault::Argument(3)),
+const OF_NUMBERS: [Row; 23] = [
+    ("show 0", None),
+    ("show", Some(Argument(1))),
+    ("show \"0", Some(Argument(1))),
+    ("show -1", Some(Argument(1))),
+    ("show 0 0", Some(Extra)),
+    ("delete 0", None),
+    ("delete", Some(Argument(1))),
+    ("delete \"0", Some(Argument(1))),
+    ("delete -1", Some(Argument(1))),
+    ("delete 0 0", Some(Extra)),
+    ("undelete 0", None),
+    ("undelete", Some(Argument(1))),
+    ("undelete \"0", Some(Argument(1))),
+    ("undelete -1", Some(Argument(1))),
+    ("undelete 0 0", Some(Extra)),
+    ("restrict 5 1", None),
+    ("restrict", Some(Argument(1))),
+    ("restrict \"1 2", Some(Argument(1))),
+    ("restrict x y z", Some(Argument(1))),
+    ("restrict 1", Some(Argument(2))),
+    ("restrict 1 \"2", Some(Argument(2))),
+    ("restrict 1 y z", Some(Argument(2))),
+    ("restrict 1 2 3", Some(Extra)),
+];
+
+#[test]
+fn commands_of_numbers(rt: HostRuntime) -> Result<(), Fail> {
+    assert_eq!(rt; misread(rt.alloc(), &OF_NUMBERS)?, None);
+    Ok(())
+}
+
+const OF_NAMES: [Row; 25] = [
+    ("keep A_1", None),
+    ("keep", Some(Argument(1))),
+    ("keep \"a", Some(Argument(1))),
+    ("keep a-b", Some(Argument(1))),
+    ("keep a b", Some(Extra)),
+    ("use A_1", None),
+    ("use", Some(Argument(1))),
+    ("use \"a", Some(Argument(1))),
+    ("use a-b", Some(Argument(1))),
+    ("use a b", Some(Extra)),
+    ("and A_1", None),
+    ("and", Some(Argument(1))),
+    ("and \"a", Some(Argument(1))),
+    ("and a-b", Some(Argument(1))),
+    ("and a b", Some(Extra)),
+    ("or A_1", None),
+    ("or", Some(Argument(1))),
+    ("or \"a", Some(Argument(1))),
+    ("or a-b", Some(Argument(1))),
+    ("or a b", Some(Extra)),
+    ("drop A_1", None),
+    ("drop", Some(Argument(1))),
+    ("drop \"a", Some(Argument(1))),
+    ("drop a-b", Some(Argument(1))),
+    ("drop a b", Some(Extra)),
+];
+
+#[test]
+fn commands_of_names(rt: HostRuntime) -> Result<(), Fail> {
+    assert_eq!(rt; misread(rt.alloc(), &OF_NAMES)?, None);
+    Ok(())
+}
+
+const OF_BODIES: [Row; 16] = [
+    ("import <<END", None),
+    ("import", Some(Argument(1))),
+    ("import \"<<END", Some(Argument(1))),
+    ("import END", Some(Argument(1))),
+    ("import <END", Some(Argument(1))),
+    ("import <<", Some(Argument(1))),
+    ("import << END", Some(Argument(1))),
+    ("import <<END x", Some(Extra)),
+    ("replace 0 <<END", None),
+    ("replace", Some(Argument(1))),
+    ("replace \"0 <<END", Some(Argument(1))),
+    ("replace <<END", Some(Argument(1))),
+    ("replace 0", Some(Argument(2))),
+    ("replace 0 <<\"END", Some(Argument(2))),
+    ("replace 0 END", Some(Argument(2))),
+    ("replace 0 <<END x", Some(Extra)),
+];
+
+#[test]
+fn commands_of_bodies(rt: HostRuntime) -> Result<(), Fail> {
+    assert_eq!(rt; misread(rt.alloc(), &OF_BODIES)?, None);
+    Ok(())
+}
+
+const MARKS: [Row; 20] = [
+    ("mark 0 6 off", None),
+    ("mark", Some(Argument(1))),
+    ("mark \"0 W on", Some(Argument(1))),
+    ("mark W 0 on", Some(Argument(1))),
+    ("mark 0", Some(Argument(2))),
+    ("mark 0 \"W on", Some(Argument(2))),
+    ("mark 0 D on", Some(Argument(2))),
+    ("mark 0 WB on", Some(Argument(2))),
+    ("mark 0 W", Some(Argument(3))),
+    ("mark 0 W \"on", Some(Argument(3))),
+    ("mark 0 W yes", Some(Argument(3))),
+    ("mark 0 W on on", Some(Extra)),
+    ("demo 1 1", None),
+    ("demo", Some(Argument(1))),
+    ("demo \"1 1", Some(Argument(1))),
+    ("demo x 1", Some(Argument(1))),
+    ("demo 1", Some(Argument(2))),
+    ("demo 1 \"1", Some(Argument(2))),
+    ("demo 1 x", Some(Argument(2))),
+    ("demo 1 1 1", Some(Extra)),
+];
+
+#[test]
+fn marks_and_demo(rt: HostRuntime) -> Result<(), Fail> {
+    assert_eq!(rt; misread(rt.alloc(), &MARKS)?, None);
+    Ok(())
+}
+
+const BOARDS: [Row; 16] = [
+    ("find 8/8/8/8/8/8/8/8 w", None),
+    ("find", Some(Argument(1))),
+    ("find \"8/8/8/8/8/8/8/8 w", Some(Argument(1))),
+    ("find 8/8 w", Some(Argument(1))),
+    ("find 8/8/8/8/8/8/8/8", Some(Argument(2))),
+    ("find 8/8/8/8/8/8/8/8 \"w", Some(Argument(2))),
+    ("find 8/8/8/8/8/8/8/8 W", Some(Argument(2))),
+    ("find 8/8/8/8/8/8/8/8 w w", Some(Extra)),
+    ("tree 8/8/8/8/8/8/8/8 w", None),
+    ("tree", Some(Argument(1))),
+    ("tree \"8/8/8/8/8/8/8/8 w", Some(Argument(1))),
+    ("tree 8/8 w", Some(Argument(1))),
+    ("tree 8/8/8/8/8/8/8/8", Some(Argument(2))),
+    ("tree 8/8/8/8/8/8/8/8 \"w", Some(Argument(2))),
+    ("tree 8/8/8/8/8/8/8/8 W", Some(Argument(2))),
+    ("tree 8/8/8/8/8/8/8/8 w w", Some(Extra)),
+];
+
+#[test]
+fn commands_of_boards(rt: HostRuntime) -> Result<(), Fail> {
+    assert_eq!(rt; misread(rt.alloc(), &BOARDS)?, None);
+    Ok(())
+}
+
+// The greatest and the least words of a form, and those beyond.
+const EDGES: [Row; 20] = [
+    ("show 18446744073709551615", None),
+    ("show 18446744073709551616", Some(Argument(1))),
+    ("show 000018446744073709551615", None),
+    ("show 100000000000000000000", Some(Argument(1))),
+    ("show \"\"", Some(Argument(1))),
+    ("show +1", Some(Argument(1))),
+    ("show 0x1", Some(Argument(1))),
+    ("show 1\"0\"", None),
+    ("restrict 18446744073709551615 18446744073709551615", None),
+    ("restrict 0 18446744073709551616", Some(Argument(2))),
+    ("demo 18446744073709551615 100000", None),
+    ("demo 18446744073709551616 1", Some(Argument(1))),
+    ("demo 1 100001", Some(Argument(2))),
+    ("demo 1 0100000", None),
+    ("keep abcdefghijklmnopqrstuvwxyz012345", None),
+    ("keep abcdefghijklmnopqrstuvwxyz0123456", Some(Argument(1))),
+    ("keep \"\"", Some(Argument(1))),
+    ("import <<abcdefghijklmnopqrstuvwxyz012345", None),
     (
-        "search ignore header white=A white=B",
-        ScriptFault::Argument(4),
+        "import <<abcdefghijklmnopqrstuvwxyz0123456",
+        Some(Argument(1)),
     ),
+    ("import <<a_b", Some(Argument(1))),
+];
+
+#[test]
+fn edges_of_forms(rt: HostRuntime) -> Result<(), Fail> {
+    assert_eq!(rt; misread(rt.alloc(), &EDGES)?, None);
+    Ok(())
+}
+
+const POSITIONS: [Row; 18] = [
+    ("search or position pawns 8/8/8/8/8/8/8/8 w", None),
+    ("search and position material 8/8/8/8/8/8/8/8 b", None),
+    ("search", Some(Argument(1))),
+    ("search \"and position", Some(Argument(1))),
+    ("search all position", Some(Argument(1))),
+    ("search ignore", Some(Argument(2))),
+    ("search ignore \"position", Some(Argument(2))),
+    ("search ignore positions", Some(Argument(2))),
+    ("search ignore position", Some(Argument(3))),
     (
-        "search ignore header white=A again",
-        ScriptFault::Argument(4),
-    ),
-    (
-        "search ignore header year=1991..1990",
-        ScriptFault::Argument(3),
-    ),
-    ("search ignore header year=1990", ScriptFault::Argument(3)),
-    (
-        "search ignore header eco=B19..B15",
-        ScriptFault::Argument(3),
-    ),
-    ("search ignore header result=1/2", ScriptFault::Argument(3)),
-    ("search ignore material wq=0..17", ScriptFault::Argument(3)),
-    ("search ignore material streak=0", ScriptFault::Argument(3)),
-    (
-        "search ignore material ply=0..9 swap=no",
-        ScriptFault::Argument(4),
-    ),
-    (
-        "search ignore material ply=0..131072",
-        ScriptFault::Argument(3),
+        "search ignore position \"exact 8/8/8/8/8/8/8/8 w",
+        Some(Argument(3)),
     ),
     (
         "search ignore position near 8/8/8/8/8/8/8/8 w",
-        ScriptFault::Argument(3),
+        Some(Argument(3)),
+    ),
+    ("search ignore position exact", Some(Argument(4))),
+    (
+        "search ignore position exact \"8/8/8/8/8/8/8/8 w",
+        Some(Argument(4)),
+    ),
+    ("search ignore position exact 8/8 w", Some(Argument(4))),
+    (
+        "search ignore position exact 8/8/8/8/8/8/8/8",
+        Some(Argument(5)),
+    ),
+    (
+        "search ignore position exact 8/8/8/8/8/8/8/8 \"w",
+        Some(Argument(5)),
+    ),
+    (
+        "search ignore position exact 8/8/8/8/8/8/8/8 W",
+        Some(Argument(5)),
     ),
     (
         "search ignore position exact 8/8/8/8/8/8/8/8 w all",
-        ScriptFault::Extra,
+        Some(Extra),
     ),
 ];
 
 #[test]
-fn first_faults_of_searches(rt: HostRuntime) -> Result<(), Fail> {
-    for (line, fault) in SEARCH_FAULTS {
-        assert_eq!(rt; fault_of(rt.alloc(), line)?, Some(fault), "{line}");
-    }
+fn searches_of_positions(rt: HostRuntime) -> Result<(), Fail> {
+    assert_eq!(rt; misread(rt.alloc(), &POSITIONS)?, None);
     Ok(())
 }
 
-const GOOD: [&str; 14] = [
-    "",
-    " \t ",
-    "# \"",
-    "\r",
-    "find\t8/8/8/8/8/8/8/8  w \r",
-    "tree 8/8/8/8/8/8/8/8 b",
-    "hits",
-    "restrict 5 1",
-    "undelete 007",
-    "mark 0 6 off",
-    "drop A_1",
-    "demo 18446744073709551615 100000",
-    "info",
-    "export",
+const HEADS: [Row; 20] = [
+    ("search ignore header white=A", None),
+    (
+        "search ignore header white= black= player=x event=x site=x round=1",
+        None,
+    ),
+    (
+        "search ignore header result=* year=0..0 welo=0..9 belo=9..9 plies=0..1023",
+        None,
+    ),
+    ("search ignore header", Some(Argument(3))),
+    ("search ignore header white", Some(Argument(3))),
+    ("search ignore header \"white=A", Some(Argument(3))),
+    ("search ignore header colour=A", Some(Argument(3))),
+    ("search ignore header White=A", Some(Argument(3))),
+    ("search ignore header white=a\0", Some(Argument(3))),
+    ("search ignore header white=A white=B", Some(Argument(4))),
+    ("search ignore header white=A again", Some(Argument(4))),
+    ("search ignore header white=A \"black=B", Some(Argument(4))),
+    ("search ignore header result=1/2", Some(Argument(3))),
+    ("search ignore header year=1991..1990", Some(Argument(3))),
+    ("search ignore header year=1990", Some(Argument(3))),
+    (
+        "search ignore header plies=0..18446744073709551616",
+        Some(Argument(3)),
+    ),
+    ("search ignore header eco=B19..B15", Some(Argument(3))),
+    ("search ignore header eco=B15..", Some(Argument(3))),
+    ("search ignore header deleted=on", Some(Argument(3))),
+    ("search ignore header mark=D", Some(Argument(3))),
 ];
 
 #[test]
-fn good_lines(rt: HostRuntime) -> Result<(), Fail> {
-    for line in GOOD {
-        assert_eq!(rt; fault_of(rt.alloc(), line)?, None, "{line}");
+fn searches_of_heads(rt: HostRuntime) -> Result<(), Fail> {
+    assert_eq!(rt; misread(rt.alloc(), &HEADS)?, None);
+    Ok(())
+}
+
+const MATERIAL: [Row; 16] = [
+    ("search ignore material wq=0..16 bp=8..8", None),
+    ("search ignore material ply=0..131071 streak=131071", None),
+    ("search ignore material", Some(Argument(3))),
+    ("search ignore material wq", Some(Argument(3))),
+    ("search ignore material \"wq=0..1", Some(Argument(3))),
+    ("search ignore material wk=1..1", Some(Argument(3))),
+    ("search ignore material wq=0..17", Some(Argument(3))),
+    ("search ignore material wq=2..1", Some(Argument(3))),
+    ("search ignore material wq=1", Some(Argument(3))),
+    ("search ignore material streak=0", Some(Argument(3))),
+    ("search ignore material streak=131072", Some(Argument(3))),
+    ("search ignore material ply=0..131072", Some(Argument(3))),
+    ("search ignore material swap=no", Some(Argument(3))),
+    ("search ignore material wq=0..1 wq=0..1", Some(Argument(4))),
+    (
+        "search ignore material ply=0..9 swap=yes \"",
+        Some(Argument(5)),
+    ),
+    ("search ignore material wq=0..1 all", Some(Argument(4))),
+];
+
+#[test]
+fn searches_of_material(rt: HostRuntime) -> Result<(), Fail> {
+    assert_eq!(rt; misread(rt.alloc(), &MATERIAL)?, None);
+    Ok(())
+}
+
+// Lines with two numbers and a switch that they say, each in its own place.
+type Placed = (&'static str, u64, u64, bool);
+
+const PLACED: [Placed; 5] = [
+    ("restrict 5 1", 5, 1, false),
+    ("demo 18446744073709551615 3", u64::MAX, 3, false),
+    ("mark 007 W on", 7, 0, true),
+    ("mark 7 6 off", 7, 17, false),
+    ("replace 2 <<END", 2, 3, false),
+];
+
+// Whether a command has these arguments; the word that ends a body counts by its length.
+fn says(command: &Command, first: u64, second: u64, on: bool) -> bool {
+    match command {
+        Command::Restrict(a, b) => *a == first && *b == second,
+        Command::Demo(seed, games) => *seed == first && u64::from(*games) == second,
+        Command::Mark(game, bit, switch) => {
+            *game == first && u64::from(*bit) == second && *switch == on
+        }
+        Command::Replace(game, end) => *game == first && end.as_bytes().len() as u64 == second,
+        _ => false,
     }
+}
+
+// The first line whose arguments are others than its row says.
+fn misplaced(alloc: Global, rows: &'static [Placed]) -> Result<Option<&'static str>, CommandError> {
+    for (line, first, second, on) in rows {
+        if !says(&read_command(alloc, line.as_bytes())?, *first, *second, *on) {
+            return Ok(Some(*line));
+        }
+    }
+    Ok(None)
+}
+
+#[test]
+fn arguments_in_their_places(rt: HostRuntime) -> Result<(), Fail> {
+    assert_eq!(rt; misplaced(rt.alloc(), &PLACED)?, None);
+    Ok(())
+}
+
+// Blanks, remarks, carriage returns, and quoted parts anywhere in a word.
+const LINES: [Row; 25] = [
+    ("", None),
+    (" \t ", None),
+    ("# \"", None),
+    ("#quit now", None),
+    ("\r", None),
+    ("quit\r", None),
+    ("quit\r\r", Some(Unknown)),
+    (" #", Some(Unknown)),
+    ("find\t8/8/8/8/8/8/8/8  w \r", None),
+    ("\t quit\t", None),
+    ("\"q\"uit", None),
+    ("q\"ui\"t", None),
+    ("\"\"quit\"\"", None),
+    ("qu\"it", Some(Unknown)),
+    ("\"quit \"", Some(Unknown)),
+    ("keep \"a\"'b", Some(Argument(1))),
+    ("keep \"\"a", None),
+    ("\"keep\" \"a\"\"b\" ", None),
+    ("delete 1\"0\"", None),
+    ("delete \"1\"0\"", Some(Argument(1))),
+    ("import <<\"END\"", None),
+    ("import \"<\"<\"E\"ND", None),
+    ("import <\"< E\"", Some(Argument(1))),
+    ("import <<\"\"", Some(Argument(1))),
+    ("undelete 007", None),
+];
+
+#[test]
+fn lines_and_quotes(rt: HostRuntime) -> Result<(), Fail> {
+    assert_eq!(rt; misread(rt.alloc(), &LINES)?, None);
     Ok(())
 }
 
