@@ -86,8 +86,8 @@ fn tells_the_first_fault(rt: HostRuntime) {
     }
 }
 
-/// The least and the greatest numbers that fit: ids, length, place, marks, codes, half-moves and the number of home values.
-fn numbers(entry: &Entry) -> [u32; 13] {
+/// The numbers of an entry that no other field has a part in.
+fn numbers(entry: &Entry) -> [u32; 26] {
     [
         entry.offset,
         entry.len,
@@ -102,11 +102,24 @@ fn numbers(entry: &Entry) -> [u32; 13] {
         u32::from(entry.vars),
         u32::from(entry.plies),
         u32::from(entry.home_count),
+        u32::from(entry.own_start),
+        u32::from(entry.promo),
+        u32::from(entry.under),
+        u32::from(entry.deleted),
+        u32::from(entry.eco),
+        u32::from(entry.date.day),
+        u32::from(entry.date.month),
+        u32::from(entry.date.year),
+        u32::from(entry.white_rating.value),
+        u32::from(entry.black_rating.value),
+        u32::from(entry.material[0]),
+        u32::from(entry.material[4]),
+        u32::from(entry.material[9]),
     ]
 }
 
 /// The bits of each of these numbers, and its greatest value.
-const GREATEST: [(Changes, u32); 13] = [
+const GREATEST: [(Changes, u32); 26] = [
     (&[(0, 255), (1, 255), (2, 255), (3, 255)], 4_294_967_295),
     (&[(4, 255), (5, 255), (6, 128)], 131_071),
     (&[(6, 63), (7, 255), (8, 240)], 262_143),
@@ -120,6 +133,19 @@ const GREATEST: [(Changes, u32); 13] = [
     (&[(22, 15)], 15),
     (&[(37, 255), (38, 192)], 1023),
     (&[(38, 63)], 63),
+    (&[(8, 1)], 1),
+    (&[(8, 2)], 1),
+    (&[(8, 4)], 1),
+    (&[(8, 8)], 1),
+    (&[(23, 255), (24, 220)], 65_500),
+    (&[(28, 31)], 31),
+    (&[(27, 1), (28, 128)], 12),
+    (&[(26, 15), (27, 254)], 2047),
+    (&[(29, 15), (30, 255)], 4095),
+    (&[(31, 15), (32, 255)], 4095),
+    (&[(34, 192)], 3),
+    (&[(35, 240)], 15),
+    (&[(36, 15)], 15),
 ];
 
 /// Each number alone at its greatest value, and alone at zero among the greatest.
