@@ -3,11 +3,13 @@ ghost use Rattle.std.specs.Prelude.{◌≡◌};
 ghost use Rattle.base_files.specs.declared.faults.DeviceError.{DeviceError};
 ghost use Rattle.base_core.specs.Errors.{open_error};
 ghost use Rattle.base_core.specs.declared.fault.OpenError.TheVariants as opening;
+ghost use Rattle.base_core.specs.declared.fault.EditError.TheVariants as edit;
 
 use base_files::DeviceError;
 use game_codec::RecordFault;
 use index_entry::{EntryFault, IndexFault};
 use name_base::NameFault;
+use sig_index::Sig;
 use std::alloc::AllocError;
 use thiserror::Error;
 
@@ -99,6 +101,35 @@ pub enum OpenError {
     /// Memory ran out.
     #[error("out of memory")]
     Memory,
+}
+
+/// Why a base does not give a game.
+#[derive(Clone, Copy, Debug, Drop, PartialEq, Eq, Error)]
+pub enum EditError {
+    /// The base has no game of this number.
+    #[error("no game {0}")]
+    NoGame(u32),
+    /// The record has changed since the base was opened: it is none, or that of a game with another signature, which was `found`.
+    #[error("changed game {game}")]
+    Changed {
+        game: u32,
+        kept: Sig,
+        found: Option<Sig>,
+    },
+    /// The files failed.
+    #[error("cannot read the games file")]
+    Failed,
+    /// Memory ran out.
+    #[error("out of memory")]
+    Memory,
+}
+
+impl From<AllocError> for EditError {
+    ghost from_gives = { λ _ e. e ≡ edit.Memory };
+
+    fn from(_refused: AllocError) -> EditError {
+        EditError::Memory
+    }
 }
 
 impl From<DeviceError> for OpenError {
