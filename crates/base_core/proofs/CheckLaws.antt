@@ -15,8 +15,8 @@ use Rattle.base_core.specs.Entries.{HasNames}
 use Rattle.base_core.specs.FirstFault.{blamed, unless, ◌>>=◌, entry_checked, id_fault, place_fault}
 use Rattle.base_core.proofs.Results.{same_ok, ok_err, step_none}
 
-pub record Checked (names : NameLists) (end : ℕ) (read : Result Entry EntryFault) (e : Entry) : Type 0 where
-  pub read : read ≡ Ok e
+pub record Checked (names : NameLists) (end : ℕ) (r : Result Entry EntryFault) (e : Entry) : Type 0 where
+  pub read : r ≡ Ok e
   pub named : id_fault names e ≡ None
   pub placed : place_fault end e ≡ None
 

@@ -1,5 +1,5 @@
 -- What is kept of an entry says the same game, with its event date settled.
-use Rattle.std.proofs.Common.{◌≡◌, ◌≤◌, ◌<◌, ℕ, Bool, true, false, List, [], ◌∷◌, Option, Some, None, IsTrue, ◌||◌, true≢false, if◌then◌else◌, refl, sym, ap, ◌∙◌, subst, inl, inr}
+use Rattle.std.proofs.Common.{◌≡◌, ◌≤◌, ◌<◌, ℕ, Bool, true, false, List, [], ◌∷◌, Option, Some, None, IsTrue, ◌||◌, true≢false, if◌then◌else◌, refl, sym, ap, ◌∙◌, subst, inl, inr, arith}
 use Rattle.std.proofs.lemmas.Bool.{cases_Bool}
 use Rattle.std.proofs.lemmas.Option.{same_Some, none-some}
 use Rattle.game_tree.specs.Date.{IsDate, is_near, is_unknown, unknown_date, keeps_rule, date_read}
@@ -14,7 +14,7 @@ use Rattle.index_entry.specs.declared.entry.Entry.{Entry}
 use Rattle.name_base.specs.NameLists.{NameLists}
 use Rattle.sig_index.specs.declared.signature.Sig.{Sig}
 use Rattle.base_core.specs.Entries.{head_of, extent_of, sig_in}
-use Rattle.base_core.specs.Reading.{kept_entry}
+use Rattle.base_core.specs.Reading.{IsSigBounded, kept_entry}
 
 -- A date that a tag gives is within the rule.
 near_only-near : (game : Date) (read : Option Date) (date : Date) → near_only game read ≡ Some date → is_near date game ≡ true
@@ -68,7 +68,7 @@ settled-dated head rule =
     ]
 
 -- The event date of a settled head, by the dates and the tags alone.
-found_or : Date → Option Date → Date
+abbrev found_or : Date → Option Date → Date
 found_or event None = event
 found_or event (Some date) = date
 
@@ -76,7 +76,7 @@ taken_up-date : (head : Head) (found : Option Date) → (taken_up head found).ev
 taken_up-date head None = refl
 taken_up-date head (Some date) = refl
 
-settled_event : Date → Date → List Tag → Date
+abbrev settled_event : Date → Date → List Tag → Date
 settled_event date event tags = if is_near event date then event else if is_unknown event then found_or event (first_near_date date tags) else unknown_date
 
 settled_event-is : (head : Head) → (settled head).event_date ≡ settled_event head.date head.event_date head.tags
@@ -103,7 +103,7 @@ settled_kept names e s date tags rule is =
     subst P is (settled-dated (head_of names e tags) rule)
 
 -- What is kept of an entry is within the ranges of an entry.
-pub kept-IsEntry : (e : Entry) (s : Sig) (date : Date) → IsEntry e → IsSmall s → IsDate date → IsTrue (keeps_rule date e.date) → IsEntry (kept_entry e s date)
+pub kept-IsEntry : (e : Entry) (s : Sig) (date : Date) → IsEntry e → IsSigBounded s → IsDate date → IsTrue (keeps_rule date e.date) → IsEntry (kept_entry e s date)
 unfolding kept_entry
 kept-IsEntry e s date is small dated rule = record {
   len = is.len;
@@ -123,7 +123,7 @@ kept-IsEntry e s date is small dated rule = record {
   white_rating = is.white_rating;
   black_rating = is.black_rating;
   material = small.material;
-  plies = small.plies;
-  home_count = small.home_count;
+  plies = omega (arith, small.plies);
+  home_count = omega (arith, small.home_count);
   home = small.home;
 }

@@ -1,5 +1,7 @@
 pub mod Lists
 pub mod Results
+pub mod PackLaws
+pub mod NameLaws
 pub mod CheckLaws
 pub mod KeptLaws
 pub mod ReadLaws

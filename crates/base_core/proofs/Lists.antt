@@ -26,7 +26,7 @@ same_lists [] [] long each = refl
 same_lists [] (y ∷ ys) long each = absurd (omega (arith, long))
 same_lists (x ∷ xs) [] long each = absurd (omega (arith, long))
 same_lists (x ∷ xs) (y ∷ ys) long each =
-    ap₂ (λ a as. a ∷ as) (each 0 x y refl refl) (same_lists xs ys (omega (arith, long)) (λ i a b left right. each (suc i) a b left right))
+    ap₂ (λ a rest. a ∷ rest) (each 0 x y refl refl) (same_lists xs ys (omega (arith, long)) (λ i a b left right. each (suc i) a b left right))
 
 -- How many elements of a list with one more pass a test.
 pub count_push : {X : Type 0} (p : X → Bool) (xs : List X) (x : X) → count_by p (xs ++ x ∷ []) ≡ count_by p xs + cond (p x) 1 0

@@ -37,7 +37,7 @@ entry-one names games bytes held other x y =
 
 games-one : (index : List ℕ) (names : NameLists) (games : List ℕ) (count : ℕ) (all others : List Held) → AreGames index names games count all → AreGames index names games count others → all ≡ others
 games-one index names games count all others x y =
-    same_lists all others (x.count ∙ sym y.count) (λ i held other at_held at_other. entry-one names games (entry_bytes index i) held other (x.each i held at_held) (y.each i other at_other))
+    same_lists all others (x.long ∙ sym y.long) (λ i held other at_held at_other. entry-one names games (entry_bytes index i) held other (x.each i held at_held) (y.each i other at_other))
 
 base-by : (a b : Base) → a.header ≡ b.header → a.names ≡ b.names → a.games ≡ b.games → a.end ≡ b.end → a ≡ b
 base-by a b header names games end =
@@ -51,10 +51,10 @@ base-by a b header names games end =
 pub means-one : (index names games : List ℕ) (a b : Base) → Means index names games a → Means index names games b → a ≡ b
 means-one index names games a b x y =
     let header : a.header ≡ b.header = same_ok _ a.header b.header x.header y.header in
-    let lists : a.names ≡ b.names = same_ok _ a.names b.names (names_again names a.names x.names) (names_again names b.names y.names) in
+    let lists : a.names ≡ b.names = same_ok _ a.names b.names (names_again names a.names x.lists) (names_again names b.names y.lists) in
     let N : NameLists → Type 0 = λ n. AreGames index n games a.header.games a.games in
     let H : IndexHead → Type 0 = λ h. AreGames index b.names games h.games a.games in
-    let all : a.games ≡ b.games = games-one index b.names games b.header.games a.games b.games (subst H header (subst N lists x.games)) y.games in
+    let all : a.games ≡ b.games = games-one index b.names games b.header.games a.games b.games (subst H header (subst N lists x.held)) y.held in
     base-by a b header lists all (x.end ∙ sym y.end)
 
 -- What is kept stands for one base.

@@ -3,7 +3,6 @@ use Rattle.std.proofs.Common.{◌≡◌, ◌<◌, ◌⊎◌, ℕ, Bool, true, fa
 use Rattle.std.proofs.lemmas.Bool.{cases_order}
 use Rattle.std.proofs.lemmas.Option.{same_Some, none-some}
 use Rattle.base_files.specs.Extents.{record_in}
-use Rattle.chess_laws.specs.Position.{start_setup}
 use Rattle.game_tree.specs.Game.{GameTree}
 use Rattle.game_codec.specs.Record.{IsRecord}
 use Rattle.game_codec.specs.Fault.{IsRecordFault}
@@ -30,7 +29,7 @@ own_start-one false true P x y = absurd (y x)
 
 pub sig-one : (game : GameTree) (a b : Sig) → IsSig game a → IsSig game b → a ≡ b
 sig-one game a b x y =
-    let own : a.own_start ≡ b.own_start = own_start-one a.own_start b.own_start (game.start ≡ start_setup) x.own_start y.own_start in
+    let own : a.own_start ≡ b.own_start = own_start-one a.own_start b.own_start _ x.own_start y.own_start in
     let H : Bool → Type 0 = λ o. a.home ≡ home_list (if o then [] else left_of game) in
     let home : a.home ≡ b.home = subst H own x.home ∙ sym y.home in
     let one : a ≡ record a { material = b.material } = ap (λ m. record a { material = m }) (x.material ∙ sym y.material) in
@@ -73,7 +72,7 @@ passes_fails strict names games game bytes fault p (inl f) = ok_err _ p.fields f
 passes_fails strict names games game bytes fault p (inr (inl f)) = signs-unbroken names games game bytes p.fields p.sig fault p.signs f
 passes_fails strict names games game bytes fault p (inr (inr f)) =
     let same = signs-one names games game bytes p.fields f.fields p.sig f.sig p.signs f.signs in
-    none-some f.field (sym (p.derived f.strict) ∙ (derived-one p.fields f.fields p.sig f.sig same ∙ f.differs))
+    none-some f.field (sym (p.derived f.asked) ∙ (derived-one p.fields f.fields p.sig f.sig same ∙ f.differs))
 
 -- An entry has one first fault.
 fails-one : (strict : Bool) (names : NameLists) (games : List ℕ) (game : ℕ) (bytes : List ℕ) (fault other : BaseFault) → Fails strict names games game bytes fault → Fails strict names games game bytes other → fault ≡ other
@@ -88,40 +87,38 @@ fails-one strict names games game bytes fault other (inr (inl f)) (inr (inl g)) 
     let fields : f.fields ≡ g.fields = same_ok _ f.fields g.fields f.checked g.checked in
     let B : Entry → Type 0 = λ z. IsRecordFault (record_in games (extent_of z)) f.what in
     let what : f.what ≡ g.what = fault-one (record_in games (extent_of g.fields)) f.what g.what (subst B fields f.broken) g.broken in
-    f.fault ∙ (ap (λ (w : RecordFault). Packed game w) what ∙ sym g.fault)
+    f.is ∙ (ap (λ (w : RecordFault). Packed game w) what ∙ sym g.is)
 fails-one strict names games game bytes fault other (inr (inr f)) (inr (inr g)) =
     let same = signs-one names games game bytes f.fields g.fields f.sig g.sig f.signs g.signs in
     let field : f.field ≡ g.field = same_Some f.field g.field (sym f.differs ∙ (derived-one f.fields g.fields f.sig g.sig same ∙ g.differs)) in
-    f.fault ∙ (ap (λ (x : DerivedField). Derived game x) field ∙ sym g.fault)
+    f.is ∙ (ap (λ (x : DerivedField). Derived game x) field ∙ sym g.is)
 
-entry_fails-one : (strict : Bool) (index names games : List ℕ) (fault other : BaseFault) → EntryFails strict index names games fault → EntryFails strict index names games other → fault ≡ other
-entry_fails-one strict index names games fault other f g =
-    let whole : f.whole ≡ g.whole = same_ok _ f.whole g.whole f.read g.read in
-    let F : Whole → Type 0 = λ w. Fails strict w.names games f.game (entry_bytes index f.game) fault in
-    let fails = subst F whole f.fails in
-    let B : Whole → Type 0 = λ w. (i : ℕ) → i < f.game → Passes strict w.names games i (entry_bytes index i) in
-    let before = subst B whole f.before in
+entry_fails-one : (strict : Bool) (index : List ℕ) (names : NameLists) (games : List ℕ) (count : ℕ) (fault other : BaseFault) → EntryFails strict index names games count fault → EntryFails strict index names games count other → fault ≡ other
+entry_fails-one strict index names games count fault other f g =
     elim (cases_order f.game g.game) [
       | inl same ↦
-          let G : ℕ → Type 0 = λ n. Fails strict g.whole.names games n (entry_bytes index n) fault in
-          fails-one strict g.whole.names games g.game (entry_bytes index g.game) fault other (subst G same fails) g.fails
-      | inr (inl less) ↦ absurd (passes_fails strict g.whole.names games f.game (entry_bytes index f.game) fault (g.before f.game less) fails)
-      | inr (inr more) ↦ absurd (passes_fails strict g.whole.names games g.game (entry_bytes index g.game) other (before g.game more) g.fails)
+          let G : ℕ → Type 0 = λ n. Fails strict names games n (entry_bytes index n) fault in
+          fails-one strict names games g.game (entry_bytes index g.game) fault other (subst G same f.fails) g.fails
+      | inr (inl less) ↦ absurd (passes_fails strict names games f.game (entry_bytes index f.game) fault (g.before f.game less) f.fails)
+      | inr (inr more) ↦ absurd (passes_fails strict names games g.game (entry_bytes index g.game) other (f.before g.game more) g.fails)
     ]
 
 -- Three files have one first fault.
 pub first_fault-one : (strict : Bool) (index names games : List ℕ) (fault other : BaseFault) → FirstFault strict index names games fault → FirstFault strict index names games other → fault ≡ other
 first_fault-one strict index names games fault other (inl f) (inl g) = same_err _ fault other f g
-first_fault-one strict index names games fault other (inl f) (inr g) = absurd (ok_err _ g.whole fault g.read f)
-first_fault-one strict index names games fault other (inr f) (inl g) = absurd (ok_err _ f.whole other f.read g)
-first_fault-one strict index names games fault other (inr f) (inr g) = entry_fails-one strict index names games fault other f g
+first_fault-one strict index names games fault other (inl f) (inr g) = absurd (ok_err _ g.0 fault g.1.0 f)
+first_fault-one strict index names games fault other (inr f) (inl g) = absurd (ok_err _ f.0 other f.1.0 g)
+first_fault-one strict index names games fault other (inr f) (inr g) =
+    let whole : f.0 ≡ g.0 = same_ok _ f.0 g.0 f.1.0 g.1.0 in
+    let W : Whole → Type 0 = λ w. EntryFails strict index w.names games w.header.games fault in
+    entry_fails-one strict index g.0.names games g.0.header.games fault other (subst W whole f.1.1) g.1.1
 
 -- Files whose entries all pass have none.
 pub none_fails : (strict : Bool) (index names games : List ℕ) (whole : Whole) (fault : BaseFault) → whole_read index names ≡ Ok whole →
     ((i : ℕ) → i < whole.header.games → Passes strict whole.names games i (entry_bytes index i)) → FirstFault strict index names games fault → ⊥
 none_fails strict index names games whole fault read passes (inl f) = ok_err _ whole fault read f
 none_fails strict index names games whole fault read passes (inr f) =
-    let same : f.whole ≡ whole = same_ok _ f.whole whole f.read read in
-    let F : Whole → Type 0 = λ w. Fails strict w.names games f.game (entry_bytes index f.game) fault in
-    let T : Whole → Type 0 = λ w. f.game < w.header.games in
-    passes_fails strict whole.names games f.game (entry_bytes index f.game) fault (passes f.game (subst T same f.there)) (subst F same f.fails)
+    let same : f.0 ≡ whole = same_ok _ f.0 whole f.1.0 read in
+    let W : Whole → Type 0 = λ w. EntryFails strict index w.names games w.header.games fault in
+    let fails = subst W same f.1.1 in
+    passes_fails strict whole.names games fails.game (entry_bytes index fails.game) fault (passes fails.game fails.there) fails.fails

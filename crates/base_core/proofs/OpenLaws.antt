@@ -48,7 +48,7 @@ held_at strict index names games entries mended r i held at =
 
 games_of : (strict : Bool) (index : List ℕ) (names : NameLists) (games : List ℕ) (entries : List Entry) (mended count : ℕ) (r : AreRead strict index names games entries mended) → length entries ≡ count → AreGames index names games count r.all
 games_of strict index names games entries mended count r long = record {
-  count = r.held ∙ long;
+  long = r.held ∙ long;
   each = λ i held at.
     let h = held_at strict index names games entries mended r i held at in
     let read = h.1.1.1.1 in
@@ -74,9 +74,9 @@ opens strict index names games header lists entries mended end one two long coun
     let base : Base = record { header = header; names = lists; games = r.all; end = end } in
     let means : Means index names games base = record {
       header = one;
-      names = two;
+      lists = two;
       end = long;
-      games = games_of strict index lists games entries mended header.games r count;
+      held = games_of strict index lists games entries mended header.games r count;
     } in
     let B : Bool → Type 0 = λ b. MatchBool b (base ≡ empty_base) (Means index names games base) in
     let whole : Whole = record { header = header; names = lists } in
@@ -92,7 +92,7 @@ opens strict index names games header lists entries mended end one two long coun
           let f = get_some r.fields i (subst (λ n. i < n) (sym r.compared) (slice_get_within entries i e at_e)) in
           (r.each i e held f.0 at_e at_held f.1).keeps;
       };
-      mended = (r.fields, (differences_of strict index lists games entries mended r, r.mended));
+      mends = (r.fields, (differences_of strict index lists games entries mended r, r.mends));
       strictly = r.strictly;
       sound = λ fault refuses.
         none_fails strict index names games whole fault (whole_is index names header lists one (names_again names lists two))
@@ -109,7 +109,7 @@ opens_empty create strict index names games created =
       base = empty_base;
       means = subst B (sym created) refl;
       represents = record { header = refl; names = refl; end = refl; count = refl; each = λ i e held at_e at_held. absurd (none-some e at_e) };
-      mended = ([], (record { count = refl; each = λ i held field at_held at_field. absurd (none-some held at_held) }, refl));
+      mends = ([], (record { count = refl; each = λ i held field at_held at_field. absurd (none-some held at_held) }, refl));
       strictly = λ is. refl;
       sound = λ fault refuses. true≢false (sym created ∙ refuses.there);
       saved = refl;

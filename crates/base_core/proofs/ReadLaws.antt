@@ -19,7 +19,7 @@ use Rattle.base_core.specs.declared.fault.BaseFault.TheVariants.{Packed, Derived
 use Rattle.base_core.specs.declared.fault.DerivedField.{DerivedField}
 use Rattle.base_core.specs.Base.{Held}
 use Rattle.base_core.specs.Entries.{Says, head_of, extent_of, sig_in}
-use Rattle.base_core.specs.FirstFault.{Signs, Passes, BreaksRecord, Differs, Fails, entry_checked, derived_fault}
+use Rattle.base_core.specs.FirstFault.{Signs, Passes, BreaksRecord, Differs, EntryFails, Fails, entry_checked, derived_fault}
 use Rattle.base_core.specs.Represents.{Keeps}
 use Rattle.base_core.specs.Reading.{AreRead, IsNotTaken, IsRead, IsReadSo, IsSigned, IsTaken, kept_entry}
 use Rattle.base_core.proofs.KeptLaws.{settled_kept}
@@ -37,8 +37,8 @@ keeps names games e s date rule signed =
     let held : Held = record { head = settled (head_of names e signed.tags); game = signed.tree; len = e.len } in
     let says : Says names games e held = record { tags = signed.tags; read = signed.read; head = refl; len = refl } in
     let kept : Says names games (kept_entry e s date) held =
-      record { tags = signed.tags; read = signed.read; head = sym (settled_kept names e s date signed.tags rule (signed.date names)); len = refl } in
-    (held, (says, (signed.signed, record { says = kept; event_date = signed.date names; signed = signed.signed })))
+      record { tags = signed.tags; read = signed.read; head = sym (settled_kept names e s date signed.tags rule (signed.dated names)); len = refl } in
+    (held, (says, (signed.signed, record { says = kept; event_date = signed.dated names; signed = signed.signed })))
 
 -- A game that was taken, by the bytes of its record.
 taken_so : (strict : Bool) (names : NameLists) (games : List ℕ) (game : ℕ) (bytes : List ℕ) (e kept : Entry) (mended : Bool) → IsTrue (keeps_rule e.event_date e.date) →
@@ -57,27 +57,27 @@ taken_so strict names games game bytes e kept mended rule checked taken =
         signs = record { checked = checked; tags = signed.tags; tree = signed.tree; read = signed.read; signed = signed.signed };
         says = k.1.0;
         signed = k.1.1.0;
-        keeps = subst K (sym taken.kept) k.1.1.1;
+        keeps = subst K (sym taken.keeps) k.1.1.1;
         differs = refl;
-        strictly = λ is. none_by (derived_fault e s) (sym taken.mended ∙ taken.strictly is);
+        strictly = λ is. none_by (derived_fault e s) (sym taken.mends ∙ taken.strictly is);
       };
-      mended = taken.mended;
+      mends = taken.mends;
     }
 
 -- A game that was not taken fails so.
 not_taken_so : (strict : Bool) (names : NameLists) (games : List ℕ) (game : ℕ) (bytes : List ℕ) (e : Entry) (fault : BaseFault) →
     entry_checked names (length games) game bytes ≡ Ok e → IsNotTaken strict game (record_in games (extent_of e)) e fault → Fails strict names games game bytes fault
 not_taken_so strict names games game bytes e fault checked (inl h) =
-    inr (inl (record { fields = e; what = h.0; checked = checked; broken = h.1.0; fault = h.1.1 }))
+    inr (inl (record { fields = e; what = h.0; checked = checked; broken = h.1.0; is = h.1.1 }))
 not_taken_so strict names games game bytes e fault checked (inr h) =
     inr (inr (record {
       fields = e;
       sig = h.1.1.1.0;
       field = h.1.1.1.1.0;
-      strict = h.0;
+      asked = h.0;
       signs = record { checked = checked; tags = h.1.0; tree = h.1.1.0; read = h.1.1.1.1.1.0; signed = h.1.1.1.1.1.1.0 };
       differs = h.1.1.1.1.1.1.1.0;
-      fault = h.1.1.1.1.1.1.1.1;
+      is = h.1.1.1.1.1.1.1.1;
     }))
 
 -- The same where the games file may be told.
@@ -115,7 +115,7 @@ none_read strict index names games = record {
   held = refl;
   compared = refl;
   each = λ i e held field at. absurd (none-some e at);
-  mended = refl;
+  mends = refl;
   strictly = λ is. refl;
 }
 
@@ -127,7 +127,8 @@ placed_in : {X : Type 0} (xs : List X) (x y : X) (i n : ℕ) → length xs ≡ n
 placed_in xs x y i n long at =
     let within : i < length (xs ++ x ∷ []) = slice_get_within (xs ++ x ∷ []) i y at in
     let pushed : length (xs ++ x ∷ []) ≡ length xs + 1 = length_push xs x in
-    elim (eq-or-lt_of_le {i} {length xs} (omega (arith, within, pushed))) [
+    let last : i ≤ length xs = omega (arith, within, pushed) in
+    elim (eq-or-lt_of_le last) [
       | inl same ↦ inr (same ∙ long, same_Some x y (sym (get_push_new xs x) ∙ subst (λ k. slice_get (xs ++ x ∷ []) k ≡ Some y) same at))
       | inr below ↦ inl (subst (λ k. i < k) long below, sym (get_push_old xs x i below) ∙ at)
     ]
@@ -162,8 +163,8 @@ one_more_read strict index names games entries mended game e b long before now =
     (placed_in entries e x i game long at_x)
     (placed_in before.all now.held held i game (before.held ∙ long) at_held)
     (placed_in before.fields now.field field i game (before.compared ∙ long) at_field);
-  mended = rw (count_push (λ o. is_some o) before.fields now.field, now.mended) (ap (λ n. n + cond (is_some now.field) 1 0) before.mended);
-  strictly = mended_more now.field b strict mended now.mended now.read.strictly before.strictly;
+  mends = rw (count_push (λ o. is_some o) before.fields now.field, now.mends) (ap (λ n. n + cond (is_some now.field) 1 0) before.mends);
+  strictly = mended_more now.field b strict mended now.mends now.read.strictly before.strictly;
 }
 
 -- The same where the games file may be told.
@@ -203,3 +204,15 @@ pub passes_of : (strict : Bool) (index : List ℕ) (names : NameLists) (games : 
 passes_of strict index names games entries mended r i below =
     let a = read_at strict index names games entries mended r i below in
     record { fields = a.read.fields; sig = a.read.sig; signs = a.read.signs; derived = λ is. a.read.differs ∙ a.read.strictly is }
+
+-- The first that fails, behind those that were read.
+pub fails_told : (told : Option (List ℕ)) (strict : Bool) (index : List ℕ) (names : NameLists) (entries : List Entry) (mended game count : ℕ) (fault : BaseFault) → length entries ≡ game → game < count →
+    IfSome told (λ games. AreRead strict index names games entries mended) → IfSome told (λ games. Fails strict names games game (entry_bytes index game) fault) →
+    IfSome told (λ games. EntryFails strict index names games count fault)
+fails_told None strict index names entries mended game count fault long below read fails = tt
+fails_told (Some games) strict index names entries mended game count fault long below read fails = record {
+  game = game;
+  there = below;
+  before = λ i less. passes_of strict index names games entries mended read i (subst (λ n. i < n) (sym long) less);
+  fails = fails;
+}

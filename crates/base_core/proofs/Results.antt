@@ -3,11 +3,11 @@ use Rattle.std.proofs.Common.{◌≡◌, Bool, true, false, Option, Some, None, 
 use Rattle.std.specs.Result.{is_ok}
 use Rattle.std.proofs.lemmas.Option.{none-some}
 
-value_of : {A E : Type 0} → A → Result A E → A
+abbrev value_of : {A E : Type 0} → A → Result A E → A
 value_of d (Ok x) = x
 value_of d (Err e) = d
 
-error_of : {A E : Type 0} → E → Result A E → E
+abbrev error_of : {A E : Type 0} → E → Result A E → E
 error_of d (Ok x) = d
 error_of d (Err e) = e
 

@@ -32,11 +32,11 @@ TellsChange i kept bytes _ = ⊥
 
 -- A change of game i, of which this entry is kept: the signature is the entry's, and the bytes that were read, the first of the buffer, show it.
 pub record IsChanged (kept : Kept) (told : Option (List ℕ)) (i : ℕ) (buf : List ℕ) (game : ℕ) (sig : Sig) (found : Option Sig) : Type 0 where
-  pub game : game ≡ i
+  pub own : game ≡ i
   pub e : Entry
   pub at : slice_get kept.entries i ≡ Some e
-  pub sig : sig ≡ sig_in e
-  pub told : Tells (part_told told e.offset e.len) (take e.len buf)
+  pub same : sig ≡ sig_in e
+  pub read : Tells (part_told told e.offset e.len) (take e.len buf)
   pub shown : ShowChange (take e.len buf) sig found
 
 -- What each error says.

@@ -35,7 +35,7 @@ pub record Opens (create strict : Bool) (index names games : List ℕ) (kept : K
   pub base : Base
   pub means : OpensAs create index names games base
   pub represents : Represents kept games base
-  pub mended : Mended index base.games mended
+  pub mends : Mended index base.games mended
   pub strictly : IsTrue strict → mended ≡ 0
   pub sound : (fault : BaseFault) → Refuses create strict index names games fault → ⊥
   pub saved : kept.unsaved ≡ false

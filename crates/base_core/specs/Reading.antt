@@ -1,5 +1,5 @@
 -- What is read of a game when a base is opened, as the functions of this crate go through it.
-use Rattle.std.specs.Prelude.{◌≡◌, ◌⊎◌, ℕ, Bool, false, IsTrue, List, length, slice_get, Option, Some, None, is_some, count_by}
+use Rattle.std.specs.Prelude.{◌≡◌, ◌≤◌, ◌<◌, ◌⊎◌, ℕ, Bool, false, IsTrue, List, length, slice_get, Option, Some, None, is_some, count_by}
 use Rattle.game_tree.specs.Game.{GameTree}
 use Rattle.game_tree.specs.Settle.{settled}
 use Rattle.game_tree.specs.declared.date.Date.{Date}
@@ -7,6 +7,7 @@ use Rattle.game_tree.specs.declared.head.Tag.{Tag}
 use Rattle.game_codec.specs.Record.{IsRecord}
 use Rattle.game_codec.specs.Fault.{IsRecordFault}
 use Rattle.game_codec.specs.declared.fault.RecordFault.{RecordFault}
+use Rattle.index_entry.specs.Entry.{AreCounts, AreHomeValues}
 use Rattle.index_entry.specs.Index.{entry_bytes}
 use Rattle.index_entry.specs.declared.entry.Entry.{Entry}
 use Rattle.name_base.specs.NameLists.{NameLists}
@@ -42,15 +43,15 @@ pub record IsSigned (bytes : List ℕ) (e : Entry) (s : Sig) (date : Date) : Typ
   pub tree : GameTree
   pub read : IsRecord bytes tags tree
   pub signed : IsSig tree s
-  pub date : (names : NameLists) → (settled (head_of names e tags)).event_date ≡ date
+  pub dated : (names : NameLists) → (settled (head_of names e tags)).event_date ≡ date
 
 -- The bytes of an entry's record say what is then kept of the entry, and whether that mends it.
 pub record IsTaken (strict : Bool) (bytes : List ℕ) (e kept : Entry) (mended : Bool) : Type 0 where
   pub sig : Sig
   pub date : Date
   pub signed : IsSigned bytes e sig date
-  pub kept : kept ≡ kept_entry e sig date
-  pub mended : mended ≡ is_some (derived_fault e sig)
+  pub keeps : kept ≡ kept_entry e sig date
+  pub mends : mended ≡ is_some (derived_fault e sig)
   pub strictly : IsTrue strict → mended ≡ false
 
 -- They are no record, or refused by a strict opening.
@@ -76,7 +77,7 @@ pub record IsReadSo (strict : Bool) (names : NameLists) (games : List ℕ) (game
   pub held : Held
   pub field : Option DerivedField
   pub read : IsRead strict names games game bytes kept held field
-  pub mended : mended ≡ is_some field
+  pub mends : mended ≡ is_some field
 
 -- What was read of as many games as there are entries here.
 pub record AreRead (strict : Bool) (index : List ℕ) (names : NameLists) (games : List ℕ) (entries : List Entry) (mended : ℕ) : Type 0 where
@@ -86,5 +87,15 @@ pub record AreRead (strict : Bool) (index : List ℕ) (names : NameLists) (games
   pub compared : length fields ≡ length entries
   pub each : (i : ℕ) (e : Entry) (held : Held) (field : Option DerivedField) → slice_get entries i ≡ Some e → slice_get all i ≡ Some held → slice_get fields i ≡ Some field →
       IsRead strict names games i (entry_bytes index i) e held field
-  pub mended : mended ≡ count_by is_some fields
+  pub mends : mended ≡ count_by is_some fields
   pub strictly : IsTrue strict → mended ≡ 0
+
+-- The bounds of a signature, which are those of the fields of an entry: at most 16 home values, each below 16.
+pub record IsSigBounded (sig : Sig) : Type 0 where
+  pub material : AreCounts sig.material
+  pub home_count : sig.home.count ≤ 16
+  pub home : AreHomeValues sig.home.count sig.home.values
+  pub plies : sig.plies ≤ 1023
+  pub vars : sig.vars < 16
+  pub comments : sig.comments < 16
+  pub nags : sig.nags < 16

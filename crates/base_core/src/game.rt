@@ -1,5 +1,5 @@
 //! Reading a game of an open base.
-ghost use Rattle.std.specs.Prelude.{◌≡◌, ◌≤◌, ◌<◌, ◌+◌, ◌×◌, ◌↔◌, ◌^◌, All, List, Some, length, slice_get, take, IfOk, IfErr, IfSome, IsErrOf, OnErr};
+ghost use Rattle.std.specs.Prelude.{◌≡◌, ◌≤◌, ◌<◌, ◌+◌, ◌↔◌, ◌^◌, All, List, Some, length, slice_get, take, IfOk, IfErr, IfSome, IsErrOf, OnErr};
 ghost use Rattle.base_files.specs.Counters.{Rose};
 ghost use Rattle.game_tree.specs.Head.{HasTexts, IsBounded, IsName, IsTag, head_of as fields_with};
 ghost use Rattle.game_tree.specs.Legal.{IsLegalGame};
@@ -161,8 +161,10 @@ fn settled_head(
 
 /// The head of an entry, without its tags.
 pub(crate) fn fields_of<'a>(names: &'a Names, e: &Entry) -> HeadRef<'a>
+    requires fields { IsEntry e.now }
     requires named { HasNames names.now e.now }
     requires sound { AreSound names.now }
+    ensures bounded { (given : List TagValue) → All IsTag given → IsBounded (head_of names.now e.now given) }
     ensures fields { (given : List TagValue) → fields_with result given ≡ head_of names.now e.now given }
     ensures texts { HasTexts result }
 {

@@ -13,3 +13,6 @@ mod reading;
 pub use base::Base;
 pub use fault::{BaseFault, DerivedField, EditError, IdField, OpenError, PlaceWhat};
 pub use laws::{files_have_one_meaning, open_bases_have_one_meaning};
+
+#[cfg(test)]
+mod tests;

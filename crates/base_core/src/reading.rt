@@ -3,7 +3,7 @@ ghost use Rattle.std.specs.Prelude.{◌≡◌, ◌≤◌, ◌<◌, ◌+◌, ◌*
 ghost use Rattle.base_files.specs.Counters.{Rose};
 ghost use Rattle.base_files.specs.Told.{TellsLength};
 ghost use Rattle.game_tree.specs.Date.{IsDate, keeps_rule};
-ghost use Rattle.game_tree.specs.Head.{HasTexts, IsTag, head_of as fields_with};
+ghost use Rattle.game_tree.specs.Head.{HasTexts, IsBounded, IsTag, head_of as fields_with};
 ghost use Rattle.game_tree.specs.Settle.{settled};
 ghost use Rattle.game_tree.specs.declared.head.Tag.{Tag as TagValue};
 ghost use Rattle.game_codec.specs.Fault.{IsRecordFault, IfBad as IfBadRecord};
@@ -11,9 +11,9 @@ ghost use Rattle.index_entry.specs.Entry.{IsEntry, entry_in};
 ghost use Rattle.index_entry.specs.Index.{entry_bytes};
 ghost use Rattle.name_base.specs.NameLists.{NameLists, no_names};
 ghost use Rattle.base_core.specs.Entries.{head_of};
-ghost use Rattle.base_core.specs.FirstFault.{Fails, EntryFails, Whole, whole_read};
+ghost use Rattle.base_core.specs.FirstFault.{EntryFails, Fails};
 ghost use Rattle.base_core.specs.Opening.{IfBad, records_len};
-ghost use Rattle.base_core.specs.Reading.{AreRead, IsNotTaken, IsReadSo, IsSigned, IsTaken};
+ghost use Rattle.base_core.specs.Reading.{AreRead, IsSigBounded, IsNotTaken, IsReadSo, IsSigned, IsTaken};
 ghost use Rattle.base_core.specs.Represents.{IsKept};
 
 use crate::checking::{Opening, checked_entry, differing, kept_entry};
@@ -56,7 +56,7 @@ pub(crate) fn read_games<F: Files>(
     ensures count { IfOk result (λ opened. length opened.0 ≡ count) }
     ensures kept { IfOk result (λ opened. All (IsKept o.now.names.now o.now.end) opened.0) }
     ensures fault { IfErr result (IfBad (λ fault. IfSome (F.seen files.old).games (λ games.
-        EntryFails o.now.strict o.now.index.now games fault))) }
+        EntryFails o.now.strict o.now.index.now o.now.names.now games count fault))) }
     ensures asks { F.asked files.new ≤ F.asked files.old + records_len o.now.index.now count }
     ensures unchanged { F.seen files.new ≡ F.seen files.old }
     ensures counts { F.faults files.old ≤ F.faults files.new }
@@ -142,6 +142,7 @@ fn signed_by(alloc: Global, entry: &Entry, bytes: &[u8]) -> Result<Signed, Decod
     requires fields { IsEntry entry.now }
     requires few { length bytes.now < 2 ^ 32 }
     ensures signed { IfOk result (λ signed. IsSigned bytes.now entry.now signed.sig signed.event_date) }
+    ensures bounded { IfOk result (λ signed. IsSigBounded signed.sig) }
     ensures fault { IfErr result (IfBadRecord (IsRecordFault bytes.now)) }
     ensures event_date { IfOk result (λ signed. IsDate signed.event_date × IsTrue (keeps_rule signed.event_date entry.now.date)) }
 {
@@ -173,6 +174,8 @@ fn settled_event_date(alloc: Global, e: &Entry, tags: Vec<Tag>) -> Result<Date, 
 
 // The head of an entry without its tags and names.
 fn nameless(e: &Entry) -> HeadRef<'static>
+    requires fields { IsEntry e.now }
+    ensures bounded { (given : List TagValue) → All IsTag given → IsBounded (head_of no_names e.now given) }
     ensures fields { (given : List TagValue) → fields_with result given ≡ head_of no_names e.now given }
     ensures texts { HasTexts result }
 {
