@@ -1,4 +1,4 @@
-use Rattle.std.proofs.Common.{◌≡◌, ◌+◌, drop}
+use Rattle.std.proofs.Common.{drop}
 use Rattle.game_tree.specs.Tree.{line_of, branches_of}
 use Rattle.game_tree.specs.Counts.{line_variations, line_comments, line_nags, branches_variations, branches_comments, branches_nags}
 use Rattle.game_tree.proofs.CountLemmas.{Left}
