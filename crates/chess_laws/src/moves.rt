@@ -2,7 +2,7 @@
 ghost use Rattle.std.specs.Prelude.{◌≡◌, ◌↔◌, ◌+◌, ◌*◌, ◌<◌, ◌≤◌, IsTrue, []};
 ghost use Rattle.std.specs.Bool.{OnTrue, OnFalse};
 ghost use Rattle.chess_laws.specs.Attacks.{IsInCheck};
-ghost use Rattle.chess_laws.specs.Legal.{IsOnlyKing};
+ghost use Rattle.chess_laws.specs.LegalTests.{IsOnlyKing};
 ghost use Rattle.chess_laws.specs.Position.{Sound};
 ghost use Rattle.chess_laws.specs.Rays.{Shut};
 ghost use Rattle.chess_laws.specs.Moves.{HasMoreMoves, IsMove, ListsMoves, promotion_number};
