@@ -13,12 +13,12 @@ use Rattle.std.proofs.lemmas.List.FromFn.{get_or-range_with_len}
 use Rattle.cell_core.specs.declared.step.Move.{Move}
 use Rattle.chess_laws.specs.Counts.{is_home}
 use Rattle.chess_laws.specs.declared.setup.Setup.{Setup}
-use Rattle.chess_laws.specs.Step.{Step}
+use Rattle.chess_laws.specs.Step.{Step, stepped}
 use Rattle.game_tree.specs.Game.{GameTree}
 use Rattle.game_tree.specs.Tree.{Line, Played, line_of, moves_of}
-use Rattle.game_tree.specs.Replay.{stepped, main_moves, position_at, plies_of}
+use Rattle.game_tree.specs.Replay.{main_moves, position_at, plies_of}
 use Rattle.game_tree.specs.Legal.{IsLegalGame, IsLegalLine}
-use Rattle.game_tree.proofs.LegalLemmas.{Step-stepped}
+use Rattle.chess_laws.proofs.Stepping.{Step-stepped}
 use Rattle.sig_index.specs.Leaving.{in_set, staying, gone}
 use Rattle.sig_index.specs.Signature.{all_homes, leaving, left_of}
 
