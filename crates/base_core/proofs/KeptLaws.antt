@@ -3,6 +3,7 @@ use Rattle.std.proofs.Common.{◌≡◌, ◌≤◌, ◌<◌, ℕ, Bool, true, fa
 use Rattle.std.proofs.lemmas.Bool.{cases_Bool}
 use Rattle.std.proofs.lemmas.Option.{same_Some, none-some}
 use Rattle.game_tree.specs.Date.{IsDate, is_near, is_unknown, unknown_date, keeps_rule, date_read}
+use Rattle.game_tree.specs.Head.{without_tags}
 use Rattle.game_tree.specs.TagList.{is_named, tags_without}
 use Rattle.game_tree.specs.Settle.{event_date_name, near_only, near_date, first_of, first_near_date, taken_up, settled}
 use Rattle.game_tree.specs.declared.date.Date.{Date}
@@ -12,9 +13,12 @@ use Rattle.game_tree.proofs.SettleLemmas.{settled-near, settled-unknown, settled
 use Rattle.index_entry.specs.Entry.{IsEntry, AreCounts, AreHomeValues}
 use Rattle.index_entry.specs.declared.entry.Entry.{Entry}
 use Rattle.name_base.specs.NameLists.{NameLists}
+use Rattle.sig_index.specs.Signature.{IsSigBounded}
 use Rattle.sig_index.specs.declared.signature.Sig.{Sig}
-use Rattle.base_core.specs.Entries.{head_of, extent_of, sig_in}
-use Rattle.base_core.specs.Reading.{IsSigBounded, kept_entry}
+use Rattle.base_core.specs.Entries.{HasNames, head_of}
+use Rattle.base_core.specs.FirstFault.{place_fault}
+use Rattle.base_core.specs.Represents.{IsKept}
+use Rattle.base_core.specs.Reading.{kept_entry}
 
 -- A date that a tag gives is within the rule.
 near_only-near : (game : Date) (read : Option Date) (date : Date) → near_only game read ≡ Some date → is_near date game ≡ true
@@ -102,6 +106,21 @@ settled_kept names e s date tags rule is =
     let P : Date → Type 0 = λ d. settled (head_of names (kept_entry e s d) tags) ≡ settled (head_of names e tags) in
     subst P is (settled-dated (head_of names e tags) rule)
 
+-- Settling changes the event date and the tags alone.
+taken_up-rest : (head : Head) (found : Option Date) → without_tags (taken_up head found) ≡ record head { event_date = (taken_up head found).event_date; tags = [] }
+taken_up-rest head None = refl
+taken_up-rest head (Some date) = refl
+
+pub settled-rest : (head : Head) → without_tags (settled head) ≡ record head { event_date = (settled head).event_date; tags = [] }
+settled-rest head =
+    elim (cases_Bool (is_near head.event_date head.date)) [
+      | inl near ↦ rw (settled-near head near) refl
+      | inr far ↦ elim (cases_Bool (is_unknown head.event_date)) [
+        | inl unknown ↦ rw (settled-unknown head far unknown) (taken_up-rest head (first_near_date head.date head.tags))
+        | inr known ↦ rw (settled-far head far known) refl
+      ]
+    ]
+
 -- What is kept of an entry is within the ranges of an entry.
 pub kept-IsEntry : (e : Entry) (s : Sig) (date : Date) → IsEntry e → IsSigBounded s → IsDate date → IsTrue (keeps_rule date e.date) → IsEntry (kept_entry e s date)
 unfolding kept_entry
@@ -127,3 +146,16 @@ kept-IsEntry e s date is small dated rule = record {
   home_count = omega (arith, small.home_count);
   home = small.home;
 }
+
+-- What is kept of an entry that passed its checks.
+pub is-kept : (names : NameLists) (end : ℕ) (e kept : Entry) (s : Sig) (date : Date) → kept ≡ kept_entry e s date → HasNames names e → place_fault end e ≡ None → IsEntry kept → kept.home_count ≤ 16 → IsKept names end kept
+unfolding kept_entry place_fault
+is-kept names end e kept s date is has placed fields homes =
+    let named : HasNames names (kept_entry e s date) = record { white = has.white; black = has.black; event = has.event; site = has.site; round = has.round } in
+    let within : place_fault end (kept_entry e s date) ≡ None = placed in
+    record {
+      fields = fields;
+      named = subst (λ (x : Entry). HasNames names x) (sym is) named;
+      placed = subst (λ (x : Entry). place_fault end x ≡ None) (sym is) within;
+      homes = homes;
+    }

@@ -3,8 +3,10 @@ pub mod Results
 pub mod PackLaws
 pub mod NameLaws
 pub mod CheckLaws
+pub mod SigLaws
 pub mod KeptLaws
 pub mod ReadLaws
 pub mod OneFault
 pub mod OneBase
+pub mod GamesLaws
 pub mod OpenLaws

@@ -19,6 +19,7 @@ use Rattle.base_core.specs.declared.fault.DerivedField.{DerivedField}
 use Rattle.base_core.specs.Entries.{extent_of}
 use Rattle.base_core.specs.FirstFault.{Whole, whole_read, entry_checked, derived_fault, Signs, Passes, BreaksRecord, Differs, Fails, EntryFails, FirstFault}
 use Rattle.base_core.proofs.Results.{same_ok, same_err, ok_err}
+use Rattle.base_core.proofs.SigLaws.{sig-by}
 
 -- A game has one signature.
 own_start-one : (a b : Bool) (P : Type 0) → MatchBool a (P → ⊥) P → MatchBool b (P → ⊥) P → a ≡ b
@@ -32,16 +33,8 @@ sig-one game a b x y =
     let own : a.own_start ≡ b.own_start = own_start-one a.own_start b.own_start _ x.own_start y.own_start in
     let H : Bool → Type 0 = λ o. a.home ≡ home_list (if o then [] else left_of game) in
     let home : a.home ≡ b.home = subst H own x.home ∙ sym y.home in
-    let one : a ≡ record a { material = b.material } = ap (λ m. record a { material = m }) (x.material ∙ sym y.material) in
-    let two : record a { material = b.material } ≡ record a { material = b.material; home = b.home } = ap (λ h. record a { material = b.material; home = h }) home in
-    let three = ap (λ n. record a { material = b.material; home = b.home; plies = n }) (x.plies ∙ sym y.plies) in
-    let four = ap (λ t. record a { material = b.material; home = b.home; plies = b.plies; promo = t }) (x.promo ∙ sym y.promo) in
-    let five = ap (λ t. record b { under = t; own_start = a.own_start; vars = a.vars; comments = a.comments; nags = a.nags }) (x.under ∙ sym y.under) in
-    let six = ap (λ t. record b { own_start = t; vars = a.vars; comments = a.comments; nags = a.nags }) own in
-    let seven = ap (λ n. record b { vars = n; comments = a.comments; nags = a.nags }) (x.vars ∙ sym y.vars) in
-    let eight = ap (λ n. record b { comments = n; nags = a.nags }) (x.comments ∙ sym y.comments) in
-    let nine = ap (λ n. record b { nags = n }) (x.nags ∙ sym y.nags) in
-    one ∙ (two ∙ (three ∙ (four ∙ (five ∙ (six ∙ (seven ∙ (eight ∙ nine)))))))
+    sig-by a b (x.material ∙ sym y.material) home (x.plies ∙ sym y.plies) (x.promo ∙ sym y.promo) (x.under ∙ sym y.under) own
+    (x.vars ∙ sym y.vars) (x.comments ∙ sym y.comments) (x.nags ∙ sym y.nags)
 
 -- What the entry of a game has in common, read twice.
 record Same (e d : Entry) (s t : Sig) : Type 0 where

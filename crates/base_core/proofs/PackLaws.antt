@@ -33,7 +33,7 @@ packed-new bytes more count long size =
     ap (λ (b : List ℕ). take 47 b) (drop-append-le (47 * count) bytes more (omega (arith, long)) ∙ ap (λ (b : List ℕ). b ++ more) (drop_all (47 * count) bytes (omega (arith, long))))
     ∙ take_all 47 more (omega (arith, size))
 
-within : (bytes : List ℕ) (count i : ℕ) → length bytes ≡ 47 * count → i < count → 47 * i + 47 ≤ length bytes
+pub within : (bytes : List ℕ) (count i : ℕ) → length bytes ≡ 47 * count → i < count → 47 * i + 47 ≤ length bytes
 within bytes count i long below = omega (arith, long, below)
 
 pub entries-push : (bytes more : List ℕ) (count : ℕ) (e : Entry) → length bytes ≡ 47 * count → length more ≡ 47 → entry_read more ≡ Ok e → entries_in (bytes ++ more) (count + 1) ≡ entries_in bytes count ++ e ∷ []

@@ -5,6 +5,7 @@ use Rattle.std.proofs.lemmas.List.{length_push}
 use Rattle.base_files.specs.Extents.{record_in}
 use Rattle.base_files.specs.Told.{Tells, TellsLength, part_told}
 use Rattle.game_tree.specs.Date.{keeps_rule}
+use Rattle.game_tree.specs.declared.date.Date.{Date}
 use Rattle.game_tree.specs.Settle.{settled}
 use Rattle.game_codec.specs.Record.{IsRecord}
 use Rattle.game_codec.specs.Fault.{IsRecordFault}
@@ -20,9 +21,20 @@ use Rattle.base_core.specs.declared.fault.DerivedField.{DerivedField}
 use Rattle.base_core.specs.Base.{Held}
 use Rattle.base_core.specs.Entries.{Says, head_of, extent_of, sig_in}
 use Rattle.base_core.specs.FirstFault.{Signs, Passes, BreaksRecord, Differs, EntryFails, Fails, entry_checked, derived_fault}
-use Rattle.base_core.specs.Represents.{Keeps}
+use Rattle.base_core.specs.Represents.{IsKept, Keeps}
 use Rattle.base_core.specs.Reading.{AreRead, IsNotTaken, IsRead, IsReadSo, IsSigned, IsTaken, kept_entry}
-use Rattle.base_core.proofs.KeptLaws.{settled_kept}
+use Rattle.game_codec.specs.Fault.{IfBad as IfBadRecord}
+use Rattle.game_codec.specs.declared.fault.DecodeError.{DecodeError}
+use Rattle.game_codec.specs.declared.fault.DecodeError.TheVariants as decode
+use Rattle.game_codec.proofs.DecodeLaws.{record-unbroken}
+use Rattle.base_core.specs.Errors.{packed_error, unread_error}
+use Rattle.base_core.specs.GameAt.{TellsChange}
+use Rattle.base_core.specs.Opening.{IfBad}
+use Rattle.base_core.specs.declared.fault.OpenError.{OpenError}
+use Rattle.base_core.specs.declared.fault.OpenError.TheVariants as opening
+use Rattle.base_core.specs.declared.reading.GameRead.{GameRead}
+use Rattle.base_core.proofs.CheckLaws.{checked, has_names}
+use Rattle.base_core.proofs.KeptLaws.{is-kept, settled_kept}
 use Rattle.base_core.proofs.Lists.{get_some, get_push_old, get_push_new, count_push}
 
 -- Nothing is there where the test says so.
@@ -31,7 +43,7 @@ none_by None e = refl
 none_by (Some x) e = absurd (true≢false e)
 
 -- The entry that is kept keeps the game that its record says.
-keeps : (names : NameLists) (games : List ℕ) (e : Entry) (s : Sig) (date : _) → IsTrue (keeps_rule e.event_date e.date) → IsSigned (record_in games (extent_of e)) e s date → (held : Held) × (Says names games e held × (IsSig held.game s × Keeps names games (kept_entry e s date) held))
+keeps : (names : NameLists) (games : List ℕ) (e : Entry) (s : Sig) (date : Date) → IsTrue (keeps_rule e.event_date e.date) → IsSigned (record_in games (extent_of e)) e s date → (held : Held) × (Says names games e held × (IsSig held.game s × Keeps names games (kept_entry e s date) held))
 unfolding kept_entry
 keeps names games e s date rule signed =
     let held : Held = record { head = settled (head_of names e signed.tags); game = signed.tree; len = e.len } in
@@ -216,3 +228,39 @@ fails_told (Some games) strict index names entries mended game count fault long 
   before = λ i less. passes_of strict index names games entries mended read i (subst (λ n. i < n) (sym long) less);
   fails = fails;
 }
+
+-- ---- the answers of a read.
+
+pub reads_so : (r : Result GameRead OpenError) (told : Option (List ℕ)) (strict : Bool) (names : NameLists) (end game : ℕ) (bytes read : List ℕ) (e : Entry) → IsTrue (keeps_rule e.event_date e.date) →
+    TellsLength told end → Tells (part_told told e.offset e.len) read → entry_checked names end game bytes ≡ Ok e → IfOk r (λ x. IsTaken strict read e x.entry x.mended) →
+    IfOk r (λ x. IfSome told (λ games. IsReadSo strict names games game bytes x.entry x.mended))
+reads_so (Ok x) told strict names end game bytes read e rule long tells checked taken = taken_told told strict names end game bytes read e x.entry x.mended rule long tells checked taken
+reads_so (Err error) told strict names end game bytes read e rule long tells checked taken = tt
+
+pub fails_so : (r : Result GameRead OpenError) (told : Option (List ℕ)) (strict : Bool) (names : NameLists) (end game : ℕ) (bytes read : List ℕ) (e : Entry) →
+    TellsLength told end → Tells (part_told told e.offset e.len) read → entry_checked names end game bytes ≡ Ok e → IfErr r (IfBad (IsNotTaken strict game read e)) →
+    IfErr r (IfBad (λ fault. IfSome told (λ games. Fails strict names games game bytes fault)))
+fails_so (Ok x) told strict names end game bytes read e long tells checked not = tt
+fails_so (Err (opening.Bad fault)) told strict names end game bytes read e long tells checked not = not_taken_told told strict names end game bytes read e fault long tells checked not
+fails_so (Err opening.Failed) told strict names end game bytes read e long tells checked not = tt
+fails_so (Err opening.Memory) told strict names end game bytes read e long tells checked not = tt
+
+pub kept_so : (r : Result GameRead OpenError) (strict : Bool) (names : NameLists) (end game : ℕ) (bytes read : List ℕ) (e : Entry) → entry_checked names end game bytes ≡ Ok e →
+    IfOk r (λ x. IsTaken strict read e x.entry x.mended) → IfOk r (λ x. IsEntry x.entry) → IfOk r (λ x. x.entry.home_count ≤ 16) → IfOk r (λ x. IsKept names end x.entry)
+kept_so (Ok x) strict names end game bytes read e is taken fields homes =
+    let c = checked names end game bytes e is in
+    is-kept names end e x.entry taken.sig taken.date taken.keeps (has_names names e c.named) c.placed fields homes
+kept_so (Err error) strict names end game bytes read e is taken fields homes = tt
+
+-- A record that is not read.
+pub packed_refuses : (strict : Bool) (game : ℕ) (bytes : List ℕ) (e : Entry) (error : DecodeError) → IfBadRecord (IsRecordFault bytes) error → IfBad (IsNotTaken strict game bytes e) (packed_error game error)
+packed_refuses strict game bytes e (decode.Bad fault) broken = inl (fault, (broken, refl))
+packed_refuses strict game bytes e decode.Memory broken = tt
+
+pub packed_failed : (game : ℕ) (error : DecodeError) → packed_error game error ≡ opening.Failed → ⊥
+packed_failed game (decode.Bad fault) is = absurd cc
+packed_failed game decode.Memory is = absurd cc
+
+pub unread_tells : (i : ℕ) (kept : Sig) (bytes : List ℕ) (error : DecodeError) → IfBadRecord (IsRecordFault bytes) error → TellsChange i kept bytes (unread_error i kept error)
+unread_tells i kept bytes (decode.Bad fault) broken = (refl, (refl, λ some. record-unbroken bytes some.0 some.1.0 fault some.1.1 broken))
+unread_tells i kept bytes decode.Memory broken = tt

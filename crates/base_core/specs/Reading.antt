@@ -1,5 +1,5 @@
 -- What is read of a game when a base is opened, as the functions of this crate go through it.
-use Rattle.std.specs.Prelude.{◌≡◌, ◌≤◌, ◌<◌, ◌⊎◌, ℕ, Bool, false, IsTrue, List, length, slice_get, Option, Some, None, is_some, count_by}
+use Rattle.std.specs.Prelude.{◌≡◌, ◌⊎◌, ℕ, Bool, false, IsTrue, List, length, slice_get, Option, Some, None, is_some, count_by}
 use Rattle.game_tree.specs.Game.{GameTree}
 use Rattle.game_tree.specs.Settle.{settled}
 use Rattle.game_tree.specs.declared.date.Date.{Date}
@@ -7,7 +7,6 @@ use Rattle.game_tree.specs.declared.head.Tag.{Tag}
 use Rattle.game_codec.specs.Record.{IsRecord}
 use Rattle.game_codec.specs.Fault.{IsRecordFault}
 use Rattle.game_codec.specs.declared.fault.RecordFault.{RecordFault}
-use Rattle.index_entry.specs.Entry.{AreCounts, AreHomeValues}
 use Rattle.index_entry.specs.Index.{entry_bytes}
 use Rattle.index_entry.specs.declared.entry.Entry.{Entry}
 use Rattle.name_base.specs.NameLists.{NameLists}
@@ -89,13 +88,3 @@ pub record AreRead (strict : Bool) (index : List ℕ) (names : NameLists) (games
       IsRead strict names games i (entry_bytes index i) e held field
   pub mends : mended ≡ count_by is_some fields
   pub strictly : IsTrue strict → mended ≡ 0
-
--- The bounds of a signature, which are those of the fields of an entry: at most 16 home values, each below 16.
-pub record IsSigBounded (sig : Sig) : Type 0 where
-  pub material : AreCounts sig.material
-  pub home_count : sig.home.count ≤ 16
-  pub home : AreHomeValues sig.home.count sig.home.values
-  pub plies : sig.plies ≤ 1023
-  pub vars : sig.vars < 16
-  pub comments : sig.comments < 16
-  pub nags : sig.nags < 16

@@ -1,5 +1,6 @@
 //! The checks of an entry: its fields, its ids, the place of its record, and its derived fields beside a signature.
 ghost use Rattle.std.specs.Prelude.{◌≡◌, ◌≤◌, ◌+◌, ◌*◌, ⊤, length, IfOk, MatchOption};
+ghost use Rattle.index_entry.specs.Entry.{IsEntry};
 ghost use Rattle.index_entry.specs.Index.{entry_bytes};
 ghost use Rattle.base_core.specs.Entries.{HasNames};
 ghost use Rattle.base_core.specs.FirstFault.{derived_fault, entry_checked, id_fault, place_fault};
@@ -29,6 +30,7 @@ pub(crate) struct Opening<'a> {
 pub(crate) fn checked_entry(o: &Opening<'_>, game: u32) -> Result<Entry, BaseFault>
     requires there { 229 + 47 * game ≤ length o.now.index.now }
     ensures exact { result ≡ entry_checked o.now.names.now o.now.end game (entry_bytes o.now.index.now game) }
+    ensures fields { IfOk result IsEntry }
 {
     let entry = match unpack(&entry_of(o.index, game)) {
         Ok(entry) => entry,

@@ -16,9 +16,10 @@ ghost use Rattle.base_core.specs.GameAt.{IfChanged, IsGameAt, SaysWhy, TellsChan
 ghost use Rattle.base_core.specs.Represents.{Represents};
 
 use crate::base::Base;
-use crate::fault::EditError;
+use crate::checking::differing;
+use crate::fault::{EditError, unread_error};
 use base_files::{Extent, Files};
-use game_codec::{DecodeError, decode_game};
+use game_codec::decode_game;
 use game_tree::{Game, Head, HeadRef, Tag, Tags, settle};
 use index_entry::Entry;
 use name_base::{NameKind, Names};
@@ -64,7 +65,7 @@ impl Base {
         if self.store.fetch(extent_of(&entry), files, buf).is_err() {
             return Err(EditError::Failed);
         }
-        let (game, tags) = match read_unchanged(alloc, i, sig_in(&entry), &buf[..entry.len as usize]) {
+        let (game, tags) = match read_unchanged(alloc, i, &entry, &buf[..entry.len as usize]) {
             Ok(read) => read,
             Err(error) => return Err(error),
         };
@@ -103,36 +104,29 @@ pub(crate) fn sig_in(e: &Entry) -> Sig
     }
 }
 
-// The game and the tags of a record, where the game has this signature.
+// The game and the tags of the record of game `i`, where the game has the signature of its entry.
 fn read_unchanged(
     alloc: Global,
     i: u32,
-    kept: Sig,
+    e: &Entry,
     bytes: &[u8],
 ) -> Result<(Game, Vec<Tag>), EditError>
     requires few { length bytes.now < 2 ^ 32 }
     ensures read { IfOk result (λ read. IsRecord bytes.now read.1.items read.0) }
-    ensures same { IfOk result (λ read. IsSig read.0 kept) }
+    ensures same { IfOk result (λ read. IsSig read.0 (sig_in e.now)) }
     ensures legal { IfOk result (λ read. IsLegalGame read.0) }
     ensures tags { IfOk result (λ read. All IsTag read.1.items) }
-    ensures why { IfErr result (TellsChange i kept bytes.now) }
+    ensures why { IfErr result (TellsChange i (sig_in e.now) bytes.now) }
 {
     let (game, tags) = match decode_game(alloc, bytes) {
         Ok(read) => read,
-        Err(DecodeError::Bad(_)) => {
-            return Err(EditError::Changed {
-                game: i,
-                kept,
-                found: None,
-            });
-        }
-        Err(DecodeError::Memory) => return Err(EditError::Memory),
+        Err(error) => return Err(unread_error(i, sig_in(e), error)),
     };
     let found = sig_of(&game);
-    if found != kept {
+    if differing(e, &found).is_some() {
         return Err(EditError::Changed {
             game: i,
-            kept,
+            kept: sig_in(e),
             found: Some(found),
         });
     }

@@ -1,12 +1,13 @@
 //! Opening a base.
-ghost use Rattle.std.specs.Prelude.{◌≡◌, ◌≤◌, ◌+◌, ◌*◌, ◌&&◌, nat_eq, Bool, false, length, Ok, Err, IfOk, IfErr, IfSome, OnErr};
+ghost use Rattle.std.specs.Prelude.{◌≡◌, ◌≤◌, ◌+◌, ◌*◌, ◌&&◌, Bool, false, length, Ok, Err, IfOk, IfErr, IfSome, OnErr};
 ghost use Rattle.base_files.specs.Causes.{HasCause};
 ghost use Rattle.base_files.specs.Counters.{Rose};
 ghost use Rattle.base_files.specs.Seen.{measured};
 ghost use Rattle.base_files.specs.Told.{Tells, TellsLength};
 ghost use Rattle.base_core.specs.FirstFault.{FirstFault, whole_read};
-ghost use Rattle.base_core.specs.Opening.{IfBad, IfTold, Opens, Refuses, is_created, open_cost};
-ghost use Rattle.base_core.specs.Represents.{IsSound};
+ghost use Rattle.base_core.specs.Opening.{IfBad, IfTold, Opens, Refuses, are_empty, is_created, open_cost};
+ghost use Rattle.sig_index.specs.Games.{AreWithin};
+ghost use Rattle.base_core.specs.Represents.{IsSound, extents_of};
 ghost use Rattle.index_entry.specs.Index.{head_in, index_read};
 ghost use Rattle.name_base.specs.NamesFile.{NameFile};
 
@@ -16,7 +17,7 @@ use crate::fault::{BaseFault, OpenError};
 use crate::reading::read_games;
 use base_files::{DeviceError, Files, Part};
 use index_entry::{IndexHead, read_index};
-use name_base::{Names, NamesError, read_names};
+use name_base::{Names, read_names};
 use std::alloc::Global;
 
 // What is read of the files of a base before their records: the index, the names file and the length of the games file.
@@ -53,6 +54,7 @@ impl Base {
         // Whatever the files hold, each record of the base lies within them, and nothing is unsaved.
         ensures sound { IfOk result (λ opened. IsSound opened.0) }
         ensures end { IfOk result (λ opened. opened.0.end ≡ (F.seen files.new).known) }
+        ensures within { IfOk result (λ opened. AreWithin (F.seen files.new).known (extents_of opened.0)) }
         ensures saved { IfOk result (λ opened. opened.0.unsaved ≡ false) }
         ensures cause { IfErr result (λ error. error ≡ OpenError.Failed → Rose (F.faults files.old) (F.faults files.new)) }
         ensures counts { F.faults files.old ≤ F.faults files.new }
@@ -63,7 +65,7 @@ impl Base {
             Ok(loaded) => loaded,
             Err(error) => return Err(OpenError::from(error)),
         };
-        if create && loaded.is_empty() {
+        if loaded.is_created(create) {
             return Ok((Base::empty(alloc), 0));
         }
         open_loaded(alloc, files, &loaded, strict, buf)
@@ -71,9 +73,16 @@ impl Base {
 }
 
 impl Loaded {
+    // Whether a base is created, where that may be: all three files are empty.
+    fn is_created(&self, create: bool) -> bool
+        ensures created { result ≡ (create && are_empty self.now.index.items self.now.names.items self.now.end) }
+    {
+        create && self.is_empty()
+    }
+
     // Whether all three files are empty.
     fn is_empty(&self) -> bool
-        ensures empty { result ≡ (nat_eq (length self.now.index.items) 0 && nat_eq (length self.now.names.items) 0 && nat_eq self.now.end 0) }
+        ensures empty { result ≡ are_empty self.now.index.items self.now.names.items self.now.end }
     {
         self.index.is_empty() && self.names.is_empty() && self.end == 0
     }
@@ -150,7 +159,6 @@ fn read_whole(alloc: Global, loaded: &Loaded) -> Result<(IndexHead, Names), Open
     };
     match read_names(alloc, loaded.names.as_slice()) {
         Ok(names) => Ok((header, names)),
-        Err(NamesError::Bad(fault)) => Err(OpenError::Bad(BaseFault::Names(fault))),
-        Err(NamesError::Memory) => Err(OpenError::Memory),
+        Err(error) => Err(OpenError::from(error)),
     }
 }

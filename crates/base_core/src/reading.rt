@@ -10,15 +10,16 @@ ghost use Rattle.game_codec.specs.Fault.{IsRecordFault, IfBad as IfBadRecord};
 ghost use Rattle.index_entry.specs.Entry.{IsEntry, entry_in};
 ghost use Rattle.index_entry.specs.Index.{entry_bytes};
 ghost use Rattle.name_base.specs.NameLists.{NameLists, no_names};
+ghost use Rattle.sig_index.specs.Signature.{IsSigBounded};
 ghost use Rattle.base_core.specs.Entries.{head_of};
 ghost use Rattle.base_core.specs.FirstFault.{EntryFails, Fails};
 ghost use Rattle.base_core.specs.Opening.{IfBad, records_len};
-ghost use Rattle.base_core.specs.Reading.{AreRead, IsSigBounded, IsNotTaken, IsReadSo, IsSigned, IsTaken};
+ghost use Rattle.base_core.specs.Reading.{AreRead, IsNotTaken, IsReadSo, IsSigned, IsTaken};
 ghost use Rattle.base_core.specs.Represents.{IsKept};
 
 use crate::checking::{Opening, checked_entry, differing, kept_entry};
 use crate::entries::Entries;
-use crate::fault::{BaseFault, OpenError};
+use crate::fault::{BaseFault, OpenError, packed_error};
 use base_files::Files;
 use game_codec::{DecodeError, decode_game};
 use game_tree::{Date, Head, HeadRef, Tag, Tags, settle};
@@ -122,10 +123,7 @@ fn taken_entry(
 {
     let signed = match signed_by(alloc, entry, bytes) {
         Ok(signed) => signed,
-        Err(DecodeError::Bad(fault)) => {
-            return Err(OpenError::Bad(BaseFault::Packed { game, fault }));
-        }
-        Err(DecodeError::Memory) => return Err(OpenError::Memory),
+        Err(error) => return Err(packed_error(game, error)),
     };
     let found = differing(entry, &signed.sig);
     match found {
