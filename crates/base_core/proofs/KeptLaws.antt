@@ -159,3 +159,15 @@ is-kept names end e kept s date is has placed fields homes =
       placed = subst (λ (x : Entry). place_fault end x ≡ None) (sym is) within;
       homes = homes;
     }
+
+-- Settling leaves the game's date.
+pub settled-date : (head : Head) → (settled head).date ≡ head.date
+settled-date head = ap (λ (h : Head). h.date) (settled-rest head)
+
+pub head-date : (names : NameLists) (e : Entry) (tags : List Tag) → (head_of names e tags).date ≡ e.date
+unfolding head_of
+head-date names e tags = refl
+
+pub kept-homes : (e : Entry) (s : Sig) (date : Date) → s.home.count ≤ 16 → (kept_entry e s date).home_count ≤ 16
+unfolding kept_entry
+kept-homes e s date few = few

@@ -9,4 +9,5 @@ pub mod ReadLaws
 pub mod OneFault
 pub mod OneBase
 pub mod GamesLaws
+pub mod GameLaws
 pub mod OpenLaws

@@ -25,7 +25,7 @@ zero_free : (text : List ℕ) → has_zero text ≡ false → IsZeroFree text
 zero_free [] none = All-nil (λ (byte : ℕ). byte ≢ 0)
 zero_free (byte ∷ text) none =
     elim (cases_Bool (byte == 0)) [
-      | inl zero ↦ absurd (true≢false (rw zero at none))
+      | inl empty ↦ absurd (true≢false (rw empty at none))
       | inr other ↦ All-cons (λ (b : ℕ). b ≢ 0) byte text (eqb-false byte 0 other) (zero_free text (rw other at none))
     ]
 

@@ -1,5 +1,5 @@
 -- What opening answers, of what was read.
-use Rattle.std.proofs.Common.{◌≡◌, ◌<◌, ◌≤◌, ◌+◌, ◌⊎◌, ℕ, Bool, true, false, List, [], length, slice_get, count_by, Option, Some, None, is_some, Result, Ok, Err, IsTrue, IfSome, ◌&&◌, MatchBool, refl, sym, ap, ◌∙◌, subst, inl, inr, arith, true≢false}
+use Rattle.std.proofs.Common.{◌≡◌, ◌<◌, ◌≤◌, ◌+◌, ◌⊎◌, ℕ, Bool, true, false, List, [], length, slice_get, count_by, Option, Some, None, is_some, Result, Ok, Err, IsTrue, IfOk, IfSome, ◌&&◌, MatchBool, refl, sym, ap, ◌∙◌, subst, inl, inr, arith, true≢false}
 use Rattle.std.proofs.lemmas.Option.{none-some, slice_get_within}
 use Rattle.base_files.specs.Seen.{Seen}
 use Rattle.base_files.specs.Told.{Tells, TellsLength}
@@ -24,12 +24,14 @@ use Rattle.base_core.specs.declared.fault.OpenError.TheVariants as opening
 use Rattle.base_core.specs.Base.{Base, Held, empty_base, empty_header}
 use Rattle.base_core.specs.Means.{AreGames, IsEntryOf, Means}
 use Rattle.base_core.specs.FirstFault.{Whole, whole_read, blamed, ◌>>=◌, EntryFails, FirstFault}
-use Rattle.base_core.specs.Represents.{Kept, Keeps, Represents, AreDifferences, Mended}
+use Rattle.base_core.specs.Represents.{IsSound, Kept, Represents, AreDifferences, Mended, extents_of}
 use Rattle.base_core.specs.Opening.{IfBad, IfTold, OpensAs, Opens, Refuses, are_empty, is_created}
 use Rattle.base_core.specs.Reading.{AreRead, IsRead}
 use Rattle.base_core.proofs.CheckLaws.{checked, has_names, read_is}
 use Rattle.base_core.proofs.Lists.{get_some}
-use Rattle.base_core.proofs.ReadLaws.{At, passes_of}
+use Rattle.sig_index.specs.Games.{AreWithin}
+use Rattle.base_core.proofs.GamesLaws.{are-within}
+use Rattle.base_core.proofs.ReadLaws.{passes_of}
 use Rattle.base_core.proofs.OneFault.{none_fails}
 use Rattle.base_core.proofs.OneBase.{means-one}
 
@@ -213,3 +215,8 @@ refused_told seen create strict index names end (opening.Bad fault) one two long
     (λ g first same. record { there = created_is create index names g end false same there; first = first }) is))
 refused_told seen create strict index names end opening.Failed one two long there is = tt
 refused_told seen create strict index names end opening.Memory one two long there is = tt
+
+-- The records of what was opened lie within the games file.
+pub within_so : (r : Result (Kept × ℕ) OpenError) (end known : ℕ) → end ≡ known → IfOk r (λ opened. IsSound opened.0) → IfOk r (λ opened. opened.0.end ≡ end) → IfOk r (λ opened. AreWithin known (extents_of opened.0))
+within_so (Ok opened) end known same sound is = are-within opened.0 known sound (omega (arith, is, same))
+within_so (Err error) end known same sound is = tt

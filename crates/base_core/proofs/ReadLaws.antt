@@ -1,5 +1,5 @@
 -- What is read of a game and of all games, where the games file is told.
-use Rattle.std.proofs.Common.{◌≡◌, ◌<◌, ◌≤◌, ◌+◌, ◌⊎◌, ℕ, zero, suc, Bool, true, false, cond, List, [], ◌∷◌, ◌++◌, length, slice_get, count_by, Option, Some, None, is_some, Result, Ok, Err, IsTrue, IfSome, IfOk, IfErr, refl, sym, ap, ◌∙◌, subst, inl, inr, arith, true≢false, eq-or-lt_of_le}
+use Rattle.std.proofs.Common.{◌≡◌, ◌<◌, ◌≤◌, ◌+◌, ◌⊎◌, ℕ, zero, suc, Bool, true, false, cond, List, [], ◌∷◌, ◌++◌, length, slice_get, count_by, Option, Some, None, is_some, Result, Ok, Err, IsTrue, IfSome, IfOk, IfErr, refl, sym, ap, ◌∙◌, subst, inl, inr, arith, true≢false, eq-or-lt_of_le, All, ◌-◌, zero-add, suc-add}
 use Rattle.std.proofs.lemmas.Option.{same_Some, none-some, slice_get_within}
 use Rattle.std.proofs.lemmas.List.{length_push}
 use Rattle.base_files.specs.Extents.{record_in}
@@ -29,7 +29,10 @@ use Rattle.game_codec.specs.declared.fault.DecodeError.TheVariants as decode
 use Rattle.game_codec.proofs.DecodeLaws.{record-unbroken}
 use Rattle.base_core.specs.Errors.{packed_error, unread_error}
 use Rattle.base_core.specs.GameAt.{TellsChange}
-use Rattle.base_core.specs.Opening.{IfBad}
+use Rattle.base_files.specs.Counters.{LAST, raised}
+use Rattle.std.proofs.Math.Nat.{min-le_left}
+use Rattle.std.proofs.lemmas.List.Elements.{All-push}
+use Rattle.base_core.specs.Opening.{IfBad, records_len}
 use Rattle.base_core.specs.declared.fault.OpenError.{OpenError}
 use Rattle.base_core.specs.declared.fault.OpenError.TheVariants as opening
 use Rattle.base_core.specs.declared.reading.GameRead.{GameRead}
@@ -264,3 +267,57 @@ packed_failed game decode.Memory is = absurd cc
 pub unread_tells : (i : ℕ) (kept : Sig) (bytes : List ℕ) (error : DecodeError) → IfBadRecord (IsRecordFault bytes) error → TellsChange i kept bytes (unread_error i kept error)
 unread_tells i kept bytes (decode.Bad fault) broken = (refl, (refl, λ some. record-unbroken bytes some.0 some.1.0 fault some.1.1 broken))
 unread_tells i kept bytes decode.Memory broken = tt
+
+-- ---- the loop over the games.
+
+-- The records of more games have no fewer bytes.
+records_len-add : (index : List ℕ) (m k : ℕ) → records_len index m ≤ records_len index (k + m)
+records_len-add index m zero = rw zero-add (omega arith)
+records_len-add index m (suc k) = let before : records_len index m ≤ records_len index (k + m) = records_len-add index m k in rw suc-add (omega (arith, before))
+
+pub records_len-le : (index : List ℕ) (m n : ℕ) → m ≤ n → records_len index m ≤ records_len index n
+records_len-le index m n within =
+    let e : n - m + m ≡ n = omega arith in
+    let P : ℕ → Type 0 = λ k. records_len index m ≤ records_len index k in
+    subst P e (records_len-add index m (n - m))
+
+-- So many bytes asked, within those of all records.
+pub asked-within : (index : List ℕ) (game count old before now : ℕ) → game < count → before ≤ old + records_len index game → now ≤ before + (entry_in (entry_bytes index game)).len → now ≤ old + records_len index count
+asked-within index game count old before now below first second =
+    let more : records_len index (suc game) ≤ records_len index count = records_len-le index (suc game) count (omega (arith, below)) in
+    omega (arith, first, second, more)
+
+pub asked-le : (old n now : ℕ) → now ≡ raised old n → now ≤ old + n
+asked-le old n now e = subst (λ k. k ≤ old + n) (sym e) (min-le_left (old + n) LAST)
+
+-- The first that fails, for an error.
+pub fails_by : (error : OpenError) (told here : Option (List ℕ)) (strict : Bool) (index : List ℕ) (names : NameLists) (entries : List Entry) (mended game count : ℕ) → here ≡ told → length entries ≡ game → game < count →
+    IfSome told (λ games. AreRead strict index names games entries mended) → IfBad (λ fault. IfSome here (λ games. Fails strict names games game (entry_bytes index game) fault)) error →
+    IfBad (λ fault. IfSome told (λ games. EntryFails strict index names games count fault)) error
+fails_by (opening.Bad fault) told here strict index names entries mended game count same long below read fails =
+    let O : Option (List ℕ) → Type 0 = λ o. IfSome o (λ games. Fails strict names games game (entry_bytes index game) fault) in
+    fails_told told strict index names entries mended game count fault long below read (subst O same fails)
+fails_by opening.Failed told here strict index names entries mended game count same long below read fails = tt
+fails_by opening.Memory told here strict index names entries mended game count same long below read fails = tt
+
+-- One more game, as the loop has it.
+pub next_read : (told here : Option (List ℕ)) (strict : Bool) (index : List ℕ) (names : NameLists) (entries after : List Entry) (mended one game : ℕ) (e : Entry) (b : Bool) → here ≡ told → length entries ≡ game →
+    after ≡ entries ++ e ∷ [] → one ≡ cond b 1 0 → IfSome told (λ games. AreRead strict index names games entries mended) → IfSome here (λ games. IsReadSo strict names games game (entry_bytes index game) e b) →
+    IfSome told (λ games. AreRead strict index names games after (mended + one))
+next_read told here strict index names entries after mended one game e b same long pushed is before now =
+    let O : Option (List ℕ) → Type 0 = λ o. IfSome o (λ games. IsReadSo strict names games game (entry_bytes index game) e b) in
+    let A : List Entry → Type 0 = λ es. IfSome told (λ games. AreRead strict index names games es (mended + one)) in
+    let M : ℕ → Type 0 = λ n. IfSome told (λ games. AreRead strict index names games (entries ++ e ∷ []) (mended + n)) in
+    subst A (sym pushed) (subst M (sym is) (one_more_told told strict index names entries mended game e b long before (subst O same now)))
+
+pub one_longer : (entries after : List Entry) (e : Entry) (game : ℕ) → length entries ≡ game → after ≡ entries ++ e ∷ [] → length after ≡ game + 1
+one_longer entries after e game long pushed = ap (λ (es : List Entry). length es) pushed ∙ (length_push entries e ∙ ap (λ (n : ℕ). n + 1) long)
+
+pub all_kept : (names : NameLists) (end : ℕ) (entries after : List Entry) (e : Entry) → after ≡ entries ++ e ∷ [] → All (IsKept names end) entries → IsKept names end e → All (IsKept names end) after
+all_kept names end entries after e pushed all is =
+    let A : List Entry → Type 0 = λ es. All (IsKept names end) es in
+    subst A (sym pushed) (All-push (IsKept names end) entries e all is)
+
+pub at_most_one : (b : Bool) (one : ℕ) → one ≡ cond b 1 0 → one ≤ 1
+at_most_one true one is = omega (arith, is)
+at_most_one false one is = omega (arith, is)
