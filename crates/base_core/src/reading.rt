@@ -1,5 +1,5 @@
 //! Reading the games of a base that is opened.
-ghost use Rattle.std.specs.Prelude.{◌≡◌, ◌≤◌, ◌<◌, ◌+◌, ◌*◌, ◌^◌, All, List, length, take, IfOk, IfErr, IfSome, OnOk, OnErr, IsTrue};
+ghost use Rattle.std.specs.Prelude.{◌≡◌, ◌≤◌, ◌<◌, ◌+◌, ◌*◌, ◌^◌, All, List, length, take, IfOk, IfErr, IfSome, OnOk, OnErr, IsTrue, if◌then◌else◌};
 ghost use Rattle.base_files.specs.Counters.{Rose};
 ghost use Rattle.base_files.specs.Told.{TellsLength};
 ghost use Rattle.game_tree.specs.Date.{IsDate, keeps_rule};
@@ -41,6 +41,15 @@ struct GameRead {
     mended: bool,
 }
 
+impl GameRead {
+    // How many entries this is that were mended.
+    fn count(&self) -> u32
+        ensures count { result ≡ (if self.now.mended then 1 else 0) }
+    {
+        if self.mended { 1 } else { 0 }
+    }
+}
+
 /// The entries of so many games with their derived fields mended, and how many of them were. Each record is read once, into `buf`.
 pub(crate) fn read_games<F: Files>(
     alloc: Global,
@@ -68,7 +77,7 @@ pub(crate) fn read_games<F: Files>(
     for game in 0..count {
         let read = read_game(alloc, files, o, game, buf)?;
         entries.push(&read.entry)?;
-        mended += u32::from(read.mended);
+        mended += read.count();
     }
     Ok((entries, mended))
 }

@@ -42,11 +42,11 @@ returns-in_err-push-clause-asks g c =
 
 pub loop-game-preserved : goal.loop-game-preserved
 loop-game-preserved g c = record {
-  read = next_read _ _ c.args.o.now.strict c.args.o.now.index.now c.args.o.now.names.now c.loop-game.entries c.push.new.self c.loop-game.mended c.from-mended.result c.loop-game.game c.in_ok-read.read.entry c.in_ok-read.read.mended
-    (ap (λ (seen : Seen). seen.games) c.loop-game.invariant.unchanged) c.loop-game.invariant.count c.in_ok-push.ensures.pushed c.from-mended.ensures c.loop-game.invariant.read c.in_ok-read.ensures.read;
+  read = next_read _ _ c.args.o.now.strict c.args.o.now.index.now c.args.o.now.names.now c.loop-game.entries c.push.new.self c.loop-game.mended c.count-mended.result c.loop-game.game c.in_ok-read.read.entry c.in_ok-read.read.mended
+    (ap (λ (seen : Seen). seen.games) c.loop-game.invariant.unchanged) c.loop-game.invariant.count c.in_ok-push.ensures.pushed c.count-mended.ensures.count c.loop-game.invariant.read c.in_ok-read.ensures.read;
   count = one_longer c.loop-game.entries c.push.new.self c.in_ok-read.read.entry c.loop-game.game c.loop-game.invariant.count c.in_ok-push.ensures.pushed;
   kept = all_kept c.args.o.now.names.now c.args.o.now.end c.loop-game.entries c.push.new.self c.in_ok-read.read.entry c.in_ok-push.ensures.pushed c.loop-game.invariant.kept c.in_ok-read.ensures.kept;
-  few = omega (arith, c.loop-game.invariant.few, at_most_one c.in_ok-read.read.mended c.from-mended.result c.from-mended.ensures);
+  few = omega (arith, c.loop-game.invariant.few, at_most_one c.in_ok-read.read.mended c.count-mended.result c.count-mended.ensures.count);
   asks = asked-within c.args.o.now.index.now c.loop-game.game (c.loop-game.game + 1) _ _ _ (omega arith) c.loop-game.invariant.asks c.read_game.ensures.asks;
   unchanged = c.read_game.ensures.unchanged ∙ c.loop-game.invariant.unchanged;
   counts = omega (arith, c.loop-game.invariant.counts, c.read_game.ensures.counts);
