@@ -20,7 +20,8 @@ const ENTRY: [u8; 47] = [
     0xec, 0, 0, 0, 0, 0, 0, 0x29, 0x66, 0xa6, 0x15, 5, 0xb5, 0xc4, 0x30, 0, 0, 0, 0, 0,
 ];
 
-const NAMES: &[u8] = b"Scid.sn\0\0\0\0\0\0\0\x02\0\0\x01\0\0\x01\0\0\x01\0\0\x01\0\0\x01\0\0\x01\0\0\x01\
+const NAMES: &[u8] =
+    b"Scid.sn\0\0\0\0\0\0\0\x02\0\0\x01\0\0\x01\0\0\x01\0\0\x01\0\0\x01\0\0\x01\0\0\x01\
     \0\0\x01\x0dReti, Richard\0\x01\x01\x14\0Tartakower, Savielly\
     \0\0\x01\x06Vienna\0\0\x01\x0aVienna AUT\0\0\x01\x01?";
 
@@ -61,7 +62,10 @@ fn opens_a_base_and_gives_its_game(rt: HostRuntime) -> Result<(), Fail> {
     assert!(rt; head.black.as_bytes() == b"Tartakower, Savielly".as_slice());
     assert!(rt; head.site.as_bytes() == b"Vienna AUT".as_slice());
     assert_eq!(rt; game.line.len(), 21);
-    assert!(rt; base.game(rt.alloc(), 1, &mut files, buf.as_mut_slice()).is_err());
+    assert!(rt;
+        base.game(rt.alloc(), 1, &mut files, buf.as_mut_slice())
+            .is_err()
+    );
     Ok(())
 }
 
@@ -69,7 +73,13 @@ fn opens_a_base_and_gives_its_game(rt: HostRuntime) -> Result<(), Fail> {
 fn mends_an_entry(rt: HostRuntime) -> Result<(), Fail> {
     let mut files = files(rt.alloc(), 39, 0x5b)?;
     let mut buf = vec![in rt.alloc(); 0u8; 131_072]?;
-    let (_base, mended) = Base::open_base(rt.alloc(), &mut files, false, false, buf.as_mut_slice())?;
+    let (_base, mended) = Base::open_base(
+        rt.alloc(),
+        &mut files,
+        false,
+        false,
+        buf.as_mut_slice(),
+    )?;
     assert_eq!(rt; mended, 1);
     Ok(())
 }
@@ -79,19 +89,70 @@ type Row = (usize, u8, bool, Option<OpenError>);
 
 const FAULTS: [Row; 8] = [
     (37, 0x16, false, None),
-    (37, 0x16, true, Some(OpenError::Bad(BaseFault::Derived { game: 0, field: DerivedField::Plies }))),
-    (39, 0x5b, true, Some(OpenError::Bad(BaseFault::Derived { game: 0, field: DerivedField::Home }))),
-    (21, 0x50, false, Some(OpenError::Bad(BaseFault::EntryField { game: 0, what: EntryFault::Result }))),
-    (13, 2, false, Some(OpenError::Bad(BaseFault::Id { game: 0, field: IdField::Black }))),
-    (20, 1, false, Some(OpenError::Bad(BaseFault::Id { game: 0, field: IdField::Round }))),
-    (6, 0x80, false, Some(OpenError::Bad(BaseFault::Place { game: 0, what: PlaceWhat::Past }))),
+    (
+        37,
+        0x16,
+        true,
+        Some(OpenError::Bad(BaseFault::Derived {
+            game: 0,
+            field: DerivedField::Plies,
+        })),
+    ),
+    (
+        39,
+        0x5b,
+        true,
+        Some(OpenError::Bad(BaseFault::Derived {
+            game: 0,
+            field: DerivedField::Home,
+        })),
+    ),
+    (
+        21,
+        0x50,
+        false,
+        Some(OpenError::Bad(BaseFault::EntryField {
+            game: 0,
+            what: EntryFault::Result,
+        })),
+    ),
+    (
+        13,
+        2,
+        false,
+        Some(OpenError::Bad(BaseFault::Id {
+            game: 0,
+            field: IdField::Black,
+        })),
+    ),
+    (
+        20,
+        1,
+        false,
+        Some(OpenError::Bad(BaseFault::Id {
+            game: 0,
+            field: IdField::Round,
+        })),
+    ),
+    (
+        6,
+        0x80,
+        false,
+        Some(OpenError::Bad(BaseFault::Place {
+            game: 0,
+            what: PlaceWhat::Past,
+        })),
+    ),
     (
         5,
         0x0e,
         false,
         Some(OpenError::Bad(BaseFault::Packed {
             game: 0,
-            fault: RecordFault { place: 14, what: RecordWhat::Move(MoveFault::Short) },
+            fault: RecordFault {
+                place: 14,
+                what: RecordWhat::Move(MoveFault::Short),
+            },
         })),
     ),
 ];
@@ -115,7 +176,12 @@ fn tells_the_first_fault(rt: HostRuntime) -> Result<(), Fail> {
 #[test]
 fn creates_a_base(rt: HostRuntime) -> Result<(), Fail> {
     let alloc = rt.alloc();
-    let mut files = MemFiles::new(Vec::new(alloc), Vec::new(alloc), Vec::new(alloc), Vec::new(alloc));
+    let mut files = MemFiles::new(
+        Vec::new(alloc),
+        Vec::new(alloc),
+        Vec::new(alloc),
+        Vec::new(alloc),
+    );
     let mut buf = vec![in alloc; 0u8; 131_072]?;
     let refused = Base::open_base(alloc, &mut files, false, false, buf.as_mut_slice()).err();
     assert!(rt; refused == Some(OpenError::Bad(BaseFault::Index(IndexFault::Short(0)))));
