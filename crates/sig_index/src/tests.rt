@@ -22,7 +22,7 @@ fn game_of(alloc: Global, moves: &[(u8, u8)]) -> Result<Game, Fail> {
     if builder.depth() > 0 {
         return Err("a variation is open".into());
     }
-    let Branch { lead, line } = builder.finish()?;
+    let Branch { lead, line } = builder.finish(alloc)?;
     Ok(Game {
         start: Position::start(),
         lead,
