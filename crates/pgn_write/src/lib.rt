@@ -7,3 +7,6 @@ mod writer;
 mod writing;
 
 pub use writing::write_game;
+
+#[cfg(test)]
+mod tests;

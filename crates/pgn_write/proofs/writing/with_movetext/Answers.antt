@@ -15,11 +15,11 @@ pub returns : goal.returns
 returns c =
     let tokens : List Token = tokens_from (first_turn c.args.g.now.start) (first_turn c.args.g.now.start) true (movetext_of_game c.args.g.now) in
     let wrote : c.put_line.new.writer ≡ put_all tokens c.new-writer.result =
-        c.in_ok-put_line.ensures.tokens
-        ∙ ap (λ (line : List Played).
-            put_all (tokens_from (first_turn c.g.inside.start) (first_turn c.g.inside.start) true (comment_before c.g.inside.lead (movetext_of (line_of line)))) c.new-writer.result)
-        c.as_slice.ensures.value
-        ∙ ap (λ (g : GameTree). put_all (tokens_from (first_turn g.start) (first_turn g.start) true (movetext_of_game g)) c.new-writer.result) c.g.view_is in
+    c.in_ok-put_line.ensures.tokens
+    ∙ ap (λ (line : List Played).
+    put_all (tokens_from (first_turn c.g.inside.start) (first_turn c.g.inside.start) true (comment_before c.g.inside.lead (movetext_of (line_of line)))) c.new-writer.result)
+    c.as_slice.ensures.value
+    ∙ ap (λ (g : GameTree). put_all (tokens_from (first_turn g.start) (first_turn g.start) true (movetext_of_game g)) c.new-writer.result) c.g.view_is in
     record {
       text =
           game-layout c.args.out.items c.into_written.result.items tokens (ending c.args.outcome)
