@@ -1,6 +1,6 @@
 -- Texts: names, tags and comments.
 use Rattle.std.specs.Prelude.{ℕ, ◌≢◌, List, All}
 
--- no byte is zero (this project's own: a zero byte ends a stored text)
+-- No byte is zero (this project's own: a zero byte ends a stored text).
 abbrev pub IsZeroFree : List ℕ → Type 0
 IsZeroFree bytes = All (λ byte. byte ≢ 0) bytes

@@ -13,7 +13,7 @@ use Rattle.cell_core.specs.Board.{Men, man_at, put}
 use Rattle.cell_core.specs.Man.{man, other, same_kind, is_man, is_of}
 use Rattle.chess_laws.specs.Geometry.{rank_of}
 use Rattle.chess_laws.specs.Position.{HasKings, HasPawnsInside, HasFewMen}
-use Rattle.chess_laws.specs.Legal.{IsOnlyKing}
+use Rattle.chess_laws.specs.LegalTests.{IsOnlyKing}
 use Rattle.chess_laws.proofs.Kings.{is_man-Some, king-only}
 
 pub put-same : (men : Men) (s : ℕ) (x : Option Man) → length men ≡ 64 → s < 64 → man_at (put men s x) s ≡ x

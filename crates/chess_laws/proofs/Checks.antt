@@ -15,7 +15,7 @@ use Rattle.chess_laws.specs.declared.setup.Setup.{Setup}
 use Rattle.chess_laws.specs.Geometry.{Offset, shift, Leaps, Runs, king_steps, knight_steps, pawn_captures}
 use Rattle.chess_laws.specs.Attacks.{Attacks, AttacksAs, Reaches, IsInCheck}
 use Rattle.chess_laws.specs.Checks.{is_at, reach_test, attack_from, any_below, in_check}
-use Rattle.chess_laws.specs.Legal.{run, slides}
+use Rattle.chess_laws.specs.LegalTests.{run, slides}
 use Rattle.chess_laws.specs.Position.{HasKings, king_square}
 use Rattle.chess_laws.proofs.Kings.{king-stands, king-only}
 use Rattle.chess_laws.proofs.Running.{run_is}

@@ -3,7 +3,7 @@ use Rattle.std.proofs.Common.{◌≡◌, ℕ, suc, ◌+◌, ◌-◌, ◌<◌, �
 use Rattle.std.proofs.lemmas.Bool.{false≢true}
 use Rattle.cell_core.specs.Board.{Men, man_at}
 use Rattle.chess_laws.specs.Geometry.{Offset, shift}
-use Rattle.chess_laws.specs.Legal.{run}
+use Rattle.chess_laws.specs.LegalTests.{run}
 use Rattle.chess_laws.proofs.Running.{run-on, run-edge, run-none}
 
 pub run-next : (men : Men) (o : Offset) (i a b c : ℕ) → i < 8 → shift o a ≡ Some c → run men o (8 - i) b a ≡ true →

@@ -16,7 +16,7 @@ use Rattle.std.proofs.lemmas.Bool.{and_parts, false≢true}
 use Rattle.chess_laws.specs.declared.setup.Setup.{Setup}
 use Rattle.chess_laws.specs.declared.effect.Effect.{Effect}
 use Rattle.chess_laws.specs.declared.effect.Effect.TheVariants.{Plain, Double, Passing, Castle, Null}
-use Rattle.chess_laws.specs.Legal.{is_calm}
+use Rattle.chess_laws.specs.LegalTests.{is_calm}
 use Rattle.chess_laws.specs.Position.{Sound}
 use Rattle.chess_laws.specs.Step.{Case, Legal, effect_of, board_after}
 use Rattle.chess_laws.proofs.Boards.{Goes, Goes-count, one_if, relocate}

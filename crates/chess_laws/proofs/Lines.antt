@@ -7,7 +7,7 @@ use Rattle.cell_core.specs.declared.man.Kind.{Kind}
 use Rattle.cell_core.specs.declared.man.Kind.TheVariants.{King, Queen, Rook, Bishop, Knight, Pawn}
 use Rattle.cell_core.specs.Board.{Men}
 use Rattle.chess_laws.specs.Geometry.{Offset, file_of, rank_of, king_steps, Walk, Runs, Leaps}
-use Rattle.chess_laws.specs.Legal.{line, line_of, glides, run, slides}
+use Rattle.chess_laws.specs.LegalTests.{line, line_of, glides, run, slides}
 use Rattle.chess_laws.specs.Rays.{offset_at}
 use Rattle.chess_laws.proofs.Running.{run_is}
 use Rattle.chess_laws.proofs.Shifts.{shift-Some}

@@ -19,7 +19,7 @@ use Rattle.chess_laws.specs.Checks.{in_check}
 use Rattle.chess_laws.specs.Counts.{counts_of}
 use Rattle.chess_laws.specs.Position.{Sound, Keeps, king_square}
 use Rattle.chess_laws.specs.Step.{effect_of, last_rank, PlainCase, PassingCase, CastleCase, Case, arriving, moved, passed_square, board_after, after, Legal}
-use Rattle.chess_laws.specs.Legal.{IsOnlyKing, king_after}
+use Rattle.chess_laws.specs.LegalTests.{IsOnlyKing, king_after}
 use Rattle.chess_laws.proofs.Kings.{king-only, king-stands}
 use Rattle.chess_laws.proofs.Boards.{only-king, man-colour, man-kind, same_kind-true, put-same, put-other, length-put}
 use Rattle.chess_laws.proofs.Keeping.{other-apart, lands_as, arriving-lands, lands, plain-no_king, moved-other, castle-squares, castle-apart, Lands, CastleSquares}

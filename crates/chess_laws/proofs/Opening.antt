@@ -15,7 +15,7 @@ use Rattle.chess_laws.specs.declared.effect.Effect.{Effect}
 use Rattle.chess_laws.specs.declared.effect.Effect.TheVariants.{Plain, Double, Passing, Castle, Null}
 use Rattle.chess_laws.specs.Geometry.{Offset, Walk, Runs}
 use Rattle.chess_laws.specs.Attacks.{Attacks, Reaches, IsInCheck}
-use Rattle.chess_laws.specs.Legal.{IsOnlyKing, is_calm, glides, slides}
+use Rattle.chess_laws.specs.LegalTests.{IsOnlyKing, is_calm, glides, slides}
 use Rattle.chess_laws.specs.Checks.{Hits, in_check}
 use Rattle.chess_laws.specs.Position.{Sound, king_square}
 use Rattle.chess_laws.specs.Rays.{Opens, Covers, glider, offset_at}

@@ -7,7 +7,7 @@ use Rattle.cell_core.specs.Man.{other}
 use Rattle.chess_laws.specs.declared.setup.Wing.{Wing}
 use Rattle.chess_laws.specs.Attacks.{Attacks}
 use Rattle.chess_laws.specs.Castling.{king_home, king_target, rook_target, king_path}
-use Rattle.chess_laws.specs.Legal.{AreSafe}
+use Rattle.chess_laws.specs.LegalTests.{AreSafe}
 
 path-each : (men : Men) (by : Colour) (a b c : ℕ) → AreSafe men by a b c → All (λ s. Attacks men by s → ⊥) (a ∷ b ∷ c ∷ [])
 path-each men by a b c safe zero d less = safe.first

@@ -4,7 +4,7 @@ use Rattle.std.proofs.lemmas.Bool.{eqb-true, eq-eqb, cases_Bool, cases_order, fa
 use Rattle.cell_core.specs.declared.man.Man.{Man}
 use Rattle.cell_core.specs.Board.{Men, man_at}
 use Rattle.chess_laws.specs.Geometry.{Offset, file_of, rank_of, shift, Walk, Runs}
-use Rattle.chess_laws.specs.Legal.{run, run_on}
+use Rattle.chess_laws.specs.LegalTests.{run, run_on}
 use Rattle.chess_laws.proofs.Shifts.{shift-Some}
 
 -- one step of the code's walk

@@ -8,7 +8,7 @@ use Rattle.chess_laws.specs.declared.setup.Rights.{Rights}
 use Rattle.chess_laws.specs.declared.setup.Wing.{Wing}
 use Rattle.chess_laws.specs.declared.setup.Wing.TheVariants.{KingSide, QueenSide}
 use Rattle.chess_laws.specs.Castling.{king_home, rook_home, has_right, keeps, rights_after}
-use Rattle.chess_laws.specs.Legal.{is_home_square}
+use Rattle.chess_laws.specs.LegalTests.{is_home_square}
 
 -- a square that is none of the homes
 record Apart (s : ℕ) : Type 0 where

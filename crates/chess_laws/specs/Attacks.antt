@@ -7,8 +7,8 @@ use Rattle.cell_core.specs.Board.{Men, man_at}
 use Rattle.cell_core.specs.Man.{man, other}
 use Rattle.chess_laws.specs.Geometry.{rook_steps, bishop_steps, knight_steps, king_steps, pawn_captures, Leaps, Runs}
 
--- such a man, standing on a, reaches b by its geometry over empty squares; a pawn, the two squares diagonally in front
--- of it (FIDE Laws, Article 3.2 bishop, 3.3 rook, 3.4 queen, 3.6 knight, 3.7.3 pawn, 3.8.1 king)
+-- Such a man, standing on a, reaches b by its geometry over empty squares; a pawn, the two squares diagonally in front
+-- of it (FIDE Laws, Article 3.2 bishop, 3.3 rook, 3.4 queen, 3.6 knight, 3.7.3 pawn, 3.8.1 king).
 abbrev pub Reaches : Men → Colour → Kind → ℕ → ℕ → Type 0
 Reaches men colour King a b = Any (Leaps a b) king_steps
 Reaches men colour Queen a b = Any (Runs men a b) (rook_steps ++ bishop_steps)
@@ -17,17 +17,17 @@ Reaches men colour Bishop a b = Any (Runs men a b) bishop_steps
 Reaches men colour Knight a b = Any (Leaps a b) knight_steps
 Reaches men colour Pawn a b = Any (Leaps a b) (pawn_captures colour)
 
--- a man of this colour and kind attacks the square s
+-- A man of this colour and kind attacks the square s.
 pub record AttacksAs (men : Men) (colour : Colour) (kind : Kind) (s : ℕ) : Type 0 where
   pub from : ℕ
   pub on_board : from < 64
   pub stands : man_at men from ≡ Some (man colour kind)
   pub reaches : Reaches men colour kind from s
 
--- some man of the colour attacks the square s (FIDE Laws, Article 3.1.2)
+-- Some man of the colour attacks the square s (FIDE Laws, Article 3.1.2).
 abbrev pub Attacks : Men → Colour → ℕ → Type 0
 Attacks men colour s = (kind : Kind) × AttacksAs men colour kind s
 
--- the king of this colour is under attack: it is in check (FIDE Laws, Article 3.9.1)
+-- The king of this colour is under attack: it is in check (FIDE Laws, Article 3.9.1).
 abbrev pub IsInCheck : Men → Colour → Type 0
 IsInCheck men colour = (s : ℕ) × (man_at men s ≡ Some (man colour King)) × Attacks men (other colour) s

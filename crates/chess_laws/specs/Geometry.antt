@@ -4,18 +4,18 @@ use Rattle.cell_core.specs.declared.man.Colour.{Colour}
 use Rattle.cell_core.specs.declared.man.Colour.TheVariants.{White, Black}
 use Rattle.cell_core.specs.Board.{Men, man_at}
 
--- the file of a square, a = 0 to h = 7, and its rank, the first = 0 to the eighth = 7 (FIDE Laws, Article 2.4)
+-- The file of a square, a = 0 to h = 7, and its rank, the first = 0 to the eighth = 7 (FIDE Laws, Article 2.4).
 abbrev pub file_of : ℕ → ℕ
 file_of s = s % 8
 
 abbrev pub rank_of : ℕ → ℕ
 rank_of s = s / 8
 
--- the square of a file and a rank
+-- The square of a file and a rank.
 abbrev pub square : ℕ → ℕ → ℕ
 square file rank = 8 * rank + file
 
--- a step: so many files to the right and left and so many ranks up and down, as White sees them
+-- A step: so many files to the right and left and so many ranks up and down, as White sees them.
 pub record Offset : Type 0 where
   pub right : ℕ
   pub left : ℕ
@@ -25,57 +25,57 @@ pub record Offset : Type 0 where
 abbrev pub by : ℕ → ℕ → ℕ → ℕ → Offset
 by r l u d = record { right = r; left = l; up = u; down = d }
 
--- a file or a rank that much higher and lower, where it stays from 0 to 7
+-- A file or a rank that much higher and lower, where it stays from 0 to 7.
 abbrev pub line_at : ℕ → ℕ → ℕ → Option ℕ
 line_at line up down = if nat_le down (line + up) && nat_lt (line + up) (8 + down) then Some (line + up - down) else None
 
--- the square of a file and a rank, where both are on the board
+-- The square of a file and a rank, where both are on the board.
 abbrev pub square_at : Option ℕ → Option ℕ → Option ℕ
 square_at None rank = None
 square_at (Some file) None = None
 square_at (Some file) (Some rank) = Some (square file rank)
 
--- the square that a step leads to, where it stays on the board
+-- The square that a step leads to, where it stays on the board.
 unfoldable pub shift : Offset → ℕ → Option ℕ
 shift o s = square_at (line_at (file_of s) o.right o.left) (line_at (rank_of s) o.up o.down)
 
--- along a file or a rank (FIDE Laws, Article 3.3)
+-- Along a file or a rank (FIDE Laws, Article 3.3).
 abbrev pub rook_steps : List Offset
 rook_steps = by 1 0 0 0 ∷ by 0 1 0 0 ∷ by 0 0 1 0 ∷ by 0 0 0 1 ∷ []
 
--- along a diagonal (FIDE Laws, Article 3.2)
+-- Along a diagonal (FIDE Laws, Article 3.2).
 abbrev pub bishop_steps : List Offset
 bishop_steps = by 1 0 1 0 ∷ by 0 1 1 0 ∷ by 1 0 0 1 ∷ by 0 1 0 1 ∷ []
 
--- to the nearest squares not on the same rank, file or diagonal (FIDE Laws, Article 3.6)
+-- To the nearest squares not on the same rank, file or diagonal (FIDE Laws, Article 3.6).
 abbrev pub knight_steps : List Offset
 knight_steps =
     by 1 0 2 0 ∷ by 2 0 1 0 ∷ by 2 0 0 1 ∷ by 1 0 0 2
     ∷ by 0 1 2 0 ∷ by 0 2 1 0 ∷ by 0 2 0 1 ∷ by 0 1 0 2 ∷ []
 
--- to any adjoining square (FIDE Laws, Article 3.8.1)
+-- To any adjoining square (FIDE Laws, Article 3.8.1).
 abbrev pub king_steps : List Offset
 king_steps = rook_steps ++ bishop_steps
 
--- a pawn's way, up the board for White and down for Black (FIDE Laws, Article 3.7.1)
+-- A pawn's way, up the board for White and down for Black (FIDE Laws, Article 3.7.1).
 abbrev pub forward : Colour → Offset
 forward White = by 0 0 1 0
 forward Black = by 0 0 0 1
 
--- diagonally in front of a pawn, on an adjacent file (FIDE Laws, Article 3.7.3)
+-- Diagonally in front of a pawn, on an adjacent file (FIDE Laws, Article 3.7.3).
 abbrev pub pawn_captures : Colour → List Offset
 pawn_captures White = by 1 0 1 0 ∷ by 0 1 1 0 ∷ []
 pawn_captures Black = by 1 0 0 1 ∷ by 0 1 0 1 ∷ []
 
--- equal steps lead from a to b, over so many empty squares strictly between (FIDE Laws, Article 3.5: over no man)
+-- Equal steps lead from a to b, over so many empty squares strictly between (FIDE Laws, Article 3.5: over no man).
 abbrev pub Walk : Men → Offset → ℕ → ℕ → ℕ → Type 0
 Walk men o zero a b = shift o a ≡ Some b
 Walk men o (suc n) a b = (c : ℕ) × (shift o a ≡ Some c) × (man_at men c ≡ None) × Walk men o n c b
 
--- a step leads from a to b
+-- A step leads from a to b.
 abbrev pub Leaps : ℕ → ℕ → Offset → Type 0
 Leaps a b o = shift o a ≡ Some b
 
--- equal steps lead from a to b, every square strictly between being empty
+-- Equal steps lead from a to b, every square strictly between being empty.
 abbrev pub Runs : Men → ℕ → ℕ → Offset → Type 0
 Runs men a b o = (n : ℕ) × Walk men o n a b

@@ -16,21 +16,21 @@ use Rattle.chess_laws.specs.Geometry.{Offset, rank_of, shift, forward, pawn_capt
 use Rattle.chess_laws.specs.Castling.{between, king_path, has_right}
 use Rattle.chess_laws.specs.Step.{board_after, effect_of, pawn_rank, passed_square, promotes_rightly}
 
--- whether some number below n passes the test
+-- Whether some number below n passes the test.
 unfoldable pub some_below : (ℕ → Bool) → ℕ → Bool
 some_below test zero = false
 some_below test (suc n) = test n || some_below test n
 
--- whether it is this square
+-- Whether it is this square.
 abbrev pub is_square : ℕ → Option ℕ → Bool
 is_square b None = false
 is_square b (Some a) = a == b
 
--- whether a step leads from a to b
+-- Whether a step leads from a to b.
 unfoldable pub leaps_now : ℕ → ℕ → Offset → Bool
 leaps_now a b o = is_square b (shift o a)
 
--- whether equal steps lead from a to b, over so many empty squares strictly between
+-- Whether equal steps lead from a to b, over so many empty squares strictly between.
 abbrev pub walks_on : Men → Option ℕ → (ℕ → Bool) → Bool
 walks_on men None further = false
 walks_on men (Some c) further = is_none (man_at men c) && further c
@@ -39,11 +39,11 @@ unfoldable pub walks_now : Men → Offset → ℕ → ℕ → ℕ → Bool
 walks_now men o b zero a = leaps_now a b o
 walks_now men o b (suc n) a = walks_on men (shift o a) (walks_now men o b n)
 
--- whether equal steps lead from a to b over empty squares: fewer than eight, since the board has no more in a line
+-- Whether equal steps lead from a to b over empty squares: fewer than eight, since the board has no more in a line.
 unfoldable pub runs_now : Men → ℕ → ℕ → Offset → Bool
 runs_now men a b o = some_below (λ n. walks_now men o b n a) 8
 
--- whether such a man, standing on a, reaches b
+-- Whether such a man, standing on a, reaches b.
 abbrev pub reaches_now : Men → Colour → Kind → ℕ → ℕ → Bool
 reaches_now men colour King a b = list_any (leaps_now a b) king_steps
 reaches_now men colour Queen a b = list_any (runs_now men a b) (rook_steps ++ bishop_steps)
@@ -52,20 +52,20 @@ reaches_now men colour Bishop a b = list_any (runs_now men a b) bishop_steps
 reaches_now men colour Knight a b = list_any (leaps_now a b) knight_steps
 reaches_now men colour Pawn a b = list_any (leaps_now a b) (pawn_captures colour)
 
--- whether what stands on a attacks the square s for this colour
+-- Whether what stands on a attacks the square s for this colour.
 abbrev pub attacks_from : Men → Colour → ℕ → ℕ → Option Man → Bool
 attacks_from men colour s a None = false
 attacks_from men colour s a (Some standing) = same_colour standing.colour colour && reaches_now men colour standing.kind a s
 
--- whether some man of the colour attacks the square s
+-- Whether some man of the colour attacks the square s.
 unfoldable pub attacks_now : Men → Colour → ℕ → Bool
 attacks_now men colour s = some_below (λ a. attacks_from men colour s a (man_at men a)) 64
 
--- whether the king of this colour is in check
+-- Whether the king of this colour is in check.
 unfoldable pub in_check_now : Men → Colour → Bool
 in_check_now men colour = some_below (λ s. is_man colour King (man_at men s) && attacks_now men (other colour) s) 64
 
--- the cases of a move, in their order
+-- The cases of a move, in their order.
 abbrev pub goes_plainly_now : Setup → Kind → Move → Bool
 goes_plainly_now p Pawn m =
     (leaps_now m.from m.to (forward p.side) && is_none (man_at p.board m.to))
@@ -109,6 +109,6 @@ case_now p m Passing = passing_now p m
 case_now p m (Castle wing) = castle_now p m wing
 case_now p m Null = null_now p m
 
--- whether the move is legal
+-- Whether the move is legal.
 unfoldable pub legal_now : Setup → Move → Bool
 legal_now p m = case_now p m (effect_of p m) && not (in_check_now (board_after p m (effect_of p m)) p.side)

@@ -5,7 +5,7 @@ pub mod Position
 pub mod Step
 pub mod Counts
 pub mod Rays
-pub mod Legal
+pub mod LegalTests
 pub mod Moves
 pub mod Targets
 pub mod LegalNow

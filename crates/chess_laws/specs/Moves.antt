@@ -6,31 +6,31 @@ use Rattle.cell_core.specs.Man.{kind_number}
 use Rattle.chess_laws.specs.declared.setup.Setup.{Setup}
 use Rattle.chess_laws.specs.Step.{Legal}
 
--- a legal move (FIDE Laws, Article 3.10.1) other than the null move, which stays on its square
+-- A legal move (FIDE Laws, Article 3.10.1) other than the null move, which stays on its square.
 pub record IsMove (p : Setup) (m : Move) : Type 0 where
   pub legal : Legal p m
   pub leaves : m.to ≡ m.from → ⊥
 
--- the place of a promotion in the order none, queen, rook, bishop, knight (this project's own)
+-- The place of a promotion in the order none, queen, rook, bishop, knight (this project's own).
 abbrev pub promotion_number : Option Kind → ℕ
 promotion_number None = 0
 promotion_number (Some k) = kind_number k + 1
 
--- the place of a move in the order of moves: by the first square, then the target, then the promotion (this project's own)
+-- The place of a move in the order of moves: by the first square, then the target, then the promotion (this project's own).
 abbrev pub place_of : Move → ℕ
 place_of m = 512 * m.from + (8 * m.to + promotion_number m.promo)
 
--- each move stands before those behind it in the order of moves, so that none stands twice
+-- Each move stands before those behind it in the order of moves, so that none stands twice.
 abbrev pub Ascends : List Move → Type 0
 Ascends ms = AllPairs (λ a b. place_of a < place_of b) ms
 
--- the list has every legal move but the null move, each once and in order, and nothing else
+-- The list has every legal move but the null move, each once and in order, and nothing else.
 pub record ListsMoves (p : Setup) (ms : List Move) : Type 0 where
   pub only : All (IsMove p) ms
   pub all : (m : Move) → IsMove p m → Contains ms m
   pub in_order : Ascends ms
 
--- there are more than n legal moves besides the null move: so many different ones, in order
+-- There are more than n legal moves besides the null move: so many different ones, in order.
 pub record HasMoreMoves (p : Setup) (n : ℕ) : Type 0 where
   pub moves : List Move
   pub only : All (IsMove p) moves

@@ -19,37 +19,37 @@ use Rattle.chess_laws.specs.Checks.{in_check}
 use Rattle.chess_laws.specs.Counts.{counts_of}
 use Rattle.chess_laws.specs.Castling.{StandAtHome, has_right, king_home, rook_home}
 
--- the first square with the king of this colour
+-- The first square with the king of this colour.
 abbrev pub king_square : Men → Colour → ℕ
 king_square men c = position_or_len (is_man c King) men
 
--- each side has one king (FIDE Laws, Article 2.2)
+-- Each side has one king (FIDE Laws, Article 2.2).
 abbrev pub HasKings : Men → Type 0
 HasKings men = (c : Colour) → count_by (is_man c King) men ≡ 1
 
--- no pawn stands on the first or the last rank: one that came there was promoted (FIDE Laws, Article 3.7.3.3)
+-- No pawn stands on the first or the last rank: one that came there was promoted (FIDE Laws, Article 3.7.3.3).
 abbrev pub HasPawnsInside : Men → Type 0
 HasPawnsInside men = (s : ℕ) (c : Colour) → man_at men s ≡ Some (man c Pawn) → (0 < rank_of s) × (rank_of s < 7)
 
--- each side has at most sixteen men (FIDE Laws, Article 2.2)
+-- Each side has at most sixteen men (FIDE Laws, Article 2.2).
 abbrev pub HasFewMen : Men → Type 0
 HasFewMen men = (c : Colour) → count_by (is_of c) men ≤ 16
 
--- the rank of an en passant square, by the side to move: the sixth for White, the third for Black
+-- The rank of an en passant square, by the side to move: the sixth for White, the third for Black.
 abbrev pub en_passant_rank : Colour → ℕ
 en_passant_rank White = 5
 en_passant_rank Black = 2
 
--- an en passant square stands on that rank
+-- An en passant square stands on that rank.
 abbrev pub HasFitEnPassant : Colour → Option ℕ → Type 0
 HasFitEnPassant c None = Unit {0}
 HasFitEnPassant c (Some s) = rank_of s ≡ en_passant_rank c
 
--- a right is left only where king and rook stand at home
+-- A right is left only where king and rook stand at home.
 abbrev pub HasFitRights : Setup → Type 0
 HasFitRights p = (c : Colour) (w : Wing) → IsTrue (has_right p.rights c w) → StandAtHome p.board c w
 
--- the rules of a position: those above, and the side that is not to move is not in check (FIDE Laws, Article 3.9.2)
+-- The rules of a position: those above, and the side that is not to move is not in check (FIDE Laws, Article 3.9.2).
 pub record Sound (p : Setup) : Type 0 where
   pub squares : length p.board ≡ 64
   pub kings : HasKings p.board
@@ -59,7 +59,7 @@ pub record Sound (p : Setup) : Type 0 where
   pub rights : HasFitRights p
   pub en_passant : HasFitEnPassant p.side p.en_passant
 
--- the first of these rules that a setup breaks, in the order kings, pawns, men, check, en passant square
+-- The first of these rules that a setup breaks, in the order kings, pawns, men, check, en passant square.
 abbrev pub Breaks : Setup → PlaceFault → Type 0
 Breaks p Kings = HasKings p.board → ⊥
 Breaks p Pawns = HasKings p.board × (HasPawnsInside p.board → ⊥)
@@ -69,7 +69,7 @@ Breaks p EnPassant =
     HasKings p.board × HasPawnsInside p.board × HasFewMen p.board × (IsInCheck p.board (other p.side) → ⊥)
     × (HasFitEnPassant p.side p.en_passant → ⊥)
 
--- rights as bits: 0 for White's king's side, 1 for White's queen's side, 2 and 3 for Black's (this project's own)
+-- Rights as bits: 0 for White's king's side, 1 for White's queen's side, 2 and 3 for Black's (this project's own).
 abbrev pub has_bit : ℕ → ℕ → Bool
 has_bit bits k = (bits / 2 ^ k) % 2 == 1
 
@@ -78,11 +78,11 @@ bits_of r =
     (if r.white_king_side then 1 else 0) + (if r.white_queen_side then 2 else 0)
     + (if r.black_king_side then 4 else 0) + (if r.black_queen_side then 8 else 0)
 
--- whether king and rook stand at home, so that a right can stand
+-- Whether king and rook stand at home, so that a right can stand.
 abbrev pub is_at_home : Men → Colour → Wing → Bool
 is_at_home men c w = is_man c King (man_at men (king_home c)) && is_man c Rook (man_at men (rook_home c w))
 
--- the rights of these bits, without those whose king or rook is not at home
+-- The rights of these bits, without those whose king or rook is not at home.
 abbrev pub rights_of : Men → ℕ → Rights
 rights_of men bits =
     record {
@@ -92,17 +92,17 @@ rights_of men bits =
       black_queen_side = has_bit bits 3 && is_at_home men Black QueenSide;
     }
 
--- the setup of a board, a side, the bits of the rights and an en passant square
+-- The setup of a board, a side, the bits of the rights and an en passant square.
 abbrev pub setup_of : Men → Colour → ℕ → Option ℕ → Setup
 setup_of men c bits square = record { board = men; side = c; rights = rights_of men bits; en_passant = square }
 
--- the men of a back rank from file a to h (FIDE Laws, Article 2.3)
+-- The men of a back rank from file a to h (FIDE Laws, Article 2.3).
 abbrev pub back_rank : Colour → Men
 back_rank c =
     Some (man c Rook) ∷ Some (man c Knight) ∷ Some (man c Bishop) ∷ Some (man c Queen)
     ∷ Some (man c King) ∷ Some (man c Bishop) ∷ Some (man c Knight) ∷ Some (man c Rook) ∷ []
 
--- the initial position (FIDE Laws, Article 2.3)
+-- The initial position (FIDE Laws, Article 2.3).
 abbrev pub start_men : Men
 start_men =
     back_rank White ++ (replicate 8 (Some (man White Pawn)) ++ (replicate 32 None
@@ -117,16 +117,16 @@ start_setup =
       en_passant = None;
     }
 
--- whether all four rights are left
+-- Whether all four rights are left.
 abbrev pub has_all_rights : Rights → Bool
 has_all_rights r = r.white_king_side && (r.white_queen_side && (r.black_king_side && r.black_queen_side))
 
--- whether it is the initial position: its men, White to move, all four rights and no en passant square
+-- Whether it is the initial position: its men, White to move, all four rights and no en passant square.
 unfoldable pub is_start : Setup → Bool
 is_start p = same_men p.board start_men && (same_colour p.side White && (has_all_rights p.rights && is_none p.en_passant))
 
--- what is kept beside a position: it keeps the rules, these are the kings' squares and the ten counts, and the side to move
--- is in check or not
+-- What is kept beside a position: it keeps the rules, these are the kings' squares and the ten counts, and the side to move
+-- is in check or not.
 pub record Keeps (p : Setup) (white black : ℕ) (checked : Bool) (counts : List ℕ) : Type 0 where
   pub sound : Sound p
   pub white_king : white ≡ king_square p.board White
@@ -134,7 +134,7 @@ pub record Keeps (p : Setup) (white black : ℕ) (checked : Bool) (counts : List
   pub check : checked ≡ in_check p
   pub census : counts ≡ counts_of p.board
 
--- all of it follows from the setup, so a position is its setup
+-- All of it follows from the setup, so a position is its setup.
 pub inverse_Keeps : (p : Setup) (white black : ℕ) (checked : Bool) (counts : List ℕ) → Keeps p white black checked counts →
     (king_square p.board White ≡ white) × ((king_square p.board Black ≡ black) × ((in_check p ≡ checked) × (counts_of p.board ≡ counts)))
 inverse_Keeps p white black checked counts h = (sym h.white_king, (sym h.black_king, (sym h.check, sym h.census)))

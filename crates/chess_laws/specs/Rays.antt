@@ -11,32 +11,32 @@ use Rattle.cell_core.specs.Board.{Men, man_at}
 use Rattle.cell_core.specs.Man.{man, other}
 use Rattle.chess_laws.specs.declared.setup.Setup.{Setup}
 use Rattle.chess_laws.specs.Attacks.{IsInCheck}
-use Rattle.chess_laws.specs.Legal.{line}
+use Rattle.chess_laws.specs.LegalTests.{line}
 use Rattle.chess_laws.specs.Geometry.{Offset, by, king_steps, knight_steps, shift, Leaps, Runs}
 
--- the steps that the code has, by their rows in its tables
+-- The steps that the code has, by their rows in its tables.
 abbrev pub offsets : List Offset
 offsets = king_steps ++ knight_steps
 
 abbrev pub offset_at : ℕ → Offset
 offset_at row = slice_index_or offsets row (by 0 0 0 0)
 
--- the row of a step
+-- The row of a step.
 abbrev pub same_offset : Offset → Offset → Bool
 same_offset a b = ((a.right == b.right) && (a.left == b.left)) && ((a.up == b.up) && (a.down == b.down))
 
 abbrev pub row_of : Offset → ℕ
 row_of o = position_or_len (same_offset o) offsets
 
--- so a step tells its row
+-- So a step tells its row.
 pub row_back : (row : ℕ) → row < 16 → row_of (offset_at row) ≡ row
 row_back row less = eqb-true (row_of (offset_at row)) row (agree_below_at (λ n. eqb (row_of (offset_at n)) n) (λ n. true) 16 row refl less)
 
--- the step back
+-- The step back.
 abbrev pub reversed : Offset → Offset
 reversed o = record { right = o.left; left = o.right; up = o.down; down = o.up }
 
--- the first man that is met from s on, at most so many equal steps back
+-- The first man that is met from s on, at most so many equal steps back.
 abbrev pub met_on : Option Man → Option Man → Option Man
 met_on None further = further
 met_on (Some m) further = Some m
@@ -49,57 +49,57 @@ unfoldable pub met : Men → Offset → ℕ → ℕ → Option Man
 met men o zero s = None
 met men o (suc n) s = met_at men (shift (reversed o) s) (met men o n)
 
--- this man stands where the step leads to s
+-- This man stands where the step leads to s.
 pub record LeapsFrom (men : Men) (m : Man) (s : ℕ) (o : Offset) : Type 0 where
   pub from : ℕ
   pub on_board : from < 64
   pub stands : man_at men from ≡ Some m
   pub leaps : Leaps from s o
 
--- such a man, or a queen, stands where equal steps lead to s over empty squares
+-- Such a man, or a queen, stands where equal steps lead to s over empty squares.
 pub record SlidesFrom (men : Men) (c : Colour) (k : Kind) (s : ℕ) (o : Offset) : Type 0 where
   pub from : ℕ
   pub on_board : from < 64
   pub stands : (man_at men from ≡ Some (man c k)) ⊎ (man_at men from ≡ Some (man c Queen))
   pub runs : Runs men from s o
 
--- where the step of a row leads, and where it comes from
+-- Where the step of a row leads, and where it comes from.
 abbrev pub target_by : ℕ → ℕ → Option ℕ
 target_by row s = shift (offset_at row) s
 
 abbrev pub origin_by : ℕ → ℕ → Option ℕ
 origin_by row s = shift (reversed (offset_at row)) s
 
--- what a table says of a row and a square
+-- What a table says of a row and a square.
 abbrev pub entry : List (List ℕ) → ℕ → ℕ → ℕ
 entry table row s = slice_index_or (slice_index_or table row []) s 0
 
--- whether a number is that of the square, or off the board where there is none
+-- Whether a number is that of the square, or off the board where there is none.
 abbrev pub is_named : Option ℕ → ℕ → Bool
 is_named None t = nat_le 64 t
 is_named (Some a) t = t == a
 
--- whether a table says so of each row and square
+-- Whether a table says so of each row and square.
 unfoldable pub names_all : (ℕ → ℕ → Option ℕ) → List (List ℕ) → Bool
 names_all f table = agree_below (λ row. agree_below (λ s. is_named (f row s) (entry table row s)) (λ s. true) 64) (λ row. true) 16
 
--- what slides by the step of a row besides a queen
+-- What slides by the step of a row besides a queen.
 abbrev pub glider : ℕ → Kind
 glider row = if nat_lt row 4 then Rook else Bishop
 
--- a man that leaves a for elsewhere opens the line to s: it stands between s and a man of the colour that slides along it
+-- A man that leaves a for elsewhere opens the line to s: it stands between s and a man of the colour that slides along it.
 pub record Opens (men : Men) (c : Colour) (a s : ℕ) : Type 0 where
   pub row : ℕ
   pub less : row < 8
   pub on_line : line a s ≡ Some row
   pub slides : SlidesFrom men c (glider row) a (offset_at row)
 
--- another man than the mover's king stands on the square, and opens no line to it
+-- Another man than the mover's king stands on the square, and opens no line to it.
 pub record Covers (p : Setup) (king a : ℕ) : Type 0 where
   pub apart : a ≡ king → ⊥
   pub shut : Opens p.board (other p.side) a king → ⊥
 
--- the mover's king is not in check, and is not what leaves the square or is uncovered by it
+-- The mover's king is not in check, and is not what leaves the square or is uncovered by it.
 pub record Shut (p : Setup) (king a : ℕ) : Type 0 where
   pub unchecked : IsInCheck p.board p.side → ⊥
   pub covers : Covers p king a

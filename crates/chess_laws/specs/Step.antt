@@ -19,7 +19,7 @@ use Rattle.chess_laws.specs.Attacks.{Attacks, Reaches, IsInCheck}
 use Rattle.chess_laws.specs.Castling.{king_home, king_target, rook_home, rook_target, between, king_path, has_right, rights_after}
 use Rattle.chess_laws.specs.Position.{en_passant_rank}
 
--- a pawn's own rank, and the last rank of its way, where it is promoted
+-- A pawn's own rank, and the last rank of its way, where it is promoted.
 abbrev pub pawn_rank : Colour → ℕ
 pawn_rank White = 1
 pawn_rank Black = 6
@@ -28,7 +28,7 @@ abbrev pub last_rank : Colour → ℕ
 last_rank White = 7
 last_rank Black = 0
 
--- whether a move goes two ranks forward, and whether it changes the file
+-- Whether a move goes two ranks forward, and whether it changes the file.
 abbrev pub goes_two : Colour → Move → Bool
 goes_two White m = rank_of m.to == rank_of m.from + 2
 goes_two Black m = rank_of m.from == rank_of m.to + 2
@@ -36,8 +36,8 @@ goes_two Black m = rank_of m.from == rank_of m.to + 2
 abbrev pub changes_file : Move → Bool
 changes_file m = not (file_of m.to == file_of m.from)
 
--- what kind of move it is, by the man that stands on its first square: a pawn's double step, a pawn's capture en passant
--- (diagonally to an empty square), castling (from the king's home square to its target), the null move, or a plain one
+-- What kind of move it is, by the man that stands on its first square: a pawn's double step, a pawn's capture en passant
+-- (diagonally to an empty square), castling (from the king's home square to its target), the null move, or a plain one.
 abbrev pub effect_as : Kind → Setup → Move → Effect
 effect_as King p m =
     if m.to == m.from then Null
@@ -60,13 +60,13 @@ effect_on (Some standing) p m = effect_as standing.kind p m
 abbrev pub effect_of : Setup → Move → Effect
 effect_of p m = effect_on (man_at p.board m.from) p m
 
--- no man of this colour stands on the square
+-- No man of this colour stands on the square.
 abbrev pub HasNoOwn : Men → Colour → ℕ → Type 0
 HasNoOwn men c s = (k : Kind) → man_at men s ≡ Some (man c k) → ⊥
 
--- a plain move of a man of this kind: a pawn goes one square forward to an empty square, or captures an enemy man
+-- A plain move of a man of this kind: a pawn goes one square forward to an empty square, or captures an enemy man
 -- diagonally in front of it (FIDE Laws, Article 3.7.1 and 3.7.3); any other man goes where it reaches, and the target
--- holds no man of its own side (FIDE Laws, Article 3.1 to 3.6 and 3.8.1)
+-- holds no man of its own side (FIDE Laws, Article 3.1 to 3.6 and 3.8.1).
 abbrev pub GoesPlainly : Setup → Kind → Move → Type 0
 GoesPlainly p Pawn m =
     (Leaps m.from m.to (forward p.side) × (man_at p.board m.to ≡ None))
@@ -77,8 +77,8 @@ GoesPlainly p Rook m = Reaches p.board p.side Rook m.from m.to × HasNoOwn p.boa
 GoesPlainly p Bishop m = Reaches p.board p.side Bishop m.from m.to × HasNoOwn p.board p.side m.to
 GoesPlainly p Knight m = Reaches p.board p.side Knight m.from m.to × HasNoOwn p.board p.side m.to
 
--- a pawn that comes to the last rank becomes a queen, rook, bishop or knight (FIDE Laws, Article 3.7.3.3); no other move
--- names a man
+-- A pawn that comes to the last rank becomes a queen, rook, bishop or knight (FIDE Laws, Article 3.7.3.3); no other move
+-- names a man.
 abbrev pub may_become : Option Kind → Bool
 may_become None = false
 may_become (Some King) = false
@@ -91,14 +91,14 @@ may_become (Some Pawn) = false
 abbrev pub promotes_rightly : Colour → Kind → Move → Bool
 promotes_rightly c k m = if same_kind k Pawn && (rank_of m.to == last_rank c) then may_become m.promo else is_none m.promo
 
--- a plain move or capture
+-- A plain move or capture.
 pub record PlainCase (p : Setup) (m : Move) : Type 0 where
   pub kind : Kind
   pub stands : man_at p.board m.from ≡ Some (man p.side kind)
   pub goes : GoesPlainly p kind m
   pub promotes : IsTrue (promotes_rightly p.side kind m)
 
--- a pawn's first move of two squares, both empty (FIDE Laws, Article 3.7.2)
+-- A pawn's first move of two squares, both empty (FIDE Laws, Article 3.7.2).
 pub record DoubleCase (p : Setup) (m : Move) : Type 0 where
   pub stands : man_at p.board m.from ≡ Some (man p.side Pawn)
   pub own_rank : rank_of m.from ≡ pawn_rank p.side
@@ -106,11 +106,11 @@ pub record DoubleCase (p : Setup) (m : Move) : Type 0 where
   pub target : man_at p.board m.to ≡ None
   pub promo : m.promo ≡ None
 
--- the square of the pawn that is captured en passant: on the mover's rank and the target's file
+-- The square of the pawn that is captured en passant: on the mover's rank and the target's file.
 abbrev pub passed_square : Move → ℕ
 passed_square m = square (file_of m.to) (rank_of m.from)
 
--- a pawn's capture en passant of the pawn that has just crossed the en passant square (FIDE Laws, Article 3.7.3.1)
+-- A pawn's capture en passant of the pawn that has just crossed the en passant square (FIDE Laws, Article 3.7.3.1).
 pub record PassingCase (p : Setup) (m : Move) : Type 0 where
   pub stands : man_at p.board m.from ≡ Some (man p.side Pawn)
   pub goes : Any (Leaps m.from m.to) (pawn_captures p.side)
@@ -119,7 +119,7 @@ pub record PassingCase (p : Setup) (m : Move) : Type 0 where
   pub passed : man_at p.board (passed_square m) ≡ Some (man (other p.side) Pawn)
   pub promo : m.promo ≡ None
 
--- castling (FIDE Laws, Article 3.8.2)
+-- Castling (FIDE Laws, Article 3.8.2).
 pub record CastleCase (p : Setup) (m : Move) (wing : Wing) : Type 0 where
   pub stands : man_at p.board m.from ≡ Some (man p.side King)
   pub right : IsTrue (has_right p.rights p.side wing)
@@ -127,14 +127,14 @@ pub record CastleCase (p : Setup) (m : Move) (wing : Wing) : Type 0 where
   pub safe : All (λ s. Attacks p.board (other p.side) s → ⊥) (king_path p.side wing)
   pub promo : m.promo ≡ None
 
--- the null move: the mover passes, which it may where it is not in check (this project's own)
+-- The null move: the mover passes, which it may where it is not in check (this project's own).
 pub record NullCase (p : Setup) (m : Move) : Type 0 where
   pub stands : man_at p.board m.from ≡ Some (man p.side King)
   pub stays : m.to ≡ m.from
   pub promo : m.promo ≡ None
   pub safe : IsInCheck p.board p.side → ⊥
 
--- the move is allowed by the rules of its kind
+-- The move is allowed by the rules of its kind.
 abbrev pub Case : Setup → Move → Effect → Type 0
 Case p m Plain = PlainCase p m
 Case p m Double = DoubleCase p m
@@ -142,16 +142,16 @@ Case p m Passing = PassingCase p m
 Case p m (Castle wing) = CastleCase p m wing
 Case p m Null = NullCase p m
 
--- the man that arrives: the one that moved, or what it is promoted to
+-- The man that arrives: the one that moved, or what it is promoted to.
 abbrev pub arriving : Setup → Move → Option Kind → Option Man
 arriving p m None = man_at p.board m.from
 arriving p m (Some k) = Some (man p.side k)
 
--- the board after the man has moved to its target, where it captures what stands there
+-- The board after the man has moved to its target, where it captures what stands there.
 abbrev pub moved : Setup → Move → Men
 moved p m = put (put p.board m.from None) m.to (arriving p m m.promo)
 
--- the board after a move: en passant takes the passed pawn away, castling moves the rook too
+-- The board after a move: en passant takes the passed pawn away, castling moves the rook too.
 abbrev pub board_after : Setup → Move → Effect → Men
 board_after p m Plain = moved p m
 board_after p m Double = moved p m
@@ -159,7 +159,7 @@ board_after p m Passing = put (moved p m) (passed_square m) None
 board_after p m (Castle wing) = put (put (moved p m) (rook_home p.side wing) None) (rook_target p.side wing) (Some (man p.side Rook))
 board_after p m Null = p.board
 
--- a null move keeps all rights
+-- A null move keeps all rights.
 abbrev pub rights_left : Setup → Move → Effect → Rights
 rights_left p m Plain = rights_after p.rights m
 rights_left p m Double = rights_after p.rights m
@@ -167,7 +167,7 @@ rights_left p m Passing = rights_after p.rights m
 rights_left p m (Castle wing) = rights_after p.rights m
 rights_left p m Null = p.rights
 
--- the square that a pawn's double step has crossed (FIDE Laws, Article 3.7.3.1)
+-- The square that a pawn's double step has crossed (FIDE Laws, Article 3.7.3.1).
 abbrev pub crossed_square : Setup → Move → Option ℕ
 crossed_square p m = Some (square (file_of m.from) (en_passant_rank (other p.side)))
 
@@ -178,7 +178,7 @@ en_passant_after p m Passing = None
 en_passant_after p m (Castle wing) = None
 en_passant_after p m Null = None
 
--- what the position becomes: the other side is to move
+-- What the position becomes: the other side is to move.
 abbrev pub after : Setup → Move → Effect → Setup
 after p m e =
     record {
@@ -188,12 +188,12 @@ after p m e =
       en_passant = en_passant_after p m e;
     }
 
--- what the position becomes by a move: a legal move leads there, and nowhere else
+-- What the position becomes by a move: a legal move leads there, and nowhere else.
 unfoldable pub stepped : Setup → Move → Setup
 stepped p m = after p m (effect_of p m)
 
--- whether a move captures: a man stands on its target, or it is a capture en passant; castling and the null move, which go
--- to no man, capture nothing
+-- Whether a move captures: a man stands on its target, or it is a capture en passant; castling and the null move, which go
+-- to no man, capture nothing.
 abbrev pub captures_by : Effect → Setup → Move → Bool
 captures_by Plain p m = is_some (man_at p.board m.to)
 captures_by Double p m = is_some (man_at p.board m.to)
@@ -204,13 +204,13 @@ captures_by Null p m = false
 unfoldable pub is_capture : Setup → Move → Bool
 is_capture p m = captures_by (effect_of p m) p m
 
--- the move m leads from p to q: it is allowed by the rules of its kind, q is what the position becomes, and the mover's
--- king is not attacked in q (FIDE Laws, Article 3.9.2)
+-- The move m leads from p to q: it is allowed by the rules of its kind, q is what the position becomes, and the mover's
+-- king is not attacked in q (FIDE Laws, Article 3.9.2).
 pub record Step (p : Setup) (m : Move) (q : Setup) : Type 0 where
   pub allowed : Case p m (effect_of p m)
   pub becomes : q ≡ after p m (effect_of p m)
   pub safe : IsInCheck q.board p.side → ⊥
 
--- the move m is legal in p (FIDE Laws, Article 3.10.1)
+-- The move m is legal in p (FIDE Laws, Article 3.10.1).
 abbrev pub Legal : Setup → Move → Type 0
 Legal p m = (q : Setup) × Step p m q

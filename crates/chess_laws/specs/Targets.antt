@@ -10,20 +10,20 @@ use Rattle.chess_laws.specs.declared.targets.SquareSet.{SquareSet}
 use Rattle.chess_laws.specs.Geometry.{rank_of, forward, pawn_captures, rook_steps, bishop_steps, knight_steps, king_steps, Leaps, Runs, Walk}
 use Rattle.cell_core.specs.Board.{man_at}
 use Rattle.cell_core.specs.Man.{man}
-use Rattle.chess_laws.specs.Legal.{IsEnemyOn}
+use Rattle.chess_laws.specs.LegalTests.{IsEnemyOn}
 use Rattle.chess_laws.specs.Step.{last_rank, HasNoOwn}
 use Rattle.chess_laws.specs.Castling.{king_home, king_target}
 use Rattle.chess_laws.specs.Moves.{IsMove, place_of, Ascends}
 
--- the square is in the set
+-- The square is in the set.
 abbrev pub Has : SquareSet → ℕ → Type 0
 Has set s = bit_at set.bits s ≡ 1
 
--- a king castles from a to b
+-- A king castles from a to b.
 abbrev pub CastlesTo : Setup → ℕ → ℕ → Type 0
 CastlesTo p a b = (a ≡ king_home p.side) × ((wing : Wing) × (b ≡ king_target p.side wing))
 
--- a pawn comes from a to b: one square forward or two, to an empty one, or diagonally to an enemy or in passing
+-- A pawn comes from a to b: one square forward or two, to an empty one, or diagonally to an enemy or in passing.
 abbrev pub MayTake : Setup → ℕ → Type 0
 MayTake p b = IsEnemyOn p.board p.side b ⊎ (p.en_passant ≡ Some b)
 
@@ -32,7 +32,7 @@ PawnComes p a b =
     (Leaps a b (forward p.side) × (man_at p.board b ≡ None))
     ⊎ ((Walk p.board (forward p.side) 1 a b × (man_at p.board b ≡ None)) ⊎ (Any (Leaps a b) (pawn_captures p.side) × MayTake p b))
 
--- a man of the side to move and of this kind comes from a to b by some legal move, whatever else that needs
+-- A man of the side to move and of this kind comes from a to b by some legal move, whatever else that needs.
 abbrev pub Comes : Setup → Kind → ℕ → ℕ → Type 0
 Comes p King a b = (Any (Leaps a b) king_steps × HasNoOwn p.board p.side b) ⊎ CastlesTo p a b
 Comes p Queen a b = Any (Runs p.board a b) (rook_steps ++ bishop_steps) × HasNoOwn p.board p.side b
@@ -41,7 +41,7 @@ Comes p Bishop a b = Any (Runs p.board a b) bishop_steps × HasNoOwn p.board p.s
 Comes p Knight a b = Any (Leaps a b) knight_steps × HasNoOwn p.board p.side b
 Comes p Pawn a b = PawnComes p a b
 
--- the list has the moves whose place is below n, each once and in order, and nothing else, and at most so many fit
+-- The list has the moves whose place is below n, each once and in order, and nothing else, and at most so many fit.
 pub record ListsBelow (p : Setup) (room n : ℕ) (ms : List Move) : Type 0 where
   pub fits : length ms ≤ room
   pub only : All (IsMove p) ms
@@ -49,11 +49,11 @@ pub record ListsBelow (p : Setup) (room n : ℕ) (ms : List Move) : Type 0 where
   pub all : (m : Move) → IsMove p m → place_of m < n → Contains ms m
   pub in_order : Ascends ms
 
--- the list has the moves that stand before this one in the order of moves
+-- The list has the moves that stand before this one in the order of moves.
 abbrev pub ListsBefore : Setup → ℕ → Move → List Move → Type 0
 ListsBefore p room m ms = ListsBelow p room (place_of m) ms
 
--- a pawn of the side to move stands on a, and b is on the last rank of its way
+-- A pawn of the side to move stands on a, and b is on the last rank of its way.
 pub record MayPromote (p : Setup) (a b : ℕ) : Type 0 where
   pub stands : man_at p.board a ≡ Some (man p.side Pawn)
   pub last : rank_of b ≡ last_rank p.side

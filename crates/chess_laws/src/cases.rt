@@ -5,7 +5,7 @@ ghost use Rattle.cell_core.specs.Man.{man, other};
 ghost use Rattle.cell_core.specs.declared.man.Kind.TheVariants.{Pawn};
 ghost use Rattle.chess_laws.specs.Geometry.{forward, king_steps, pawn_captures, Leaps, Runs, Walk};
 ghost use Rattle.chess_laws.specs.Attacks.{Reaches, IsInCheck};
-ghost use Rattle.chess_laws.specs.Legal.{IsOnlyKing, MayCastle, glides, run, slides, IsEnemyOn};
+ghost use Rattle.chess_laws.specs.LegalTests.{IsOnlyKing, MayCastle, glides, run, slides, IsEnemyOn};
 ghost use Rattle.chess_laws.specs.Rays.{offset_at};
 ghost use Rattle.chess_laws.specs.Step.{Case, CastleCase, DoubleCase, GoesPlainly, HasNoOwn, NullCase, PassingCase, PlainCase, last_rank, may_become, promotes_rightly};
 
@@ -292,7 +292,7 @@ pub fn glides(kind: Kind, row: u8) -> bool
 }
 
 /// Walks by this step from one square, until it comes to the other, to a man or to the edge.
-#[tactic(auto, unfolding(crate::specs::Legal::run))]
+#[tactic(auto, unfolding(crate::specs::LegalTests::run))]
 fn run(board: &Board, step: &Offset, from: Square, to: Square) -> bool
     ensures { result ≡ run board.now step.now 8 to from }
 {

@@ -3,7 +3,7 @@ ghost use Rattle.std.specs.Prelude.{◌≡◌, ◌↔◌, ◌||◌, IsTrue, All,
 ghost use Rattle.cell_core.specs.Board.{man_at};
 ghost use Rattle.cell_core.specs.Man.{other};
 ghost use Rattle.chess_laws.specs.Attacks.{Attacks};
-ghost use Rattle.chess_laws.specs.Legal.{AreSafe, is_home_square};
+ghost use Rattle.chess_laws.specs.LegalTests.{AreSafe, is_home_square};
 ghost use Rattle.chess_laws.specs.Castling.{king_home, king_target, rook_home, rook_target, between, king_path, has_right, touches, keeps, rights_after};
 
 use super::attack::attacks;

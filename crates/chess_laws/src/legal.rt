@@ -1,7 +1,7 @@
 //! Which moves are legal.
 ghost use Rattle.std.specs.Prelude.{◌≡◌, ◌↔◌, ◌&&◌, IsTrue, false};
 ghost use Rattle.std.specs.Bool.{OnTrue};
-ghost use Rattle.chess_laws.specs.Legal.{IsOnlyKing, is_calm, king_after};
+ghost use Rattle.chess_laws.specs.LegalTests.{IsOnlyKing, is_calm, king_after};
 ghost use Rattle.chess_laws.specs.Attacks.{IsInCheck};
 ghost use Rattle.chess_laws.specs.Rays.{Covers, Shut};
 ghost use Rattle.chess_laws.specs.Position.{Sound};

@@ -5,7 +5,7 @@ ghost use Rattle.cell_core.specs.Man.{other};
 ghost use Rattle.chess_laws.specs.Attacks.{Attacks, IsInCheck};
 ghost use Rattle.chess_laws.specs.Checks.{Hits, in_check};
 ghost use Rattle.chess_laws.specs.Counts.{counts_of, fewer};
-ghost use Rattle.chess_laws.specs.Legal.{is_calm};
+ghost use Rattle.chess_laws.specs.LegalTests.{is_calm};
 ghost use Rattle.chess_laws.specs.Position.{Sound, king_square};
 ghost use Rattle.chess_laws.specs.Rays.{Opens};
 ghost use Rattle.chess_laws.specs.Step.{after, effect_of, Legal};

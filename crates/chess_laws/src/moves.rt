@@ -1,11 +1,12 @@
 //! Every legal move of a position, in order.
 ghost use Rattle.std.specs.Prelude.{◌≡◌, ◌↔◌, ◌+◌, ◌*◌, ◌<◌, ◌≤◌, IsTrue, []};
 ghost use Rattle.std.specs.Bool.{OnTrue, OnFalse};
+ghost use Rattle.std.specs.Ordering.{is_lt};
 ghost use Rattle.chess_laws.specs.Attacks.{IsInCheck};
-ghost use Rattle.chess_laws.specs.Legal.{IsOnlyKing};
+ghost use Rattle.chess_laws.specs.LegalTests.{IsOnlyKing};
 ghost use Rattle.chess_laws.specs.Position.{Sound};
 ghost use Rattle.chess_laws.specs.Rays.{Shut};
-ghost use Rattle.chess_laws.specs.Moves.{HasMoreMoves, IsMove, ListsMoves, promotion_number};
+ghost use Rattle.chess_laws.specs.Moves.{HasMoreMoves, IsMove, ListsMoves, place_of, promotion_number};
 ghost use Rattle.chess_laws.specs.Targets.{ListsBelow, ListsBefore, MayPromote};
 
 use super::cases::{has_own, last_rank};
@@ -44,6 +45,39 @@ impl Position {
             self.in_check(),
             &mut none,
         )
+    }
+}
+
+/// Whether a move stands before another in the order of moves, which is the order of the type `Move`: by the first square,
+/// then the target, then the promotion.
+pub fn is_before(a: &Move, b: &Move) -> bool
+    ensures place { IsTrue result ↔ (place_of a.now < place_of b.now) }
+    ensures order { result ≡ is_lt (⟦<Move as Ord>⟧.cmp a.now b.now) }
+{
+    place(a) < place(b)
+}
+
+// The place of a move in the order of moves.
+fn place(m: &Move) -> u16
+    ensures place { result ≡ place_of m.now }
+    ensures on_board { m.now.to < 64 }
+{
+    512 * u16::from(m.from.index()) + 8 * u16::from(m.to.index()) + promotion_number(m.promo)
+}
+
+// The place of a promotion in the order none, queen, rook, bishop, knight.
+fn promotion_number(promo: Option<Kind>) -> u16
+    ensures number { result ≡ promotion_number promo }
+    ensures less { result < 7 }
+{
+    match promo {
+        None => 0,
+        Some(Kind::King) => 1,
+        Some(Kind::Queen) => 2,
+        Some(Kind::Rook) => 3,
+        Some(Kind::Bishop) => 4,
+        Some(Kind::Knight) => 5,
+        Some(Kind::Pawn) => 6,
     }
 }
 

@@ -1,6 +1,6 @@
 //! Steps on the board, and where they lead from each square.
 ghost use Rattle.std.specs.Prelude.{◌≡◌, ◌<◌, IfSome, true};
-ghost use Rattle.chess_laws.specs.Legal.{line};
+ghost use Rattle.chess_laws.specs.LegalTests.{line};
 ghost use Rattle.chess_laws.specs.Rays.{names_all, offset_at, origin_by, reversed, target_by};
 ghost use Rattle.chess_laws.specs.Geometry.{shift};
 
@@ -77,7 +77,7 @@ impl Offset {
 }
 
 /// The row of the queen's step that leads from one square towards the other, where one does.
-#[tactic(auto, unfolding(crate::specs::Legal::line))]
+#[tactic(auto, unfolding(crate::specs::LegalTests::line))]
 pub fn line(from: Square, to: Square) -> Option<u8>
     ensures row { result ≡ line from to }
     ensures queen { IfSome result (λ row. row < 8) }

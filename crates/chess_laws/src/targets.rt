@@ -5,7 +5,7 @@ ghost use Rattle.std.specs.Int.{bit_at};
 ghost use Rattle.cell_core.specs.Board.{man_at};
 ghost use Rattle.cell_core.specs.Man.{man};
 ghost use Rattle.chess_laws.specs.Geometry.{Leaps, Runs, Walk, forward, pawn_captures};
-ghost use Rattle.chess_laws.specs.Legal.{run};
+ghost use Rattle.chess_laws.specs.LegalTests.{run};
 ghost use Rattle.chess_laws.specs.Targets.{CastlesTo, Comes, Has, MayTake};
 ghost use Rattle.chess_laws.specs.Step.{HasNoOwn};
 

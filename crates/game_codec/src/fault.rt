@@ -22,7 +22,7 @@ pub enum RecordWhat {
     #[error("a start that is no position")]
     Fen,
     /// A move is faulty.
-    #[error("a bad move ({0:?})")]
+    #[error("a bad move: {0}")]
     Move(MoveFault),
     /// A NAG or a variation stands before the first move of its line, or the end of a variation in the main line, or the
     /// end of the game in a variation.

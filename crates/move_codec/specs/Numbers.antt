@@ -14,32 +14,32 @@ use Rattle.chess_laws.specs.Castling.{rook_home, rook_target}
 use Rattle.chess_laws.specs.Step.{effect_of, passed_square}
 use Rattle.move_codec.specs.declared.numbers.Numbers.{Numbers}
 
--- a position with the numbered squares of both sides
+-- A position with the numbered squares of both sides.
 pub record Numbered : Type 0 where
   pub position : Setup
   pub numbers : Numbers
 
--- the numbered squares of a side
+-- The numbered squares of a side.
 abbrev pub squares_of : Colour → Numbers → List ℕ
 squares_of White numbers = numbers.white
 squares_of Black numbers = numbers.black
 
--- the number of the man on a square, or how many men there are where none of them stands there
+-- The number of the man on a square, or how many men there are where none of them stands there.
 abbrev pub number_of : List ℕ → ℕ → ℕ
 number_of squares square = position_or_len (λ s. s == square) squares
 
--- the numbers on two ranks that begin with these squares: the king on file e is 0, the men on the files a, b, c, d, f,
--- g, h of his rank are 1 to 7, and the pawns from file a to file h are 8 to 15
+-- The numbers on two ranks that begin with these squares: the king on file e is 0, the men on the files a, b, c, d, f,
+-- g, h of his rank are 1 to 7, and the pawns from file a to file h are 8 to 15.
 abbrev pub start_ranks : ℕ → ℕ → List ℕ
 start_ranks back pawns =
     (back + 4) ∷ back ∷ (back + 1) ∷ (back + 2) ∷ (back + 3) ∷ (back + 5) ∷ (back + 6) ∷ (back + 7)
     ∷ pawns ∷ (pawns + 1) ∷ (pawns + 2) ∷ (pawns + 3) ∷ (pawns + 4) ∷ (pawns + 5) ∷ (pawns + 6) ∷ (pawns + 7) ∷ []
 
--- the numbers at the standard start
+-- The numbers at the standard start.
 abbrev pub standard_numbers : Numbers
 standard_numbers = record { white = start_ranks 0 8; black = start_ranks 56 48 }
 
--- the squares of a rank from file a, and all squares in the order of a FEN's placement: the eighth rank first
+-- The squares of a rank from file a, and all squares in the order of a FEN's placement: the eighth rank first.
 abbrev pub rank_squares : ℕ → List ℕ
 rank_squares rank =
     8 * rank ∷ (8 * rank + 1) ∷ (8 * rank + 2) ∷ (8 * rank + 3)
@@ -50,12 +50,12 @@ text_squares =
     rank_squares 7 ++ (rank_squares 6 ++ (rank_squares 5 ++ (rank_squares 4
     ++ (rank_squares 3 ++ (rank_squares 2 ++ (rank_squares 1 ++ rank_squares 0))))))
 
--- a king is added: it takes the number 0, and the man that had it takes the next number
+-- A king is added: it takes the number 0, and the man that had it takes the next number.
 abbrev pub with_king : List ℕ → ℕ → List ℕ
 with_king [] square = square ∷ []
 with_king (first ∷ rest) square = square ∷ (rest ++ first ∷ [])
 
--- what stands on the next square of the text is added, if it is of the side; any other man takes the next number
+-- What stands on the next square of the text is added, if it is of the side; any other man takes the next number.
 abbrev pub with_square : Men → Colour → List ℕ → ℕ → List ℕ
 with_square men side squares square =
     if is_man side King (man_at men square) then with_king squares square
@@ -66,25 +66,25 @@ unfoldable pub with_squares : Men → Colour → List ℕ → List ℕ → List 
 with_squares men side squares [] = squares
 with_squares men side squares (next ∷ later) = with_squares men side (with_square men side squares next) later
 
--- the numbers of a side from a FEN, and of both sides
+-- The numbers of a side from a FEN, and of both sides.
 abbrev pub text_numbers_of : Men → Colour → List ℕ
 text_numbers_of men side = with_squares men side [] text_squares
 
 abbrev pub text_numbers : Men → Numbers
 text_numbers men = record { white = text_numbers_of men White; black = text_numbers_of men Black }
 
--- a man goes from a square to another, and keeps its number
+-- A man goes from a square to another, and keeps its number.
 abbrev pub went : List ℕ → ℕ → ℕ → List ℕ
 went squares from to = slice_set squares (number_of squares from) to
 
--- the man on a square is captured: the last man of the list takes its number
+-- The man on a square is captured: the last man of the list takes its number.
 abbrev pub without : List ℕ → ℕ → List ℕ
 without squares captured =
     if nat_lt (number_of squares captured) (length squares)
     then swap_remove squares (number_of squares captured) captured
     else squares
 
--- the mover's squares after a move: castling takes the rook along
+-- The mover's squares after a move: castling takes the rook along.
 abbrev pub movers_after : Colour → Move → Effect → List ℕ → List ℕ
 movers_after side m Plain squares = went squares m.from m.to
 movers_after side m Double squares = went squares m.from m.to
@@ -92,7 +92,7 @@ movers_after side m Passing squares = went squares m.from m.to
 movers_after side m (Castle wing) squares = went (went squares m.from m.to) (rook_home side wing) (rook_target side wing)
 movers_after side m Null squares = went squares m.from m.to
 
--- the square on which a move captures, if it captures
+-- The square on which a move captures, if it captures.
 abbrev pub capture_square : Move → Effect → ℕ
 capture_square m Plain = m.to
 capture_square m Double = m.to
@@ -100,7 +100,7 @@ capture_square m Passing = passed_square m
 capture_square m (Castle wing) = m.to
 capture_square m Null = m.to
 
--- the numbers after a move
+-- The numbers after a move.
 abbrev pub numbers_by : Colour → Move → Effect → Numbers → Numbers
 numbers_by White m effect numbers =
     record {
@@ -116,7 +116,7 @@ numbers_by Black m effect numbers =
 abbrev pub numbers_after : Setup → Move → Numbers → Numbers
 numbers_after p m numbers = numbers_by p.side m (effect_of p m) numbers
 
--- the list has the squares of a side's men, each once
+-- The list has the squares of a side's men, each once.
 pub record IsNumbering (men : Men) (colour : Colour) (squares : List ℕ) : Type 0 where
   pub few : length squares ≤ 16
   pub held : (number square : ℕ) → slice_get squares number ≡ Some square → IsTrue (is_of colour (man_at men square))
@@ -125,12 +125,12 @@ pub record IsNumbering (men : Men) (colour : Colour) (squares : List ℕ) : Type
   pub whole : (square : ℕ) → IsTrue (is_of colour (man_at men square))
       → slice_get squares (number_of squares square) ≡ Some square
 
--- the king has the number 0
+-- The king has the number 0.
 abbrev pub HasKingFirst : Men → Colour → List ℕ → Type 0
 HasKingFirst men colour squares =
     (square : ℕ) → IsTrue (is_man colour King (man_at men square)) → slice_get squares 0 ≡ Some square
 
--- both lists have exactly the squares of their side's men, the king's first
+-- Both lists have exactly the squares of their side's men, the king's first.
 pub record AreNumbers (men : Men) (numbers : Numbers) : Type 0 where
   pub white : IsNumbering men White numbers.white
   pub black : IsNumbering men Black numbers.black

@@ -1,7 +1,7 @@
 -- One step of the walk tells what the walk from its end tells.
 use Rattle.std.proofs.Common.{◌∙◌, sym, arith}
 use Rattle.chess_laws.proofs.Running.{run-further, run-found, run-blocked}
-use Rattle.chess_laws.specs.Legal.{run}
+use Rattle.chess_laws.specs.LegalTests.{run}
 use Rattle.chess_laws.proofs.cases.run.Goals as goal
 
 pub returns-then-eq : goal.returns-then-eq

@@ -1,6 +1,6 @@
 -- What the walk from here tells is what it tells from its start.
 use Rattle.std.proofs.Common.{◌≡◌, ◌-◌}
-use Rattle.chess_laws.specs.Legal.{run}
+use Rattle.chess_laws.specs.LegalTests.{run}
 use Rattle.chess_laws.proofs.cases.run.Given as goal
 
 abbrev pub invariant-loop-i : goal.invariant-loop-i

@@ -1,7 +1,7 @@
 -- After an allowed move the mover's king is safe where it stays so, or where it is not attacked on the new board.
 use Rattle.std.proofs.Common.{refl, sym, ◌∙◌}
 use Rattle.std.proofs.lemmas.Bool.{and_parts, OnTrue_at}
-use Rattle.chess_laws.specs.Legal.{is_calm}
+use Rattle.chess_laws.specs.LegalTests.{is_calm}
 use Rattle.chess_laws.specs.Step.{effect_of, after, Case}
 use Rattle.chess_laws.proofs.MovedKings.{legal-safe}
 use Rattle.chess_laws.proofs.Opening.{legal-calm}

@@ -1,6 +1,6 @@
 -- What the walk finds is in the set or still ahead.
 use Rattle.std.proofs.Common.{◌≡◌, ℕ, ◌-◌, ◌⊎◌, true}
-use Rattle.chess_laws.specs.Legal.{run}
+use Rattle.chess_laws.specs.LegalTests.{run}
 use Rattle.chess_laws.specs.Targets.{Has}
 use Rattle.chess_laws.proofs.targets.walk_run.Given as goal
 

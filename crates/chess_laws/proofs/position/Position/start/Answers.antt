@@ -2,7 +2,7 @@
 use Rattle.std.proofs.Common.{refl}
 use Rattle.chess_laws.specs.Checks.{in_check}
 use Rattle.chess_laws.specs.Geometry.{shift}
-use Rattle.chess_laws.specs.Legal.{run}
+use Rattle.chess_laws.specs.LegalTests.{run}
 use Rattle.chess_laws.proofs.Start.{start-sound}
 use Rattle.chess_laws.proofs.position.Position.start.Goals as goal
 

@@ -14,16 +14,16 @@ use Rattle.chess_laws.specs.declared.setup.Wing.{Wing}
 use Rattle.chess_laws.specs.declared.effect.Effect.{Effect}
 use Rattle.chess_laws.specs.declared.effect.Effect.TheVariants.{Plain, Double, Passing, Castle, Null}
 
--- the one king of this colour stands on this square
+-- The one king of this colour stands on this square.
 pub record IsOnlyKing (men : Men) (colour : Colour) (s : ℕ) : Type 0 where
   pub stands : man_at men s ≡ Some (man colour King)
   pub only : (t : ℕ) → man_at men t ≡ Some (man colour King) → t ≡ s
 
--- the king's square after a move: its target where the king is what moves
+-- The king's square after a move: its target where the king is what moves.
 abbrev pub king_after : ℕ → Move → ℕ
 king_after king m = if m.from == king then m.to else king
 
--- whether at most so many equal steps from a come to b over empty squares
+-- Whether at most so many equal steps from a come to b over empty squares.
 abbrev pub run_on : Men → ℕ → Option ℕ → (ℕ → Bool) → Bool
 run_on men b None further = false
 run_on men b (Some c) further = (c == b) || (is_none (man_at men c) && further c)
@@ -32,24 +32,24 @@ unfoldable pub run : Men → Offset → ℕ → ℕ → ℕ → Bool
 run men o zero b a = false
 run men o (suc n) b a = run_on men b (shift o a) (run men o n b)
 
--- no man of this colour attacks one of the three squares
+-- No man of this colour attacks one of the three squares.
 pub record AreSafe (men : Men) (colour : Colour) (a b c : ℕ) : Type 0 where
   pub first : Attacks men colour a → ⊥
   pub second : Attacks men colour b → ⊥
   pub third : Attacks men colour c → ⊥
 
--- an enemy of this colour stands on the square
+-- An enemy of this colour stands on the square.
 abbrev pub IsEnemyOn : Men → Colour → ℕ → Type 0
 IsEnemyOn men colour s = (k : Kind) × (man_at men s ≡ Some (man (other colour) k))
 
--- castling, apart from the safety of the king's path
+-- Castling, apart from the safety of the king's path.
 pub record MayCastle (p : Setup) (m : Move) (wing : Wing) : Type 0 where
   pub stands : man_at p.board m.from ≡ Some (man p.side King)
   pub right : IsTrue (has_right p.rights p.side wing)
   pub empty : All (λ s. man_at p.board s ≡ None) (between p.side wing)
   pub promo : m.promo ≡ None
 
--- the row of the queen's step that leads from one square towards the other, where one does
+-- The row of the queen's step that leads from one square towards the other, where one does.
 abbrev pub line_of : ℕ → ℕ → ℕ → ℕ → Option ℕ
 line_of fa ra fb rb =
     if ra == rb then (if nat_lt fa fb then Some 0 else if nat_lt fb fa then Some 1 else None)
@@ -61,7 +61,7 @@ line_of fa ra fb rb =
 unfoldable pub line : ℕ → ℕ → Option ℕ
 line a b = line_of (file_of a) (rank_of a) (file_of b) (rank_of b)
 
--- whether a man of this kind slides by the step of this row
+-- Whether a man of this kind slides by the step of this row.
 abbrev pub glides : Kind → ℕ → Bool
 glides King row = false
 glides Queen row = nat_lt row 8
@@ -70,7 +70,7 @@ glides Bishop row = nat_le 4 row && nat_lt row 8
 glides Knight row = false
 glides Pawn row = false
 
--- the steps by which a man of this kind slides
+-- The steps by which a man of this kind slides.
 abbrev pub slides : Kind → List Offset
 slides King = []
 slides Queen = rook_steps ++ bishop_steps
@@ -79,7 +79,7 @@ slides Bishop = bishop_steps
 slides Knight = []
 slides Pawn = []
 
--- whether a move changes two squares alone, where it begins and where it ends
+-- Whether a move changes two squares alone, where it begins and where it ends.
 abbrev pub is_calm : Effect → Bool
 is_calm Plain = true
 is_calm Double = true
@@ -87,6 +87,6 @@ is_calm Passing = false
 is_calm (Castle wing) = false
 is_calm Null = false
 
--- whether a king or a rook that may castle has this square for its home
+-- Whether a king or a rook that may castle has this square for its home.
 abbrev pub is_home_square : ℕ → Bool
 is_home_square s = (s == 4) || ((s == 60) || ((s == 0) || ((s == 7) || ((s == 56) || (s == 63)))))

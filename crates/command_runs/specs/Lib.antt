@@ -1,0 +1,4 @@
+pub mod Plain
+pub mod Endings
+pub mod Runs
+pub mod Counts
