@@ -22,8 +22,7 @@ kept_move p now m bytes used n same (inl before) some few after =
 kept_move p now m bytes used n same (inr are) some few after =
     let depth : now.depth ≡ p.depth = ap (λ (q : Place). q.depth) same in
     let here : n ≡ numbered_after p.here m = after ∙ ap (λ (q : Place). numbered_after q.here m) same in
-    inr
-    (
+    inr (
       λ i. record { depth = depth i; before = now.before; here = here i; has_move = true; has_comment = false },
       calm bytes used some few are,
     )

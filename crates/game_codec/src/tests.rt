@@ -412,14 +412,7 @@ const WALKS: [(&[u8], &[(u8, u8)], Option<RecordFault>); 10] = [
     ),
     (
         b"\x00\x00\xcf\x61\xc1\xbf\xc0\xb1\x0f",
-        &[
-            (12, 28),
-            (62, 45),
-            (28, 36),
-            (51, 35),
-            (36, 43),
-            (55, 47),
-        ],
+        &[(12, 28), (62, 45), (28, 36), (51, 35), (36, 43), (55, 47)],
         None,
     ),
     (
@@ -485,6 +478,9 @@ fn check_without_a_tree(rt: HostRuntime) {
         assert!(rt; checked(record) == None, "it is a record");
     }
     for (bytes, place, what) in FAULTY {
-        assert!(rt; checked(bytes) == Some(RecordFault { place, what }), "the fault");
+        assert!(rt;
+            checked(bytes) == Some(RecordFault { place, what }),
+            "the fault"
+        );
     }
 }
