@@ -1,2 +1,3 @@
 pub mod LeavingLemmas
 pub mod SigLemmas
+pub mod BoundLemmas

@@ -5,12 +5,12 @@ use Rattle.chess_laws.specs.LegalTests.{is_calm}
 use Rattle.chess_laws.specs.Step.{effect_of, after, Case}
 use Rattle.chess_laws.proofs.MovedKings.{legal-safe}
 use Rattle.chess_laws.proofs.Opening.{legal-calm}
-use Rattle.chess_laws.proofs.legal.is_legal_from.Goals as goal
+use Rattle.chess_laws.proofs.legal.is_legal_allowed.Goals as goal
 
 pub returns-then-stays_safe : goal.returns-then-stays_safe
 returns-then-stays_safe c =
     let case : Case c.args.p.now c.args.m.now (effect_of c.args.p.now c.args.m.now) =
-    rw c.requires.effect at (c.is_allowed.ensures.0 c.if-not-is_allowed.false) in
+    rw c.requires.effect at c.requires.allowed in
     let both = and_parts c.args.shut (is_calm c.args.effect) (sym c.stays_safe.ensures ∙ c.if-stays_safe.true) in
     let shut = OnTrue_at both.0 c.requires.shut in (
       λ h.
@@ -22,7 +22,7 @@ returns-then-stays_safe c =
 pub returns-else-stays_safe : goal.returns-else-stays_safe
 returns-else-stays_safe c =
     let case : Case c.args.p.now c.args.m.now (effect_of c.args.p.now c.args.m.now) =
-    rw c.requires.effect at (c.is_allowed.ensures.0 c.if-not-is_allowed.false) in (
+    rw c.requires.effect at c.requires.allowed in (
       λ h. (
         after c.args.p.now c.args.m.now (effect_of c.args.p.now c.args.m.now),
         record {
