@@ -5,7 +5,7 @@ use Rattle.cell_core.specs.declared.man.Colour.{Colour}
 use Rattle.cell_core.specs.declared.man.Colour.TheVariants.{White, Black}
 use Rattle.pgn_write.specs.Token.{Token, token_text}
 unfoldable use Rattle.pgn_write.specs.Layout.{layout}
-use Rattle.pgn_write.specs.Layout.{holds_next, is_closing, begins_closing, joined, units, unit_text, column_after, has_room, laid_behind, laid}
+use Rattle.pgn_write.specs.Layout.{holds_next, is_closing, joined, units, unit_text, column_after, has_room, laid_behind, laid}
 use Rattle.pgn_write.specs.Writing.{Writing, begun, lead_in, begins_at, flushed, grown, put, put_all, size, IsLow}
 use Rattle.pgn_write.proofs.WritingLaws.{put_all-append}
 

@@ -1,4 +1,4 @@
-use Rattle.std.proofs.Common.{◌≡◌, ℕ, List, ap, ◌∙◌}
+use Rattle.std.proofs.Common.{ℕ, List, ap, ◌∙◌}
 use Rattle.game_tree.specs.Tree.{Played}
 use Rattle.pgn_write.specs.Tokens.{Turn}
 use Rattle.pgn_write.specs.Writing.{turn, put_all, nag_tokens, comment_tokens, move_tokens, own_tokens}

@@ -1,4 +1,4 @@
-use Rattle.std.proofs.Common.{◌≡◌, ℕ, List, [], ◌++◌, ap, ◌∙◌}
+use Rattle.std.proofs.Common.{ℕ, List, ◌++◌, ap, ◌∙◌}
 use Rattle.game_tree.specs.declared.head.Head.{Head}
 use Rattle.game_tree.specs.Head.{head_of}
 use Rattle.pgn_write.specs.TagPairs.{tags_of, tags_text}
