@@ -3,6 +3,7 @@
 
 mod games;
 mod head_query;
+mod laws;
 mod mat_query;
 mod mem_games;
 mod pos_query;
@@ -11,6 +12,7 @@ mod span;
 
 pub use games::{FetchError, Games};
 pub use head_query::HeadQuery;
+pub use laws::{held_records_stay, pawns_leave_once};
 pub use mat_query::{MatQuery, MatRange};
 pub use mem_games::MemGames;
 pub use pos_query::{Mode, PosQuery};
