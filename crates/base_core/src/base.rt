@@ -1,6 +1,6 @@
 //! An open base.
 ghost use Rattle.std.specs.Prelude.{◌≡◌, ◌<◌, [], Some, false, length, slice_get};
-ghost use Rattle.base_core.specs.Base.{empty_base, empty_header};
+ghost use Rattle.base_core.specs.Base.{empty_header};
 ghost use Rattle.base_core.specs.Represents.{IsKept, IsSound};
 ghost use Rattle.name_base.specs.NameLists.{no_names};
 

@@ -1,8 +1,7 @@
 //! The checks of an entry: its fields, its ids, the place of its record, and its derived fields beside a signature.
-ghost use Rattle.std.specs.Prelude.{◌≡◌, ◌≤◌, ◌+◌, ◌*◌, ⊤, length, IfOk, MatchOption};
+ghost use Rattle.std.specs.Prelude.{◌≡◌, ◌≤◌, ◌+◌, ◌*◌, length, IfOk};
 ghost use Rattle.index_entry.specs.Entry.{IsEntry};
 ghost use Rattle.index_entry.specs.Index.{entry_bytes};
-ghost use Rattle.base_core.specs.Entries.{HasNames};
 ghost use Rattle.base_core.specs.FirstFault.{derived_fault, entry_checked, id_fault, place_fault};
 ghost use Rattle.base_core.specs.Reading.{kept_entry};
 

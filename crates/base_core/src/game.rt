@@ -1,5 +1,5 @@
 //! Reading a game of an open base.
-ghost use Rattle.std.specs.Prelude.{◌≡◌, ◌≤◌, ◌<◌, ◌+◌, ◌↔◌, ◌^◌, All, List, Some, length, slice_get, take, IfOk, IfErr, IfSome, IsErrOf, OnErr};
+ghost use Rattle.std.specs.Prelude.{◌≡◌, ◌≤◌, ◌<◌, ◌+◌, ◌↔◌, ◌^◌, All, List, Some, length, slice_get, IfOk, IfErr, IfSome, IsErrOf};
 ghost use Rattle.base_files.specs.Counters.{Rose};
 ghost use Rattle.game_tree.specs.Head.{HasTexts, IsBounded, IsName, IsTag, head_of as fields_with};
 ghost use Rattle.game_tree.specs.Legal.{IsLegalGame};

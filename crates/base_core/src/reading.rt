@@ -1,5 +1,5 @@
 //! Reading the games of a base that is opened.
-ghost use Rattle.std.specs.Prelude.{◌≡◌, ◌≤◌, ◌<◌, ◌+◌, ◌*◌, ◌^◌, All, List, length, take, IfOk, IfErr, IfSome, OnOk, OnErr, IsTrue, if◌then◌else◌};
+ghost use Rattle.std.specs.Prelude.{◌≡◌, ◌≤◌, ◌<◌, ◌+◌, ◌*◌, ◌^◌, All, List, length, IfOk, IfErr, IfSome, IsTrue, if◌then◌else◌};
 ghost use Rattle.base_files.specs.Counters.{Rose};
 ghost use Rattle.base_files.specs.Told.{TellsLength};
 ghost use Rattle.game_tree.specs.Date.{IsDate, keeps_rule};

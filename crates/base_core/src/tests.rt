@@ -1,5 +1,4 @@
 //! A base of one game, whose bytes were worked out from the formats by hand: Reti's game against Tartakower, Vienna 1910.
-ghost use Rattle.std.specs.Prelude.{◌≡◌, ◌≤◌};
 
 use crate::{Base, BaseFault, DerivedField, IdField, OpenError, PlaceWhat};
 use base_files::MemFiles;
