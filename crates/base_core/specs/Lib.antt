@@ -1,0 +1,9 @@
+pub mod Base
+pub mod Entries
+pub mod Means
+pub mod FirstFault
+pub mod Represents
+pub mod Opening
+pub mod Errors
+pub mod Packing
+pub mod Reading
