@@ -1,0 +1,3 @@
+pub mod FirstPlyLaws
+pub mod HitLines
+pub mod Quietly

@@ -1,0 +1,68 @@
+-- Laws of lines that ask no file: what they leave stands for the state after them.
+use Rattle.std.proofs.Common.{◌≡◌, ℕ, suc, ◌+◌, List, [], ◌∷◌, ◌++◌, length, map, All, Option, Some, None, Result, Ok, Err, refl, sym, ap, subst, ◌∙◌, add-one}
+use Rattle.base_files.specs.Seen.{Seen}
+use Rattle.game_filter.specs.Filter.{joined, restricted_from, entry_within}
+use Rattle.base_core.specs.Represents.{Kept, Represents}
+use Rattle.shell_commands.specs.declared.saved.SavedFilter.{SavedFilter}
+use Rattle.shell_commands.specs.Do.{Order, after_order, text_of_order}
+use Rattle.shell_commands.specs.Stands.{Holding, Stands, Fits, Quiet}
+use Rattle.shell_commands.specs.State.{State}
+
+-- The plies of a filter, and the filters that are kept.
+abbrev pub Plies : Type 0
+Plies = List (Option ℕ)
+
+-- A line whose filter, kept filters and text are these functions of the filter and the kept filters before.
+pub quiet_by : (F : Plies → List SavedFilter → Plies) (G : Plies → List SavedFilter → List SavedFilter) (T : Plies → List SavedFilter → List ℕ)
+    (old new : Holding) (order : Order) (line : List ℕ)
+    → ((s : State) → after_order s order ≡ record s { filter = F s.filter s.saved; saved = G s.filter s.saved })
+    → ((s : State) → text_of_order s order ≡ T s.filter s.saved)
+    → new.kept ≡ old.kept → new.filter ≡ F old.filter old.saved → new.saved ≡ G old.filter old.saved
+    → line ≡ T old.filter old.saved → Fits new → Quiet old order new line
+quiet_by F G T old new order line after says kept filter saved written fits = record {
+  stands = λ (seen : Seen) (s : State) (st : Stands old seen s).
+      let here : State = record s { filter = F s.filter s.saved; saved = G s.filter s.saved } in
+      let b = subst (λ (k : Kept). Represents k st.games s.base) (sym kept) st.base in
+      let standing : Stands new seen here = record {
+        games = st.games;
+        told = st.told;
+        base = b;
+        filter = filter ∙ ap (λ (x : Plies). F x old.saved) st.filter ∙ ap (F s.filter) st.saved;
+        saved = saved ∙ ap (λ (x : Plies). G x old.saved) st.filter ∙ ap (G s.filter) st.saved;
+        unsaved = ap (λ (k : Kept). k.unsaved) kept ∙ st.unsaved;
+      } in
+      subst (Stands new seen) (sym (after s)) standing;
+  text = λ (seen : Seen) (s : State) (st : Stands old seen s).
+      written ∙ ap (λ (x : Plies). T x old.saved) st.filter ∙ ap (T s.filter) st.saved ∙ sym (says s);
+  fits = fits;
+  kept = kept;
+}
+
+-- A line that changes nothing and has the same text in each state.
+pub quiet_same : (text : List ℕ) (old : Holding) (order : Order) (line : List ℕ)
+    → ((s : State) → after_order s order ≡ s) → ((s : State) → text_of_order s order ≡ text) → line ≡ text → Fits old → Quiet old order old line
+quiet_same text old order line after says written fits =
+    quiet_by (λ f s. f) (λ f s. s) (λ f s. text) old old order line after says refl refl refl written fits
+
+-- Filters keep their lengths.
+pub length-joined : (join : Option ℕ → Option ℕ → Option ℕ) (owns others : Plies) → length owns ≡ length others → length (joined join owns others) ≡ length owns
+length-joined join [] others same = refl
+length-joined join (own ∷ owns) [] same = absurd cc
+length-joined join (own ∷ owns) (other ∷ others) same =
+    let shorter : length owns ≡ length others = cc in ap (λ (n : ℕ). suc n) (length-joined join owns others shorter)
+
+pub length-restricted_from : (i first last : ℕ) (plies : Plies) → length (restricted_from i first last plies) ≡ length plies
+length-restricted_from i first last [] = refl
+length-restricted_from i first last (ply ∷ plies) = ap (λ (n : ℕ). suc n) (length-restricted_from (i + 1) first last plies)
+
+-- The filters fit where the current one keeps its length and the kept ones are the same.
+pub fits_by : (old new : Holding) → new.kept ≡ old.kept → new.saved ≡ old.saved → length new.filter ≡ length old.filter → Fits old → Fits new
+fits_by old new kept saved len fits =
+    let e : length old.kept.entries ≡ length new.kept.entries = ap (λ (k : Kept). length k.entries) (sym kept) in
+    record {
+      filter = len ∙ fits.filter ∙ e;
+      saved =
+          let P : List SavedFilter → Type 0 = λ xs. All (λ (f : SavedFilter). length f.plies ≡ length new.kept.entries) xs in
+          let Q : ℕ → Type 0 = λ n. All (λ (f : SavedFilter). length f.plies ≡ n) old.saved in
+          subst P (sym saved) (subst Q e fits.saved);
+    }

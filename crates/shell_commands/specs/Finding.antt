@@ -1,0 +1,12 @@
+-- Why a search ends early. Only private functions cite this.
+use Rattle.std.specs.Prelude.{◌≡◌, ⊤}
+use Rattle.base_files.specs.declared.faults.Stop.{Stop}
+use Rattle.base_files.specs.declared.faults.Stop.TheVariants as stop
+use Rattle.shell_commands.specs.declared.halt.Halt.{Halt}
+use Rattle.shell_commands.specs.declared.halt.Halt.TheVariants as halt
+
+-- A search of games that are told ends early by the files or by memory alone.
+abbrev pub IsDevice : Halt → Type 0
+IsDevice (halt.Device stop.Files) = ⊤
+IsDevice (halt.Device stop.Memory) = ⊤
+IsDevice _ = ⊥

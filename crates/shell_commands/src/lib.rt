@@ -1,0 +1,16 @@
+//! The commands of a script over an open base: what each makes of the state, and the text that it writes.
+#![tactic(auto)]
+
+mod filters;
+mod find;
+mod halt;
+mod hits;
+mod lines;
+mod machine;
+mod saved;
+mod serving;
+
+pub use halt::Halt;
+pub use machine::Machine;
+pub use saved::SavedFilter;
+pub use serving::{Order, serve};
