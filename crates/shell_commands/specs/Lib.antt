@@ -8,4 +8,4 @@ pub mod Showing
 pub mod Do
 pub mod Stands
 pub mod Turns
-pub mod Finding
+pub mod Ends

@@ -9,16 +9,44 @@ ghost use Rattle.sig_index.specs.Games.{AreWithin, Holds, extent_in};
 ghost use Rattle.shell_commands.specs.Do.{plain};
 ghost use Rattle.shell_commands.specs.FirstPly.{first_of, sought};
 ghost use Rattle.shell_commands.specs.Searching.{found};
-ghost use Rattle.shell_commands.specs.Stands.{Stands, Sound, Broken, WhyHalt, cost};
+ghost use Rattle.shell_commands.specs.Stands.{Stands, Sound, Broken, WhyHalt, records_len};
 ghost use Rattle.shell_commands.specs.State.{State};
-ghost use Rattle.shell_commands.specs.Finding.{IsDevice};
+ghost use Rattle.shell_commands.specs.Ends.{IsDevice};
 
 use crate::find::first_ply;
 use crate::halt::Halt;
-use base_files::{Files, Stop};
+use crate::hits::write_hits;
+use crate::machine::Machine;
+use base_files::{Files, Sink, Stop};
 use cell_core::{Board, Colour};
 use game_filter::Filter;
 use sig_index::{FetchError, Games};
+
+// find BOARD SIDE
+pub(crate) fn find<F: Files, K: Sink>(
+    machine: &mut Machine,
+    files: &mut F,
+    out: &mut K,
+    board: &Board,
+    side: Colour,
+) -> Result<(), Halt>
+    requires sound { Sound machine.old (F.seen files.old).known }
+    ensures serves { (s : State) → Stands machine.old (F.seen files.old) s → Serves plain (Stands machine.new (F.seen files.new)) Broken s (Ok (command.Find board.now side)) (K.taken out.old) (K.taken out.new) result }
+    ensures sound { OnOk result (Sound machine.new (F.seen files.new).known) }
+    ensures unchanged { F.seen files.new ≡ F.seen files.old }
+    ensures asks { F.asked files.new ≤ F.asked files.old + records_len machine.old }
+    ensures causes { Causes WhyHalt result (counts (F.faults files.old) 0 (K.faults out.old)) (counts (F.faults files.new) 0 (K.faults out.new)) }
+{
+    let block = machine.block.as_mut_slice();
+    match search(&machine.base, board, side, &mut machine.filter, files, block) {
+        Ok(()) => {}
+        Err(halt) => return Err(halt),
+    }
+    match write_hits(&machine.filter, &mut machine.page, out) {
+        Ok(()) => Ok(()),
+        Err(stop) => Err(Halt::Device(stop)),
+    }
+}
 
 // Leaves in the filter the first ply of each game at which the board and the side stand. Each record is read once, into `block`.
 pub(crate) fn search<G: Games, F: Files>(

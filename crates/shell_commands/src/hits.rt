@@ -1,17 +1,36 @@
 //! Writing the games of a filter.
-ghost use Rattle.std.specs.Prelude.{◌≡◌, ◌≤◌, [], ◌∷◌, ◌++◌, ◌^◌, ◌<◌, length, count_by, is_some, string_bytes, OnOk, IfErr};
+ghost use Rattle.std.specs.Prelude.{◌≡◌, ◌≤◌, [], ◌∷◌, ◌++◌, ◌^◌, ◌<◌, length, count_by, is_some, string_bytes, Ok, OnOk, IfErr};
+ghost use Rattle.base_files.specs.Seen.{Seen};
+ghost use Rattle.script_text.specs.declared.command.Command.TheVariants as command;
 ghost use Rattle.base_files.specs.Causes.{HasCause};
 ghost use Rattle.base_files.specs.Told.{Grew, adds};
 ghost use Rattle.command_runs.specs.Counts.{Causes, Why, counts};
-ghost use Rattle.command_runs.specs.Endings.{Halted};
+ghost use Rattle.command_runs.specs.Endings.{Halted, Serves};
+ghost use Rattle.shell_commands.specs.Do.{plain};
+ghost use Rattle.shell_commands.specs.Stands.{Stands, Broken, WhyHalt};
+ghost use Rattle.shell_commands.specs.State.{State};
 ghost use Rattle.shell_commands.specs.Lines.{count_line, hit_line, hit_lines, hits_text};
 
+use crate::halt::Halt;
+use crate::machine::Machine;
 use base_files::{DeviceError, Sink, Stop, write_all};
 use game_filter::Filter;
 use std::alloc::AllocError;
 
 /// How many bytes of text are put together before they are written.
 const PIECE: usize = 32_768;
+
+// hits
+pub(crate) fn hits<K: Sink>(machine: &mut Machine, out: &mut K) -> Result<(), Halt>
+    ensures same { machine.new ≡ machine.old }
+    ensures serves { (seen : Seen) (s : State) → Stands machine.old seen s → Serves plain (Stands machine.new seen) Broken s (Ok command.Hits) (K.taken out.old) (K.taken out.new) result }
+    ensures causes { Causes WhyHalt result (counts 0 0 (K.faults out.old)) (counts 0 0 (K.faults out.new)) }
+{
+    match write_hits(&machine.filter, &mut machine.page, out) {
+        Ok(()) => Ok(()),
+        Err(stop) => Err(Halt::Device(stop)),
+    }
+}
 
 // Writes a line for each game that is in, and then how many of how many there are. The text goes out in pieces, by way of `page`.
 #[tactic(auto, using(command_runs::proofs::Joining::halted_by))]

@@ -5,6 +5,7 @@ ghost use Rattle.command_runs.specs.Endings.{Halted, Serves};
 ghost use Rattle.command_runs.specs.Counts.{Causes, Why, counts};
 ghost use Rattle.script_text.specs.declared.command.Command.TheVariants as command;
 ghost use Rattle.shell_commands.specs.Do.{plain};
+ghost use Rattle.shell_commands.specs.Ends.{IsOutput};
 ghost use Rattle.shell_commands.specs.Stands.{Stands, Sound, Fits, Quiet, Broken, WhyHalt, cost};
 ghost use Rattle.shell_commands.specs.State.{State};
 ghost use Rattle.shell_commands.specs.Turns.{IsTurn};
@@ -62,6 +63,7 @@ pub fn serve<F: Files, K: Sink>(
 fn write_line<K: Sink>(out: &mut K, line: &[u8]) -> Result<(), Halt>
     ensures written { OnOk result (K.taken out.new ≡ adds (K.taken out.old) line.now) }
     ensures halted { Halted [] line.now (K.taken out.old) (K.taken out.new) }
+    ensures output { IfErr result IsOutput }
     ensures causes { Causes WhyHalt result (counts 0 0 (K.faults out.old)) (counts 0 0 (K.faults out.new)) }
 {
     match write_text(out, line) {
