@@ -1,128 +1,94 @@
--- What a session answers, of what it was given, in terms of plain values. This project's own.
-use Rattle.std.specs.Prelude.{◌≡◌, ◌<◌, ◌≤◌, ℕ, ◌⊎◌, Bool, true, false, IsTrue, ⊤, List, [], ◌∷◌, ◌++◌, take, length, Option, Some, None, codes}
-use Rattle.std.specs.Fmt.{decimal}
+-- What a session answers, of what it was given, in terms of plain lists. This project's own.
+use Rattle.std.specs.Prelude.{◌≡◌, ◌<◌, ℕ, ◌⊎◌, List, [], ◌∷◌, ◌++◌, All, length, Option, false}
+use Rattle.std.specs.List.{AllZip}
 use Rattle.base_files.specs.Chosen.{Choice, choice}
-use Rattle.base_files.specs.Told.{adds, before}
-use Rattle.base_core.specs.declared.fault.BaseFault.{BaseFault}
-use Rattle.base_core.specs.Base.{Base}
-use Rattle.base_core.specs.Opening.{OpensAs, Refuses}
-use Rattle.base_core.specs.Represents.{Mended}
-use Rattle.command_runs.specs.Plain.{after_all, run}
-use Rattle.command_runs.specs.Endings.{Halted}
-use Rattle.shell_commands.specs.Do.{Order, order_asks, plain, text_of_order}
-use Rattle.shell_commands.specs.State.{State, begin}
+use Rattle.base_files.specs.Told.{IsPrefix}
+use Rattle.shell_session.specs.declared.placed.Placed.{Placed}
+use Rattle.game_codec.specs.declared.fault.RecordFault.{RecordFault}
 use Rattle.shell_session.specs.declared.status.Status.{Status}
-use Rattle.shell_session.specs.declared.status.Status.TheVariants.{Done, Usage, BadBase, ReadFault, WriteFault, FilesFault, Changed, InputTooLong, Memory}
-use Rattle.shell_session.specs.Script.{script_limit, script_len, script_of, whole_lines}
-use Rattle.shell_session.specs.Words.{Choosing, words_read}
+use Rattle.shell_session.specs.declared.status.Status.TheVariants.{Done, Later, BadRecord, ReadFault, WriteFault, FilesFault, Memory}
+use Rattle.shell_session.specs.declared.status.LaterWhat.TheVariants as later
+use Rattle.game_tree.specs.Game.{GameTree}
+use Rattle.game_tree.specs.declared.head.Tag.{Tag}
+use Rattle.game_codec.specs.Record.{IsRecord, IsSomeRecord}
+use Rattle.game_codec.specs.Fault.{IsRecordFault}
+use Rattle.shell_session.specs.FindLine.{FindScript}
+use Rattle.shell_session.specs.HitText.{find_text}
+use Rattle.base_files.specs.Extents.{record_in}
+use Rattle.shell_session.specs.IndexFile.{IsIndex, extent_at, game_count, records}
+use Rattle.shell_session.specs.Placed.{FirstPly}
+use Rattle.shell_session.specs.Words.{AreBase}
 
--- What a session is given: its words, the three files of the base that they name, the script, and what the output had taken before.
+-- What a session is given: its words, the index file and the games file of the base, and the script.
 pub record Given : Type 0 where
   pub words : List (List ℕ)
   pub index : List ℕ
-  pub names : List ℕ
   pub games : List ℕ
   pub script : List ℕ
-  pub taken : List ℕ
 
--- The base that the words name opens: it is this one, and so many of its entries were mended.
-pub record Opened (given : Given) (base : Base) (mended : ℕ) : Type 0 where
-  pub choosing : Choosing
-  pub words : words_read given.words ≡ Some choosing
-  pub means : OpensAs choosing.create given.index given.names given.games base
-  pub mended : Mended given.index base.games mended
-  pub strictly : IsTrue choosing.strict → mended ≡ 0
+abbrev pub given : List (List ℕ) → List ℕ → List ℕ → List ℕ → Given
+given words index games script = record { words = words; index = index; games = games; script = script }
 
--- `base G games M mended`.
-abbrev pub opening_line : ℕ → ℕ → List ℕ
-opening_line games mended = codes "base " ++ decimal games ++ codes " games " ++ decimal mended ++ codes " mended\n"
+-- A game's answer to a search: the first ply of its main line at which the board and side sought stand.
+pub record Hit (sought : Placed) (bytes : List ℕ) (hit : Option ℕ) : Type 0 where
+  pub tags : List Tag
+  pub game : GameTree
+  pub decoded : IsRecord bytes tags game
+  pub first : FirstPly game sought hit
 
-abbrev pub opening_of : Base → ℕ → List ℕ
-opening_of base mended = opening_line (length base.games) mended
+-- The answers of all games, in their order.
+abbrev pub AreHits : Placed → List ℕ → List ℕ → List (Option ℕ) → Type 0
+AreHits sought index games hits = AllZip (Hit sought) (records index games (game_count index)) hits
 
--- The whole text: the opening line, and what the plain machine says of the script.
-pub record Whole (given : Given) (told : Option (List ℕ)) : Type 0 where
-  pub base : Base
-  pub mended : ℕ
-  pub opened : Opened given base mended
-  pub within : script_len given.script ≤ script_limit
-  pub wrote : told ≡ adds (Some given.taken) (opening_of base mended ++ run plain (begin base) (script_of given.script))
+-- This game is the first whose bytes are no record, and this is their first fault.
+pub record IsFirstFaulty (index games : List ℕ) (game : ℕ) (fault : RecordFault) : Type 0 where
+  pub in_base : game < game_count index
+  pub records_before : All IsSomeRecord (records index games game)
+  pub faulty : IsRecordFault (record_in games (extent_at index game)) fault
 
--- What is known of an early end in the script, beside the text: with a fault of the input, all lines are done that were taken with their
--- last line feed; with an input that is too long, those within the limit; the files fail only in a line that asks them, and told files never
--- change.
-abbrev pub Rule : Status → List ℕ → List ℕ → List Order → Order → Type 0
-Rule ReadFault script used done next = done ≡ whole_lines used
-Rule InputTooLong script used done next = (script_limit < script_len script) × (done ≡ whole_lines (take script_limit script))
-Rule FilesFault script used done next = IsTrue (order_asks next)
-Rule WriteFault script used done next = ⊤
-Rule Memory script used done next = ⊤
-Rule _ script used done next = ⊥
+-- The words name a base, and its index can be read.
+pub record Opens (given : Given) : Type 0 where
+  pub name : List ℕ
+  pub named : AreBase given.words name
+  pub indexed : IsIndex given.index (length given.games)
 
--- The script was begun and not ended: the texts of the lines that are done are written behind the opening line, and a front part of the next
--- one's, which may be empty. `used` are the bytes of the input that were taken.
-pub record Early (status : Status) (given : Given) (left told : Option (List ℕ)) : Type 0 where
-  pub base : Base
-  pub mended : ℕ
-  pub opened : Opened given base mended
-  pub used : List ℕ
-  pub taken : Some given.script ≡ before used left
-  pub done : List Order
-  pub next : Order
-  pub later : List Order
-  pub all : script_of given.script ≡ done ++ next ∷ later
-  pub wrote : Halted (opening_of base mended ++ run plain (begin base) done)
-      (opening_of base mended ++ run plain (begin base) done ++ text_of_order (after_all plain (begin base) done) next) (Some given.taken) told
-  pub rule : Rule status given.script used done next
+-- The base opens, and the script asks for this board and side.
+pub record Asks (given : Given) (sought : Placed) : Type 0 where
+  pub opens : Opens given
+  pub asked : FindScript given.script sought
 
--- The base opened, and a front part of the opening line was written at most; no byte of the input was taken.
-pub record Opening (given : Given) (left told : Option (List ℕ)) : Type 0 where
-  pub base : Base
-  pub mended : ℕ
-  pub opened : Opened given base mended
-  pub unread : left ≡ Some given.script
-  pub wrote : Halted [] (opening_of base mended) (Some given.taken) told
+-- The whole answer: the text of the hits.
+pub record Finds (given : Given) (text : List ℕ) : Type 0 where
+  pub sought : Placed
+  pub asks : Asks given sought
+  pub hits : List (Option ℕ)
+  pub found : AreHits sought given.index given.games hits
+  pub written : text ≡ find_text hits
 
--- Nothing was read of the input and nothing was written.
-pub record Nothing (given : Given) (left told : Option (List ℕ)) : Type 0 where
-  pub unread : left ≡ Some given.script
-  pub unwritten : told ≡ Some given.taken
+-- The text is a front part of the whole answer, which may be empty.
+pub record BeginsAnswer (given : Given) (text : List ℕ) : Type 0 where
+  pub whole : List ℕ
+  pub finds : Finds given whole
+  pub begins : IsPrefix text whole
 
--- The words name a base whose files have this first fault.
-pub record Faulty (given : Given) (fault : BaseFault) : Type 0 where
-  pub choosing : Choosing
-  pub words : words_read given.words ≡ Some choosing
-  pub refused : Refuses choosing.create choosing.strict given.index given.names given.games fault
+-- What each status says of what was given, and of the text that was written. The words are looked at first, then the index, then the script, then the records.
+abbrev pub Answers : Given → Status → List ℕ → Type 0
+Answers given Done text = Finds given text
+Answers given (Later later.Words) text = ((name : List ℕ) → ¬ AreBase given.words name) × (text ≡ [])
+Answers given (Later later.Index) text = ((name : List ℕ) × AreBase given.words name) × ¬ IsIndex given.index (length given.games) × (text ≡ [])
+Answers given (Later later.Script) text = Opens given × ((sought : Placed) → ¬ FindScript given.script sought) × (text ≡ [])
+Answers given (BadRecord game fault) text = ((sought : Placed) × Asks given sought) × IsFirstFaulty given.index given.games game fault × (text ≡ [])
+Answers given ReadFault text = text ≡ []
+Answers given WriteFault text = BeginsAnswer given text
+Answers given FilesFault text = text ≡ []
+Answers given Memory text = (text ≡ []) ⊎ BeginsAnswer given text
 
--- What each status says of what was given, of what is left of the input, and of what the output has taken.
-abbrev pub Answers : Status → Given → Option (List ℕ) → Option (List ℕ) → Type 0
-Answers Done given left told = Whole given told
-Answers Usage given left told = (words_read given.words ≡ None) × Nothing given left told
-Answers (BadBase fault) given left told = Faulty given fault × Nothing given left told
-Answers ReadFault given left told = Early ReadFault given left told
-Answers InputTooLong given left told = Early InputTooLong given left told
-Answers WriteFault given left told = Opening given left told ⊎ Early WriteFault given left told
-Answers FilesFault given left told = Nothing given left told ⊎ Early FilesFault given left told
-Answers Memory given left told = Nothing given left told ⊎ (Opening given left told ⊎ Early Memory given left told)
-Answers (Changed game kept found) given left told = ⊥
-
--- The statuses that come without a fault of a device and without a change of a record.
-abbrev pub IsDue : Status → Type 0
-IsDue Done = ⊤
-IsDue Usage = ⊤
-IsDue (BadBase fault) = ⊤
-IsDue InputTooLong = ⊤
-IsDue Memory = ⊤
-IsDue _ = ⊥
-
--- The base of the words was chosen once, with leave to create it exactly where they give it, and nothing else.
-pub record ChoosesBase (words : List (List ℕ)) (old new : List Choice) : Type 0 where
-  pub choosing : Choosing
-  pub words : words_read words ≡ Some choosing
-  pub chosen : new ≡ old ++ choice choosing.name choosing.create ∷ []
+-- The base of the words was chosen once, as it is, and nothing else.
+abbrev pub ChoosesBase : List (List ℕ) → List Choice → List Choice → Type 0
+ChoosesBase words old new = (name : List ℕ) × AreBase words name × (new ≡ old ++ choice name false ∷ [])
 
 -- Which bases were chosen: none where the words name none, and none or the one where memory ran out.
 abbrev pub Chooses : Status → List (List ℕ) → List Choice → List Choice → Type 0
-Chooses Usage words old new = new ≡ old
+Chooses (Later later.Words) words old new = new ≡ old
 Chooses Memory words old new = (new ≡ old) ⊎ ChoosesBase words old new
 Chooses _ words old new = ChoosesBase words old new
