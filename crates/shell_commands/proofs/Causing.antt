@@ -1,5 +1,5 @@
 -- Laws of causes: a part that has one device alone has the causes of a command that has all.
-use Rattle.std.proofs.Common.{◌≡◌, ◌<◌, ◌≤◌, ℕ, inl, inr, Result, Ok, Err, arith, refl}
+use Rattle.std.proofs.Common.{◌≡◌, ◌<◌, ◌≤◌, ℕ, true, inl, inr, Result, Ok, Err, arith, refl}
 use Rattle.base_files.specs.Counters.{Rose}
 use Rattle.base_files.specs.declared.faults.Stop.{Stop}
 use Rattle.base_files.specs.declared.faults.Stop.TheVariants as stop

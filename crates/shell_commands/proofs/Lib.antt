@@ -4,3 +4,6 @@ pub mod Quietly
 pub mod Beginning
 pub mod Causing
 pub mod Serving
+pub mod Searching
+pub mod Informing
+pub mod FindingLaws

@@ -1,7 +1,9 @@
 -- Laws of lines that ask no file: what they leave stands for the state after them.
-use Rattle.std.proofs.Common.{◌≡◌, ℕ, suc, ◌+◌, List, [], ◌∷◌, ◌++◌, length, map, All, Option, Some, None, Result, Ok, Err, refl, sym, ap, subst, ◌∙◌, add-one}
+use Rattle.std.proofs.Common.{◌≡◌, ℕ, suc, ◌+◌, List, [], ◌∷◌, ◌++◌, length, map, All, Option, Some, None, Result, Ok, Err, refl, sym, ap, subst, ◌∙◌, ◌<◌, ◌≤◌, arith}
 use Rattle.base_files.specs.Seen.{Seen}
-use Rattle.game_filter.specs.Filter.{joined, restricted_from, entry_within}
+use Rattle.std.specs.Prelude.{nat_le, min}
+use Rattle.std.proofs.lemmas.Bool.Decides.{nat_tests}
+use Rattle.game_filter.specs.Filter.{joined, restricted, restricted_from, entry_within}
 use Rattle.base_core.specs.Represents.{Kept, Represents}
 use Rattle.shell_commands.specs.declared.saved.SavedFilter.{SavedFilter}
 use Rattle.shell_commands.specs.Do.{Order, after_order, text_of_order}
@@ -45,15 +47,18 @@ quiet_same text old order line after says written fits =
     quiet_by (λ f s. f) (λ f s. s) (λ f s. text) old old order line after says refl refl refl written fits
 
 -- Filters keep their lengths.
-pub length-joined : (join : Option ℕ → Option ℕ → Option ℕ) (owns others : Plies) → length owns ≡ length others → length (joined join owns others) ≡ length owns
-length-joined join [] others same = refl
-length-joined join (own ∷ owns) [] same = absurd cc
-length-joined join (own ∷ owns) (other ∷ others) same =
-    let shorter : length owns ≡ length others = cc in ap (λ (n : ℕ). suc n) (length-joined join owns others shorter)
+pub length_joined : (join : Option ℕ → Option ℕ → Option ℕ) (owns others : Plies) → length owns ≡ length others → length (joined join owns others) ≡ length owns
+length_joined join [] others same = refl
+length_joined join (own ∷ owns) [] same = absurd cc
+length_joined join (own ∷ owns) (other ∷ others) same =
+    let shorter : length owns ≡ length others = cc in ap (λ (n : ℕ). suc n) (length_joined join owns others shorter)
 
-pub length-restricted_from : (i first last : ℕ) (plies : Plies) → length (restricted_from i first last plies) ≡ length plies
-length-restricted_from i first last [] = refl
-length-restricted_from i first last (ply ∷ plies) = ap (λ (n : ℕ). suc n) (length-restricted_from (i + 1) first last plies)
+pub length_restricted_from : (i first last : ℕ) (plies : Plies) → length (restricted_from i first last plies) ≡ length plies
+length_restricted_from i first last [] = refl
+length_restricted_from i first last (ply ∷ plies) = ap (λ (n : ℕ). suc n) (length_restricted_from (i + 1) first last plies)
+
+pub length_restricted : (first last : ℕ) (plies : Plies) → length (restricted first last plies) ≡ length plies
+length_restricted first last plies = length_restricted_from 0 first last plies
 
 -- The filters fit where the current one keeps its length and the kept ones are the same.
 pub fits_by : (old new : Holding) → new.kept ≡ old.kept → new.saved ≡ old.saved → length new.filter ≡ length old.filter → Fits old → Fits new
@@ -66,3 +71,28 @@ fits_by old new kept saved len fits =
           let Q : ℕ → Type 0 = λ n. All (λ (f : SavedFilter). length f.plies ≡ n) old.saved in
           subst P (sym saved) (subst Q e fits.saved);
     }
+
+-- The filters fit where the kept ones all fit.
+pub fits_saved : (old new : Holding) → new.kept ≡ old.kept → new.filter ≡ old.filter
+    → All (λ (f : SavedFilter). length f.plies ≡ length old.kept.entries) new.saved → Fits old → Fits new
+fits_saved old new kept filter saved fits =
+    let e : length old.kept.entries ≡ length new.kept.entries = ap (λ (k : Kept). length k.entries) (sym kept) in
+    let Q : ℕ → Type 0 = λ n. All (λ (f : SavedFilter). length f.plies ≡ n) new.saved in
+    record { filter = ap (λ (x : Plies). length x) filter ∙ fits.filter ∙ e; saved = subst Q e saved }
+
+-- The numbers of `restrict` may be cut to the number of games.
+within_cut : (m i first last : ℕ) (ply : Option ℕ) → i < m → entry_within (min first m) (min last m) i ply ≡ entry_within first last i ply
+within_cut m i first last ply less =
+    let low : nat_le (min first m) i ≡ nat_le first i = grind (arith, nat_tests) in
+    let high : nat_le i (min last m) ≡ nat_le i last = grind (arith, nat_tests) in
+    rw (low, high) refl
+
+cut_from : (m i first last : ℕ) (plies : Plies) → i + length plies ≤ m → restricted_from i (min first m) (min last m) plies ≡ restricted_from i first last plies
+cut_from m i first last [] within = refl
+cut_from m i first last (ply ∷ plies) within =
+    let here : entry_within (min first m) (min last m) i ply ≡ entry_within first last i ply = within_cut m i first last ply (omega arith) in
+    let later : restricted_from (i + 1) (min first m) (min last m) plies ≡ restricted_from (i + 1) first last plies = cut_from m (i + 1) first last plies (omega arith) in
+    cc
+
+pub restricted_cut : (m first last : ℕ) (plies : Plies) → m ≡ length plies → restricted (min first m) (min last m) plies ≡ restricted first last plies
+restricted_cut m first last plies games = cut_from m 0 first last plies (omega arith)

@@ -10,7 +10,8 @@ use Rattle.shell_commands.specs.FirstPly.{sought}
 use Rattle.shell_commands.specs.Lines.{filter_line, hits_text, fault_line}
 use Rattle.shell_commands.specs.State.{State}
 use Rattle.shell_commands.specs.Searching.{find_after, find_text}
-use Rattle.shell_commands.specs.Filters.{with_filter, reset_after, clear_after, negate_after, restrict_after, keep_after, keep_text, taken, join_after, join_text, drop_after, drop_text}
+use Rattle.shell_commands.specs.Filters.{with_filter, reset_after, clear_after, negate_after, restrict_after, keep_after, keep_text, join_after, join_text, drop_after, drop_text}
+use Rattle.shell_commands.specs.SavedFilters.{taken}
 use Rattle.shell_commands.specs.Showing.{info_text, quit_text}
 
 -- A line of a script: the command that it says, or its first fault.

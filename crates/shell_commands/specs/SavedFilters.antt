@@ -1,5 +1,5 @@
 -- Filters that are kept by name, at most eight, in the order in which their names were first kept. This project's own.
-use Rattle.std.specs.Prelude.{ℕ, nat_lt, Bool, true, if◌then◌else◌, ◌+◌, List, [], ◌∷◌, ◌++◌, length, take, drop, slice_set, slice_get, Option, Some, None, option_and_then, option_map}
+use Rattle.std.specs.Prelude.{ℕ, nat_lt, Bool, true, if◌then◌else◌, ◌+◌, List, [], ◌∷◌, ◌++◌, length, take, drop, slice_set, slice_get, Option, Some, None, is_some, option_and_then, option_map}
 use Rattle.std.specs.List.{position}
 use Rattle.std.specs.Str.{bytes_eq}
 use Rattle.shell_commands.specs.declared.saved.SavedFilter.{SavedFilter}
@@ -19,6 +19,10 @@ plies_at saved place = option_map (λ kept. kept.plies) (slice_get saved place)
 -- The filter of a name.
 abbrev pub saved_named : List SavedFilter → List ℕ → Option (List (Option ℕ))
 saved_named saved name = option_and_then (plies_at saved) (place_of saved name)
+
+-- Whether a filter of this name is kept.
+abbrev pub is_kept : List SavedFilter → List ℕ → Bool
+is_kept saved name = is_some (place_of saved name)
 
 -- A filter of this name.
 abbrev pub saved_as : List ℕ → List (Option ℕ) → SavedFilter
@@ -47,3 +51,12 @@ dropped_at saved None = saved
 
 abbrev pub dropped_in : List SavedFilter → List ℕ → List SavedFilter
 dropped_in saved name = dropped_at saved (place_of saved name)
+
+-- A filter joined with the one of a name, where there is one.
+abbrev pub joined_with : (List (Option ℕ) → List (Option ℕ) → List (Option ℕ)) → List (Option ℕ) → Option (List (Option ℕ)) → List (Option ℕ)
+joined_with join own None = own
+joined_with join own (Some other) = join own other
+
+-- The other filter takes the place of the own one.
+abbrev pub taken : List (Option ℕ) → List (Option ℕ) → List (Option ℕ)
+taken own other = other

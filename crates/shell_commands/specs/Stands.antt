@@ -3,7 +3,7 @@ use Rattle.std.specs.Prelude.{◌≡◌, ◌≤◌, ℕ, Bool, false, IsTrue, �
 use Rattle.base_files.specs.Seen.{Seen}
 use Rattle.base_files.specs.declared.faults.Stop.TheVariants as stop
 use Rattle.base_core.specs.Base.{Base}
-use Rattle.base_core.specs.Represents.{Kept, Represents}
+use Rattle.base_core.specs.Represents.{Kept, Represents, IsSound}
 use Rattle.command_runs.specs.Counts.{Counts, Why}
 use Rattle.sig_index.specs.declared.signature.Sig.{Sig}
 use Rattle.shell_commands.specs.declared.halt.Halt.{Halt}
@@ -32,9 +32,11 @@ pub record Fits (holding : Holding) : Type 0 where
   pub filter : length holding.filter ≡ length holding.kept.entries
   pub saved : All (λ kept. length kept.plies ≡ length holding.kept.entries) holding.saved
 
--- What every machine keeps, whatever the files tell: its filters fit, and each record lies within the known length of the games file.
+-- What every machine keeps, whatever the files tell: its filters fit, its base is sound, and each record lies within the known length of
+-- the games file.
 pub record Sound (holding : Holding) (known : ℕ) : Type 0 where
   pub fits : Fits holding
+  pub base : IsSound holding.kept
   pub end : holding.kept.end ≤ known
 
 -- A line that asks no file did what it says, and this is its text.

@@ -1,12 +1,14 @@
 //! The commands on filters. Each answers the line that it writes.
-ghost use Rattle.std.specs.Prelude.{IfOk, Ok};
+ghost use Rattle.std.specs.Prelude.{◌≡◌, IfOk, Ok, length};
+ghost use Rattle.game_filter.specs.Filter.{restricted};
 ghost use Rattle.script_text.specs.declared.command.Command.TheVariants as command;
 ghost use Rattle.shell_commands.specs.Stands.{Fits, Quiet};
 
 use crate::lines::{filter_line, line_of, name_line};
 use crate::machine::Machine;
-use crate::saved::{forget, keep, place_of};
+use crate::saved::{forget, keep, meet, take_from, unite};
 use cell_core::Text;
+use game_filter::Filter;
 use std::alloc::{AllocError, Global};
 
 // reset
@@ -46,11 +48,18 @@ pub(crate) fn restrict(
     requires fits { Fits machine.old }
     ensures quiet { IfOk result (λ line. Quiet machine.old (Ok (command.Restrict first last)) machine.new line.items) }
 {
-    match u32::try_from(first) {
-        Ok(first) => machine.filter.restrict(first, last.min(u64::from(u32::MAX)) as u32),
-        Err(_) => machine.filter.clear(),
-    }
+    restrict_to(&mut machine.filter, first, last);
     filter_line(alloc, &machine.filter)
+}
+
+// Puts out every game below `first` or above `last`. No game has the number of games or a higher number.
+#[tactic(auto, using(crate::proofs::Quietly::restricted_cut, crate::proofs::Quietly::length_restricted))]
+fn restrict_to(filter: &mut Filter, first: u64, last: u64)
+    ensures restricted { filter.new ≡ restricted first last filter.old }
+    ensures games { length filter.new ≡ length filter.old }
+{
+    let games = u64::from(filter.len());
+    filter.restrict(first.min(games) as u32, last.min(games) as u32);
 }
 
 // keep NAME
@@ -62,11 +71,10 @@ pub(crate) fn keep_filter(
     requires fits { Fits machine.old }
     ensures quiet { IfOk result (λ line. Quiet machine.old (Ok (command.Keep name.now)) machine.new line.items) }
 {
-    if keep(alloc, &mut machine.saved, name, &machine.filter)? {
-        name_line(alloc, b"kept ", name)
-    } else {
-        line_of(alloc, b"error: full filters")
+    if !keep(alloc, &mut machine.saved, name, &machine.filter)? {
+        return line_of(alloc, b"error: full filters");
     }
+    name_line(alloc, b"kept ", name)
 }
 
 // use NAME
@@ -78,10 +86,9 @@ pub(crate) fn take(
     requires fits { Fits machine.old }
     ensures quiet { IfOk result (λ line. Quiet machine.old (Ok (command.Take name.now)) machine.new line.items) }
 {
-    let Some(place) = place_of(machine.saved.as_slice(), name.as_bytes()) else {
+    if !take_from(alloc, &mut machine.filter, machine.saved.as_slice(), name.as_bytes())? {
         return name_line(alloc, b"error: no filter ", name);
-    };
-    machine.filter = machine.saved[place].plies.copy(alloc)?;
+    }
     filter_line(alloc, &machine.filter)
 }
 
@@ -94,10 +101,9 @@ pub(crate) fn and(
     requires fits { Fits machine.old }
     ensures quiet { IfOk result (λ line. Quiet machine.old (Ok (command.And name.now)) machine.new line.items) }
 {
-    let Some(place) = place_of(machine.saved.as_slice(), name.as_bytes()) else {
+    if !meet(&mut machine.filter, machine.saved.as_slice(), name.as_bytes()) {
         return name_line(alloc, b"error: no filter ", name);
-    };
-    machine.filter.and(&machine.saved[place].plies);
+    }
     filter_line(alloc, &machine.filter)
 }
 
@@ -110,10 +116,9 @@ pub(crate) fn or(
     requires fits { Fits machine.old }
     ensures quiet { IfOk result (λ line. Quiet machine.old (Ok (command.Or name.now)) machine.new line.items) }
 {
-    let Some(place) = place_of(machine.saved.as_slice(), name.as_bytes()) else {
+    if !unite(&mut machine.filter, machine.saved.as_slice(), name.as_bytes()) {
         return name_line(alloc, b"error: no filter ", name);
-    };
-    machine.filter.or(&machine.saved[place].plies);
+    }
     filter_line(alloc, &machine.filter)
 }
 
@@ -126,9 +131,8 @@ pub(crate) fn drop_filter(
     requires fits { Fits machine.old }
     ensures quiet { IfOk result (λ line. Quiet machine.old (Ok (command.Drop name.now)) machine.new line.items) }
 {
-    if forget(&mut machine.saved, name.as_bytes()) {
-        name_line(alloc, b"dropped ", name)
-    } else {
-        name_line(alloc, b"error: no filter ", name)
+    if !forget(&mut machine.saved, name.as_bytes()) {
+        return name_line(alloc, b"error: no filter ", name);
     }
+    name_line(alloc, b"dropped ", name)
 }

@@ -26,8 +26,10 @@ pub(crate) fn first_ply(
         if stands_at(walk.position(), board, side) {
             return Ok(Some(ply));
         }
-        if walk.step()?.is_none() {
-            return Ok(None);
+        match walk.step() {
+            Ok(Some(_)) => {}
+            Ok(None) => return Ok(None),
+            Err(fault) => return Err(fault),
         }
     }
 }

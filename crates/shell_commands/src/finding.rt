@@ -68,7 +68,7 @@ pub(crate) fn search<G: Games, F: Files>(
     ensures asks { F.asked files.new ≤ F.asked files.old + sum_by (λ extent. extent.len) (G.extents games.now) }
     ensures causes { Causes WhyHalt result (counts (F.faults files.old) 0 0) (counts (F.faults files.new) 0 0) }
 {
-    for i in 0..filter.len() {
+    for i in 0..games.len() {
         let ply = match first_in(games, i, board, side, files, block) {
             Ok(ply) => ply,
             Err(halt) => return Err(halt),

@@ -1,6 +1,7 @@
 //! Filters that are kept by name.
-ghost use Rattle.std.specs.Prelude.{◌≡◌, ◌<◌, All, length, is_some, IfSome, IfOk, OnOk};
-ghost use Rattle.shell_commands.specs.SavedFilters.{place_of, kept_in, can_keep, dropped_in};
+ghost use Rattle.std.specs.Prelude.{◌≡◌, ◌<◌, ℕ, All, length, IfSome, IfOk, OnOk};
+ghost use Rattle.game_filter.specs.Filter.{intersection, union};
+ghost use Rattle.shell_commands.specs.SavedFilters.{place_of, is_kept, kept_in, can_keep, dropped_in, joined_with, saved_named, taken};
 
 use cell_core::Text;
 use game_filter::Filter;
@@ -33,6 +34,7 @@ pub(crate) fn keep(
 ) -> Result<bool, AllocError>
     ensures kept { IfOk result (λ kept. kept ≡ can_keep saved.old.items name.now) }
     ensures saved { OnOk result (saved.new.items ≡ kept_in saved.old.items name.now filter.now) }
+    ensures same_games { OnOk result (All (λ kept. length kept.plies ≡ length filter.now) saved.old.items → All (λ kept. length kept.plies ≡ length filter.now) saved.new.items) }
 {
     let place = place_of(saved.as_slice(), name.as_bytes());
     if place.is_none() && saved.len() >= MOST_SAVED {
@@ -51,8 +53,9 @@ pub(crate) fn keep(
 
 // Forgets the filter of a name; `false` where there is none.
 pub(crate) fn forget(saved: &mut Vec<SavedFilter>, name: &[u8]) -> bool
-    ensures forgotten { result ≡ is_some (place_of saved.old.items name.now) }
+    ensures forgotten { result ≡ is_kept saved.old.items name.now }
     ensures saved { saved.new.items ≡ dropped_in saved.old.items name.now }
+    ensures same_games { (games : ℕ) → All (λ kept. length kept.plies ≡ games) saved.old.items → All (λ kept. length kept.plies ≡ games) saved.new.items }
 {
     match place_of(saved.as_slice(), name) {
         Some(place) => {
@@ -61,4 +64,53 @@ pub(crate) fn forget(saved: &mut Vec<SavedFilter>, name: &[u8]) -> bool
         }
         None => false,
     }
+}
+
+// Puts the filter of a name in the place of this one; `false` where there is none.
+pub(crate) fn take_from(
+    alloc: Global,
+    filter: &mut Filter,
+    saved: &[SavedFilter],
+    name: &[u8],
+) -> Result<bool, AllocError>
+    requires same_games { All (λ kept. length kept.plies ≡ length filter.old) saved.now }
+    ensures joined { OnOk result (filter.new ≡ joined_with taken filter.old (saved_named saved.now name.now)) }
+    ensures games { OnOk result (length filter.new ≡ length filter.old) }
+    ensures kept { IfOk result (λ kept. kept ≡ is_kept saved.now name.now) }
+{
+    let Some(place) = place_of(saved, name) else {
+        return Ok(false);
+    };
+    *filter = saved[place].plies.copy(alloc)?;
+    Ok(true)
+}
+
+// Keeps the games that are in this filter and in the one of a name; `false` where there is none.
+#[tactic(auto, using(crate::proofs::Quietly::length_joined))]
+pub(crate) fn meet(filter: &mut Filter, saved: &[SavedFilter], name: &[u8]) -> bool
+    requires same_games { All (λ kept. length kept.plies ≡ length filter.old) saved.now }
+    ensures joined { filter.new ≡ joined_with intersection filter.old (saved_named saved.now name.now) }
+    ensures games { length filter.new ≡ length filter.old }
+    ensures kept { result ≡ is_kept saved.now name.now }
+{
+    let Some(place) = place_of(saved, name) else {
+        return false;
+    };
+    filter.and(&saved[place].plies);
+    true
+}
+
+// Adds the games of the filter of a name; `false` where there is none.
+#[tactic(auto, using(crate::proofs::Quietly::length_joined))]
+pub(crate) fn unite(filter: &mut Filter, saved: &[SavedFilter], name: &[u8]) -> bool
+    requires same_games { All (λ kept. length kept.plies ≡ length filter.old) saved.now }
+    ensures joined { filter.new ≡ joined_with union filter.old (saved_named saved.now name.now) }
+    ensures games { length filter.new ≡ length filter.old }
+    ensures kept { result ≡ is_kept saved.now name.now }
+{
+    let Some(place) = place_of(saved, name) else {
+        return false;
+    };
+    filter.or(&saved[place].plies);
+    true
 }

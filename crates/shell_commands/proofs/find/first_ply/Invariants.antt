@@ -7,11 +7,11 @@ use Rattle.shell_commands.proofs.FirstPlyLaws.{IsAt}
 use Rattle.shell_commands.proofs.find.first_ply.Given as goal
 
 -- The walk is on these bytes, and in each game of which they are a record the search is at its ply.
-abbrev pub invariant-loop : goal.invariant-loop
-invariant-loop l = record {
+abbrev pub invariant-loop-walk : goal.invariant-loop-walk
+invariant-loop-walk l = record {
   bytes : l.walk.bytes ≡ l.bytes;
   at : (tags : List Tag) (game : GameTree) → IsRecord l.bytes tags game → IsAt (sought l.board l.side) game l.walk.ply;
 }
 
-abbrev pub decreases-loop : goal.decreases-loop
-decreases-loop l = length l.bytes + 1 - l.walk.ply
+abbrev pub decreases-loop-walk : goal.decreases-loop-walk
+decreases-loop-walk l = length l.bytes + 1 - l.walk.ply
