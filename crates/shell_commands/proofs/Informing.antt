@@ -1,6 +1,7 @@
 -- Laws of `info`: what the machine counts is what the base has.
 use Rattle.std.proofs.Common.{◌≡◌, ℕ, Bool, List, [], ◌∷◌, length, map, Some, Ok, refl, sym, ap, subst, ◌∙◌}
 use Rattle.std.specs.Prelude.{count_by, cond, ◌+◌}
+use Rattle.std.proofs.lemmas.List.Sums.{sum_by-cons}
 use Rattle.base_files.specs.Seen.{Seen}
 use Rattle.game_tree.specs.Head.{without_tags}
 use Rattle.game_tree.specs.declared.head.Head.{Head}
@@ -17,7 +18,9 @@ use Rattle.shell_commands.specs.State.{State}
 -- Heads without their tags have the same marks.
 deleted_of : (held : List Held) → count_by (λ (h : Head). h.deleted) (map (λ (g : Held). without_tags g.head) held) ≡ count_by (λ (g : Held). g.head.deleted) held
 deleted_of [] = refl
-deleted_of (g ∷ held) = ap (λ (n : ℕ). cond g.head.deleted 1 0 + n) (deleted_of held)
+deleted_of (g ∷ held) =
+    sum_by-cons (λ (h : Head). cond h.deleted 1 0) (without_tags g.head) (map (λ (d : Held). without_tags d.head) held)
+    ∙ (ap (λ (n : ℕ). cond g.head.deleted 1 0 + n) (deleted_of held) ∙ sym (sum_by-cons (λ (d : Held). cond d.head.deleted 1 0) g held))
 
 -- The numbers of an open base are those of the base that it stands for.
 pub quiet_info : (old : Holding) (line : List ℕ) (games deleted players events sites rounds : ℕ) (unsaved : Bool)

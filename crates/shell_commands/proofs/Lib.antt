@@ -3,7 +3,8 @@ pub mod HitLines
 pub mod Quietly
 pub mod Beginning
 pub mod Causing
-pub mod Serving
+pub mod Served
 pub mod Searching
 pub mod Informing
 pub mod FindingLaws
+pub mod HoldingLaws

@@ -1,7 +1,10 @@
 -- Laws of lines that ask no file: what they leave stands for the state after them.
 use Rattle.std.proofs.Common.{◌≡◌, ℕ, suc, ◌+◌, List, [], ◌∷◌, ◌++◌, length, map, All, Option, Some, None, Result, Ok, Err, refl, sym, ap, subst, ◌∙◌, ◌<◌, ◌≤◌, arith}
 use Rattle.base_files.specs.Seen.{Seen}
-use Rattle.std.specs.Prelude.{nat_le, min}
+use Rattle.std.specs.Prelude.{nat_le, min, IfOk}
+use Rattle.script_text.specs.declared.command.Command.TheVariants.{Drop}
+use Rattle.shell_commands.specs.Filters.{drop_line}
+use Rattle.shell_commands.specs.SavedFilters.{dropped_in}
 use Rattle.std.proofs.lemmas.Bool.Decides.{nat_tests}
 use Rattle.game_filter.specs.Filter.{joined, restricted, restricted_from, entry_within}
 use Rattle.base_core.specs.Represents.{Kept, Represents}
@@ -96,3 +99,28 @@ cut_from m i first last (ply ∷ plies) within =
 
 pub restricted_cut : (m first last : ℕ) (plies : Plies) → m ≡ length plies → restricted (min first m) (min last m) plies ≡ restricted first last plies
 restricted_cut m first last plies games = cut_from m 0 first last plies (omega arith)
+
+-- A fact that follows for what a call answered.
+pub if_ok : {A E : Type 0} (P Q : A → Type 0) (r : Result A E) → ((x : A) → P x → Q x) → IfOk r P → IfOk r Q
+if_ok P Q (Ok x) f p = f x p
+if_ok P Q (Err e) f p = tt
+
+-- `drop`, whether a filter of the name was kept or not.
+drop_in : (kept : Kept) (filter : Plies) (saved later : List SavedFilter) (name line : List ℕ) → later ≡ dropped_in saved name → line ≡ drop_line saved name
+    → ((games : ℕ) → All (λ (f : SavedFilter). length f.plies ≡ games) saved → All (λ (f : SavedFilter). length f.plies ≡ games) later)
+    → Fits (record { kept = kept; filter = filter; saved = saved })
+    → Quiet (record { kept = kept; filter = filter; saved = saved }) (Ok (Drop name)) (record { kept = kept; filter = filter; saved = later }) line
+drop_in kept filter saved later name line dropped written all fits =
+    let old : Holding = record { kept = kept; filter = filter; saved = saved } in
+    let new : Holding = record { kept = kept; filter = filter; saved = later } in
+    quiet_by (λ f s. f) (λ f s. dropped_in s name) (λ f s. drop_line s name) old new (Ok (Drop name)) line (λ s. refl) (λ s. refl) refl refl dropped written
+        (fits_saved old new refl refl (all (length kept.entries) fits.saved) fits)
+
+pub drop_quiet : (old : Holding) (kept : Kept) (filter : Plies) (saved later : List SavedFilter) (name line : List ℕ)
+    → old ≡ record { kept = kept; filter = filter; saved = saved } → later ≡ dropped_in saved name → line ≡ drop_line saved name
+    → ((games : ℕ) → All (λ (f : SavedFilter). length f.plies ≡ games) saved → All (λ (f : SavedFilter). length f.plies ≡ games) later)
+    → Fits old → Quiet old (Ok (Drop name)) (record { kept = kept; filter = filter; saved = later }) line
+drop_quiet old kept filter saved later name line view dropped written all fits =
+    let new : Holding = record { kept = kept; filter = filter; saved = later } in
+    let P : Holding → Type 0 = λ o. Quiet o (Ok (Drop name)) new line in
+    subst P (sym view) (drop_in kept filter saved later name line dropped written all (subst Fits view fits))

@@ -4,6 +4,7 @@ use Rattle.game_filter.specs.Filter.{all_in, all_out, negated, intersection, uni
 use Rattle.shell_commands.specs.Lines.{filter_line, name_line, no_filter_line, full_filters_line}
 use Rattle.shell_commands.specs.SavedFilters.{saved_named, joined_with, is_kept, can_keep, kept_in, dropped_in}
 use Rattle.shell_commands.specs.State.{State}
+use Rattle.shell_commands.specs.declared.saved.SavedFilter.{SavedFilter}
 
 -- The state with this filter.
 abbrev pub with_filter : State → List (Option ℕ) → State
@@ -40,5 +41,8 @@ join_text join s name = if is_kept s.saved name then filter_line (join_after joi
 abbrev pub drop_after : State → List ℕ → State
 drop_after s name = record s { saved = dropped_in s.saved name }
 
+abbrev pub drop_line : List SavedFilter → List ℕ → List ℕ
+drop_line saved name = if is_kept saved name then name_line (codes "dropped ") name else no_filter_line name
+
 abbrev pub drop_text : State → List ℕ → List ℕ
-drop_text s name = if is_kept s.saved name then name_line (codes "dropped ") name else no_filter_line name
+drop_text s name = drop_line s.saved name

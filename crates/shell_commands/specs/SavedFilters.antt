@@ -49,7 +49,7 @@ abbrev pub dropped_at : List SavedFilter → Option ℕ → List SavedFilter
 dropped_at saved (Some place) = take place saved ++ drop (place + 1) saved
 dropped_at saved None = saved
 
-abbrev pub dropped_in : List SavedFilter → List ℕ → List SavedFilter
+unfoldable pub dropped_in : List SavedFilter → List ℕ → List SavedFilter
 dropped_in saved name = dropped_at saved (place_of saved name)
 
 -- A filter joined with the one of a name, where there is one.

@@ -8,14 +8,19 @@ use Rattle.shell_commands.specs.State.{State}
 abbrev pub deleted_in : State → ℕ
 deleted_in s = count_by (λ held. held.head.deleted) s.base.games
 
-abbrev pub yes_or_no : Bool → List ℕ
-yes_or_no answer = if answer then codes "yes" else codes "no"
-
 -- info
+abbrev pub counts_line : ℕ → ℕ → ℕ → List ℕ
+counts_line games deleted players = codes "games " ++ decimal games ++ codes " deleted " ++ decimal deleted ++ codes " players " ++ decimal players
+
+abbrev pub numbers_line : ℕ → ℕ → ℕ → ℕ → ℕ → ℕ → List ℕ
+numbers_line games deleted players events sites rounds =
+    counts_line games deleted players ++ (codes " events " ++ decimal events ++ codes " sites " ++ decimal sites ++ codes " rounds " ++ decimal rounds)
+
+abbrev pub unsaved_words : Bool → List ℕ
+unsaved_words unsaved = if unsaved then codes " unsaved yes index off\n" else codes " unsaved no index off\n"
+
 abbrev pub info_line : ℕ → ℕ → ℕ → ℕ → ℕ → ℕ → Bool → List ℕ
-info_line games deleted players events sites rounds unsaved =
-    codes "games " ++ decimal games ++ codes " deleted " ++ decimal deleted ++ codes " players " ++ decimal players ++ codes " events " ++ decimal events
-    ++ codes " sites " ++ decimal sites ++ codes " rounds " ++ decimal rounds ++ codes " unsaved " ++ yes_or_no unsaved ++ codes " index off\n"
+info_line games deleted players events sites rounds unsaved = numbers_line games deleted players events sites rounds ++ unsaved_words unsaved
 
 abbrev pub info_text : State → List ℕ
 info_text s =

@@ -1,12 +1,14 @@
 //! The commands on filters. Each answers the line that it writes.
-ghost use Rattle.std.specs.Prelude.{◌≡◌, IfOk, Ok, length};
+ghost use Rattle.std.specs.Prelude.{◌≡◌, ℕ, All, IfOk, Ok, length};
 ghost use Rattle.game_filter.specs.Filter.{restricted};
 ghost use Rattle.script_text.specs.declared.command.Command.TheVariants as command;
+ghost use Rattle.shell_commands.specs.Filters.{drop_line};
+ghost use Rattle.shell_commands.specs.SavedFilters.{dropped_in};
 ghost use Rattle.shell_commands.specs.Stands.{Fits, Quiet};
 
 use crate::lines::{filter_line, line_of, name_line};
 use crate::machine::Machine;
-use crate::saved::{forget, keep, meet, take_from, unite};
+use crate::saved::{SavedFilter, forget, keep, meet, take_from, unite};
 use cell_core::Text;
 use game_filter::Filter;
 use std::alloc::{AllocError, Global};
@@ -131,7 +133,20 @@ pub(crate) fn drop_filter(
     requires fits { Fits machine.old }
     ensures quiet { IfOk result (λ line. Quiet machine.old (Ok (command.Drop name.now)) machine.new line.items) }
 {
-    if !forget(&mut machine.saved, name.as_bytes()) {
+    forget_line(alloc, &mut machine.saved, name)
+}
+
+// Forgets the filter of a name, and gives the line for that.
+fn forget_line(
+    alloc: Global,
+    saved: &mut Vec<SavedFilter>,
+    name: &Text,
+) -> Result<Vec<u8>, AllocError>
+    ensures line { IfOk result (λ line. line.items ≡ drop_line saved.old.items name.now) }
+    ensures saved { saved.new.items ≡ dropped_in saved.old.items name.now }
+    ensures same_games { (games : ℕ) → All (λ kept. length kept.plies ≡ games) saved.old.items → All (λ kept. length kept.plies ≡ games) saved.new.items }
+{
+    if !forget(saved, name.as_bytes()) {
         return name_line(alloc, b"error: no filter ", name);
     }
     name_line(alloc, b"dropped ", name)

@@ -1,5 +1,5 @@
 //! The command that searches all games for a board and a side to move.
-ghost use Rattle.std.specs.Prelude.{◌≡◌, ◌≤◌, ◌<◌, ◌+◌, List, Some, Ok, length, slice_get, sum_by, IfOk, IfErr, OnOk};
+ghost use Rattle.std.specs.Prelude.{◌≡◌, ◌≤◌, ◌<◌, ◌+◌, ℕ, List, Some, Ok, length, slice_get, sum_by, IfOk, IfErr, OnOk};
 ghost use Rattle.base_files.specs.Seen.{Seen};
 ghost use Rattle.command_runs.specs.Counts.{Causes, counts};
 ghost use Rattle.command_runs.specs.Endings.{Serves};
@@ -15,7 +15,7 @@ ghost use Rattle.shell_commands.specs.Ends.{IsDevice};
 
 use crate::find::first_ply;
 use crate::halt::Halt;
-use crate::hits::write_hits;
+use crate::hits::hits;
 use crate::machine::Machine;
 use base_files::{Files, Sink, Stop};
 use cell_core::{Board, Colour};
@@ -39,12 +39,8 @@ pub(crate) fn find<F: Files, K: Sink>(
 {
     let block = machine.block.as_mut_slice();
     match search(&machine.base, board, side, &mut machine.filter, files, block) {
-        Ok(()) => {}
-        Err(halt) => return Err(halt),
-    }
-    match write_hits(&machine.filter, &mut machine.page, out) {
-        Ok(()) => Ok(()),
-        Err(stop) => Err(Halt::Device(stop)),
+        Ok(()) => hits(machine, out),
+        Err(halt) => Err(halt),
     }
 }
 
@@ -97,12 +93,13 @@ fn first_in<G: Games, F: Files>(
     ensures asks { F.asked files.new ≤ F.asked files.old + (extent_in (G.extents games.now) i).len }
     ensures causes { Causes WhyHalt result (counts (F.faults files.old) 0 0) (counts (F.faults files.new) 0 0) }
 {
-    let len = match games.fetch(i, files, block) {
-        Ok(len) => len,
+    let len = games.extent(i).len as usize;
+    match games.fetch(i, files, block) {
+        Ok(_) => {}
         Err(FetchError::Failed) => return Err(Halt::Device(Stop::Files)),
         Err(FetchError::Changed { game, kept, found }) => return Err(Halt::Changed { game, kept, found }),
-    };
-    match first_ply(block.split_at(len as usize).0, board, side) {
+    }
+    match first_ply(block.split_at(len).0, board, side) {
         Ok(ply) => Ok(ply),
         Err(_) => Err(Halt::Changed {
             game: i,

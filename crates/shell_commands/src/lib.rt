@@ -3,12 +3,14 @@
 
 mod filters;
 mod find;
+mod finding;
 mod halt;
 mod hits;
 mod lines;
 mod machine;
 mod saved;
 mod serving;
+mod showing;
 
 pub use halt::Halt;
 pub use machine::Machine;

@@ -52,6 +52,7 @@ pub(crate) fn keep(
 }
 
 // Forgets the filter of a name; `false` where there is none.
+#[tactic(auto, unfolding(crate::specs::SavedFilters::dropped_in))]
 pub(crate) fn forget(saved: &mut Vec<SavedFilter>, name: &[u8]) -> bool
     ensures forgotten { result ≡ is_kept saved.old.items name.now }
     ensures saved { saved.new.items ≡ dropped_in saved.old.items name.now }

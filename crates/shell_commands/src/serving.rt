@@ -51,7 +51,7 @@ pub fn serve<F: Files, K: Sink>(
     ensures asks { F.asked files.new ≤ F.asked files.old + cost machine.old order.now }
     ensures causes { Causes WhyHalt result (counts (F.faults files.old) 0 (K.faults out.old)) (counts (F.faults files.new) 0 (K.faults out.new)) }
 {
-    match turn(alloc, machine, order) {
+    match take_turn(alloc, machine, order) {
         Err(AllocError) => Err(Halt::Device(Stop::Memory)),
         Ok(Turn::Find(board, side)) => find(machine, files, out, board, side),
         Ok(Turn::Hits) => hits(machine, out),
@@ -73,7 +73,7 @@ fn write_line<K: Sink>(out: &mut K, line: &[u8]) -> Result<(), Halt>
 }
 
 // Does what a line says where it asks no file, and tells what is left to do. A command that is not built yet is an unknown one.
-fn turn<'a>(
+fn take_turn<'a>(
     alloc: Global,
     machine: &mut Machine,
     order: &'a Order,

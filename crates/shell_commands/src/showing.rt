@@ -1,6 +1,6 @@
 //! The commands that show what is there. Each answers the line that it writes.
-ghost use Rattle.std.specs.Prelude.{◌≡◌, IfOk, Ok, count_by};
-ghost use Rattle.shell_commands.specs.Showing.{info_line, yes_or_no};
+ghost use Rattle.std.specs.Prelude.{◌≡◌, IfOk, Ok, count_by, string_bytes};
+ghost use Rattle.shell_commands.specs.Showing.{info_line, numbers_line, counts_line, unsaved_words};
 ghost use Rattle.script_text.specs.declared.command.Command.TheVariants as command;
 ghost use Rattle.shell_commands.specs.Stands.{Fits, Quiet};
 
@@ -57,16 +57,42 @@ struct Numbers {
 fn info_line(alloc: Global, n: &Numbers) -> Result<Vec<u8>, AllocError>
     ensures { IfOk result (λ line. line.items ≡ info_line n.now.games n.now.deleted n.now.players n.now.events n.now.sites n.now.rounds n.now.unsaved) }
 {
-    let Numbers { games, deleted, players, events, sites, rounds, unsaved } = *n;
-    let unsaved = yes_or_no(unsaved);
-    let line = format!(in alloc; "games {games} deleted {deleted} players {players} events {events} sites {sites} rounds {rounds} unsaved {unsaved} index off\n")?;
+    let mut line = numbers_line(alloc, n)?;
+    line.push_str(unsaved_words(n.unsaved))?;
     Ok(line.into_bytes())
 }
 
-fn yes_or_no(answer: bool) -> &'static str
-    ensures { result.now ≡ yes_or_no answer }
+// The numbers of `info`.
+fn numbers_line(alloc: Global, n: &Numbers) -> Result<String, AllocError>
+    ensures { IfOk result (λ line. string_bytes line ≡ numbers_line n.now.games n.now.deleted n.now.players n.now.events n.now.sites n.now.rounds) }
 {
-    if answer { "yes" } else { "no" }
+    let mut line = counts_line(alloc, n.games, n.deleted, n.players)?;
+    let (events, sites, rounds) = (n.events, n.sites, n.rounds);
+    write!(line, " events {events} sites {sites} rounds {rounds}")?;
+    Ok(line)
+}
+
+// The first of the numbers.
+fn counts_line(
+    alloc: Global,
+    games: u32,
+    deleted: u32,
+    players: u32,
+) -> Result<String, AllocError>
+    ensures { IfOk result (λ line. string_bytes line ≡ counts_line games deleted players) }
+{
+    format!(in alloc; "games {games} deleted {deleted} players {players}")
+}
+
+// What `info` says behind the numbers.
+fn unsaved_words(unsaved: bool) -> &'static str
+    ensures { result.now ≡ unsaved_words unsaved }
+{
+    if unsaved {
+        " unsaved yes index off\n"
+    } else {
+        " unsaved no index off\n"
+    }
 }
 
 // How many games are marked as deleted.

@@ -9,5 +9,4 @@ pub returns-clause-begins : goal.returns-clause-begins
 returns-clause-begins c =
     let e : c.in_ok-filter.filter ≡ all_in (length c.args.base.entries) =
         c.in_ok-filter.ensures.all ∙ (ap (λ (h : IndexHead). all_in h.games) c.header.ensures.header ∙ ap all_in (sym c.header.ensures.sound.count)) in
-    let holding : List (Option ℕ) → Holding = λ f. record { kept = c.args.base; filter = f; saved = [] } in
-    begins_by c.args.base (holding c.in_ok-filter.filter) c.header.ensures.sound (ap holding e)
+    begins_by c.args.base _ c.header.ensures.sound (cc)
