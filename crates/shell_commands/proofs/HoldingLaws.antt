@@ -58,3 +58,12 @@ pub never_changed : (games : Option (List ℕ)) (told : List ℕ) (extents : Lis
 never_changed games told extents sigs list buffer game kept found same holds changed =
     let C : Option (List ℕ) → Type 0 = λ o. HasChanged sigs extents o buffer game kept found in
     held_stays told extents sigs list buffer game kept found holds (subst C same changed)
+
+-- The front of the buffer is what was read.
+pub walked : (games : Option (List ℕ)) (extents : List Extent) (i : ℕ) (buffer bytes : List ℕ) (len : ℕ) (extent : Extent)
+    → extent ≡ extent_in extents i → len ≡ (extent_in extents i).len → bytes ≡ take extent.len buffer
+    → Tells (record_told games (extent_in extents i)) (take len buffer) → Tells (record_told games (extent_in extents i)) bytes
+walked games extents i buffer bytes len extent there has front tells =
+    let same : extent.len ≡ len = ap (λ (x : Extent). x.len) there ∙ sym has in
+    let T : List ℕ → Type 0 = λ b. Tells (record_told games (extent_in extents i)) b in
+    subst T (sym (front ∙ ap (λ (n : ℕ). take n buffer) same)) tells

@@ -81,7 +81,8 @@ fn counts_line(
 ) -> Result<String, AllocError>
     ensures { IfOk result (λ line. string_bytes line ≡ counts_line games deleted players) }
 {
-    format!(in alloc; "games {games} deleted {deleted} players {players}")
+    let line = format!(in alloc; "games {games} deleted {deleted} players {players}")?;
+    Ok(line)
 }
 
 // What `info` says behind the numbers.
