@@ -10,5 +10,6 @@ pub mod Planned
 pub mod Feeds
 pub mod FeedStore
 pub mod Trays
+pub mod Swaps
 pub mod Shelves
 pub mod Meters

@@ -1,12 +1,15 @@
 -- The files of a base in memory (this project's own).
-use Rattle.std.specs.Prelude.{ℕ, List, [], Some}
+use Rattle.std.specs.Prelude.{ℕ, List, [], Option, None, Some}
 use Rattle.base_files.specs.Planned.{Calls}
 use Rattle.base_files.specs.Chosen.{Choice}
 use Rattle.base_files.specs.Seen.{Seen}
+use Rattle.base_files.specs.Swaps.{games_before, told_of}
+use Rattle.base_files.specs.declared.swap.Swap.{Swap}
 use Rattle.base_files.specs.declared.part.Part.{Part}
 use Rattle.base_files.specs.declared.part.Part.TheVariants.{Index, Names}
 
--- The three contents, the names that were chosen, the known length of the games file, the bytes asked of it, and the calls.
+-- The three contents, the names that were chosen, the known length of the games file, the bytes asked of it, the calls,
+-- and the bytes of the games file that change by themselves, if any may.
 pub record Shelf : Type 0 where
   pub index : List ℕ
   pub names : List ℕ
@@ -15,6 +18,7 @@ pub record Shelf : Type 0 where
   pub known : ℕ
   pub asked : ℕ
   pub calls : Calls
+  pub swaps : Option (List Swap)
 
 -- Three contents of which nothing was asked yet, and the numbers of the calls that are to fail.
 abbrev pub new_shelf : List ℕ → List ℕ → List ℕ → List ℕ → Shelf
@@ -26,14 +30,23 @@ new_shelf index names games fails = record {
   known = 0;
   asked = 0;
   calls = record { planned = fails; made = 0; faults = 0 };
+  swaps = None;
 }
 
--- What files in memory show: all of their contents.
+-- Three contents of which nothing was asked yet, of a games file that changes by itself.
+abbrev pub changing_shelf : List ℕ → List ℕ → List ℕ → List Swap → Shelf
+changing_shelf index names games swaps = record (new_shelf index names games []) { swaps = Some swaps }
+
+-- Right before the next call is served: the bytes that are planned before it were put.
+abbrev pub changed : Shelf → Shelf
+changed shelf = record shelf { games = games_before shelf.calls.made shelf.swaps shelf.games }
+
+-- What files in memory show: all of their contents, but none where the games file changes by itself.
 abbrev pub seen_of : Shelf → Seen
 seen_of shelf = record {
-  index = Some shelf.index;
-  names = Some shelf.names;
-  games = Some shelf.games;
+  index = told_of shelf.swaps shelf.index;
+  names = told_of shelf.swaps shelf.names;
+  games = told_of shelf.swaps shelf.games;
   choices = shelf.choices;
   known = shelf.known;
 }

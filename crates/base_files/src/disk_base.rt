@@ -27,7 +27,7 @@ pub struct Paths {
 pub struct DiskBase<F> {
     paths: Paths,
     games: F,
-    // opened at the first addition, so that a base that nobody may write is read all the same
+    // Opened at the first addition, so that a base that nobody may write is read all the same.
     adder: Option<F>,
     ahead: Ahead,
 }

@@ -12,13 +12,13 @@ use std::alloc::Global;
 
 /// The index file, the names file and the games file of the base that was chosen.
 pub trait Files {
-    // the contents that it tells, the names that it was given, and the length of the games file that is known
+    // The contents that it tells, the names that it was given, and the length of the games file that is known.
     ghost seen: { Self → Seen };
 
-    // how many bytes of the games file it was asked for; this counter stands still at the greatest u64
+    // How many bytes of the games file it was asked for; this counter stands still at the greatest u64.
     ghost asked: { Self → ℕ };
 
-    // how many faults it has counted
+    // How many faults it has counted.
     ghost faults: { Self → ℕ };
 
     /// Chooses the base of this name. With `create` each of its files that is absent becomes an empty file;

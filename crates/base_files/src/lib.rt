@@ -18,6 +18,7 @@ mod sink;
 mod source;
 mod std_sink;
 mod std_source;
+mod swap;
 #[cfg(test)]
 mod tests;
 mod writing;
@@ -35,4 +36,5 @@ pub use sink::Sink;
 pub use source::Source;
 pub use std_sink::StdSink;
 pub use std_source::StdSource;
+pub use swap::Swap;
 pub use writing::write_all;

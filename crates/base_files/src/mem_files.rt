@@ -5,17 +5,18 @@ ghost use Rattle.base_files.specs.Chosen.{choice};
 ghost use Rattle.base_files.specs.Parts.{of_part};
 ghost use Rattle.base_files.specs.Causes.{HasCause};
 ghost use Rattle.base_files.specs.Planned.{Served, FailedAsPlanned, Refused};
-ghost use Rattle.base_files.specs.Shelves.{Shelf, new_shelf, seen_of, put_on};
+ghost use Rattle.base_files.specs.Shelves.{Shelf, new_shelf, changing_shelf, changed, seen_of, put_on};
 
 use crate::chosen::Choices;
 use crate::faults::{DeviceError, Failed};
 use crate::files::Files;
 use crate::part::Part;
 use crate::plan::Plan;
+use crate::swap::{Swap, put_swaps};
 use std::alloc::{AllocError, Global};
 use std::marker::Model;
 
-/// Three contents in memory, which are always there.
+/// Three contents in memory, which are always there. The games file may change by itself: then nothing is told of them.
 #[derive(Drop)]
 pub struct MemFiles {
     index: Vec<u8>,
@@ -25,11 +26,13 @@ pub struct MemFiles {
     known: u64,
     asked: u64,
     plan: Plan,
+    swaps: Option<Vec<Swap>>,
 }
 
 impl Model for MemFiles {
     ghost use Rattle.std.specs.Prelude.{◌≤◌, length};
     ghost use Rattle.base_files.specs.Shelves.{Shelf};
+    ghost use Rattle.base_files.specs.Swaps.{swaps_of};
 
     ghost Value = { Shelf };
 
@@ -41,6 +44,7 @@ impl Model for MemFiles {
       known = files.known;
       asked = files.asked;
       calls = files.plan;
+      swaps = swaps_of files.swaps;
     } };
 
     ghost invariant = { λ files. files.known ≤ length files.games.items };
@@ -59,6 +63,34 @@ impl MemFiles {
             known: 0,
             asked: 0,
             plan: Plan::new(fails),
+            swaps: None,
+        }
+    }
+
+    /// Files of these contents, of which nothing is told. Before the call of a swap's number, counted from 0, its byte is put at its
+    /// place of the games file; a place past the end changes nothing. No call fails.
+    pub fn changing(index: Vec<u8>, names: Vec<u8>, games: Vec<u8>, swaps: Vec<Swap>) -> MemFiles
+        ensures { result ≡ changing_shelf index.items names.items games.items swaps.items }
+    {
+        MemFiles {
+            choices: Choices::new(*index.allocator()),
+            plan: Plan::new(Vec::new(*index.allocator())),
+            index,
+            names,
+            games,
+            known: 0,
+            asked: 0,
+            swaps: Some(swaps),
+        }
+    }
+
+    // Puts the bytes that are planned before the next call.
+    fn change(&mut self)
+        ensures put { self.new ≡ changed self.old }
+        ensures len { length self.new.games ≡ length self.old.games }
+    {
+        if let Some(swaps) = &self.swaps {
+            put_swaps(self.plan.made(), swaps, &mut self.games);
         }
     }
 
@@ -108,8 +140,9 @@ impl Files for MemFiles {
 
         // More than all files promise: which calls fail, and that nothing else changes.
         ensures planned { MatchResult result (λ _. Served self.old.calls self.new.calls) (λ e. Refused e self.old.calls self.new.calls) }
-        ensures rest { self.new ≡ record self.old { choices = self.new.choices; calls = self.new.calls } }
+        ensures rest { self.new ≡ record (changed self.old) { choices = self.new.choices; calls = self.new.calls } }
     {
+        self.change();
         if self.choices.add(name, create).is_err() {
             self.plan.pass();
             return Err(DeviceError::Memory);
@@ -126,8 +159,9 @@ impl Files for MemFiles {
 
         // More than all files promise: which calls fail, and that nothing else changes.
         ensures planned { MatchResult result (λ _. Served self.old.calls self.new.calls) (λ e. Refused e self.old.calls self.new.calls) }
-        ensures rest { self.new ≡ record self.old { calls = self.new.calls } }
+        ensures rest { self.new ≡ record (changed self.old) { calls = self.new.calls } }
     {
+        self.change();
         self.plan.begin()?;
         let bytes = match part {
             Part::Index => &self.index,
@@ -145,8 +179,9 @@ impl Files for MemFiles {
 
         // More than all files promise: which calls fail, and that nothing else changes.
         ensures planned { MatchResult result (λ _. Served self.old.calls self.new.calls) (λ _. FailedAsPlanned self.old.calls self.new.calls) }
-        ensures rest { self.new ≡ record self.old { known = self.new.known; calls = self.new.calls } }
+        ensures rest { self.new ≡ record (changed self.old) { known = self.new.known; calls = self.new.calls } }
     {
+        self.change();
         self.plan.begin()?;
         self.known = self.games.len() as u64;
         Ok(self.known)
@@ -155,16 +190,17 @@ impl Files for MemFiles {
     fn read_games(&mut self, offset: u64, len: u32, into: &mut [u8]) -> Result<(), Failed>
         requires room { len ≤ length into.old }
         requires within { offset + len ≤ self.old.known }
-        ensures bytes { OnOk result (take len into.new ≡ take len (drop offset self.old.games)) }
+        ensures bytes { OnOk result (take len into.new ≡ take len (drop offset self.new.games)) }
         ensures asks { self.new.asked ≡ raised self.old.asked len }
         ensures counts { self.old.calls.faults ≤ self.new.calls.faults }
         ensures cause { OnErr result (Rose self.old.calls.faults self.new.calls.faults) }
 
         // More than all files promise: which calls fail, and that nothing else changes.
         ensures planned { MatchResult result (λ _. Served self.old.calls self.new.calls) (λ _. FailedAsPlanned self.old.calls self.new.calls) }
-        ensures rest { self.new ≡ record self.old { asked = self.new.asked; calls = self.new.calls } }
+        ensures rest { self.new ≡ record (changed self.old) { asked = self.new.asked; calls = self.new.calls } }
     {
         self.asked = self.asked.saturating_add(len as u64);
+        self.change();
         self.plan.begin()?;
         let start = offset as usize;
         let len = len as usize;
@@ -173,17 +209,18 @@ impl Files for MemFiles {
     }
 
     fn append_games(&mut self, pad: u32, bytes: &[u8]) -> Result<(), DeviceError>
-        ensures added { OnOk result (self.new.games ≡ self.old.games ++ (replicate pad 0 ++ bytes.now)) }
+        ensures added { OnOk result (self.new.games ≡ (changed self.old).games ++ (replicate pad 0 ++ bytes.now)) }
         ensures now_known { OnOk result (self.new.known ≡ self.old.known + length (replicate pad 0 ++ bytes.now)) }
-        ensures none_added { OnErr result ((self.new.games ≡ self.old.games) × (self.new.known ≡ self.old.known)) }
+        ensures none_added { OnErr result ((self.new.games ≡ (changed self.old).games) × (self.new.known ≡ self.old.known)) }
         ensures counts { self.old.calls.faults ≤ self.new.calls.faults }
         ensures cause { IfErr result (λ e. HasCause e self.old.calls.faults self.new.calls.faults) }
         ensures memory { IsErrOf result DeviceError.Memory → self.new.calls.faults ≡ self.old.calls.faults }
 
         // More than all files promise: which calls fail, and that nothing else changes.
         ensures planned { MatchResult result (λ _. Served self.old.calls self.new.calls) (λ e. Refused e self.old.calls self.new.calls) }
-        ensures rest { self.new ≡ record self.old { games = self.new.games; known = self.new.known; calls = self.new.calls } }
+        ensures rest { self.new ≡ record (changed self.old) { games = self.new.games; known = self.new.known; calls = self.new.calls } }
     {
+        self.change();
         self.plan.begin()?;
         add_padded(&mut self.games, pad, bytes)?;
         self.known += pad as u64 + bytes.len() as u64;
@@ -191,8 +228,8 @@ impl Files for MemFiles {
     }
 
     fn replace(&mut self, part: Part, bytes: &[u8]) -> Result<(), DeviceError>
-        ensures put { OnOk result (self.new ≡ put_on part bytes.now (record self.old { calls = self.new.calls })) }
-        ensures unchanged { OnErr result (self.new ≡ record self.old { calls = self.new.calls }) }
+        ensures put { OnOk result (self.new ≡ put_on part bytes.now (record (changed self.old) { calls = self.new.calls })) }
+        ensures unchanged { OnErr result (self.new ≡ record (changed self.old) { calls = self.new.calls }) }
         ensures counts { self.old.calls.faults ≤ self.new.calls.faults }
         ensures cause { IfErr result (λ e. HasCause e self.old.calls.faults self.new.calls.faults) }
         ensures memory { IsErrOf result DeviceError.Memory → self.new.calls.faults ≡ self.old.calls.faults }
@@ -200,6 +237,7 @@ impl Files for MemFiles {
         // More than all files promise: which calls fail.
         ensures planned { MatchResult result (λ _. Served self.old.calls self.new.calls) (λ e. Refused e self.old.calls self.new.calls) }
     {
+        self.change();
         self.plan.begin()?;
         let bytes = Vec::from_slice(*self.games.allocator(), bytes)?;
         match part {

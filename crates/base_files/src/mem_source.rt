@@ -115,7 +115,7 @@ impl Store {
     ghost use Rattle.base_files.specs.Feeds.{told_after};
     ghost use Rattle.base_files.specs.FeedStore.{left_of, budget_of, most_of, IsWithin};
 
-    /// Gives the next bytes, at most `most`, and says how many.
+    // Gives the next bytes, at most `most`, and says how many.
     fn give(&mut self, most: usize, into: &mut [u8]) -> usize
         requires within { IsWithin self.old }
         requires most { most_of self.old most ≡ most }
@@ -137,7 +137,7 @@ impl Store {
     }
 }
 
-/// Gives at most `most` of the bytes from `next` on, and says how many.
+// Gives at most `most` of the bytes from `next` on, and says how many.
 fn give_once(bytes: &[u8], next: &mut usize, most: usize, into: &mut [u8]) -> usize
     requires { next.old ≤ length bytes.now }
     ensures many { result ≡ min (min most (length into.old)) (length bytes.now - next.old) }
@@ -151,7 +151,7 @@ fn give_once(bytes: &[u8], next: &mut usize, most: usize, into: &mut [u8]) -> us
     n
 }
 
-/// Gives at most one whole piece of bytes, from `next` on and then from the start of the piece, and says how many.
+// Gives at most one whole piece of bytes, from `next` on and then from the start of the piece, and says how many.
 fn give_again(piece: &[u8], next: &mut usize, budget: &mut u64, into: &mut [u8]) -> usize
     requires { next.old < length piece.now }
     ensures many { result ≡ min (min (length piece.now) (length into.old)) budget.old }

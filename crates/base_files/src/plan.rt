@@ -34,6 +34,13 @@ impl Plan {
         }
     }
 
+    /// How many calls were made.
+    pub fn made(&self) -> u64
+        ensures { result ≡ self.now.made }
+    {
+        self.made
+    }
+
     /// Counts a call, and its fault where it is to fail.
     pub fn begin(&mut self) -> Result<(), Failed>
         ensures planned { MatchResult result (λ _. Served self.old self.new) (λ _. FailedAsPlanned self.old self.new) }

@@ -7,10 +7,10 @@ use crate::faults::DeviceError;
 
 /// A taker of bytes.
 pub trait Sink {
-    // the bytes taken, where the sink tells them
+    // The bytes taken, where the sink tells them.
     ghost taken: { Self → Option (List ℕ) };
 
-    // how many faults it has counted
+    // How many faults it has counted.
     ghost faults: { Self → ℕ };
 
     /// Takes bytes from the front of `piece`, which is not empty, and says how many: at least one.

@@ -7,13 +7,13 @@ use crate::faults::Failed;
 
 /// A source of bytes, read to its end once.
 pub trait Source {
-    // the bytes left, where the source tells them
+    // The bytes left, where the source tells them.
     ghost left: { Self → Option (List ℕ) };
 
-    // at most how many bytes it will still give: a number for every source, so that every loop over a source ends
+    // At most how many bytes it will still give: a number for every source, so that every loop over a source ends.
     ghost budget: { Self → ℕ };
 
-    // how many faults it has counted
+    // How many faults it has counted.
     ghost faults: { Self → ℕ };
 
     /// Reads the next bytes into the front of `into`, which is not empty, and says how many: none only at the end of the input.

@@ -74,7 +74,7 @@ impl<W: Write> Sink for StdSink<W> {
     }
 }
 
-/// One write, tried again while a signal interrupts it.
+// One write, tried again while a signal interrupts it.
 fn write_uninterrupted<W: Write>(writer: &mut W, piece: &[u8]) -> io::Result<usize>
     ensures { IfOk result (λ n. n ≤ length piece.now) }
 {

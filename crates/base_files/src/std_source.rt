@@ -78,7 +78,7 @@ impl<R: Read> Source for StdSource<R> {
     }
 }
 
-/// One read, tried again while a signal interrupts it.
+// One read, tried again while a signal interrupts it.
 fn read_uninterrupted<R: Read>(reader: &mut R, into: &mut [u8]) -> io::Result<usize>
     ensures { IfOk result (λ n. n ≤ length into.old) }
 {

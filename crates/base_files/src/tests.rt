@@ -13,6 +13,7 @@ use crate::sink::Sink;
 use crate::source::Source;
 use crate::std_sink::StdSink;
 use crate::std_source::StdSource;
+use crate::swap::Swap;
 use crate::writing::write_all;
 use std::alloc::Global;
 use std::io::{Error, ErrorKind, Read, Write};
@@ -79,7 +80,7 @@ fn a_writer_that_fails_in_mid_stream_is_a_sink_that_fails(rt: HostRuntime) {
     assert_eq!(rt; sink.flush(), Err(DeviceError::Failed));
 }
 
-/// Writes the three files of a base, the games file with these bytes.
+// Writes the three files of a base, the games file with these bytes.
 fn write_base(rt: &impl FileSystem, games: &str, paths: [&str; 3]) -> io::Result<()> {
     let [index_path, names_path, games_path] = paths;
     fs::write(rt, index_path, "INDEX")?;
@@ -87,7 +88,7 @@ fn write_base(rt: &impl FileSystem, games: &str, paths: [&str; 3]) -> io::Result
     fs::write(rt, games_path, games)
 }
 
-/// Removes the three files of a base.
+// Removes the three files of a base.
 fn remove_base(rt: &impl FileSystem, paths: [&str; 3]) -> io::Result<()> {
     let [index_path, names_path, games_path] = paths;
     fs::remove_file(rt, index_path)?;
@@ -95,7 +96,7 @@ fn remove_base(rt: &impl FileSystem, paths: [&str; 3]) -> io::Result<()> {
     fs::remove_file(rt, games_path)
 }
 
-/// Whether the part of the base has these bytes.
+// Whether the part of the base has these bytes.
 fn has<F: Files>(
     alloc: Global,
     files: &mut F,
@@ -227,6 +228,39 @@ fn planned_faults_of_additions(rt: HostRuntime) -> Result<(), Fail> {
 }
 
 #[test]
+fn a_games_file_changes_by_itself(rt: HostRuntime) -> Result<(), Fail> {
+    let games = b"abcd".to_vec(rt.alloc())?;
+    let swaps = vec![in rt.alloc();
+        Swap {
+            before: 2,
+            place: 1,
+            byte: b'x'
+        },
+        Swap {
+            before: 2,
+            place: 4,
+            byte: b'y'
+        },
+        Swap {
+            before: 3,
+            place: 1,
+            byte: b'z'
+        },
+    ]?;
+    let mut files = MemFiles::changing(Vec::new(rt.alloc()), Vec::new(rt.alloc()), games, swaps);
+    let len = files.games_len()?;
+    assert_eq!(rt; len, 4, "call 0");
+    let mut into = [0u8; 4];
+    files.read_games(0, 4, &mut into)?;
+    assert_eq!(rt; into, *b"abcd", "call 1");
+    files.read_games(0, 4, &mut into)?;
+    assert_eq!(rt; into, *b"axcd", "call 2");
+    files.read_games(0, 4, &mut into)?;
+    assert_eq!(rt; into, *b"azcd", "call 3");
+    Ok(())
+}
+
+#[test]
 fn an_endless_source_repeats_its_piece(rt: HostRuntime) -> Result<(), Fail> {
     let piece = b"abc".to_vec(rt.alloc())?;
     let mut source = MemSource::endless(piece);
@@ -238,7 +272,7 @@ fn an_endless_source_repeats_its_piece(rt: HostRuntime) -> Result<(), Fail> {
     Ok(())
 }
 
-/// The length of the whole input, if it is within the limit.
+// The length of the whole input, if it is within the limit.
 fn length_within(alloc: Global, text: &[u8], limit: usize) -> Result<Option<usize>, DeviceError> {
     let bytes = text.to_vec(alloc)?;
     let mut source = MemSource::new(bytes, 2, Vec::new(alloc));

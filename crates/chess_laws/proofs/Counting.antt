@@ -8,7 +8,7 @@ use Rattle.cell_core.specs.declared.man.Kind.{Kind}
 use Rattle.cell_core.specs.declared.man.Kind.TheVariants.{King, Queen, Rook, Bishop, Knight, Pawn}
 use Rattle.cell_core.specs.declared.man.Man.{Man}
 use Rattle.cell_core.specs.declared.step.Move.{Move}
-use Rattle.cell_core.specs.Board.{Men, man_at}
+use Rattle.cell_core.specs.Board.{Men, man_at, put}
 use Rattle.cell_core.specs.Man.{man, is_man}
 use Rattle.chess_laws.specs.Counts.{counts_of, count_of, fewer, more}
 use Rattle.std.specs.Bool.{OnTrue, OnFalse}
@@ -16,11 +16,12 @@ use Rattle.std.proofs.lemmas.Bool.{and_parts, false≢true}
 use Rattle.chess_laws.specs.declared.setup.Setup.{Setup}
 use Rattle.chess_laws.specs.declared.effect.Effect.{Effect}
 use Rattle.chess_laws.specs.declared.effect.Effect.TheVariants.{Plain, Double, Passing, Castle, Null}
-use Rattle.chess_laws.specs.LegalTests.{is_calm}
+use Rattle.chess_laws.specs.LegalTests.{takes_target}
 use Rattle.chess_laws.specs.Position.{Sound}
-use Rattle.chess_laws.specs.Step.{Case, Legal, effect_of, board_after}
-use Rattle.chess_laws.proofs.Boards.{Goes, Goes-count, one_if, relocate}
-use Rattle.chess_laws.proofs.Keeping.{plain-no_own, plain-no_king}
+use Rattle.chess_laws.specs.Castling.{rook_home, rook_target}
+use Rattle.chess_laws.specs.Step.{Case, Legal, arriving, effect_of, board_after, moved}
+use Rattle.chess_laws.proofs.Boards.{Goes, Goes-count, length-put, one_if, relocate}
+use Rattle.chess_laws.proofs.Keeping.{castle-crossed, castle-king_goes, castle-rook_goes, castle-squares, plain-no_own, plain-no_king}
 use Rattle.chess_laws.proofs.Following.{case-on_board}
 use Rattle.chess_laws.proofs.MovedKings.{legal-allowed}
 
@@ -121,7 +122,7 @@ none-is : (x : Option Kind) → is_none x ≡ true → x ≡ None
 none-is None h = refl
 none-is (Some k) h = absurd (cc)
 
-calm-counts : (p : Setup) (m : Move) (e : Effect) → Sound p → effect_of p m ≡ e → is_calm e ≡ true → m.promo ≡ None → Case p m e →
+calm-counts : (p : Setup) (m : Move) (e : Effect) → Sound p → effect_of p m ≡ e → takes_target e ≡ true → m.promo ≡ None → Case p m e →
     counts_of (board_after p m e) ≡ fewer (counts_of p.board) (man_at p.board m.to)
 calm-counts p m Plain sound is quiet none case =
     let goes : Goes p.board m.from m.to p.side case.kind case.kind = record {
@@ -144,14 +145,23 @@ calm-counts p m Double sound is quiet none case =
     } in
     rw (none, case.stands) (goes-counts p.board m.from m.to p.side Pawn goes)
 calm-counts p m Passing sound is quiet none case = absurd (false≢true quiet)
-calm-counts p m (Castle wing) sound is quiet none case = absurd (false≢true quiet)
+calm-counts p m (Castle wing) sound is quiet none case =
+    let at = castle-squares p m wing case.stands is in
+    let less : m.to < 64 = case-on_board p m (Castle wing) sound is case in
+    let king = castle-king_goes p m wing sound less at case in
+    let first : counts_of (moved p m) ≡ fewer (counts_of p.board) (man_at p.board m.to) =
+    rw (none, case.stands) (goes-counts p.board m.from m.to p.side King king) in
+    let squares : length (moved p m) ≡ 64 = length-put (put p.board m.from None) m.to (arriving p m m.promo) (length-put p.board m.from None sound.squares) in
+    let rook = castle-rook_goes p m wing sound squares at case in
+    let second = goes-counts (moved p m) (rook_home p.side wing) (rook_target p.side wing) p.side Rook rook in
+    second ∙ ap (fewer (counts_of (moved p m))) (castle-crossed p m wing at case) ∙ first
 calm-counts p m Null sound is quiet none case = absurd (false≢true quiet)
 
 -- the counts after a legal move: those before without the man on its target, or those of the board
-pub counts-after : (p : Setup) (m : Move) (alone : Bool) (new : List ℕ) → Sound p → Legal p m → alone ≡ (is_calm (effect_of p m) && is_none m.promo) →
+pub counts-after : (p : Setup) (m : Move) (alone : Bool) (new : List ℕ) → Sound p → Legal p m → alone ≡ (takes_target (effect_of p m) && is_none m.promo) →
     OnTrue alone (new ≡ fewer (counts_of p.board) (man_at p.board m.to)) → OnFalse alone (new ≡ counts_of (board_after p m (effect_of p m))) →
     new ≡ counts_of (board_after p m (effect_of p m))
 counts-after p m true new sound legal is one all =
-    let both = and_parts (is_calm (effect_of p m)) (is_none m.promo) (sym is) in
+    let both = and_parts (takes_target (effect_of p m)) (is_none m.promo) (sym is) in
     one ∙ sym (calm-counts p m (effect_of p m) sound refl both.0 (none-is m.promo both.1) (legal-allowed p m legal))
 counts-after p m false new sound legal is one all = all

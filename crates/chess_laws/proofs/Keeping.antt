@@ -1,5 +1,5 @@
 -- The board keeps its rules in each case of a move: its squares, its kings, its pawns and how many men there are.
-use Rattle.std.proofs.Common.{◌≡◌, ℕ, zero, suc, ◌+◌, ◌<◌, ◌⊎◌, inl, inr, Bool, true, false, ◌&&◌, cond, eqb, [], ◌∷◌, Option, Some, None, is_none, IsTrue, refl, sym, ◌∙◌, ap, arith, lit<}
+use Rattle.std.proofs.Common.{length, ◌≡◌, ℕ, zero, suc, ◌+◌, ◌<◌, ◌⊎◌, inl, inr, Bool, true, false, ◌&&◌, cond, eqb, [], ◌∷◌, Option, Some, None, is_none, IsTrue, refl, sym, ◌∙◌, ap, arith, lit<}
 use Rattle.std.specs.Prelude.{Any, All}
 use Rattle.std.proofs.lemmas.Bool.{eqb-true, eqb-false, and_parts}
 use Rattle.cell_core.specs.declared.man.Colour.{Colour}
@@ -295,33 +295,45 @@ castle-apart men Black QueenSide all = record {
   rook_less = lit< tt;
 }
 
-pub castle-kept : (p : Setup) (m : Move) (w : Wing) → Sound p → m.to < 64 → CastleSquares p m w → CastleCase p m w →
-    Kept (put (put (moved p m) (rook_home p.side w) None) (rook_target p.side w) (Some (man p.side Rook)))
-castle-kept p m w sound less at case =
+-- the king goes to an empty square, and then the rook to the one that he has crossed
+pub castle-king_goes : (p : Setup) (m : Move) (w : Wing) → Sound p → m.to < 64 → CastleSquares p m w → CastleCase p m w → Goes p.board m.from m.to p.side King King
+castle-king_goes p m w sound less at case =
     let apart = castle-apart p.board p.side w case.empty in
     let free : man_at p.board m.to ≡ None = rw at.to apart.king_to in
-    let goes : Goes p.board m.from m.to p.side King King = record {
+    record {
       squares = sound.squares;
       from = case.stands;
       target = less;
       no_own = λ i h. cc free;
       no_king = λ d h. cc free;
       same_king = refl;
-    } in
-    let arrives = arriving-lands p m King None case.stands in
-    let first : Kept (moved p m) =
-    rw (case.promo, arrives) (Kept-goes p.board m.from m.to p.side King King (kept p sound) goes (λ e. absurd (cc))) in
-    let home = sound.rights p.side w case.right in
-    let rook : man_at (moved p m) (rook_home p.side w) ≡ Some (man p.side Rook) =
-    moved-other p m (rook_home p.side w) (λ e. apart.rook_from (e ∙ at.from)) (λ e. apart.rook_from_to (e ∙ at.to)) ∙ home.rook in
-    let crossed : man_at (moved p m) (rook_target p.side w) ≡ None =
-    moved-other p m (rook_target p.side w) (λ e. apart.rook_to_from (e ∙ at.from)) (λ e. apart.rook_to_to (e ∙ at.to)) ∙ apart.rook_to in
-    let follows : Goes (moved p m) (rook_home p.side w) (rook_target p.side w) p.side Rook Rook = record {
-      squares = first.squares;
-      from = rook;
+    }
+
+pub castle-crossed : (p : Setup) (m : Move) (w : Wing) → CastleSquares p m w → CastleCase p m w → man_at (moved p m) (rook_target p.side w) ≡ None
+castle-crossed p m w at case =
+    let apart = castle-apart p.board p.side w case.empty in
+    moved-other p m (rook_target p.side w) (λ e. apart.rook_to_from (e ∙ at.from)) (λ e. apart.rook_to_to (e ∙ at.to)) ∙ apart.rook_to
+
+pub castle-rook_goes : (p : Setup) (m : Move) (w : Wing) → Sound p → length (moved p m) ≡ 64 → CastleSquares p m w → CastleCase p m w →
+    Goes (moved p m) (rook_home p.side w) (rook_target p.side w) p.side Rook Rook
+castle-rook_goes p m w sound squares at case =
+    let apart = castle-apart p.board p.side w case.empty in
+    let crossed = castle-crossed p m w at case in
+    record {
+      squares = squares;
+      from = moved-other p m (rook_home p.side w) (λ e. apart.rook_from (e ∙ at.from)) (λ e. apart.rook_from_to (e ∙ at.to)) ∙ (sound.rights p.side w case.right).rook;
       target = apart.rook_less;
       no_own = λ i h. cc crossed;
       no_king = λ d h. cc crossed;
       same_king = refl;
-    } in
+    }
+
+pub castle-kept : (p : Setup) (m : Move) (w : Wing) → Sound p → m.to < 64 → CastleSquares p m w → CastleCase p m w →
+    Kept (put (put (moved p m) (rook_home p.side w) None) (rook_target p.side w) (Some (man p.side Rook)))
+castle-kept p m w sound less at case =
+    let goes = castle-king_goes p m w sound less at case in
+    let arrives = arriving-lands p m King None case.stands in
+    let first : Kept (moved p m) =
+    rw (case.promo, arrives) (Kept-goes p.board m.from m.to p.side King King (kept p sound) goes (λ e. absurd (cc))) in
+    let follows = castle-rook_goes p m w sound first.squares at case in
     Kept-goes (moved p m) (rook_home p.side w) (rook_target p.side w) p.side Rook Rook first follows (λ e. absurd (cc))

@@ -25,3 +25,4 @@ pub mod Climbing
 pub mod Stepping
 pub mod Initial
 pub mod Deciding
+pub mod Officers

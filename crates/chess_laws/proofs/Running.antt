@@ -18,7 +18,7 @@ run-found men o i a b c answer less step here before =
     let left : 8 - i ≡ suc (8 - (i + 1)) = omega arith in
     rw (left, run-one men o (8 - (i + 1)) a b, ← step, here) at before
 
-none_from : (x : Option Man) → is_some x ≡ false → x ≡ None
+pub none_from : (x : Option Man) → is_some x ≡ false → x ≡ None
 none_from None h = refl
 none_from (Some m) h = absurd (cc)
 
@@ -59,6 +59,15 @@ run-on men o n a b c step h =
       | inl here ↦ inl (eqb-true c b here)
       | inr other ↦ inr (and-none (man_at men c) (run men o n b c) (rw other at h'))
     ]
+
+-- a walk finds the square of its first step, and goes on over an empty one
+pub run-first : (men : Men) (o : Offset) (n a c : ℕ) → shift o a ≡ Some c → run men o (suc n) c a ≡ true
+run-first men o n a c step =
+    let here : eqb c c ≡ true = eq-eqb c c refl in
+    rw (run-one men o n a c, step, here) refl
+
+pub run-over : (men : Men) (o : Offset) (n a b c : ℕ) → shift o a ≡ Some c → man_at men c ≡ None → run men o n b c ≡ true → run men o (suc n) b a ≡ true
+run-over men o n a b c step empty further = rw (run-one men o n a b, step, empty, further) (or-true (eqb c b))
 
 -- a walk finds nothing beyond the edge
 pub run-edge : (men : Men) (o : Offset) (n a b : ℕ) → shift o a ≡ None → run men o (suc n) b a ≡ true → ⊥

@@ -87,6 +87,14 @@ is_calm Passing = false
 is_calm (Castle wing) = false
 is_calm Null = false
 
+-- Whether a move takes no man but one on its target.
+abbrev pub takes_target : Effect → Bool
+takes_target Plain = true
+takes_target Double = true
+takes_target Passing = false
+takes_target (Castle wing) = true
+takes_target Null = false
+
 -- Whether a king or a rook that may castle has this square for its home.
 abbrev pub is_home_square : ℕ → Bool
 is_home_square s = (s == 4) || ((s == 60) || ((s == 0) || ((s == 7) || ((s == 56) || (s == 63)))))

@@ -1,5 +1,5 @@
 -- What the code of legal moves collects on its way. No public contract cites these words.
-use Rattle.std.specs.Prelude.{◌≡◌, ℕ, ◌<◌, ◌≤◌, ◌⊎◌, List, length, All, Any, Contains, ◌++◌, Some, None}
+use Rattle.std.specs.Prelude.{◌≡◌, ℕ, ◌<◌, ◌≤◌, ◌⊎◌, Bool, true, false, List, length, All, Any, Contains, ◌++◌, Some, None}
 use Rattle.std.specs.Int.{bit_at}
 use Rattle.cell_core.specs.declared.man.Kind.{Kind}
 use Rattle.cell_core.specs.declared.man.Kind.TheVariants.{King, Queen, Rook, Bishop, Knight, Pawn}
@@ -40,6 +40,28 @@ Comes p Rook a b = Any (Runs p.board a b) rook_steps × HasNoOwn p.board p.side 
 Comes p Bishop a b = Any (Runs p.board a b) bishop_steps × HasNoOwn p.board p.side b
 Comes p Knight a b = Any (Leaps a b) knight_steps × HasNoOwn p.board p.side b
 Comes p Pawn a b = PawnComes p a b
+
+-- Whether it is a queen, a rook, a bishop or a knight.
+abbrev pub is_officer : Kind → Bool
+is_officer King = false
+is_officer Queen = true
+is_officer Rook = true
+is_officer Bishop = true
+is_officer Knight = true
+is_officer Pawn = false
+
+-- A queen, a rook, a bishop or a knight of the side to move stands on a.
+pub record HasOfficer (p : Setup) (a : ℕ) : Type 0 where
+  pub kind : Kind
+  pub officer : is_officer kind ≡ true
+  pub stands : man_at p.board a ≡ Some (man p.side kind)
+
+-- Such a man comes from a to b.
+pub record OfficerComes (p : Setup) (a b : ℕ) : Type 0 where
+  pub kind : Kind
+  pub officer : is_officer kind ≡ true
+  pub stands : man_at p.board a ≡ Some (man p.side kind)
+  pub comes : Comes p kind a b
 
 -- The list has the moves whose place is below n, each once and in order, and nothing else, and at most so many fit.
 pub record ListsBelow (p : Setup) (room n : ℕ) (ms : List Move) : Type 0 where

@@ -55,6 +55,18 @@ pub fn is_legal_from(p: &Setup, king: Square, shut: bool, m: &Move, effect: Effe
     if !is_allowed(p, king, m, effect) {
         return false;
     }
+    is_legal_allowed(p, king, shut, m, effect)
+}
+
+/// Whether the move, which is of this kind and allowed by its rules, is legal, where the square it leaves may be shut.
+pub fn is_legal_allowed(p: &Setup, king: Square, shut: bool, m: &Move, effect: Effect) -> bool
+    requires sound { Sound p.now }
+    requires king { IsOnlyKing p.now.board p.now.side king }
+    requires shut { OnTrue shut (Shut p.now king m.now.from) }
+    requires effect { effect ≡ effect_of p.now m.now }
+    requires allowed { Case p.now m.now effect }
+    ensures { IsTrue result ↔ Legal p.now m.now }
+{
     stays_safe(shut, effect) || is_safe_after(p, king, m, effect)
 }
 

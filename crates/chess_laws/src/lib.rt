@@ -21,6 +21,7 @@ mod targets;
 pub use castling::{king_target, rook_home, rook_target};
 pub use effect::Effect;
 pub use fault::PlaceFault;
+pub use moves::is_before;
 pub use next::passed_square;
 pub use position::Position;
 pub use rules::en_passant_rank;

@@ -5,7 +5,7 @@ ghost use Rattle.cell_core.specs.Man.{other};
 ghost use Rattle.chess_laws.specs.Attacks.{Attacks, IsInCheck};
 ghost use Rattle.chess_laws.specs.Checks.{Hits, in_check};
 ghost use Rattle.chess_laws.specs.Counts.{counts_of, fewer};
-ghost use Rattle.chess_laws.specs.LegalTests.{is_calm};
+ghost use Rattle.chess_laws.specs.LegalTests.{is_calm, takes_target};
 ghost use Rattle.chess_laws.specs.Position.{Sound, king_square};
 ghost use Rattle.chess_laws.specs.Rays.{Opens};
 ghost use Rattle.chess_laws.specs.Step.{after, effect_of, Legal};
@@ -41,9 +41,19 @@ pub fn make(p: &mut Setup, counts: &mut [u8; 10], m: &Move, effect: Effect, rest
 
 // Whether the move changes the counts by the man on its target alone.
 fn takes_alone(m: &Move, effect: Effect) -> bool
-    ensures { result ≡ (is_calm effect && is_none m.now.promo) }
+    ensures { result ≡ (takes_target effect && is_none m.now.promo) }
 {
-    is_calm(effect) && m.promo.is_none()
+    takes_target(effect) && m.promo.is_none()
+}
+
+// Whether a move takes no man but one on its target.
+fn takes_target(effect: Effect) -> bool
+    ensures { result ≡ takes_target effect }
+{
+    match effect {
+        Effect::Plain | Effect::Double | Effect::Castle(_) => true,
+        Effect::Passing | Effect::Null => false,
+    }
 }
 
 // The counts of the board, which are those before without the man that was taken, if that is all.

@@ -1,15 +1,17 @@
 //! Every legal move of a position, in order.
 ghost use Rattle.std.specs.Prelude.{◌≡◌, ◌↔◌, ◌+◌, ◌*◌, ◌<◌, ◌≤◌, IsTrue, []};
 ghost use Rattle.std.specs.Bool.{OnTrue, OnFalse};
+ghost use Rattle.std.specs.Ordering.{is_lt};
 ghost use Rattle.chess_laws.specs.Attacks.{IsInCheck};
 ghost use Rattle.chess_laws.specs.LegalTests.{IsOnlyKing};
 ghost use Rattle.chess_laws.specs.Position.{Sound};
 ghost use Rattle.chess_laws.specs.Rays.{Shut};
-ghost use Rattle.chess_laws.specs.Moves.{HasMoreMoves, IsMove, ListsMoves, promotion_number};
-ghost use Rattle.chess_laws.specs.Targets.{ListsBelow, ListsBefore, MayPromote};
+ghost use Rattle.chess_laws.specs.Moves.{HasMoreMoves, IsMove, ListsMoves, place_of, promotion_number};
+ghost use Rattle.chess_laws.specs.Targets.{HasOfficer, ListsBelow, ListsBefore, MayPromote, OfficerComes, is_officer};
 
 use super::cases::{has_own, last_rank};
-use super::legal::{is_legal_from, is_shut};
+use super::effect::Effect;
+use super::legal::{is_legal_allowed, is_legal_from, is_shut};
 use super::next::effect_of;
 use super::position::Position;
 use super::setup::Setup;
@@ -44,6 +46,39 @@ impl Position {
             self.in_check(),
             &mut none,
         )
+    }
+}
+
+/// Whether a move stands before another in the order of moves, which is the order of the type `Move`: by the first square,
+/// then the target, then the promotion.
+pub fn is_before(a: &Move, b: &Move) -> bool
+    ensures place { IsTrue result ↔ (place_of a.now < place_of b.now) }
+    ensures order { result ≡ is_lt (⟦<Move as Ord>⟧.cmp a.now b.now) }
+{
+    place(a) < place(b)
+}
+
+// The place of a move in the order of moves.
+fn place(m: &Move) -> u16
+    ensures place { result ≡ place_of m.now }
+    ensures on_board { m.now.to < 64 }
+{
+    512 * u16::from(m.from.index()) + 8 * u16::from(m.to.index()) + promotion_number(m.promo)
+}
+
+// The place of a promotion in the order none, queen, rook, bishop, knight.
+fn promotion_number(promo: Option<Kind>) -> u16
+    ensures number { result ≡ promotion_number promo }
+    ensures less { result < 7 }
+{
+    match promo {
+        None => 0,
+        Some(Kind::King) => 1,
+        Some(Kind::Queen) => 2,
+        Some(Kind::Rook) => 3,
+        Some(Kind::Bishop) => 4,
+        Some(Kind::Knight) => 5,
+        Some(Kind::Pawn) => 6,
     }
 }
 
@@ -91,9 +126,10 @@ fn list_from<const N: usize>(
         return true;
     }
     let shut = is_shut(p, king, checked, from);
+    let officer = has_officer(p, from);
     let mut at = 0u8;
     while let Some(to) = targets.next(at) {
-        if !list_to(p, king, shut, from, to, into) {
+        if !list_to(p, king, shut, officer, from, to, into) {
             return false;
         }
         at = to.index() + 1;
@@ -101,11 +137,13 @@ fn list_from<const N: usize>(
     true
 }
 
-/// Lists the moves from one square to another behind those before them.
+/// Lists the moves from one square to another behind those before them. A queen, a rook, a bishop or a knight is known to
+/// come there.
 fn list_to<const N: usize>(
     p: &Setup,
     king: Square,
     shut: bool,
+    officer: bool,
     from: Square,
     to: Square,
     into: &mut ArrayVec<Move, N>,
@@ -113,11 +151,15 @@ fn list_to<const N: usize>(
     requires sound { Sound p.now }
     requires king { IsOnlyKing p.now.board p.now.side king }
     requires shut { OnTrue shut (Shut p.now king from) }
+    requires officer { OnTrue officer (OfficerComes p.now from to) }
     requires on_board { to < 64 }
     requires before { ListsBelow p.now N (512 * from + 8 * to) into.old.items }
     ensures listed { OnTrue result (ListsBelow p.now N (512 * from + 8 * (to + 1)) into.new.items) }
     ensures many { OnFalse result (HasMoreMoves p.now N) }
 {
+    if officer {
+        return add_officer(p, king, shut, from, to, into);
+    }
     if !add(p, king, shut, from, to, None, into) {
         return false;
     }
@@ -161,6 +203,60 @@ fn may_promote(p: &Setup, from: Square, to: Square) -> bool
     ensures { IsTrue result ↔ MayPromote p.now from to }
 {
     to.index() / 8 == last_rank(p.side) && has_own(p, Kind::Pawn, from)
+}
+
+/// Whether a queen, a rook, a bishop or a knight of the side to move stands on the square.
+fn has_officer(p: &Setup, from: Square) -> bool
+    ensures { OnTrue result (HasOfficer p.now from) }
+{
+    match p.board.at(from) {
+        Some(standing) => standing.colour == p.side && is_officer(standing.kind),
+        None => false,
+    }
+}
+
+/// Whether it is a queen, a rook, a bishop or a knight.
+fn is_officer(kind: Kind) -> bool
+    ensures { result ≡ is_officer kind }
+{
+    match kind {
+        Kind::Queen | Kind::Rook | Kind::Bishop | Kind::Knight => true,
+        Kind::King | Kind::Pawn => false,
+    }
+}
+
+/// Adds the move of a queen, a rook, a bishop or a knight that comes there if it is legal, or answers false where there is
+/// no room for it.
+fn add_officer<const N: usize>(
+    p: &Setup,
+    king: Square,
+    shut: bool,
+    from: Square,
+    to: Square,
+    into: &mut ArrayVec<Move, N>,
+) -> bool
+    requires sound { Sound p.now }
+    requires king { IsOnlyKing p.now.board p.now.side king }
+    requires shut { OnTrue shut (Shut p.now king from) }
+    requires on_board { to < 64 }
+    requires comes { OfficerComes p.now from to }
+    requires before { ListsBelow p.now N (512 * from + 8 * to) into.old.items }
+    ensures listed { OnTrue result (ListsBelow p.now N (512 * from + 8 * (to + 1)) into.new.items) }
+    ensures many { OnFalse result (HasMoreMoves p.now N) }
+{
+    let m = Move {
+        from,
+        to,
+        promo: None,
+    };
+    if !is_legal_allowed(p, king, shut, &m, Effect::Plain) {
+        return true;
+    }
+    if into.is_full() {
+        return false;
+    }
+    into.push(m);
+    true
 }
 
 /// Adds the move if it is a legal one besides the null move, or answers false where there is no room for it.

@@ -1,12 +1,12 @@
 //! Where the geometry of a man may lead it, before the other rules are asked.
-ghost use Rattle.std.specs.Prelude.{◌≡◌, ℕ, ◌<◌, ◌≤◌, Any, MatchOption, None, Some, true};
+ghost use Rattle.std.specs.Prelude.{◌≡◌, ℕ, ◌<◌, ◌≤◌, ◌⊎◌, Any, MatchOption, None, Some, true};
 ghost use Rattle.std.specs.Bool.{OnTrue};
 ghost use Rattle.std.specs.Int.{bit_at};
 ghost use Rattle.cell_core.specs.Board.{man_at};
 ghost use Rattle.cell_core.specs.Man.{man};
 ghost use Rattle.chess_laws.specs.Geometry.{Leaps, Runs, Walk, forward, pawn_captures};
 ghost use Rattle.chess_laws.specs.LegalTests.{run};
-ghost use Rattle.chess_laws.specs.Targets.{CastlesTo, Comes, Has, MayTake};
+ghost use Rattle.chess_laws.specs.Targets.{CastlesTo, Comes, Has, MayTake, is_officer};
 ghost use Rattle.chess_laws.specs.Step.{HasNoOwn};
 
 use super::cases::{forward, has_enemy, has_no_own};
@@ -25,7 +25,9 @@ pub struct SquareSet {
 
 impl SquareSet {
     /// The set with no square.
-    fn empty() -> SquareSet {
+    fn empty() -> SquareSet
+        ensures none { (k : ℕ) → Has result k → ⊥ }
+    {
         SquareSet { bits: 0 }
     }
 
@@ -40,6 +42,7 @@ impl SquareSet {
     fn with(self, s: Square) -> SquareSet
         ensures added { Has result s }
         ensures kept { (k : ℕ) → Has self k → Has result k }
+        ensures only { (k : ℕ) → Has result k → (Has self k ⊎ (k ≡ s)) }
     {
         SquareSet {
             bits: with_bit(self.bits, s.index()),
@@ -50,6 +53,7 @@ impl SquareSet {
     pub fn next(&self, at: u8) -> Option<Square>
         requires { at ≤ 64 }
         ensures from { MatchOption result (Unit {0}) (λ s. at ≤ s × s < 64) }
+        ensures member { MatchOption result (Unit {0}) (λ s. Has self.now s) }
         ensures first { MatchOption result ((k : ℕ) → k < 64 → at ≤ k → Has self.now k → ⊥) (λ s. (k : ℕ) → at ≤ k → k < s → Has self.now k → ⊥) }
     {
         if at == 64 {
@@ -65,6 +69,7 @@ fn with_bit(word: u64, k: u8) -> u64
     requires { k < 64 }
     ensures set { bit_at result k ≡ 1 }
     ensures kept { (i : ℕ) → bit_at word i ≡ 1 → bit_at result i ≡ 1 }
+    ensures only { (i : ℕ) → bit_at result i ≡ 1 → ((bit_at word i ≡ 1) ⊎ (i ≡ k)) }
 {
     word | (1 << k)
 }
@@ -84,7 +89,8 @@ fn first_bit(word: u64) -> Option<u8>
 
 /// Where a man of the side to move may come from this square: among others to every target of a legal move.
 pub fn targets(p: &Setup, from: Square) -> SquareSet
-    ensures { (k : Kind) (b : ℕ) → man_at p.now.board from ≡ Some (man p.now.side k) → Comes p.now k from b → Has result b }
+    ensures only { (k : Kind) (b : ℕ) → man_at p.now.board from ≡ Some (man p.now.side k) → is_officer k ≡ true → Has result b → Comes p.now k from b }
+    ensures all { (k : Kind) (b : ℕ) → man_at p.now.board from ≡ Some (man p.now.side k) → Comes p.now k from b → Has result b }
 {
     match p.board.at(from) {
         Some(standing) if standing.colour == p.side => targets_of(p, standing.kind, from),
@@ -94,7 +100,8 @@ pub fn targets(p: &Setup, from: Square) -> SquareSet
 
 /// Where a man of this kind may come from this square.
 fn targets_of(p: &Setup, kind: Kind, from: Square) -> SquareSet
-    ensures { (b : ℕ) → Comes p.now kind from b → Has result b }
+    ensures only { (b : ℕ) → is_officer kind ≡ true → Has result b → Comes p.now kind from b }
+    ensures all { (b : ℕ) → Comes p.now kind from b → Has result b }
 {
     match kind {
         Kind::King => castling_targets(p, from, leap_targets(p, &KING_STEPS, from)),
@@ -186,7 +193,8 @@ fn with_taken(p: &Setup, s: Square, set: SquareSet) -> SquareSet
 
 /// Where one of the steps leads, but to no man of the mover's own.
 fn leap_targets(p: &Setup, steps: &[Offset], from: Square) -> SquareSet
-    ensures { (b : ℕ) → Any (Leaps from b) steps.now → HasNoOwn p.now.board p.now.side b → Has result b }
+    ensures only { (b : ℕ) → Has result b → (Any (Leaps from b) steps.now × HasNoOwn p.now.board p.now.side b) }
+    ensures all { (b : ℕ) → Any (Leaps from b) steps.now → HasNoOwn p.now.board p.now.side b → Has result b }
 {
     let mut set = SquareSet::empty();
     for step in steps {
@@ -201,6 +209,7 @@ fn leap_targets(p: &Setup, steps: &[Offset], from: Square) -> SquareSet
 fn with_free(p: &Setup, s: Square, set: SquareSet) -> SquareSet
     ensures added { HasNoOwn p.now.board p.now.side s → Has result s }
     ensures kept { (b : ℕ) → Has set b → Has result b }
+    ensures only { (b : ℕ) → Has result b → (Has set b ⊎ ((b ≡ s) × HasNoOwn p.now.board p.now.side b)) }
 {
     if has_no_own(&p.board, p.side, s) {
         set.with(s)
@@ -211,7 +220,8 @@ fn with_free(p: &Setup, s: Square, set: SquareSet) -> SquareSet
 
 /// Where equal steps, of one of these, lead over empty squares, but to no man of the mover's own.
 fn run_targets(p: &Setup, steps: &[Offset], from: Square) -> SquareSet
-    ensures { (b : ℕ) → Any (Runs p.now.board from b) steps.now → HasNoOwn p.now.board p.now.side b → Has result b }
+    ensures only { (b : ℕ) → Has result b → (Any (Runs p.now.board from b) steps.now × HasNoOwn p.now.board p.now.side b) }
+    ensures all { (b : ℕ) → Any (Runs p.now.board from b) steps.now → HasNoOwn p.now.board p.now.side b → Has result b }
 {
     let mut set = SquareSet::empty();
     for step in steps {
@@ -225,6 +235,7 @@ fn run_targets(p: &Setup, steps: &[Offset], from: Square) -> SquareSet
 fn add_run(p: &Setup, step: &Offset, from: Square, set: SquareSet) -> SquareSet
     ensures runs { (b : ℕ) → Runs p.now.board from b step.now → HasNoOwn p.now.board p.now.side b → Has result b }
     ensures kept { (b : ℕ) → Has set b → Has result b }
+    ensures only { (b : ℕ) → Has result b → (Has set b ⊎ (Runs p.now.board from b step.now × HasNoOwn p.now.board p.now.side b)) }
 {
     walk_run(p, step, from, set)
 }
@@ -233,6 +244,7 @@ fn add_run(p: &Setup, step: &Offset, from: Square, set: SquareSet) -> SquareSet
 fn walk_run(p: &Setup, step: &Offset, from: Square, set: SquareSet) -> SquareSet
     ensures runs { (b : ℕ) → run p.now.board step.now 8 b from ≡ true → HasNoOwn p.now.board p.now.side b → Has result b }
     ensures kept { (b : ℕ) → Has set b → Has result b }
+    ensures only { (b : ℕ) → Has result b → (Has set b ⊎ ((run p.now.board step.now 8 b from ≡ true) × HasNoOwn p.now.board p.now.side b)) }
 {
     let mut set = set;
     let mut at = from;

@@ -4,12 +4,12 @@ use Rattle.std.specs.Prelude.{All}
 use Rattle.std.proofs.lemmas.List.Elements.{All-nil, All-push}
 use Rattle.cell_core.specs.Text.{IsZeroFree}
 use Rattle.cell_core.specs.declared.step.Move.{Move}
-use Rattle.game_tree.specs.Movetext.{Movetext, end, move, nag, comment, variation, meaning}
+use Rattle.game_tree.specs.Movetext.{Movetext, meaning}
 use Rattle.game_tree.specs.declared.head.Tag.{Tag}
 use Rattle.move_codec.specs.Numbers.{Numbered}
 use Rattle.game_codec.specs.Token.{Token, Play, Nag, Comment, Open, Close, End}
-use Rattle.game_codec.specs.Place.{Place, Takes, FaultAt, beginning, after_move, after_comment, variation_of}
-use Rattle.game_codec.specs.Moves.{SpellsMoves, Upto, here, past_move, past_nag, past_comment, past_variation, inside, BreaksMoves}
+use Rattle.game_codec.specs.Place.{Place, Takes, FaultAt, beginning, variation_of}
+use Rattle.game_codec.specs.Moves.{SpellsMoves, Upto, BreaksMoves}
 use Rattle.game_codec.specs.Texts.{AreTexts, BreaksTexts, ended, texts_of}
 use Rattle.game_codec.specs.Record.{IsSomeRecord, game_of}
 use Rattle.game_codec.specs.TagSpelling.{BeginsTags}
@@ -18,7 +18,8 @@ use Rattle.game_tree.specs.TagName.{free_of}
 use Rattle.game_codec.specs.TagReading.{BreaksTags}
 use Rattle.game_codec.specs.Breach.{Tells}
 use Rattle.game_codec.specs.Checking.{AreSomeTexts}
-use Rattle.game_codec.specs.Nests.{place_after, token_of}
+use Rattle.game_codec.specs.Scanning.{comments_in, tokens_then}
+use Rattle.game_codec.specs.Nests.{IsPast, token_of}
 use Rattle.game_codec.specs.declared.token.Token.{Token as Read}
 use Rattle.game_codec.specs.declared.token.Token.TheVariants as read
 use Rattle.game_codec.specs.Fault.{Breaks}
@@ -26,190 +27,119 @@ use Rattle.game_codec.specs.declared.breach.Breach.{Breach}
 use Rattle.game_codec.specs.declared.fault.RecordWhat.{RecordWhat}
 use Rattle.game_codec.specs.declared.fault.RecordWhat.TheVariants.{Short, Extra}
 use Rattle.game_codec.proofs.BuildLaws.{ended-push}
-use Rattle.game_codec.proofs.ScanSteps.{left-drop}
-use Rattle.game_codec.proofs.MovetextLaws.{ending-inner, ending-main, movetext-scans, scans-movetext}
+use Rattle.game_codec.proofs.LineLaws.{HasFollowed, HasFollowed-none, HasFollowed-breaks, LineSpelled}
+use Rattle.game_codec.proofs.LineLaws as line
+use Rattle.game_codec.proofs.MovetextLaws.{comments-then, movetext-scans, scans-movetext}
 
 -- A movetext with so many comments that the bytes spell, and these bytes follow.
-pub record Spelled (p : Place) (bytes behind : List ℕ) (comments : ℕ) : Type 0 where
+pub record Checked (p : Place) (bytes behind : List ℕ) (comments : ℕ) : Type 0 where
   pub movetext : Movetext
   pub spells : SpellsMoves p movetext bytes behind
   pub count : length (texts_of movetext) ≡ comments
 
-abbrev pub LineSpelled : Place → List ℕ → ℕ → ℕ → Type 0
-LineSpelled p bytes used comments = (s : Movetext) × (SpellsMoves p s bytes (drop used bytes) × (length (texts_of s) ≡ comments))
+abbrev pub LineChecked : Place → List ℕ → ℕ → ℕ → Type 0
+LineChecked p bytes used comments = (s : Movetext) × (SpellsMoves p s bytes (drop used bytes) × (length (texts_of s) ≡ comments))
 
 pub line_is : (p : Place) (start : Numbered) (bytes behind : List ℕ) (used comments : ℕ) → p ≡ beginning 0 start → behind ≡ drop used bytes
-    → LineSpelled p bytes used comments → Spelled (beginning 0 start) bytes behind comments
+    → LineChecked p bytes used comments → Checked (beginning 0 start) bytes behind comments
 line_is p start bytes behind used comments p_is behind_is line = record {
   movetext = line.0;
   spells = rw (← p_is, behind_is) line.1.0;
   count = line.1.1;
 }
 
--- Whatever follows from here follows from the beginning of the line.
-pub record HasFollowed (start : Place) (bytes : List ℕ) (now : Place) (rest : List ℕ) (comments : ℕ) : Type 0 where
-  pub within : length rest ≤ length bytes
-  pub left : rest ≡ drop (length bytes - length rest) bytes
+-- How many comments are among the items that were read of a line.
+pub record HasCounted (start : Place) (bytes : List ℕ) (now : Place) (rest : List ℕ) (comments : ℕ) : Type 0 where
+  pub tokens : List Token
+  pub followed : HasFollowed start bytes now rest tokens
+  pub count : comments_in tokens ≡ comments
   pub few : comments + length rest ≤ length bytes
-  pub spells : (n : ℕ) (behind : List ℕ) → Spelled now rest behind n → Spelled start bytes behind (comments + n)
-  pub breaks : (u : Upto) (from : List ℕ) (what : RecordWhat) → BreaksMoves now u rest from what
-      → (v : Upto) × BreaksMoves start v bytes from what
 
-none_read : (bytes : List ℕ) → bytes ≡ drop (length bytes - length bytes) bytes
-none_read bytes = let none : length bytes - length bytes ≡ 0 = omega arith in rw none refl
+pub HasCounted-none : (start : Place) (bytes : List ℕ) → HasCounted start bytes start bytes 0
+HasCounted-none start bytes = record { tokens = []; followed = HasFollowed-none start bytes; count = refl; few = omega arith }
 
-pub HasFollowed-none : (start : Place) (bytes : List ℕ) → HasFollowed start bytes start bytes 0
-HasFollowed-none start bytes = record {
-  within = omega arith;
-  left = none_read bytes;
-  few = omega arith;
-  spells = λ n behind h. let sum : n ≡ 0 + n = omega arith in subst (λ (k : ℕ). Spelled start bytes behind k) sum h;
-  breaks = λ u from what h. (u, h);
-}
+comments_in-append : (ts more : List Token) → comments_in (ts ++ more) ≡ comments_in ts + comments_in more
+comments_in-append [] more = omega arith
+comments_in-append (Play m ∷ ts) more = comments_in-append ts more
+comments_in-append (Nag n ∷ ts) more = comments_in-append ts more
+comments_in-append (Comment ∷ ts) more = omega (arith, comments_in-append ts more)
+comments_in-append (Open ∷ ts) more = comments_in-append ts more
+comments_in-append (Close ∷ ts) more = comments_in-append ts more
+comments_in-append (End ∷ ts) more = comments_in-append ts more
 
-module _ (start : Place) (bytes : List ℕ) (now : Place) (rest : List ℕ) (comments : ℕ) (has : HasFollowed start bytes now rest comments)
-    (used : ℕ) (fits : used ≤ length rest) (some : 0 < used) where
-  played : (m : Move) → Takes now rest (Play m) (drop used rest) → HasFollowed start bytes (after_move now m) (drop used rest) comments
-  played m takes = record {
-    within = omega (arith, has.within, length-drop used rest);
-    left = left-drop bytes rest used has.within fits has.left;
-    few = omega (arith, has.few, length-drop used rest);
-    spells = λ n behind h.
-        has.spells n behind (record { movetext = move m h.movetext; spells = (drop used rest, takes, h.spells); count = h.count });
-    breaks = λ u from what h. has.breaks (past_move m u) from what (drop used rest, takes, h);
-  }
-
-  nagged : (number : ℕ) → Takes now rest (Nag number) (drop used rest) → HasFollowed start bytes now (drop used rest) comments
-  nagged number takes = record {
-    within = omega (arith, has.within, length-drop used rest);
-    left = left-drop bytes rest used has.within fits has.left;
-    few = omega (arith, has.few, length-drop used rest);
-    spells = λ n behind h.
-        has.spells n behind (record { movetext = nag number h.movetext; spells = (drop used rest, takes, h.spells); count = h.count });
-    breaks = λ u from what h. has.breaks (past_nag number u) from what (drop used rest, takes, h);
-  }
-
-  noted : Takes now rest Comment (drop used rest) → HasFollowed start bytes (after_comment now) (drop used rest) (comments + 1)
-  noted takes = record {
-    within = omega (arith, has.within, length-drop used rest);
-    left = left-drop bytes rest used has.within fits has.left;
-    few = omega (arith, has.few, some, fits, length-drop used rest);
-    spells = λ n behind h.
-        let sum : comments + (1 + n) ≡ comments + 1 + n = omega arith in
-        subst (λ (k : ℕ). Spelled start bytes behind k) sum
-        (has.spells (1 + n) behind (record { movetext = comment [] h.movetext; spells = (drop used rest, takes, h.spells); count = omega (arith, h.count) }));
-    breaks = λ u from what h. has.breaks (past_comment u) from what (drop used rest, takes, h);
-  }
-
-  -- A variation inside the line, and its faults.
-  varied : (inner : List ℕ) (more : ℕ) (count : ℕ) → Takes now rest Open (drop used rest) → more ≤ length (drop used rest) → count ≤ more
-      → Spelled (variation_of now) (drop used rest) (drop more (drop used rest)) count
-      → HasFollowed start bytes now (drop more (drop used rest)) (comments + count)
-  varied inner more count takes fits' few' within = record {
-    within = omega (arith, has.within, length-drop used rest, length-drop more (drop used rest));
-    left = left-drop bytes (drop used rest) more (omega (arith, has.within, length-drop used rest)) fits' (left-drop bytes rest used has.within fits has.left);
-    few = omega (arith, has.few, some, fits, few', fits', length-drop used rest, length-drop more (drop used rest));
-    spells = λ n behind h.
-        let sum : comments + (count + n) ≡ comments + count + n = omega arith in
-        subst (λ (k : ℕ). Spelled start bytes behind k) sum
-        (has.spells (count + n) behind
-        (record {
-          movetext = variation within.movetext h.movetext;
-          spells = (drop used rest, takes, (drop more (drop used rest), within.spells, h.spells));
-          count = omega (arith, within.count, h.count, length-append (texts_of within.movetext) (texts_of h.movetext));
-        }));
-    breaks = λ u from what h.
-        has.breaks (past_variation within.movetext u) from what (drop used rest, takes, (drop more (drop used rest), within.spells, h));
-  }
-
-  in_variation : (u : Upto) (from : List ℕ) (what : RecordWhat) → Takes now rest Open (drop used rest)
-      → BreaksMoves (variation_of now) u (drop used rest) from what → (v : Upto) × BreaksMoves start v bytes from what
-  in_variation u from what takes breaks = has.breaks (inside u) from what (drop used rest, takes, breaks)
-
-  -- The end of the line.
-  closed : Takes now rest Close (drop used rest) → Spelled start bytes (drop used rest) comments
-  closed takes =
-      let sum : comments + 0 ≡ comments = omega arith in
-      subst (λ (k : ℕ). Spelled start bytes (drop used rest) k) sum
-      (has.spells 0 (drop used rest)
-      (record {
-        movetext = end;
-        spells = subst (λ (t : Token). Takes now rest t (drop used rest)) (sym (ending-inner now.depth takes.0)) takes;
-        count = refl;
-      }))
-
-  finished : Takes now rest End (drop used rest) → Spelled start bytes (drop used rest) comments
-  finished takes =
-      let sum : comments + 0 ≡ comments = omega arith in
-      subst (λ (k : ℕ). Spelled start bytes (drop used rest) k) sum
-      (has.spells 0 (drop used rest)
-      (record {
-        movetext = end;
-        spells = subst (λ (t : Token). Takes now rest t (drop used rest)) (sym (ending-main now.depth takes.0)) takes;
-        count = refl;
-      }))
+pub HasCounted-breaks : (start : Place) (bytes : List ℕ) (now : Place) (rest : List ℕ) (comments : ℕ) (what : RecordWhat)
+    → HasCounted start bytes now rest comments → FaultAt now rest what → (v : Upto) × BreaksMoves start v bytes rest what
+HasCounted-breaks start bytes now rest comments what has fault = HasFollowed-breaks start bytes now rest has.tokens what has.followed fault
 
 -- The same by the item that was read.
-module _ (start : Place) (bytes : List ℕ) (now : Place) (rest : List ℕ) (comments : ℕ) (has : HasFollowed start bytes now rest comments)
+module _ (start : Place) (bytes : List ℕ) (now : Place) (rest : List ℕ) (comments : ℕ) (has : HasCounted start bytes now rest comments)
     (used : ℕ) (fits : used ≤ length rest) (some : 0 < used) (t : Read) (takes : Takes now rest (token_of t) (drop used rest))
-    (after : Place) (after_is : after ≡ place_after now (token_of t)) (later : List ℕ) (later_is : later ≡ drop used rest) where
-  taken : (u : Read) → t ≡ u → Takes now rest (token_of u) (drop used rest)
-  taken u is = subst (λ (v : Read). Takes now rest (token_of v) (drop used rest)) is takes
+    (after : Place) (past : IsPast now (token_of t) after (drop used rest)) (later : List ℕ) (later_is : later ≡ drop used rest) where
+  left : length later + used ≡ length rest
+  left = omega (arith, ap (λ (l : List ℕ). length l) later_is, length-drop used rest, fits)
 
-  passed : (u : Read) → t ≡ u → after ≡ place_after now (token_of u)
-  passed u is = after_is ∙ ap (λ (v : Read). place_after now (token_of v)) is
+  counted : (ts : List Token) (more : ℕ) (last : List ℕ) → HasFollowed start bytes after last (has.tokens ++ ts) → comments_in ts ≡ more
+      → more + length last ≤ length rest → HasCounted start bytes after last (comments + more)
+  counted ts more last followed count few = record {
+    tokens = has.tokens ++ ts;
+    followed = followed;
+    count = omega (arith, has.count, count, comments_in-append has.tokens ts);
+    few = omega (arith, has.few, few);
+  }
 
-  pub by_move : (m : Move) → t ≡ read.Play m → HasFollowed start bytes after later comments
-  by_move m is = rw (passed (read.Play m) is, later_is) (played start bytes now rest comments has used fits some m (taken (read.Play m) is))
+  uncounted : (ts : List Token) → HasFollowed start bytes after later (has.tokens ++ ts) → comments_in ts ≡ 0 → HasCounted start bytes after later comments
+  uncounted ts followed none =
+      let sum : comments + 0 ≡ comments = omega arith in
+      subst (λ (n : ℕ). HasCounted start bytes after later n) sum (counted ts 0 later followed none (omega (arith, left)))
 
-  pub by_nag : (n : ℕ) → t ≡ read.Nag n → HasFollowed start bytes after later comments
-  by_nag n is = rw (passed (read.Nag n) is, later_is) (nagged start bytes now rest comments has used fits some n (taken (read.Nag n) is))
+  pub by_move : (m : Move) → t ≡ read.Play m → HasCounted start bytes after later comments
+  by_move m is = uncounted (Play m ∷ []) (line.by_move start bytes now rest has.tokens has.followed used fits t takes after past later later_is m is) refl
 
-  pub by_comment : t ≡ read.Comment → HasFollowed start bytes after later (comments + 1)
-  by_comment is = rw (passed read.Comment is, later_is) (noted start bytes now rest comments has used fits some (taken read.Comment is))
+  pub by_nag : (n : ℕ) → t ≡ read.Nag n → HasCounted start bytes after later comments
+  by_nag n is = uncounted (Nag n ∷ []) (line.by_nag start bytes now rest has.tokens has.followed used fits t takes after past later later_is n is) refl
+
+  pub by_comment : t ≡ read.Comment → HasCounted start bytes after later (comments + 1)
+  by_comment is =
+      counted (Comment ∷ []) 1 later (line.by_comment start bytes now rest has.tokens has.followed used fits t takes after past later later_is is) refl
+      (omega (arith, left, some))
 
   pub by_variation : t ≡ read.Open → (p : Place) → p ≡ variation_of after → (more count : ℕ) → more ≤ length later → count ≤ more
-      → (last : List ℕ) → last ≡ drop more later → LineSpelled p later more count → HasFollowed start bytes after last (comments + count)
-  by_variation is p p_is more count fits' few' last last_is line =
-      let inner : p ≡ variation_of now = p_is ∙ ap variation_of (passed read.Open is) in
-      let spells : SpellsMoves (variation_of now) line.0 (drop used rest) (drop more (drop used rest)) =
-      rw (← later_is) (subst (λ (q : Place). SpellsMoves q line.0 later (drop more later)) inner line.1.0) in
-      let size : length later ≡ length (drop used rest) = ap (λ (l : List ℕ). length l) later_is in
-      rw (passed read.Open is, last_is, later_is)
-      (varied start bytes now rest comments has used fits some [] more count (taken read.Open is) (omega (arith, fits', size)) few'
-      (record { movetext = line.0; spells = spells; count = line.1.1 }))
+      → (last : List ℕ) → last ≡ drop more later → LineChecked p later more count → HasCounted start bytes after last (comments + count)
+  by_variation is p p_is more count fits' few' last last_is checked =
+      let s = checked.0 in
+      let size : length last + more ≡ length later = omega (arith, ap (λ (l : List ℕ). length l) last_is, length-drop more later, fits') in
+      let inner : comments_in (tokens_then s [] ++ Close ∷ []) ≡ count =
+      omega (arith, comments_in-append (tokens_then s []) (Close ∷ []), comments-then s [], checked.1.1) in
+      counted (Open ∷ (tokens_then s [] ++ Close ∷ [])) count last
+      (line.by_variation start bytes now rest has.tokens has.followed used fits t takes after past later later_is is p p_is more fits' last last_is s checked.1.0)
+      inner (omega (arith, left, size, few'))
 
   pub by_fault : t ≡ read.Open → (p : Place) → p ≡ variation_of after → (breach : Breach)
       → Tells (λ from what. (u : Upto) × BreaksMoves p u later from what) breach
       → Tells (λ from what. (u : Upto) × BreaksMoves start u bytes from what) breach
-  by_fault is p p_is breach tells =
-      let inner : p ≡ variation_of now = p_is ∙ ap variation_of (passed read.Open is) in
-      let breaks : BreaksMoves (variation_of now) tells.2.0 (drop used rest) tells.0 breach.what =
-      rw (← later_is) (subst (λ (q : Place). BreaksMoves q tells.2.0 later tells.0 breach.what) inner tells.2.1) in
-      (tells.0, tells.1, in_variation start bytes now rest comments has used fits some tells.2.0 tells.0 breach.what (taken read.Open is) breaks)
+  by_fault is p p_is breach tells = (
+    tells.0,
+    tells.1,
+    line.by_fault start bytes now rest has.tokens has.followed used fits t takes after past later later_is is p p_is tells.2.0 tells.0 breach.what tells.2.1,
+  )
 
-  left_is : later ≡ drop (length bytes - length later) bytes
-  left_is = rw later_is (left-drop bytes rest used has.within fits has.left)
+  checked : LineSpelled start bytes (length bytes - length later) has.tokens → LineChecked start bytes (length bytes - length later) comments
+  checked spelled = (
+    spelled.0,
+    (spelled.1.0, omega (arith, comments-then spelled.0 [], ap comments_in spelled.1.1, has.count)),
+  )
 
-  pub by_close : t ≡ read.Close → LineSpelled start bytes (length bytes - length later) comments
-  by_close is =
-      let line = closed start bytes now rest comments has used fits some (taken read.Close is) in
-      (line.movetext, (subst (λ (l : List ℕ). SpellsMoves start line.movetext bytes l) (sym later_is ∙ left_is) line.spells, line.count))
+  pub by_close : t ≡ read.Close → LineChecked start bytes (length bytes - length later) comments
+  by_close is = checked (line.by_close start bytes now rest has.tokens has.followed used fits t takes after past later later_is is)
 
-  pub by_end : t ≡ read.End → LineSpelled start bytes (length bytes - length later) comments
-  by_end is =
-      let line = finished start bytes now rest comments has used fits some (taken read.End is) in
-      (line.movetext, (subst (λ (l : List ℕ). SpellsMoves start line.movetext bytes l) (sym later_is ∙ left_is) line.spells, line.count))
-
-pub HasFollowed-breaks : (start : Place) (bytes : List ℕ) (now : Place) (rest : List ℕ) (comments : ℕ) (what : RecordWhat)
-    → HasFollowed start bytes now rest comments → FaultAt now rest what → (v : Upto) × BreaksMoves start v bytes rest what
-HasFollowed-breaks start bytes now rest comments what has fault = has.breaks here rest what (refl, fault)
+  pub by_end : t ≡ read.End → LineChecked start bytes (length bytes - length later) comments
+  by_end is = checked (line.by_end start bytes now rest has.tokens has.followed used fits t takes after past later later_is is)
 
 -- The whole record, and its faults by their parts.
 
 module _ (bytes behind_tags behind_start behind_moves : List ℕ) (all : List Tag) (start : Numbered) (tags_first : BeginsTags bytes all behind_tags)
     (then_start : BeginsStart behind_tags start behind_start) where
-  pub some_record : (n : ℕ) → Spelled (beginning 0 start) behind_start behind_moves n → AreSomeTexts n behind_moves → IsSomeRecord bytes
+  pub some_record : (n : ℕ) → Checked (beginning 0 start) behind_start behind_moves n → AreSomeTexts n behind_moves → IsSomeRecord bytes
   some_record n line texts =
       let flat = movetext-scans start line.movetext behind_start behind_moves line.spells in
       let found = scans-movetext start flat.0 behind_start behind_moves flat.1.0 texts.0 in
@@ -252,7 +182,7 @@ module _ (bytes behind_tags behind_start behind_moves : List ℕ) (all : List Ta
     }))),
   )
 
-  pub texts_broken : (n : ℕ) (breach : Breach) → Spelled (beginning 0 start) behind_start behind_moves n
+  pub texts_broken : (n : ℕ) (breach : Breach) → Checked (beginning 0 start) behind_start behind_moves n
       → Tells (BreaksTexts n behind_moves) breach → Tells (Breaks bytes) breach
   texts_broken n breach line tells = (
     tells.0,

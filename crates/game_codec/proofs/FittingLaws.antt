@@ -1,12 +1,12 @@
 -- The items that were read may be added to a tree one after the other.
 use Rattle.std.proofs.Common.{◌≡◌, ◌≢◌, ℕ, ◌+◌, ◌<◌, Bool, true, false, List, [], ◌∷◌, Option, Some, None, length, get_or, drop, refl, sym, ap, subst, ◌∙◌, arith}
-use Rattle.std.specs.Prelude.{IsTrue, IsSome}
+use Rattle.std.specs.Prelude.{IsSome}
 use Rattle.std.proofs.lemmas.List.{drop_more}
 use Rattle.game_tree.specs.Tree.{Played, Variation}
 use Rattle.game_tree.specs.Building.{Open as Line, Building, opening, with_nag_on, with_comment_on, with_variation_on, closed}
 use Rattle.game_tree.specs.Movetext.{as_comment}
 use Rattle.game_codec.specs.Place.{Place}
-use Rattle.game_codec.specs.Scanning.{Nest, Stop, Scans, nest_of}
+use Rattle.game_codec.specs.Scanning.{Stop, Scans, nest_of}
 use Rattle.move_codec.specs.Numbers.{Numbered}
 use Rattle.game_codec.specs.Adding.{Adds}
 use Rattle.game_codec.specs.Fitting.{MayAdd, Fit, HasMoves, HaveMoves}

@@ -7,9 +7,10 @@ pub mod TagsSoFar
 pub mod StartLaws
 pub mod TextLaws
 pub mod ItemLaws
-pub mod ScanSteps
 pub mod ScanLaws
 pub mod MovetextLaws
+pub mod KeptLaws
+pub mod LineLaws
 pub mod FittingLaws
 pub mod BuildLaws
 pub mod LegalLaws

@@ -7,7 +7,7 @@ use Rattle.move_codec.specs.Numbers.{Numbered}
 use Rattle.game_codec.specs.Place.{Place, Takes, ending, beginning, after_move, after_comment, variation_of}
 use Rattle.game_codec.specs.Moves.{SpellsMoves, Upto, here, past_move, past_nag, past_comment, past_variation, inside, BreaksMoves}
 use Rattle.game_codec.specs.Texts.{texts_of}
-use Rattle.game_codec.specs.Scanning.{Nest, nest_of, Stop, Scans, comments_in, dealt}
+use Rattle.game_codec.specs.Scanning.{Nest, nest_of, Stop, Scans, comments_in, dealt, tokens_then}
 use Rattle.game_codec.specs.Token.{Token, Play, Nag, Comment, Open, Close, End}
 use Rattle.game_codec.specs.declared.fault.RecordWhat.{RecordWhat}
 
@@ -26,14 +26,6 @@ pub ending-main : (d : ℕ) → d ≡ 0 → ending d ≡ End
 ending-main d h = ap ending h
 
 -- From a movetext to the items
-
--- The items of a movetext, and others behind them.
-abbrev tokens_then : Movetext → List Token → List Token
-tokens_then end more = more
-tokens_then (move m s) more = Play m ∷ tokens_then s more
-tokens_then (nag n s) more = Nag n ∷ tokens_then s more
-tokens_then (comment text s) more = Comment ∷ tokens_then s more
-tokens_then (variation inner s) more = Open ∷ tokens_then inner (Close ∷ tokens_then s more)
 
 Scans-then : (p : Place) (outer : List Place) (s : Movetext) (bytes rest : List ℕ) (more : List Token) (halt : Stop) → SpellsMoves p s bytes rest → ((q : Place) (last : List ℕ) → Takes q last (ending p.depth) rest → Scans (nest q outer) last more halt) → Scans (nest p outer) bytes (tokens_then s more) halt
 Scans-then p outer end bytes rest more halt spells behind = behind p bytes spells
@@ -62,7 +54,7 @@ dealt-then (variation inner s) more texts =
     ∙ ap (λ (is : List Item). items_of inner ++ item.closes ∷ is) (dealt-then s more texts)
     ∙ sym (append_assoc (items_of inner) (item.closes ∷ items_of s) (dealt more texts)))
 
-comments-then : (s : Movetext) (more : List Token) → comments_in (tokens_then s more) ≡ length (texts_of s) + comments_in more
+pub comments-then : (s : Movetext) (more : List Token) → comments_in (tokens_then s more) ≡ length (texts_of s) + comments_in more
 comments-then end more = omega arith
 comments-then (move m s) more = comments-then s more
 comments-then (nag n s) more = comments-then s more
@@ -70,14 +62,16 @@ comments-then (comment text s) more = omega (arith, comments-then s more)
 comments-then (variation inner s) more =
     omega (arith, comments-then inner (Close ∷ tokens_then s more), comments-then s more, length-append (texts_of inner) (texts_of s))
 
+pub spelled-scans : (start : Numbered) (s : Movetext) (bytes rest : List ℕ) → SpellsMoves (beginning 0 start) s bytes rest → Scans (nest_of start) bytes (tokens_then s []) (Ok rest)
+spelled-scans start s bytes rest spells = Scans-then (beginning 0 start) [] s bytes rest [] (Ok rest) spells (λ q last takes. takes)
+
 pub movetext-scans : (start : Numbered) (s : Movetext) (bytes rest : List ℕ) → SpellsMoves (beginning 0 start) s bytes rest → (tokens : List Token) × (Scans (nest_of start) bytes tokens (Ok rest) × ((dealt tokens (texts_of s) ≡ items_of s) × (comments_in tokens ≡ length (texts_of s))))
 movetext-scans start s bytes rest spells =
-    let scans : Scans (nest_of start) bytes (tokens_then s []) (Ok rest) = Scans-then (beginning 0 start) [] s bytes rest [] (Ok rest) spells (λ q last takes. takes) in
     let items : dealt (tokens_then s []) (texts_of s) ≡ items_of s =
     ap (dealt (tokens_then s [])) (sym (append-nil (texts_of s))) ∙ dealt-then s [] [] ∙ append-nil (items_of s)
     in
     let count : comments_in (tokens_then s []) ≡ length (texts_of s) = omega (arith, comments-then s []) in
-    (tokens_then s [], (scans, (items, count)))
+    (tokens_then s [], (spelled-scans start s bytes rest spells, (items, count)))
 
 pub breaks-scans : (start : Numbered) (u : Upto) (bytes rest : List ℕ) (w : RecordWhat) → BreaksMoves (beginning 0 start) u bytes rest w → (tokens : List Token) × Scans (nest_of start) bytes tokens (Err (rest, w))
 breaks-scans start u bytes rest w breaks = scanned (beginning 0 start) [] u bytes breaks

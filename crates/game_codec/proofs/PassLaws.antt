@@ -6,7 +6,7 @@ use Rattle.cell_core.specs.declared.step.Move.{Move}
 use Rattle.move_codec.specs.Numbers.{Numbered}
 use Rattle.game_codec.specs.Place.{IsMoveDue}
 use Rattle.game_codec.specs.Walking.{GoesOn, Within}
-use Rattle.game_codec.proofs.ScanSteps.{left-drop}
+use Rattle.game_codec.proofs.LineLaws.{left-drop}
 
 -- In a variation so many of them are open.
 pub record HasPassed (bytes rest : List ℕ) (depth : ℕ) : Type 0 where

@@ -15,7 +15,7 @@ use Rattle.game_codec.specs.Token.{Token}
 use Rattle.game_codec.proofs.MovetextLaws.{scans-movetext}
 
 -- What a refusal tells of a part it tells of the whole.
-tells_on : (P Q : List ℕ → RecordWhat → Type 0) (refusal : Refusal) → ((rest : List ℕ) (w : RecordWhat) → P rest w → Q rest w) → TellsBad P refusal → TellsBad Q refusal
+pub tells_on : (P Q : List ℕ → RecordWhat → Type 0) (refusal : Refusal) → ((rest : List ℕ) (w : RecordWhat) → P rest w → Q rest w) → TellsBad P refusal → TellsBad Q refusal
 tells_on P Q (Bad breach) on tells = (tells.0, tells.1, on tells.0 breach.what tells.2)
 tells_on P Q Memory on tells = tt
 

@@ -4,11 +4,11 @@ use Rattle.std.specs.Prelude.{fold, slice_get}
 use Rattle.std.proofs.lemmas.List.{drop-drop}
 use Rattle.cell_core.specs.declared.step.Move.{Move}
 use Rattle.chess_laws.specs.declared.setup.Setup.{Setup}
-use Rattle.chess_laws.specs.Step.{Step}
+use Rattle.chess_laws.specs.Step.{Step, stepped}
 use Rattle.game_tree.specs.Game.{GameTree}
-use Rattle.game_tree.specs.Replay.{main_moves, next_at, stepped}
+use Rattle.game_tree.specs.Replay.{main_moves, next_at}
 use Rattle.game_tree.specs.declared.head.Tag.{Tag}
-use Rattle.game_tree.proofs.LegalLemmas.{Step-stepped}
+use Rattle.chess_laws.proofs.Stepping.{Step-stepped}
 use Rattle.move_codec.specs.declared.fault.MoveFault.{MoveFault}
 use Rattle.move_codec.specs.Numbers.{Numbered}
 use Rattle.move_codec.specs.Packed.{Decodes}

@@ -1,10 +1,8 @@
--- A place, the open lines and the items as the code keeps them. No public contract cites these words.
-use Rattle.std.specs.Prelude.{true, false, List, [], ◌∷◌, Option, Some, None}
-use Rattle.cell_core.specs.declared.step.Move.{Move}
-use Rattle.chess_laws.specs.Step.{Legal}
+-- A place and the items as the code keeps them. No public contract cites these words.
+use Rattle.std.specs.Prelude.{◌≡◌, ◌⊎◌, ℕ, List, [], ◌∷◌, drop}
 use Rattle.move_codec.specs.Numbers.{Numbered}
 use Rattle.game_codec.specs.Token.{Token, Play, Nag, Comment, Open, Close, End}
-use Rattle.game_codec.specs.Place.{Place, numbered_after, after_move, after_comment}
+use Rattle.game_codec.specs.Place.{Place, after_move, after_comment}
 use Rattle.game_codec.specs.declared.token.Token.{Token as Read}
 use Rattle.game_codec.specs.declared.token.Token.TheVariants as read
 
@@ -21,25 +19,32 @@ abbrev pub tokens_of : List Read → List Token
 tokens_of [] = []
 tokens_of (token ∷ tokens) = token_of token ∷ tokens_of tokens
 
--- The position that was reached, by the one before the last move: that move is played only where the next item needs it.
-abbrev pub reached : Numbered → Option Move → Numbered
-reached before None = before
-reached before (Some m) = numbered_after before m
+-- The place with another position before its last move.
+abbrev pub with_before : Numbered → Place → Place
+with_before n p = record { depth = p.depth; before = n; here = p.here; has_move = p.has_move; has_comment = p.has_comment }
 
--- The last move is legal.
-abbrev pub IsPlayable : Numbered → Option Move → Type 0
-IsPlayable before None = Unit {0}
-IsPlayable before (Some m) = Legal before.position m
+-- A mark of what hangs on a move: a NAG, a comment, or the beginning of a variation.
+abbrev pub Hangs : ℕ → Type 0
+Hangs byte = (byte ≡ 11) ⊎ ((byte ≡ 12) ⊎ (byte ≡ 13))
 
--- The place behind a move from the position before it.
-abbrev pub holding : Place → Move → Place
-holding p m = record { depth = p.depth; before = p.before; here = numbered_after p.before m; has_move = true; has_comment = false }
+-- The bytes begin with no such mark.
+abbrev pub IsCalm : List ℕ → Type 0
+IsCalm [] = Unit {0}
+IsCalm (byte ∷ later) = Hangs byte → ⊥
 
--- The place behind an item in the item's own line.
-abbrev pub place_after : Place → Token → Place
-place_after p (Play m) = after_move p m
-place_after p (Nag n) = p
-place_after p Comment = after_comment p
-place_after p Open = p
-place_after p Close = p
-place_after p End = p
+-- No such mark stands behind a move of one byte or of two.
+abbrev pub IsCalmBehind : List ℕ → Type 0
+IsCalmBehind bytes = IsCalm (drop 1 bytes) × IsCalm (drop 2 bytes)
+
+-- The code's place is this one. Where nothing hangs on the last move the code does not keep the position before it.
+abbrev pub IsKept : Place → Place → List ℕ → Type 0
+IsKept p code bytes = (code ≡ p) ⊎ ((code ≡ with_before code.before p) × IsCalm bytes)
+
+-- The code's place behind an item in the item's own line, with the bytes that follow.
+abbrev pub IsPast : Place → Token → Place → List ℕ → Type 0
+IsPast p (Play m) code later = IsKept (after_move p m) code later
+IsPast p (Nag n) code later = code ≡ p
+IsPast p Comment code later = code ≡ after_comment p
+IsPast p Open code later = code ≡ p
+IsPast p Close code later = code ≡ p
+IsPast p End code later = code ≡ p

@@ -2,7 +2,7 @@
 use Rattle.std.specs.Prelude.{◌≡◌, ℕ, suc, List, [], ◌∷◌, Result, Ok, Err}
 use Rattle.game_tree.specs.Item.{Item}
 use Rattle.game_tree.specs.Item as item
-use Rattle.game_tree.specs.Movetext.{Movetext, items_of}
+use Rattle.game_tree.specs.Movetext.{Movetext, end, move, nag, comment, variation, items_of}
 use Rattle.move_codec.specs.Numbers.{Numbered}
 use Rattle.game_codec.specs.Place.{Place, Takes, FaultAt, beginning, after_move, after_comment, variation_of}
 use Rattle.game_codec.specs.Token.{Token, Play, Nag, Comment, Open, Close, End}
@@ -61,6 +61,14 @@ comments_in (Comment ∷ tokens) = suc (comments_in tokens)
 comments_in (Open ∷ tokens) = comments_in tokens
 comments_in (Close ∷ tokens) = comments_in tokens
 comments_in (End ∷ tokens) = comments_in tokens
+
+-- The items of a movetext, and others behind them.
+abbrev pub tokens_then : Movetext → List Token → List Token
+tokens_then end more = more
+tokens_then (move m s) more = Play m ∷ tokens_then s more
+tokens_then (nag n s) more = Nag n ∷ tokens_then s more
+tokens_then (comment text s) more = Comment ∷ tokens_then s more
+tokens_then (variation inner s) more = Open ∷ tokens_then inner (Close ∷ tokens_then s more)
 
 -- The items of a tree, with the texts of their comments dealt out in order.
 abbrev pub dealt : List Token → List (List ℕ) → List Item

@@ -39,7 +39,7 @@ pub(crate) fn build(alloc: Global, tokens: &[Token], bytes: &[u8]) -> Result<Bra
             what: RecordWhat::Extra,
         }));
     }
-    Ok(builder.finish()?)
+    Ok(builder.finish(alloc)?)
 }
 
 // Adds an item, a comment with the text that the bytes begin with, and gives how many bytes of the texts it took.
@@ -52,9 +52,9 @@ fn add(alloc: Global, builder: &mut Builder, token: &Token, bytes: &[u8]) -> Res
     match *token {
         Token::Comment => return add_comment(alloc, builder, bytes),
         Token::Play(m) => builder.play(alloc, m)?,
-        Token::Nag(nag) => builder.nag(nag)?,
+        Token::Nag(nag) => builder.nag(alloc, nag)?,
         Token::Open => builder.open(alloc)?,
-        Token::Close => builder.close()?,
+        Token::Close => builder.close(alloc)?,
         Token::End => {}
     }
     Ok(0)
@@ -73,6 +73,6 @@ fn add_comment(alloc: Global, builder: &mut Builder, bytes: &[u8]) -> Result<usi
         }));
     };
     let text = Text::from_zero_free(Vec::from_slice(alloc, bytes.split_at(len).0)?);
-    builder.comment(text)?;
+    builder.comment(alloc, text)?;
     Ok(len + 1)
 }

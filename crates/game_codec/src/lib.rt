@@ -10,7 +10,6 @@ mod encoding;
 mod fault;
 mod moves;
 mod one_reading;
-mod open_lines;
 mod passing;
 mod place;
 mod round_trip;

@@ -1,38 +1,34 @@
 //! A place in a line of a record's moves, as it is while they are read.
-ghost use Rattle.std.specs.Prelude.{◌≡◌, ◌+◌, ◌<◌, ◌≤◌, length, drop, IfOk, IfErr};
+ghost use Rattle.std.specs.Prelude.{◌≡◌, ◌+◌, ◌<◌, ◌≤◌, ◌⊎◌, ◌↔◌, IsTrue, length, drop, IfOk, IfErr};
+ghost use Rattle.std.specs.Bool.{OnFalse};
 ghost use Rattle.game_tree.specs.Legal.{deepest};
 ghost use Rattle.game_codec.specs.Place.{beginning, variation_of, after_comment, FaultAt, IsMoveDue, Takes};
-ghost use Rattle.chess_laws.specs.Step.{Legal};
-ghost use Rattle.game_codec.specs.Nests.{holding, place_after, token_of};
+ghost use Rattle.game_codec.specs.Nests.{Hangs, IsCalm, IsCalmBehind, IsPast, token_of, with_before};
 
 use super::fault::RecordWhat;
 use super::token::Token;
 use super::tokens::NextToken;
-use cell_core::Move;
 use move_codec::Numbered;
 use std::marker::Model;
 
-/// A place in a line: how many variations are open there, the position before the last move, that move where the line has
-/// one, and whether a comment stands at the place.
+/// A place in a line: how many variations are open there, the position before the last move and the one behind it, whether
+/// the line has a move yet, and whether a comment stands at the place. The position before the last move is kept only where
+/// a variation of that move may begin.
 #[derive(Drop)]
 pub(crate) struct Place {
     depth: u32,
     before: Numbered,
-    // It is played only where the next item needs the position behind it.
-    last: Option<Move>,
+    here: Numbered,
+    has_move: bool,
     has_comment: bool,
 }
 
 impl Model for Place {
-    ghost use Rattle.std.specs.Prelude.{is_some};
     ghost use Rattle.game_codec.specs.Place.{Place as Spot};
-    ghost use Rattle.game_codec.specs.Nests.{reached, IsPlayable};
 
     ghost Value = { Spot };
 
-    ghost view = { λ p. record { depth = p.depth; before = p.before; here = reached p.before p.last; has_move = is_some p.last; has_comment = p.has_comment } };
-
-    ghost invariant = { λ p. IsPlayable p.before p.last };
+    ghost view = { λ p. record { depth = p.depth; before = p.before; here = p.here; has_move = p.has_move; has_comment = p.has_comment } };
 }
 
 impl Place {
@@ -43,7 +39,8 @@ impl Place {
         Place {
             depth,
             before: start.copy(),
-            last: None,
+            here: start.copy(),
+            has_move: false,
             has_comment: false,
         }
     }
@@ -67,7 +64,7 @@ impl Place {
     pub(crate) fn has_move(&self) -> bool
         ensures has { result ≡ self.now.has_move }
     {
-        self.last.is_some()
+        self.has_move
     }
 
     /// Whether a comment stands here.
@@ -89,13 +86,14 @@ impl Place {
         requires due { IsMoveDue bytes.now }
         ensures takes { IfOk result (λ next. Takes self.old bytes.now (token_of next.token) (drop next.used bytes.now)) }
         ensures used { IfOk result (λ next. (0 < next.used) × (next.used ≤ length bytes.now)) }
-        ensures after { IfOk result (λ next. self.new ≡ place_after self.old (token_of next.token)) }
+        ensures past { IfOk result (λ next. IsPast self.old (token_of next.token) self.new (drop next.used bytes.now)) }
         ensures fault { IfErr result (FaultAt self.old bytes.now) }
     {
-        self.play_last();
-        match self.before.decode_move(bytes) {
+        self.keep_before(bytes);
+        match self.here.advance(bytes) {
             Ok((m, used)) => {
-                self.hold(&m);
+                self.has_move = true;
+                self.has_comment = false;
                 Ok(NextToken {
                     token: Token::Play(m),
                     used: usize::from(used),
@@ -105,26 +103,55 @@ impl Place {
         }
     }
 
-    // Goes on behind a move, which is not played yet.
-    fn hold(&mut self, m: &Move)
-        requires legal { Legal self.old.before.position m.now }
-        ensures after { self.new ≡ holding self.old m.now }
+    // Keeps the position as the one before the next move, where a variation of that move may follow.
+    fn keep_before(&mut self, bytes: &[u8])
+        ensures same { self.new ≡ with_before self.new.before self.old }
+        ensures kept { (self.new.before ≡ self.old.here) ⊎ IsCalmBehind bytes.now }
     {
-        self.last = Some(Move {
-            from: m.from,
-            to: m.to,
-            promo: m.promo,
-        });
-        self.has_comment = false;
-    }
-
-    // Plays the last move, so that the position that was reached stands as the one before the next.
-    fn play_last(&mut self)
-        ensures depth { self.new.depth ≡ self.old.depth }
-        ensures before { self.new.before ≡ self.old.here }
-    {
-        if let Some(m) = self.last.take() {
-            self.before.play(m);
+        if hangs_behind(bytes) {
+            self.before = self.here.copy();
         }
     }
+}
+
+// Whether a mark of what hangs on a move may follow the move that the bytes begin with, which takes one of them or two.
+fn hangs_behind(bytes: &[u8]) -> bool
+    ensures calm { OnFalse result (IsCalmBehind bytes.now) }
+{
+    match bytes {
+        [] => false,
+        [_, behind @ ..] => hangs_soon(behind),
+    }
+}
+
+// Whether one of the first two bytes is a mark of what hangs on a move.
+fn hangs_soon(bytes: &[u8]) -> bool
+    ensures calm { OnFalse result (IsCalm bytes.now × IsCalm (drop 1 bytes.now)) }
+{
+    match bytes {
+        [] => false,
+        [byte, behind @ ..] => {
+            if hangs(*byte) {
+                return true;
+            }
+            hangs_first(behind)
+        }
+    }
+}
+
+// Whether the first byte is a mark of what hangs on a move.
+fn hangs_first(bytes: &[u8]) -> bool
+    ensures calm { OnFalse result (IsCalm bytes.now) }
+{
+    match bytes {
+        [] => false,
+        [byte, ..] => hangs(*byte),
+    }
+}
+
+// Whether a byte is a mark of what hangs on a move: a NAG, a comment, or the beginning of a variation.
+fn hangs(byte: u8) -> bool
+    ensures hangs { IsTrue result ↔ Hangs byte }
+{
+    byte == 11 || byte == 12 || byte == 13
 }

@@ -3,7 +3,9 @@ ghost use Rattle.std.specs.Prelude.{All, IfOk};
 ghost use Rattle.game_tree.specs.Head.{IsTag};
 ghost use Rattle.game_tree.specs.Legal.{IsLegalGame};
 
-use super::{DecodeError, EncodeError, RecordFault, RecordWhat, Walk, decode_game, encode_game};
+use super::{
+    DecodeError, EncodeError, RecordFault, RecordWhat, Walk, decode_game, encode_game, first_fault,
+};
 use cell_core::Text;
 use chess_laws::Position;
 use game_tree::{Game, Node, Tag};
@@ -145,8 +147,8 @@ fn marks_stand_in_any_order(rt: HostRuntime) {
 }
 
 // Records in another form, and their written form: NAGs before and behind a variation; comments of a move and of its
-// variation; comments without a text; every coded name, two of them reserved, and a packed date; a tag of a reserved name; the FEN of the initial
-// position, with the numbers of its order; flags that are not looked at.
+// variation; comments without a text; every coded name, two of them reserved, and a packed date; a tag of a reserved name;
+// the FEN of the initial position, with the numbers of its order; flags that are not looked at.
 const OTHERWISE: [(&[u8], &[u8]); 9] = [
     (
         b"\x00\x00\xcf\x0c\x0b\x01\x0d\xbf\x0e\x0b\x0e\x0fx\x00",
@@ -367,11 +369,6 @@ fn one_byte_more(rt: HostRuntime) -> Result<(), Fail> {
     Ok(())
 }
 
-// The walk over a record of at most a thousand bytes.
-fn walk<'a>(bytes: &'a [u8]) -> Result<Walk<'a>, RecordFault> {
-    Walk::new(bytes.split_at(bytes.len().min(1000)).0)
-}
-
 // Whether the next move of a walk goes from the one square to the other.
 fn plays(walk: &mut Walk<'_>, from: u8, to: u8) -> bool {
     match walk.step() {
@@ -380,31 +377,110 @@ fn plays(walk: &mut Walk<'_>, from: u8, to: u8) -> bool {
     }
 }
 
-// `1. e4 (1. d4 $14 d5 $15) 1... e5`.
-const VARIED: &[u8] = b"\x00\x00\xcf\x0d\xbf\x0b\x0e\xbf\x0b\x0f\x0e\xcf\x0f";
+// Whether a walk over at most a thousand bytes plays these moves, and then ends or meets this fault.
+fn walks(bytes: &[u8], moves: &[(u8, u8)], fault: Option<RecordFault>) -> bool {
+    let Ok(mut walk) = Walk::new(bytes.split_at(bytes.len().min(1000)).0) else {
+        return false;
+    };
+    for (from, to) in moves {
+        if !plays(&mut walk, *from, *to) {
+            return false;
+        }
+    }
+    let ends = match fault {
+        None => Ok(None),
+        Some(fault) => Err(fault),
+    };
+    walk.ply() as usize == moves.len() && walk.step() == ends
+}
+
+// Bytes, the moves that a walk over them plays, and the fault that it meets behind them, if it meets one: NAGs in a
+// variation that look like marks; NAGs, comments and nested variations; an own start with a promotion; en passant; a queen's
+// diagonal move; comments in a variation; such a move in a variation, its second byte 64 more than a mark; a bad move in a
+// variation, which the walk does not see; one in the main line; and a record that ends early.
+const WALKS: [(&[u8], &[(u8, u8)], Option<RecordFault>); 10] = [
+    (
+        b"\x00\x00\xcf\x0d\xbf\x0b\x0e\xbf\x0b\x0f\x0e\xcf\x0f",
+        &[(12, 28), (52, 36)],
+        None,
+    ),
+    (NESTED, &[(12, 28), (52, 36)], None),
+    (
+        b"\x00\x037k/P7/8/8/8/8/8/KQQQ4 w - - 0 1\x00\x14\x0f",
+        &[(48, 56)],
+        None,
+    ),
+    (
+        b"\x00\x00\xcf\x61\xc1\xbf\xc0\xb1\x0f",
+        &[(12, 28), (62, 45), (28, 36), (51, 35), (36, 43), (55, 47)],
+        None,
+    ),
+    (
+        b"\x00\x00\xcf\xcf\x43\x67\x0f",
+        &[(12, 28), (52, 36), (3, 39)],
+        None,
+    ),
+    (
+        b"\x00\x00\xcf\x0d\x0c\xbf\x0c\xbf\x0e\xcf\x0fx\x00y\x00",
+        &[(12, 28), (52, 36)],
+        None,
+    ),
+    (
+        b"\x00\x00\xcf\xcf\xbf\x0d\x43\x4c\x0e\x0f",
+        &[(12, 28), (52, 36), (11, 27)],
+        None,
+    ),
+    (
+        b"\x00\x00\xcf\x0d\x10\x0e\xcf\x0f",
+        &[(12, 28), (52, 36)],
+        None,
+    ),
+    (
+        b"\x00\x00\xcf\x0a\x0f",
+        &[(12, 28)],
+        Some(RecordFault {
+            place: 3,
+            what: RecordWhat::Move(MoveFault::Illegal),
+        }),
+    ),
+    (
+        b"\x00\x00\xcf",
+        &[(12, 28)],
+        Some(RecordFault {
+            place: 3,
+            what: RecordWhat::Short,
+        }),
+    ),
+];
 
 #[test]
-fn walk_passes_a_variation(rt: HostRuntime) {
-    let Ok(mut walk) = walk(VARIED) else {
-        assert!(rt; false, "it is a record");
-        return;
-    };
-    assert!(rt; plays(&mut walk, 12, 28), "e4");
-    assert!(rt; plays(&mut walk, 52, 36), "e5");
-    assert!(rt; walk.step() == Ok(None), "the game ends");
-    assert!(rt; walk.ply() == 2, "two half-moves");
+fn walks_along_main_lines(rt: HostRuntime) {
+    for (bytes, moves, fault) in WALKS {
+        assert!(rt; walks(bytes, moves, fault), "the moves and the end");
+    }
 }
 
 #[test]
-fn walk_ends_early(rt: HostRuntime) {
-    let Ok(mut walk) = walk(b"\x00\x00\xcf") else {
-        assert!(rt; false, "its tags and its start are there");
-        return;
-    };
-    assert!(rt; plays(&mut walk, 12, 28), "e4");
-    let short = RecordFault {
-        place: 3,
-        what: RecordWhat::Short,
-    };
-    assert!(rt; walk.step() == Err(short), "the record ends");
+fn walk_passes_two_hundred_variations(rt: HostRuntime) -> Result<(), Fail> {
+    let bytes = nested(rt.alloc(), 200)?;
+    assert!(rt; walks(bytes.as_slice(), &[(12, 28)], None), "one move");
+    Ok(())
+}
+
+// The first fault of at most a thousand bytes.
+fn checked(bytes: &[u8]) -> Option<RecordFault> {
+    first_fault(bytes.split_at(bytes.len().min(1000)).0)
+}
+
+#[test]
+fn check_without_a_tree(rt: HostRuntime) {
+    for record in WRITTEN {
+        assert!(rt; checked(record) == None, "it is a record");
+    }
+    for (bytes, place, what) in FAULTY {
+        assert!(rt;
+            checked(bytes) == Some(RecordFault { place, what }),
+            "the fault"
+        );
+    }
 }

@@ -1,7 +1,7 @@
 //! The next item of a record's moves.
 ghost use Rattle.std.specs.Prelude.{◌≡◌, ◌<◌, ◌≤◌, ℕ, List, ◌∷◌, length, drop, IfOk, IfErr};
 ghost use Rattle.game_codec.specs.Place.{Takes, FaultAt};
-ghost use Rattle.game_codec.specs.Nests.{place_after, token_of};
+ghost use Rattle.game_codec.specs.Nests.{IsPast, token_of};
 
 use super::fault::RecordWhat;
 use super::place::Place;
@@ -20,7 +20,7 @@ pub(crate) struct NextToken {
 pub(crate) fn next_token(place: &mut Place, bytes: &[u8]) -> Result<NextToken, RecordWhat>
     ensures takes { IfOk result (λ next. Takes place.old bytes.now (token_of next.token) (drop next.used bytes.now)) }
     ensures used { IfOk result (λ next. (0 < next.used) × (next.used ≤ length bytes.now)) }
-    ensures after { IfOk result (λ next. place.new ≡ place_after place.old (token_of next.token)) }
+    ensures past { IfOk result (λ next. IsPast place.old (token_of next.token) place.new (drop next.used bytes.now)) }
     ensures fault { IfErr result (FaultAt place.old bytes.now) }
 {
     let [byte, behind @ ..] = bytes else {
@@ -40,7 +40,7 @@ pub(crate) fn next_token(place: &mut Place, bytes: &[u8]) -> Result<NextToken, R
 fn nag(place: &Place, behind: &[u8]) -> Result<NextToken, RecordWhat>
     ensures takes { IfOk result (λ next. Takes place.now (11 ∷ behind.now) (token_of next.token) (drop next.used (11 ∷ behind.now))) }
     ensures used { IfOk result (λ next. (next.used ≡ 2) × (1 ≤ length behind.now)) }
-    ensures same { IfOk result (λ next. place_after place.now (token_of next.token) ≡ place.now) }
+    ensures past { IfOk result (λ next. (behind : List ℕ) → IsPast place.now (token_of next.token) place.now behind) }
     ensures fault { IfErr result (FaultAt place.now (11 ∷ behind.now)) }
 {
     if !place.has_move() {
@@ -59,7 +59,7 @@ fn nag(place: &Place, behind: &[u8]) -> Result<NextToken, RecordWhat>
 fn comment(place: &mut Place) -> Result<NextToken, RecordWhat>
     ensures takes { IfOk result (λ next. (behind : List ℕ) → Takes place.old (12 ∷ behind) (token_of next.token) behind) }
     ensures used { IfOk result (λ next. next.used ≡ 1) }
-    ensures after { IfOk result (λ next. place.new ≡ place_after place.old (token_of next.token)) }
+    ensures past { IfOk result (λ next. (behind : List ℕ) → IsPast place.old (token_of next.token) place.new behind) }
     ensures fault { IfErr result (λ what. (behind : List ℕ) → FaultAt place.old (12 ∷ behind) what) }
 {
     if place.has_comment() {
@@ -77,7 +77,7 @@ fn comment(place: &mut Place) -> Result<NextToken, RecordWhat>
 fn opening(place: &Place) -> Result<NextToken, RecordWhat>
     ensures takes { IfOk result (λ next. (behind : List ℕ) → Takes place.now (13 ∷ behind) (token_of next.token) behind) }
     ensures used { IfOk result (λ next. next.used ≡ 1) }
-    ensures same { IfOk result (λ next. place_after place.now (token_of next.token) ≡ place.now) }
+    ensures past { IfOk result (λ next. (behind : List ℕ) → IsPast place.now (token_of next.token) place.now behind) }
     ensures fault { IfErr result (λ what. (behind : List ℕ) → FaultAt place.now (13 ∷ behind) what) }
 {
     if !place.has_move() {
@@ -96,7 +96,7 @@ fn opening(place: &Place) -> Result<NextToken, RecordWhat>
 fn closing(place: &Place) -> Result<NextToken, RecordWhat>
     ensures takes { IfOk result (λ next. (behind : List ℕ) → Takes place.now (14 ∷ behind) (token_of next.token) behind) }
     ensures used { IfOk result (λ next. next.used ≡ 1) }
-    ensures same { IfOk result (λ next. place_after place.now (token_of next.token) ≡ place.now) }
+    ensures past { IfOk result (λ next. (behind : List ℕ) → IsPast place.now (token_of next.token) place.now behind) }
     ensures fault { IfErr result (λ what. (behind : List ℕ) → FaultAt place.now (14 ∷ behind) what) }
 {
     if place.depth() == 0 {
@@ -113,7 +113,7 @@ fn closing(place: &Place) -> Result<NextToken, RecordWhat>
 fn end(place: &Place) -> Result<NextToken, RecordWhat>
     ensures takes { IfOk result (λ next. (behind : List ℕ) → Takes place.now (15 ∷ behind) (token_of next.token) behind) }
     ensures used { IfOk result (λ next. next.used ≡ 1) }
-    ensures same { IfOk result (λ next. place_after place.now (token_of next.token) ≡ place.now) }
+    ensures past { IfOk result (λ next. (behind : List ℕ) → IsPast place.now (token_of next.token) place.now behind) }
     ensures fault { IfErr result (λ what. (behind : List ℕ) → FaultAt place.now (15 ∷ behind) what) }
 {
     if place.depth() == 0 {

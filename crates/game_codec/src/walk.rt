@@ -137,22 +137,15 @@ fn next_move<'a>(here: &mut Numbered, bytes: &'a [u8]) -> Result<Option<NextMove
         return Ok(None);
     };
     let due = bytes.split_at(used).1;
-    match here.decode_move(due) {
+    match here.advance(due) {
         Err(fault) => Err(Breach {
             left: due.len(),
             what: RecordWhat::Move(fault),
         }),
-        Ok((m, taken)) => {
-            here.play(Move {
-                from: m.from,
-                to: m.to,
-                promo: m.promo,
-            });
-            Ok(Some(NextMove {
-                mv: m,
-                ahead: due.split_at(usize::from(taken)).1,
-            }))
-        }
+        Ok((m, taken)) => Ok(Some(NextMove {
+            mv: m,
+            ahead: due.split_at(usize::from(taken)).1,
+        })),
     }
 }
 

@@ -1,5 +1,5 @@
 -- What a search leaves in a filter. This project's own; the three ways are those of Scid's searches.
-use Rattle.std.specs.Prelude.{ℕ, Option, Some, None, Bool, true, is_some, is_none}
+use Rattle.std.specs.Prelude.{ℕ, List, [], ◌∷◌, Option, Some, None, Bool, true, is_some, is_none}
 use Rattle.game_filter.specs.declared.op.Op.{Op}
 use Rattle.game_filter.specs.declared.op.Op.TheVariants.{Ignore, And, Or}
 
@@ -12,6 +12,13 @@ entry_after And (Some _) first = first
 entry_after And None _ = None
 entry_after Or (Some old) _ = Some old
 entry_after Or None first = first
+
+-- A filter after a search, from the first matching plies of the games, one each, that were searched. The games behind them have their
+-- old entries.
+abbrev pub searched : Op → List (Option ℕ) → List (Option ℕ) → List (Option ℕ)
+searched op [] plies = plies
+searched op (first ∷ firsts) [] = []
+searched op (first ∷ firsts) (old ∷ plies) = entry_after op old first ∷ searched op firsts plies
 
 -- Whether the search looks at a game with this entry: at all games, at those in, at those out.
 abbrev pub looks_at : Op → Option ℕ → Bool

@@ -1,11 +1,9 @@
 -- What every game keeps stays while a line grows.
-use Rattle.std.proofs.Common.{◌≡◌, ℕ, ◌<◌, List, [], ◌∷◌, ◌++◌, Option, Some, None}
-use Rattle.std.specs.Prelude.{All}
+use Rattle.std.proofs.Common.{ℕ, ◌<◌, List, [], ◌∷◌, ◌++◌, Option, Some, None}
 use Rattle.std.proofs.lemmas.List.Elements.{All-push}
-use Rattle.cell_core.specs.Text.{IsZeroFree}
-use Rattle.game_tree.specs.Tree.{Line, ends, goes, Branches, none, more, Played, Variation, line_of, branches_of}
-use Rattle.game_tree.specs.Kept.{IsCommentText, AreNags, IsLine, AreBranches, IsPlayed, IsVariation}
-use Rattle.game_tree.specs.Building.{bare, and_last, with_branch, more_nags, more_comment, more_variations}
+use Rattle.game_tree.specs.Tree.{Played, Variation, line_of, branches_of}
+use Rattle.game_tree.specs.Kept.{AreNags, IsLine, AreBranches, IsPlayed, IsVariation}
+use Rattle.game_tree.specs.Building.{and_last}
 
 pub AreNags-push : (nags : List ℕ) (nag : ℕ) → AreNags nags → nag < 256 → AreNags (nags ++ nag ∷ [])
 AreNags-push nags nag are is = All-push (λ (n : ℕ). n < 256) nags nag are is

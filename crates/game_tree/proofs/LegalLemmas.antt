@@ -5,7 +5,7 @@ use Rattle.std.proofs.lemmas.List.{drop_more}
 use Rattle.cell_core.specs.declared.step.Move.{Move}
 use Rattle.chess_laws.specs.declared.setup.Setup.{Setup}
 use Rattle.chess_laws.specs.Step.{Step, stepped}
-pub use Rattle.chess_laws.proofs.Stepping.{Step-stepped}
+use Rattle.chess_laws.proofs.Stepping.{Step-stepped}
 use Rattle.game_tree.specs.Tree.{Line, ends, goes, Played, line_of, moves_of}
 use Rattle.game_tree.specs.Game.{GameTree}
 use Rattle.game_tree.specs.Replay.{plies_of, next_at, position_at}

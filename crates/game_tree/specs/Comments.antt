@@ -1,5 +1,5 @@
 -- A game with other texts in its comments (this project's own).
-use Rattle.std.specs.Prelude.{◌≡◌, ◌≢◌, List, [], ℕ, Option, option_map}
+use Rattle.std.specs.Prelude.{◌≢◌, List, [], ℕ, option_map}
 use Rattle.game_tree.specs.Tree.{Line, ends, goes, Branches, none, more}
 use Rattle.game_tree.specs.Game.{GameTree}
 

@@ -2,7 +2,7 @@
 use Rattle.std.specs.Prelude.{ℕ, List, Option, length, take, fold, slice_get}
 use Rattle.cell_core.specs.declared.step.Move.{Move}
 use Rattle.chess_laws.specs.declared.setup.Setup.{Setup}
-unfoldable pub use Rattle.chess_laws.specs.Step.{stepped}
+use Rattle.chess_laws.specs.Step.{stepped}
 use Rattle.game_tree.specs.Tree.{moves_of}
 use Rattle.game_tree.specs.Game.{GameTree}
 

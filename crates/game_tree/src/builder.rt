@@ -69,7 +69,7 @@ impl Builder {
     }
 
     /// Adds a NAG (numeric annotation glyph) to the last move of the innermost line, which has one (`has_move`).
-    pub fn nag(&mut self, nag: u8) -> Result<(), AllocError>
+    pub fn nag(&mut self, _alloc: Global, nag: u8) -> Result<(), AllocError>
         requires may { MayStand (item.nag nag) self.old }
         ensures added { OnOk result (self.new ≡ added (item.nag nag) self.old) }
     {
@@ -78,7 +78,7 @@ impl Builder {
 
     /// Adds a comment to the last move of the innermost line, or to the line's beginning where it has no move yet. An
     /// empty text is no comment. Comments at one place are joined with a space.
-    pub fn comment(&mut self, text: Text) -> Result<(), AllocError>
+    pub fn comment(&mut self, _alloc: Global, text: Text) -> Result<(), AllocError>
         ensures added { OnOk result (self.new ≡ added (item.comment text) self.old) }
     {
         self.current.comment(text)
@@ -95,7 +95,7 @@ impl Builder {
     }
 
     /// Ends the innermost variation, where one is open (`depth`).
-    pub fn close(&mut self) -> Result<(), AllocError>
+    pub fn close(&mut self, _alloc: Global) -> Result<(), AllocError>
         requires may { MayStand item.closes self.old }
         ensures added { OnOk result (self.new ≡ added item.closes self.old) }
     {
@@ -108,7 +108,7 @@ impl Builder {
 
     /// The line that was read, with the comment before its first move, where no variation is open. What was read from the
     /// items of a movetext alone is what the movetext means, and what was read from the items of a tree is that tree.
-    pub fn finish(self) -> Result<Branch, AllocError>
+    pub fn finish(self, _alloc: Global) -> Result<Branch, AllocError>
         requires whole { self.outer ≡ [] }
         ensures lead { IfOk result (λ read. read.lead ≡ self.current.lead) }
         ensures line { IfOk result (λ read. read.line ≡ read_line self.current) }

@@ -89,7 +89,7 @@ fn text(alloc: Global, bytes: &str) -> Result<Text, AllocError> {
 fn head(alloc: Global) -> Result<Head, AllocError> {
     let mut tags = Tags::new(alloc);
     let (name, value) = (text(alloc, "Source")?, text(alloc, "book")?);
-    tags.push(Tag { name, value })?;
+    tags.push(alloc, Tag { name, value })?;
     Ok(Head {
         white: text(alloc, "?")?,
         black: text(alloc, "?")?,

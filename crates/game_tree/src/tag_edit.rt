@@ -246,7 +246,7 @@ fn set_tag(alloc: Global, head: &mut Head, tag: &Tag) -> Result<(), AllocError>
 {
     let tag = tag.copied(alloc)?;
     if head.event_date.keeps_rule(head.date) {
-        head.tags.set_named(tag)?;
+        head.tags.set_named(alloc, tag)?;
         settle_in_place(head);
         return Ok(());
     }

@@ -55,7 +55,7 @@ impl Tags {
     }
 
     /// Adds `tag` as the last one. It fails only for want of memory, and then the tags are as before.
-    pub fn push(&mut self, tag: Tag) -> Result<(), AllocError>
+    pub fn push(&mut self, _alloc: Global, tag: Tag) -> Result<(), AllocError>
         ensures ok { OnOk result (self.new ≡ self.old ++ tag ∷ []) }
         ensures err { OnErr result (self.new ≡ self.old) }
     {
@@ -72,7 +72,7 @@ impl Tags {
 
     /// Sets a tag: it takes the place of the first of its name, or comes last, and one with an empty value removes all
     /// of its name. It fails only for want of memory, and then the tags are as before.
-    pub fn set_named(&mut self, tag: Tag) -> Result<(), AllocError>
+    pub fn set_named(&mut self, _alloc: Global, tag: Tag) -> Result<(), AllocError>
         ensures ok { OnOk result (self.new ≡ with_tag tag self.old) }
         ensures err { OnErr result (self.new ≡ self.old) }
     {

@@ -21,7 +21,7 @@ fn tags(alloc: Global, pairs: Pairs<'_>) -> Result<Tags, AllocError> {
     let mut tags = Tags::new(alloc);
     for (name, value) in pairs {
         let (name, value) = (text(alloc, name)?, text(alloc, value)?);
-        tags.push(Tag { name, value })?;
+        tags.push(alloc, Tag { name, value })?;
     }
     Ok(tags)
 }
@@ -136,7 +136,7 @@ const NONE: Date = Date {
 const SOURCE: (&str, &str) = ("Source", "book");
 
 const CASES: [Case; 10] = [
-    // an event date within the rule removes every tag of the name
+    // An event date within the rule removes every tag of the name.
     Case {
         game: 1994,
         event: Date {
@@ -182,7 +182,7 @@ const CASES: [Case; 10] = [
         },
         left: &[],
     },
-    // one four years off, one without a year and one of a game without a year become a tag
+    // One four years off, one without a year and one of a game without a year become a tag.
     Case {
         game: 1994,
         event: Date {
@@ -216,7 +216,7 @@ const CASES: [Case; 10] = [
         settled: NONE,
         left: &[SOURCE, ("EventDate", "1994.04.01")],
     },
-    // without an event date, the first tag that reads as a date within the rule gives it
+    // Without an event date, the first tag that reads as a date within the rule gives it.
     Case {
         game: 1994,
         event: NONE,
@@ -233,7 +233,7 @@ const CASES: [Case; 10] = [
         },
         left: &[SOURCE],
     },
-    // and where there is none, the tags stay: one four years off, the unknown date, one of a game without a year
+    // Where there is none the tags stay: one four years off, the unknown date, one of a game without a year.
     Case {
         game: 1994,
         event: NONE,
@@ -308,12 +308,12 @@ fn print_branches(alloc: Global, branches: &[Branch], out: &mut Vec<u8>) -> Resu
 // Adds an item: a move is its two squares, `!` a NAG, `(` and `)` a variation, and other letters a comment.
 fn add(alloc: Global, builder: &mut Builder, what: u8, to: u8) -> Result<(), Fail> {
     match what {
-        b'!' if builder.has_move() => builder.nag(to)?,
+        b'!' if builder.has_move() => builder.nag(alloc, to)?,
         b'(' if builder.has_move() => builder.open(alloc)?,
-        b')' if builder.depth() > 0 => builder.close()?,
+        b')' if builder.depth() > 0 => builder.close(alloc)?,
         b'{' => {
             let text = Text::try_new(Vec::from_slice(alloc, &[to])?);
-            builder.comment(text.unwrap_or(Text::new(alloc)))?;
+            builder.comment(alloc, text.unwrap_or(Text::new(alloc)))?;
         }
         b'!' | b'(' | b')' => return Err("an item stands where it may not".into()),
         from => builder.play(alloc, mv(from, to))?,
@@ -329,7 +329,7 @@ fn game(alloc: Global, written: &[(u8, u8)]) -> Result<Game, Fail> {
     if builder.depth() > 0 {
         return Err("a variation is open".into());
     }
-    let Branch { lead, line } = builder.finish()?;
+    let Branch { lead, line } = builder.finish(alloc)?;
     Ok(Game {
         start: Position::start(),
         lead,
@@ -399,7 +399,7 @@ const GAMES: [(&[(u8, u8)], bool); 9] = [
     (&[E2_E4, E7_E5], true),
     (&[E7_E5], false),
     (&[E2_E4, E2_E4], false),
-    // a variation begins before the move that it hangs on, on the first move too
+    // A variation begins before the move that it hangs on, on the first move too.
     (
         &[
             E2_E4, OPENS, D2_D4, E7_E5, CLOSES, E7_E5, OPENS, C7_C5, CLOSES,

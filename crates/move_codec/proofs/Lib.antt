@@ -12,3 +12,4 @@ pub mod Text
 pub mod Decoding
 pub mod Kings
 pub mod Apart
+pub mod Moving

@@ -1,13 +1,13 @@
 //! A position with the numbers of its men: packed moves decoded, played and encoded.
-ghost use Rattle.std.specs.Prelude.{◌≡◌, ◌↔◌, ℕ, ◌+◌, ◌*◌, ◌<◌, ◌≤◌, false, List, ◌∷◌, ◌++◌, Ok, IsTrue, IfOk, IfErr, length};
+ghost use Rattle.std.specs.Prelude.{◌≡◌, ◌↔◌, ℕ, ◌+◌, ◌*◌, ◌<◌, ◌≤◌, false, List, ◌∷◌, ◌++◌, Ok, IsTrue, IfOk, IfErr, Some, length, slice_get, slice_index_or, ◌/◌};
 ghost use Rattle.std.specs.Bool.{OnTrue, OnFalse};
 ghost use Rattle.chess_laws.specs.Position.{start_setup};
 ghost use Rattle.chess_laws.specs.Step.{Legal, Step};
-ghost use Rattle.move_codec.specs.Numbers.{numbers_after, standard_numbers, text_numbers};
+ghost use Rattle.move_codec.specs.Numbers.{numbers_after, squares_of, standard_numbers, text_numbers};
 ghost use Rattle.move_codec.specs.Packed.{Decodes, HasHighSecond, diagonal_move, encoding, is_mark, named, named_value, rest_of, to_square, value_of};
 
 use super::fault::MoveFault;
-use super::numbers::Numbers;
+use super::numbers::{Numbers, capture_square};
 use super::targets::{
     diagonal_square, king_square, knight_square, on_diagonal, on_line, pawn_square, promotion,
 };
@@ -109,15 +109,16 @@ impl Numbered {
         ensures kept { IfErr result (λ _. self.new ≡ self.old) }
     {
         let (m, used) = self.named(bytes)?;
-        if self.follow_legal(&m) {
+        if self.follow_legal(&m, first_number(bytes)) {
             Ok((m, used))
         } else {
             Err(MoveFault::Illegal)
         }
     }
 
-    /// Plays a move where it is legal, and answers whether it is.
-    fn follow_legal(&mut self, m: &Move) -> bool
+    /// Plays a move of the man with this number where it is legal, and answers whether it is.
+    fn follow_legal(&mut self, m: &Move, number: u8) -> bool
+        requires number { slice_get (squares_of self.old.position.side self.old.numbers) number ≡ Some m.now.from }
         ensures legal { IsTrue result ↔ Legal self.old.position m.now }
         ensures step { OnTrue result (Step self.old.position m.now self.new.position) }
         ensures numbers { OnTrue result (self.new.numbers ≡ numbers_after self.old.position m.now self.old.numbers) }
@@ -125,9 +126,15 @@ impl Numbered {
     {
         let mover = self.position.setup().side;
         let effect = self.position.effect(m);
+        let taken = self
+            .position
+            .board()
+            .at(capture_square(m, effect))
+            .is_some();
         let legal = self.position.advance(m);
         if legal {
-            self.numbers.follow(mover, m, effect);
+            self.numbers
+                .follow_by(mover, m, effect, number as usize, taken);
         }
         legal
     }
@@ -199,6 +206,16 @@ impl Numbered {
             return Err(MoveFault::NoMan);
         };
         named_value(man.kind, side, from, *byte % 16, rest)
+    }
+}
+
+/// The number of the man that the first byte names.
+fn first_number(bytes: &[u8]) -> u8
+    ensures number { result ≡ slice_index_or bytes.now 0 0 / 16 }
+{
+    match bytes {
+        [byte, ..] => *byte / 16,
+        [] => 0,
     }
 }
 

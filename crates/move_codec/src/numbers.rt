@@ -1,7 +1,8 @@
 //! The numbers of the men.
 ghost use Rattle.std.specs.Prelude.{◌≡◌, ◌+◌, ◌<◌, ◌≤◌, ◌==◌, if◌then◌else◌, length, position, slice_get, count_by};
 ghost use Rattle.cell_core.specs.Board.{man_at};
-ghost use Rattle.cell_core.specs.Man.{is_of};
+ghost use Rattle.std.specs.Bool.{OnFalse};
+ghost use Rattle.cell_core.specs.Man.{is_of, other};
 ghost use Rattle.cell_core.specs.declared.man.Colour.{Colour};
 ghost use Rattle.move_codec.specs.Numbers.{capture_square, movers_after, number_of, numbers_by, squares_of, standard_numbers, start_ranks, text_numbers, text_numbers_of, went, with_square, without};
 
@@ -106,21 +107,30 @@ impl NumberedMen {
         NumberedMen { squares }
     }
 
-    /// The man on a square goes to another, and keeps its number.
-    pub(crate) fn go(&mut self, from: Square, to: Square)
+    /// The man on a square goes to another, and keeps its number, which is this one.
+    fn go_by(&mut self, number: usize, from: Square, to: Square)
+        requires number { number ≡ number_of self.old from }
         ensures after { self.new ≡ went self.old from to }
     {
-        let number = self.number_of(from);
         if number < self.squares.len() {
             self.squares.as_mut_slice()[number] = to;
         }
     }
 
-    /// The mover's squares after a move of this effect: castling takes the rook along.
-    fn follow(&mut self, side: Colour, m: &Move, effect: Effect)
+    /// The man on a square goes to another, and keeps its number.
+    fn go(&mut self, from: Square, to: Square)
+        ensures after { self.new ≡ went self.old from to }
+    {
+        let number = self.number_of(from);
+        self.go_by(number, from, to);
+    }
+
+    /// The mover's squares after a move of this effect by the man with this number: castling takes the rook along.
+    fn follow(&mut self, side: Colour, m: &Move, effect: Effect, number: usize)
+        requires number { number ≡ number_of self.old m.now.from }
         ensures after { self.new ≡ movers_after side m.now effect self.old }
     {
-        self.go(m.from, m.to);
+        self.go_by(number, m.from, m.to);
         if let Effect::Castle(wing) = effect {
             self.go(rook_home(side, wing), rook_target(side, wing));
         }
@@ -133,6 +143,16 @@ impl NumberedMen {
         let number = self.number_of(captured);
         if number < self.squares.len() {
             self.squares.swap_remove(number);
+        }
+    }
+
+    /// `remove`, which is left out where no man is captured.
+    fn remove_taken(&mut self, captured: Square, taken: bool)
+        requires none { OnFalse taken (without self.old captured ≡ self.old) }
+        ensures after { self.new ≡ without self.old captured }
+    {
+        if taken {
+            self.remove(captured);
         }
     }
 }
@@ -174,15 +194,33 @@ impl Numbers {
     pub(crate) fn follow(&mut self, side: Colour, m: &Move, effect: Effect)
         ensures after { self.new ≡ numbers_by side m.now effect self.old }
     {
+        let number = self.of(side).number_of(m.from);
+        self.follow_by(side, m, effect, number, true);
+    }
+
+    /// The numbers after a move of this side and effect by the man with this number. Where no man is taken, the other
+    /// side's stay as they are.
+    pub(crate) fn follow_by(
+        &mut self,
+        side: Colour,
+        m: &Move,
+        effect: Effect,
+        number: usize,
+        taken: bool,
+    )
+        requires number { number ≡ number_of (squares_of side self.old) m.now.from }
+        requires none { OnFalse taken (without (squares_of (other side) self.old) (capture_square m.now effect) ≡ squares_of (other side) self.old) }
+        ensures after { self.new ≡ numbers_by side m.now effect self.old }
+    {
         let captured = capture_square(m, effect);
         match side {
             Colour::White => {
-                self.white.follow(side, m, effect);
-                self.black.remove(captured);
+                self.white.follow(side, m, effect, number);
+                self.black.remove_taken(captured, taken);
             }
             Colour::Black => {
-                self.black.follow(side, m, effect);
-                self.white.remove(captured);
+                self.black.follow(side, m, effect, number);
+                self.white.remove_taken(captured, taken);
             }
         }
     }
@@ -244,7 +282,7 @@ fn start_ranks(back: u8, pawns: u8) -> [Square; 16]
 }
 
 /// The square on which a move captures, if it captures.
-fn capture_square(m: &Move, effect: Effect) -> Square
+pub(crate) fn capture_square(m: &Move, effect: Effect) -> Square
     ensures { result ≡ capture_square m.now effect }
 {
     match effect {

@@ -1,4 +1,5 @@
 pub mod Words
+pub mod Grammar
 pub mod Cutting
 pub mod Answer
 pub mod Forms

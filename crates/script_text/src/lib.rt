@@ -5,6 +5,7 @@ mod arguments;
 mod command;
 mod fault;
 mod forms;
+mod grammar;
 mod head_items;
 mod items;
 mod mat_items;
@@ -16,6 +17,7 @@ mod words;
 
 pub use command::Command;
 pub use fault::{CommandError, ScriptFault};
+pub use grammar::lines_have_one_reading;
 pub use reading::read_command;
 pub use spelling::quoted_words_are_read;
 

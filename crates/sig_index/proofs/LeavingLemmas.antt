@@ -13,12 +13,12 @@ use Rattle.std.proofs.lemmas.List.FromFn.{get_or-range_with_len}
 use Rattle.cell_core.specs.declared.step.Move.{Move}
 use Rattle.chess_laws.specs.Counts.{is_home}
 use Rattle.chess_laws.specs.declared.setup.Setup.{Setup}
-use Rattle.chess_laws.specs.Step.{Step}
+use Rattle.chess_laws.specs.Step.{Step, stepped}
 use Rattle.game_tree.specs.Game.{GameTree}
 use Rattle.game_tree.specs.Tree.{Line, Played, line_of, moves_of}
-use Rattle.game_tree.specs.Replay.{stepped, main_moves, position_at, plies_of}
+use Rattle.game_tree.specs.Replay.{main_moves, position_at, plies_of}
 use Rattle.game_tree.specs.Legal.{IsLegalGame, IsLegalLine}
-use Rattle.game_tree.proofs.LegalLemmas.{Step-stepped}
+use Rattle.chess_laws.proofs.Stepping.{Step-stepped}
 use Rattle.sig_index.specs.Leaving.{in_set, staying, gone}
 use Rattle.sig_index.specs.Signature.{all_homes, leaving, left_of}
 
@@ -73,7 +73,7 @@ All-cond : (t : Bool) (x : ℕ) (xs : List ℕ) → x < 16 → All (λ v. v < 16
 All-cond true x xs here all = All-cons (λ v. v < 16) x xs here all
 All-cond false x xs here all = all
 
-All-filter : (f : ℕ → Bool) (xs : List ℕ) → All (λ v. v < 16) xs → All (λ v. v < 16) (filter f xs)
+pub All-filter : (f : ℕ → Bool) (xs : List ℕ) → All (λ v. v < 16) xs → All (λ v. v < 16) (filter f xs)
 All-filter f [] all = All-nil (λ v. v < 16)
 All-filter f (x ∷ xs) all = All-cond (f x) x (filter f xs) (All-head (λ v. v < 16) x xs all) (All-filter f xs (All-tail (λ v. v < 16) x xs all))
 
@@ -87,7 +87,7 @@ pub record Replays (game : GameTree) (line : Line) (position : Setup) (still lef
   pub leaves : left ++ leaving still (along position (moves_of line)) ≡ left_of game
   pub last : fold stepped position (moves_of line) ≡ position_at game (plies_of game)
 
-all_small : All (λ v. v < 16) all_homes
+pub all_small : All (λ v. v < 16) all_homes
 all_small = λ k d lt. subst (λ n. n < 16) (sym (get_or-range_with_len 0 16 k d lt)) (omega arith)
 
 pub Replays-start : (game : GameTree) (line : List Played) → IsLegalGame game → game.line ≡ line_of line → Replays game (line_of line) game.start all_homes []

@@ -1,2 +1,5 @@
 pub mod LeavingLemmas
 pub mod SigLemmas
+pub mod BoundLemmas
+pub mod HeldLemmas
+pub mod LeftLemmas

@@ -1,3 +1,5 @@
 pub mod Queries
 pub mod Signature
 pub mod Leaving
+pub mod Games
+pub mod MemGames

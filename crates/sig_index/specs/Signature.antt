@@ -1,6 +1,6 @@
 -- The signature of a game: what of it decides that some searches need not read it (this project's own, but the counts and the marks of
 -- promotions, which Scid's format keeps).
-use Rattle.std.specs.Prelude.{◌≡◌, ◌-◌, ℕ, min, not, if◌then◌else◌, List, [], ◌∷◌, ◌++◌, length, map, replicate}
+use Rattle.std.specs.Prelude.{◌≡◌, ◌-◌, ◌<◌, ◌≤◌, ℕ, min, not, if◌then◌else◌, List, [], ◌∷◌, ◌++◌, length, map, replicate}
 use Rattle.std.specs.List.{filter, range_with_len}
 use Rattle.std.specs.Bool.{MatchBool}
 use Rattle.cell_core.specs.declared.man.Colour.TheVariants.{White, Black}
@@ -14,6 +14,7 @@ use Rattle.game_tree.specs.Replay.{plies_of, position_at}
 use Rattle.game_tree.specs.Promotions.{has_promotion, has_underpromotion}
 use Rattle.game_tree.specs.Counts.{variations_of, comments_of, nags_of}
 use Rattle.index_entry.specs.Counts.{count_code}
+use Rattle.index_entry.specs.Entry.{AreCounts, AreHomeValues}
 use Rattle.sig_index.specs.declared.signature.Sig.{Sig}
 use Rattle.sig_index.specs.declared.signature.HomeList.{HomeList}
 
@@ -62,3 +63,13 @@ pub record IsSig (game : GameTree) (s : Sig) : Type 0 where
   pub vars : s.vars ≡ count_code (variations_of game)
   pub comments : s.comments ≡ count_code (comments_of game)
   pub nags : s.nags ≡ count_code (nags_of game)
+
+-- The bounds of a signature, which are those of the fields of an entry: at most 16 home values, each below 16.
+pub record IsSigBounded (sig : Sig) : Type 0 where
+  pub material : AreCounts sig.material
+  pub home_count : sig.home.count ≤ 16
+  pub home : AreHomeValues sig.home.count sig.home.values
+  pub plies : sig.plies ≤ 1023
+  pub vars : sig.vars < 16
+  pub comments : sig.comments < 16
+  pub nags : sig.nags < 16

@@ -1,14 +1,20 @@
 //! What searches ask of the games of a base, by their heads, by the men on the board, by a position; and the signature of a game.
 #![tactic(auto)]
 
+mod games;
 mod head_query;
+mod laws;
 mod mat_query;
+mod mem_games;
 mod pos_query;
 mod signature;
 mod span;
 
+pub use games::{FetchError, Games};
 pub use head_query::HeadQuery;
+pub use laws::{held_records_stay, pawns_leave_once};
 pub use mat_query::{MatQuery, MatRange};
+pub use mem_games::MemGames;
 pub use pos_query::{Mode, PosQuery};
 pub use signature::{HomeList, Sig, sig_of};
 pub use span::Span;

@@ -2,10 +2,11 @@
 ghost use Rattle.std.specs.Prelude.{◌≡◌, ◌≤◌, ◌<◌, ◌+◌, ◌++◌, ◌↔◌, ℕ, IsTrue, All, length, min};
 ghost use Rattle.chess_laws.specs.Counts.{counts_of};
 ghost use Rattle.chess_laws.specs.Position.{start_setup};
+ghost use Rattle.index_entry.specs.Entry.{AreCounts};
 ghost use Rattle.game_tree.specs.Legal.{IsLegalGame};
 ghost use Rattle.game_tree.specs.Replay.{plies_of, position_at};
 ghost use Rattle.sig_index.specs.Leaving.{in_set, staying, gone};
-ghost use Rattle.sig_index.specs.Signature.{IsSig, material_of, left_of, home_list};
+ghost use Rattle.sig_index.specs.Signature.{IsSig, IsSigBounded, material_of, left_of, home_list};
 
 use arrayvec::ArrayVec;
 use chess_laws::{Position, Setup};
@@ -51,6 +52,7 @@ pub struct Sig {
 pub fn sig_of(g: &Game) -> Sig
     requires { IsLegalGame g.now }
     ensures signature { IsSig g.now result }
+    ensures bounded { IsSigBounded result }
 {
     let own_start = !is_initial(g.start.setup(), Position::start().setup());
     let (last, left) = replayed(g);
@@ -127,8 +129,11 @@ fn home_list(values: &[u8]) -> HomeList
 
 // The counts with more than three as three, but for pawns.
 fn material_of(last: &Position) -> [u8; 10]
-    ensures { result ≡ material_of last.now.board }
+    ensures material { result ≡ material_of last.now.board }
+    ensures bounded { AreCounts result }
 {
+    // The rules of a position bound the pawns.
+    let _setup = last.setup();
     let counts = last.counts();
     [
         counts[0].min(3),

@@ -1,8 +1,11 @@
 -- What the walk finds is the square that was added, or lies behind it.
-use Rattle.std.proofs.Common.{◌∙◌, sym, arith, inl, inr, subst}
+use Rattle.std.proofs.Common.{◌≡◌, ◌∙◌, None, true, ap, sym, arith, inl, inr, subst}
 use Rattle.chess_laws.specs.Step.{HasNoOwn}
 use Rattle.chess_laws.specs.Targets.{Has}
-use Rattle.chess_laws.proofs.Collecting.{run-next, run-at_edge, run-at_end, some≢none}
+use Rattle.chess_laws.proofs.Collecting.{run-next, run-at_edge, run-at_end, run-reach, run-pass, empty-free, some≢none}
+use Rattle.cell_core.specs.Board.{man_at}
+use Rattle.chess_laws.specs.LegalTests.{run}
+use Rattle.chess_laws.proofs.Running.{none_from}
 use Rattle.chess_laws.proofs.targets.walk_run.Goals as goal
 
 pub returns-in_default-clause-runs : goal.returns-in_default-clause-runs
@@ -26,6 +29,25 @@ returns-then-is_some-clause-runs c = λ b found free.
 pub loop-i-preserved : goal.loop-i-preserved
 loop-i-preserved c = record {
   kept = λ b was. c.with-set.ensures.kept b (c.loop-i.invariant.kept b was);
+  fresh = λ b has.
+      let men = c.args.p.now.board in
+      let o = c.args.step.now in
+      let empty : man_at men c.in-Some.next ≡ None = sym c.at.ensures.man ∙ none_from c.at.result (sym c.is_some.ensures ∙ c.if-is_some.false) in
+      elim (c.with-set.ensures.only b has) [
+        | inl here ↦ c.loop-i.invariant.fresh b here
+        | inr came ↦
+            let found = run-reach men o c.loop-i._i c.loop-i.at c.in-Some.next (omega arith) (sym c.target.ensures ∙ c.in-Some.is) in
+            inr (
+              subst (λ s. run men o 8 s c.args.from ≡ true) (sym came) (c.loop-i.invariant.onward c.in-Some.next found),
+              empty-free men c.args.p.now.side b (ap (man_at men) came ∙ empty),
+            )
+      ];
+  onward = λ b further.
+      let men = c.args.p.now.board in
+      let o = c.args.step.now in
+      let empty : man_at men c.in-Some.next ≡ None = sym c.at.ensures.man ∙ none_from c.at.result (sym c.is_some.ensures ∙ c.if-is_some.false) in
+      c.loop-i.invariant.onward b
+      (run-pass men o c.loop-i._i c.loop-i.at b c.in-Some.next (omega arith) (sym c.target.ensures ∙ c.in-Some.is) empty further);
   ahead = λ b found.
       elim (c.loop-i.invariant.ahead b found) [
         | inl here ↦ inl (c.with-set.ensures.kept b here)
@@ -42,4 +64,15 @@ returns-clause-runs c = λ b found free.
     elim (c.loop-i.invariant.ahead b found) [
       | inl here ↦ here
       | inr ahead ↦ absurd (run-at_end c.args.p.now.board c.args.step.now c.loop-i._i c.loop-i.at b (omega arith) ahead)
+    ]
+
+pub returns-then-is_some-clause-only : goal.returns-then-is_some-clause-only
+returns-then-is_some-clause-only c = λ b has.
+    let men = c.args.p.now.board in
+    let o = c.args.step.now in
+    elim (c.with_free.ensures.only b has) [
+      | inl here ↦ c.loop-i.invariant.fresh b here
+      | inr came ↦
+          let found = run-reach men o c.loop-i._i c.loop-i.at c.in-Some.next (omega arith) (sym c.target.ensures ∙ c.in-Some.is) in
+          inr (subst (λ s. run men o 8 s c.args.from ≡ true) (sym came.0) (c.loop-i.invariant.onward c.in-Some.next found), came.1)
     ]

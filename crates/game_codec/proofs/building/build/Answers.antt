@@ -1,9 +1,9 @@
-use Rattle.std.proofs.Common.{arith, rules}
+use Rattle.std.proofs.Common.{arith}
 use Rattle.std.proofs.lemmas.Grind.{common_steps}
 use Rattle.std.proofs.lemmas.List.{nil_from_length}
 use Rattle.game_codec.specs.Nests.{tokens_of}
 use Rattle.game_codec.proofs.BuildLaws.{IsBuilt-step, IsBuilt-end, IsBuilt-closed, IsBuilt-whole}
-use Rattle.game_codec.proofs.FittingLaws.{Fits-begun, Fits-add, Fits-step}
+use Rattle.game_codec.proofs.FittingLaws.{Fits-add, Fits-step}
 use Rattle.game_codec.proofs.building.build.Goals as goal
 
 pub add-requires : goal.add-requires

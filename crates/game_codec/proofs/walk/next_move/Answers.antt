@@ -31,11 +31,11 @@ returns-in-Ok-clause-next c =
     let front_size = ap (λ (l : List ℕ). length l) c.split_at.ensures.back in
     let rest = c.split_at-in-Ok.ensures.back ∙ ap (λ (n : ℕ). drop n due) c.from.ensures in
     let size = ap (λ (l : List ℕ). length l) rest in (
-      c.play.ensures.step,
+      c.in-Ok.ensures.step,
       (
         omega (arith, front_size, size, length-drop c.in-Some.used c.args.bytes.now, length-drop c.in-Ok.taken due, c.in-Ok.ensures.used.0, c.in-Ok.ensures.used.1.1),
-        λ left g. move_goes here c.play.new.self due ahead c.in-Ok.m c.in-Ok.taken (subst IsMoveDue back found.1.0) c.in-Ok.ensures.decodes
-            (numbered-played here c.in-Ok.m c.play.new.self c.play.ensures.step c.play.ensures.numbers) rest left
+        λ left g. move_goes here c.advance.new.self due ahead c.in-Ok.m c.in-Ok.taken (subst IsMoveDue back found.1.0) c.in-Ok.ensures.decodes
+            (numbered-played here c.in-Ok.m c.advance.new.self c.in-Ok.ensures.step c.in-Ok.ensures.numbers) rest left
             (subst (GoesOn here left) back (found.1.1 here left g)),
       ),
     )

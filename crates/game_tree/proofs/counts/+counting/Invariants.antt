@@ -1,10 +1,10 @@
-use Rattle.std.proofs.Common.{◌≡◌, ◌+◌, drop}
+use Rattle.std.proofs.Common.{drop}
 use Rattle.game_tree.specs.Tree.{line_of, branches_of}
 use Rattle.game_tree.specs.Counts.{line_variations, line_comments, line_nags, branches_variations, branches_comments, branches_nags}
 use Rattle.game_tree.proofs.CountLemmas.{Left}
 use Rattle.game_tree.proofs.counts.+counting.Given as goal
 
--- what is left gives the same as all
+-- What is left gives the same as all.
 abbrev pub invariant-count_line-loop-node : goal.invariant-count_line-loop-node
 invariant-count_line-loop-node l =
     Left l.initial.counts l.counts (line_variations (line_of l.line)) (line_comments (line_of l.line)) (line_nags (line_of l.line))

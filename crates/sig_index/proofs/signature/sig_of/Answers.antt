@@ -1,5 +1,5 @@
 -- Each part of the signature.
-use Rattle.std.proofs.Common.{[], not, ap, ◌∙◌, sym}
+use Rattle.std.proofs.Common.{[], not, ap, ◌∙◌, sym, arith}
 use Rattle.std.specs.Prelude.{min, length}
 use Rattle.std.proofs.lemmas.Bool.{cond-true, cond-false}
 use Rattle.chess_laws.specs.declared.setup.Setup.{Setup}
@@ -8,6 +8,7 @@ use Rattle.game_tree.specs.Tree.{Line, line_of, moves_of}
 use Rattle.game_tree.specs.Counts.{variations_of, comments_of, nags_of}
 use Rattle.game_tree.proofs.TreeLemmas.{length-moves_of}
 use Rattle.sig_index.specs.Signature.{material_of, left_of, home_list}
+use Rattle.sig_index.proofs.BoundLemmas.{few_homes, few_left, no_homes, small_homes, small_left}
 use Rattle.sig_index.proofs.SigLemmas.{own_is, code_is}
 use Rattle.sig_index.proofs.signature.sig_of.Goals as goal
 use Rattle.sig_index.proofs.signature.sig_of.Goals.{then-own_start, else-own_start}
@@ -16,7 +17,7 @@ pub returns : goal.returns
 returns c =
     record {
       signature = record {
-        material = c.material_of.ensures ∙ ap (λ (p : Setup). material_of p.board) c.replayed-last.ensures.last;
+        material = c.material_of.ensures.material ∙ ap (λ (p : Setup). material_of p.board) c.replayed-last.ensures.last;
         own_start = own_is c.is_initial-own_start.result c.setup.result.now c.setup-2.result.now c.args.g.now.start _ c.is_initial-own_start.ensures
             (c.setup.ensures.setup ∙ ap (λ (g : GameTree). g.start) c.g.view_is) (c.setup-2.ensures.setup ∙ c.start.ensures.start);
         home = elim c.if-own_start.branch [
@@ -30,5 +31,20 @@ returns c =
         vars = c.count_code.ensures.code ∙ code_is (variations_of c.args.g.now) c.counts-counts.result.variations c.counts-counts.ensures.variations;
         comments = c.count_code-2.ensures.code ∙ code_is (comments_of c.args.g.now) c.counts-counts.result.comments c.counts-counts.ensures.comments;
         nags = c.count_code-3.ensures.code ∙ code_is (nags_of c.args.g.now) c.counts-counts.result.nags c.counts-counts.ensures.nags;
+      };
+      bounded = record {
+        material = c.material_of.ensures.bounded;
+        home_count = elim c.if-own_start.branch [
+          | then-own_start w ↦ few_homes _ [] (w.result-is ∙ w.home_list.ensures) (omega arith)
+          | else-own_start w ↦ few_homes _ (left_of c.args.g.now) (w.result-is ∙ c.replayed-last.ensures.left) (few_left c.args.g.now)
+        ];
+        home = elim c.if-own_start.branch [
+          | then-own_start w ↦ small_homes _ [] (w.result-is ∙ w.home_list.ensures) (omega arith) no_homes
+          | else-own_start w ↦ small_homes _ (left_of c.args.g.now) (w.result-is ∙ c.replayed-last.ensures.left) (few_left c.args.g.now) (small_left c.args.g.now)
+        ];
+        plies = omega (arith, c.min.ensures);
+        vars = c.count_code.ensures.small;
+        comments = c.count_code-2.ensures.small;
+        nags = c.count_code-3.ensures.small;
       };
     }

@@ -1,0 +1,98 @@
+-- What a search of heads asks of a game (this project's own; the keys are those of Scid's search of headers).
+use Rattle.std.specs.Prelude.{ℕ, ◌==◌, nat_le, nat_lt, not, if◌then◌else◌, Bool, true, ◌&&◌, ◌||◌, List, [], ◌∷◌, Option, None, Some}
+use Rattle.std.specs.Int.{bit_at}
+use Rattle.std.specs.List.{starts_with}
+use Rattle.game_tree.specs.declared.head.Head.{Head}
+use Rattle.game_tree.specs.declared.head.Outcome.{Outcome}
+use Rattle.game_tree.specs.declared.head.Outcome.TheVariants as outcome
+use Rattle.sig_index.specs.declared.head_query.HeadQuery.{HeadQuery}
+use Rattle.sig_index.specs.declared.signature.Sig.{Sig}
+use Rattle.sig_index.specs.declared.span.Span.{Span}
+
+-- An item of a query holds: it is not there, or its value passes the test.
+abbrev pub holds : {T : Type 0} → Option T → (T → Bool) → Bool
+holds None test = true
+holds (Some value) test = test value
+
+-- A number is one of a span's, both ends among them.
+abbrev pub is_in : Span → ℕ → Bool
+is_in span n = nat_le span.lo n && nat_le n span.hi
+
+-- A name begins with these bytes, byte by byte.
+abbrev pub begins : List ℕ → List ℕ → Bool
+begins name text = starts_with (λ a b. a == b) name text
+
+-- The number of a result, in the order of the declaration.
+abbrev pub outcome_number : Outcome → ℕ
+outcome_number outcome.Unknown = 0
+outcome_number outcome.White = 1
+outcome_number outcome.Black = 2
+outcome_number outcome.Draw = 3
+
+-- white, black, player: the beginning of the name of White, of Black, of either.
+abbrev pub white_holds : Head → HeadQuery → Bool
+white_holds head query = holds query.white (λ text. begins head.white text)
+
+abbrev pub black_holds : Head → HeadQuery → Bool
+black_holds head query = holds query.black (λ text. begins head.black text)
+
+abbrev pub player_holds : Head → HeadQuery → Bool
+player_holds head query = holds query.player (λ text. begins head.white text || begins head.black text)
+
+-- event, site, round: the beginning of that name.
+abbrev pub event_holds : Head → HeadQuery → Bool
+event_holds head query = holds query.event (λ text. begins head.event text)
+
+abbrev pub site_holds : Head → HeadQuery → Bool
+site_holds head query = holds query.site (λ text. begins head.site text)
+
+abbrev pub round_holds : Head → HeadQuery → Bool
+round_holds head query = holds query.round (λ text. begins head.round text)
+
+-- result: that result.
+abbrev pub result_holds : Head → HeadQuery → Bool
+result_holds head query = holds query.result (λ result. outcome_number head.result == outcome_number result)
+
+-- year: of the game's date; an unknown year is 0. welo, belo: the ratings of White and Black, of any kind; no rating is 0.
+abbrev pub year_holds : Head → HeadQuery → Bool
+year_holds head query = holds query.year (λ span. is_in span head.date.year)
+
+abbrev pub welo_holds : Head → HeadQuery → Bool
+welo_holds head query = holds query.welo (λ span. is_in span head.white_rating.value)
+
+abbrev pub belo_holds : Head → HeadQuery → Bool
+belo_holds head query = holds query.belo (λ span. is_in span head.black_rating.value)
+
+-- plies: of the main line; more than 1,023 count as 1,023.
+abbrev pub plies_hold : Sig → HeadQuery → Bool
+plies_hold sig query = holds query.plies (λ span. is_in span sig.plies)
+
+-- eco: the opening code; it never holds of a game without one.
+abbrev pub eco_holds : Head → HeadQuery → Bool
+eco_holds head query = holds query.eco (λ span. nat_lt 0 head.eco && is_in span head.eco)
+
+-- deleted: whether the game is marked as deleted.
+abbrev pub deleted_holds : Head → HeadQuery → Bool
+deleted_holds head query = holds query.deleted (λ yes. if yes then head.deleted else not head.deleted)
+
+-- mark: that mark is set.
+abbrev pub mark_holds : Head → HeadQuery → Bool
+mark_holds head query = holds query.mark (λ bit. bit_at head.marks bit == 1)
+
+-- A game with this head and this signature is one that is asked for: every item holds.
+unfoldable pub head_matches : Head → Sig → HeadQuery → Bool
+head_matches head sig query =
+    (deleted_holds head query && mark_holds head query && result_holds head query && plies_hold sig query && year_holds head query
+    && welo_holds head query && belo_holds head query && eco_holds head query)
+    && (white_holds head query && black_holds head query && player_holds head query && event_holds head query && site_holds head query
+    && round_holds head query)
+
+-- The first ply at which a game matches: a search of heads matches at ply 0 or not at all.
+abbrev pub first_of : HeadQuery → Head → Sig → Option ℕ
+first_of query head sig = if head_matches head sig query then Some 0 else None
+
+-- The first matching plies of all games.
+abbrev pub firsts_of : HeadQuery → List Head → List Sig → List (Option ℕ)
+firsts_of query [] sigs = []
+firsts_of query (head ∷ heads) [] = []
+firsts_of query (head ∷ heads) (sig ∷ sigs) = first_of query head sig ∷ firsts_of query heads sigs

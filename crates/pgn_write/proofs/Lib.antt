@@ -1,0 +1,4 @@
+pub mod TagLaws
+pub mod WritingLaws
+pub mod LayoutLaws
+pub mod PgnLaws

@@ -1,0 +1,8 @@
+use Rattle.std.proofs.Common.{◌≡◌, ◌++◌, drop}
+use Rattle.std.specs.Prelude.{map}
+use Rattle.pgn_write.specs.Token.{without_brace}
+use Rattle.pgn_write.proofs.writer.push_comment.Given as goal
+
+-- What is left gives the same as all.
+abbrev pub invariant-loop-byte : goal.invariant-loop-byte
+invariant-loop-byte l = l.unit.items ++ map without_brace (drop l.byte-index l.text) ≡ l.initial.unit.items ++ map without_brace l.text

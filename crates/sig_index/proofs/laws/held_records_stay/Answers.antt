@@ -1,0 +1,5 @@
+use Rattle.sig_index.proofs.HeldLemmas.{held_stays, signature_one}
+use Rattle.sig_index.proofs.laws.held_records_stay.Goals as goal
+
+pub returns : goal.returns
+returns c = record { one_signature = signature_one; unchanged = held_stays }

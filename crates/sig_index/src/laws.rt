@@ -1,0 +1,19 @@
+//! Laws of signatures, and of games whose records are held.
+ghost use Rattle.std.specs.Prelude.{◌≡◌, ◌≤◌, ℕ, nat_eq, count_by, List, Option, Some};
+ghost use Rattle.base_files.specs.declared.extent.Extent.{Extent};
+ghost use Rattle.game_tree.specs.Game.{GameTree};
+ghost use Rattle.sig_index.specs.declared.signature.Sig.{Sig};
+ghost use Rattle.sig_index.specs.Games.{HasChanged, Holds};
+ghost use Rattle.sig_index.specs.Signature.{IsSig, left_of};
+
+/// A law: no pawn leaves its own square twice.
+pub fn pawns_leave_once()
+    ensures once { (game : GameTree) (value : ℕ) → count_by (nat_eq value) (left_of game) ≤ 1 }
+{}
+
+/// A law: a game has one signature, and over a games file that holds the records of the games no record has changed.
+pub fn held_records_stay()
+    ensures one_signature { (game : GameTree) (a b : Sig) → IsSig game a → IsSig game b → a ≡ b }
+    ensures unchanged { (games : List ℕ) (extents : List Extent) (sigs : List Sig) (list : List GameTree) (buffer : List ℕ) (game : ℕ) (kept : Sig)
+        (found : Option Sig) → Holds games extents sigs list → HasChanged sigs extents (Some games) buffer game kept found → ⊥ }
+{}

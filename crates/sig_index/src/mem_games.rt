@@ -1,0 +1,156 @@
+//! The games of a base in memory, for tests and benches.
+ghost use Rattle.std.specs.Prelude.{◌≡◌, ◌≤◌, ◌<◌, ◌^◌, [], ◌∷◌, ◌++◌, List, ℕ, All, length, slice_get, take, Some, IfOk, IfErr, OnOk, OnErr};
+ghost use Rattle.base_files.specs.Counters.{Rose, raised};
+ghost use Rattle.base_files.specs.Told.{Tells};
+ghost use Rattle.game_codec.specs.Record.{IsRecord};
+ghost use Rattle.game_tree.specs.Head.{head_of, without_tags, HasTexts, IsTag};
+ghost use Rattle.game_tree.specs.Legal.{IsLegalGame};
+ghost use Rattle.sig_index.specs.declared.signature.Sig.{Sig as Signature};
+ghost use Rattle.sig_index.specs.Games.{AreWithin, extent_in, record_told};
+ghost use Rattle.sig_index.specs.MemGames.{Kept, kept_of, heads_of, sigs_of, extents_of};
+ghost use Rattle.sig_index.specs.Signature.{IsSig, IsSigBounded};
+
+use crate::games::{FetchError, Games};
+use crate::signature::{Sig, sig_of};
+use base_files::{Extent, Files};
+use game_codec::{EncodeError, encode_game};
+use game_tree::{Game, Head, HeadRef};
+use std::alloc::Global;
+use std::marker::Model;
+
+/// The heads and signatures of games, whose records stand one behind the other in a games file.
+#[derive(Drop)]
+pub struct MemGames {
+    games: Vec<MemGame>,
+}
+
+/// What is kept of one game.
+#[derive(Drop)]
+struct MemGame {
+    head: Head,
+    sig: Sig,
+    extent: Extent,
+}
+
+impl Model for MemGame {
+    ghost use Rattle.std.specs.Prelude.{◌≤◌};
+    ghost use Rattle.game_tree.specs.Head.{without_tags};
+    ghost use Rattle.sig_index.specs.MemGames.{Kept};
+    ghost use Rattle.sig_index.specs.Signature.{IsSigBounded};
+
+    ghost Value = { Kept };
+
+    ghost view = { λ game. record { head = without_tags game.head; sig = game.sig; extent = game.extent } };
+
+    ghost invariant = { λ game. IsSigBounded game.sig × (game.extent.len ≤ 131071) };
+}
+
+impl Model for MemGames {
+    ghost use Rattle.std.specs.Prelude.{◌<◌, ◌^◌, List, length};
+    ghost use Rattle.sig_index.specs.MemGames.{Kept};
+
+    ghost Value = { List Kept };
+
+    ghost view = { λ games. games.games.items };
+
+    ghost invariant = { λ games. length games.games.items < 2 ^ 32 };
+}
+
+impl MemGames {
+    /// No games.
+    pub fn new(alloc: Global) -> MemGames
+        ensures none { result ≡ [] }
+    {
+        MemGames {
+            games: Vec::new(alloc),
+        }
+    }
+
+    /// Adds a legal game with this head, and its record at the end of the bytes of a games file. After an error both are as they were.
+    pub fn add(
+        &mut self,
+        alloc: Global,
+        head: Head,
+        game: &Game,
+        file: &mut Vec<u8>,
+    ) -> Result<(), EncodeError>
+        requires legal { IsLegalGame game.now }
+        requires tags { All IsTag head.tags }
+        requires room { length self.old < u32.MAX }
+        ensures added { OnOk result ((sig : Signature) × ((bytes : List ℕ) × ((IsSig game.now sig × IsRecord bytes head.tags game.now)
+            × ((self.new ≡ self.old ++ kept_of head sig (length file.old.items) (length bytes) ∷ []) × (file.new.items ≡ file.old.items ++ bytes))))) }
+        ensures unchanged { OnErr result ((self.new ≡ self.old) × (file.new.items ≡ file.old.items)) }
+    {
+        let bytes = encode_game(alloc, game, head.tags.as_slice())?;
+        let offset = file.len();
+        let extent = Extent {
+            offset: offset as u64,
+            len: bytes.len() as u32,
+        };
+        file.extend_from_slice(bytes.as_slice())?;
+        let sig = sig_of(game);
+        if self.games.push(MemGame { head, sig, extent }).is_err() {
+            file.truncate(offset);
+            return Err(EncodeError::Memory);
+        }
+        Ok(())
+    }
+
+    // What is kept of game `i`.
+    fn at(&self, i: u32) -> &MemGame
+        requires game { i < length self.now }
+        ensures head { slice_get (heads_of self.now) i ≡ Some result.now.head }
+        ensures sig { slice_get (sigs_of self.now) i ≡ Some result.now.sig }
+        ensures extent { result.now.extent ≡ extent_in (extents_of self.now) i }
+    {
+        &self.games[i as usize]
+    }
+}
+
+impl MemGame {
+    fn sig(&self) -> Sig
+        ensures sig { result ≡ self.now.sig }
+        ensures bounded { IsSigBounded result }
+    {
+        self.sig
+    }
+
+    fn extent(&self) -> Extent
+        ensures extent { result ≡ self.now.extent }
+        ensures short { result.len ≤ 131071 }
+    {
+        self.extent
+    }
+}
+
+impl Games for MemGames {
+    ghost heads = { heads_of };
+
+    ghost sigs = { sigs_of };
+
+    ghost extents = { extents_of };
+
+    fn len(&self) -> u32 {
+        self.games.len() as u32
+    }
+
+    fn sig(&self, i: u32) -> Sig {
+        self.at(i).sig()
+    }
+
+    fn head(&self, i: u32) -> HeadRef<'_> {
+        self.at(i).head.fields()
+    }
+
+    fn extent(&self, i: u32) -> Extent {
+        self.at(i).extent()
+    }
+
+    fn fetch<F: Files>(&self, i: u32, files: &mut F, buf: &mut [u8]) -> Result<u32, FetchError> {
+        let extent = self.at(i).extent();
+        match files.read_games(extent.offset, extent.len, buf) {
+            Ok(()) => Ok(extent.len),
+            Err(_) => Err(FetchError::Failed),
+        }
+    }
+}
