@@ -111,17 +111,17 @@ pub record BreaksRecord (names : NameLists) (games : List ℕ) (game : ℕ) (byt
   pub what : RecordFault
   pub checked : entry_checked names (length games) game bytes ≡ Ok fields
   pub broken : IsRecordFault (record_in games (extent_of fields)) what
-  pub fault : fault ≡ Packed game what
+  pub is : fault ≡ Packed game what
 
 -- The opening is strict, and a derived field differs from the record's.
 pub record Differs (strict : Bool) (names : NameLists) (games : List ℕ) (game : ℕ) (bytes : List ℕ) (fault : BaseFault) : Type 0 where
   pub fields : Entry
   pub sig : Sig
   pub field : DerivedField
-  pub strict : IsTrue strict
+  pub asked : IsTrue strict
   pub signs : Signs names games game bytes fields sig
   pub differs : derived_fault fields sig ≡ Some field
-  pub fault : fault ≡ Derived game field
+  pub is : fault ≡ Derived game field
 
 -- The first fault of the entry of a game: of the entry itself, of its record, of its derived fields.
 abbrev pub Fails : Bool → NameLists → List ℕ → ℕ → List ℕ → BaseFault → Type 0
@@ -129,15 +129,15 @@ Fails strict names games game bytes fault =
     (entry_checked names (length games) game bytes ≡ Err fault)
     ⊎ (BreaksRecord names games game bytes fault ⊎ Differs strict names games game bytes fault)
 
--- An entry has this fault, and all before it pass.
-pub record EntryFails (strict : Bool) (index names games : List ℕ) (fault : BaseFault) : Type 0 where
-  pub whole : Whole
+-- One of so many entries has this fault, and all before it pass.
+pub record EntryFails (strict : Bool) (index : List ℕ) (names : NameLists) (games : List ℕ) (count : ℕ) (fault : BaseFault) : Type 0 where
   pub game : ℕ
-  pub read : whole_read index names ≡ Ok whole
-  pub there : game < whole.header.games
-  pub before : (i : ℕ) → i < game → Passes strict whole.names games i (entry_bytes index i)
-  pub fails : Fails strict whole.names games game (entry_bytes index game) fault
+  pub there : game < count
+  pub before : (i : ℕ) → i < game → Passes strict names games i (entry_bytes index i)
+  pub fails : Fails strict names games game (entry_bytes index game) fault
 
--- The first fault of three files.
+-- The first fault of three files: of the whole base, or of an entry.
 abbrev pub FirstFault : Bool → List ℕ → List ℕ → List ℕ → BaseFault → Type 0
-FirstFault strict index names games fault = (whole_read index names ≡ Err fault) ⊎ EntryFails strict index names games fault
+FirstFault strict index names games fault =
+    (whole_read index names ≡ Err fault)
+    ⊎ ((whole : Whole) × ((whole_read index names ≡ Ok whole) × EntryFails strict index whole.names games whole.header.games fault))

@@ -7,3 +7,4 @@ pub mod Opening
 pub mod Errors
 pub mod Packing
 pub mod Reading
+pub mod GameAt

@@ -17,15 +17,15 @@ pub record IsEntryOf (names : NameLists) (games bytes : List ℕ) (held : Held) 
 
 -- There is a game for each entry of the index, and each is its entry's game.
 pub record AreGames (index : List ℕ) (names : NameLists) (games : List ℕ) (count : ℕ) (all : List Held) : Type 0 where
-  pub count : length all ≡ count
+  pub long : length all ≡ count
   pub each : (i : ℕ) (held : Held) → slice_get all i ≡ Some held → IsEntryOf names games (entry_bytes index i) held
 
 -- The three files mean this base.
 pub record Means (index names games : List ℕ) (base : Base) : Type 0 where
   pub header : index_read index ≡ Ok base.header
-  pub names : NameFile names base.names
+  pub lists : NameFile names base.names
   pub end : base.end ≡ length games
-  pub games : AreGames index base.names games base.header.games base.games
+  pub held : AreGames index base.names games base.header.games base.games
 
 -- The same names, and others behind them or none: each name keeps its id.
 pub record HoldsNames (all names : NameLists) : Type 0 where
@@ -38,7 +38,7 @@ pub record HoldsNames (all names : NameLists) : Type 0 where
 pub record Carries (index names games : List ℕ) (base : Base) : Type 0 where
   pub header : index_read index ≡ Ok base.header
   pub all_names : NameLists
-  pub names : NameFile names all_names
+  pub lists : NameFile names all_names
   pub more_names : HoldsNames all_names base.names
   pub end : base.end ≤ length games
-  pub games : AreGames index base.names games base.header.games base.games
+  pub held : AreGames index base.names games base.header.games base.games

@@ -16,9 +16,13 @@ use Rattle.base_core.specs.Represents.{Kept, Represents, Mended}
 abbrev pub IfTold : Seen → (List ℕ → List ℕ → List ℕ → Type 0) → Type 0
 IfTold seen Fact = IfSome seen.index (λ index. IfSome seen.names (λ names. IfSome seen.games (λ games. Fact index names games)))
 
+-- An index, a names file and a games file of this length are empty.
+abbrev pub are_empty : List ℕ → List ℕ → ℕ → Bool
+are_empty index names end = nat_eq (length index) 0 && nat_eq (length names) 0 && nat_eq end 0
+
 -- A base is created where that was asked for and its three files are empty.
 abbrev pub is_created : Bool → List ℕ → List ℕ → List ℕ → Bool
-is_created create index names games = create && nat_eq (length index) 0 && nat_eq (length names) 0 && nat_eq (length games) 0
+is_created create index names games = create && are_empty index names (length games)
 
 -- The base that is opened: the empty one where it is created, and else the one that the files mean.
 abbrev pub OpensAs : Bool → List ℕ → List ℕ → List ℕ → Base → Type 0
@@ -35,7 +39,7 @@ pub record Opens (create strict : Bool) (index names games : List ℕ) (kept : K
   pub base : Base
   pub means : OpensAs create index names games base
   pub represents : Represents kept games base
-  pub mended : Mended index base.games mended
+  pub mends : Mended index base.games mended
   pub strictly : IsTrue strict → mended ≡ 0
   pub sound : (fault : BaseFault) → Refuses create strict index names games fault → ⊥
   pub saved : kept.unsaved ≡ false

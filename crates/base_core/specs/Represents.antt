@@ -1,6 +1,7 @@
 -- A base that is open: what it keeps beside its games file, and which base that is (this project's own).
 use Rattle.std.specs.Prelude.{◌≡◌, ◌≤◌, ◌<◌, ℕ, Bool, List, [], All, length, map, slice_get, Option, Some, None, is_some, count_by}
-use Rattle.game_tree.specs.Game.{GameTree}
+use Rattle.base_files.specs.declared.extent.Extent.{Extent}
+use Rattle.game_tree.specs.declared.head.Head.{Head}
 use Rattle.index_entry.specs.declared.entry.Entry.{Entry}
 use Rattle.index_entry.specs.declared.index.IndexHead.{IndexHead}
 use Rattle.index_entry.specs.Entry.{IsEntry, entry_in}
@@ -10,7 +11,7 @@ use Rattle.sig_index.specs.Signature.{IsSig}
 use Rattle.sig_index.specs.declared.signature.Sig.{Sig}
 use Rattle.base_core.specs.declared.fault.DerivedField.{DerivedField}
 use Rattle.base_core.specs.Base.{Base, Held}
-use Rattle.base_core.specs.Entries.{HasNames, Says, sig_in}
+use Rattle.base_core.specs.Entries.{HasNames, Says, extent_of, head_of, sig_in}
 use Rattle.base_core.specs.FirstFault.{derived_fault, place_fault}
 
 -- What an open base keeps: the header, the names, an entry for each game, the length of the games file, and whether it has changes that
@@ -49,6 +50,16 @@ pub record IsSound (kept : Kept) : Type 0 where
   pub count : length kept.entries ≡ kept.header.games
   pub names : AreSound kept.names
   pub entries : All (IsKept kept.names kept.end) kept.entries
+
+-- The heads without their tags, the signatures and the places of the records of the games, as searches see them.
+abbrev pub heads_of : Kept → List Head
+heads_of kept = map (λ e. head_of kept.names e []) kept.entries
+
+abbrev pub sigs_of : Kept → List Sig
+sigs_of kept = map sig_in kept.entries
+
+abbrev pub extents_of : Kept → List Extent
+extents_of kept = map extent_of kept.entries
 
 -- For each entry of the index the first derived field that differs from those of its game, if there is one.
 pub record AreDifferences (index : List ℕ) (all : List Held) (fields : List (Option DerivedField)) : Type 0 where

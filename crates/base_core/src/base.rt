@@ -1,12 +1,12 @@
 //! An open base.
-ghost use Rattle.std.specs.Prelude.{◌≡◌, [], false};
+ghost use Rattle.std.specs.Prelude.{◌≡◌, ◌<◌, [], Some, false, length, slice_get};
 ghost use Rattle.base_core.specs.Base.{empty_base, empty_header};
-ghost use Rattle.base_core.specs.Represents.{IsSound};
+ghost use Rattle.base_core.specs.Represents.{IsKept, IsSound};
 ghost use Rattle.name_base.specs.NameLists.{no_names};
 
 use crate::entries::Entries;
 use block_store::Store;
-use index_entry::IndexHead;
+use index_entry::{Entry, IndexHead};
 use name_base::Names;
 use std::alloc::Global;
 use std::marker::Model;
@@ -15,11 +15,11 @@ use std::marker::Model;
 /// games file. Each entry has the derived fields of its game's record, and the event date of its settled head.
 #[derive(Drop)]
 pub struct Base {
-    header: IndexHead,
-    names: Names,
+    pub(crate) header: IndexHead,
+    pub(crate) names: Names,
     pub(crate) entries: Entries,
-    store: Store,
-    unsaved: bool,
+    pub(crate) store: Store,
+    pub(crate) unsaved: bool,
 }
 
 impl Model for Base {
@@ -73,6 +73,15 @@ impl Base {
         ensures sound { IsSound self.now }
     {
         &self.header
+    }
+
+    // What is kept of game `i`.
+    pub(crate) fn entry(&self, i: u32) -> Entry
+        requires there { i < length self.now.entries }
+        ensures at { slice_get self.now.entries i ≡ Some result }
+        ensures kept { IsKept self.now.names self.now.end result }
+    {
+        self.entries.get(i)
     }
 
     /// The names.

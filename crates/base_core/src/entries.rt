@@ -1,6 +1,7 @@
 //! The entries of the games of an open base.
-ghost use Rattle.std.specs.Prelude.{◌≡◌, ◌<◌, ◌*◌, ◌^◌, ◌++◌, [], ◌∷◌, Some, length, slice_get, OnOk, OnErr};
+ghost use Rattle.std.specs.Prelude.{◌≡◌, ◌≤◌, ◌<◌, ◌+◌, ◌-◌, ◌*◌, ◌^◌, ◌++◌, [], ◌∷◌, Some, length, slice_get, OnOk, OnErr};
 ghost use Rattle.index_entry.specs.Entry.{IsEntry};
+ghost use Rattle.base_core.specs.Packing.{packed_at};
 
 use index_entry::{ENTRY_LEN, Entry, pack, unpack};
 use std::alloc::{AllocError, Global};
@@ -48,10 +49,7 @@ impl Entries {
         requires there { i < length self.now }
         ensures at { slice_get self.now i ≡ Some result }
     {
-        let mut bytes = [0; ENTRY_LEN];
-        let at = ENTRY_LEN * i as usize;
-        bytes.copy_from_slice(&self.bytes[at..at + ENTRY_LEN]);
-        match unpack(&bytes) {
+        match unpack(&packed_at(self.bytes.as_slice(), i)) {
             Ok(entry) => entry,
             Err(_) => unreachable!(),
         }
@@ -68,4 +66,15 @@ impl Entries {
         self.count += 1;
         Ok(())
     }
+}
+
+// The 47 bytes of an entry.
+fn packed_at(bytes: &[u8], i: u32) -> [u8; ENTRY_LEN]
+    requires there { 47 * i + 47 ≤ length bytes.now }
+    ensures packed { result ≡ packed_at bytes.now i }
+{
+    let at = ENTRY_LEN * i as usize;
+    let mut packed = [0; ENTRY_LEN];
+    packed.copy_from_slice(&bytes[at..at + ENTRY_LEN]);
+    packed
 }

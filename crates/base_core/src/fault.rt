@@ -1,13 +1,14 @@
 //! Why a base is not opened.
 ghost use Rattle.std.specs.Prelude.{◌≡◌};
-ghost use Rattle.base_files.specs.declared.faults.DeviceError.{DeviceError};
-ghost use Rattle.base_core.specs.Errors.{open_error};
+ghost use Rattle.base_core.specs.Errors.{names_error, open_error, packed_error, unread_error};
 ghost use Rattle.base_core.specs.declared.fault.OpenError.TheVariants as opening;
+ghost use Rattle.base_core.specs.declared.fault.EditError.TheVariants as edit;
 
 use base_files::DeviceError;
-use game_codec::RecordFault;
+use game_codec::{DecodeError, RecordFault};
 use index_entry::{EntryFault, IndexFault};
-use name_base::NameFault;
+use name_base::{NameFault, NamesError};
+use sig_index::Sig;
 use std::alloc::AllocError;
 use thiserror::Error;
 
@@ -101,6 +102,35 @@ pub enum OpenError {
     Memory,
 }
 
+/// Why a base does not give a game.
+#[derive(Clone, Copy, Debug, Drop, PartialEq, Eq, Error)]
+pub enum EditError {
+    /// The base has no game of this number.
+    #[error("no game {0}")]
+    NoGame(u32),
+    /// The record has changed since the base was opened: it is none, or that of a game with another signature, which was `found`.
+    #[error("changed game {game}")]
+    Changed {
+        game: u32,
+        kept: Sig,
+        found: Option<Sig>,
+    },
+    /// The files failed.
+    #[error("cannot read the games file")]
+    Failed,
+    /// Memory ran out.
+    #[error("out of memory")]
+    Memory,
+}
+
+impl From<AllocError> for EditError {
+    ghost from_gives = { λ _ e. e ≡ edit.Memory };
+
+    fn from(_refused: AllocError) -> EditError {
+        EditError::Memory
+    }
+}
+
 impl From<DeviceError> for OpenError {
     ghost from_gives = { λ error e. e ≡ open_error error };
 
@@ -109,6 +139,41 @@ impl From<DeviceError> for OpenError {
             DeviceError::Failed => OpenError::Failed,
             DeviceError::Memory => OpenError::Memory,
         }
+    }
+}
+
+impl From<NamesError> for OpenError {
+    ghost from_gives = { λ error e. e ≡ names_error error };
+
+    fn from(error: NamesError) -> OpenError {
+        match error {
+            NamesError::Bad(fault) => OpenError::Bad(BaseFault::Names(fault)),
+            NamesError::Memory => OpenError::Memory,
+        }
+    }
+}
+
+// Why a base is not opened where the record of a game is not read.
+pub(crate) fn packed_error(game: u32, error: DecodeError) -> OpenError
+    ensures error { result ≡ packed_error game error }
+{
+    match error {
+        DecodeError::Bad(fault) => OpenError::Bad(BaseFault::Packed { game, fault }),
+        DecodeError::Memory => OpenError::Memory,
+    }
+}
+
+// Why a game is not given that has this signature, where its record is not read.
+pub(crate) fn unread_error(game: u32, kept: Sig, error: DecodeError) -> EditError
+    ensures error { result ≡ unread_error game kept error }
+{
+    match error {
+        DecodeError::Bad(_) => EditError::Changed {
+            game,
+            kept,
+            found: None,
+        },
+        DecodeError::Memory => EditError::Memory,
     }
 }
 
