@@ -17,10 +17,10 @@ first_holding kept = record { kept = kept; filter = all_in (length kept.entries)
 begins_first : (kept : Kept) → IsSound kept → Begins kept (first_holding kept)
 begins_first kept is_sound = record {
   sound = λ (known : ℕ) (within : kept.end ≤ known). record {
-      fits = record { filter = length-replicate (length kept.entries) (Some 0); saved = All-nil (λ (f : SavedFilter). length f.plies ≡ length kept.entries) };
-      base = is_sound;
-      end = within;
-    };
+    fits = record { filter = length-replicate (length kept.entries) (Some 0); saved = All-nil (λ (f : SavedFilter). length f.plies ≡ length kept.entries) };
+    base = is_sound;
+    end = within;
+  };
   stands = λ (seen : Seen) (games : List ℕ) (base : Base) (told : seen.games ≡ Some games) (represents : Represents kept games base) (clean : kept.unsaved ≡ false).
       record { games = games; told = told; base = represents; filter = ap all_in represents.count; saved = refl; unsaved = clean };
 }

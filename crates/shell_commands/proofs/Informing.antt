@@ -34,7 +34,7 @@ quiet_info old line games deleted players events sites rounds unsaved fits writt
       let names : NameLists → ℕ = λ n. length n.players in
       let games' : games ≡ length s.base.games = g ∙ st.base.count in
       let deleted' : deleted ≡ deleted_in s =
-          d ∙ ap (λ (hs : List Head). count_by (λ (h : Head). h.deleted) hs) (heads-are old.kept st.games s.base st.base) ∙ deleted_of s.base.games in
+      d ∙ ap (λ (hs : List Head). count_by (λ (h : Head). h.deleted) hs) (heads-are old.kept st.games s.base st.base) ∙ deleted_of s.base.games in
       let players' : players ≡ length s.base.names.players = p ∙ ap (λ (n : NameLists). length n.players) st.base.names in
       let events' : events ≡ length s.base.names.events = e ∙ ap (λ (n : NameLists). length n.events) st.base.names in
       let sites' : sites ≡ length s.base.names.sites = t ∙ ap (λ (n : NameLists). length n.sites) st.base.names in

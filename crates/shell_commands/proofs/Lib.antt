@@ -8,3 +8,4 @@ pub mod Searching
 pub mod Informing
 pub mod FindingLaws
 pub mod HoldingLaws
+pub mod FirstPlyIs

@@ -114,7 +114,7 @@ drop_in kept filter saved later name line dropped written all fits =
     let old : Holding = record { kept = kept; filter = filter; saved = saved } in
     let new : Holding = record { kept = kept; filter = filter; saved = later } in
     quiet_by (λ f s. f) (λ f s. dropped_in s name) (λ f s. drop_line s name) old new (Ok (Drop name)) line (λ s. refl) (λ s. refl) refl refl dropped written
-        (fits_saved old new refl refl (all (length kept.entries) fits.saved) fits)
+    (fits_saved old new refl refl (all (length kept.entries) fits.saved) fits)
 
 pub drop_quiet : (old : Holding) (kept : Kept) (filter : Plies) (saved later : List SavedFilter) (name line : List ℕ)
     → old ≡ record { kept = kept; filter = filter; saved = saved } → later ≡ dropped_in saved name → line ≡ drop_line saved name

@@ -23,7 +23,7 @@ entry_of what (game ∷ games) i ply below first =
     let there : slice_get (game ∷ games) i ≡ Some here = slice_get-get_or (game ∷ games) i game below in
     let e : ply ≡ first_of what here = first here there in
     get_or_from_slice_get (found what (game ∷ games)) i ply ply
-        (slice_get-map (first_of what) (game ∷ games) i ∙ ap (option_map (first_of what)) there ∙ ap (λ (p : Option ℕ). Some p) (sym e))
+    (slice_get-map (first_of what) (game ∷ games) i ∙ ap (option_map (first_of what)) there ∙ ap (λ (p : Option ℕ). Some p) (sym e))
 
 -- One game more.
 pub found_more : (what : Sought) (list : List GameTree) (plies : List (Option ℕ)) (i : ℕ) (ply : Option ℕ) → i < length plies → i < length list

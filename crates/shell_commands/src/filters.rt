@@ -80,45 +80,46 @@ pub(crate) fn keep_filter(
 }
 
 // use NAME
-pub(crate) fn take(
-    alloc: Global,
-    machine: &mut Machine,
-    name: &Text,
-) -> Result<Vec<u8>, AllocError>
+pub(crate) fn take(alloc: Global, machine: &mut Machine, name: &Text) -> Result<Vec<u8>, AllocError>
     requires fits { Fits machine.old }
     ensures quiet { IfOk result (λ line. Quiet machine.old (Ok (command.Take name.now)) machine.new line.items) }
 {
-    if !take_from(alloc, &mut machine.filter, machine.saved.as_slice(), name.as_bytes())? {
+    if !take_from(
+        alloc,
+        &mut machine.filter,
+        machine.saved.as_slice(),
+        name.as_bytes(),
+    )? {
         return name_line(alloc, b"error: no filter ", name);
     }
     filter_line(alloc, &machine.filter)
 }
 
 // and NAME
-pub(crate) fn and(
-    alloc: Global,
-    machine: &mut Machine,
-    name: &Text,
-) -> Result<Vec<u8>, AllocError>
+pub(crate) fn and(alloc: Global, machine: &mut Machine, name: &Text) -> Result<Vec<u8>, AllocError>
     requires fits { Fits machine.old }
     ensures quiet { IfOk result (λ line. Quiet machine.old (Ok (command.And name.now)) machine.new line.items) }
 {
-    if !meet(&mut machine.filter, machine.saved.as_slice(), name.as_bytes()) {
+    if !meet(
+        &mut machine.filter,
+        machine.saved.as_slice(),
+        name.as_bytes(),
+    ) {
         return name_line(alloc, b"error: no filter ", name);
     }
     filter_line(alloc, &machine.filter)
 }
 
 // or NAME
-pub(crate) fn or(
-    alloc: Global,
-    machine: &mut Machine,
-    name: &Text,
-) -> Result<Vec<u8>, AllocError>
+pub(crate) fn or(alloc: Global, machine: &mut Machine, name: &Text) -> Result<Vec<u8>, AllocError>
     requires fits { Fits machine.old }
     ensures quiet { IfOk result (λ line. Quiet machine.old (Ok (command.Or name.now)) machine.new line.items) }
 {
-    if !unite(&mut machine.filter, machine.saved.as_slice(), name.as_bytes()) {
+    if !unite(
+        &mut machine.filter,
+        machine.saved.as_slice(),
+        name.as_bytes(),
+    ) {
         return name_line(alloc, b"error: no filter ", name);
     }
     filter_line(alloc, &machine.filter)

@@ -38,7 +38,14 @@ pub(crate) fn find<F: Files, K: Sink>(
     ensures causes { Causes WhyHalt result (counts (F.faults files.old) 0 (K.faults out.old)) (counts (F.faults files.new) 0 (K.faults out.new)) }
 {
     let block = machine.block.as_mut_slice();
-    match search(&machine.base, board, side, &mut machine.filter, files, block) {
+    match search(
+        &machine.base,
+        board,
+        side,
+        &mut machine.filter,
+        files,
+        block,
+    ) {
         Ok(()) => hits(machine, out),
         Err(halt) => Err(halt),
     }
@@ -97,7 +104,11 @@ fn first_in<G: Games, F: Files>(
     match games.fetch(i, files, block) {
         Ok(_) => {}
         Err(FetchError::Failed) => return Err(Halt::Device(Stop::Files)),
-        Err(FetchError::Changed { game, kept, found }) => return Err(Halt::Changed { game, kept, found }),
+        Err(FetchError::Changed { game, kept, found }) => return Err(Halt::Changed {
+            game,
+            kept,
+            found,
+        }),
     }
     match first_ply(block.split_at(len).0, board, side) {
         Ok(ply) => Ok(ply),

@@ -6,6 +6,7 @@ mod find;
 mod finding;
 mod halt;
 mod hits;
+mod laws;
 mod lines;
 mod machine;
 mod saved;
@@ -13,6 +14,7 @@ mod serving;
 mod showing;
 
 pub use halt::Halt;
+pub use laws::first_plies_are_first;
 pub use machine::Machine;
 pub use saved::SavedFilter;
 pub use serving::{Order, serve};

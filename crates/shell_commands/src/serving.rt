@@ -100,8 +100,14 @@ fn take_turn<'a>(
         Command::Drop(name) => Ok(Turn::Line(drop_filter(alloc, machine, name)?)),
         Command::Info => Ok(Turn::Line(info(alloc, machine)?)),
         Command::Quit => Ok(Turn::Line(quit(alloc, machine)?)),
-        Command::SearchPosition(_, _) => Ok(Turn::Line(fault_line(alloc, ScriptFault::Argument(2))?)),
-        Command::SearchMaterial(_, _) => Ok(Turn::Line(fault_line(alloc, ScriptFault::Argument(2))?)),
+        Command::SearchPosition(_, _) => Ok(Turn::Line(fault_line(
+            alloc,
+            ScriptFault::Argument(2),
+        )?)),
+        Command::SearchMaterial(_, _) => Ok(Turn::Line(fault_line(
+            alloc,
+            ScriptFault::Argument(2),
+        )?)),
         Command::SearchHeader(_, _) => Ok(Turn::Line(fault_line(alloc, ScriptFault::Argument(2))?)),
         Command::List => Ok(Turn::Line(unknown(alloc)?)),
         Command::Show(_) => Ok(Turn::Line(unknown(alloc)?)),

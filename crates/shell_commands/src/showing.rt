@@ -73,12 +73,7 @@ fn numbers_line(alloc: Global, n: &Numbers) -> Result<String, AllocError>
 }
 
 // The first of the numbers.
-fn counts_line(
-    alloc: Global,
-    games: u32,
-    deleted: u32,
-    players: u32,
-) -> Result<String, AllocError>
+fn counts_line(alloc: Global, games: u32, deleted: u32, players: u32) -> Result<String, AllocError>
     ensures { IfOk result (λ line. string_bytes line ≡ counts_line games deleted players) }
 {
     let line = format!(in alloc; "games {games} deleted {deleted} players {players}")?;

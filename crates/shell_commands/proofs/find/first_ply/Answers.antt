@@ -17,7 +17,7 @@ returns-then-stands_at-clause-first c = λ tags game is.
     let what = sought c.args.board.now c.args.side in
     let on : IsRecord c.loop-walk.walk.bytes tags game = subst (λ (b : List ℕ). IsRecord b tags game) (sym c.loop-walk.invariant.bytes) is in
     let here : stands_at what (position_at game c.loop-walk.walk.ply) ≡ true =
-        ap (stands_at what) (sym (c.position.ensures.replay tags game on)) ∙ (sym c.stands_at.ensures.stands ∙ c.if-stands_at.true) in
+    ap (stands_at what) (sym (c.position.ensures.replay tags game on)) ∙ (sym c.stands_at.ensures.stands ∙ c.if-stands_at.true) in
     ap (λ (k : ℕ). Some k) c.ply-ply.ensures.ply ∙ at_found what game c.loop-walk.walk.ply (c.loop-walk.invariant.at tags game is) here
 
 pub returns-in-Ok-None-clause-first : goal.returns-in-Ok-None-clause-first
@@ -25,7 +25,7 @@ returns-in-Ok-None-clause-first c = λ tags game is.
     let what = sought c.args.board.now c.args.side in
     let on : IsRecord c.loop-walk.walk.bytes tags game = subst (λ (b : List ℕ). IsRecord b tags game) (sym c.loop-walk.invariant.bytes) is in
     let other : stands_at what (position_at game c.loop-walk.walk.ply) ≡ false =
-        ap (stands_at what) (sym (c.position.ensures.replay tags game on)) ∙ (sym c.stands_at.ensures.stands ∙ c.if-stands_at.false) in
+    ap (stands_at what) (sym (c.position.ensures.replay tags game on)) ∙ (sym c.stands_at.ensures.stands ∙ c.if-stands_at.false) in
     let there : slice_get (main_moves game) c.loop-walk.walk.ply ≡ None = sym (c.in-Ok-None.ensures.next tags game on) ∙ c.in-Ok-None.field-0-is in
     at_end what game c.loop-walk.walk.ply (c.loop-walk.invariant.at tags game is) other there
 
@@ -38,7 +38,7 @@ loop-walk-preserved c =
           let what = sought c.args.board.now c.args.side in
           let on : IsRecord c.loop-walk.walk.bytes tags game = subst (λ (b : List ℕ). IsRecord b tags game) (sym c.loop-walk.invariant.bytes) is in
           let other : stands_at what (position_at game c.loop-walk.walk.ply) ≡ false =
-              ap (stands_at what) (sym (c.position.ensures.replay tags game on)) ∙ (sym c.stands_at.ensures.stands ∙ c.if-stands_at.false) in
+          ap (stands_at what) (sym (c.position.ensures.replay tags game on)) ∙ (sym c.stands_at.ensures.stands ∙ c.if-stands_at.false) in
           let there = sym (c.in-Ok-Some.ensures.next tags game on) ∙ c.in-Ok-Some.field-0-is in
           subst (IsAt what game) (sym played.1.0) (at_next what game c.loop-walk.walk.ply _ (c.loop-walk.invariant.at tags game is) other there);
     }

@@ -10,7 +10,7 @@ returns-in-Ok-first_ply-clause-first g c = λ told list game same holds there.
     let games = (g.F.Files.seen c.args.files.now).games in
     let extents = g.G.Games.extents c.args.games.now in
     let tells = walked games extents c.args.i c.fetch.new.buf c.split_at.result.0.now c.in-Ok.field-0 c.extent-len.result
-        c.extent-len.ensures.extent c.in-Ok.ensures.len c.split_at.ensures.front c.in-Ok.ensures.bytes in
+    c.extent-len.ensures.extent c.in-Ok.ensures.len c.split_at.ensures.front c.in-Ok.ensures.bytes in
     let read = game_read games told extents (g.G.Games.sigs c.args.games.now) list c.args.i game c.split_at.result.0.now same holds c.requires.game there tells in
     c.in-Ok-first_ply.ensures.first read.0 game read.1
 
@@ -19,7 +19,7 @@ returns-in-Err-clause-devices g c = λ told list same holds.
     let games = (g.F.Files.seen c.args.files.now).games in
     let extents = g.G.Games.extents c.args.games.now in
     let tells = walked games extents c.args.i c.fetch.new.buf c.split_at.result.0.now c.in-Ok.field-0 c.extent-len.result
-        c.extent-len.ensures.extent c.in-Ok.ensures.len c.split_at.ensures.front c.in-Ok.ensures.bytes in
+    c.extent-len.ensures.extent c.in-Ok.ensures.len c.split_at.ensures.front c.in-Ok.ensures.bytes in
     c.in-Err.ensures.fault (some_read games told extents (g.G.Games.sigs c.args.games.now) list c.args.i c.split_at.result.0.now same holds c.requires.game tells)
 
 pub returns-in-Err-Changed-clause-devices : goal.returns-in-Err-Changed-clause-devices

@@ -21,8 +21,8 @@ loop-i-preserved g c =
           let in_list : c.loop-i.i < length list = omega (arith, holds.count, c.len-i-end.ensures.one_sig_each, c.loop-i-test.true) in
           let P : List (Option ℕ) → Type 0 = λ f. Found what list f (c.loop-i.i + 1) in
           subst P (sym c.set.ensures.changed)
-              (found_more what list c.loop-i.filter c.loop-i.i c.in-Ok.ply below in_list (c.loop-i.invariant.found told list same holds)
-              (λ game there. c.in-Ok.ensures.first told list game told_now holds there));
+          (found_more what list c.loop-i.filter c.loop-i.i c.in-Ok.ply below in_list (c.loop-i.invariant.found told list same holds)
+          (λ game there. c.in-Ok.ensures.first told list game told_now holds there));
       entries = ap (λ (f : List (Option ℕ)). length f) c.set.ensures.changed ∙ (length-set c.loop-i.filter c.loop-i.i c.in-Ok.ply ∙ c.loop-i.invariant.entries);
       room = c.first_in.ensures.room;
       unchanged = c.first_in.ensures.unchanged ∙ c.loop-i.invariant.unchanged;
@@ -33,6 +33,6 @@ loop-i-preserved g c =
 pub returns-clause-found : goal.returns-clause-found
 returns-clause-found g c = λ told list same holds.
     found_all (sought c.args.board.now c.args.side) list c.loop-i.filter c.loop-i.i
-        (omega (arith, c.loop-i.invariant.entries, c.requires.entries, c.len-i-end.ensures.one_sig_each, c.loop-i-test.false))
-        (omega (arith, holds.count, c.len-i-end.ensures.one_sig_each, c.loop-i-test.false))
-        (c.loop-i.invariant.found told list same holds)
+    (omega (arith, c.loop-i.invariant.entries, c.requires.entries, c.len-i-end.ensures.one_sig_each, c.loop-i-test.false))
+    (omega (arith, holds.count, c.len-i-end.ensures.one_sig_each, c.loop-i-test.false))
+    (c.loop-i.invariant.found told list same holds)

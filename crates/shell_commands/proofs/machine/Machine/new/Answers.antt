@@ -8,5 +8,5 @@ use Rattle.shell_commands.proofs.machine.Machine.new.Goals as goal
 pub returns-clause-begins : goal.returns-clause-begins
 returns-clause-begins c =
     let e : c.in_ok-filter.filter ≡ all_in (length c.args.base.entries) =
-        c.in_ok-filter.ensures.all ∙ (ap (λ (h : IndexHead). all_in h.games) c.header.ensures.header ∙ ap all_in (sym c.header.ensures.sound.count)) in
+    c.in_ok-filter.ensures.all ∙ (ap (λ (h : IndexHead). all_in h.games) c.header.ensures.header ∙ ap all_in (sym c.header.ensures.sound.count)) in
     begins_by c.args.base _ c.header.ensures.sound (cc)
