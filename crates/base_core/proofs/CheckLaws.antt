@@ -1,12 +1,11 @@
 -- What an entry has that passed its checks.
-use Rattle.std.proofs.Common.{◌≡◌, ◌<◌, ◌≤◌, ◌+◌, ℕ, Bool, true, false, List, length, Option, Some, None, Result, Ok, Err, refl, sym, ap, ◌∙◌, subst}
+use Rattle.std.proofs.Common.{◌≡◌, ◌≤◌, ◌+◌, ℕ, List, Option, Some, None, Result, Ok, Err, refl, sym, subst}
 use Rattle.std.proofs.lemmas.Bool.{leb-false, ltb-false}
 use Rattle.index_entry.specs.declared.entry.Entry.{Entry}
 use Rattle.index_entry.specs.declared.fault.EntryFault.{EntryFault}
 use Rattle.index_entry.specs.Entry.{entry_read, entry_in, first_of, fault_in}
 use Rattle.name_base.specs.NameLists.{NameLists}
-use Rattle.base_core.specs.declared.fault.BaseFault.{BaseFault}
-use Rattle.base_core.specs.declared.fault.BaseFault.TheVariants.{Index, Names, EntryField, Id, Place, Packed, Derived}
+use Rattle.base_core.specs.declared.fault.BaseFault.TheVariants.{EntryField, Id, Place}
 use Rattle.base_core.specs.declared.fault.IdField.{IdField}
 use Rattle.base_core.specs.declared.fault.IdField.TheVariants as id
 use Rattle.base_core.specs.declared.fault.PlaceWhat.{PlaceWhat}

@@ -1,5 +1,5 @@
 -- The games of an open base as searches see them.
-use Rattle.std.proofs.Common.{◌≡◌, ◌<◌, ◌≤◌, ◌+◌, ℕ, List, [], length, map, slice_get, option_map, Some, None, All, refl, sym, ap, ◌∙◌, subst, inl, inr, arith}
+use Rattle.std.proofs.Common.{◌≡◌, ◌<◌, ◌≤◌, ◌+◌, ℕ, List, [], length, map, slice_get, option_map, Some, All, sym, ap, ◌∙◌, subst, inl, inr, arith}
 use Rattle.std.proofs.lemmas.Option.{slice_get-map, get_or_from_slice_get, slice_get_cases, slice_get_within, same_Some}
 use Rattle.std.proofs.lemmas.List.{length-map, get_or_past}
 use Rattle.base_files.specs.declared.extent.Extent.{Extent}
@@ -69,14 +69,14 @@ pub holds : (kept : Kept) (games : List ℕ) (base : Base) → Represents kept g
 holds kept games base is = record {
   count = length-map base.games (λ held. held.game) ∙ (sym is.count ∙ sym (length-map kept.entries sig_in));
   each = λ i sig game at_sig at_game.
-    let e = from-map sig_in kept.entries i sig at_sig in
-    let held = from-map (λ (h : Held). h.game) base.games i game at_game in
-    let keeps = is.each i e.0 held.0 e.1.0 held.1.0 in
-    let H : Extent → Sig → GameTree → Type 0 = λ x s g. IsHeld games x s g in
-    let one : IsHeld games (extent_of e.0) (sig_in e.0) held.0.game = record { tags = keeps.says.tags; is_record = keeps.says.read; is_sig = keeps.signed } in
-    let two = subst (λ x. H x (sig_in e.0) held.0.game) (extent-at kept.entries i e.0 e.1.0) one in
-    let three = subst (λ s. H (extent_in (map extent_of kept.entries) i) s held.0.game) e.1.1 two in
-    subst (λ g. H (extent_in (map extent_of kept.entries) i) sig g) held.1.1 three;
+      let e = from-map sig_in kept.entries i sig at_sig in
+      let held = from-map (λ (h : Held). h.game) base.games i game at_game in
+      let keeps = is.each i e.0 held.0 e.1.0 held.1.0 in
+      let H : Extent → Sig → GameTree → Type 0 = λ x s g. IsHeld games x s g in
+      let one : IsHeld games (extent_of e.0) (sig_in e.0) held.0.game = record { tags = keeps.says.tags; is_record = keeps.says.read; is_sig = keeps.signed } in
+      let two = subst (λ x. H x (sig_in e.0) held.0.game) (extent-at kept.entries i e.0 e.1.0) one in
+      let three = subst (λ s. H (extent_in (map extent_of kept.entries) i) s held.0.game) e.1.1 two in
+      subst (λ g. H (extent_in (map extent_of kept.entries) i) sig g) held.1.1 three;
 }
 
 head-is : (names : NameLists) (games : List ℕ) (e : Entry) (held : Held) → Keeps names games e held → head_of names e [] ≡ without_tags held.head

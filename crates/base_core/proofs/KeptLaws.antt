@@ -1,16 +1,16 @@
 -- What is kept of an entry says the same game, with its event date settled.
-use Rattle.std.proofs.Common.{◌≡◌, ◌≤◌, ◌<◌, ℕ, Bool, true, false, List, [], ◌∷◌, Option, Some, None, IsTrue, ◌||◌, true≢false, if◌then◌else◌, refl, sym, ap, ◌∙◌, subst, inl, inr, arith}
+use Rattle.std.proofs.Common.{◌≡◌, ◌≤◌, ℕ, Bool, true, false, List, [], ◌∷◌, Option, Some, None, IsTrue, ◌||◌, true≢false, if◌then◌else◌, refl, sym, ap, ◌∙◌, subst, inl, inr, arith}
 use Rattle.std.proofs.lemmas.Bool.{cases_Bool}
 use Rattle.std.proofs.lemmas.Option.{same_Some, none-some}
 use Rattle.game_tree.specs.Date.{IsDate, is_near, is_unknown, unknown_date, keeps_rule, date_read}
 use Rattle.game_tree.specs.Head.{without_tags}
-use Rattle.game_tree.specs.TagList.{is_named, tags_without}
+use Rattle.game_tree.specs.TagList.{is_named}
 use Rattle.game_tree.specs.Settle.{event_date_name, near_only, near_date, first_of, first_near_date, taken_up, settled}
 use Rattle.game_tree.specs.declared.date.Date.{Date}
 use Rattle.game_tree.specs.declared.head.Head.{Head}
 use Rattle.game_tree.specs.declared.head.Tag.{Tag}
 use Rattle.game_tree.proofs.SettleLemmas.{settled-near, settled-unknown, settled-far}
-use Rattle.index_entry.specs.Entry.{IsEntry, AreCounts, AreHomeValues}
+use Rattle.index_entry.specs.Entry.{IsEntry}
 use Rattle.index_entry.specs.declared.entry.Entry.{Entry}
 use Rattle.name_base.specs.NameLists.{NameLists}
 use Rattle.sig_index.specs.Signature.{IsSigBounded}

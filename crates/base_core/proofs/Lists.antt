@@ -1,7 +1,5 @@
 -- Laws of lists, place by place.
-use Rattle.std.proofs.Common.{◌≡◌, ◌<◌, ◌≤◌, ◌⊎◌, ℕ, zero, suc, List, [], ◌∷◌, ◌++◌, length, slice_get, Option, Some, None, refl, sym, ap, ap₂, ◌∙◌, inl, inr, arith, le_of_suc-le-suc, Bool, ◌+◌, count_by, cond}
-use Rattle.std.proofs.lemmas.Option.{same_Some, none-some, slice_get_within}
-use Rattle.std.proofs.lemmas.List.{length_push}
+use Rattle.std.proofs.Common.{◌≡◌, ◌<◌, ℕ, zero, suc, List, [], ◌∷◌, ◌++◌, length, slice_get, Some, refl, ap₂, arith, le_of_suc-le-suc, Bool, ◌+◌, count_by, cond}
 use Rattle.std.proofs.lemmas.List.Sums.{sum_by_push}
 
 -- There is an element at each place below the length.

@@ -1,6 +1,6 @@
 -- The names of a base are within the bounds of a head's, and so is the head of an entry.
-use Rattle.std.proofs.Common.{◌≡◌, ◌≢◌, ◌<◌, ◌≤◌, ℕ, zero, suc, Bool, true, false, List, [], ◌∷◌, length, All, slice_get, Some, refl, sym, ap, ◌∙◌, subst, inl, inr, arith, true≢false, ◌==◌, unwrap_or}
-use Rattle.std.specs.List.{AllByRecursion, list_any}
+use Rattle.std.proofs.Common.{◌≡◌, ◌≢◌, ◌<◌, ℕ, zero, suc, false, List, [], ◌∷◌, length, All, slice_get, Some, sym, ap, subst, inl, inr, arith, true≢false, ◌==◌, unwrap_or}
+use Rattle.std.specs.List.{AllByRecursion}
 use Rattle.std.proofs.lemmas.Bool.{cases_Bool, eqb-false}
 use Rattle.std.proofs.lemmas.Option.{same_Some, none-some}
 use Rattle.std.proofs.lemmas.List.Elements.{All-nil, All-cons}
@@ -9,7 +9,7 @@ use Rattle.game_tree.specs.Head.{IsBounded, IsName, IsTag}
 use Rattle.game_tree.specs.declared.head.Tag.{Tag}
 use Rattle.index_entry.specs.Entry.{IsEntry}
 use Rattle.index_entry.specs.declared.entry.Entry.{Entry}
-use Rattle.name_base.specs.NameLists.{NameLists, AreNames, AreSound, has_zero, limit_of, no_names, of_kind}
+use Rattle.name_base.specs.NameLists.{NameLists, AreNames, AreSound, has_zero, no_names, of_kind}
 use Rattle.name_base.specs.NameLists.{IsName as IsBaseName}
 use Rattle.name_base.specs.declared.kind.NameKind.{NameKind}
 use Rattle.name_base.specs.declared.kind.NameKind.TheVariants.{Player, Event, Site, Round}

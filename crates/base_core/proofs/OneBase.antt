@@ -1,5 +1,5 @@
 -- Three files mean one base, and what is kept of a base stands for one.
-use Rattle.std.proofs.Common.{◌≡◌, ◌<◌, ℕ, List, length, slice_get, Some, Ok, refl, sym, ap, ap₂, ◌∙◌, subst}
+use Rattle.std.proofs.Common.{◌≡◌, ◌<◌, ℕ, List, length, sym, ap, ◌∙◌, subst}
 use Rattle.std.proofs.lemmas.Option.{slice_get_within}
 use Rattle.base_files.specs.Extents.{record_in}
 use Rattle.game_tree.specs.Game.{GameTree}
@@ -15,7 +15,7 @@ use Rattle.name_base.proofs.FileLemmas.{names_again}
 use Rattle.base_core.specs.Base.{Base, Held}
 use Rattle.base_core.specs.Entries.{Says, extent_of, head_of}
 use Rattle.base_core.specs.Means.{AreGames, IsEntryOf, Means}
-use Rattle.base_core.specs.Represents.{Kept, Keeps, Represents}
+use Rattle.base_core.specs.Represents.{Kept, Represents}
 use Rattle.base_core.proofs.Lists.{get_some, same_lists}
 use Rattle.base_core.proofs.Results.{same_ok}
 
@@ -62,9 +62,9 @@ pub represents-one : (kept : Kept) (games : List ℕ) (a b : Base) → Represent
 represents-one kept games a b x y =
     let long : length a.games ≡ length b.games = sym x.count ∙ y.count in
     let all : a.games ≡ b.games =
-      same_lists a.games b.games long
-      (λ i held other at_held at_other.
-      let e = get_some kept.entries i (subst (λ n. i < n) (sym x.count) (slice_get_within a.games i held at_held)) in
-      says-one kept.names games e.0 held other (x.each i e.0 held e.1 at_held).says (y.each i e.0 other e.1 at_other).says)
+    same_lists a.games b.games long
+    (λ i held other at_held at_other.
+    let e = get_some kept.entries i (subst (λ n. i < n) (sym x.count) (slice_get_within a.games i held at_held)) in
+    says-one kept.names games e.0 held other (x.each i e.0 held e.1 at_held).says (y.each i e.0 other e.1 at_other).says)
     in
     base-by a b (sym x.header ∙ y.header) (sym x.names ∙ y.names) all (sym x.end ∙ y.end)

@@ -1,5 +1,5 @@
 -- Three files have one first fault, and none where each entry passes.
-use Rattle.std.proofs.Common.{◌≡◌, ◌<◌, ◌⊎◌, ℕ, Bool, true, false, List, length, Option, Some, None, Ok, Err, [], if◌then◌else◌, IsTrue, MatchBool, refl, sym, ap, ◌∙◌, subst, inl, inr}
+use Rattle.std.proofs.Common.{◌≡◌, ◌<◌, ℕ, Bool, true, false, List, Ok, [], if◌then◌else◌, MatchBool, refl, sym, ap, ◌∙◌, subst, inl, inr}
 use Rattle.std.proofs.lemmas.Bool.{cases_order}
 use Rattle.std.proofs.lemmas.Option.{same_Some, none-some}
 use Rattle.base_files.specs.Extents.{record_in}
@@ -17,7 +17,7 @@ use Rattle.base_core.specs.declared.fault.BaseFault.{BaseFault}
 use Rattle.base_core.specs.declared.fault.BaseFault.TheVariants.{Packed, Derived}
 use Rattle.base_core.specs.declared.fault.DerivedField.{DerivedField}
 use Rattle.base_core.specs.Entries.{extent_of}
-use Rattle.base_core.specs.FirstFault.{Whole, whole_read, entry_checked, derived_fault, Signs, Passes, BreaksRecord, Differs, Fails, EntryFails, FirstFault}
+use Rattle.base_core.specs.FirstFault.{Whole, whole_read, derived_fault, Signs, Passes, BreaksRecord, Fails, EntryFails, FirstFault}
 use Rattle.base_core.proofs.Results.{same_ok, same_err, ok_err}
 use Rattle.base_core.proofs.SigLaws.{sig-by}
 

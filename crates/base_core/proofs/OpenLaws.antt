@@ -1,10 +1,9 @@
 -- What opening answers, of what was read.
-use Rattle.std.proofs.Common.{◌≡◌, ◌<◌, ◌≤◌, ◌+◌, ◌⊎◌, ℕ, Bool, true, false, List, [], length, slice_get, count_by, Option, Some, None, is_some, Result, Ok, Err, IsTrue, IfOk, IfSome, ◌&&◌, MatchBool, refl, sym, ap, ◌∙◌, subst, inl, inr, arith, true≢false}
+use Rattle.std.proofs.Common.{◌≡◌, ◌<◌, ℕ, Bool, true, false, List, [], length, slice_get, Option, Some, None, Result, Ok, Err, IfOk, IfSome, ◌&&◌, MatchBool, refl, sym, ap, ◌∙◌, subst, inl, inr, arith, true≢false}
 use Rattle.std.proofs.lemmas.Option.{none-some, slice_get_within}
 use Rattle.base_files.specs.Seen.{Seen}
 use Rattle.base_files.specs.Told.{Tells, TellsLength}
 use Rattle.index_entry.specs.Index.{index_read, entry_bytes}
-use Rattle.index_entry.specs.Entry.{entry_in}
 use Rattle.index_entry.specs.declared.entry.Entry.{Entry}
 use Rattle.index_entry.specs.declared.index.IndexHead.{IndexHead}
 use Rattle.index_entry.specs.declared.fault.IndexFault.{IndexFault}
@@ -16,16 +15,15 @@ use Rattle.name_base.specs.declared.fault.NamesError.{NamesError}
 use Rattle.name_base.specs.declared.fault.NamesError.TheVariants as failed
 use Rattle.base_core.specs.Errors.{names_error}
 use Rattle.name_base.proofs.FileLemmas.{names_again}
-use Rattle.base_core.specs.declared.fault.BaseFault.{BaseFault}
 use Rattle.base_core.specs.declared.fault.BaseFault.TheVariants.{Index, Names}
 use Rattle.base_core.specs.declared.fault.DerivedField.{DerivedField}
 use Rattle.base_core.specs.declared.fault.OpenError.{OpenError}
 use Rattle.base_core.specs.declared.fault.OpenError.TheVariants as opening
 use Rattle.base_core.specs.Base.{Base, Held, empty_base, empty_header}
-use Rattle.base_core.specs.Means.{AreGames, IsEntryOf, Means}
-use Rattle.base_core.specs.FirstFault.{Whole, whole_read, blamed, ◌>>=◌, EntryFails, FirstFault}
-use Rattle.base_core.specs.Represents.{IsSound, Kept, Represents, AreDifferences, Mended, extents_of}
-use Rattle.base_core.specs.Opening.{IfBad, IfTold, OpensAs, Opens, Refuses, are_empty, is_created}
+use Rattle.base_core.specs.Means.{AreGames, Means}
+use Rattle.base_core.specs.FirstFault.{Whole, whole_read, EntryFails, FirstFault}
+use Rattle.base_core.specs.Represents.{IsSound, Kept, Represents, AreDifferences, extents_of}
+use Rattle.base_core.specs.Opening.{IfBad, IfTold, Opens, Refuses, are_empty, is_created}
 use Rattle.base_core.specs.Reading.{AreRead, IsRead}
 use Rattle.base_core.proofs.CheckLaws.{checked, has_names, read_is}
 use Rattle.base_core.proofs.Lists.{get_some}
@@ -65,20 +63,20 @@ games_of : (strict : Bool) (index : List ℕ) (names : NameLists) (games : List 
 games_of strict index names games entries mended count r long = record {
   long = r.held ∙ long;
   each = λ i held at.
-    let h = held_at strict index names games entries mended r i held at in
-    let read = h.1.1.1.1 in
-    let c = checked names (length games) i (entry_bytes index i) read.fields read.signs.checked in
-    record { fields = read.fields; read = c.read; named = has_names names read.fields c.named; says = read.says };
+      let h = held_at strict index names games entries mended r i held at in
+      let read = h.1.1.1.1 in
+      let c = checked names (length games) i (entry_bytes index i) read.fields read.signs.checked in
+      record { fields = read.fields; read = c.read; named = has_names names read.fields c.named; says = read.says };
 }
 
 differences_of : (strict : Bool) (index : List ℕ) (names : NameLists) (games : List ℕ) (entries : List Entry) (mended : ℕ) (r : AreRead strict index names games entries mended) → AreDifferences index r.all r.fields
 differences_of strict index names games entries mended r = record {
   count = r.compared ∙ sym r.held;
   each = λ i held field at_held at_field.
-    let e = get_some entries i (subst (λ n. i < n) r.held (slice_get_within r.all i held at_held)) in
-    let read = r.each i e.0 held field e.1 at_held at_field in
-    let c = checked names (length games) i (entry_bytes index i) read.fields read.signs.checked in
-    (read.sig, read.signed, rw (read_is (entry_bytes index i) read.fields c.read) read.differs);
+      let e = get_some entries i (subst (λ n. i < n) r.held (slice_get_within r.all i held at_held)) in
+      let read = r.each i e.0 held field e.1 at_held at_field in
+      let c = checked names (length games) i (entry_bytes index i) read.fields read.signs.checked in
+      (read.sig, read.signed, rw (read_is (entry_bytes index i) read.fields c.read) read.differs);
 }
 
 -- What was read of three files opens them.
@@ -104,14 +102,14 @@ opens strict index names games header lists entries mended end one two long coun
         end = refl;
         count = sym r.held;
         each = λ i e held at_e at_held.
-          let f = get_some r.fields i (subst (λ n. i < n) (sym r.compared) (slice_get_within entries i e at_e)) in
-          (r.each i e held f.0 at_e at_held f.1).keeps;
+            let f = get_some r.fields i (subst (λ n. i < n) (sym r.compared) (slice_get_within entries i e at_e)) in
+            (r.each i e held f.0 at_e at_held f.1).keeps;
       };
       mends = (r.fields, differences_of strict index lists games entries mended r, r.mends);
       strictly = r.strictly;
       sound = λ fault refuses.
-        none_fails strict index names games whole fault (whole_is index names header lists one (names_again names lists two))
-        (λ i below. passes_of strict index lists games entries mended r i (subst (λ n. i < n) (sym count) below)) refuses.first;
+          none_fails strict index names games whole fault (whole_is index names header lists one (names_again names lists two))
+          (λ i below. passes_of strict index lists games entries mended r i (subst (λ n. i < n) (sym count) below)) refuses.first;
       saved = refl;
     }
 

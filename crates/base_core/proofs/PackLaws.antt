@@ -1,5 +1,5 @@
 -- Entries one after the other in a list of bytes.
-use Rattle.std.proofs.Common.{◌≡◌, ◌<◌, ◌≤◌, ◌+◌, ◌*◌, ℕ, List, [], ◌∷◌, ◌++◌, length, map, take, drop, slice_get, get_or, Some, Ok, refl, sym, ap, ◌∙◌, subst, inl, inr, arith, eq-or-lt_of_le}
+use Rattle.std.proofs.Common.{◌≡◌, ◌<◌, ◌≤◌, ◌+◌, ◌*◌, ℕ, List, [], ◌∷◌, ◌++◌, length, map, take, drop, slice_get, Some, Ok, refl, sym, ap, ◌∙◌, subst, inl, inr, arith, eq-or-lt_of_le}
 use Rattle.std.specs.List.{range_with_len}
 use Rattle.std.proofs.lemmas.Option.{slice_get-get_or}
 use Rattle.std.proofs.lemmas.List.{drop-append-le, take-append-le, drop_all, take_all, ext_get_or, length-append, length-drop}
@@ -42,11 +42,11 @@ entries-push bytes more count e long size read =
     let f : ℕ → Entry = λ k. entry_in (packed_at bytes k) in
     let g : ℕ → Entry = λ k. entry_in (packed_at (bytes ++ more) k) in
     let front : map g (range_with_len 0 count) ≡ map f (range_with_len 0 count) =
-      ext_get_or e (map g (range_with_len 0 count)) (map f (range_with_len 0 count)) (length-map-range_with_len g 0 count ∙ sym (length-map-range_with_len f 0 count))
-      (λ i below.
-      let at : i < count = subst (λ n. i < n) (length-map-range_with_len g 0 count) below in
-      get_or-map-range_with_len g 0 count i i e at (omega arith)
-      ∙ (ap (λ (b : List ℕ). entry_in b) (packed-old bytes more i (within bytes count i long at)) ∙ sym (get_or-map-range_with_len f 0 count i i e at (omega arith))))
+    ext_get_or e (map g (range_with_len 0 count)) (map f (range_with_len 0 count)) (length-map-range_with_len g 0 count ∙ sym (length-map-range_with_len f 0 count))
+    (λ i below.
+    let at : i < count = subst (λ n. i < n) (length-map-range_with_len g 0 count) below in
+    get_or-map-range_with_len g 0 count i i e at (omega arith)
+    ∙ (ap (λ (b : List ℕ). entry_in b) (packed-old bytes more i (within bytes count i long at)) ∙ sym (get_or-map-range_with_len f 0 count i i e at (omega arith))))
     in
     let last : g count ≡ e = ap (λ (b : List ℕ). entry_in b) (packed-new bytes more count long size) ∙ read_is more e read in
     map-range_with_len_more g 0 count count (omega arith)
@@ -56,14 +56,14 @@ pub packed-push : (bytes more : List ℕ) (count : ℕ) (e : Entry) → ArePacke
 packed-push bytes more count e are size read = record {
   size = length-append bytes more ∙ omega (arith, are.size, size);
   each = λ i below.
-    let P : List ℕ → Type 0 = λ b. entry_read b ≡ Ok (entry_in b) in
-    let last : i ≤ count = omega (arith, below) in
-    elim (eq-or-lt_of_le last) [
-      | inl same ↦
-          let is : packed_at (bytes ++ more) i ≡ more = ap (λ (k : ℕ). packed_at (bytes ++ more) k) same ∙ packed-new bytes more count are.size size in
-          subst P (sym is) (read ∙ ap (λ (x : Entry). Ok x) (sym (read_is more e read)))
-      | inr less ↦ subst P (sym (packed-old bytes more i (within bytes count i are.size less))) (are.each i less)
-    ];
+      let P : List ℕ → Type 0 = λ b. entry_read b ≡ Ok (entry_in b) in
+      let last : i ≤ count = omega (arith, below) in
+      elim (eq-or-lt_of_le last) [
+        | inl same ↦
+            let is : packed_at (bytes ++ more) i ≡ more = ap (λ (k : ℕ). packed_at (bytes ++ more) k) same ∙ packed-new bytes more count are.size size in
+            subst P (sym is) (read ∙ ap (λ (x : Entry). Ok x) (sym (read_is more e read)))
+        | inr less ↦ subst P (sym (packed-old bytes more i (within bytes count i are.size less))) (are.each i less)
+      ];
 }
 
 pub none-packed : ArePacked [] 0

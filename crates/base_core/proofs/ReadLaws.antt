@@ -1,5 +1,5 @@
 -- What is read of a game and of all games, where the games file is told.
-use Rattle.std.proofs.Common.{◌≡◌, ◌<◌, ◌≤◌, ◌+◌, ◌⊎◌, ℕ, zero, suc, Bool, true, false, cond, List, [], ◌∷◌, ◌++◌, length, slice_get, count_by, Option, Some, None, is_some, Result, Ok, Err, IsTrue, IfSome, IfOk, IfErr, refl, sym, ap, ◌∙◌, subst, inl, inr, arith, true≢false, eq-or-lt_of_le, All, ◌-◌, zero-add, suc-add}
+use Rattle.std.proofs.Common.{◌≡◌, ◌<◌, ◌≤◌, ◌+◌, ◌⊎◌, ℕ, zero, suc, Bool, true, false, cond, List, [], ◌∷◌, ◌++◌, length, slice_get, Option, Some, None, is_some, Result, Ok, Err, IsTrue, IfSome, IfOk, IfErr, refl, sym, ap, ◌∙◌, subst, inl, inr, arith, true≢false, eq-or-lt_of_le, All, ◌-◌, zero-add, suc-add}
 use Rattle.std.proofs.lemmas.Option.{same_Some, none-some, slice_get_within}
 use Rattle.std.proofs.lemmas.List.{length_push}
 use Rattle.base_files.specs.Extents.{record_in}
@@ -7,20 +7,18 @@ use Rattle.base_files.specs.Told.{Tells, TellsLength, part_told}
 use Rattle.game_tree.specs.Date.{keeps_rule}
 use Rattle.game_tree.specs.declared.date.Date.{Date}
 use Rattle.game_tree.specs.Settle.{settled}
-use Rattle.game_codec.specs.Record.{IsRecord}
 use Rattle.game_codec.specs.Fault.{IsRecordFault}
-use Rattle.index_entry.specs.Entry.{IsEntry, entry_in, entry_read}
+use Rattle.index_entry.specs.Entry.{IsEntry, entry_in}
 use Rattle.index_entry.specs.Index.{entry_bytes}
 use Rattle.index_entry.specs.declared.entry.Entry.{Entry}
 use Rattle.name_base.specs.NameLists.{NameLists}
 use Rattle.sig_index.specs.Signature.{IsSig}
 use Rattle.sig_index.specs.declared.signature.Sig.{Sig}
 use Rattle.base_core.specs.declared.fault.BaseFault.{BaseFault}
-use Rattle.base_core.specs.declared.fault.BaseFault.TheVariants.{Packed, Derived}
 use Rattle.base_core.specs.declared.fault.DerivedField.{DerivedField}
 use Rattle.base_core.specs.Base.{Held}
-use Rattle.base_core.specs.Entries.{Says, head_of, extent_of, sig_in}
-use Rattle.base_core.specs.FirstFault.{Signs, Passes, BreaksRecord, Differs, EntryFails, Fails, entry_checked, derived_fault}
+use Rattle.base_core.specs.Entries.{Says, head_of, extent_of}
+use Rattle.base_core.specs.FirstFault.{Passes, EntryFails, Fails, entry_checked, derived_fault}
 use Rattle.base_core.specs.Represents.{IsKept, Keeps}
 use Rattle.base_core.specs.Reading.{AreRead, IsNotTaken, IsRead, IsReadSo, IsSigned, IsTaken, kept_entry}
 use Rattle.game_codec.specs.Fault.{IfBad as IfBadRecord}
@@ -52,7 +50,7 @@ keeps names games e s date rule signed =
     let held : Held = record { head = settled (head_of names e signed.tags); game = signed.tree; len = e.len } in
     let says : Says names games e held = record { tags = signed.tags; read = signed.read; head = refl; len = refl } in
     let kept : Says names games (kept_entry e s date) held =
-      record { tags = signed.tags; read = signed.read; head = sym (settled_kept names e s date signed.tags rule (signed.dated names)); len = refl } in
+    record { tags = signed.tags; read = signed.read; head = sym (settled_kept names e s date signed.tags rule (signed.dated names)); len = refl } in
     (held, (says, (signed.signed, record { says = kept; event_date = signed.dated names; signed = signed.signed })))
 
 -- A game that was taken, by the bytes of its record.
@@ -174,10 +172,10 @@ one_more_read strict index names games entries mended game e b long before now =
   held = length_push before.all now.held ∙ ap (λ n. n + 1) before.held ∙ sym (length_push entries e);
   compared = length_push before.fields now.field ∙ ap (λ n. n + 1) before.compared ∙ sym (length_push entries e);
   each = λ i x held field at_x at_held at_field.
-    each_more strict index names games entries mended game e b before now i x held field
-    (placed_in entries e x i game long at_x)
-    (placed_in before.all now.held held i game (before.held ∙ long) at_held)
-    (placed_in before.fields now.field field i game (before.compared ∙ long) at_field);
+      each_more strict index names games entries mended game e b before now i x held field
+      (placed_in entries e x i game long at_x)
+      (placed_in before.all now.held held i game (before.held ∙ long) at_held)
+      (placed_in before.fields now.field field i game (before.compared ∙ long) at_field);
   mends = rw (count_push (λ o. is_some o) before.fields now.field, now.mends) (ap (λ n. n + cond (is_some now.field) 1 0) before.mends);
   strictly = mended_more now.field b strict mended now.mends now.read.strictly before.strictly;
 }

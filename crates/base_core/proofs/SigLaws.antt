@@ -1,5 +1,5 @@
 -- The derived fields of an entry beside a signature.
-use Rattle.std.proofs.Common.{◌≡◌, ◌≢◌, ℕ, Bool, true, false, not, List, Option, Some, None, is_some, nat_eq, bytes_eq, refl, sym, ap, ◌∙◌, subst, true≢false, if◌then◌else◌}
+use Rattle.std.proofs.Common.{◌≡◌, ◌≢◌, ℕ, Bool, true, false, not, List, Option, Some, None, is_some, nat_eq, bytes_eq, refl, sym, ap, ◌∙◌, true≢false, if◌then◌else◌}
 use Rattle.std.specs.Bool.{beq}
 use Rattle.std.specs.Cmp.{booleans_Decides}
 use Rattle.std.proofs.lemmas.Bool.{eqb-true, eq-eqb}
@@ -19,13 +19,13 @@ sig-by a b material home plies promo under own vars comments nags =
     let two : record a { material = b.material } ≡ record a { material = b.material; home = b.home } = ap (λ (h : HomeList). record a { material = b.material; home = h }) home in
     let three : record a { material = b.material; home = b.home } ≡ record a { material = b.material; home = b.home; plies = b.plies } = ap (λ (n : ℕ). record a { material = b.material; home = b.home; plies = n }) plies in
     let four : record a { material = b.material; home = b.home; plies = b.plies } ≡ record b { under = a.under; own_start = a.own_start; vars = a.vars; comments = a.comments; nags = a.nags } =
-      ap (λ (t : Bool). record a { material = b.material; home = b.home; plies = b.plies; promo = t }) promo
+    ap (λ (t : Bool). record a { material = b.material; home = b.home; plies = b.plies; promo = t }) promo
     in
     let five : record b { under = a.under; own_start = a.own_start; vars = a.vars; comments = a.comments; nags = a.nags } ≡ record b { own_start = a.own_start; vars = a.vars; comments = a.comments; nags = a.nags } =
-      ap (λ (t : Bool). record b { under = t; own_start = a.own_start; vars = a.vars; comments = a.comments; nags = a.nags }) under
+    ap (λ (t : Bool). record b { under = t; own_start = a.own_start; vars = a.vars; comments = a.comments; nags = a.nags }) under
     in
     let six : record b { own_start = a.own_start; vars = a.vars; comments = a.comments; nags = a.nags } ≡ record b { vars = a.vars; comments = a.comments; nags = a.nags } =
-      ap (λ (t : Bool). record b { own_start = t; vars = a.vars; comments = a.comments; nags = a.nags }) own
+    ap (λ (t : Bool). record b { own_start = t; vars = a.vars; comments = a.comments; nags = a.nags }) own
     in
     let seven : record b { vars = a.vars; comments = a.comments; nags = a.nags } ≡ record b { comments = a.comments; nags = a.nags } = ap (λ (n : ℕ). record b { vars = n; comments = a.comments; nags = a.nags }) vars in
     let eight : record b { comments = a.comments; nags = a.nags } ≡ record b { nags = a.nags } = ap (λ (n : ℕ). record b { comments = n; nags = a.nags }) comments in

@@ -1,5 +1,5 @@
 -- What opening three files answers (this project's own).
-use Rattle.std.specs.Prelude.{◌≡◌, ℕ, zero, suc, ◌+◌, Bool, false, ◌&&◌, nat_eq, ⊤, IsTrue, List, length, Option, IfSome}
+use Rattle.std.specs.Prelude.{◌≡◌, ℕ, zero, suc, ◌+◌, Bool, false, ◌&&◌, nat_eq, ⊤, IsTrue, List, length, IfSome}
 use Rattle.std.specs.Bool.{MatchBool}
 use Rattle.base_files.specs.Seen.{Seen}
 use Rattle.index_entry.specs.Entry.{entry_in}

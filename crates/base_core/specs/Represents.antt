@@ -1,5 +1,5 @@
 -- A base that is open: what it keeps beside its games file, and which base that is (this project's own).
-use Rattle.std.specs.Prelude.{◌≡◌, ◌≤◌, ◌<◌, ℕ, Bool, List, [], All, length, map, slice_get, Option, Some, None, is_some, count_by}
+use Rattle.std.specs.Prelude.{◌≡◌, ◌≤◌, ℕ, Bool, List, [], All, length, map, slice_get, Option, Some, None, is_some, count_by}
 use Rattle.base_files.specs.declared.extent.Extent.{Extent}
 use Rattle.game_tree.specs.declared.head.Head.{Head}
 use Rattle.index_entry.specs.declared.entry.Entry.{Entry}

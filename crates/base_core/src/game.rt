@@ -134,12 +134,7 @@ fn read_unchanged(
 }
 
 // The settled head of an entry and these tags.
-fn settled_head(
-    alloc: Global,
-    names: &Names,
-    e: &Entry,
-    tags: Vec<Tag>,
-) -> Result<Head, AllocError>
+fn settled_head(alloc: Global, names: &Names, e: &Entry, tags: Vec<Tag>) -> Result<Head, AllocError>
     requires fields { IsEntry e.now }
     requires named { HasNames names.now e.now }
     requires sound { AreSound names.now }

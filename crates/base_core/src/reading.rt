@@ -108,7 +108,10 @@ fn read_game<F: Files>(
         Ok(entry) => entry,
         Err(fault) => return Err(OpenError::Bad(fault)),
     };
-    if files.read_games(u64::from(entry.offset), entry.len, buf).is_err() {
+    if files
+        .read_games(u64::from(entry.offset), entry.len, buf)
+        .is_err()
+    {
         return Err(OpenError::Failed);
     }
     taken_entry(alloc, o.strict, game, &entry, &buf[..entry.len as usize])

@@ -62,7 +62,7 @@ home_is p set v h lt =
     (λ e. both.0 (shift.0 (shr_and_one set v ∙ eqb-true (bit_at set v) 1 e)))
     (λ e. eq-eqb (bit_at set v) 1 (sym (shr_and_one set v) ∙ shift.1 (both.1 e)))
 
-filter_same : (f g : ℕ → Bool) (xs : List ℕ) → All (λ v. v < 16) xs → ((v : ℕ) → v < 16 → f v ≡ g v) → filter f xs ≡ filter g xs
+pub filter_same : (f g : ℕ → Bool) (xs : List ℕ) → All (λ v. v < 16) xs → ((v : ℕ) → v < 16 → f v ≡ g v) → filter f xs ≡ filter g xs
 filter_same f g [] all h = refl
 filter_same f g (x ∷ xs) all h =
     let here = h x (All-head (λ v. v < 16) x xs all) in

@@ -3,3 +3,4 @@ pub mod Signature
 pub mod Leaving
 pub mod Games
 pub mod MemGames
+pub mod Left

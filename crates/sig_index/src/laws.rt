@@ -1,14 +1,20 @@
 //! Laws of signatures, and of games whose records are held.
 ghost use Rattle.std.specs.Prelude.{◌≡◌, ◌≤◌, ℕ, nat_eq, count_by, List, Option, Some};
 ghost use Rattle.base_files.specs.declared.extent.Extent.{Extent};
+ghost use Rattle.chess_laws.specs.Position.{Sound, start_setup};
 ghost use Rattle.game_tree.specs.Game.{GameTree};
+ghost use Rattle.game_tree.specs.Legal.{IsLegalGame};
+ghost use Rattle.game_tree.specs.Replay.{plies_of};
 ghost use Rattle.sig_index.specs.declared.signature.Sig.{Sig};
 ghost use Rattle.sig_index.specs.Games.{HasChanged, Holds};
+ghost use Rattle.sig_index.specs.Left.{left_from};
 ghost use Rattle.sig_index.specs.Signature.{IsSig, left_of};
 
-/// A law: no pawn leaves its own square twice.
+/// A law: no pawn leaves its own square twice; and the home values that left, in a legal game from the initial position, are for each
+/// move of the main line in turn those of the pawns that stood at home before it and do not after it.
 pub fn pawns_leave_once()
     ensures once { (game : GameTree) (value : ℕ) → count_by (nat_eq value) (left_of game) ≤ 1 }
+    ensures each_move { (game : GameTree) → Sound game.start → IsLegalGame game → game.start ≡ start_setup → left_of game ≡ left_from game 0 (plies_of game) }
 {}
 
 /// A law: a game has one signature, and over a games file that holds the records of the games no record has changed.

@@ -16,7 +16,7 @@ pub returns-clause-opens : goal.returns-clause-opens
 returns-clause-opens g c =
     let I : List ℕ → Type 0 = λ index. IfSome (g.F.Files.seen c.args.files.now).games (λ games. AreRead c.args.strict index c.in-Ok.whole.1 games c.in-Ok-read_games.read.0 c.in-Ok-read_games.read.1) in
     let K : Kept → Type 0 = λ kept. IfSome (g.F.Files.seen c.args.files.now).games (λ games. (create : Bool) → is_created create c.args.loaded.now.index.items c.args.loaded.now.names.items games ≡ false →
-      Opens create c.args.strict c.args.loaded.now.index.items c.args.loaded.now.names.items games kept c.in-Ok-read_games.read.1) in
+    Opens create c.args.strict c.args.loaded.now.index.items c.args.loaded.now.names.items games kept c.in-Ok-read_games.read.1) in
     subst K (sym c.of.ensures.parts)
     (opens_told (g.F.Files.seen c.args.files.now).games c.args.strict c.args.loaded.now.index.items c.args.loaded.now.names.items c.in-Ok.whole.0 c.in-Ok.whole.1 c.in-Ok-read_games.read.0 c.in-Ok-read_games.read.1 c.args.loaded.now.end
     c.in-Ok.ensures.header c.in-Ok.ensures.names c.requires.told c.in-Ok-read_games.ensures.count (subst I c.as_slice.ensures.value c.in-Ok-read_games.ensures.read))

@@ -1,11 +1,11 @@
-use Rattle.std.proofs.Common.{◌≡◌, ◌≤◌, ◌+◌, ℕ, length, take, sym, ap, subst, arith}
+use Rattle.std.proofs.Common.{◌≡◌, ◌≤◌, ◌+◌, ℕ, take, sym, subst, arith}
 use Rattle.std.proofs.lemmas.List.{length-take-le}
 use Rattle.base_files.specs.Told.{Tells, part_told}
 use Rattle.index_entry.specs.Entry.{entry_in}
 use Rattle.index_entry.specs.Index.{entry_bytes}
 use Rattle.index_entry.specs.declared.entry.Entry.{Entry}
 use Rattle.base_core.proofs.CheckLaws.{checked, ends_within, read_is}
-use Rattle.base_core.proofs.ReadLaws.{asked-le, checked_told, fails_so, kept_so, reads_so}
+use Rattle.base_core.proofs.ReadLaws.{asked-le, fails_so, kept_so, reads_so}
 use Rattle.base_core.proofs.Results.{from_ok}
 use Rattle.base_core.proofs.reading.read_game.Goals as goal
 

@@ -1,4 +1,4 @@
-use Rattle.std.proofs.Common.{◌≡◌, ◌≤◌, ◌<◌, ◌+◌, ℕ, All, List, [], length, IfSome, refl, rules, sym, ap, ◌∙◌, subst, arith}
+use Rattle.std.proofs.Common.{◌<◌, ◌+◌, All, List, length, IfSome, refl, rules, sym, ap, ◌∙◌, subst, arith}
 use Rattle.std.proofs.lemmas.List.Elements.{All-nil}
 use Rattle.base_files.specs.Seen.{Seen}
 use Rattle.index_entry.specs.declared.entry.Entry.{Entry}
@@ -27,8 +27,8 @@ pub returns-in_err-read-clause-fault : goal.returns-in_err-read-clause-fault
 returns-in_err-read-clause-fault g c =
     let below : c.loop-game.game < c.args.count = omega (arith, c.loop-game-test.true) in
     let fails : IfBad (λ fault. IfSome (g.F.Files.seen c.args.files.now).games (λ games. EntryFails c.args.o.now.strict c.args.o.now.index.now c.args.o.now.names.now games c.args.count fault)) c.in_err-read.field-0.0 =
-      fails_by c.in_err-read.field-0.0 _ _ c.args.o.now.strict c.args.o.now.index.now c.args.o.now.names.now c.loop-game.entries c.loop-game.mended c.loop-game.game c.args.count
-      (ap (λ (seen : Seen). seen.games) c.loop-game.invariant.unchanged) c.loop-game.invariant.count below c.loop-game.invariant.read c.in_err-read.ensures.fault
+    fails_by c.in_err-read.field-0.0 _ _ c.args.o.now.strict c.args.o.now.index.now c.args.o.now.names.now c.loop-game.entries c.loop-game.mended c.loop-game.game c.args.count
+    (ap (λ (seen : Seen). seen.games) c.loop-game.invariant.unchanged) c.loop-game.invariant.count below c.loop-game.invariant.read c.in_err-read.ensures.fault
     in
     search rules
 
@@ -43,7 +43,7 @@ returns-in_err-push-clause-asks g c =
 pub loop-game-preserved : goal.loop-game-preserved
 loop-game-preserved g c = record {
   read = next_read _ _ c.args.o.now.strict c.args.o.now.index.now c.args.o.now.names.now c.loop-game.entries c.push.new.self c.loop-game.mended c.count-mended.result c.loop-game.game c.in_ok-read.read.entry c.in_ok-read.read.mended
-    (ap (λ (seen : Seen). seen.games) c.loop-game.invariant.unchanged) c.loop-game.invariant.count c.in_ok-push.ensures.pushed c.count-mended.ensures.count c.loop-game.invariant.read c.in_ok-read.ensures.read;
+      (ap (λ (seen : Seen). seen.games) c.loop-game.invariant.unchanged) c.loop-game.invariant.count c.in_ok-push.ensures.pushed c.count-mended.ensures.count c.loop-game.invariant.read c.in_ok-read.ensures.read;
   count = one_longer c.loop-game.entries c.push.new.self c.in_ok-read.read.entry c.loop-game.game c.loop-game.invariant.count c.in_ok-push.ensures.pushed;
   kept = all_kept c.args.o.now.names.now c.args.o.now.end c.loop-game.entries c.push.new.self c.in_ok-read.read.entry c.in_ok-push.ensures.pushed c.loop-game.invariant.kept c.in_ok-read.ensures.kept;
   few = omega (arith, c.loop-game.invariant.few, at_most_one c.in_ok-read.read.mended c.count-mended.result c.count-mended.ensures.count);

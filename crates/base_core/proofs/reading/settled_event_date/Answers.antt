@@ -18,13 +18,13 @@ settle-requires c =
 pub returns-clause-date : goal.returns-clause-date
 returns-clause-date c names =
     let head : c.in_ok-head.head ≡ head_of no_names c.args.e.now c.args.tags.items =
-      c.in_ok-head.ensures.head ∙ (c.nameless.ensures.fields c.from_vec.result ∙ ap (λ (ts : List Tag). head_of no_names c.args.e.now ts) c.from_vec.ensures.same) in
+    c.in_ok-head.ensures.head ∙ (c.nameless.ensures.fields c.from_vec.result ∙ ap (λ (ts : List Tag). head_of no_names c.args.e.now ts) c.from_vec.ensures.same) in
     same_event_date names no_names c.args.e.now c.args.tags.items ∙ ap (λ (h : Head). h.event_date) (sym (c.in_ok-settle.ensures.ok ∙ ap (λ (h : Head). settled h) head))
 
 pub returns-clause-rule : goal.returns-clause-rule
 returns-clause-rule c =
     let head : c.in_ok-head.head ≡ head_of no_names c.args.e.now c.args.tags.items =
-      c.in_ok-head.ensures.head ∙ (c.nameless.ensures.fields c.from_vec.result ∙ ap (λ (ts : List Tag). head_of no_names c.args.e.now ts) c.from_vec.ensures.same) in
+    c.in_ok-head.ensures.head ∙ (c.nameless.ensures.fields c.from_vec.result ∙ ap (λ (ts : List Tag). head_of no_names c.args.e.now ts) c.from_vec.ensures.same) in
     let date : c.settle.new.head.date ≡ c.args.e.now.date =
-      ap (λ (h : Head). h.date) c.in_ok-settle.ensures.ok ∙ (settled-date c.in_ok-head.head ∙ (ap (λ (h : Head). h.date) head ∙ head-date no_names c.args.e.now c.args.tags.items)) in
+    ap (λ (h : Head). h.date) c.in_ok-settle.ensures.ok ∙ (settled-date c.in_ok-head.head ∙ (ap (λ (h : Head). h.date) head ∙ head-date no_names c.args.e.now c.args.tags.items)) in
     subst (λ (d : Date). IsTrue (keeps_rule c.settle.new.head.event_date d)) date c.in_ok-settle.ensures.rule

@@ -2,7 +2,7 @@ use Rattle.std.proofs.Common.{◌≡◌, ◌≤◌, ◌+◌, ap, ◌∙◌, sym,
 use Rattle.base_files.specs.declared.extent.Extent.{Extent}
 use Rattle.base_files.specs.Told.{Tells, part_told}
 use Rattle.game_tree.specs.Settle.{settled}
-use Rattle.base_core.specs.Entries.{extent_of, head_of}
+use Rattle.base_core.specs.Entries.{head_of}
 use Rattle.base_core.specs.Represents.{Kept}
 use Rattle.base_core.proofs.CheckLaws.{ends_within}
 use Rattle.base_core.proofs.GameLaws.{game_told, unchanged_told}
@@ -25,5 +25,5 @@ returns-clause-found g c =
     let T : Extent → Type 0 = λ x. Tells (part_told (g.F.Files.seen c.args.files.now).games x.offset x.len) (take x.len c.fetch.new.buf) in
     let tells = subst T c.extent_of.ensures.extent (from_ok c.fetch.result (T c.extent_of.result) c.if-is_err.ensures.value c.fetch.ensures.bytes) in
     let head : c.in_ok-head.head ≡ settled (head_of c.args.self.now.names c.entry-entry.result c.in-Ok.read.1.items) =
-      c.in_ok-head.ensures.head ∙ ap (λ (k : Kept). settled (head_of k.names c.entry-entry.result c.in-Ok.read.1.items)) c.self.view_is in
+    c.in_ok-head.ensures.head ∙ ap (λ (k : Kept). settled (head_of k.names c.entry-entry.result c.in-Ok.read.1.items)) c.self.view_is in
     game_told (g.F.Files.seen c.args.files.now).games c.args.self.now c.args.i c.entry-entry.result _ c.in-Ok.read.1.items c.in-Ok.read.0 c.in_ok-head.head c.entry-entry.ensures.at tells c.in-Ok.ensures.read head

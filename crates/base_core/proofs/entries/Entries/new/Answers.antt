@@ -1,6 +1,6 @@
 use Rattle.std.proofs.Common.{ap, ◌∙◌, List, ℕ}
-use Rattle.base_core.specs.Packing.{ArePacked, entries_in}
-use Rattle.base_core.proofs.PackLaws.{no-entries, none-packed}
+use Rattle.base_core.specs.Packing.{entries_in}
+use Rattle.base_core.proofs.PackLaws.{no-entries}
 use Rattle.base_core.proofs.entries.Entries.new.Goals as goal
 
 pub returns : goal.returns

@@ -1,4 +1,4 @@
-use Rattle.std.proofs.Common.{◌≡◌, ◌<◌, ◌+◌, ℕ, List, [], ◌∷◌, ◌++◌, length, sym, ap, ◌∙◌, subst, arith}
+use Rattle.std.proofs.Common.{◌≡◌, ◌+◌, ℕ, List, [], ◌∷◌, ◌++◌, length, sym, ap, ◌∙◌, subst, arith}
 use Rattle.index_entry.specs.declared.entry.Entry.{Entry}
 use Rattle.base_core.specs.Packing.{ArePacked, entries_in}
 use Rattle.base_core.proofs.PackLaws.{entries-length, entries-push, packed-push}
