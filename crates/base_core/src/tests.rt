@@ -4,7 +4,7 @@ ghost use Rattle.std.specs.Prelude.{◌≡◌, ◌≤◌};
 use crate::{Base, BaseFault, DerivedField, IdField, OpenError, PlaceWhat};
 use base_files::MemFiles;
 use game_codec::{RecordFault, RecordWhat};
-use index_entry::{EntryFault, IndexHead, write_index};
+use index_entry::{EntryFault, IndexFault, IndexHead, write_index};
 use move_codec::MoveFault;
 use std::alloc::Global;
 use std::process::Abort;
@@ -49,6 +49,39 @@ fn refusal(alloc: Global, place: usize, byte: u8, strict: bool) -> Result<Option
     let mut files = files(alloc, place, byte)?;
     let mut buf = vec![in alloc; 0u8; 131_072]?;
     Ok(Base::open_base(alloc, &mut files, false, strict, buf.as_mut_slice()).err())
+}
+
+#[test]
+fn opens_a_base_and_gives_its_game(rt: HostRuntime) -> Result<(), Fail> {
+    let mut files = files(rt.alloc(), 47, 0)?;
+    let mut buf = vec![in rt.alloc(); 0u8; 131_072]?;
+    let (base, mended) = Base::open_base(rt.alloc(), &mut files, false, true, buf.as_mut_slice())?;
+    assert_eq!(rt; mended, 0);
+    assert!(rt; !base.unsaved());
+    let (head, game) = base.game(rt.alloc(), 0, &mut files, buf.as_mut_slice())?;
+    assert!(rt; head.black.as_bytes() == b"Tartakower, Savielly".as_slice());
+    assert!(rt; head.site.as_bytes() == b"Vienna AUT".as_slice());
+    assert_eq!(rt; game.line.len(), 21);
+    assert!(rt;
+        base.game(rt.alloc(), 1, &mut files, buf.as_mut_slice())
+            .is_err()
+    );
+    Ok(())
+}
+
+#[test]
+fn mends_an_entry(rt: HostRuntime) -> Result<(), Fail> {
+    let mut files = files(rt.alloc(), 39, 0x5b)?;
+    let mut buf = vec![in rt.alloc(); 0u8; 131_072]?;
+    let (_base, mended) = Base::open_base(
+        rt.alloc(),
+        &mut files,
+        false,
+        false,
+        buf.as_mut_slice(),
+    )?;
+    assert_eq!(rt; mended, 1);
+    Ok(())
 }
 
 /// Another byte at a place of the entry, whether the opening is strict, and the fault.
@@ -137,5 +170,22 @@ fn misread(alloc: Global, rows: &[Row]) -> Result<bool, Fail> {
 #[test]
 fn tells_the_first_fault(rt: HostRuntime) -> Result<(), Fail> {
     assert!(rt; !misread(rt.alloc(), &FAULTS)?);
+    Ok(())
+}
+
+#[test]
+fn creates_a_base(rt: HostRuntime) -> Result<(), Fail> {
+    let alloc = rt.alloc();
+    let mut files = MemFiles::new(
+        Vec::new(alloc),
+        Vec::new(alloc),
+        Vec::new(alloc),
+        Vec::new(alloc),
+    );
+    let mut buf = vec![in alloc; 0u8; 131_072]?;
+    let refused = Base::open_base(alloc, &mut files, false, false, buf.as_mut_slice()).err();
+    assert!(rt; refused == Some(OpenError::Bad(BaseFault::Index(IndexFault::Short(0)))));
+    let (base, _mended) = Base::open_base(alloc, &mut files, true, false, buf.as_mut_slice())?;
+    assert_eq!(rt; base.header().games, 0);
     Ok(())
 }
