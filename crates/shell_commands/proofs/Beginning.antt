@@ -1,5 +1,5 @@
 -- The machine with which a script begins.
-use Rattle.std.proofs.Common.{◌≡◌, ◌≤◌, ℕ, false, List, [], length, replicate, All, Option, Some, refl, sym, ap, subst, ◌∙◌}
+use Rattle.std.proofs.Common.{◌≡◌, ◌≤◌, ℕ, false, List, [], length, Some, refl, sym, ap, subst}
 use Rattle.std.proofs.Math.ListN.{length-replicate}
 use Rattle.std.proofs.lemmas.List.Elements.{All-nil}
 use Rattle.base_files.specs.Seen.{Seen}
@@ -7,8 +7,7 @@ use Rattle.base_core.specs.Base.{Base}
 use Rattle.base_core.specs.Represents.{Kept, Represents, IsSound}
 use Rattle.game_filter.specs.Filter.{all_in}
 use Rattle.shell_commands.specs.declared.saved.SavedFilter.{SavedFilter}
-use Rattle.shell_commands.specs.Stands.{Holding, Stands, Sound, Fits, Begins}
-use Rattle.shell_commands.specs.State.{State, begin}
+use Rattle.shell_commands.specs.Stands.{Holding, Begins}
 
 -- Every game is in, and no filter is kept.
 abbrev pub first_holding : Kept → Holding

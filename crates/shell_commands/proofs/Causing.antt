@@ -1,9 +1,9 @@
 -- Laws of causes: a part that has one device alone has the causes of a command that has all.
-use Rattle.std.proofs.Common.{◌≡◌, ◌<◌, ◌≤◌, ℕ, true, inl, inr, Result, Ok, Err, arith, refl}
+use Rattle.std.proofs.Common.{◌≡◌, ◌≤◌, ℕ, true, inl, inr, Result, Ok, Err, arith}
 use Rattle.base_files.specs.Counters.{Rose}
 use Rattle.base_files.specs.declared.faults.Stop.{Stop}
 use Rattle.base_files.specs.declared.faults.Stop.TheVariants as stop
-use Rattle.command_runs.specs.Counts.{Counts, counts, Why, NoneFell, Causes}
+use Rattle.command_runs.specs.Counts.{counts, Why, Causes}
 use Rattle.shell_commands.specs.declared.halt.Halt.{Halt}
 use Rattle.shell_commands.specs.declared.halt.Halt.TheVariants as halt
 use Rattle.shell_commands.specs.Stands.{WhyHalt, Broken}

@@ -1,5 +1,5 @@
 -- Laws of `find` over a machine.
-use Rattle.std.proofs.Common.{◌≡◌, ◌≤◌, ◌+◌, ℕ, List, [], ◌∷◌, length, map, Option, Some, Result, Ok, Err, OnOk, true, refl, sym, ap, subst, ◌∙◌, add_assoc, zero-add}
+use Rattle.std.proofs.Common.{◌≡◌, ◌≤◌, ◌+◌, ℕ, List, [], ◌∷◌, length, map, Option, Result, Ok, Err, OnOk, refl, sym, ap, subst, ◌∙◌}
 use Rattle.std.specs.Prelude.{sum_by}
 use Rattle.std.proofs.lemmas.List.Sums.{sum_by-cons}
 use Rattle.base_files.specs.Seen.{Seen}
@@ -9,7 +9,7 @@ use Rattle.base_core.specs.Entries.{extent_of}
 use Rattle.base_core.specs.Represents.{Kept}
 use Rattle.cell_core.specs.Board.{Men}
 use Rattle.cell_core.specs.declared.man.Colour.{Colour}
-use Rattle.command_runs.specs.Endings.{Halted, Cut, Serves}
+use Rattle.command_runs.specs.Endings.{Cut, Serves}
 use Rattle.command_runs.proofs.Joining.{halted_none}
 use Rattle.index_entry.specs.declared.entry.Entry.{Entry}
 use Rattle.script_text.specs.declared.command.Command.TheVariants.{Find, Hits}
@@ -20,7 +20,7 @@ use Rattle.shell_commands.specs.Do.{plain}
 use Rattle.shell_commands.specs.Ends.{IsDevice}
 use Rattle.shell_commands.specs.FirstPly.{Sought, sought}
 use Rattle.shell_commands.specs.Searching.{found, find_after, find_text}
-use Rattle.shell_commands.specs.Stands.{Holding, Stands, Sound, Fits, Broken}
+use Rattle.shell_commands.specs.Stands.{Holding, Stands, Sound, Broken}
 use Rattle.shell_commands.specs.State.{State, games_of}
 use Rattle.shell_commands.proofs.Causing.{broken_by_device}
 use Rattle.shell_commands.proofs.Quietly.{fits_by}

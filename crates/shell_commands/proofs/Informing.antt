@@ -1,5 +1,5 @@
 -- Laws of `info`: what the machine counts is what the base has.
-use Rattle.std.proofs.Common.{◌≡◌, ℕ, Bool, List, [], ◌∷◌, length, map, Some, Ok, refl, sym, ap, subst, ◌∙◌}
+use Rattle.std.proofs.Common.{◌≡◌, ℕ, Bool, List, [], ◌∷◌, length, map, Ok, refl, sym, ap, ◌∙◌}
 use Rattle.std.specs.Prelude.{count_by, cond, ◌+◌}
 use Rattle.std.proofs.lemmas.List.Sums.{sum_by-cons}
 use Rattle.base_files.specs.Seen.{Seen}
@@ -7,10 +7,9 @@ use Rattle.game_tree.specs.Head.{without_tags}
 use Rattle.game_tree.specs.declared.head.Head.{Head}
 use Rattle.name_base.specs.NameLists.{NameLists}
 use Rattle.script_text.specs.declared.command.Command.TheVariants.{Info}
-use Rattle.base_core.specs.Base.{Base, Held}
-use Rattle.base_core.specs.Represents.{Kept, Represents, heads_of}
+use Rattle.base_core.specs.Base.{Held}
+use Rattle.base_core.specs.Represents.{heads_of}
 use Rattle.base_core.proofs.GamesLaws.{heads-are}
-use Rattle.shell_commands.specs.Do.{Order}
 use Rattle.shell_commands.specs.Showing.{info_line, deleted_in}
 use Rattle.shell_commands.specs.Stands.{Holding, Stands, Fits, Quiet}
 use Rattle.shell_commands.specs.State.{State}

@@ -1,5 +1,5 @@
 -- Laws of lines that ask no file: what they leave stands for the state after them.
-use Rattle.std.proofs.Common.{◌≡◌, ℕ, suc, ◌+◌, List, [], ◌∷◌, ◌++◌, length, map, All, Option, Some, None, Result, Ok, Err, refl, sym, ap, subst, ◌∙◌, ◌<◌, ◌≤◌, arith}
+use Rattle.std.proofs.Common.{◌≡◌, ℕ, suc, ◌+◌, List, [], ◌∷◌, length, All, Option, Result, Ok, Err, refl, sym, ap, subst, ◌∙◌, ◌<◌, ◌≤◌, arith}
 use Rattle.base_files.specs.Seen.{Seen}
 use Rattle.std.specs.Prelude.{nat_le, min, IfOk}
 use Rattle.script_text.specs.declared.command.Command.TheVariants.{Drop}

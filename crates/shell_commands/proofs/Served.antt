@@ -1,11 +1,11 @@
 -- Laws of what a line owes a state.
-use Rattle.std.proofs.Common.{◌≡◌, ℕ, List, [], Option, Result, Ok, Err, OnOk, refl, sym, ap, subst, ◌∙◌}
+use Rattle.std.proofs.Common.{◌≡◌, ℕ, List, [], Option, Result, Ok, Err, OnOk, ap, subst, ◌∙◌}
 use Rattle.std.specs.Prelude.{IfErr}
 use Rattle.base_files.specs.Seen.{Seen}
 use Rattle.base_files.specs.Told.{adds}
-use Rattle.command_runs.specs.Endings.{Done, Halted, Cut, Serves}
+use Rattle.command_runs.specs.Endings.{Halted, Serves}
 use Rattle.shell_commands.specs.declared.halt.Halt.{Halt}
-use Rattle.shell_commands.specs.Do.{Order, plain, text_of_order}
+use Rattle.shell_commands.specs.Do.{Order, plain}
 use Rattle.shell_commands.specs.Ends.{IsOutput}
 use Rattle.shell_commands.specs.Stands.{Holding, Stands, Quiet, Broken}
 use Rattle.shell_commands.specs.State.{State}

@@ -1,5 +1,5 @@
 -- What each line of a script does to a state, and the text that it writes: the plain machine. This project's own.
-use Rattle.std.specs.Prelude.{ℕ, Bool, true, false, List, [], Option, Result, Ok, Err}
+use Rattle.std.specs.Prelude.{ℕ, Bool, true, false, List, [], Result, Ok, Err}
 use Rattle.game_filter.specs.Filter.{intersection, union}
 use Rattle.script_text.specs.declared.command.Command.{Command}
 use Rattle.script_text.specs.declared.command.Command.TheVariants.{Nothing, Find, SearchPosition, SearchMaterial, SearchHeader, Reset, Clear, Negate, Restrict, Keep, Take, And, Or, Drop, Hits, Info, Quit}
@@ -10,7 +10,7 @@ use Rattle.shell_commands.specs.FirstPly.{sought}
 use Rattle.shell_commands.specs.Lines.{filter_line, hits_text, fault_line}
 use Rattle.shell_commands.specs.State.{State}
 use Rattle.shell_commands.specs.Searching.{find_after, find_text}
-use Rattle.shell_commands.specs.Filters.{with_filter, reset_after, clear_after, negate_after, restrict_after, keep_after, keep_text, join_after, join_text, drop_after, drop_text}
+use Rattle.shell_commands.specs.Filters.{reset_after, clear_after, negate_after, restrict_after, keep_after, keep_text, join_after, join_text, drop_after, drop_text}
 use Rattle.shell_commands.specs.SavedFilters.{taken}
 use Rattle.shell_commands.specs.Showing.{info_text, quit_text}
 

@@ -1,6 +1,5 @@
 -- Why a part of a command ends early. Only private functions cite this.
-use Rattle.std.specs.Prelude.{◌≡◌, ⊤}
-use Rattle.base_files.specs.declared.faults.Stop.{Stop}
+use Rattle.std.specs.Prelude.{⊤}
 use Rattle.base_files.specs.declared.faults.Stop.TheVariants as stop
 use Rattle.shell_commands.specs.declared.halt.Halt.{Halt}
 use Rattle.shell_commands.specs.declared.halt.Halt.TheVariants as halt

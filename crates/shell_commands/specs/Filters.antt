@@ -1,6 +1,6 @@
 -- The commands on filters. This project's own; the operations are those of Scid's filters.
-use Rattle.std.specs.Prelude.{ℕ, List, ◌++◌, length, Bool, Option, Some, None, if◌then◌else◌, codes}
-use Rattle.game_filter.specs.Filter.{all_in, all_out, negated, intersection, union, restricted}
+use Rattle.std.specs.Prelude.{ℕ, List, length, Option, if◌then◌else◌, codes}
+use Rattle.game_filter.specs.Filter.{all_in, all_out, negated, restricted}
 use Rattle.shell_commands.specs.Lines.{filter_line, name_line, no_filter_line, full_filters_line}
 use Rattle.shell_commands.specs.SavedFilters.{saved_named, joined_with, is_kept, can_keep, kept_in, dropped_in}
 use Rattle.shell_commands.specs.State.{State}

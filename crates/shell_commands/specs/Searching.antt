@@ -1,7 +1,5 @@
 -- The command that searches. This project's own.
 use Rattle.std.specs.Prelude.{ℕ, List, Option, map}
-use Rattle.cell_core.specs.Board.{Men}
-use Rattle.cell_core.specs.declared.man.Colour.{Colour}
 use Rattle.game_tree.specs.Game.{GameTree}
 use Rattle.shell_commands.specs.FirstPly.{Sought, first_of}
 use Rattle.shell_commands.specs.Lines.{hits_text}

@@ -1,5 +1,5 @@
 -- The commands that show what is there. This project's own.
-use Rattle.std.specs.Prelude.{ℕ, List, [], ◌++◌, ◌∷◌, length, count_by, Bool, true, false, if◌then◌else◌, codes}
+use Rattle.std.specs.Prelude.{ℕ, List, [], ◌++◌, length, count_by, Bool, if◌then◌else◌, codes}
 use Rattle.std.specs.Fmt.{decimal}
 use Rattle.shell_commands.specs.Lines.{line_of}
 use Rattle.shell_commands.specs.State.{State}

@@ -2,7 +2,7 @@
 use Rattle.std.specs.Prelude.{ℕ, Bool, false, List, [], length, Option, map}
 use Rattle.game_filter.specs.Filter.{all_in}
 use Rattle.game_tree.specs.Game.{GameTree}
-use Rattle.base_core.specs.Base.{Base, Held}
+use Rattle.base_core.specs.Base.{Base}
 use Rattle.shell_commands.specs.declared.saved.SavedFilter.{SavedFilter}
 
 -- The base, the filter with an entry for each game, the filters that are kept by name, and whether changes are unsaved.

@@ -1,11 +1,11 @@
-use Rattle.std.proofs.Common.{◌≡◌, ◌≤◌, ◌+◌, ℕ, length, sym, ap, subst, ◌∙◌, arith}
+use Rattle.std.proofs.Common.{sym, ap, subst}
 use Rattle.base_files.specs.Seen.{Seen}
 use Rattle.base_core.proofs.GamesLaws.{are-within, holds}
 use Rattle.shell_commands.specs.FirstPly.{sought}
 use Rattle.shell_commands.specs.Searching.{find_after}
 use Rattle.shell_commands.specs.Stands.{Holding, Stands, Sound}
 use Rattle.shell_commands.specs.State.{games_of}
-use Rattle.shell_commands.proofs.FindingLaws.{search_cuts, found_stands, found_sound, hits_are_found, all_records, on_ok}
+use Rattle.shell_commands.proofs.FindingLaws.{search_cuts, found_stands, found_sound, hits_are_found, on_ok}
 use Rattle.shell_commands.proofs.finding.find.Goals as goal
 
 pub search-requires-clause-within : goal.search-requires-clause-within

@@ -1,4 +1,4 @@
-use Rattle.std.proofs.Common.{◌≡◌, ℕ, List, arith}
+use Rattle.std.proofs.Common.{arith}
 use Rattle.shell_commands.proofs.HoldingLaws.{walked, game_read, some_read, never_changed}
 use Rattle.shell_commands.proofs.finding.first_in.Goals as goal
 

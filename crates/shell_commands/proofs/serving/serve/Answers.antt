@@ -1,4 +1,4 @@
-use Rattle.std.proofs.Common.{◌≡◌, ℕ, List, sym, ap, subst, ◌∙◌}
+use Rattle.std.proofs.Common.{ℕ, List, sym, subst}
 use Rattle.shell_commands.specs.Stands.{Quiet}
 use Rattle.shell_commands.proofs.Served.{quiet_serves}
 use Rattle.shell_commands.proofs.serving.serve.Goals as goal

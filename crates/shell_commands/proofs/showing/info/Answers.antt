@@ -1,4 +1,4 @@
-use Rattle.std.proofs.Common.{◌≡◌, ℕ, List, length, Ok, sym, ap, subst, ◌∙◌}
+use Rattle.std.proofs.Common.{length, Ok, sym, ap, subst, ◌∙◌}
 use Rattle.index_entry.specs.declared.index.IndexHead.{IndexHead}
 use Rattle.name_base.specs.NameLists.{NameLists}
 use Rattle.script_text.specs.declared.command.Command.TheVariants as command

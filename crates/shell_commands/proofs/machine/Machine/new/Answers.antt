@@ -1,8 +1,7 @@
-use Rattle.std.proofs.Common.{◌≡◌, ℕ, List, Option, [], length, sym, ap, ◌∙◌}
+use Rattle.std.proofs.Common.{◌≡◌, length, sym, ap, ◌∙◌}
 use Rattle.game_filter.specs.Filter.{all_in}
 use Rattle.index_entry.specs.declared.index.IndexHead.{IndexHead}
-use Rattle.shell_commands.specs.Stands.{Holding}
-use Rattle.shell_commands.proofs.Beginning.{begins_by, first_holding}
+use Rattle.shell_commands.proofs.Beginning.{begins_by}
 use Rattle.shell_commands.proofs.machine.Machine.new.Goals as goal
 
 pub returns-clause-begins : goal.returns-clause-begins
