@@ -1,0 +1,13 @@
+pub mod Lists
+pub mod Results
+pub mod PackLaws
+pub mod NameLaws
+pub mod CheckLaws
+pub mod SigLaws
+pub mod KeptLaws
+pub mod ReadLaws
+pub mod OneFault
+pub mod OneBase
+pub mod GamesLaws
+pub mod GameLaws
+pub mod OpenLaws

@@ -1,0 +1,12 @@
+use Rattle.std.proofs.Common.{ap, ◌∙◌, Some, sym, subst}
+use Rattle.sig_index.specs.Signature.{IsSigBounded}
+use Rattle.sig_index.specs.declared.signature.Sig.{Sig}
+use Rattle.base_core.specs.Entries.{sig_in}
+use Rattle.base_core.proofs.GamesLaws.{at-map, sig-bounded}
+use Rattle.base_core.proofs.games.BaseGames.sig.Goals as goal
+
+pub returns-clause-kept : goal.returns-clause-kept
+returns-clause-kept c = at-map sig_in c.args.self.now.entries c.args.i c.entry.result c.entry.ensures.at ∙ ap (λ (s : Sig). Some s) (sym c.sig_in.ensures.sig)
+
+pub returns-clause-bounded : goal.returns-clause-bounded
+returns-clause-bounded c = subst IsSigBounded (sym c.sig_in.ensures.sig) (sig-bounded c.args.self.now.names c.args.self.now.end c.entry.result c.entry.ensures.kept)

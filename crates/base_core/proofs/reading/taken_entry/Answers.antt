@@ -1,0 +1,14 @@
+use Rattle.std.proofs.Common.{◌≤◌, sym, subst}
+use Rattle.index_entry.specs.Entry.{IsEntry}
+use Rattle.index_entry.specs.declared.entry.Entry.{Entry}
+use Rattle.base_core.proofs.KeptLaws.{kept-IsEntry, kept-homes}
+use Rattle.base_core.proofs.reading.taken_entry.Goals as goal
+
+pub returns-in_default-clause-fields : goal.returns-in_default-clause-fields
+returns-in_default-clause-fields c =
+    subst (λ (e : Entry). IsEntry e) (sym c.kept_entry.ensures.kept)
+    (kept-IsEntry c.args.entry.now c.in-Ok.signed.sig c.in-Ok.signed.event_date c.requires.fields c.in-Ok.ensures.bounded c.in-Ok.ensures.event_date.0 c.in-Ok.ensures.event_date.1)
+
+pub returns-in_default-clause-homes : goal.returns-in_default-clause-homes
+returns-in_default-clause-homes c =
+    subst (λ (e : Entry). e.home_count ≤ 16) (sym c.kept_entry.ensures.kept) (kept-homes c.args.entry.now c.in-Ok.signed.sig c.in-Ok.signed.event_date c.in-Ok.ensures.bounded.home_count)

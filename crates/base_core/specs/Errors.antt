@@ -1,0 +1,34 @@
+-- The errors of this crate for those of the crates below (this project's own).
+use Rattle.base_files.specs.declared.faults.DeviceError.{DeviceError}
+use Rattle.base_files.specs.declared.faults.DeviceError.TheVariants as device
+use Rattle.std.specs.Prelude.{ℕ, None}
+use Rattle.game_codec.specs.declared.fault.DecodeError.{DecodeError}
+use Rattle.game_codec.specs.declared.fault.DecodeError.TheVariants as decode
+use Rattle.name_base.specs.declared.fault.NamesError.{NamesError}
+use Rattle.name_base.specs.declared.fault.NamesError.TheVariants as names
+use Rattle.sig_index.specs.declared.signature.Sig.{Sig}
+use Rattle.base_core.specs.declared.fault.BaseFault.TheVariants.{Names, Packed}
+use Rattle.base_core.specs.declared.fault.EditError.{EditError}
+use Rattle.base_core.specs.declared.fault.EditError.TheVariants as edit
+use Rattle.base_core.specs.declared.fault.OpenError.{OpenError}
+use Rattle.base_core.specs.declared.fault.OpenError.TheVariants as opening
+
+-- Why a base is not opened where its files do not answer.
+abbrev pub open_error : DeviceError → OpenError
+open_error device.Failed = opening.Failed
+open_error device.Memory = opening.Memory
+
+-- Where its names are not read.
+abbrev pub names_error : NamesError → OpenError
+names_error (names.Bad fault) = opening.Bad (Names fault)
+names_error names.Memory = opening.Memory
+
+-- Where the record of a game is not read.
+abbrev pub packed_error : ℕ → DecodeError → OpenError
+packed_error game (decode.Bad fault) = opening.Bad (Packed game fault)
+packed_error game decode.Memory = opening.Memory
+
+-- Why a game is not read that has this signature.
+abbrev pub unread_error : ℕ → Sig → DecodeError → EditError
+unread_error game kept (decode.Bad fault) = edit.Changed game kept None
+unread_error game kept decode.Memory = edit.Memory

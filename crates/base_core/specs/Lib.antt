@@ -1,0 +1,10 @@
+pub mod Base
+pub mod Entries
+pub mod Means
+pub mod FirstFault
+pub mod Represents
+pub mod Opening
+pub mod Errors
+pub mod Packing
+pub mod Reading
+pub mod GameAt

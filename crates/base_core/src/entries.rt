@@ -1,0 +1,80 @@
+//! The entries of the games of an open base.
+ghost use Rattle.std.specs.Prelude.{◌≡◌, ◌≤◌, ◌<◌, ◌+◌, ◌-◌, ◌*◌, ◌^◌, ◌++◌, [], ◌∷◌, Some, length, slice_get, OnOk, OnErr};
+ghost use Rattle.index_entry.specs.Entry.{IsEntry};
+ghost use Rattle.base_core.specs.Packing.{packed_at};
+
+use index_entry::{ENTRY_LEN, Entry, pack, unpack};
+use std::alloc::{AllocError, Global};
+use std::marker::Model;
+
+/// A list of entries. Each is kept in its 47 bytes.
+#[derive(Drop)]
+pub(crate) struct Entries {
+    bytes: Vec<u8>,
+    count: u32,
+}
+
+impl Model for Entries {
+    ghost use Rattle.std.specs.Prelude.{List};
+    ghost use Rattle.index_entry.specs.declared.entry.Entry.{Entry};
+    ghost use Rattle.base_core.specs.Packing.{ArePacked, entries_in};
+
+    ghost Value = { List Entry };
+
+    ghost view = { λ entries. entries_in entries.bytes.items entries.count };
+
+    ghost invariant = { λ entries. ArePacked entries.bytes.items entries.count };
+}
+
+impl Entries {
+    /// No entries.
+    pub(crate) fn new(alloc: Global) -> Entries
+        ensures none { result ≡ [] }
+    {
+        Entries {
+            bytes: Vec::new(alloc),
+            count: 0,
+        }
+    }
+
+    /// The number of entries.
+    pub(crate) fn len(&self) -> u32
+        ensures len { result ≡ length self.now }
+    {
+        self.count
+    }
+
+    /// The entry at a place.
+    pub(crate) fn get(&self, i: u32) -> Entry
+        requires there { i < length self.now }
+        ensures at { slice_get self.now i ≡ Some result }
+    {
+        match unpack(&packed_at(self.bytes.as_slice(), i)) {
+            Ok(entry) => entry,
+            Err(_) => unreachable!(),
+        }
+    }
+
+    /// Adds an entry at the end. After want of memory the list is as it was.
+    pub(crate) fn push(&mut self, entry: &Entry) -> Result<(), AllocError>
+        requires room { length self.old < 2 ^ 32 - 1 }
+        requires fields { IsEntry entry.now }
+        ensures pushed { OnOk result (self.new ≡ self.old ++ entry.now ∷ []) }
+        ensures unchanged { OnErr result (self.new ≡ self.old) }
+    {
+        self.bytes.extend_from_slice(&pack(entry))?;
+        self.count += 1;
+        Ok(())
+    }
+}
+
+// The 47 bytes of an entry.
+fn packed_at(bytes: &[u8], i: u32) -> [u8; ENTRY_LEN]
+    requires there { 47 * i + 47 ≤ length bytes.now }
+    ensures packed { result ≡ packed_at bytes.now i }
+{
+    let at = ENTRY_LEN * i as usize;
+    let mut packed = [0; ENTRY_LEN];
+    packed.copy_from_slice(&bytes[at..at + ENTRY_LEN]);
+    packed
+}

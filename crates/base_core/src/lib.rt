@@ -1,0 +1,19 @@
+//! The base: its files opened and checked to their first fault, and its games.
+#![tactic(auto)]
+
+mod base;
+mod checking;
+mod entries;
+mod fault;
+mod game;
+mod games;
+mod laws;
+mod opening;
+mod reading;
+
+pub use base::Base;
+pub use fault::{BaseFault, DerivedField, EditError, IdField, OpenError, PlaceWhat};
+pub use laws::{files_have_one_meaning, open_bases_have_one_meaning, searches_see_the_games};
+
+#[cfg(test)]
+mod tests;

@@ -1,0 +1,207 @@
+//! Reading the games of a base that is opened.
+ghost use Rattle.std.specs.Prelude.{◌≡◌, ◌≤◌, ◌<◌, ◌+◌, ◌*◌, ◌^◌, All, List, length, take, IfOk, IfErr, IfSome, OnOk, OnErr, IsTrue, if◌then◌else◌};
+ghost use Rattle.base_files.specs.Counters.{Rose};
+ghost use Rattle.base_files.specs.Told.{TellsLength};
+ghost use Rattle.game_tree.specs.Date.{IsDate, keeps_rule};
+ghost use Rattle.game_tree.specs.Head.{HasTexts, IsBounded, IsTag, head_of as fields_with};
+ghost use Rattle.game_tree.specs.Settle.{settled};
+ghost use Rattle.game_tree.specs.declared.head.Tag.{Tag as TagValue};
+ghost use Rattle.game_codec.specs.Fault.{IsRecordFault, IfBad as IfBadRecord};
+ghost use Rattle.index_entry.specs.Entry.{IsEntry, entry_in};
+ghost use Rattle.index_entry.specs.Index.{entry_bytes};
+ghost use Rattle.name_base.specs.NameLists.{NameLists, no_names};
+ghost use Rattle.sig_index.specs.Signature.{IsSigBounded};
+ghost use Rattle.base_core.specs.Entries.{head_of};
+ghost use Rattle.base_core.specs.FirstFault.{EntryFails, Fails};
+ghost use Rattle.base_core.specs.Opening.{IfBad, records_len};
+ghost use Rattle.base_core.specs.Reading.{AreRead, IsNotTaken, IsReadSo, IsSigned, IsTaken};
+ghost use Rattle.base_core.specs.Represents.{IsKept};
+
+use crate::checking::{Opening, checked_entry, differing, kept_entry};
+use crate::entries::Entries;
+use crate::fault::{BaseFault, OpenError, packed_error};
+use base_files::Files;
+use game_codec::{DecodeError, decode_game};
+use game_tree::{Date, Head, HeadRef, Tag, Tags, settle};
+use index_entry::Entry;
+use sig_index::{Sig, sig_of};
+use std::alloc::{AllocError, Global};
+
+// What a record says beside its entry: the signature of its game, and the event date of its settled head.
+#[derive(Clone, Copy, Debug, Drop)]
+struct Signed {
+    sig: Sig,
+    event_date: Date,
+}
+
+// What is kept of a game's entry, and whether its derived fields were mended.
+#[derive(Clone, Copy, Debug, Drop)]
+struct GameRead {
+    entry: Entry,
+    mended: bool,
+}
+
+impl GameRead {
+    // How many entries this is that were mended.
+    fn count(&self) -> u32
+        ensures count { result ≡ (if self.now.mended then 1 else 0) }
+    {
+        if self.mended { 1 } else { 0 }
+    }
+}
+
+/// The entries of so many games with their derived fields mended, and how many of them were. Each record is read once, into `buf`.
+pub(crate) fn read_games<F: Files>(
+    alloc: Global,
+    files: &mut F,
+    o: &Opening<'_>,
+    count: u32,
+    buf: &mut [u8],
+) -> Result<(Entries, u32), OpenError>
+    requires there { 182 + 47 * count ≤ length o.now.index.now }
+    requires room { 131072 ≤ length buf.old }
+    requires known { o.now.end ≤ (F.seen files.old).known }
+    requires told { TellsLength (F.seen files.old).games o.now.end }
+    ensures read { IfOk result (λ opened. IfSome (F.seen files.old).games (λ games. AreRead o.now.strict o.now.index.now o.now.names.now games opened.0 opened.1)) }
+    ensures count { IfOk result (λ opened. length opened.0 ≡ count) }
+    ensures kept { IfOk result (λ opened. All (IsKept o.now.names.now o.now.end) opened.0) }
+    ensures fault { IfErr result (IfBad (λ fault. IfSome (F.seen files.old).games (λ games.
+        EntryFails o.now.strict o.now.index.now o.now.names.now games count fault))) }
+    ensures asks { F.asked files.new ≤ F.asked files.old + records_len o.now.index.now count }
+    ensures unchanged { F.seen files.new ≡ F.seen files.old }
+    ensures counts { F.faults files.old ≤ F.faults files.new }
+    ensures cause { IfErr result (λ error. error ≡ OpenError.Failed → Rose (F.faults files.old) (F.faults files.new)) }
+{
+    let mut entries = Entries::new(alloc);
+    let mut mended = 0;
+    for game in 0..count {
+        let read = read_game(alloc, files, o, game, buf)?;
+        entries.push(&read.entry)?;
+        mended += read.count();
+    }
+    Ok((entries, mended))
+}
+
+// The entry of a game with its derived fields mended. Its record is read into `buf`.
+fn read_game<F: Files>(
+    alloc: Global,
+    files: &mut F,
+    o: &Opening<'_>,
+    game: u32,
+    buf: &mut [u8],
+) -> Result<GameRead, OpenError>
+    requires there { 229 + 47 * game ≤ length o.now.index.now }
+    requires room { 131072 ≤ length buf.old }
+    requires known { o.now.end ≤ (F.seen files.old).known }
+    requires told { TellsLength (F.seen files.old).games o.now.end }
+    ensures read { IfOk result (λ read. IfSome (F.seen files.old).games (λ games.
+        IsReadSo o.now.strict o.now.names.now games game (entry_bytes o.now.index.now game) read.entry read.mended)) }
+    ensures kept { IfOk result (λ read. IsKept o.now.names.now o.now.end read.entry) }
+    ensures fault { IfErr result (IfBad (λ fault. IfSome (F.seen files.old).games (λ games.
+        Fails o.now.strict o.now.names.now games game (entry_bytes o.now.index.now game) fault))) }
+    ensures asks { F.asked files.new ≤ F.asked files.old + (entry_in (entry_bytes o.now.index.now game)).len }
+    ensures unchanged { F.seen files.new ≡ F.seen files.old }
+    ensures counts { F.faults files.old ≤ F.faults files.new }
+    ensures cause { IfErr result (λ error. error ≡ OpenError.Failed → Rose (F.faults files.old) (F.faults files.new)) }
+{
+    let entry = match checked_entry(o, game) {
+        Ok(entry) => entry,
+        Err(fault) => return Err(OpenError::Bad(fault)),
+    };
+    if files
+        .read_games(u64::from(entry.offset), entry.len, buf)
+        .is_err()
+    {
+        return Err(OpenError::Failed);
+    }
+    taken_entry(alloc, o.strict, game, &entry, &buf[..entry.len as usize])
+}
+
+// The entry with its derived fields mended by the bytes of its record.
+fn taken_entry(
+    alloc: Global,
+    strict: bool,
+    game: u32,
+    entry: &Entry,
+    bytes: &[u8],
+) -> Result<GameRead, OpenError>
+    requires fields { IsEntry entry.now }
+    requires few { length bytes.now < 2 ^ 32 }
+    ensures taken { IfOk result (λ read. IsTaken strict bytes.now entry.now read.entry read.mended) }
+    ensures not_taken { IfErr result (IfBad (IsNotTaken strict game bytes.now entry.now)) }
+    ensures fields { IfOk result (λ read. IsEntry read.entry) }
+    ensures homes { IfOk result (λ read. read.entry.home_count ≤ 16) }
+    ensures no_files { IfErr result (λ error. error ≡ OpenError.Failed → ⊥) }
+{
+    let signed = match signed_by(alloc, entry, bytes) {
+        Ok(signed) => signed,
+        Err(error) => return Err(packed_error(game, error)),
+    };
+    let found = differing(entry, &signed.sig);
+    match found {
+        Some(field) if strict => Err(OpenError::Bad(BaseFault::Derived { game, field })),
+        _ => Ok(GameRead {
+            entry: kept_entry(entry, &signed.sig, signed.event_date),
+            mended: found.is_some(),
+        }),
+    }
+}
+
+// What the bytes of the entry's record say, or their first fault. This is the one place where a record is looked at.
+fn signed_by(alloc: Global, entry: &Entry, bytes: &[u8]) -> Result<Signed, DecodeError>
+    requires fields { IsEntry entry.now }
+    requires few { length bytes.now < 2 ^ 32 }
+    ensures signed { IfOk result (λ signed. IsSigned bytes.now entry.now signed.sig signed.event_date) }
+    ensures bounded { IfOk result (λ signed. IsSigBounded signed.sig) }
+    ensures fault { IfErr result (IfBadRecord (IsRecordFault bytes.now)) }
+    ensures event_date { IfOk result (λ signed. IsDate signed.event_date × IsTrue (keeps_rule signed.event_date entry.now.date)) }
+{
+    let (game, tags) = match decode_game(alloc, bytes) {
+        Ok(read) => read,
+        Err(error) => return Err(error),
+    };
+    match settled_event_date(alloc, entry, tags) {
+        Ok(event_date) => Ok(Signed {
+            sig: sig_of(&game),
+            event_date,
+        }),
+        Err(_) => Err(DecodeError::Memory),
+    }
+}
+
+// The event date that the head of an entry has with these tags when it is settled. The names do not matter.
+fn settled_event_date(alloc: Global, e: &Entry, tags: Vec<Tag>) -> Result<Date, AllocError>
+    requires fields { IsEntry e.now }
+    requires tags { All IsTag tags.items }
+    ensures date { IfOk result (λ date. (names : NameLists) → (settled (head_of names e.now tags.items)).event_date ≡ date) }
+    ensures bounded { IfOk result IsDate }
+    ensures rule { IfOk result (λ date. IsTrue (keeps_rule date e.now.date)) }
+{
+    let mut head = Head::of(alloc, nameless(e), Tags::from_vec(tags))?;
+    settle(alloc, &mut head)?;
+    Ok(head.event_date)
+}
+
+// The head of an entry without its tags and names.
+fn nameless(e: &Entry) -> HeadRef<'static>
+    requires fields { IsEntry e.now }
+    ensures bounded { (given : List TagValue) → All IsTag given → IsBounded (head_of no_names e.now given) }
+    ensures fields { (given : List TagValue) → fields_with result given ≡ head_of no_names e.now given }
+    ensures texts { HasTexts result }
+{
+    HeadRef {
+        white: b"",
+        black: b"",
+        event: b"",
+        site: b"",
+        round: b"",
+        date: e.date,
+        event_date: e.event_date,
+        result: e.result,
+        white_rating: e.white_rating,
+        black_rating: e.black_rating,
+        eco: e.eco,
+        marks: e.marks,
+        deleted: e.deleted,
+    }
+}

@@ -1,0 +1,191 @@
+//! A base of one game, whose bytes were worked out from the formats by hand: Reti's game against Tartakower, Vienna 1910.
+ghost use Rattle.std.specs.Prelude.{◌≡◌, ◌≤◌};
+
+use crate::{Base, BaseFault, DerivedField, IdField, OpenError, PlaceWhat};
+use base_files::MemFiles;
+use game_codec::{RecordFault, RecordWhat};
+use index_entry::{EntryFault, IndexFault, IndexHead, write_index};
+use move_codec::MoveFault;
+use std::alloc::Global;
+use std::process::Abort;
+use std::test::Fail;
+
+const RECORD: [u8; 25] = [
+    0, 0, 0xcf, 0xa1, 0xbf, 0xbf, 0x28, 0xb0, 0x26, 0x61, 0x4a, 0xcf, 0xb2, 0x43, 0x60, 0x33, 0x44,
+    0x09, 0x61, 0x4f, 0x04, 0x36, 1, 0x3b, 0x0f,
+];
+
+const ENTRY: [u8; 47] = [
+    0, 0, 0, 0, 0, 0x19, 0, 0, 0, 0, 0, 0, 0, 1, 0, 0, 0, 0, 0, 0, 0, 0x10, 0, 0x3a, 0xda, 0, 0x0e,
+    0xec, 0, 0, 0, 0, 0, 0, 0x29, 0x66, 0xa6, 0x15, 5, 0xb5, 0xc4, 0x30, 0, 0, 0, 0, 0,
+];
+
+const NAMES: &[u8] =
+    b"Scid.sn\0\0\0\0\0\0\0\x02\0\0\x01\0\0\x01\0\0\x01\0\0\x01\0\0\x01\0\0\x01\0\0\x01\
+    \0\0\x01\x0dReti, Richard\0\x01\x01\x14\0Tartakower, Savielly\
+    \0\0\x01\x06Vienna\0\0\x01\x0aVienna AUT\0\0\x01\x01?";
+
+/// The base with another byte at a place of its entry.
+fn files(alloc: Global, place: usize, byte: u8) -> Result<MemFiles, Fail> {
+    let mut entry = ENTRY;
+    if let Some(at) = entry.get_mut(place) {
+        *at = byte;
+    }
+    let head = IndexHead {
+        kind: 0,
+        games: 1,
+        autoload: 0,
+        description: [0; 108],
+        custom: [0; 54],
+    };
+    let index = write_index(alloc, &head, &entry)?;
+    let names = Vec::from_slice(alloc, NAMES)?;
+    let games = Vec::from_slice(alloc, &RECORD)?;
+    Ok(MemFiles::new(index, names, games, Vec::new(alloc)))
+}
+
+/// Why the base with that byte is not opened.
+fn refusal(alloc: Global, place: usize, byte: u8, strict: bool) -> Result<Option<OpenError>, Fail> {
+    let mut files = files(alloc, place, byte)?;
+    let mut buf = vec![in alloc; 0u8; 131_072]?;
+    Ok(Base::open_base(alloc, &mut files, false, strict, buf.as_mut_slice()).err())
+}
+
+#[test]
+fn opens_a_base_and_gives_its_game(rt: HostRuntime) -> Result<(), Fail> {
+    let mut files = files(rt.alloc(), 47, 0)?;
+    let mut buf = vec![in rt.alloc(); 0u8; 131_072]?;
+    let (base, mended) = Base::open_base(rt.alloc(), &mut files, false, true, buf.as_mut_slice())?;
+    assert_eq!(rt; mended, 0);
+    assert!(rt; !base.unsaved());
+    let (head, game) = base.game(rt.alloc(), 0, &mut files, buf.as_mut_slice())?;
+    assert!(rt; head.black.as_bytes() == b"Tartakower, Savielly".as_slice());
+    assert!(rt; head.site.as_bytes() == b"Vienna AUT".as_slice());
+    assert_eq!(rt; game.line.len(), 21);
+    assert!(rt;
+        base.game(rt.alloc(), 1, &mut files, buf.as_mut_slice())
+            .is_err()
+    );
+    Ok(())
+}
+
+#[test]
+fn mends_an_entry(rt: HostRuntime) -> Result<(), Fail> {
+    let mut files = files(rt.alloc(), 39, 0x5b)?;
+    let mut buf = vec![in rt.alloc(); 0u8; 131_072]?;
+    let (_base, mended) = Base::open_base(
+        rt.alloc(),
+        &mut files,
+        false,
+        false,
+        buf.as_mut_slice(),
+    )?;
+    assert_eq!(rt; mended, 1);
+    Ok(())
+}
+
+/// Another byte at a place of the entry, whether the opening is strict, and the fault.
+type Row = (usize, u8, bool, Option<OpenError>);
+
+const FAULTS: [Row; 8] = [
+    (37, 0x16, false, None),
+    (
+        37,
+        0x16,
+        true,
+        Some(OpenError::Bad(BaseFault::Derived {
+            game: 0,
+            field: DerivedField::Plies,
+        })),
+    ),
+    (
+        39,
+        0x5b,
+        true,
+        Some(OpenError::Bad(BaseFault::Derived {
+            game: 0,
+            field: DerivedField::Home,
+        })),
+    ),
+    (
+        21,
+        0x50,
+        false,
+        Some(OpenError::Bad(BaseFault::EntryField {
+            game: 0,
+            what: EntryFault::Result,
+        })),
+    ),
+    (
+        13,
+        2,
+        false,
+        Some(OpenError::Bad(BaseFault::Id {
+            game: 0,
+            field: IdField::Black,
+        })),
+    ),
+    (
+        20,
+        1,
+        false,
+        Some(OpenError::Bad(BaseFault::Id {
+            game: 0,
+            field: IdField::Round,
+        })),
+    ),
+    (
+        6,
+        0x80,
+        false,
+        Some(OpenError::Bad(BaseFault::Place {
+            game: 0,
+            what: PlaceWhat::Past,
+        })),
+    ),
+    (
+        5,
+        0x0e,
+        false,
+        Some(OpenError::Bad(BaseFault::Packed {
+            game: 0,
+            fault: RecordFault {
+                place: 14,
+                what: RecordWhat::Move(MoveFault::Short),
+            },
+        })),
+    ),
+];
+
+/// Whether a row of the table is answered otherwise.
+fn misread(alloc: Global, rows: &[Row]) -> Result<bool, Fail> {
+    for (place, byte, strict, fault) in rows {
+        if refusal(alloc, *place, *byte, *strict)? != *fault {
+            return Ok(true);
+        }
+    }
+    Ok(false)
+}
+
+#[test]
+fn tells_the_first_fault(rt: HostRuntime) -> Result<(), Fail> {
+    assert!(rt; !misread(rt.alloc(), &FAULTS)?);
+    Ok(())
+}
+
+#[test]
+fn creates_a_base(rt: HostRuntime) -> Result<(), Fail> {
+    let alloc = rt.alloc();
+    let mut files = MemFiles::new(
+        Vec::new(alloc),
+        Vec::new(alloc),
+        Vec::new(alloc),
+        Vec::new(alloc),
+    );
+    let mut buf = vec![in alloc; 0u8; 131_072]?;
+    let refused = Base::open_base(alloc, &mut files, false, false, buf.as_mut_slice()).err();
+    assert!(rt; refused == Some(OpenError::Bad(BaseFault::Index(IndexFault::Short(0)))));
+    let (base, _mended) = Base::open_base(alloc, &mut files, true, false, buf.as_mut_slice())?;
+    assert_eq!(rt; base.header().games, 0);
+    Ok(())
+}
