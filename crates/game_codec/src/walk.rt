@@ -75,6 +75,8 @@ impl<'a> Walk<'a> {
     pub fn ply(&self) -> u32
         ensures ply { result ≡ self.now.ply }
         ensures within { (tags : List TagValue) (game : GameTree) → IsRecord self.now.bytes tags game → result ≤ plies_of game }
+        // A move takes a byte at least.
+        ensures bounded { result ≤ length self.now.bytes }
     {
         self.ply
     }

@@ -24,7 +24,7 @@ impl Model for Filter {
 }
 
 impl Filter {
-    ghost use Rattle.std.specs.Prelude.{◌≡◌, ◌<◌, [], ◌∷◌, ◌++◌, Some, length, map, slice_get, slice_set, IfOk, OnOk, OnErr};
+    ghost use Rattle.std.specs.Prelude.{◌≡◌, ◌^◌, ◌<◌, [], ◌∷◌, ◌++◌, Some, length, map, slice_get, slice_set, IfOk, OnOk, OnErr};
     ghost use Rattle.game_filter.specs.Filter.{all_in, all_out, count_in, negated, intersection, union, restricted};
 
     /// The filter of `n` games that has every one of them in, at ply 0.
@@ -80,6 +80,14 @@ impl Filter {
         ensures entry { slice_get self.now i ≡ Some result }
     {
         self.plies[i as usize]
+    }
+
+    /// The entries of all games.
+    pub fn plies(&self) -> &[Option<u32>]
+        ensures entries { result.now ≡ self.now }
+        ensures few { length self.now < 2 ^ 32 }
+    {
+        self.plies.as_slice()
     }
 
     /// Puts game `i` in at a ply, or out.

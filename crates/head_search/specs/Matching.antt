@@ -29,7 +29,7 @@ outcome_number outcome.White = 1
 outcome_number outcome.Black = 2
 outcome_number outcome.Draw = 3
 
--- white, black, player: the beginning of the name of White, of Black, of either.
+-- Keys `white`, `black` and `player`: the beginning of the name of White, of Black, of either.
 abbrev pub white_holds : Head → HeadQuery → Bool
 white_holds head query = holds query.white (λ text. begins head.white text)
 
@@ -39,7 +39,7 @@ black_holds head query = holds query.black (λ text. begins head.black text)
 abbrev pub player_holds : Head → HeadQuery → Bool
 player_holds head query = holds query.player (λ text. begins head.white text || begins head.black text)
 
--- event, site, round: the beginning of that name.
+-- Keys `event`, `site` and `round`: the beginning of that name.
 abbrev pub event_holds : Head → HeadQuery → Bool
 event_holds head query = holds query.event (λ text. begins head.event text)
 
@@ -49,11 +49,11 @@ site_holds head query = holds query.site (λ text. begins head.site text)
 abbrev pub round_holds : Head → HeadQuery → Bool
 round_holds head query = holds query.round (λ text. begins head.round text)
 
--- result: that result.
+-- Key `result`: that result.
 abbrev pub result_holds : Head → HeadQuery → Bool
 result_holds head query = holds query.result (λ result. outcome_number head.result == outcome_number result)
 
--- year: of the game's date; an unknown year is 0. welo, belo: the ratings of White and Black, of any kind; no rating is 0.
+-- Key `year`: that of the game's date; an unknown year is 0. Keys `welo` and `belo`: the ratings of White and Black, of any kind; no rating is 0.
 abbrev pub year_holds : Head → HeadQuery → Bool
 year_holds head query = holds query.year (λ span. is_in span head.date.year)
 
@@ -63,19 +63,19 @@ welo_holds head query = holds query.welo (λ span. is_in span head.white_rating.
 abbrev pub belo_holds : Head → HeadQuery → Bool
 belo_holds head query = holds query.belo (λ span. is_in span head.black_rating.value)
 
--- plies: of the main line; more than 1,023 count as 1,023.
+-- Key `plies`: those of the main line; more than 1,023 count as 1,023.
 abbrev pub plies_hold : Sig → HeadQuery → Bool
 plies_hold sig query = holds query.plies (λ span. is_in span sig.plies)
 
--- eco: the opening code; it never holds of a game without one.
+-- Key `eco`: the opening code; it never holds of a game without one.
 abbrev pub eco_holds : Head → HeadQuery → Bool
 eco_holds head query = holds query.eco (λ span. nat_lt 0 head.eco && is_in span head.eco)
 
--- deleted: whether the game is marked as deleted.
+-- Key `deleted`: whether the game is marked as deleted.
 abbrev pub deleted_holds : Head → HeadQuery → Bool
 deleted_holds head query = holds query.deleted (λ yes. if yes then head.deleted else not head.deleted)
 
--- mark: that mark is set.
+-- Key `mark`: that mark is set.
 abbrev pub mark_holds : Head → HeadQuery → Bool
 mark_holds head query = holds query.mark (λ bit. bit_at head.marks bit == 1)
 

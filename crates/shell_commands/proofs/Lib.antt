@@ -1,0 +1,11 @@
+pub mod FirstPlyLaws
+pub mod HitLines
+pub mod Quietly
+pub mod Beginning
+pub mod Causing
+pub mod Served
+pub mod Searching
+pub mod Informing
+pub mod FindingLaws
+pub mod HoldingLaws
+pub mod FirstPlyIs

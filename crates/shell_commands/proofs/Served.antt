@@ -1,0 +1,22 @@
+-- Laws of what a line owes a state.
+use Rattle.std.proofs.Common.{◌≡◌, ℕ, List, [], Option, Result, Ok, Err, OnOk, ap, subst, ◌∙◌}
+use Rattle.std.specs.Prelude.{IfErr}
+use Rattle.base_files.specs.Seen.{Seen}
+use Rattle.base_files.specs.Told.{adds}
+use Rattle.command_runs.specs.Endings.{Halted, Serves}
+use Rattle.shell_commands.specs.declared.halt.Halt.{Halt}
+use Rattle.shell_commands.specs.Do.{Order, plain}
+use Rattle.shell_commands.specs.Ends.{IsOutput}
+use Rattle.shell_commands.specs.Stands.{Holding, Stands, Quiet, Broken}
+use Rattle.shell_commands.specs.State.{State}
+use Rattle.shell_commands.proofs.Causing.{broken_by_output}
+
+-- A line that asked no file, and whose text was written or broken off.
+pub quiet_serves : {A : Type 0} (r : Result A Halt) (old new : Holding) (order : Order) (line : List ℕ) (seen : Seen) (s : State) (before after : Option (List ℕ))
+    → Quiet old order new line → Stands old seen s → OnOk r (after ≡ adds before line) → Halted [] line before after → IfErr r IsOutput
+    → Serves plain (Stands new seen) Broken s order before after r
+quiet_serves (Ok x) old new order line seen s before after q st written halted output =
+    record { stands = q.stands seen s st; written = written ∙ ap (adds before) (q.text seen s st) }
+quiet_serves (Err e) old new order line seen s before after q st written halted output =
+    let P : List ℕ → Type 0 = λ l. Halted [] l before after in
+    record { wrote = subst P (q.text seen s st) halted; broken = broken_by_output s order e output }

@@ -1,0 +1,11 @@
+pub mod SavedFilters
+pub mod Lines
+pub mod FirstPly
+pub mod State
+pub mod Searching
+pub mod Filters
+pub mod Showing
+pub mod Do
+pub mod Stands
+pub mod Turns
+pub mod Ends

@@ -1,0 +1,53 @@
+-- The lines that commands write. This project's own.
+use Rattle.std.specs.Prelude.{ℕ, ◌+◌, List, [], ◌∷◌, ◌++◌, length, codes, Option, Some, None}
+use Rattle.std.specs.Fmt.{decimal}
+use Rattle.game_filter.specs.Filter.{count_in}
+use Rattle.script_text.specs.declared.fault.ScriptFault.{ScriptFault}
+use Rattle.script_text.specs.declared.fault.ScriptFault.TheVariants.{TooLong, Unknown, Argument, Extra}
+
+-- A line of these words.
+abbrev pub line_of : List ℕ → List ℕ
+line_of words = words ++ 10 ∷ []
+
+-- `filter N of M`: how many games are in, and how many there are.
+abbrev pub count_line : ℕ → ℕ → List ℕ
+count_line count games = codes "filter " ++ decimal count ++ codes " of " ++ decimal games ++ 10 ∷ []
+
+abbrev pub filter_line : List (Option ℕ) → List ℕ
+filter_line plies = count_line (count_in plies) (length plies)
+
+-- `G P`: a game that is in, and its ply.
+abbrev pub hit_line : ℕ → ℕ → List ℕ
+hit_line game ply = decimal game ++ codes " " ++ decimal ply ++ 10 ∷ []
+
+-- The lines of the games that are in, the first entry being that of this game.
+abbrev pub hit_lines : ℕ → List (Option ℕ) → List ℕ
+hit_lines game [] = []
+hit_lines game (Some ply ∷ plies) = hit_line game ply ++ hit_lines (game + 1) plies
+hit_lines game (None ∷ plies) = hit_lines (game + 1) plies
+
+-- What `hits` and `find` write.
+abbrev pub hits_text : List (Option ℕ) → List ℕ
+hits_text plies = hit_lines 0 plies ++ filter_line plies
+
+-- A word and a name.
+abbrev pub name_line : List ℕ → List ℕ → List ℕ
+name_line words name = words ++ name ++ 10 ∷ []
+
+-- The error lines of these commands: no filter of a name is kept, and no filter can be kept under one more name.
+abbrev pub no_filter_line : List ℕ → List ℕ
+no_filter_line name = name_line (codes "error: no filter ") name
+
+abbrev pub full_filters_line : List ℕ
+full_filters_line = line_of (codes "error: full filters")
+
+-- The error line of a word that is not of its form.
+abbrev pub argument_line : ℕ → List ℕ
+argument_line n = codes "error: argument " ++ decimal n ++ 10 ∷ []
+
+-- The error line of a line that is no command.
+abbrev pub fault_line : ScriptFault → List ℕ
+fault_line TooLong = line_of (codes "error: line too long")
+fault_line Unknown = line_of (codes "error: unknown command")
+fault_line (Argument n) = argument_line n
+fault_line Extra = line_of (codes "error: extra argument")

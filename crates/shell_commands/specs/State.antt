@@ -1,0 +1,21 @@
+-- The state that a script changes: a plain value. This project's own.
+use Rattle.std.specs.Prelude.{ℕ, Bool, false, List, [], length, Option, map}
+use Rattle.game_filter.specs.Filter.{all_in}
+use Rattle.game_tree.specs.Game.{GameTree}
+use Rattle.base_core.specs.Base.{Base}
+use Rattle.shell_commands.specs.declared.saved.SavedFilter.{SavedFilter}
+
+-- The base, the filter with an entry for each game, the filters that are kept by name, and whether changes are unsaved.
+pub record State : Type 0 where
+  pub base : Base
+  pub filter : List (Option ℕ)
+  pub saved : List SavedFilter
+  pub unsaved : Bool
+
+-- The games of the base.
+abbrev pub games_of : State → List GameTree
+games_of s = map (λ held. held.game) s.base.games
+
+-- The state in which a script begins: every game is in at ply 0, and nothing is kept or unsaved.
+abbrev pub begin : Base → State
+begin base = record { base = base; filter = all_in (length base.games); saved = []; unsaved = false }

@@ -1,0 +1,20 @@
+//! The commands of a script over an open base: what each makes of the state, and the text that it writes.
+#![tactic(auto)]
+
+mod filters;
+mod find;
+mod finding;
+mod halt;
+mod hits;
+mod laws;
+mod lines;
+mod machine;
+mod saved;
+mod serving;
+mod showing;
+
+pub use halt::Halt;
+pub use laws::first_plies_are_first;
+pub use machine::Machine;
+pub use saved::SavedFilter;
+pub use serving::{Order, serve};

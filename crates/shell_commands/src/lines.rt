@@ -1,0 +1,65 @@
+//! The lines that commands write.
+ghost use Rattle.std.specs.Prelude.{◌≡◌, ◌++◌, ◌∷◌, [], IfOk};
+ghost use Rattle.script_text.specs.declared.fault.ScriptFault.TheVariants.{Unknown};
+ghost use Rattle.shell_commands.specs.Lines.{filter_line, name_line, line_of, fault_line, argument_line};
+
+use cell_core::Text;
+use game_filter::Filter;
+use script_text::ScriptFault;
+use std::alloc::{AllocError, Global};
+
+// `filter N of M`.
+pub(crate) fn filter_line(alloc: Global, filter: &Filter) -> Result<Vec<u8>, AllocError>
+    ensures { IfOk result (λ line. line.items ≡ filter_line filter.now) }
+{
+    let count = filter.count();
+    let games = filter.len();
+    let line = format!(in alloc; "filter {count} of {games}\n")?;
+    Ok(line.into_bytes())
+}
+
+// A line of these words.
+pub(crate) fn line_of(alloc: Global, words: &[u8]) -> Result<Vec<u8>, AllocError>
+    ensures { IfOk result (λ line. line.items ≡ line_of words.now) }
+{
+    let mut line = Vec::from_slice(alloc, words)?;
+    line.push(b'\n')?;
+    Ok(line)
+}
+
+// A line of words and a name.
+pub(crate) fn name_line(alloc: Global, words: &[u8], name: &Text) -> Result<Vec<u8>, AllocError>
+    ensures { IfOk result (λ line. line.items ≡ name_line words.now name.now) }
+{
+    let mut line = Vec::from_slice(alloc, words)?;
+    line.extend_from_slice(name.as_bytes())?;
+    line.push(b'\n')?;
+    Ok(line)
+}
+
+// The error line of a line that is no command.
+pub(crate) fn fault_line(alloc: Global, fault: ScriptFault) -> Result<Vec<u8>, AllocError>
+    ensures { IfOk result (λ line. line.items ≡ fault_line fault) }
+{
+    match fault {
+        ScriptFault::TooLong => line_of(alloc, b"error: line too long"),
+        ScriptFault::Unknown => line_of(alloc, b"error: unknown command"),
+        ScriptFault::Argument(n) => argument_line(alloc, n),
+        ScriptFault::Extra => line_of(alloc, b"error: extra argument"),
+    }
+}
+
+// The error line of a word that is not of its form.
+fn argument_line(alloc: Global, n: u32) -> Result<Vec<u8>, AllocError>
+    ensures { IfOk result (λ line. line.items ≡ argument_line n) }
+{
+    let line = format!(in alloc; "error: argument {n}\n")?;
+    Ok(line.into_bytes())
+}
+
+// The error line of a command that is not there.
+pub(crate) fn unknown(alloc: Global) -> Result<Vec<u8>, AllocError>
+    ensures { IfOk result (λ line. line.items ≡ fault_line Unknown) }
+{
+    fault_line(alloc, ScriptFault::Unknown)
+}

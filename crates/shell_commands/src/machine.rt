@@ -1,0 +1,64 @@
+//! The machine that runs commands.
+ghost use Rattle.std.specs.Prelude.{◌≡◌, ◌≤◌, [], false, length, IfOk};
+ghost use Rattle.base_core.specs.Base.{Base as PlainBase};
+ghost use Rattle.base_core.specs.Represents.{Represents, IsSound};
+ghost use Rattle.base_files.specs.Seen.{Seen};
+ghost use Rattle.game_filter.specs.Filter.{all_in};
+ghost use Rattle.shell_commands.specs.State.{begin};
+ghost use Rattle.shell_commands.specs.Stands.{Stands, Sound, Begins};
+
+use crate::saved::SavedFilter;
+use base_core::Base;
+use game_filter::Filter;
+use std::alloc::{AllocError, Global};
+use std::marker::Model;
+
+/// An open base with a filter and the filters that are kept by name, and the memory that its commands need.
+#[derive(Drop)]
+pub struct Machine {
+    pub(crate) base: Base,
+    pub(crate) filter: Filter,
+    pub(crate) saved: Vec<SavedFilter>,
+    // A record is read into it: as long as the longest one may be.
+    pub(crate) block: Vec<u8>,
+    // Text that is put together before it is written.
+    pub(crate) page: String,
+}
+
+impl Model for Machine {
+    ghost use Rattle.std.specs.Prelude.{◌≡◌, length};
+    ghost use Rattle.shell_commands.specs.Stands.{Holding};
+
+    ghost Value = { Holding };
+
+    ghost view = { λ machine. record { kept = machine.base; filter = machine.filter; saved = machine.saved.items } };
+
+    ghost invariant = { λ machine. length machine.block.items ≡ 131072 };
+}
+
+impl Machine {
+    /// The machine over a base that was opened: every game is in, and no filter is kept. `block` holds 131,072 bytes.
+    pub fn new(alloc: Global, base: Base, block: Vec<u8>) -> Result<Machine, AllocError>
+        requires room { length block.items ≡ 131072 }
+        ensures holds { IfOk result (λ machine. machine ≡ record { kept = base; filter = all_in (length base.entries); saved = [] }) }
+
+        // Where its base was opened without changes, it stands for the state in which a script begins.
+        ensures begins { IfOk result (Begins base) }
+    {
+        let filter = Filter::new(alloc, base.header().games)?;
+        Ok(Machine {
+            base,
+            filter,
+            saved: Vec::new(alloc),
+            block,
+            page: String::new(alloc),
+        })
+    }
+
+    /// The number of games of its base.
+    pub fn games(&self) -> u32
+        ensures games { result ≡ length self.now.kept.entries }
+    {
+        self.base.header().games
+    }
+}

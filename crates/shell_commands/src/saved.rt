@@ -1,0 +1,117 @@
+//! Filters that are kept by name.
+ghost use Rattle.std.specs.Prelude.{◌≡◌, ◌<◌, ℕ, All, length, IfSome, IfOk, OnOk};
+ghost use Rattle.game_filter.specs.Filter.{intersection, union};
+ghost use Rattle.shell_commands.specs.SavedFilters.{place_of, is_kept, kept_in, can_keep, dropped_in, joined_with, saved_named, taken};
+
+use cell_core::Text;
+use game_filter::Filter;
+use std::alloc::{AllocError, Global};
+
+/// How many filters are kept at most.
+const MOST_SAVED: usize = 8;
+
+/// A filter that is kept under a name.
+#[derive(Debug, Drop)]
+pub struct SavedFilter {
+    pub name: Text,
+    pub plies: Filter,
+}
+
+// The place of the filter of a name.
+pub(crate) fn place_of(saved: &[SavedFilter], name: &[u8]) -> Option<usize>
+    ensures place { result ≡ place_of saved.now name.now }
+    ensures within { IfSome result (λ place. place < length saved.now) }
+{
+    saved.iter().position(|kept| kept.name.as_bytes() == name)
+}
+
+// Keeps a copy of the filter under a name, in the place of one of that name or as one more; `false` where there is no room.
+pub(crate) fn keep(
+    alloc: Global,
+    saved: &mut Vec<SavedFilter>,
+    name: &Text,
+    filter: &Filter,
+) -> Result<bool, AllocError>
+    ensures kept { IfOk result (λ kept. kept ≡ can_keep saved.old.items name.now) }
+    ensures saved { OnOk result (saved.new.items ≡ kept_in saved.old.items name.now filter.now) }
+    ensures same_games { OnOk result (All (λ kept. length kept.plies ≡ length filter.now) saved.old.items → All (λ kept. length kept.plies ≡ length filter.now) saved.new.items) }
+{
+    let place = place_of(saved.as_slice(), name.as_bytes());
+    if place.is_none() && saved.len() >= MOST_SAVED {
+        return Ok(false);
+    }
+    let new = SavedFilter {
+        name: name.copied(alloc)?,
+        plies: filter.copy(alloc)?,
+    };
+    match place {
+        Some(place) => saved[place] = new,
+        None => saved.push(new)?,
+    }
+    Ok(true)
+}
+
+// Forgets the filter of a name; `false` where there is none.
+#[tactic(auto, unfolding(crate::specs::SavedFilters::dropped_in))]
+pub(crate) fn forget(saved: &mut Vec<SavedFilter>, name: &[u8]) -> bool
+    ensures forgotten { result ≡ is_kept saved.old.items name.now }
+    ensures saved { saved.new.items ≡ dropped_in saved.old.items name.now }
+    ensures same_games { (games : ℕ) → All (λ kept. length kept.plies ≡ games) saved.old.items → All (λ kept. length kept.plies ≡ games) saved.new.items }
+{
+    match place_of(saved.as_slice(), name) {
+        Some(place) => {
+            saved.remove(place);
+            true
+        }
+        None => false,
+    }
+}
+
+// Puts the filter of a name in the place of this one; `false` where there is none.
+pub(crate) fn take_from(
+    alloc: Global,
+    filter: &mut Filter,
+    saved: &[SavedFilter],
+    name: &[u8],
+) -> Result<bool, AllocError>
+    requires same_games { All (λ kept. length kept.plies ≡ length filter.old) saved.now }
+    ensures joined { OnOk result (filter.new ≡ joined_with taken filter.old (saved_named saved.now name.now)) }
+    ensures games { OnOk result (length filter.new ≡ length filter.old) }
+    ensures kept { IfOk result (λ kept. kept ≡ is_kept saved.now name.now) }
+{
+    let Some(place) = place_of(saved, name) else {
+        return Ok(false);
+    };
+    *filter = saved[place].plies.copy(alloc)?;
+    Ok(true)
+}
+
+// Keeps the games that are in this filter and in the one of a name; `false` where there is none.
+#[tactic(auto, using(crate::proofs::Quietly::length_joined))]
+pub(crate) fn meet(filter: &mut Filter, saved: &[SavedFilter], name: &[u8]) -> bool
+    requires same_games { All (λ kept. length kept.plies ≡ length filter.old) saved.now }
+    ensures joined { filter.new ≡ joined_with intersection filter.old (saved_named saved.now name.now) }
+    ensures games { length filter.new ≡ length filter.old }
+    ensures kept { result ≡ is_kept saved.now name.now }
+{
+    let Some(place) = place_of(saved, name) else {
+        return false;
+    };
+    filter.and(&saved[place].plies);
+    true
+}
+
+// Adds the games of the filter of a name; `false` where there is none.
+#[tactic(auto, using(crate::proofs::Quietly::length_joined))]
+pub(crate) fn unite(filter: &mut Filter, saved: &[SavedFilter], name: &[u8]) -> bool
+    requires same_games { All (λ kept. length kept.plies ≡ length filter.old) saved.now }
+    ensures joined { filter.new ≡ joined_with union filter.old (saved_named saved.now name.now) }
+    ensures games { length filter.new ≡ length filter.old }
+    ensures kept { result ≡ is_kept saved.now name.now }
+{
+    let Some(place) = place_of(saved, name) else {
+        return false;
+    };
+    filter.or(&saved[place].plies);
+    true
+}

@@ -1,0 +1,125 @@
+//! What one line of a script does.
+ghost use Rattle.std.specs.Prelude.{◌≡◌, ◌≤◌, ◌+◌, [], Ok, OnOk, IfOk, IfErr};
+ghost use Rattle.base_files.specs.Told.{adds};
+ghost use Rattle.command_runs.specs.Endings.{Halted, Serves};
+ghost use Rattle.command_runs.specs.Counts.{Causes, Why, counts};
+ghost use Rattle.script_text.specs.declared.command.Command.TheVariants as command;
+ghost use Rattle.shell_commands.specs.Do.{plain};
+ghost use Rattle.shell_commands.specs.Ends.{IsOutput};
+ghost use Rattle.shell_commands.specs.Stands.{Stands, Sound, Fits, Quiet, Broken, WhyHalt, cost};
+ghost use Rattle.shell_commands.specs.State.{State};
+ghost use Rattle.shell_commands.specs.Turns.{IsTurn};
+
+use crate::filters::{and, clear, drop_filter, keep_filter, negate, or, reset, restrict, take};
+use crate::finding::find;
+use crate::halt::Halt;
+use crate::hits::hits;
+use crate::lines::{fault_line, unknown};
+use crate::machine::Machine;
+use crate::showing::{info, quit};
+use base_files::{Files, Sink, Stop};
+use cell_core::{Board, Colour};
+use command_runs::write_text;
+use script_text::{Command, ScriptFault};
+use std::alloc::{AllocError, Global};
+
+/// A line of a script: the command that it says, or its first fault.
+pub type Order = Result<Command, ScriptFault>;
+
+// What is left to do of a line: to write its text, or what writes its text as it comes.
+#[derive(Drop)]
+pub(crate) enum Turn<'a> {
+    Line(Vec<u8>),
+    Find(&'a Board, Colour),
+    Hits,
+}
+
+/// Does what a line of a script says, and writes its text.
+pub fn serve<F: Files, K: Sink>(
+    alloc: Global,
+    machine: &mut Machine,
+    files: &mut F,
+    out: &mut K,
+    order: &Order,
+) -> Result<(), Halt>
+    requires sound { Sound machine.old (F.seen files.old).known }
+
+    // Where the files are told, the machine stands for the state after the command and its text is written, or a front part of it.
+    ensures serves { (s : State) → Stands machine.old (F.seen files.old) s → Serves plain (Stands machine.new (F.seen files.new)) Broken s order.now (K.taken out.old) (K.taken out.new) result }
+    ensures sound { OnOk result (Sound machine.new (F.seen files.new).known) }
+    ensures unchanged { F.seen files.new ≡ F.seen files.old }
+    ensures asks { F.asked files.new ≤ F.asked files.old + cost machine.old order.now }
+    ensures causes { Causes WhyHalt result (counts (F.faults files.old) 0 (K.faults out.old)) (counts (F.faults files.new) 0 (K.faults out.new)) }
+{
+    match take_turn(alloc, machine, order) {
+        Err(AllocError) => Err(Halt::Device(Stop::Memory)),
+        Ok(Turn::Find(board, side)) => find(machine, files, out, board, side),
+        Ok(Turn::Hits) => hits(machine, out),
+        Ok(Turn::Line(line)) => write_line(out, line.as_slice()),
+    }
+}
+
+// Writes a line whose work is done.
+fn write_line<K: Sink>(out: &mut K, line: &[u8]) -> Result<(), Halt>
+    ensures written { OnOk result (K.taken out.new ≡ adds (K.taken out.old) line.now) }
+    ensures halted { Halted [] line.now (K.taken out.old) (K.taken out.new) }
+    ensures output { IfErr result IsOutput }
+    ensures causes { Causes WhyHalt result (counts 0 0 (K.faults out.old)) (counts 0 0 (K.faults out.new)) }
+{
+    match write_text(out, line) {
+        Ok(()) => Ok(()),
+        Err(stop) => Err(Halt::Device(stop)),
+    }
+}
+
+// Does what a line says where it asks no file, and tells what is left to do. A command that is not built yet is an unknown one.
+fn take_turn<'a>(
+    alloc: Global,
+    machine: &mut Machine,
+    order: &'a Order,
+) -> Result<Turn<'a>, AllocError>
+    requires fits { Fits machine.old }
+    ensures turn { IfOk result (IsTurn machine.old order.now machine.new) }
+{
+    let command = match order {
+        Ok(command) => command,
+        Err(fault) => return Ok(Turn::Line(fault_line(alloc, *fault)?)),
+    };
+    match command {
+        Command::Find(board, side) => Ok(Turn::Find(board, *side)),
+        Command::Hits => Ok(Turn::Hits),
+        Command::Nothing => Ok(Turn::Line(Vec::new(alloc))),
+        Command::Reset => Ok(Turn::Line(reset(alloc, machine)?)),
+        Command::Clear => Ok(Turn::Line(clear(alloc, machine)?)),
+        Command::Negate => Ok(Turn::Line(negate(alloc, machine)?)),
+        Command::Restrict(first, last) => Ok(Turn::Line(restrict(alloc, machine, *first, *last)?)),
+        Command::Keep(name) => Ok(Turn::Line(keep_filter(alloc, machine, name)?)),
+        Command::Take(name) => Ok(Turn::Line(take(alloc, machine, name)?)),
+        Command::And(name) => Ok(Turn::Line(and(alloc, machine, name)?)),
+        Command::Or(name) => Ok(Turn::Line(or(alloc, machine, name)?)),
+        Command::Drop(name) => Ok(Turn::Line(drop_filter(alloc, machine, name)?)),
+        Command::Info => Ok(Turn::Line(info(alloc, machine)?)),
+        Command::Quit => Ok(Turn::Line(quit(alloc, machine)?)),
+        Command::SearchPosition(_, _) => Ok(Turn::Line(fault_line(
+            alloc,
+            ScriptFault::Argument(2),
+        )?)),
+        Command::SearchMaterial(_, _) => Ok(Turn::Line(fault_line(
+            alloc,
+            ScriptFault::Argument(2),
+        )?)),
+        Command::SearchHeader(_, _) => Ok(Turn::Line(fault_line(alloc, ScriptFault::Argument(2))?)),
+        Command::List => Ok(Turn::Line(unknown(alloc)?)),
+        Command::Show(_) => Ok(Turn::Line(unknown(alloc)?)),
+        Command::Export => Ok(Turn::Line(unknown(alloc)?)),
+        Command::Import(_) => Ok(Turn::Line(unknown(alloc)?)),
+        Command::Replace(_, _) => Ok(Turn::Line(unknown(alloc)?)),
+        Command::Tag(_, _) => Ok(Turn::Line(unknown(alloc)?)),
+        Command::Delete(_) => Ok(Turn::Line(unknown(alloc)?)),
+        Command::Undelete(_) => Ok(Turn::Line(unknown(alloc)?)),
+        Command::Mark(_, _, _) => Ok(Turn::Line(unknown(alloc)?)),
+        Command::Tree(_, _) => Ok(Turn::Line(unknown(alloc)?)),
+        Command::Save => Ok(Turn::Line(unknown(alloc)?)),
+        Command::Demo(_, _) => Ok(Turn::Line(unknown(alloc)?)),
+    }
+}
