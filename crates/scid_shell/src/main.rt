@@ -1,4 +1,4 @@
-//! `scid_shell BASE`: runs the script on standard input over a Scid base, and writes its text on standard output.
+//! `scid_shell [--create] [--strict] BASE`: runs the script on standard input over a Scid base, and writes its text on standard output.
 #![tactic(auto)]
 
 ghost use Rattle.std.specs.Prelude.{◌≡◌, ◌≢◌, MatchResult};
@@ -10,7 +10,7 @@ mod messages;
 
 use base_files::{DeviceError, DiskFiles, StdSink, StdSource};
 use messages::{HELP, VERSION, message};
-use shell_session::{LaterWhat, Status, session};
+use shell_session::{Status, session};
 use std::io::ErrorKind;
 use std::process::ExitCode;
 use std::{env, io};
@@ -27,7 +27,7 @@ fn words(rt: &HostRuntime) -> Result<Vec<String>, Status> {
     match env::args(rt) {
         Ok(args) => args.skip(1).collect(rt.alloc()).map_err(|_| Status::Memory),
         Err(error) if error.kind() == ErrorKind::OutOfMemory => Err(Status::Memory),
-        Err(_) => Err(Status::Later(LaterWhat::Words)),
+        Err(_) => Err(Status::Usage),
     }
 }
 
@@ -76,7 +76,8 @@ fn end(rt: &HostRuntime, status: Status) -> ExitCode {
     let line = message(&status);
     let _ = match status {
         Status::Done => Ok(()),
-        Status::BadRecord { game, fault } => eprintln!(rt; "{line}game {game}, {fault}"),
+        Status::BadBase(fault) => eprintln!(rt; "{line}{fault}"),
+        Status::Changed { game, .. } => eprintln!(rt; "{line}{game}"),
         _ => eprintln!(rt; "{line}"),
     };
     ExitCode::from(status.exit_code())

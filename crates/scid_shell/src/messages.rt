@@ -7,35 +7,59 @@ use shell_session::Status;
 
 /// The answer to `--help`.
 pub const HELP: &str = "\
-usage: scid_shell BASE < SCRIPT
+usage: scid_shell [--create] [--strict] BASE < SCRIPT
 
-Runs a script over the Scid base BASE.si4, BASE.sn4, BASE.sg4.
+Runs a script over the Scid base BASE.si4, BASE.sn4, BASE.sg4, and writes the
+line `base G games M mended` and then the text of each command.
 
-  find BOARD SIDE    the games that reach a board with a side to move,
-                     each with its first such ply
+  --create    makes the files that are absent; three empty files are a base
+  --strict    refuses a base whose index differs from its records, where it
+              is else mended in memory
 
-BOARD is the first field of a FEN, and SIDE is w or b.
+A script has a command a line. A line that is empty or begins with # does
+nothing. Words stand between spaces and tabs; a quoted part keeps its spaces.
 
-Exit status: 0 done, 2 bad record, 3 read fault, 4 write fault, 5 files fault,
-8 out of memory, 9 later: words, an index or a script that this version does
-not read. What it was is told on standard error.
+  find BOARD SIDE    the games that reach a board with a side to move, each
+                     with its first such ply; they are the filter from then on
+  reset              all games into the filter
+  clear              none
+  negate             those that are out, and no others
+  restrict A B       out with the games below A and above B
+  keep NAME          keeps a copy of the filter under a name, at most eight
+  use NAME           the kept filter in the place of the filter
+  and NAME           the games that are in both
+  or NAME            the games that are in one of them
+  drop NAME          forgets the kept filter
+  hits               the games of the filter, each with its ply
+  info               what is in the base
+  quit               ends, as the end of the input does
+
+BOARD is the first field of a FEN, and SIDE is w or b. Games and plies count
+from 0. A line that is no command gives a line that begins with `error: `, and
+the script goes on.
+
+Exit status: 0 done, 1 usage, 2 bad base, 3 read fault, 4 write fault, 5 files
+fault, 6 changed game, 7 input too long, 8 out of memory. What it was is told
+on standard error.
 ";
 
 /// The answer to `--version`.
 pub const VERSION: &str = "scid_shell 0.1.0\n";
 
-/// The line on standard error for a session that is not done; of a bad record its beginning, which the game and the fault
-/// follow.
+/// The line on standard error for a session that is not done; of a bad base and of a changed game its beginning, which the fault
+/// or the game follows.
 pub fn message(status: &Status) -> &'static str
     ensures line { result.now ≡ line_of status.now }
 {
     match status {
         Status::Done => "",
-        Status::BadRecord { .. } => "bad record: ",
-        Status::Later(_) => "later",
+        Status::Usage => "usage: scid_shell [--create] [--strict] BASE",
+        Status::BadBase(_) => "bad base: ",
         Status::ReadFault => "read fault",
         Status::WriteFault => "write fault",
         Status::FilesFault => "files fault",
+        Status::Changed { .. } => "changed game ",
+        Status::InputTooLong => "input too long",
         Status::Memory => "out of memory",
     }
 }

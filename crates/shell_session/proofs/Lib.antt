@@ -1,6 +1,3 @@
-pub mod IndexReading
-pub mod Answering
-pub mod FindLines
-pub mod HitLines
-pub mod MainLines
-pub mod Searching
+mod RunningLaws
+mod AnswerLaws
+mod OpeningLaws

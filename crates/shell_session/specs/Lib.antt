@@ -1,10 +1,5 @@
-pub mod Endings
-pub mod ExitCodes
-pub mod FindLine
-pub mod HitText
-pub mod IndexFile
-pub mod Placed
-pub mod Refusals
-pub mod Session
 pub mod Words
 pub mod Stops
+pub mod ExitCodes
+pub mod Session
+pub mod Running

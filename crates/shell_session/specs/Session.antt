@@ -1,94 +1,186 @@
--- What a session answers, of what it was given, in terms of plain lists. This project's own.
-use Rattle.std.specs.Prelude.{◌≡◌, ◌<◌, ℕ, ◌⊎◌, List, [], ◌∷◌, ◌++◌, All, length, Option, false}
-use Rattle.std.specs.List.{AllZip}
+-- What a session answers, of what it was given, in terms of plain values. This project's own.
+use Rattle.std.specs.Prelude.{◌≡◌, ◌≤◌, ◌<◌, ℕ, ◌+◌, ◌⊎◌, ⊤, IsTrue, List, [], ◌∷◌, ◌++◌, length, take, Option, Some, None, codes}
+use Rattle.std.specs.Fmt.{decimal}
 use Rattle.base_files.specs.Chosen.{Choice, choice}
-use Rattle.base_files.specs.Told.{IsPrefix}
-use Rattle.shell_session.specs.declared.placed.Placed.{Placed}
-use Rattle.game_codec.specs.declared.fault.RecordFault.{RecordFault}
+use Rattle.base_files.specs.Counters.{Rose}
+use Rattle.base_files.specs.Told.{adds, before}
+use Rattle.base_core.specs.Base.{Base}
+use Rattle.base_core.specs.Opening.{OpensAs, Refuses}
+use Rattle.base_core.specs.Represents.{Mended}
+use Rattle.base_core.specs.declared.fault.BaseFault.{BaseFault}
+use Rattle.command_runs.specs.Counts.{Counts}
+use Rattle.command_runs.specs.Endings.{Halted}
+use Rattle.command_runs.specs.Plain.{after_all, run}
+use Rattle.shell_commands.specs.Do.{Order, order_asks, plain}
+use Rattle.shell_commands.specs.State.{State, begin}
+use Rattle.script_lines.specs.Script.{longest_script, script_len, script_of, whole_lines}
+use Rattle.shell_session.specs.Words.{Wanted, words_read}
 use Rattle.shell_session.specs.declared.status.Status.{Status}
-use Rattle.shell_session.specs.declared.status.Status.TheVariants.{Done, Later, BadRecord, ReadFault, WriteFault, FilesFault, Memory}
-use Rattle.shell_session.specs.declared.status.LaterWhat.TheVariants as later
-use Rattle.game_tree.specs.Game.{GameTree}
-use Rattle.game_tree.specs.declared.head.Tag.{Tag}
-use Rattle.game_codec.specs.Record.{IsRecord, IsSomeRecord}
-use Rattle.game_codec.specs.Fault.{IsRecordFault}
-use Rattle.shell_session.specs.FindLine.{FindScript}
-use Rattle.shell_session.specs.HitText.{find_text}
-use Rattle.base_files.specs.Extents.{record_in}
-use Rattle.shell_session.specs.IndexFile.{IsIndex, extent_at, game_count, records}
-use Rattle.shell_session.specs.Placed.{FirstPly}
-use Rattle.shell_session.specs.Words.{AreBase}
+use Rattle.shell_session.specs.declared.status.Status.TheVariants.{Done, Usage, BadBase, ReadFault, WriteFault, FilesFault, Changed, InputTooLong, Memory}
 
--- What a session is given: its words, the index file and the games file of the base, and the script.
+-- What a session is given: its words, the three files of the base, and the script.
 pub record Given : Type 0 where
   pub words : List (List ℕ)
   pub index : List ℕ
+  pub names : List ℕ
   pub games : List ℕ
   pub script : List ℕ
 
-abbrev pub given : List (List ℕ) → List ℕ → List ℕ → List ℕ → Given
-given words index games script = record { words = words; index = index; games = games; script = script }
+abbrev pub given : List (List ℕ) → List ℕ → List ℕ → List ℕ → List ℕ → Given
+given words index names games script = record { words = words; index = index; names = names; games = games; script = script }
 
--- A game's answer to a search: the first ply of its main line at which the board and side sought stand.
-pub record Hit (sought : Placed) (bytes : List ℕ) (hit : Option ℕ) : Type 0 where
-  pub tags : List Tag
-  pub game : GameTree
-  pub decoded : IsRecord bytes tags game
-  pub first : FirstPly game sought hit
+-- What an input shows: the bytes left where it tells them, its budget, and its faults.
+pub record Inlet : Type 0 where
+  pub left : Option (List ℕ)
+  pub budget : ℕ
+  pub faults : ℕ
 
--- The answers of all games, in their order.
-abbrev pub AreHits : Placed → List ℕ → List ℕ → List (Option ℕ) → Type 0
-AreHits sought index games hits = AllZip (Hit sought) (records index games (game_count index)) hits
+abbrev pub inlet : Option (List ℕ) → ℕ → ℕ → Inlet
+inlet left budget faults = record { left = left; budget = budget; faults = faults }
 
--- This game is the first whose bytes are no record, and this is their first fault.
-pub record IsFirstFaulty (index games : List ℕ) (game : ℕ) (fault : RecordFault) : Type 0 where
-  pub in_base : game < game_count index
-  pub records_before : All IsSomeRecord (records index games game)
-  pub faulty : IsRecordFault (record_in games (extent_at index game)) fault
+-- ---- opening
 
--- The words name a base, and its index can be read.
+-- The words name a base whose files have no fault: they mean this base, or it is created. So many of its entries are mended.
+pub record Opened (given : Given) (base : Base) (mended : ℕ) : Type 0 where
+  pub wanted : Wanted
+  pub words : words_read given.words ≡ Some wanted
+  pub means : OpensAs wanted.create given.index given.names given.games base
+  pub mends : Mended given.index base.games mended
+  pub faultless : (fault : BaseFault) → Refuses wanted.create wanted.strict given.index given.names given.games fault → ⊥
+
+-- The words name a base whose files have this first fault.
+pub record Faulty (given : Given) (fault : BaseFault) : Type 0 where
+  pub wanted : Wanted
+  pub words : words_read given.words ≡ Some wanted
+  pub first : Refuses wanted.create wanted.strict given.index given.names given.games fault
+
+-- `base G games M mended`
+abbrev pub opening_words : ℕ → ℕ → List ℕ
+opening_words games mended = codes "base " ++ decimal games ++ codes " games " ++ decimal mended
+
+abbrev pub opening_text : ℕ → ℕ → List ℕ
+opening_text games mended = opening_words games mended ++ codes " mended\n"
+
+abbrev pub opening_line : Base → ℕ → List ℕ
+opening_line base mended = opening_text (length base.games) mended
+
+-- ---- the run of the script
+
+-- The whole script was run: its text is written, and the input was read to its end or to the line of `quit`, and at most so many bytes further.
+pub record RanAll (s : State) (script : List ℕ) (told : Option (List ℕ)) (told' : Option (List ℕ)) (later : Option (List ℕ)) : Type 0 where
+  pub written : told' ≡ adds told (run plain s (script_of script))
+  pub within : script_len script ≤ longest_script
+  pub front : List ℕ
+  pub read : Some script ≡ before front later
+  pub enough : script_len script ≤ length front
+  pub no_further : length front ≤ script_len script + 32768
+
+-- What is known of the command that a status breaks off: the files fail only at one that asks them, and told files never change.
+abbrev pub BrokenBy : Status → Order → Type 0
+BrokenBy ReadFault order = ⊤
+BrokenBy WriteFault order = ⊤
+BrokenBy FilesFault order = IsTrue (order_asks order)
+BrokenBy InputTooLong order = ⊤
+BrokenBy Memory order = ⊤
+BrokenBy _ order = ⊥
+
+-- The commands that are done at a fault of the input are those whose lines were read with their line feed; at a script that is too long
+-- those whose lines end within the limit.
+abbrev pub LinesDone : Status → List ℕ → Option (List ℕ) → List Order → Type 0
+LinesDone ReadFault script later done = (front : List ℕ) × (Some script ≡ before front later) × (done ≡ whole_lines front)
+LinesDone InputTooLong script later done = (longest_script < script_len script) × (done ≡ whole_lines (take longest_script script))
+LinesDone _ script later done = ⊤
+
+-- The run stopped in the command `next`: the texts of those before it are written, and of its own a front part, which may be empty.
+pub record RanPart (status : Status) (s : State) (script : List ℕ) (told : Option (List ℕ)) (told' : Option (List ℕ)) (later : Option (List ℕ)) : Type 0 where
+  pub done : List Order
+  pub next : Order
+  pub left : List Order
+  pub all : script_of script ≡ done ++ next ∷ left
+  pub wrote : Halted (run plain s done) (run plain s done ++ plain.text (after_all plain s done) next) told told'
+  pub broken : BrokenBy status next
+  pub lines : LinesDone status script later done
+
+-- ---- the answers
+
+-- Nothing was written, and nothing was asked of the input.
+pub record Unbegun (told : Option (List ℕ)) (told' : Option (List ℕ)) (input : Inlet) (input' : Inlet) : Type 0 where
+  pub unwritten : told' ≡ told
+  pub unread : input' ≡ input
+
+-- The session ended in its opening line, before anything was asked of the input.
+pub record OpeningCut (given : Given) (told : Option (List ℕ)) (told' : Option (List ℕ)) (input : Inlet) (input' : Inlet) : Type 0 where
+  pub base : Base
+  pub mended : ℕ
+  pub opened : Opened given base mended
+  pub wrote : Halted [] (opening_line base mended) told told'
+  pub unread : input' ≡ input
+
+-- The opening line was written, and the run of the script stopped.
+pub record ScriptCut (status : Status) (given : Given) (told : Option (List ℕ)) (told' : Option (List ℕ)) (later : Option (List ℕ)) : Type 0 where
+  pub base : Base
+  pub mended : ℕ
+  pub opened : Opened given base mended
+  pub ran : RanPart status (begin base) given.script (adds told (opening_line base mended)) told' later
+
+-- The whole text was written: the opening line, and then what the plain machine makes of the script.
+pub record Whole (given : Given) (told : Option (List ℕ)) (told' : Option (List ℕ)) (later : Option (List ℕ)) : Type 0 where
+  pub base : Base
+  pub mended : ℕ
+  pub opened : Opened given base mended
+  pub ran : RanAll (begin base) given.script (adds told (opening_line base mended)) told' later
+
+-- What each status says of what was given, of what was written, and of what was read. Told files never change.
+abbrev pub Answers : Given → Option (List ℕ) → Option (List ℕ) → Inlet → Inlet → Status → Type 0
+Answers given told told' input input' Done = Whole given told told' input'.left
+Answers given told told' input input' Usage = (words_read given.words ≡ None) × Unbegun told told' input input'
+Answers given told told' input input' (BadBase fault) = Faulty given fault × Unbegun told told' input input'
+Answers given told told' input input' ReadFault = ScriptCut ReadFault given told told' input'.left
+Answers given told told' input input' WriteFault = OpeningCut given told told' input input' ⊎ ScriptCut WriteFault given told told' input'.left
+Answers given told told' input input' FilesFault = Unbegun told told' input input' ⊎ ScriptCut FilesFault given told told' input'.left
+Answers given told told' input input' (Changed game kept found) = ⊥
+Answers given told told' input input' InputTooLong = ScriptCut InputTooLong given told told' input'.left
+Answers given told told' input input' Memory = Unbegun told told' input input' ⊎ (OpeningCut given told told' input input' ⊎ ScriptCut Memory given told told' input'.left)
+
+-- A base is opened, whichever it is.
 pub record Opens (given : Given) : Type 0 where
-  pub name : List ℕ
-  pub named : AreBase given.words name
-  pub indexed : IsIndex given.index (length given.games)
+  pub base : Base
+  pub mended : ℕ
+  pub opened : Opened given base mended
 
--- The base opens, and the script asks for this board and side.
-pub record Asks (given : Given) (sought : Placed) : Type 0 where
-  pub opens : Opens given
-  pub asked : FindScript given.script sought
+-- The status where no device has a fault and memory does not run out.
+abbrev pub Due : Given → Status → Type 0
+Due given Done = Opens given × (script_len given.script ≤ longest_script)
+Due given InputTooLong = Opens given × (longest_script < script_len given.script)
+Due given (BadBase fault) = Faulty given fault
+Due given Usage = words_read given.words ≡ None
+Due given _ = ⊥
 
--- The whole answer: the text of the hits.
-pub record Finds (given : Given) (text : List ℕ) : Type 0 where
-  pub sought : Placed
-  pub asks : Asks given sought
-  pub hits : List (Option ℕ)
-  pub found : AreHits sought given.index given.games hits
-  pub written : text ≡ find_text hits
+-- ---- causes, for every files, input and output
 
--- The text is a front part of the whole answer, which may be empty.
-pub record BeginsAnswer (given : Given) (text : List ℕ) : Type 0 where
-  pub whole : List ℕ
-  pub finds : Finds given whole
-  pub begins : IsPrefix text whole
+-- A device's status comes only where that device counted a fault, and a changed record's only with another signature than the kept one.
+abbrev pub WhyStatus : Status → Counts → Counts → Type 0
+WhyStatus ReadFault old new = Rose old.input new.input
+WhyStatus WriteFault old new = Rose old.output new.output
+WhyStatus FilesFault old new = Rose old.files new.files
+WhyStatus (Changed game kept found) old new = found ≡ Some kept → ⊥
+WhyStatus _ old new = ⊤
 
--- What each status says of what was given, and of the text that was written. The words are looked at first, then the index, then the script, then the records.
-abbrev pub Answers : Given → Status → List ℕ → Type 0
-Answers given Done text = Finds given text
-Answers given (Later later.Words) text = ((name : List ℕ) → ¬ AreBase given.words name) × (text ≡ [])
-Answers given (Later later.Index) text = ((name : List ℕ) × AreBase given.words name) × ¬ IsIndex given.index (length given.games) × (text ≡ [])
-Answers given (Later later.Script) text = Opens given × ((sought : Placed) → ¬ FindScript given.script sought) × (text ≡ [])
-Answers given (BadRecord game fault) text = ((sought : Placed) × Asks given sought) × IsFirstFaulty given.index given.games game fault × (text ≡ [])
-Answers given ReadFault text = text ≡ []
-Answers given WriteFault text = BeginsAnswer given text
-Answers given FilesFault text = text ≡ []
-Answers given Memory text = (text ≡ []) ⊎ BeginsAnswer given text
-
--- The base of the words was chosen once, as it is, and nothing else.
-abbrev pub ChoosesBase : List (List ℕ) → List Choice → List Choice → Type 0
-ChoosesBase words old new = (name : List ℕ) × AreBase words name × (new ≡ old ++ choice name false ∷ [])
+-- The base of the words was chosen once, as they say.
+pub record ChoosesBase (words : List (List ℕ)) (old : List Choice) (new : List Choice) : Type 0 where
+  pub wanted : Wanted
+  pub said : words_read words ≡ Some wanted
+  pub chose : new ≡ old ++ choice wanted.name wanted.create ∷ []
 
 -- Which bases were chosen: none where the words name none, and none or the one where memory ran out.
 abbrev pub Chooses : Status → List (List ℕ) → List Choice → List Choice → Type 0
-Chooses (Later later.Words) words old new = new ≡ old
+Chooses Usage words old new = new ≡ old
 Chooses Memory words old new = (new ≡ old) ⊎ ChoosesBase words old new
 Chooses _ words old new = ChoosesBase words old new
+
+-- Nothing was asked of the input where the words or the files refuse; where the script is too long, more than the limit was read.
+abbrev pub Reads : Status → Inlet → Inlet → Type 0
+Reads Usage old new = new ≡ old
+Reads (BadBase fault) old new = new ≡ old
+Reads InputTooLong old new = new.budget + longest_script < old.budget
+Reads _ old new = ⊤

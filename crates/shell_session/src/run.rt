@@ -1,24 +1,22 @@
 //! The session: the one call that `main` makes.
-
-ghost use Rattle.std.specs.Prelude.{◌≡◌, ◌≤◌, ◌+◌, ◌++◌, ◌↔◌, ◌⊎◌, ℕ, List, [], Some, IfSome, map, string_bytes};
+ghost use Rattle.std.specs.Prelude.{◌≡◌, ◌↔◌, ℕ, ◌⊎◌, List, None, Some, map, string_bytes};
 ghost use Rattle.base_files.specs.Seen.{SameContents};
 ghost use Rattle.base_files.specs.Counters.{Rose};
-ghost use Rattle.base_files.specs.Told.{Tells};
-ghost use Rattle.shell_session.specs.IndexFile.{game_count, records_len};
-ghost use Rattle.shell_session.specs.Session.{Answers, Chooses, Finds, given};
-ghost use Rattle.shell_session.specs.Words.{AreBase};
+ghost use Rattle.command_runs.specs.Counts.{NoneFell, counts};
+ghost use Rattle.shell_session.specs.Session.{Answers, Chooses, Due, Reads, WhyStatus, given, inlet};
+ghost use Rattle.shell_session.specs.Words.{words_read};
 
-use crate::find::find;
-use crate::opening::open;
-use crate::status::{LaterWhat, Status};
-use crate::words::base_name;
+use crate::opening::{open, write_opening};
+use crate::running::run_script;
+use crate::status::Status;
+use crate::words::words_read;
 use base_files::{Files, Sink, Source};
 use std::alloc::Global;
 
 /// Runs the script of the input over the base that the words name, and writes its text.
 ///
-/// The words are one base name. The script is the one line `find BOARD SIDE`. Its text is a line `G P` for each game
-/// `G` whose main line first has the board and side at ply `P`, in the order of the games, and then `filter N of M`.
+/// The words are one base name and the options `--create` and `--strict`, each at most once, in any order. The text is a line
+/// `base G games M mended`, and then the texts of the script's commands, one a line, up to `quit` or the end of the input.
 pub fn session<F: Files, S: Source, K: Sink>(
     alloc: Global,
     words: &[String],
@@ -26,42 +24,41 @@ pub fn session<F: Files, S: Source, K: Sink>(
     input: &mut S,
     out: &mut K,
 ) -> Status
-    // Where the three objects tell their contents, the status and the bytes added are the answer to what was given.
-    ensures answers { (index games script taken : List ℕ) → (F.seen files.old).index ≡ Some index → (F.seen files.old).games ≡ Some games → S.left input.old ≡ Some script → K.taken out.old ≡ Some taken →
-        (text : List ℕ) × (K.taken out.new ≡ Some (taken ++ text)) × Answers (given (map string_bytes words.now) index games script) result text }
+    // Where the files and the input tell their contents, the status says what was written, of what was given.
+    ensures answers { (index names games script : List ℕ) → (F.seen files.old).index ≡ Some index → (F.seen files.old).names ≡ Some names → (F.seen files.old).games ≡ Some games → S.left input.old ≡ Some script →
+        Answers (given (map string_bytes words.now) index names games script) (K.taken out.old) (K.taken out.new)
+        (inlet (S.left input.old) (S.budget input.old) (S.faults input.old)) (inlet (S.left input.new) (S.budget input.new) (S.faults input.new)) result }
 
-    // Where there is a whole answer and no count of faults rises, it is written, or memory runs out.
-    ensures completes { (index games script text : List ℕ) → (F.seen files.old).index ≡ Some index → (F.seen files.old).games ≡ Some games → S.left input.old ≡ Some script →
-        Finds (given (map string_bytes words.now) index games script) text →
+    // Where no count of faults rises, the status is the one that is due, or memory ran out.
+    ensures due { (index names games script : List ℕ) → (F.seen files.old).index ≡ Some index → (F.seen files.old).names ≡ Some names → (F.seen files.old).games ≡ Some games → S.left input.old ≡ Some script →
         ¬ Rose (F.faults files.old) (F.faults files.new) → ¬ Rose (S.faults input.old) (S.faults input.new) → ¬ Rose (K.faults out.old) (K.faults out.new) →
-        (result ≡ Status.Done) ⊎ (result ≡ Status.Memory) }
-
-    // With `Done` the input was read to its end; where the words or the index refuse, none of it was read.
-    ensures read { result ≡ Status.Done → Tells (S.left input.new) [] }
-    ensures unread { (result ≡ Status.Later LaterWhat.Words) ⊎ (result ≡ Status.Later LaterWhat.Index) → S.left input.new ≡ S.left input.old }
+        (result ≡ Status.Memory) ⊎ Due (given (map string_bytes words.now) index names games script) result }
 
     // The words decide alone, and first.
-    ensures words { (result ≡ Status.Later LaterWhat.Words) ↔ ((name : List ℕ) → ¬ AreBase (map string_bytes words.now) name) }
+    ensures words { (result ≡ Status.Usage) ↔ (words_read (map string_bytes words.now) ≡ None) }
 
-    // A device's status comes only where that device counted a fault.
-    ensures read_fault { result ≡ Status.ReadFault → Rose (S.faults input.old) (S.faults input.new) }
-    ensures write_fault { result ≡ Status.WriteFault → Rose (K.faults out.old) (K.faults out.new) }
-    ensures files_fault { result ≡ Status.FilesFault → Rose (F.faults files.old) (F.faults files.new) }
-    ensures counts { (F.faults files.old ≤ F.faults files.new) × (S.faults input.old ≤ S.faults input.new) × (K.faults out.old ≤ K.faults out.new) }
+    // No count of faults fell, and a status has its cause.
+    ensures counts { NoneFell (counts (F.faults files.old) (S.faults input.old) (K.faults out.old)) (counts (F.faults files.new) (S.faults input.new) (K.faults out.new)) }
+    ensures why { WhyStatus result (counts (F.faults files.old) (S.faults input.old) (K.faults out.old)) (counts (F.faults files.new) (S.faults input.new) (K.faults out.new)) }
 
-    // The base of the words is chosen once, each record is asked for at most once, and no file is changed.
+    // What is read of any input.
+    ensures reads { Reads result (inlet (S.left input.old) (S.budget input.old) (S.faults input.old)) (inlet (S.left input.new) (S.budget input.new) (S.faults input.new)) }
+
+    // The base of the words is chosen once, as they say, and no file is changed.
     ensures choices { Chooses result (map string_bytes words.now) (F.seen files.old).choices (F.seen files.new).choices }
-    ensures asks { IfSome (F.seen files.old).index (λ index. F.asked files.new ≤ F.asked files.old + records_len index (game_count index)) }
     ensures contents { SameContents (F.seen files.old) (F.seen files.new) }
 {
-    let Some(name) = base_name(words) else {
-        return Status::Later(LaterWhat::Words);
+    let Some(wanted) = words_read(words) else {
+        return Status::Usage;
     };
-    let index = match open(alloc, files, name) {
-        Ok(index) => index,
+    let (mut machine, mended) = match open(alloc, files, &wanted) {
+        Ok(opened) => opened,
         Err(status) => return status,
     };
-    match find(alloc, index.as_slice(), files, input, out) {
+    if let Err(stop) = write_opening(alloc, machine.games(), mended, out) {
+        return Status::from(stop);
+    }
+    match run_script(alloc, &mut machine, files, input, out) {
         Ok(()) => Status::Done,
         Err(status) => status,
     }

@@ -1,22 +1,32 @@
-//! What neither a clause nor a whole run of the program shows: a planned fault at each call of each device, and scripts
-//! without an end.
+//! What neither a clause nor a whole run of the program shows: a planned fault at each call of each device, which moves a byte a
+//! call.
 
 use crate::run::session;
-use crate::status::{LaterWhat, Status};
+use crate::status::Status;
 use base_files::{MemFiles, MemSink, MemSource};
 use std::alloc::{AllocError, Global};
 use std::test::Fail;
 
-/// The header of an index of version 400 with two games: the magic, the version, the type, and the number of games.
-const HEAD: &[u8; 17] = b"Scid.si\0\x01\x90\0\0\0\0\0\0\x02";
+/// The beginning of an index of version 400 with one game: the magic, the version, the type, and the number of games.
+const HEAD: &[u8; 17] = b"Scid.si\0\x01\x90\0\0\0\0\0\0\x01";
 
-/// 1. e4 d5 2. d4, and 1. d4 d5 2. e4.
-const PAWNS: &[u8] = b"\x00\x00\xcf\xbf\xbf\x0f\x00\x00\xbf\xbf\xcf\x0f";
+/// The entry of a game of 21 half-moves with the names of id 0.
+const ENTRY: &[u8; 47] =
+    b"\0\0\0\0\0\x19\0\0\0\0\0\0\0\0\0\0\0\0\0\0\0\x10\0\x3a\xda\0\x0e\xec\0\0\0\0\0\0\x29\x66\xa6\x15\x05\xb5\xc4\x30\0\0\0\0\0";
 
-/// The board after 1. e4 d5, and the text of its search in `PAWNS`.
-const E4_D5: &[u8] = b"find rnbqkbnr/ppp1pppp/8/3p4/4P3/8/PPPP1PPP/RNBQKBNR w\n";
+/// One name of each kind.
+const NAMES: &[u8; 56] =
+    b"Scid.sn\0\0\0\0\0\0\0\x01\0\0\x01\0\0\x01\0\0\x01\0\0\x01\0\0\x01\0\0\x01\0\0\x01\0\0\x01\x01?\0\0\x01\x01?\0\0\x01\x01?\0\0\x01\x01?";
 
-const E4_D5_TEXT: &[u8] = b"0 2\nfilter 1 of 2\n";
+/// 1. e4 c6 2. d4 d5 3. Nc3 dxe4 4. Nxe4 Nf6 5. Qd3 e5 6. dxe5 Qa5+ 7. Bd2 Qxe5 8. O-O-O Nxe4 9. Qd8+ Kxd8 10. Bg5+ Kc7 11. Bd8#
+const RECORD: &[u8; 25] =
+    b"\0\0\xcf\xa1\xbf\xbf\x28\xb0\x26\x61\x4a\xcf\xb2\x43\x60\x33\x44\x09\x61\x4f\x04\x36\x01\x3b\x0f";
+
+const SCRIPT: &[u8] = b"find rnbqkbnr/pppppppp/8/8/8/8/PPPPPPPP/RNBQKBNR w\n";
+
+const OPENING: &[u8] = b"base 1 games 0 mended\n";
+
+const TEXT: &[u8] = b"base 1 games 0 mended\n0 0\nfilter 1 of 1\n";
 
 /// Which calls of each device fail.
 #[derive(Clone, Copy)]
@@ -32,108 +42,72 @@ const NONE: Fails<'static> = Fails {
     out: &[],
 };
 
-/// An index with these extents of its two games.
-fn index_of(alloc: Global, extents: [(u32, u16); 2]) -> Result<Vec<u8>, AllocError> {
+/// The index of the one game.
+fn index(alloc: Global) -> Result<Vec<u8>, AllocError> {
     let mut index = Vec::from_slice(alloc, HEAD)?;
     index.extend_from_slice(&[0u8; 165])?;
-    for (offset, len) in extents {
-        index.extend_from_slice(&offset.to_be_bytes())?;
-        index.extend_from_slice(&len.to_be_bytes())?;
-        index.extend_from_slice(&[0u8; 41])?;
-    }
+    index.extend_from_slice(ENTRY)?;
     Ok(index)
 }
 
-/// Runs a session over `PAWNS` in memory that moves a byte a call, and gives its status and what was written.
-fn run(alloc: Global, script: &[u8], fails: &Fails) -> Result<(Status, Vec<u8>), AllocError> {
+/// Runs the script over the base in memory, and gives the status and what was written.
+fn run(alloc: Global, fails: &Fails) -> Result<(Status, Vec<u8>), AllocError> {
     let mut words = Vec::new(alloc);
     words.push(String::from_str(alloc, "base")?)?;
     let mut files = MemFiles::new(
-        index_of(alloc, [(0, 6), (6, 6)])?,
-        Vec::new(alloc),
-        Vec::from_slice(alloc, PAWNS)?,
+        index(alloc)?,
+        Vec::from_slice(alloc, NAMES)?,
+        Vec::from_slice(alloc, RECORD)?,
         Vec::from_slice(alloc, fails.files)?,
     );
     let source_fails = Vec::from_slice(alloc, fails.input)?;
-    let mut input = MemSource::new(Vec::from_slice(alloc, script)?, 1, source_fails);
+    let mut input = MemSource::new(Vec::from_slice(alloc, SCRIPT)?, 1, source_fails);
     let mut out = MemSink::new(Vec::new(alloc), 1, Vec::from_slice(alloc, fails.out)?);
     let status = session(alloc, words.as_slice(), &mut files, &mut input, &mut out);
     Ok((status, Vec::from_slice(alloc, out.taken())?))
 }
 
 #[test]
-fn refuses_a_script_without_an_end(rt: HostRuntime) -> Result<(), Fail> {
-    let alloc = rt.alloc();
-    let index = index_of(alloc, [(0, 6), (6, 6)])?;
-    let mut words = Vec::new(alloc);
-    words.push(String::from_str(alloc, "base")?)?;
-    let games = Vec::from_slice(alloc, PAWNS)?;
-    let mut files = MemFiles::new(index, Vec::new(alloc), games, Vec::new(alloc));
-    let mut endless = MemSource::endless(Vec::from_slice(alloc, E4_D5)?);
-    let mut out = MemSink::new(Vec::new(alloc), 1, Vec::new(alloc));
-    let status = session(alloc, words.as_slice(), &mut files, &mut endless, &mut out);
-    assert_eq!(rt; status, Status::Later(LaterWhat::Script));
-    assert!(rt; out.taken().is_empty());
-    Ok(())
-}
-
-/// The status after a script of so many bytes `x`, moved a byte a call, of which the call with this number fails.
-fn status_of_long_script(alloc: Global, len: usize, call: u64) -> Result<Status, AllocError> {
-    let script = vec![in alloc; b'x'; len]?;
-    let fails = Fails {
-        input: &[call],
-        ..NONE
-    };
-    let (status, _) = run(alloc, script.as_slice(), &fails)?;
-    Ok(status)
-}
-
-#[test]
-fn reads_no_more_than_the_limit(rt: HostRuntime) -> Result<(), Fail> {
-    let alloc = rt.alloc();
-    // of 4,096 bytes the end is asked for; of 4,097 the last one decides
-    assert_eq!(rt;
-        status_of_long_script(alloc, 4096, 4096)?,
-        Status::ReadFault
-    );
-    let script = Status::Later(LaterWhat::Script);
-    assert_eq!(rt; status_of_long_script(alloc, 4096, 4097)?, script);
-    assert_eq!(rt; status_of_long_script(alloc, 4097, 4097)?, script);
+fn runs_a_script(rt: HostRuntime) -> Result<(), Fail> {
+    let (status, written) = run(rt.alloc(), &NONE)?;
+    assert!(rt; status == Status::Done);
+    assert!(rt; written.as_slice() == TEXT);
     Ok(())
 }
 
 #[test]
-fn ends_at_each_planned_fault(rt: HostRuntime) -> Result<(), Fail> {
-    let alloc = rt.alloc();
-    let (status, written) = run(alloc, E4_D5, &NONE)?;
-    assert_eq!(rt; status, Status::Done);
-    assert!(rt; written.as_slice() == E4_D5_TEXT);
-    for call in 0..5u64 {
+fn ends_at_each_fault_of_the_files(rt: HostRuntime) -> Result<(), Fail> {
+    for call in 0..6u64 {
         let fails = Fails {
             files: &[call],
             ..NONE
         };
-        let (status, written) = run(alloc, E4_D5, &fails)?;
-        assert_eq!(rt; status, Status::FilesFault);
-        assert!(rt; written.is_empty());
+        let (status, written) = run(rt.alloc(), &fails)?;
+        assert!(rt; status == Status::FilesFault);
+        assert!(rt; written.as_slice() == if call < 5 { b"".as_slice() } else { OPENING });
     }
-    for call in 0..=E4_D5.len() as u64 {
+    Ok(())
+}
+
+#[test]
+fn ends_at_faults_of_the_streams(rt: HostRuntime) -> Result<(), Fail> {
+    for call in 0..SCRIPT.len() as u64 {
         let fails = Fails {
             input: &[call],
             ..NONE
         };
-        let (status, written) = run(alloc, E4_D5, &fails)?;
-        assert_eq!(rt; status, Status::ReadFault);
-        assert!(rt; written.is_empty());
+        let (status, written) = run(rt.alloc(), &fails)?;
+        assert!(rt; status == Status::ReadFault);
+        assert!(rt; written.as_slice() == OPENING);
     }
-    for call in 0..E4_D5_TEXT.len() {
+    for call in 0..TEXT.len() {
         let fails = Fails {
             out: &[call as u64],
             ..NONE
         };
-        let (status, written) = run(alloc, E4_D5, &fails)?;
-        assert_eq!(rt; status, Status::WriteFault);
-        assert!(rt; written.as_slice() == &E4_D5_TEXT[..call]);
+        let (status, written) = run(rt.alloc(), &fails)?;
+        assert!(rt; status == Status::WriteFault);
+        assert!(rt; written.as_slice() == &TEXT[..call]);
     }
     Ok(())
 }

@@ -1,20 +1,78 @@
 //! The words that the program is run with.
+ghost use Rattle.std.specs.Prelude.{◌≡◌, map, string_bytes, option_map};
+ghost use Rattle.shell_session.specs.Words.{Said as PlainSaid, is_base_name, wanted, with_word, with_words, words_read};
 
-ghost use Rattle.std.specs.Prelude.{◌≡◌, ◌↔◌, IsTrue, MatchOption, ℕ, List, map, string_bytes};
-ghost use Rattle.shell_session.specs.Words.{AreBase, IsBaseName};
-
-/// The base name that the words give: exactly one word, not empty, that does not begin with `-`.
-pub(crate) fn base_name(words: &[String]) -> Option<&str>
-    ensures none { MatchOption result ((name : List ℕ) → ¬ AreBase (map string_bytes words.now) name) (λ name. AreBase (map string_bytes words.now) name.now) }
-{
-    match words {
-        [word] if is_base_name(word.as_str()) => Some(word.as_str()),
-        _ => None,
-    }
+/// What the words ask for.
+#[derive(Clone, Copy)]
+pub(crate) struct Wanted<'a> {
+    /// The name of the base.
+    pub(crate) name: &'a str,
+    /// Absent files are made.
+    pub(crate) create: bool,
+    /// Derived fields count at opening.
+    pub(crate) strict: bool,
 }
 
-fn is_base_name(word: &str) -> bool
-    ensures { IsTrue result ↔ IsBaseName word.now }
+// What some words have said so far.
+#[derive(Clone, Copy)]
+struct Said<'a> {
+    base: Option<&'a str>,
+    create: bool,
+    strict: bool,
+}
+
+/// What the words ask for, where they are one base name and the options `--create` and `--strict`, each at most once.
+#[tactic(auto, unfolding(crate::specs::Words::words_read))]
+pub(crate) fn words_read(words: &[String]) -> Option<Wanted<'_>>
+    ensures read { option_map (λ w. record { name = w.name.now; create = w.create; strict = w.strict }) result ≡ words_read (map string_bytes words.now) }
 {
-    !word.is_empty() && word.as_bytes()[0] != b'-'
+    let mut said = Said {
+        base: None,
+        create: false,
+        strict: false,
+    };
+    for word in words {
+        said = with_word(said, word.as_str())?;
+    }
+    Some(Wanted {
+        name: said.base?,
+        create: said.create,
+        strict: said.strict,
+    })
+}
+
+// What was said with one word more.
+fn with_word<'a>(said: Said<'a>, word: &'a str) -> Option<Said<'a>>
+    ensures said { option_map (λ s. record { base = option_map (λ name. name.now) s.base; create = s.create; strict = s.strict }) result ≡ with_word (record { base = option_map (λ name. name.now) said.entry.base; create = said.entry.create; strict = said.entry.strict }) word.now }
+{
+    if word == "--create" {
+        return (!said.create).then_some(Said {
+            create: true,
+            ..said
+        });
+    }
+    if word == "--strict" {
+        return (!said.strict).then_some(Said {
+            strict: true,
+            ..said
+        });
+    }
+    if said.base.is_some() || !is_base_name(word) {
+        return None;
+    }
+    Some(Said {
+        base: Some(word),
+        ..said
+    })
+}
+
+// Whether the word can be a base name: it is not empty and does not begin with `-`.
+fn is_base_name(word: &str) -> bool
+    ensures { result ≡ is_base_name word.now }
+{
+    match word.as_bytes() {
+        [b'-', ..] => false,
+        [] => false,
+        _ => true,
+    }
 }

@@ -1,38 +1,76 @@
-use Rattle.std.proofs.Common.{◌≡◌, ◌∙◌, ℕ, inr, subst, List, [], Option, Some, length, map, string_bytes}
-use Rattle.base_files.proofs.Rising.{Rose-after}
-use Rattle.shell_session.specs.Endings.{EndsEarly}
-use Rattle.shell_session.specs.IndexFile.{IsIndex}
-use Rattle.shell_session.specs.Refusals.{OpeningRefused}
-use Rattle.shell_session.specs.Session.{Opens, given}
-use Rattle.shell_session.proofs.Answering.{early_answers, ends_for_memory, ends_told, none_added, opening_answers, told_is, told_length_is}
+use Rattle.std.proofs.Common.{◌≡◌, ◌⊎◌, ℕ, List, map, string_bytes, sym, ap, ◌∙◌, subst}
+use Rattle.base_files.specs.Seen.{Seen}
+use Rattle.shell_session.specs.Session.{Answers, Due, given, inlet}
+use Rattle.shell_session.specs.Words.{Wanted}
+use Rattle.shell_session.specs.declared.status.Status.{Status}
+use Rattle.shell_session.specs.declared.status.Status.TheVariants.{Done, Memory}
+use Rattle.shell_session.specs.Stops.{status_of}
+use Rattle.shell_session.proofs.AnswerLaws.{chooses_running, chosen, due_of, line_session, part_session, why_line, why_running, whole_session}
 use Rattle.shell_session.proofs.run.session.Goals as goal
 
-pub returns-in-Err-clause-answers : goal.returns-in-Err-clause-answers
-returns-in-Err-clause-answers g c index games script taken told_index told_games told_script told_taken =
-    let I : Option (List ℕ) → Type 0 = λ o. OpeningRefused o (g.F.Files.seen c.args.files.now).games c.in-Err.status in
-    let J : Option (List ℕ) → Type 0 = λ o. OpeningRefused (Some index) o c.in-Err.status in
-    let refused : OpeningRefused (Some index) (Some games) c.in-Err.status = subst J told_games (subst I told_index c.in-Err.ensures.refused) in
-    ([], none_added taken _ told_taken, opening_answers _ _ index games script c.in-Err.status c.in-Some.ensures.none refused)
+pub returns-in-Err-write_opening-clause-answers : goal.returns-in-Err-write_opening-clause-answers
+returns-in-Err-write_opening-clause-answers g c = λ index names games script i n told left.
+    let words : List (List ℕ) = map string_bytes c.args.words.now in
+    let wanted : Wanted = record { name = c.in-Some.wanted.name.now; create = c.in-Some.wanted.create; strict = c.in-Some.wanted.strict } in
+    let input = inlet (g.S.Source.left c.args.input.now) (g.S.Source.budget c.args.input.now) (g.S.Source.faults c.args.input.now) in
+    let P : Status → Type 0 = λ status. Answers (given words index names games script) (g.K.Sink.taken c.args.out.now) (g.K.Sink.taken c.write_opening.new.out) input input status in
+    subst P (sym c.from.ensures)
+    (line_session words index names games script (g.F.Files.seen c.args.files.now) (g.F.Files.seen c.open.new.files) wanted c.in-Ok.opened.0 c.in-Ok.opened.1 c.games.result _ _ input c.in-Err-write_opening.stop _ _
+    (sym c.in-Some.ensures.read) c.in-Ok.ensures.opens c.games.ensures.games c.in-Err-write_opening.ensures.halted c.in-Err-write_opening.ensures.causes.why i n told)
+
+pub returns-in-Err-write_opening-clause-due : goal.returns-in-Err-write_opening-clause-due
+returns-in-Err-write_opening-clause-due g c = λ index names games script i n told left no_files no_input no_output.
+    let words : List (List ℕ) = map string_bytes c.args.words.now in
+    let wanted : Wanted = record { name = c.in-Some.wanted.name.now; create = c.in-Some.wanted.create; strict = c.in-Some.wanted.strict } in
+    let input = inlet (g.S.Source.left c.args.input.now) (g.S.Source.budget c.args.input.now) (g.S.Source.faults c.args.input.now) in
+    let P : Status → Type 0 = λ status. (status ≡ Memory) ⊎ Due (given words index names games script) status in
+    subst P (sym c.from.ensures)
+    (due_of (given words index names games script) (g.K.Sink.taken c.args.out.now) (g.K.Sink.taken c.write_opening.new.out) input input (status_of c.in-Err-write_opening.stop) _ _ _ _ _ _
+    (line_session words index names games script (g.F.Files.seen c.args.files.now) (g.F.Files.seen c.open.new.files) wanted c.in-Ok.opened.0 c.in-Ok.opened.1 c.games.result _ _ input c.in-Err-write_opening.stop _ _
+    (sym c.in-Some.ensures.read) c.in-Ok.ensures.opens c.games.ensures.games c.in-Err-write_opening.ensures.halted c.in-Err-write_opening.ensures.causes.why i n told)
+    (why_line c.in-Err-write_opening.stop _ _ _ _ _ c.in-Err-write_opening.ensures.causes.why)
+    no_files no_input no_output)
+
+pub returns-in-Ok-run_script-clause-answers : goal.returns-in-Ok-run_script-clause-answers
+returns-in-Ok-run_script-clause-answers g c = λ index names games script i n told left.
+    let wanted : Wanted = record { name = c.in-Some.wanted.name.now; create = c.in-Some.wanted.create; strict = c.in-Some.wanted.strict } in
+    whole_session (map string_bytes c.args.words.now) index names games script (g.F.Files.seen c.args.files.now) (g.F.Files.seen c.open.new.files) wanted c.in-Ok.opened.0 c.in-Ok.opened.1 c.games.result _ (g.K.Sink.taken c.write_opening.new.out) _
+    (inlet (g.S.Source.left c.args.input.now) (g.S.Source.budget c.args.input.now) (g.S.Source.faults c.args.input.now))
+    (inlet (g.S.Source.left c.run_script.new.input) (g.S.Source.budget c.run_script.new.input) (g.S.Source.faults c.run_script.new.input))
+    (sym c.in-Some.ensures.read) c.in-Ok.ensures.opens c.games.ensures.games c.in_default-write_opening.ensures.written c.in-Ok-run_script.ensures.all i n told left
+
+pub returns-in-Ok-run_script-clause-due : goal.returns-in-Ok-run_script-clause-due
+returns-in-Ok-run_script-clause-due g c = λ index names games script i n told left no_files no_input no_output.
+    let wanted : Wanted = record { name = c.in-Some.wanted.name.now; create = c.in-Some.wanted.create; strict = c.in-Some.wanted.strict } in
+    let input = inlet (g.S.Source.left c.args.input.now) (g.S.Source.budget c.args.input.now) (g.S.Source.faults c.args.input.now) in
+    let input' = inlet (g.S.Source.left c.run_script.new.input) (g.S.Source.budget c.run_script.new.input) (g.S.Source.faults c.run_script.new.input) in
+    due_of (given (map string_bytes c.args.words.now) index names games script) (g.K.Sink.taken c.args.out.now) (g.K.Sink.taken c.run_script.new.out) input input' Done _ _ _ _ _ _
+    (whole_session (map string_bytes c.args.words.now) index names games script (g.F.Files.seen c.args.files.now) (g.F.Files.seen c.open.new.files) wanted c.in-Ok.opened.0 c.in-Ok.opened.1 c.games.result _ (g.K.Sink.taken c.write_opening.new.out) _ input input'
+    (sym c.in-Some.ensures.read) c.in-Ok.ensures.opens c.games.ensures.games c.in_default-write_opening.ensures.written c.in-Ok-run_script.ensures.all i n told left)
+    tt no_files no_input no_output
 
 pub returns-clause-answers : goal.returns-clause-answers
-returns-clause-answers g c index games script taken told_index told_games told_script told_taken =
-    let words : List (List ℕ) = map string_bytes c.args.words.now in
-    let same_index : c.in-Ok.index.items ≡ index = told_is _ _ index told_index c.in-Ok.ensures.index_told in
-    let same_len : (g.F.Files.seen c.open.new.files).known ≡ length games = told_length_is _ _ games told_games c.in-Ok.ensures.len_told in
-    let A : List ℕ → Type 0 = λ i. IsIndex i (g.F.Files.seen c.open.new.files).known in
-    let B : ℕ → Type 0 = λ n. IsIndex index n in
-    let opens : Opens (given words index games script) = record { name = c.in-Some.name.now; named = c.in-Some.ensures.none; indexed = subst B same_len (subst A same_index c.in-Ok.ensures.indexed) } in
-    let ends : EndsEarly index (Some games) (Some script) (g.K.Sink.taken c.args.out.now) (g.K.Sink.taken c.find.new.out) c.in-Err-find.status =
-    ends_told c.as_slice.result.now index games script _ _ _ _ _ (c.as_slice.ensures.value ∙ same_index) (c.open.ensures.contents.games ∙ told_games) told_script c.in-Err-find.ensures.early in
-    let T : Option (List ℕ) → Type 0 = λ o. EndsEarly index (Some games) (Some script) o (g.K.Sink.taken c.find.new.out) c.in-Err-find.status in
-    early_answers words index games script taken _ c.in-Err-find.status opens (subst T told_taken ends)
+returns-clause-answers g c = λ index names games script i n told left.
+    let wanted : Wanted = record { name = c.in-Some.wanted.name.now; create = c.in-Some.wanted.create; strict = c.in-Some.wanted.strict } in
+    part_session (map string_bytes c.args.words.now) index names games script (g.F.Files.seen c.args.files.now) (g.F.Files.seen c.open.new.files) wanted c.in-Ok.opened.0 c.in-Ok.opened.1 c.games.result _ (g.K.Sink.taken c.write_opening.new.out) _
+    (inlet (g.S.Source.left c.args.input.now) (g.S.Source.budget c.args.input.now) (g.S.Source.faults c.args.input.now))
+    (inlet (g.S.Source.left c.run_script.new.input) (g.S.Source.budget c.run_script.new.input) (g.S.Source.faults c.run_script.new.input))
+    c.in-Err-run_script.status
+    (sym c.in-Some.ensures.read) c.in-Ok.ensures.opens c.games.ensures.games c.in_default-write_opening.ensures.written c.in-Err-run_script.ensures.part i n told left
 
-pub returns-clause-completes : goal.returns-clause-completes
-returns-clause-completes g c index games script text told_index told_games told_script finds no_files no_input no_output =
-    let same_index : c.in-Ok.index.items ≡ index = told_is _ _ index told_index c.in-Ok.ensures.index_told in
-    let ends : EndsEarly index (Some games) (Some script) (g.K.Sink.taken c.args.out.now) (g.K.Sink.taken c.find.new.out) c.in-Err-find.status =
-    ends_told c.as_slice.result.now index games script _ _ _ _ _ (c.as_slice.ensures.value ∙ same_index) (c.open.ensures.contents.games ∙ told_games) told_script c.in-Err-find.ensures.early in
-    inr (ends_for_memory _ index games script text _ _ c.in-Err-find.status finds ends
-    (λ is. no_input (c.in-Err-find.ensures.read_fault is))
-    (λ is. no_output (c.in-Err-find.ensures.write_fault is))
-    (λ is. no_files (Rose-after _ _ _ c.open.ensures.counts (c.in-Err-find.ensures.files_fault is))))
+pub returns-clause-due : goal.returns-clause-due
+returns-clause-due g c = λ index names games script i n told left no_files no_input no_output.
+    let wanted : Wanted = record { name = c.in-Some.wanted.name.now; create = c.in-Some.wanted.create; strict = c.in-Some.wanted.strict } in
+    let input = inlet (g.S.Source.left c.args.input.now) (g.S.Source.budget c.args.input.now) (g.S.Source.faults c.args.input.now) in
+    let input' = inlet (g.S.Source.left c.run_script.new.input) (g.S.Source.budget c.run_script.new.input) (g.S.Source.faults c.run_script.new.input) in
+    due_of (given (map string_bytes c.args.words.now) index names games script) (g.K.Sink.taken c.args.out.now) (g.K.Sink.taken c.run_script.new.out) input input' c.in-Err-run_script.status _ _ _ _ _ _
+    (part_session (map string_bytes c.args.words.now) index names games script (g.F.Files.seen c.args.files.now) (g.F.Files.seen c.open.new.files) wanted c.in-Ok.opened.0 c.in-Ok.opened.1 c.games.result _ (g.K.Sink.taken c.write_opening.new.out) _ input input' c.in-Err-run_script.status
+    (sym c.in-Some.ensures.read) c.in-Ok.ensures.opens c.games.ensures.games c.in_default-write_opening.ensures.written c.in-Err-run_script.ensures.part i n told left)
+    (why_running c.in-Err-run_script.status _ (g.F.Files.faults c.open.new.files) _ _ _ _ (g.K.Sink.faults c.write_opening.new.out) _ c.open.ensures.counts c.in_default-write_opening.ensures.causes.none_fell.output c.in-Err-run_script.ensures.why)
+    no_files no_input no_output
+
+pub returns-clause-choices : goal.returns-clause-choices
+returns-clause-choices g c =
+    let wanted : Wanted = record { name = c.in-Some.wanted.name.now; create = c.in-Some.wanted.create; strict = c.in-Some.wanted.strict } in
+    chooses_running c.in-Err-run_script.status (map string_bytes c.args.words.now) _ _ c.in-Err-run_script.ensures.ends
+    (chosen (map string_bytes c.args.words.now) wanted _ _ (sym c.in-Some.ensures.read) (ap (λ (seen : Seen). seen.choices) c.run_script.ensures.unchanged ∙ c.in-Ok.ensures.chosen))

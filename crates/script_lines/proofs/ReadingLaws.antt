@@ -1,0 +1,146 @@
+-- Laws of what a reader of lines has taken.
+use Rattle.std.proofs.Common.{Result, Ok, Bool, ◌⊎◌, ◌-◌, ◌==◌, ◌∷◌, zero, not, true, inl, inr, min, ◌≡◌, ◌≤◌, ◌<◌, ◌+◌, ℕ, suc, List, [], ◌++◌, length, take, drop, Option, Some, None, refl, sym, ap, ◌∙◌, subst, arith, append_assoc, append-nil}
+use Rattle.std.proofs.Math.Seq.{take-append-add}
+use Rattle.std.proofs.lemmas.List.{take-take, take_all, take-append-drop, drop-drop, length-take, length-take-le, length-append}
+use Rattle.base_files.specs.Told.{before}
+use Rattle.base_files.proofs.Telling.{before-nil, before-append}
+use Rattle.script_text.specs.Reading.{reading}
+use Rattle.script_lines.specs.Script.{Order, Script, script, script_from, led_by}
+use Rattle.script_lines.specs.Reading.{Reader, TookLine, TookPart, Feeds, Ends, feed_at, grown, most_kept}
+use Rattle.script_lines.proofs.ScriptLaws.{feed_at_position, feed_room, first_feed, grown_none, line_read, part_read, reading_kept, script_kept}
+
+-- What is ahead is a front part of the unread bytes, and what is ahead then.
+rest_ahead : (n : ℕ) (unread later : List ℕ) (l : Option (List ℕ)) → later ≡ drop n unread → before unread l ≡ before (take n unread) (before later l)
+rest_ahead n unread later l rest =
+    ap (λ u. before u l) (sym (take-append-drop n unread) ∙ ap (λ r. take n unread ++ r) (sym rest)) ∙ before-append (take n unread) later l
+
+-- The bytes up to a line feed were taken.
+pub took_line : (old new : Reader) (within place : ℕ) (l : Option (List ℕ)) → feed_at (take within old.unread) ≡ Some place
+    → new.unread ≡ drop 1 (drop place old.unread) → new.line ≡ take most_kept (old.line ++ take place old.unread) → new.used ≡ old.used + place + 1
+    → TookLine old.line old l (reading new.line) new l
+took_line old new within place l at unread line used =
+    let there : (first_feed old.unread ≡ Some place) × (place < length old.unread) × (place < within) = feed_room within old.unread place at in
+    let n : length (take (suc place) old.unread) ≡ suc place = length-take-le (suc place) old.unread (omega (arith, there.1)) in
+    let same : reading (old.line ++ take place old.unread) ≡ reading new.line = sym (reading_kept (old.line ++ take place old.unread)) ∙ ap reading (sym line) in
+    let e : place + 1 ≡ suc place = omega arith in
+    record {
+      front = take (suc place) old.unread;
+      ahead = rest_ahead (suc place) old.unread new.unread l (unread ∙ drop-drop 1 place old.unread ∙ ap (λ k. drop k old.unread) e);
+      used = omega (arith, used, n);
+      ends = λ last more.
+          line_read last old.line old.unread more place there.0
+          ∙ ap (λ order. grown (suc place) (led_by order (script_from last [] more))) same
+          ∙ ap (λ k. grown k (led_by (reading new.line) (script_from last [] more))) (sym n);
+    }
+
+-- Bytes without a line feed were taken.
+pub took_part : (old new : Reader) (within : ℕ) (l : Option (List ℕ)) → feed_at (take within old.unread) ≡ None → within ≤ length old.unread
+    → new.unread ≡ drop within old.unread → new.line ≡ take most_kept (old.line ++ take within old.unread) → new.used ≡ old.used + within
+    → TookPart old.line old l new l
+took_part old new within l none fits unread line used =
+    let n : length (take within old.unread) ≡ within = length-take-le within old.unread fits in
+    record {
+      front = take within old.unread;
+      ahead = rest_ahead within old.unread new.unread l unread;
+      used = omega (arith, used, n);
+      feeds = λ last more.
+          part_read last old.line (take within old.unread) more (sym (feed_at_position (take within old.unread)) ∙ none)
+          ∙ ap (grown (length (take within old.unread)))
+          (sym (script_kept last (old.line ++ take within old.unread) more) ∙ ap (λ k. script_from last k more) (sym line));
+    }
+
+-- Nothing was taken yet.
+pub took_none : (reader : Reader) (l : Option (List ℕ)) → reader.line ≡ [] → TookPart [] reader l reader l
+took_none reader l fresh = record {
+  front = [];
+  ahead = sym (before-nil (before reader.unread l));
+  used = omega arith;
+  feeds = λ last more. ap (λ k. script_from last k more) (sym fresh) ∙ sym (grown_none (script_from last reader.line more));
+}
+
+-- More was read.
+pub took_filled : (line : List ℕ) (old mid new : Reader) (l l' l'' : Option (List ℕ)) → TookPart line old l mid l'
+    → before mid.unread l' ≡ before new.unread l'' → new.line ≡ mid.line → new.used ≡ mid.used → TookPart line old l new l''
+took_filled line old mid new l l' l'' took given same_line same_used = record {
+  front = took.front;
+  ahead = took.ahead ∙ ap (before took.front) given;
+  used = same_used ∙ took.used;
+  feeds = λ last more. took.feeds last more ∙ ap (λ k. grown (length took.front) (script_from last k more)) (sym same_line);
+}
+
+grown_twice : (m n : ℕ) (s : Script) → grown m (grown n s) ≡ grown (m + n) s
+grown_twice m n s = ap (script s.orders) (omega arith)
+
+behind : (front more : List ℕ) (a b c : Option (List ℕ)) → a ≡ before front b → b ≡ before more c → a ≡ before (front ++ more) c
+behind front more a b c first second = first ∙ ap (before front) second ∙ sym (before-append front more c)
+
+-- A part of a line, and then another.
+pub took_twice : (line : List ℕ) (old mid new : Reader) (l l' l'' : Option (List ℕ)) → TookPart line old l mid l' → TookPart mid.line mid l' new l''
+    → TookPart line old l new l''
+took_twice line old mid new l l' l'' first second =
+    let n : length (first.front ++ second.front) ≡ length first.front + length second.front = length-append first.front second.front in
+    record {
+      front = first.front ++ second.front;
+      ahead = behind first.front second.front _ _ _ first.ahead second.ahead;
+      used = omega (arith, first.used, second.used, n);
+      feeds = λ last more.
+          ap (script_from last line) (append_assoc first.front second.front more)
+          ∙ first.feeds last (second.front ++ more)
+          ∙ ap (grown (length first.front)) (second.feeds last more)
+          ∙ grown_twice (length first.front) (length second.front) (script_from last new.line more)
+          ∙ ap (λ k. grown k (script_from last new.line more)) (sym n);
+    }
+
+-- A part of a line, and then its rest.
+pub took_rest : (line : List ℕ) (old mid new : Reader) (order : Order) (l l' l'' : Option (List ℕ)) → TookPart line old l mid l' → TookLine mid.line mid l' order new l''
+    → TookLine line old l order new l''
+took_rest line old mid new order l l' l'' first second =
+    let n : length (first.front ++ second.front) ≡ length first.front + length second.front = length-append first.front second.front in
+    record {
+      front = first.front ++ second.front;
+      ahead = behind first.front second.front _ _ _ first.ahead second.ahead;
+      used = omega (arith, first.used, second.used, n);
+      ends = λ last more.
+          ap (script_from last line) (append_assoc first.front second.front more)
+          ∙ first.feeds last (second.front ++ more)
+          ∙ ap (grown (length first.front)) (second.ends last more)
+          ∙ grown_twice (length first.front) (length second.front) (led_by order (script_from last [] more))
+          ∙ ap (λ k. grown k (led_by order (script_from last [] more))) (sym n);
+    }
+
+-- ---- what is kept of a line
+
+either_first : (a b : ℕ) → (a ≤ b) ⊎ (b ≤ a)
+either_first a b = search arith
+
+take_least : (room count : ℕ) (bytes : List ℕ) → take room (take count bytes) ≡ take (min count room) bytes
+take_least room count bytes = elim (either_first room count) [
+  | inl less ↦
+      let m : min count room ≡ room = omega (arith, less) in
+      take-take room count bytes less ∙ ap (λ n. take n bytes) (sym m)
+  | inr less ↦
+      let m : min count room ≡ count = omega (arith, less) in
+      let n : length (take count bytes) ≡ min count (length bytes) = length-take count bytes in
+      take_all room (take count bytes) (omega (arith, n, less)) ∙ ap (λ n. take n bytes) (sym m)
+]
+
+-- Of a part that is taken no more goes into the line than there is room for.
+pub kept_more : (most count : ℕ) (line bytes : List ℕ) → length line ≤ most → line ++ take (min count (most - length line)) bytes ≡ take most (line ++ take count bytes)
+kept_more most count line bytes fits =
+    let e : most ≡ length line + (most - length line) = omega (arith, fits) in
+    ap (λ l. line ++ l) (sym (take_least (most - length line) count bytes))
+    ∙ sym (take-append-add line (take count bytes) (most - length line))
+    ∙ ap (λ n. take n (line ++ take count bytes)) (sym e)
+
+-- A front part is as many bytes as it has.
+pub front_part : (n : ℕ) (bytes : List ℕ) → take (length (take n bytes)) bytes ≡ take n bytes
+front_part zero bytes = refl
+front_part (suc n) [] = refl
+front_part (suc n) (byte ∷ bytes) = ap (λ l. byte ∷ l) (front_part n bytes)
+
+pub some_more : (n : ℕ) → not (n == 0) ≡ true → 0 < n
+some_more zero more = cc
+some_more (suc n) more = omega arith
+
+pub ok_is : {E : Type 0} {a b : Bool} → ◌≡◌ {A = Result Bool E} (Ok a) (Ok b) → a ≡ b
+ok_is {E} {a} {b} same = cc

@@ -1,0 +1,310 @@
+//! The lines of the input, one after the other. No more than one line is held.
+ghost use Rattle.std.specs.Prelude.{◌≡◌, ◌≤◌, ◌<◌, ◌+◌, ◌-◌, ℕ, List, [], ◌++◌, length, take, drop, true, false, Option, Some, None, Ok, OnOk, OnErr, IfOk, IfErr};
+ghost use Rattle.base_files.specs.Counters.{Rose};
+ghost use Rattle.base_files.specs.Told.{before, Tells};
+ghost use Rattle.script_text.specs.Reading.{reading};
+ghost use Rattle.script_lines.specs.Reading.{TookPart, TookLine, TookLast, SaysLast, IsFull, Stuck, feed_at, most_kept, piece_len};
+ghost use Rattle.script_lines.specs.Script.{Order as PlainOrder, is_quit, longest_script};
+
+use base_files::{Failed, Source};
+use script_text::{Command, CommandError, ScriptFault, read_command};
+use std::alloc::{AllocError, Global};
+use std::marker::Model;
+
+/// How many bytes are read at once.
+const PIECE: usize = 32_768;
+
+/// How many bytes of a line are kept: two more than a command may have, so that what is kept is too long where the line is.
+const MOST_KEPT: usize = 65_538;
+
+/// The most bytes that a script may have.
+const LONGEST_SCRIPT: u64 = 1_073_741_824;
+
+/// The reader of the lines of a script.
+#[derive(Drop)]
+pub struct LineReader {
+    // The bytes from `from` to `to` were read and not yet taken.
+    piece: Vec<u8>,
+    from: usize,
+    to: usize,
+    line: Vec<u8>,
+    used: u64,
+}
+
+impl Model for LineReader {
+    ghost use Rattle.std.specs.Prelude.{◌≡◌, ◌≤◌, length, take, drop};
+    ghost use Rattle.script_lines.specs.Reading.{Reader, piece_len, most_kept};
+    ghost use Rattle.script_lines.specs.Script.{longest_script};
+
+    ghost Value = { Reader };
+
+    ghost view = { λ r. record { unread = drop r.from (take r.to r.piece.items); line = r.line.items; used = r.used } };
+
+    ghost invariant = { λ r. (length r.piece.items ≡ piece_len) × (r.from ≤ r.to) × (r.to ≤ piece_len) × (length r.line.items ≤ most_kept) × (r.used ≤ longest_script) };
+}
+
+/// How far the bytes that were read have taken a line.
+#[derive(Clone, Copy, Debug, PartialEq, Eq)]
+enum Part {
+    /// To its line feed.
+    Ended,
+    /// To the end of what was read.
+    Open,
+    /// To the greatest length of a script, behind which there is more.
+    Limit,
+}
+
+/// A line of a script: the command that it says, or its first fault.
+pub type Order = Result<Command, ScriptFault>;
+
+/// Why no line was read.
+#[derive(Clone, Copy, Debug, PartialEq, Eq)]
+pub enum ReadError {
+    /// The input failed.
+    Failed,
+    /// The script has more than 1,073,741,824 bytes, and none of its lines that end within them is `quit`.
+    TooLong,
+    /// Memory ran out.
+    Memory,
+}
+
+/// A line that was read.
+#[derive(Drop)]
+pub enum Taken {
+    /// It ended with a line feed.
+    Line(Order),
+    /// The end of the input ended it.
+    Last(Order),
+}
+
+impl LineReader {
+    /// A reader that has read nothing yet.
+    pub fn new(alloc: Global) -> Result<LineReader, AllocError>
+        ensures new { IfOk result (λ reader. reader ≡ record { unread = []; line = []; used = 0 }) }
+    {
+        Ok(LineReader {
+            piece: vec![in alloc; 0; PIECE]?,
+            from: 0,
+            to: 0,
+            line: Vec::new(alloc),
+            used: 0,
+        })
+    }
+
+    // The bytes that were read and not yet taken.
+    fn unread(&self) -> &[u8]
+        ensures unread { result.now ≡ self.now.unread }
+    {
+        &self.piece[self.from..self.to]
+    }
+
+    // Reads the next bytes of the input; none only at its end.
+    fn fill<S: Source>(&mut self, input: &mut S) -> Result<(), Failed>
+        requires empty { self.old.unread ≡ [] }
+        ensures given { OnOk result (S.left input.old ≡ before self.new.unread (S.left input.new)) }
+        ensures end { OnOk result (self.new.unread ≡ [] → Tells (S.left input.new) []) }
+        ensures spent { OnOk result (S.budget input.new + length self.new.unread ≡ S.budget input.old) }
+        ensures none_given { OnErr result (self.new.unread ≡ []) }
+        ensures none_lost { OnErr result (S.left input.new ≡ S.left input.old) }
+        ensures none_spent { OnErr result (S.budget input.new ≡ S.budget input.old) }
+        ensures line { self.new.line ≡ self.old.line }
+        ensures used { self.new.used ≡ self.old.used }
+        ensures counts { S.faults input.old ≤ S.faults input.new }
+        ensures cause { OnErr result (Rose (S.faults input.old) (S.faults input.new)) }
+    {
+        self.from = 0;
+        self.to = 0;
+        self.to = input.read(self.piece.as_mut_slice())?;
+        Ok(())
+    }
+
+    // Whether there are unread bytes; where there are none, the next ones are read first.
+    fn refill<S: Source>(&mut self, input: &mut S) -> Result<bool, Failed>
+        ensures kept { before self.old.unread (S.left input.old) ≡ before self.new.unread (S.left input.new) }
+        ensures line { self.new.line ≡ self.old.line }
+        ensures used { self.new.used ≡ self.old.used }
+        ensures some { result ≡ Ok true → 0 < length self.new.unread }
+        ensures none { result ≡ Ok false → self.new.unread ≡ [] }
+        ensures end { result ≡ Ok false → Tells (S.left input.new) [] }
+        ensures failed { OnErr result (self.new.unread ≡ []) }
+        ensures sum { S.budget input.new + length self.new.unread ≡ S.budget input.old + length self.old.unread }
+        ensures counts { S.faults input.old ≤ S.faults input.new }
+        ensures cause { OnErr result (Rose (S.faults input.old) (S.faults input.new)) }
+    {
+        if !self.unread().is_empty() {
+            return Ok(true);
+        }
+        self.fill(input)?;
+        Ok(!self.unread().is_empty())
+    }
+
+    // Takes so many of the unread bytes into the line.
+    #[tactic(auto, using(crate::proofs::ReadingLaws::kept_more))]
+    fn take(&mut self, count: usize) -> Result<(), AllocError>
+        requires there { count ≤ length self.old.unread }
+        requires within { self.old.used + count ≤ longest_script }
+        ensures unread { OnOk result (self.new.unread ≡ drop count self.old.unread) }
+        ensures line { OnOk result (self.new.line ≡ take most_kept (self.old.line ++ take count self.old.unread)) }
+        ensures used { OnOk result (self.new.used ≡ self.old.used + count) }
+        ensures failed { OnErr result (self.new.unread ≡ self.old.unread) }
+        ensures unused { OnErr result (self.new.used ≡ self.old.used) }
+    {
+        let room = MOST_KEPT - self.line.len();
+        let unread = &self.piece[self.from..self.to];
+        let kept = unread.split_at(count.min(room)).0;
+        self.line.extend_from_slice(kept)?;
+        self.from += count;
+        self.used += count as u64;
+        Ok(())
+    }
+
+    // The unread bytes within the greatest length of a script.
+    fn within(&self) -> &[u8]
+        ensures within { result.now ≡ take (longest_script - self.now.used) self.now.unread }
+        ensures used { self.now.used ≤ longest_script }
+    {
+        let room = (LONGEST_SCRIPT - self.used) as usize;
+        let unread = &self.piece[self.from..self.to];
+        unread.split_at(unread.len().min(room)).0
+    }
+
+    // Takes the unread bytes up to and with the first line feed, which stands at a place within the greatest length of a script.
+    #[tactic(auto, using(crate::proofs::ReadingLaws::took_line))]
+    fn take_line(&mut self, place: usize) -> Result<(), AllocError>
+        requires at { feed_at (take (longest_script - self.old.used) self.old.unread) ≡ Some place }
+        ensures line { OnOk result ((l : Option (List ℕ)) → TookLine self.old.line self.old l (reading self.new.line) self.new l) }
+        ensures sum { self.new.used + length self.new.unread ≡ self.old.used + length self.old.unread }
+        ensures shorter { OnOk result (length self.new.unread < length self.old.unread) }
+    {
+        self.take(place)?;
+        self.pass();
+        Ok(())
+    }
+
+    // Passes over one unread byte, which counts.
+    fn pass(&mut self)
+        requires there { 0 < length self.old.unread }
+        requires within { self.old.used < longest_script }
+        ensures unread { self.new.unread ≡ drop 1 self.old.unread }
+        ensures line { self.new.line ≡ self.old.line }
+        ensures used { self.new.used ≡ self.old.used + 1 }
+    {
+        self.from += 1;
+        self.used += 1;
+    }
+
+    // Takes the unread bytes within the greatest length of a script, of which none is a line feed; whether there are more.
+    #[tactic(auto, using(crate::proofs::ReadingLaws::took_part))]
+    fn take_open(&mut self) -> Result<bool, AllocError>
+        requires none { feed_at (take (longest_script - self.old.used) self.old.unread) ≡ None }
+        ensures part { OnOk result ((l : Option (List ℕ)) → TookPart self.old.line self.old l self.new l) }
+        ensures all { result ≡ Ok false → self.new.unread ≡ [] }
+        ensures full { result ≡ Ok true → IsFull self.new }
+        ensures sum { self.new.used + length self.new.unread ≡ self.old.used + length self.old.unread }
+    {
+        let within = self.within().len();
+        self.take(within)?;
+        Ok(!self.unread().is_empty())
+    }
+
+    // Takes the unread bytes up to and with the first line feed, or all of them, within the greatest length of a script.
+    fn take_part(&mut self) -> Result<Part, AllocError>
+        ensures line { result ≡ Ok Part.Ended → (l : Option (List ℕ)) → TookLine self.old.line self.old l (reading self.new.line) self.new l }
+        ensures open { result ≡ Ok Part.Open → (l : Option (List ℕ)) → TookPart self.old.line self.old l self.new l }
+        ensures all { result ≡ Ok Part.Open → self.new.unread ≡ [] }
+        ensures limit { result ≡ Ok Part.Limit → (l : Option (List ℕ)) → TookPart self.old.line self.old l self.new l }
+        ensures full { result ≡ Ok Part.Limit → IsFull self.new }
+        ensures sum { self.new.used + length self.new.unread ≡ self.old.used + length self.old.unread }
+        ensures shorter { result ≡ Ok Part.Ended → length self.new.unread < length self.old.unread }
+    {
+        match feed_at(self.within()) {
+            Some(place) => {
+                self.take_line(place)?;
+                Ok(Part::Ended)
+            }
+            None => {
+                let more = self.take_open()?;
+                Ok(if more { Part::Limit } else { Part::Open })
+            }
+        }
+    }
+
+    // Reads a line, and says whether a line feed ended it; else the end of the input did.
+    fn read_line<S: Source>(&mut self, input: &mut S) -> Result<bool, ReadError>
+        requires fresh { self.old.line ≡ [] }
+        ensures line { result ≡ Ok true → TookLine [] self.old (S.left input.old) (reading self.new.line) self.new (S.left input.new) }
+        ensures last { result ≡ Ok false → TookLast self.old (S.left input.old) self.new (S.left input.new) }
+        ensures stuck { IfErr result (λ e. Stuck e self.old (S.left input.old) self.new (S.left input.new)) }
+        ensures sum { S.budget input.new + (self.new.used + length self.new.unread) ≡ S.budget input.old + (self.old.used + length self.old.unread) }
+        ensures ahead { result ≡ Ok true → S.budget input.new + length self.new.unread < S.budget input.old + length self.old.unread }
+        ensures counts { S.faults input.old ≤ S.faults input.new }
+        ensures cause { IfErr result (λ e. e ≡ ReadError.Failed → Rose (S.faults input.old) (S.faults input.new)) }
+    {
+        'parts: loop {
+            let some = match self.refill(input) {
+                Ok(some) => some,
+                Err(Failed) => return Err(ReadError::Failed),
+            };
+            if !some {
+                return Ok(false);
+            }
+            match self.take_part() {
+                Ok(Part::Ended) => return Ok(true),
+                Ok(Part::Open) => {}
+                Ok(Part::Limit) => return Err(ReadError::TooLong),
+                Err(_) => return Err(ReadError::Memory),
+            }
+        }
+    }
+
+    /// Reads the next line, and what it says.
+    pub fn next<S: Source>(&mut self, alloc: Global, input: &mut S) -> Result<Taken, ReadError>
+        ensures line { (order : PlainOrder) → result ≡ Ok (Taken.Line order) → TookLine [] self.old (S.left input.old) order self.new (S.left input.new) }
+        ensures last { (order : PlainOrder) → result ≡ Ok (Taken.Last order) → SaysLast self.old (S.left input.old) order self.new (S.left input.new) }
+        ensures stuck { IfErr result (λ e. Stuck e self.old (S.left input.old) self.new (S.left input.new)) }
+        ensures within { OnOk result (self.new.used ≤ longest_script) }
+        ensures few { OnOk result (length self.new.unread ≤ piece_len) }
+        ensures sum { S.budget input.new + (self.new.used + length self.new.unread) ≡ S.budget input.old + (self.old.used + length self.old.unread) }
+        ensures ahead { (order : PlainOrder) → result ≡ Ok (Taken.Line order) → S.budget input.new + length self.new.unread < S.budget input.old + length self.old.unread }
+        ensures counts { S.faults input.old ≤ S.faults input.new }
+        ensures cause { IfErr result (λ e. e ≡ ReadError.Failed → Rose (S.faults input.old) (S.faults input.new)) }
+    {
+        self.line.clear();
+        match self.read_line(input) {
+            Ok(true) => Ok(Taken::Line(self.order(alloc)?)),
+            Ok(false) => Ok(Taken::Last(self.order(alloc)?)),
+            Err(error) => Err(error),
+        }
+    }
+
+    // What the line says.
+    fn order(&self, alloc: Global) -> Result<Order, ReadError>
+        ensures order { IfOk result (λ order. order ≡ reading self.now.line) }
+        ensures memory { IfErr result (λ e. e ≡ ReadError.Memory) }
+        ensures within { self.now.used ≤ longest_script }
+        ensures few { length self.now.unread ≤ piece_len }
+    {
+        match read_command(alloc, self.line.as_slice()) {
+            Ok(command) => Ok(Ok(command)),
+            Err(CommandError::Bad(fault)) => Ok(Err(fault)),
+            Err(CommandError::Memory) => Err(ReadError::Memory),
+        }
+    }
+}
+
+// The place of the first line feed.
+fn feed_at(bytes: &[u8]) -> Option<usize>
+    ensures place { result ≡ feed_at bytes.now }
+{
+    bytes.iter().position(|byte| *byte == b'\n')
+}
+
+/// Whether a line is `quit`.
+pub fn is_quit(order: &Order) -> bool
+    ensures quit { result ≡ is_quit order.now }
+{
+    match order {
+        Ok(Command::Quit) => true,
+        _ => false,
+    }
+}

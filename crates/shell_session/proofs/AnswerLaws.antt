@@ -1,0 +1,298 @@
+-- What the parts of a session say, put together: its answer to what it was given.
+use Rattle.std.proofs.Common.{◌≡◌, ◌≤◌, ◌<◌, ◌+◌, ◌⊎◌, inl, inr, ℕ, Bool, List, [], ◌∷◌, ◌++◌, length, Option, Some, None, IfSome, refl, ap, ◌∙◌, subst, arith}
+use Rattle.base_files.specs.Chosen.{Choice, choice}
+use Rattle.base_files.specs.Counters.{Rose}
+use Rattle.base_files.proofs.Rising.{Rose-after}
+use Rattle.base_core.specs.declared.fault.BaseFault.{BaseFault}
+use Rattle.script_lines.specs.Script.{longest_script}
+use Rattle.base_files.specs.Seen.{Seen}
+use Rattle.base_files.specs.Told.{adds}
+use Rattle.base_files.specs.declared.faults.Stop.{Stop}
+use Rattle.base_files.specs.declared.faults.Stop.TheVariants as stop
+use Rattle.base_core.specs.Base.{Base}
+use Rattle.base_core.specs.Opening.{IfTold}
+use Rattle.command_runs.specs.Counts.{Why, counts}
+use Rattle.command_runs.specs.Endings.{Halted}
+use Rattle.shell_commands.specs.Stands.{Holding, Stands}
+use Rattle.shell_commands.specs.State.{State, begin}
+use Rattle.shell_session.specs.Running.{Interrupts, Opening, OpeningRefused}
+use Rattle.shell_session.specs.Session.{Answers, Chooses, ChoosesBase, Reads, WhyStatus, Due, Given, Inlet, Opened, RanAll, RanPart, given, opening_line, opening_text}
+use Rattle.shell_session.specs.Stops.{status_of}
+use Rattle.shell_session.specs.Words.{Wanted, words_read}
+use Rattle.shell_session.specs.declared.status.Status.{Status}
+use Rattle.shell_session.specs.declared.status.Status.TheVariants.{Done, Usage, BadBase, ReadFault, WriteFault, FilesFault, Changed, InputTooLong, Memory}
+
+-- What is known where the three contents are told.
+pub told : (seen : Seen) (F : List ℕ → List ℕ → List ℕ → Type 0) (index names games : List ℕ) → IfTold seen F → seen.index ≡ Some index → seen.names ≡ Some names → seen.games ≡ Some games → F index names games
+told seen F index names games known i n g =
+    let I : Option (List ℕ) → Type 0 = λ o. IfSome o (λ index. IfSome seen.names (λ names. IfSome seen.games (λ games. F index names games))) in
+    let N : Option (List ℕ) → Type 0 = λ o. IfSome o (λ names. IfSome seen.games (λ games. F index names games)) in
+    let G : Option (List ℕ) → Type 0 = λ o. IfSome o (λ games. F index names games) in
+    subst G g (subst N n (subst I i known))
+
+-- The opening refused.
+pub opening_answers : (words : List (List ℕ)) (index names games script : List ℕ) (seen : Seen) (t : Option (List ℕ)) (input : Inlet) (wanted : Wanted) (status : Status)
+    → words_read words ≡ Some wanted → OpeningRefused wanted.create wanted.strict seen status
+    → seen.index ≡ Some index → seen.names ≡ Some names → seen.games ≡ Some games
+    → Answers (given words index names games script) t t input input status
+opening_answers words index names games script seen t input wanted (BadBase fault) said refused i n g =
+    (record { wanted = wanted; words = said; first = told seen _ index names games refused i n g }, record { unwritten = refl; unread = refl })
+opening_answers words index names games script seen t input wanted FilesFault said refused i n g = inl (record { unwritten = refl; unread = refl })
+opening_answers words index names games script seen t input wanted Memory said refused i n g = inl (record { unwritten = refl; unread = refl })
+opening_answers words index names games script seen t input wanted Done said refused i n g = absurd refused
+opening_answers words index names games script seen t input wanted Usage said refused i n g = absurd refused
+opening_answers words index names games script seen t input wanted ReadFault said refused i n g = absurd refused
+opening_answers words index names games script seen t input wanted WriteFault said refused i n g = absurd refused
+opening_answers words index names games script seen t input wanted InputTooLong said refused i n g = absurd refused
+opening_answers words index names games script seen t input wanted (Changed game kept found) said refused i n g = absurd refused
+
+-- The base was opened.
+pub opened : (words : List (List ℕ)) (index names games script : List ℕ) (seen : Seen) (wanted : Wanted) (holding : Holding) (mended : ℕ)
+    → words_read words ≡ Some wanted → (o : Opening wanted.create wanted.strict index names games holding seen mended)
+    → Opened (given words index names games script) o.base mended
+opened words index names games script seen wanted holding mended said o =
+    record { wanted = wanted; words = said; means = o.means; mends = o.mends; faultless = o.faultless }
+
+none_rose : Rose 0 0 → ⊥
+none_rose (inl rose) = absurd (omega (arith, rose))
+none_rose (inr last) = absurd (omega (arith, last))
+
+-- The opening line was broken off.
+pub line_answers : (g : Given) (t t' : Option (List ℕ)) (input : Inlet) (base : Base) (mended : ℕ) (s : Stop) (k k' : ℕ)
+    → Opened g base mended → Halted [] (opening_line base mended) t t' → Why s (counts 0 0 k) (counts 0 0 k')
+    → Answers g t t' input input (status_of s)
+line_answers g t t' input base mended stop.Read k k' base_open wrote why = absurd (none_rose why)
+line_answers g t t' input base mended stop.Files k k' base_open wrote why = absurd (none_rose why)
+line_answers g t t' input base mended stop.Write k k' base_open wrote why = inl (record { base = base; mended = mended; opened = base_open; wrote = wrote; unread = refl })
+line_answers g t t' input base mended stop.Memory k k' base_open wrote why = inr (inl (record { base = base; mended = mended; opened = base_open; wrote = wrote; unread = refl }))
+
+-- The run of the script stopped.
+pub part_answers : (g : Given) (t t' : Option (List ℕ)) (input input' : Inlet) (base : Base) (mended : ℕ) (status : Status)
+    → Opened g base mended → RanPart status (begin base) g.script (adds t (opening_line base mended)) t' input'.left
+    → Answers g t t' input input' status
+part_answers g t t' input input' base mended ReadFault base_open ran = record { base = base; mended = mended; opened = base_open; ran = ran }
+part_answers g t t' input input' base mended WriteFault base_open ran = inr (record { base = base; mended = mended; opened = base_open; ran = ran })
+part_answers g t t' input input' base mended FilesFault base_open ran = inr (record { base = base; mended = mended; opened = base_open; ran = ran })
+part_answers g t t' input input' base mended InputTooLong base_open ran = record { base = base; mended = mended; opened = base_open; ran = ran }
+part_answers g t t' input input' base mended Memory base_open ran = inr (inr (record { base = base; mended = mended; opened = base_open; ran = ran }))
+part_answers g t t' input input' base mended Done base_open ran = absurd ran.broken
+part_answers g t t' input input' base mended Usage base_open ran = absurd ran.broken
+part_answers g t t' input input' base mended (BadBase fault) base_open ran = absurd ran.broken
+part_answers g t t' input input' base mended (Changed game kept found) base_open ran = absurd ran.broken
+
+-- Where no device has a fault, the status is due, or memory ran out.
+pub due_of : (g : Given) (t t' : Option (List ℕ)) (input input' : Inlet) (status : Status) (f f' i i' k k' : ℕ) → Answers g t t' input input' status
+    → WhyStatus status (counts f i k) (counts f' i' k') → (Rose f f' → ⊥) → (Rose i i' → ⊥) → (Rose k k' → ⊥) → (status ≡ Memory) ⊎ Due g status
+due_of g t t' input input' Done f f' i i' k k' answer why no_files no_input no_output = inr (record { base = answer.base; mended = answer.mended; opened = answer.opened }, answer.ran.within)
+due_of g t t' input input' Usage f f' i i' k k' answer why no_files no_input no_output = inr answer.0
+due_of g t t' input input' (BadBase fault) f f' i i' k k' answer why no_files no_input no_output = inr answer.0
+due_of g t t' input input' ReadFault f f' i i' k k' answer why no_files no_input no_output = absurd (no_input why)
+due_of g t t' input input' WriteFault f f' i i' k k' answer why no_files no_input no_output = absurd (no_output why)
+due_of g t t' input input' FilesFault f f' i i' k k' answer why no_files no_input no_output = absurd (no_files why)
+due_of g t t' input input' (Changed game kept found) f f' i i' k k' answer why no_files no_input no_output = absurd answer
+due_of g t t' input input' InputTooLong f f' i i' k k' answer why no_files no_input no_output = inr (record { base = answer.base; mended = answer.mended; opened = answer.opened }, answer.ran.lines.0)
+due_of g t t' input input' Memory f f' i i' k k' answer why no_files no_input no_output = inl refl
+
+-- ---- for every files, input and output
+
+pub words_opening : (create strict : Bool) (seen : Seen) (status : Status) → OpeningRefused create strict seen status → status ≡ Usage → ⊥
+words_opening create strict seen Usage refused is = absurd refused
+words_opening create strict seen Done refused is = absurd refused
+words_opening create strict seen (BadBase fault) refused is = cc
+words_opening create strict seen ReadFault refused is = absurd refused
+words_opening create strict seen WriteFault refused is = absurd refused
+words_opening create strict seen FilesFault refused is = cc
+words_opening create strict seen (Changed game kept found) refused is = absurd refused
+words_opening create strict seen InputTooLong refused is = absurd refused
+words_opening create strict seen Memory refused is = cc
+
+pub words_running : (status : Status) → Interrupts status → status ≡ Usage → ⊥
+words_running Usage stops is = absurd stops
+words_running Done stops is = absurd stops
+words_running (BadBase fault) stops is = absurd stops
+words_running ReadFault stops is = cc
+words_running WriteFault stops is = cc
+words_running FilesFault stops is = cc
+words_running (Changed game kept found) stops is = cc
+words_running InputTooLong stops is = cc
+words_running Memory stops is = cc
+
+not_memory_bad : (fault : BaseFault) → BadBase fault ≡ Memory → ⊥
+not_memory_bad fault is = cc
+
+not_memory_files : FilesFault ≡ Memory → ⊥
+not_memory_files is = cc
+
+-- The base of the words was chosen.
+pub chosen : (words : List (List ℕ)) (wanted : Wanted) (old new : List Choice) → words_read words ≡ Some wanted → new ≡ old ++ choice wanted.name wanted.create ∷ [] → ChoosesBase words old new
+chosen words wanted old new said chose = record { wanted = wanted; said = said; chose = chose }
+
+pub chooses_opening : (create strict : Bool) (seen : Seen) (status : Status) (words : List (List ℕ)) (wanted : Wanted) (old new : List Choice)
+    → OpeningRefused create strict seen status → words_read words ≡ Some wanted
+    → ((status ≡ Memory) × (new ≡ old)) ⊎ (new ≡ old ++ choice wanted.name wanted.create ∷ []) → Chooses status words old new
+chooses_opening create strict seen (BadBase fault) words wanted old new refused said (inl none) = absurd (not_memory_bad fault none.0)
+chooses_opening create strict seen (BadBase fault) words wanted old new refused said (inr chose) = chosen words wanted old new said chose
+chooses_opening create strict seen FilesFault words wanted old new refused said (inl none) = absurd (not_memory_files none.0)
+chooses_opening create strict seen FilesFault words wanted old new refused said (inr chose) = chosen words wanted old new said chose
+chooses_opening create strict seen Memory words wanted old new refused said (inl none) = inl none.1
+chooses_opening create strict seen Memory words wanted old new refused said (inr chose) = inr (chosen words wanted old new said chose)
+chooses_opening create strict seen Usage words wanted old new refused said chose = absurd refused
+chooses_opening create strict seen Done words wanted old new refused said chose = absurd refused
+chooses_opening create strict seen ReadFault words wanted old new refused said chose = absurd refused
+chooses_opening create strict seen WriteFault words wanted old new refused said chose = absurd refused
+chooses_opening create strict seen (Changed game kept found) words wanted old new refused said chose = absurd refused
+chooses_opening create strict seen InputTooLong words wanted old new refused said chose = absurd refused
+
+pub chooses_running : (status : Status) (words : List (List ℕ)) (old new : List Choice) → Interrupts status → ChoosesBase words old new → Chooses status words old new
+chooses_running ReadFault words old new stops chose = chose
+chooses_running WriteFault words old new stops chose = chose
+chooses_running FilesFault words old new stops chose = chose
+chooses_running (Changed game kept found) words old new stops chose = chose
+chooses_running InputTooLong words old new stops chose = chose
+chooses_running Memory words old new stops chose = inr chose
+chooses_running Usage words old new stops chose = absurd stops
+chooses_running Done words old new stops chose = absurd stops
+chooses_running (BadBase fault) words old new stops chose = absurd stops
+
+-- A device's early end.
+pub stop_interrupts : (s : Stop) → Interrupts (status_of s)
+stop_interrupts stop.Read = tt
+stop_interrupts stop.Write = tt
+stop_interrupts stop.Files = tt
+stop_interrupts stop.Memory = tt
+
+pub reads_running : (status : Status) (old new : Inlet) → Interrupts status → (status ≡ InputTooLong → new.budget + longest_script < old.budget) → Reads status old new
+reads_running InputTooLong old new stops long = long refl
+reads_running ReadFault old new stops long = tt
+reads_running WriteFault old new stops long = tt
+reads_running FilesFault old new stops long = tt
+reads_running (Changed game kept found) old new stops long = tt
+reads_running Memory old new stops long = tt
+reads_running Usage old new stops long = absurd stops
+reads_running Done old new stops long = absurd stops
+reads_running (BadBase fault) old new stops long = absurd stops
+
+pub reads_opening : (create strict : Bool) (seen : Seen) (status : Status) (input : Inlet) → OpeningRefused create strict seen status → Reads status input input
+reads_opening create strict seen (BadBase fault) input refused = refl
+reads_opening create strict seen FilesFault input refused = tt
+reads_opening create strict seen Memory input refused = tt
+reads_opening create strict seen Usage input refused = absurd refused
+reads_opening create strict seen Done input refused = absurd refused
+reads_opening create strict seen ReadFault input refused = absurd refused
+reads_opening create strict seen WriteFault input refused = absurd refused
+reads_opening create strict seen (Changed game kept found) input refused = absurd refused
+reads_opening create strict seen InputTooLong input refused = absurd refused
+
+pub reads_line : (s : Stop) (input : Inlet) → Reads (status_of s) input input
+reads_line stop.Read input = tt
+reads_line stop.Write input = tt
+reads_line stop.Files input = tt
+reads_line stop.Memory input = tt
+
+-- The cause where the opening refused: the files', if it is one of a device.
+pub why_opening : (create strict : Bool) (seen : Seen) (status : Status) (f f' i k : ℕ) → OpeningRefused create strict seen status → (status ≡ FilesFault → Rose f f') → WhyStatus status (counts f i k) (counts f' i k)
+why_opening create strict seen (BadBase fault) f f' i k refused rose = tt
+why_opening create strict seen FilesFault f f' i k refused rose = rose refl
+why_opening create strict seen Memory f f' i k refused rose = tt
+why_opening create strict seen Usage f f' i k refused rose = absurd refused
+why_opening create strict seen Done f f' i k refused rose = absurd refused
+why_opening create strict seen ReadFault f f' i k refused rose = absurd refused
+why_opening create strict seen WriteFault f f' i k refused rose = absurd refused
+why_opening create strict seen (Changed game kept found) f f' i k refused rose = absurd refused
+why_opening create strict seen InputTooLong f f' i k refused rose = absurd refused
+
+-- The cause where the opening line was broken off.
+pub why_line : (s : Stop) (f f' i k k' : ℕ) → Why s (counts 0 0 k) (counts 0 0 k') → WhyStatus (status_of s) (counts f i k) (counts f' i k')
+why_line stop.Read f f' i k k' why = absurd (none_rose why)
+why_line stop.Files f f' i k k' why = absurd (none_rose why)
+why_line stop.Write f f' i k k' why = why
+why_line stop.Memory f f' i k k' why = tt
+
+-- The cause where the run of the script stopped, of what the devices counted since the session began.
+pub why_running : (status : Status) (f f' f'' i i' k k' k'' : ℕ) → f ≤ f' → k ≤ k' → WhyStatus status (counts f' i k') (counts f'' i' k'') → WhyStatus status (counts f i k) (counts f'' i' k'')
+why_running ReadFault f f' f'' i i' k k' k'' files out why = why
+why_running WriteFault f f' f'' i i' k k' k'' files out why = Rose-after _ _ _ out why
+why_running FilesFault f f' f'' i i' k k' k'' files out why = Rose-after _ _ _ files why
+why_running (Changed game kept found) f f' f'' i i' k k' k'' files out why = why
+why_running InputTooLong f f' f'' i i' k k' k'' files out why = tt
+why_running Memory f f' f'' i i' k k' k'' files out why = tt
+why_running Usage f f' f'' i i' k k' k'' files out why = tt
+why_running Done f f' f'' i i' k k' k'' files out why = tt
+why_running (BadBase fault) f f' f'' i i' k k' k'' files out why = tt
+
+-- ---- the ways in which a session returns
+
+-- The words say nothing.
+pub usage_answers : (g : Given) (t : Option (List ℕ)) (input : Inlet) → words_read g.words ≡ None → Answers g t t input input Usage
+usage_answers g t input none = (none, record { unwritten = refl; unread = refl })
+
+pub usage_due : (g : Given) → words_read g.words ≡ None → Due g Usage
+usage_due g none = none
+
+pub usage_chooses : (words : List (List ℕ)) (old : List Choice) → Chooses Usage words old old
+usage_chooses words old = refl
+
+pub usage_reads : (input : Inlet) → Reads Usage input input
+usage_reads input = refl
+
+-- The script was run to its end.
+pub whole_answers : (g : Given) (t t' : Option (List ℕ)) (input input' : Inlet) (base : Base) (mended : ℕ)
+    → Opened g base mended → RanAll (begin base) g.script (adds t (opening_line base mended)) t' input'.left → Answers g t t' input input' Done
+whole_answers g t t' input input' base mended base_open ran = record { base = base; mended = mended; opened = base_open; ran = ran }
+
+pub done_chooses : (words : List (List ℕ)) (old new : List Choice) → ChoosesBase words old new → Chooses Done words old new
+done_chooses words old new chose = chose
+
+pub done_reads : (old new : Inlet) → Reads Done old new
+done_reads old new = tt
+
+-- ---- the session from its parts
+
+-- The opening line of the base that was opened.
+count_of : (create strict : Bool) (index names games : List ℕ) (holding : Holding) (seen : Seen) (mended count : ℕ) → (o : Opening create strict index names games holding seen mended)
+    → count ≡ length holding.kept.entries → opening_text count mended ≡ opening_line o.base mended
+count_of create strict index names games holding seen mended count o same = ap (λ n. opening_text n mended) (same ∙ o.stands.base.count)
+
+-- The opening line was broken off.
+pub line_session : (words : List (List ℕ)) (index names games script : List ℕ) (seen seen' : Seen) (wanted : Wanted) (holding : Holding) (mended count : ℕ) (t t' : Option (List ℕ)) (input : Inlet) (s : Stop) (k k' : ℕ)
+    → words_read words ≡ Some wanted
+    → IfTold seen (λ index names games. Opening wanted.create wanted.strict index names games holding seen' mended)
+    → count ≡ length holding.kept.entries → Halted [] (opening_text count mended) t t' → Why s (counts 0 0 k) (counts 0 0 k')
+    → seen.index ≡ Some index → seen.names ≡ Some names → seen.games ≡ Some games
+    → Answers (given words index names games script) t t' input input (status_of s)
+line_session words index names games script seen seen' wanted holding mended count t t' input s k k' said opens same wrote why i n g =
+    let o : Opening wanted.create wanted.strict index names games holding seen' mended =
+    told seen (λ index names games. Opening wanted.create wanted.strict index names games holding seen' mended) index names games opens i n g in
+    let P : List ℕ → Type 0 = λ text. Halted [] text t t' in
+    line_answers (given words index names games script) t t' input o.base mended s k k' (opened words index names games script seen' wanted holding mended said o)
+    (subst P (count_of wanted.create wanted.strict index names games holding seen' mended count o same) wrote) why
+
+-- The script was run to its end.
+pub whole_session : (words : List (List ℕ)) (index names games script : List ℕ) (seen seen' : Seen) (wanted : Wanted) (holding : Holding) (mended count : ℕ) (t t' t'' : Option (List ℕ)) (input input' : Inlet)
+    → words_read words ≡ Some wanted
+    → IfTold seen (λ index names games. Opening wanted.create wanted.strict index names games holding seen' mended)
+    → count ≡ length holding.kept.entries → t' ≡ adds t (opening_text count mended)
+    → ((s : State) (script : List ℕ) → Stands holding seen' s → input.left ≡ Some script → RanAll s script t' t'' input'.left)
+    → seen.index ≡ Some index → seen.names ≡ Some names → seen.games ≡ Some games → input.left ≡ Some script
+    → Answers (given words index names games script) t t'' input input' Done
+whole_session words index names games script seen seen' wanted holding mended count t t' t'' input input' said opens same wrote ran i n g left =
+    let o : Opening wanted.create wanted.strict index names games holding seen' mended =
+    told seen (λ index names games. Opening wanted.create wanted.strict index names games holding seen' mended) index names games opens i n g in
+    let P : Option (List ℕ) → Type 0 = λ x. RanAll (begin o.base) script x t'' input'.left in
+    whole_answers (given words index names games script) t t'' input input' o.base mended (opened words index names games script seen' wanted holding mended said o)
+    (subst P (wrote ∙ ap (adds t) (count_of wanted.create wanted.strict index names games holding seen' mended count o same)) (ran (begin o.base) script o.stands left))
+
+-- The run of the script stopped.
+pub part_session : (words : List (List ℕ)) (index names games script : List ℕ) (seen seen' : Seen) (wanted : Wanted) (holding : Holding) (mended count : ℕ) (t t' t'' : Option (List ℕ)) (input input' : Inlet) (status : Status)
+    → words_read words ≡ Some wanted
+    → IfTold seen (λ index names games. Opening wanted.create wanted.strict index names games holding seen' mended)
+    → count ≡ length holding.kept.entries → t' ≡ adds t (opening_text count mended)
+    → ((s : State) (script : List ℕ) → Stands holding seen' s → input.left ≡ Some script → RanPart status s script t' t'' input'.left)
+    → seen.index ≡ Some index → seen.names ≡ Some names → seen.games ≡ Some games → input.left ≡ Some script
+    → Answers (given words index names games script) t t'' input input' status
+part_session words index names games script seen seen' wanted holding mended count t t' t'' input input' status said opens same wrote ran i n g left =
+    let o : Opening wanted.create wanted.strict index names games holding seen' mended =
+    told seen (λ index names games. Opening wanted.create wanted.strict index names games holding seen' mended) index names games opens i n g in
+    let P : Option (List ℕ) → Type 0 = λ x. RanPart status (begin o.base) script x t'' input'.left in
+    part_answers (given words index names games script) t t'' input input' o.base mended status (opened words index names games script seen' wanted holding mended said o)
+    (subst P (wrote ∙ ap (adds t) (count_of wanted.create wanted.strict index names games holding seen' mended count o same)) (ran (begin o.base) script o.stands left))

@@ -1,0 +1,11 @@
+use Rattle.std.proofs.Common.{◌∙◌, sym}
+use Rattle.shell_session.proofs.RunningLaws.{last_stops, quit_stops}
+use Rattle.shell_session.proofs.running.run_last.Goals as goal
+
+pub returns-in-Err-clause-stops : goal.returns-in-Err-clause-stops
+returns-in-Err-clause-stops g c = λ s stands. last_stops s c.args.order _ _ c.in-Err.status (c.in-Err.ensures.interrupted s stands)
+
+pub returns-in-Err-run_line-clause-stops : goal.returns-in-Err-run_line-clause-stops
+returns-in-Err-run_line-clause-stops g c = λ s stands.
+    let did = c.in-Ok-false.ensures.done s stands in
+    quit_stops _ s c.args.order _ _ _ c.in-Err-run_line.status (sym c.in-Ok-false.ensures.quit ∙ c.in-Ok-false.field-0-test) did (c.in-Err-run_line.ensures.interrupted _ did.stands)
