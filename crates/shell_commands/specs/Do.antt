@@ -1,5 +1,5 @@
 -- What each line of a script does to a state, and the text that it writes: the plain machine. This project's own.
-use Rattle.std.specs.Prelude.{ℕ, Bool, true, false, List, [], Result, Ok, Err}
+use Rattle.std.specs.Prelude.{ℕ, Bool, true, false, if◌then◌else◌, List, [], sum_by, Result, Ok, Err}
 use Rattle.game_filter.specs.Filter.{intersection, union}
 use Rattle.script_text.specs.declared.command.Command.{Command}
 use Rattle.script_text.specs.declared.command.Command.TheVariants.{Nothing, Find, SearchPosition, SearchMaterial, SearchHeader, Reset, Clear, Negate, Restrict, Keep, Take, And, Or, Drop, Hits, Info, Quit}
@@ -74,3 +74,7 @@ command_asks _ = false
 abbrev pub order_asks : Order → Bool
 order_asks (Ok command) = command_asks command
 order_asks (Err fault) = false
+
+-- How many bytes of the games file a line asks at most: those of all records, or none.
+abbrev pub price : State → Order → ℕ
+price s order = if order_asks order then sum_by (λ held. held.len) s.base.games else 0
