@@ -13,7 +13,6 @@ use crate::sink::Sink;
 use crate::source::Source;
 use crate::std_sink::StdSink;
 use crate::std_source::StdSource;
-use crate::swap::Swap;
 use crate::writing::write_all;
 use std::alloc::Global;
 use std::io::{Error, ErrorKind, Read, Write};
@@ -105,18 +104,6 @@ fn has<F: Files>(
 ) -> Result<bool, DeviceError> {
     let bytes = files.load(alloc, part)?;
     Ok(bytes.as_slice() == want)
-}
-
-#[test]
-fn a_base_on_a_disk_is_loaded(rt: HostRuntime) -> Result<(), Fail> {
-    let paths = ["loaded.si4", "loaded.sn4", "loaded.sg4"];
-    write_base(&rt, "", paths)?;
-    let mut files = DiskFiles::new(rt.alloc(), &rt);
-    files.choose("loaded", true)?;
-    assert!(rt; has(rt.alloc(), &mut files, Part::Index, b"INDEX")?);
-    assert!(rt; has(rt.alloc(), &mut files, Part::Names, b"NAMES")?);
-    remove_base(&rt, paths)?;
-    Ok(())
 }
 
 #[test]
@@ -224,39 +211,6 @@ fn planned_faults_of_additions(rt: HostRuntime) -> Result<(), Fail> {
     files.replace(Part::Names, b"new")?;
     assert_eq!(rt; files.index(), b"INDEX".as_slice());
     assert_eq!(rt; files.names(), b"new".as_slice());
-    Ok(())
-}
-
-#[test]
-fn a_games_file_changes_by_itself(rt: HostRuntime) -> Result<(), Fail> {
-    let games = b"abcd".to_vec(rt.alloc())?;
-    let swaps = vec![in rt.alloc();
-        Swap {
-            before: 2,
-            place: 1,
-            byte: b'x'
-        },
-        Swap {
-            before: 2,
-            place: 4,
-            byte: b'y'
-        },
-        Swap {
-            before: 3,
-            place: 1,
-            byte: b'z'
-        },
-    ]?;
-    let mut files = MemFiles::changing(Vec::new(rt.alloc()), Vec::new(rt.alloc()), games, swaps);
-    let len = files.games_len()?;
-    assert_eq!(rt; len, 4, "call 0");
-    let mut into = [0u8; 4];
-    files.read_games(0, 4, &mut into)?;
-    assert_eq!(rt; into, *b"abcd", "call 1");
-    files.read_games(0, 4, &mut into)?;
-    assert_eq!(rt; into, *b"axcd", "call 2");
-    files.read_games(0, 4, &mut into)?;
-    assert_eq!(rt; into, *b"azcd", "call 3");
     Ok(())
 }
 
