@@ -3,6 +3,7 @@
 use crate::{Base, BaseFault, DerivedField, IdField, OpenError, PlaceWhat};
 use base_files::MemFiles;
 use game_codec::{RecordFault, RecordWhat};
+use game_tree::{Game, Head};
 use index_entry::{EntryFault, IndexHead, write_index};
 use move_codec::MoveFault;
 use std::alloc::Global;
@@ -54,12 +55,18 @@ fn open(
     Base::open_base(alloc, files, create, strict, buf.as_mut_slice())
 }
 
+/// The game of the base, with its head.
+fn first_game(alloc: Global) -> Result<(Head, Game), Fail> {
+    let mut files = files(alloc, 47, 0)?;
+    let mut buf = vec![in alloc; 0u8; 131_072]?;
+    let (base, _mended) = Base::open_base(alloc, &mut files, false, true, buf.as_mut_slice())?;
+    let read = base.game(alloc, 0, &mut files, buf.as_mut_slice())?;
+    Ok(read)
+}
+
 #[test]
 fn opens_a_base_and_gives_its_game(rt: HostRuntime) -> Result<(), Fail> {
-    let mut files = files(rt.alloc(), 47, 0)?;
-    let (base, _mended) = open(rt.alloc(), &mut files, false, true)?;
-    let mut buf = vec![in rt.alloc(); 0u8; 131_072]?;
-    let (head, game) = base.game(rt.alloc(), 0, &mut files, buf.as_mut_slice())?;
+    let (head, game) = first_game(rt.alloc())?;
     assert!(rt; head.black.as_bytes() == b"Tartakower, Savielly".as_slice());
     assert!(rt; head.site.as_bytes() == b"Vienna AUT".as_slice());
     assert_eq!(rt; game.line.len(), 21);
