@@ -85,6 +85,19 @@ def write(case, name, index_bytes, names_bytes, games_bytes):
         (folder / f"{name}.{ending}").write_bytes(content)
 
 
+# A byte of an entry of the Vienna game that tells another thing than its record does.
+DIFFERENCES = {
+    "own_start": (8, 0x01),
+    "promotion": (8, 0x02),
+    "underpromotion": (8, 0x04),
+    "variations": (22, 0x01),
+    "comments": (22, 0x10),
+    "nags": (21, 0x11),
+    "material": (36, 0x27),
+    "plies": (37, 20),
+}
+
+
 def vienna(case, of_entry):
     write(case, "vienna", index([of_entry]), VIENNA_NAMES, VIENNA_RECORD)
 
@@ -102,6 +115,8 @@ def main():
     vienna("black_without_a_name", put(VIENNA, 13, 2))
     write("names_cut_in_their_header", "vienna", index([VIENNA]), VIENNA_NAMES[:35], VIENNA_RECORD)
     write("mark_of_no_kind", "vienna", index([VIENNA]), VIENNA_NAMES, put(VIENNA_RECORD, 24, 0x0E))
+    for field, (place, byte) in DIFFERENCES.items():
+        vienna(f"strict_on_{field}", put(VIENNA, place, byte))
     # Two games of one record, one of them with the spare bit and the code of a stored line, other bytes before and behind the record,
     # names that no game uses, a time stamp, bytes behind all.
     shared = entry(2, 25, ids=(0, 1, 0, 0, 0), result=1, final=VIENNA_FINAL, plies=21, home=VIENNA_HOME)
