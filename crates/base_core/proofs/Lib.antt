@@ -14,3 +14,4 @@ pub mod OpenLaws
 pub mod MarkLaws
 pub mod UseLaws
 pub mod SaveLaws
+pub mod GrowLaws

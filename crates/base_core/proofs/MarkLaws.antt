@@ -1,5 +1,5 @@
 -- What is kept of a game whose marks were changed.
-use Rattle.std.proofs.Common.{◌≡◌, ◌≢◌, ◌<◌, ◌≤◌, ◌+◌, ◌*◌, ◌/◌, ◌%◌, ◌-◌, ◌^◌, ℕ, zero, suc, Bool, true, false, List, [], ◌∷◌, length, map, All, slice_get, slice_set, get_or, option_map, Option, Some, None, refl, sym, ap, ◌∙◌, subst, inl, inr, arith}
+use Rattle.std.proofs.Common.{◌≡◌, ◌≢◌, ◌<◌, ◌≤◌, ◌+◌, ◌*◌, ◌/◌, ◌%◌, ◌-◌, ◌^◌, ℕ, zero, suc, Bool, true, List, [], ◌∷◌, length, slice_get, slice_set, get_or, option_map, Option, Some, None, refl, sym, ap, ◌∙◌, subst, inl, inr, arith}
 use Rattle.std.proofs.lemmas.Bool.{cases_Bool, cases_eq}
 use Rattle.std.proofs.lemmas.List.{length-set}
 use Rattle.std.proofs.lemmas.List.Elements.{All-set}
@@ -15,12 +15,12 @@ use Rattle.game_tree.proofs.SettleLemmas.{settled-near, settled-unknown, settled
 use Rattle.index_entry.specs.Entry.{IsEntry}
 use Rattle.index_entry.specs.declared.entry.Entry.{Entry}
 use Rattle.name_base.specs.NameLists.{NameLists}
-use Rattle.base_core.specs.Base.{Base, Held}
+use Rattle.base_core.specs.Base.{Held}
 use Rattle.base_core.specs.Edited.{ChangedHeads, Does}
 use Rattle.base_core.specs.Edits.{changed_at, with_head, with_mark}
 use Rattle.base_core.specs.Entries.{extent_of, head_of, sig_in}
 use Rattle.base_core.specs.FirstFault.{place_fault}
-use Rattle.base_core.specs.Represents.{IsKept, IsSound, Keeps, Kept, Represents}
+use Rattle.base_core.specs.Represents.{IsKept, IsSound, Keeps, Kept}
 use Rattle.base_core.proofs.GamesLaws.{at-all}
 use Rattle.base_core.proofs.KeptLaws.{settled-rest}
 use Rattle.base_core.proofs.Lists.{get_some, get-set_same, get-set_other}

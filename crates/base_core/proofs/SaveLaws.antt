@@ -1,5 +1,5 @@
 -- What saving writes means the base, and opens again as it.
-use Rattle.std.proofs.Common.{◌≡◌, ◌<◌, ◌≤◌, ◌+◌, ◌*◌, ℕ, Bool, true, false, ◌&&◌, if◌then◌else◌, IsTrue, List, ◌++◌, length, take, drop, slice_get, Option, Some, None, IfSome, Result, Ok, Err, OnErr, nat_lt, refl, sym, ap, ◌∙◌, subst, arith}
+use Rattle.std.proofs.Common.{◌≡◌, ◌<◌, ◌≤◌, ◌+◌, ◌*◌, ℕ, Bool, true, false, if◌then◌else◌, List, ◌++◌, length, take, drop, slice_get, Option, Some, None, IfSome, Result, Ok, Err, OnErr, nat_lt, refl, sym, ap, ◌∙◌, subst, arith}
 use Rattle.std.proofs.lemmas.Bool.{lt-leb, ltb-false, ne_eqb}
 use Rattle.std.proofs.lemmas.List.{append_assoc, drop_at, length-append, length-drop, length-take-le, take-append-drop}
 use Rattle.std.proofs.lemmas.Option.{slice_get_within}
@@ -7,7 +7,7 @@ use Rattle.std.proofs.Math.Seq.{drop-append-add}
 use Rattle.base_files.specs.Seen.{Seen, replaced, told_instead}
 use Rattle.base_files.specs.Told.{TellsLength}
 use Rattle.base_files.specs.declared.part.Part.TheVariants as part
-use Rattle.index_entry.specs.Entry.{IsWritten, entry_read}
+use Rattle.index_entry.specs.Entry.{entry_read}
 use Rattle.index_entry.specs.Index.{entry_bytes, head_in, index_bytes, index_read, number_in}
 use Rattle.index_entry.specs.declared.entry.Entry.{Entry}
 use Rattle.index_entry.specs.declared.fault.IndexFault.TheVariants.{Short, Magic, Version, Games, Length}
@@ -19,11 +19,11 @@ use Rattle.name_base.proofs.AgainLemmas.{text_again}
 use Rattle.name_base.proofs.FileLemmas.{names_again}
 use Rattle.base_core.specs.declared.fault.BaseFault.{BaseFault}
 use Rattle.base_core.specs.Base.{Base, Held}
-use Rattle.base_core.specs.Entries.{HasNames, Says, sig_in}
+use Rattle.base_core.specs.Entries.{HasNames, sig_in}
 use Rattle.base_core.specs.FirstFault.{FirstFault, Passes, entry_checked, id_fault, place_fault}
 use Rattle.base_core.specs.Means.{AreGames, Carries, HoldsNames, Means}
-use Rattle.base_core.specs.Opening.{IfTold, Opens, are_empty, is_created}
-use Rattle.base_core.specs.Packing.{AreWritten, packed_at}
+use Rattle.base_core.specs.Opening.{is_created}
+use Rattle.base_core.specs.Packing.{packed_at}
 use Rattle.base_core.specs.Represents.{IsKept, IsSound, Keeps, Kept, Represents}
 use Rattle.base_core.specs.Saved.{IsIndexOf, MeansIt, OpensAgain, StillCarries, Writes}
 use Rattle.base_core.specs.Uses.{frequencies_of, player_uses, uses_of}

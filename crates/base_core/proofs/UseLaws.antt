@@ -1,13 +1,12 @@
 -- How often names are used, counted game by game.
-use Rattle.std.proofs.Common.{◌≡◌, ◌<◌, ◌+◌, ◌^◌, ℕ, cond, min, nat_eq, List, [], ◌∷◌, ◌++◌, length, map, get_or, slice_index, slice_set, replicate, refl, sym, ap, ◌∙◌, subst, inl, inr, arith}
-use Rattle.std.specs.List.{range_with_len}
+use Rattle.std.proofs.Common.{◌≡◌, ◌<◌, ◌+◌, ◌^◌, ℕ, cond, min, nat_eq, List, [], ◌∷◌, ◌++◌, length, get_or, slice_index, slice_set, replicate, refl, sym, ap, ◌∙◌, subst, inl, inr, arith}
 use Rattle.std.proofs.lemmas.Bool.{cases_eq, eq-eqb, ne_eqb}
 use Rattle.std.proofs.lemmas.List.{ext_get_or, get_or-replicate, get_or-set_same, get_or-set_other, length-replicate, length-set}
 use Rattle.std.proofs.lemmas.List.Elements.{All-from_get_or}
 use Rattle.std.proofs.lemmas.List.FromFn.{get_or-map-range_with_len, length-map-range_with_len}
 use Rattle.index_entry.specs.declared.entry.Entry.{Entry}
 use Rattle.name_base.specs.NameLists.{NameLists}
-use Rattle.name_base.specs.NamesText.{AreFrequencies, Frequencies}
+use Rattle.name_base.specs.NamesText.{AreFrequencies}
 use Rattle.base_core.specs.Counting.{HasUses, one_more, with_uses}
 use Rattle.base_core.specs.Entries.{HasNames}
 use Rattle.base_core.specs.Uses.{counted, frequencies_of, greatest_frequency, player_uses, uses_of}

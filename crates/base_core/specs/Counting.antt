@@ -1,5 +1,5 @@
 -- Counting the uses of names, as the functions of this crate go through it.
-use Rattle.std.specs.Prelude.{◌≡◌, ◌<◌, ◌+◌, ℕ, min, List, length, slice_index, slice_set}
+use Rattle.std.specs.Prelude.{◌<◌, ◌+◌, ℕ, min, List, length, slice_index, slice_set}
 use Rattle.index_entry.specs.declared.entry.Entry.{Entry}
 use Rattle.name_base.specs.NamesText.{Frequencies}
 use Rattle.base_core.specs.Uses.{greatest_frequency}

@@ -1,4 +1,4 @@
-use Rattle.std.proofs.Common.{◌≡◌, ◌+◌, ◌++◌, ◌∷◌, [], List, take, sym, ap, ◌∙◌, subst}
+use Rattle.std.proofs.Common.{List, take, sym, ap, ◌∙◌, subst}
 use Rattle.index_entry.specs.declared.entry.Entry.{Entry}
 use Rattle.name_base.specs.NamesText.{Frequencies}
 use Rattle.base_core.specs.Counting.{HasUses, with_uses}

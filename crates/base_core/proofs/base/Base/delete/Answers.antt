@@ -1,4 +1,4 @@
-use Rattle.std.proofs.Common.{◌≡◌, true, sym, subst}
+use Rattle.std.proofs.Common.{true, sym, subst}
 use Rattle.base_core.specs.Edited.{ChangedHeads, Does}
 use Rattle.base_core.specs.Edits.{deleted}
 use Rattle.base_core.specs.Represents.{Kept}

@@ -1,7 +1,7 @@
 use Rattle.std.proofs.Common.{◌≡◌, true, List, Some, slice_get, sym, ap, ◌∙◌, subst}
 use Rattle.index_entry.specs.declared.entry.Entry.{Entry}
 use Rattle.base_core.specs.Represents.{IsSound, Kept}
-use Rattle.base_core.proofs.MarkLaws.{marked-sound, marked_entry}
+use Rattle.base_core.proofs.MarkLaws.{marked-sound}
 use Rattle.base_core.proofs.base.Base.put_marks.Goals as goal
 
 pub invariant_of-self : goal.invariant_of-self

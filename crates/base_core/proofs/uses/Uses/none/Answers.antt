@@ -1,4 +1,4 @@
-use Rattle.std.proofs.Common.{◌≡◌, ℕ, replicate, ap, ◌∙◌}
+use Rattle.std.proofs.Common.{ℕ, replicate, ap, ◌∙◌}
 use Rattle.base_core.proofs.UseLaws.{no-uses}
 use Rattle.base_core.proofs.uses.Uses.none.Goals as goal
 
