@@ -11,3 +11,7 @@ pub mod OneBase
 pub mod GamesLaws
 pub mod GameLaws
 pub mod OpenLaws
+pub mod MarkLaws
+pub mod UseLaws
+pub mod SaveLaws
+pub mod GrowLaws

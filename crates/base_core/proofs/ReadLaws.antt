@@ -34,7 +34,7 @@ use Rattle.base_core.specs.Opening.{IfBad, records_len}
 use Rattle.base_core.specs.declared.fault.OpenError.{OpenError}
 use Rattle.base_core.specs.declared.fault.OpenError.TheVariants as opening
 use Rattle.base_core.specs.declared.reading.GameRead.{GameRead}
-use Rattle.base_core.proofs.CheckLaws.{checked, has_names}
+use Rattle.base_core.proofs.CheckLaws.{checked, ends_within, has_names}
 use Rattle.base_core.proofs.KeptLaws.{is-kept, settled_kept}
 use Rattle.base_core.proofs.Lists.{get_some, get_push_old, get_push_new, count_push}
 
@@ -44,22 +44,23 @@ none_by None e = refl
 none_by (Some x) e = absurd (true≢false e)
 
 -- The entry that is kept keeps the game that its record says.
-keeps : (names : NameLists) (games : List ℕ) (e : Entry) (s : Sig) (date : Date) → IsTrue (keeps_rule e.event_date e.date) → IsSigned (record_in games (extent_of e)) e s date → (held : Held) × (Says names games e held × (IsSig held.game s × Keeps names games (kept_entry e s date) held))
+keeps : (names : NameLists) (games : List ℕ) (e : Entry) (s : Sig) (date : Date) → e.offset + e.len ≤ length games → IsTrue (keeps_rule e.event_date e.date) → IsSigned (record_in games (extent_of e)) e s date → (held : Held) × (Says names games e held × (IsSig held.game s × Keeps names games (kept_entry e s date) held))
 unfolding kept_entry
-keeps names games e s date rule signed =
+keeps names games e s date within rule signed =
     let held : Held = record { head = settled (head_of names e signed.tags); game = signed.tree; len = e.len } in
-    let says : Says names games e held = record { tags = signed.tags; read = signed.read; head = refl; len = refl } in
+    let says : Says names games e held = record { tags = signed.tags; within = within; read = signed.read; head = refl; len = refl } in
     let kept : Says names games (kept_entry e s date) held =
-    record { tags = signed.tags; read = signed.read; head = sym (settled_kept names e s date signed.tags rule (signed.dated names)); len = refl } in
+    record { tags = signed.tags; within = within; read = signed.read; head = sym (settled_kept names e s date signed.tags rule (signed.dated names)); len = refl } in
     (held, (says, (signed.signed, record { says = kept; event_date = signed.dated names; signed = signed.signed })))
 
 -- A game that was taken, by the bytes of its record.
 taken_so : (strict : Bool) (names : NameLists) (games : List ℕ) (game : ℕ) (bytes : List ℕ) (e kept : Entry) (mended : Bool) → IsTrue (keeps_rule e.event_date e.date) →
     entry_checked names (length games) game bytes ≡ Ok e → IsTaken strict (record_in games (extent_of e)) e kept mended → IsReadSo strict names games game bytes kept mended
-taken_so strict names games game bytes e kept mended rule checked taken =
+taken_so strict names games game bytes e kept mended rule passed taken =
     let s = taken.sig in
     let signed = taken.signed in
-    let k = keeps names games e s taken.date rule signed in
+    let within : e.offset + e.len ≤ length games = ends_within (length games) e (checked names (length games) game bytes e passed).placed in
+    let k = keeps names games e s taken.date within rule signed in
     let K : Entry → Type 0 = λ x. Keeps names games x k.0 in
     record {
       held = k.0;
@@ -67,7 +68,7 @@ taken_so strict names games game bytes e kept mended rule checked taken =
       read = record {
         fields = e;
         sig = s;
-        signs = record { checked = checked; tags = signed.tags; tree = signed.tree; read = signed.read; signed = signed.signed };
+        signs = record { checked = passed; tags = signed.tags; tree = signed.tree; read = signed.read; signed = signed.signed };
         says = k.1.0;
         signed = k.1.1.0;
         keeps = subst K (sym taken.keeps) k.1.1.1;

@@ -1,6 +1,6 @@
 -- What an entry of the index says of its game, with the names and the record that it points to (Scid's format si4; the rule of event
 -- dates this project's own).
-use Rattle.std.specs.Prelude.{◌≡◌, ◌<◌, ℕ, List, [], length, slice_get, unwrap_or}
+use Rattle.std.specs.Prelude.{◌≡◌, ◌<◌, ◌≤◌, ◌+◌, ℕ, List, [], length, slice_get, unwrap_or}
 use Rattle.base_files.specs.Extents.{record_in}
 use Rattle.base_files.specs.declared.extent.Extent.{Extent}
 use Rattle.game_tree.specs.Settle.{settled}
@@ -47,10 +47,11 @@ head_of names e given = record {
   tags = given;
 }
 
--- The entry says this game: its record is one of the game and of some extra tags, the head is that of the entry and of these tags, settled,
--- and the length is that of the record.
+-- The entry says this game: its record lies within the games file and is one of the game and of some extra tags, the head is that of the
+-- entry and of these tags, settled, and the length is that of the record.
 pub record Says (names : NameLists) (games : List ℕ) (e : Entry) (held : Held) : Type 0 where
   pub tags : List Tag
+  pub within : e.offset + e.len ≤ length games
   pub read : IsRecord (record_in games (extent_of e)) tags held.game
   pub head : held.head ≡ settled (head_of names e tags)
   pub len : held.len ≡ e.len

@@ -12,6 +12,8 @@ use Rattle.base_core.specs.declared.fault.EditError.{EditError}
 use Rattle.base_core.specs.declared.fault.EditError.TheVariants as edit
 use Rattle.base_core.specs.declared.fault.OpenError.{OpenError}
 use Rattle.base_core.specs.declared.fault.OpenError.TheVariants as opening
+use Rattle.base_core.specs.declared.fault.SaveError.{SaveError}
+use Rattle.base_core.specs.declared.fault.SaveError.TheVariants as saving
 
 -- Why a base is not opened where its files do not answer.
 abbrev pub open_error : DeviceError → OpenError
@@ -32,3 +34,8 @@ packed_error game decode.Memory = opening.Memory
 abbrev pub unread_error : ℕ → Sig → DecodeError → EditError
 unread_error game kept (decode.Bad fault) = edit.Changed game kept None
 unread_error game kept decode.Memory = edit.Memory
+
+-- Why a base is not saved where its files do not answer.
+abbrev pub save_error : DeviceError → SaveError
+save_error device.Failed = saving.Failed
+save_error device.Memory = saving.Memory

@@ -8,3 +8,8 @@ pub mod Errors
 pub mod Packing
 pub mod Reading
 pub mod GameAt
+pub mod Edits
+pub mod Edited
+pub mod Uses
+pub mod Counting
+pub mod Saved

@@ -5,7 +5,7 @@ use Rattle.game_tree.specs.declared.head.Head.{Head}
 use Rattle.index_entry.specs.declared.entry.Entry.{Entry}
 use Rattle.index_entry.specs.declared.index.IndexHead.{IndexHead}
 use Rattle.index_entry.specs.Entry.{IsEntry, entry_in}
-use Rattle.index_entry.specs.Index.{entry_bytes}
+use Rattle.index_entry.specs.Index.{IsIndexHead, entry_bytes}
 use Rattle.name_base.specs.NameLists.{NameLists, AreSound}
 use Rattle.sig_index.specs.Signature.{IsSig}
 use Rattle.sig_index.specs.declared.signature.Sig.{Sig}
@@ -47,6 +47,7 @@ pub record IsKept (names : NameLists) (end : ℕ) (e : Entry) : Type 0 where
 
 -- What every open base keeps.
 pub record IsSound (kept : Kept) : Type 0 where
+  pub header : IsIndexHead kept.header
   pub count : length kept.entries ≡ kept.header.games
   pub names : AreSound kept.names
   pub entries : All (IsKept kept.names kept.end) kept.entries

@@ -1,7 +1,7 @@
 //! The entries of the games of an open base.
-ghost use Rattle.std.specs.Prelude.{◌≡◌, ◌≤◌, ◌<◌, ◌+◌, ◌-◌, ◌*◌, ◌^◌, ◌++◌, [], ◌∷◌, Some, length, slice_get, OnOk, OnErr};
+ghost use Rattle.std.specs.Prelude.{◌≡◌, ◌≤◌, ◌<◌, ◌+◌, ◌-◌, ◌*◌, ◌^◌, ◌++◌, [], ◌∷◌, Some, length, slice_get, OnOk, OnErr, slice_set, take, drop};
 ghost use Rattle.index_entry.specs.Entry.{IsEntry};
-ghost use Rattle.base_core.specs.Packing.{packed_at};
+ghost use Rattle.base_core.specs.Packing.{AreWritten, packed_at};
 
 use index_entry::{ENTRY_LEN, Entry, pack, unpack};
 use std::alloc::{AllocError, Global};
@@ -55,6 +55,22 @@ impl Entries {
         }
     }
 
+    /// The written forms of the entries, one after the other.
+    pub(crate) fn as_bytes(&self) -> &[u8]
+        ensures written { AreWritten result.now self.now }
+    {
+        self.bytes.as_slice()
+    }
+
+    /// Puts another entry into a place.
+    pub(crate) fn set(&mut self, i: u32, entry: &Entry)
+        requires there { i < length self.old }
+        requires fields { IsEntry entry.now }
+        ensures set { self.new ≡ slice_set self.old i entry.now }
+    {
+        put_packed(self.bytes.as_mut_slice(), i, &pack(entry));
+    }
+
     /// Adds an entry at the end. After want of memory the list is as it was.
     pub(crate) fn push(&mut self, entry: &Entry) -> Result<(), AllocError>
         requires room { length self.old < 2 ^ 32 - 1 }
@@ -66,6 +82,15 @@ impl Entries {
         self.count += 1;
         Ok(())
     }
+}
+
+// Puts the 47 bytes of an entry into its place.
+fn put_packed(bytes: &mut [u8], i: u32, packed: &[u8; ENTRY_LEN])
+    requires there { 47 * i + 47 ≤ length bytes.old }
+    ensures put { bytes.new ≡ take (47 * i) bytes.old ++ (packed.now ++ drop (47 * i + 47) bytes.old) }
+{
+    let at = ENTRY_LEN * i as usize;
+    bytes[at..at + ENTRY_LEN].copy_from_slice(packed);
 }
 
 // The 47 bytes of an entry.

@@ -1,8 +1,9 @@
 //! Why a base is not opened.
 ghost use Rattle.std.specs.Prelude.{◌≡◌};
-ghost use Rattle.base_core.specs.Errors.{names_error, open_error, packed_error, unread_error};
+ghost use Rattle.base_core.specs.Errors.{names_error, open_error, packed_error, save_error, unread_error};
 ghost use Rattle.base_core.specs.declared.fault.OpenError.TheVariants as opening;
 ghost use Rattle.base_core.specs.declared.fault.EditError.TheVariants as edit;
+ghost use Rattle.base_core.specs.declared.fault.SaveError.TheVariants as saving;
 
 use base_files::DeviceError;
 use game_codec::{DecodeError, RecordFault};
@@ -102,6 +103,13 @@ pub enum OpenError {
     Memory,
 }
 
+/// The base has no game of this number.
+#[derive(Clone, Copy, Debug, Drop, PartialEq, Eq, Error)]
+#[error("no game {game}")]
+pub struct NoGame {
+    pub game: u32,
+}
+
 /// Why a base does not give a game.
 #[derive(Clone, Copy, Debug, Drop, PartialEq, Eq, Error)]
 pub enum EditError {
@@ -121,6 +129,36 @@ pub enum EditError {
     /// Memory ran out.
     #[error("out of memory")]
     Memory,
+}
+
+/// Why a base is not saved.
+#[derive(Clone, Copy, Debug, Drop, PartialEq, Eq, Error)]
+pub enum SaveError {
+    /// The files failed.
+    #[error("cannot write the files of the base")]
+    Failed,
+    /// Memory ran out.
+    #[error("out of memory")]
+    Memory,
+}
+
+impl From<AllocError> for SaveError {
+    ghost from_gives = { λ _ e. e ≡ saving.Memory };
+
+    fn from(_refused: AllocError) -> SaveError {
+        SaveError::Memory
+    }
+}
+
+impl From<DeviceError> for SaveError {
+    ghost from_gives = { λ error e. e ≡ save_error error };
+
+    fn from(error: DeviceError) -> SaveError {
+        match error {
+            DeviceError::Failed => SaveError::Failed,
+            DeviceError::Memory => SaveError::Memory,
+        }
+    }
 }
 
 impl From<AllocError> for EditError {

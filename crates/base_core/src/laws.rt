@@ -1,10 +1,10 @@
 //! Three files mean one base and have one first fault, and an open base stands for one base.
-ghost use Rattle.std.specs.Prelude.{◌≡◌, Bool, false, List, map, ℕ};
+ghost use Rattle.std.specs.Prelude.{◌≡◌, ◌++◌, Bool, false, List, map, ℕ};
 ghost use Rattle.game_tree.specs.Head.{without_tags};
 ghost use Rattle.sig_index.specs.Games.{Holds};
 ghost use Rattle.base_core.specs.Base.{Base as PlainBase};
 ghost use Rattle.base_core.specs.FirstFault.{FirstFault};
-ghost use Rattle.base_core.specs.Means.{Means};
+ghost use Rattle.base_core.specs.Means.{Carries, Means};
 ghost use Rattle.base_core.specs.Opening.{Opens, is_created};
 ghost use Rattle.base_core.specs.Represents.{Kept, Represents, extents_of, heads_of, sigs_of};
 ghost use Rattle.base_core.specs.declared.fault.BaseFault.{BaseFault as Fault};
@@ -30,4 +30,10 @@ pub fn searches_see_the_games()
         → Holds games (extents_of kept) (sigs_of kept) (map (λ held. held.game) base.games) }
     ensures heads { (kept : Kept) (games : List ℕ) (base : PlainBase) → Represents kept games base
         → heads_of kept ≡ map (λ held. without_tags held.head) base.games }
+{}
+
+/// A law: the files carry the base that they mean, and they carry what they carried as bytes are added behind the games file.
+pub fn carried_bases_stay()
+    ensures meant { (index names games : List ℕ) (base : PlainBase) → Means index names games base → Carries index names games base }
+    ensures longer { (index names games more : List ℕ) (base : PlainBase) → Carries index names games base → Carries index names (games ++ more) base }
 {}

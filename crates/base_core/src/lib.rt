@@ -8,12 +8,19 @@ mod fault;
 mod game;
 mod games;
 mod laws;
+mod marking;
 mod opening;
 mod reading;
+mod saving;
+mod uses;
 
 pub use base::Base;
-pub use fault::{BaseFault, DerivedField, EditError, IdField, OpenError, PlaceWhat};
-pub use laws::{files_have_one_meaning, open_bases_have_one_meaning, searches_see_the_games};
+pub use fault::{
+    BaseFault, DerivedField, EditError, IdField, NoGame, OpenError, PlaceWhat, SaveError,
+};
+pub use laws::{
+    carried_bases_stay, files_have_one_meaning, open_bases_have_one_meaning, searches_see_the_games,
+};
 
 #[cfg(test)]
 mod tests;

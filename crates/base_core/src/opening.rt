@@ -8,7 +8,7 @@ ghost use Rattle.base_core.specs.FirstFault.{FirstFault, whole_read};
 ghost use Rattle.base_core.specs.Opening.{IfBad, IfTold, Opens, Refuses, are_empty, is_created, open_cost};
 ghost use Rattle.sig_index.specs.Games.{AreWithin};
 ghost use Rattle.base_core.specs.Represents.{IsSound, extents_of};
-ghost use Rattle.index_entry.specs.Index.{head_in, index_read};
+ghost use Rattle.index_entry.specs.Index.{IsIndexHead, head_in, index_read};
 ghost use Rattle.name_base.specs.NamesFile.{NameFile};
 
 use crate::base::Base;
@@ -150,6 +150,7 @@ fn read_whole(alloc: Global, loaded: &Loaded) -> Result<(IndexHead, Names), Open
     ensures names { IfOk result (λ whole. NameFile loaded.now.names.items whole.1) }
     ensures entries { IfOk result (λ whole. 182 + 47 * whole.0.games ≤ length loaded.now.index.items) }
     ensures head { IfOk result (λ whole. whole.0 ≡ head_in loaded.now.index.items) }
+    ensures sound { IfOk result (λ whole. IsIndexHead whole.0) }
     ensures fault { IfErr result (IfBad (λ fault. whole_read loaded.now.index.items loaded.now.names.items ≡ Err fault)) }
     ensures no_files { IfErr result (λ error. error ≡ OpenError.Failed → ⊥) }
 {

@@ -1,6 +1,6 @@
 //! A base of one game, whose bytes were worked out from the formats by hand: Reti's game against Tartakower, Vienna 1910.
 
-use crate::{Base, BaseFault, DerivedField, IdField, OpenError, PlaceWhat};
+use crate::{Base, BaseFault, DerivedField, IdField, OpenError, PlaceWhat, SaveError};
 use base_files::MemFiles;
 use game_codec::{RecordFault, RecordWhat};
 use game_tree::{Game, Head};
@@ -27,6 +27,11 @@ const NAMES: &[u8] =
 
 /// The base with another byte at a place of its entry.
 fn files(alloc: Global, place: usize, byte: u8) -> Result<MemFiles, Fail> {
+    files_with(alloc, place, byte, 99)
+}
+
+/// The same, where the call of this number fails.
+fn files_with(alloc: Global, place: usize, byte: u8, fails: u64) -> Result<MemFiles, Fail> {
     let mut entry = ENTRY;
     if let Some(at) = entry.get_mut(place) {
         *at = byte;
@@ -41,7 +46,8 @@ fn files(alloc: Global, place: usize, byte: u8) -> Result<MemFiles, Fail> {
     let index = write_index(alloc, &head, &entry)?;
     let names = Vec::from_slice(alloc, NAMES)?;
     let games = Vec::from_slice(alloc, &RECORD)?;
-    Ok(MemFiles::new(index, names, games, Vec::new(alloc)))
+    let fails = vec![in alloc; fails]?;
+    Ok(MemFiles::new(index, names, games, fails))
 }
 
 /// The base of these files, and how many of its entries are mended.
@@ -176,5 +182,34 @@ fn creates_a_base(rt: HostRuntime) -> Result<(), Fail> {
     );
     let (base, _mended) = open(alloc, &mut files, true, false)?;
     assert_eq!(rt; base.header().games, 0);
+    Ok(())
+}
+
+/// The base, marked as deleted and with its last mark, where the call of this number fails.
+fn marked(alloc: Global, fails: u64) -> Result<(Base, MemFiles), Fail> {
+    let mut files = files_with(alloc, 47, 0, fails)?;
+    let mut buf = vec![in alloc; 0u8; 131_072]?;
+    let (mut base, _mended) = Base::open_base(alloc, &mut files, false, true, buf.as_mut_slice())?;
+    base.delete(0)?;
+    base.mark(0, 17, true)?;
+    Ok((base, files))
+}
+
+#[test]
+fn saves_marks(rt: HostRuntime) -> Result<(), Fail> {
+    let (mut base, mut files) = marked(rt.alloc(), 9)?;
+    assert!(rt; base.unsaved());
+    base.save(rt.alloc(), &mut files)?;
+    assert!(rt; files.names() == NAMES);
+    assert!(rt; files.index().get(188) == Some(&0x20));
+    assert!(rt; files.index().get(190) == Some(&0x08));
+    Ok(())
+}
+
+#[test]
+fn fails_between_the_parts(rt: HostRuntime) -> Result<(), Fail> {
+    let (mut base, mut files) = marked(rt.alloc(), 5)?;
+    assert!(rt; base.save(rt.alloc(), &mut files) == Err(SaveError::Failed));
+    assert!(rt; files.index().get(190) == Some(&0));
     Ok(())
 }

@@ -12,7 +12,7 @@ overflow_add-self c =
 pub invariant_of-self-2 : goal.invariant_of-self-2
 invariant_of-self-2 c =
     let P : List ℕ → Type 0 = λ b. ArePacked b (c.self.inside.count + 1) in
-    subst P (sym c.in_ok-extend_from_slice.ensures.items) (packed-push c.self.inside.bytes.items c.pack.result c.self.inside.count c.args.entry.now c.self.invariant c.pack.ensures.written.size c.pack.ensures.read_again)
+    subst P (sym c.in_ok-extend_from_slice.ensures.items) (packed-push c.self.inside.bytes.items c.pack.result c.self.inside.count c.args.entry.now c.self.invariant c.pack.ensures.written)
 
 pub returns-clause-pushed : goal.returns-clause-pushed
 returns-clause-pushed c =

@@ -1,0 +1,105 @@
+//! The marks of the games of an open base.
+ghost use Rattle.std.specs.Prelude.{◌≡◌, ◌<◌, ◌≤◌, ◌^◌, ◌↔◌, Some, true, length, slice_get, slice_set, IfOk, IfErr, OnOk, OnErr, IsErr};
+ghost use Rattle.base_core.specs.Edited.{ChangedHeads, Does};
+ghost use Rattle.base_core.specs.Edits.{deleted, marked, undeleted, with_mark};
+ghost use Rattle.base_core.specs.Represents.{IsKept};
+
+use crate::base::Base;
+use crate::fault::NoGame;
+use index_entry::Entry;
+
+impl Base {
+    /// Marks game `i` as deleted.
+    ///
+    /// # Errors
+    ///
+    /// `NoGame` exactly where there is no game of this number.
+    pub fn delete(&mut self, i: u32) -> Result<(), NoGame>
+        ensures deleted { OnOk result (Does (deleted i) self.old self.new) }
+        ensures heads { OnOk result (ChangedHeads self.old self.new) }
+        ensures no_game { IsErr result ↔ (length self.old.entries ≤ i) }
+        ensures which { IfErr result (λ error. error.game ≡ i) }
+        ensures unchanged { OnErr result (self.new ≡ self.old) }
+    {
+        let entry = self.entry_there(i)?;
+        self.put_marks(i, &entry, true, entry.marks);
+        Ok(())
+    }
+
+    /// Takes the mark of a deleted game from game `i`.
+    ///
+    /// # Errors
+    ///
+    /// `NoGame` exactly where there is no game of this number.
+    pub fn undelete(&mut self, i: u32) -> Result<(), NoGame>
+        ensures undeleted { OnOk result (Does (undeleted i) self.old self.new) }
+        ensures heads { OnOk result (ChangedHeads self.old self.new) }
+        ensures no_game { IsErr result ↔ (length self.old.entries ≤ i) }
+        ensures which { IfErr result (λ error. error.game ≡ i) }
+        ensures unchanged { OnErr result (self.new ≡ self.old) }
+    {
+        let entry = self.entry_there(i)?;
+        self.put_marks(i, &entry, false, entry.marks);
+        Ok(())
+    }
+
+    /// Sets a mark of game `i`, or takes it away: a user mark by the bits 0 to 11, a custom mark by the bits 12 to 17.
+    ///
+    /// # Errors
+    ///
+    /// `NoGame` exactly where there is no game of this number.
+    pub fn mark(&mut self, i: u32, bit: u8, on: bool) -> Result<(), NoGame>
+        requires mark { bit < 18 }
+        ensures marked { OnOk result (Does (marked i bit on) self.old self.new) }
+        ensures heads { OnOk result (ChangedHeads self.old self.new) }
+        ensures no_game { IsErr result ↔ (length self.old.entries ≤ i) }
+        ensures which { IfErr result (λ error. error.game ≡ i) }
+        ensures unchanged { OnErr result (self.new ≡ self.old) }
+    {
+        let entry = self.entry_there(i)?;
+        self.put_marks(i, &entry, entry.deleted, with_mark(entry.marks, bit, on));
+        Ok(())
+    }
+
+    // What is kept of game `i`, where there is one.
+    pub(crate) fn entry_there(&self, i: u32) -> Result<Entry, NoGame>
+        ensures at { IfOk result (λ entry. slice_get self.now.entries i ≡ Some entry) }
+        ensures kept { IfOk result (IsKept self.now.names self.now.end) }
+        ensures there { OnOk result (i < length self.now.entries) }
+        ensures no_game { IfErr result (λ error. (error.game ≡ i) × (length self.now.entries ≤ i)) }
+    {
+        if self.entries.len() <= i {
+            return Err(NoGame { game: i });
+        }
+        Ok(self.entry(i))
+    }
+
+    // Puts these marks into the entry of game `i`.
+    fn put_marks(&mut self, i: u32, entry: &Entry, deleted: bool, marks: u32)
+        requires at { slice_get self.old.entries i ≡ Some entry.now }
+        requires few { marks < 2 ^ 18 }
+        ensures put { self.new ≡ record self.old { entries = slice_set self.old.entries i (record entry.now { deleted = deleted; marks = marks }); unsaved = true } }
+    {
+        let marked = Entry {
+            deleted,
+            marks,
+            ..*entry
+        };
+        self.entries.set(i, &marked);
+        self.unsaved = true;
+    }
+}
+
+// The marks with this one on or off.
+#[tactic(auto, unfolding(crate::specs::Edits::with_mark))]
+fn with_mark(marks: u32, bit: u8, on: bool) -> u32
+    requires few { marks < 2 ^ 18 }
+    requires mark { bit < 18 }
+    ensures marks { result ≡ with_mark marks bit on }
+    ensures few { result < 2 ^ 18 }
+{
+    let one = 1u32 << bit;
+    let above = marks / (one * 2) * (one * 2);
+    let this = if on { one } else { 0 };
+    above + this + marks % one
+}
