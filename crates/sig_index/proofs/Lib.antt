@@ -5,3 +5,5 @@ pub mod HeldLemmas
 pub mod LeftLemmas
 pub mod HomeLemmas
 pub mod StepLemmas
+pub mod Paying
+pub mod SkippingLemmas

@@ -4,3 +4,4 @@ pub mod Leaving
 pub mod Games
 pub mod MemGames
 pub mod Left
+pub mod Skipping

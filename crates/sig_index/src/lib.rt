@@ -8,6 +8,7 @@ mod mat_query;
 mod mem_games;
 mod pos_query;
 mod signature;
+mod skipping;
 mod span;
 
 pub use games::{FetchError, Games};
@@ -17,6 +18,7 @@ pub use mat_query::{MatQuery, MatRange};
 pub use mem_games::MemGames;
 pub use pos_query::{Mode, PosQuery};
 pub use signature::{HomeList, Sig, sig_of};
+pub use skipping::{can_stand, material_skipping_is_sound};
 pub use span::Span;
 
 #[cfg(test)]

@@ -1,0 +1,61 @@
+//! Which games a search of counts of men can leave unread.
+ghost use Rattle.std.specs.Prelude.{◌≡◌, ◌≤◌, ℕ, true};
+ghost use Rattle.chess_laws.specs.Counts.{counts_of};
+ghost use Rattle.chess_laws.specs.Position.{Sound};
+ghost use Rattle.game_tree.specs.Game.{GameTree};
+ghost use Rattle.game_tree.specs.Legal.{IsLegalGame};
+ghost use Rattle.game_tree.specs.Replay.{plies_of, position_at};
+ghost use Rattle.sig_index.specs.Signature.{IsSig};
+ghost use Rattle.sig_index.specs.declared.mat_query.MatRange.{MatRange as Range};
+ghost use Rattle.sig_index.specs.declared.signature.Sig.{Sig as Signature};
+ghost use Rattle.sig_index.specs.Skipping.{AreAtMost, can_stand, colour_can_stand, lesser_rises, rise};
+
+use crate::mat_query::MatRange;
+use crate::signature::Sig;
+
+/// Whether the counts of a game with this signature can have been at most those of the range at some ply. Where it answers false no
+/// ply of the main line has counts in the range, and the game need not be read.
+pub fn can_stand(s: &Sig, r: &MatRange) -> bool
+    ensures stands { result ≡ can_stand s.now r.now }
+{
+    colour_can_stand(s, r, 0) && colour_can_stand(s, r, 5)
+}
+
+/// A law: the counts of a legal game are at most those of a range at no ply where `can_stand` is false for it.
+pub fn material_skipping_is_sound()
+    ensures sound { (game : GameTree) (sig : Signature) (range : Range) (k : ℕ) → Sound game.start → IsLegalGame game → IsSig game sig → k ≤ plies_of game
+        → AreAtMost (counts_of (position_at game k).board) range → can_stand sig range ≡ true }
+{}
+
+// Whether one colour's counts can have been at most those of the range; its queens stand at this place among the ten.
+fn colour_can_stand(s: &Sig, r: &MatRange, queens: usize) -> bool
+    requires { queens ≤ 5 }
+    ensures { result ≡ colour_can_stand s.now r.now queens }
+{
+    let pawns = s.material[queens + 4];
+    let allowed = r.hi[queens + 4];
+    let lesser = lesser_rises(s, r, queens);
+    let all = rise(s, r, queens) + lesser;
+    pawns <= allowed
+        && all <= u32::from(allowed.saturating_sub(pawns))
+        && (s.promo || all == 0)
+        && (s.under || lesser == 0)
+}
+
+// The rises of one colour's rooks, bishops and knights.
+fn lesser_rises(s: &Sig, r: &MatRange, queens: usize) -> u32
+    requires { queens ≤ 5 }
+    ensures rises { result ≡ lesser_rises s.now r.now queens }
+    ensures few { result ≤ 765 }
+{
+    rise(s, r, queens + 1) + rise(s, r, queens + 2) + rise(s, r, queens + 3)
+}
+
+// How far the last count of a kind is above the greatest that the range allows.
+fn rise(s: &Sig, r: &MatRange, place: usize) -> u32
+    requires { place ≤ 9 }
+    ensures rise { result ≡ rise s.now r.now place }
+    ensures few { result ≤ 255 }
+{
+    u32::from(s.material[place].saturating_sub(r.hi[place]))
+}
