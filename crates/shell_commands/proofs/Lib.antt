@@ -9,3 +9,4 @@ pub mod Informing
 pub mod FindingLaws
 pub mod HoldingLaws
 pub mod FirstPlyIs
+pub mod HeadLaws

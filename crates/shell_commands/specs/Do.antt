@@ -9,7 +9,7 @@ use Rattle.command_runs.specs.Plain.{Plain}
 use Rattle.shell_commands.specs.FirstPly.{sought}
 use Rattle.shell_commands.specs.Lines.{filter_line, hits_text, fault_line}
 use Rattle.shell_commands.specs.State.{State}
-use Rattle.shell_commands.specs.Searching.{find_after, find_text}
+use Rattle.shell_commands.specs.Searching.{find_after, find_text, search_header_after, search_header_text}
 use Rattle.shell_commands.specs.Filters.{reset_after, clear_after, negate_after, restrict_after, keep_after, keep_text, join_after, join_text, drop_after, drop_text}
 use Rattle.shell_commands.specs.SavedFilters.{taken}
 use Rattle.shell_commands.specs.Showing.{info_text, quit_text}
@@ -21,6 +21,7 @@ Order = Result Command ScriptFault
 -- The state after a command. A command that is not there yet does nothing.
 abbrev pub done_by : State → Command → State
 done_by s (Find board side) = find_after s (sought board side)
+done_by s (SearchHeader op query) = search_header_after s op query
 done_by s Reset = reset_after s
 done_by s Clear = clear_after s
 done_by s Negate = negate_after s
@@ -38,7 +39,7 @@ said_by s Nothing = []
 said_by s (Find board side) = find_text s (sought board side)
 said_by s (SearchPosition op query) = fault_line (Argument 2)
 said_by s (SearchMaterial op query) = fault_line (Argument 2)
-said_by s (SearchHeader op query) = fault_line (Argument 2)
+said_by s (SearchHeader op query) = search_header_text s op query
 said_by s Reset = filter_line (reset_after s).filter
 said_by s Clear = filter_line (clear_after s).filter
 said_by s Negate = filter_line (negate_after s).filter

@@ -5,6 +5,7 @@ mod filters;
 mod find;
 mod finding;
 mod halt;
+mod heads;
 mod hits;
 mod laws;
 mod lines;

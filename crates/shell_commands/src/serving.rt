@@ -13,6 +13,7 @@ ghost use Rattle.shell_commands.specs.Turns.{IsTurn};
 use crate::filters::{and, clear, drop_filter, keep_filter, negate, or, reset, restrict, take};
 use crate::finding::find;
 use crate::halt::Halt;
+use crate::heads::search_header;
 use crate::hits::hits;
 use crate::lines::{fault_line, unknown};
 use crate::machine::Machine;
@@ -108,7 +109,9 @@ fn take_turn<'a>(
             alloc,
             ScriptFault::Argument(2),
         )?)),
-        Command::SearchHeader(_, _) => Ok(Turn::Line(fault_line(alloc, ScriptFault::Argument(2))?)),
+        Command::SearchHeader(op, query) => {
+            Ok(Turn::Line(search_header(alloc, machine, *op, query)?))
+        }
         Command::List => Ok(Turn::Line(unknown(alloc)?)),
         Command::Show(_) => Ok(Turn::Line(unknown(alloc)?)),
         Command::Export => Ok(Turn::Line(unknown(alloc)?)),
