@@ -10,3 +10,6 @@ pub mod FindingLaws
 pub mod HoldingLaws
 pub mod FirstPlyIs
 pub mod HeadLaws
+pub mod TextLaws
+pub mod ListingLaws
+pub mod GameTextLaws

@@ -2,7 +2,7 @@
 use Rattle.std.specs.Prelude.{ℕ, Bool, true, false, List, [], Result, Ok, Err}
 use Rattle.game_filter.specs.Filter.{intersection, union}
 use Rattle.script_text.specs.declared.command.Command.{Command}
-use Rattle.script_text.specs.declared.command.Command.TheVariants.{Nothing, Find, SearchPosition, SearchMaterial, SearchHeader, Reset, Clear, Negate, Restrict, Keep, Take, And, Or, Drop, Hits, Info, Quit}
+use Rattle.script_text.specs.declared.command.Command.TheVariants.{Nothing, Find, SearchPosition, SearchMaterial, SearchHeader, Reset, Clear, Negate, Restrict, Keep, Take, And, Or, Drop, Hits, List as Listing, Show, Export, Info, Quit}
 use Rattle.script_text.specs.declared.fault.ScriptFault.{ScriptFault}
 use Rattle.script_text.specs.declared.fault.ScriptFault.TheVariants.{Unknown, Argument}
 use Rattle.command_runs.specs.Plain.{Plain}
@@ -12,6 +12,8 @@ use Rattle.shell_commands.specs.State.{State}
 use Rattle.shell_commands.specs.Searching.{find_after, find_text, search_header_after, search_header_text}
 use Rattle.shell_commands.specs.Filters.{reset_after, clear_after, negate_after, restrict_after, keep_after, keep_text, join_after, join_text, drop_after, drop_text}
 use Rattle.shell_commands.specs.SavedFilters.{taken}
+use Rattle.shell_commands.specs.Listing.{list_text}
+use Rattle.shell_commands.specs.GameTexts.{show_text, export_text}
 use Rattle.shell_commands.specs.Showing.{info_text, quit_text}
 
 -- A line of a script: the command that it says, or its first fault.
@@ -50,6 +52,9 @@ said_by s (And name) = join_text intersection s name
 said_by s (Or name) = join_text union s name
 said_by s (Drop name) = drop_text s name
 said_by s Hits = hits_text s.filter
+said_by s Listing = list_text s
+said_by s (Show game) = show_text s game
+said_by s Export = export_text s
 said_by s Info = info_text s
 said_by s Quit = quit_text s
 said_by s _ = fault_line Unknown
@@ -70,6 +75,8 @@ plain = record { after = after_order; text = text_of_order }
 -- Whether a line is one that asks the files of the base.
 abbrev pub command_asks : Command → Bool
 command_asks (Find board side) = true
+command_asks (Show game) = true
+command_asks Export = true
 command_asks _ = false
 
 abbrev pub order_asks : Order → Bool
