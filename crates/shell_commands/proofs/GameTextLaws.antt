@@ -1,5 +1,5 @@
 -- Laws of `show` and `export`.
-use Rattle.std.proofs.Common.{◌≡◌, ◌<◌, ◌≤◌, ℕ, zero, suc, ◌+◌, List, [], ◌∷◌, ◌++◌, length, take, drop, Option, Some, None, Result, Ok, Err, OnOk, refl, sym, ap, subst, ◌∙◌, append-nil, add-one, zero-add, arith}
+use Rattle.std.proofs.Common.{◌≡◌, ◌<◌, ◌≤◌, ℕ, zero, suc, ◌+◌, List, [], ◌∷◌, ◌++◌, length, take, drop, Option, Some, Result, Ok, Err, OnOk, refl, sym, ap, subst, ◌∙◌, append-nil, add-one, arith}
 use Rattle.std.specs.Prelude.{IfErr, IfSome, slice_get}
 use Rattle.std.proofs.lemmas.List.{take_all}
 use Rattle.std.proofs.lemmas.Option.{same_Some, slice_get_past}
@@ -8,7 +8,7 @@ use Rattle.base_core.specs.GameAt.{IsGameAt}
 use Rattle.base_core.specs.Represents.{Kept, Represents}
 use Rattle.base_core.proofs.Lists.{get_some}
 use Rattle.base_files.specs.Seen.{Seen}
-use Rattle.base_files.specs.Told.{adds, Grew}
+use Rattle.base_files.specs.Told.{adds}
 use Rattle.base_files.proofs.Telling.{adds-nil}
 use Rattle.base_files.specs.declared.faults.Stop.TheVariants as stop
 use Rattle.command_runs.specs.Endings.{Halted, Serves}
@@ -20,9 +20,9 @@ use Rattle.pgn_write.specs.Pgn.{pgn_of}
 use Rattle.script_text.specs.declared.command.Command.TheVariants.{Show, Export}
 use Rattle.shell_commands.specs.declared.halt.Halt.{Halt}
 use Rattle.shell_commands.specs.declared.halt.Halt.TheVariants as halt
-use Rattle.shell_commands.specs.Do.{Order, order_asks, plain}
+use Rattle.shell_commands.specs.Do.{plain}
 use Rattle.shell_commands.specs.Ends.{GameCut, GameEnds, GamesEnd, IsDevice, IsFault, IsOutput}
-use Rattle.shell_commands.specs.GameTexts.{ExportCut, exported, exported_first, export_text, game_text, no_game_line, shown, text_if_in}
+use Rattle.shell_commands.specs.GameTexts.{ExportCut, exported, exported_first, game_text, no_game_line, shown, text_if_in}
 use Rattle.shell_commands.specs.Lines.{texts_from}
 use Rattle.shell_commands.specs.Stands.{Holding, Stands, Fits, Quiet, Broken, filtered_len, len_at, len_if_in, len_of}
 use Rattle.shell_commands.specs.State.{State}

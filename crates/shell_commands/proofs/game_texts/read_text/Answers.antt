@@ -1,6 +1,3 @@
-use Rattle.std.proofs.Common.{◌≡◌, ◌∙◌, ap}
-use Rattle.game_tree.specs.declared.head.Head.{Head}
-use Rattle.pgn_write.specs.Pgn.{pgn_of}
 use Rattle.shell_commands.proofs.GameTextLaws.{asked_at, text_read}
 use Rattle.shell_commands.proofs.game_texts.read_text.Goals as goal
 

@@ -1,4 +1,4 @@
-use Rattle.std.proofs.Common.{◌≡◌, ◌<◌, ◌≤◌, ℕ, List, length, arith, subst, ap, sym, ◌∙◌}
+use Rattle.std.proofs.Common.{◌<◌, ◌≤◌, length, arith, ap, ◌∙◌}
 use Rattle.base_core.proofs.Lists.{get_some}
 use Rattle.base_files.specs.Seen.{Seen}
 use Rattle.shell_commands.proofs.GameTextLaws.{export_all, export_cut, export_more, filtered-more}

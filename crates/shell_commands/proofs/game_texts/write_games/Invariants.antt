@@ -1,4 +1,4 @@
-use Rattle.std.proofs.Common.{◌≡◌, ◌≤◌, ◌+◌, ℕ, List, Some, take, drop, length}
+use Rattle.std.proofs.Common.{◌≡◌, ◌≤◌, ◌+◌, ℕ, List, Some, drop, length}
 use Rattle.base_core.specs.Base.{Base}
 use Rattle.base_core.specs.Represents.{Represents}
 use Rattle.base_files.specs.Told.{adds}
