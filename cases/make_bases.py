@@ -147,7 +147,7 @@ def vienna(case, of_entry):
 
 
 def main():
-    for case in ("filters_by_number", "find_in_both_orders"):
+    for case in ("filters_by_number", "find_in_both_orders", "search_header_among_filters"):
         write(case, "pawns", index(PAWNS), PAWNS_NAMES, PAWNS_RECORDS)
     # One change a case.
     write("index_of_another_length", "vienna", index([VIENNA])[:-1], VIENNA_NAMES, VIENNA_RECORD)
@@ -155,16 +155,19 @@ def main():
     vienna("result_of_no_kind", put(VIENNA, 21, 0x40))
     vienna("site_without_a_name", put(VIENNA, 18, 1))
     vienna("record_without_its_end", put(VIENNA, 5, 24))
-    # Two games of one record, other bytes before and behind it, names that no game uses, a time stamp, bytes behind all.
+    vienna("rating_of_no_kind", put(put(VIENNA, 29, 0x70), 30, 1))
+    vienna("black_without_a_name", put(VIENNA, 13, 2))
+    write("names_cut_in_their_header", "vienna", index([VIENNA]), VIENNA_NAMES[:35], VIENNA_RECORD)
+    write("mark_of_no_kind", "vienna", index([VIENNA]), VIENNA_NAMES, put(VIENNA_RECORD, 24, 0x0E))
+    # Two games of one record, one of them with the spare bit and the code of a stored line, other bytes before and behind the record,
+    # names that no game uses, a time stamp, bytes behind all.
     shared = entry(2, 25, ids=(0, 1, 0, 0, 0), result=1, final=VIENNA_FINAL, plies=21, home=VIENNA_HOME)
     names = names_file([("Reti, Richard", 9), ("Tartakower, Savielly", 1), ("Nobody", 1)], [("Vienna", 1), ("Wien", 1)],
                        [("Vienna AUT", 1)], [("?", 1), ("1", 1)])
-    write("base_of_another_program", "vienna", index([shared, shared]) + b"more", names[:8] + b"time" + names[12:] + b"more",
+    write("base_of_another_program", "vienna", index([shared, put(put(shared, 6, 0x40), 33, 7)]) + b"more", names[:8] + b"time" + names[12:] + b"more",
           b"ab" + VIENNA_RECORD + b"cd")
     entries, records = all_of(SHOWN)
-    for case in ("show_games", "list_and_export"):
-        write(case, "games", index(entries), SHOWN_NAMES, records)
-    for case in ("search_header", "search_header_in_three_ways"):
+    for case in ("show_games", "list_and_export", "search_header", "search_header_in_three_ways"):
         write(case, "games", index(entries), SHOWN_NAMES, records)
     write("base_of_no_games", "none", index([]), names_file([("Nobody", 0)], [("?", 0)], [("?", 0)], [("?", 0)]), b"")
 

@@ -3,7 +3,8 @@
 use crate::{Base, BaseFault, DerivedField, IdField, OpenError, PlaceWhat};
 use base_files::MemFiles;
 use game_codec::{RecordFault, RecordWhat};
-use index_entry::{EntryFault, IndexFault, IndexHead, write_index};
+use game_tree::{Game, Head};
+use index_entry::{EntryFault, IndexHead, write_index};
 use move_codec::MoveFault;
 use std::alloc::Global;
 use std::process::Abort;
@@ -43,56 +44,47 @@ fn files(alloc: Global, place: usize, byte: u8) -> Result<MemFiles, Fail> {
     Ok(MemFiles::new(index, names, games, Vec::new(alloc)))
 }
 
-/// Why the base with that byte is not opened.
-fn refusal(alloc: Global, place: usize, byte: u8, strict: bool) -> Result<Option<OpenError>, Fail> {
-    let mut files = files(alloc, place, byte)?;
+/// The base of these files, and how many of its entries are mended.
+fn open(
+    alloc: Global,
+    files: &mut MemFiles,
+    create: bool,
+    strict: bool,
+) -> Result<(Base, u32), OpenError> {
     let mut buf = vec![in alloc; 0u8; 131_072]?;
-    Ok(Base::open_base(alloc, &mut files, false, strict, buf.as_mut_slice()).err())
+    Base::open_base(alloc, files, create, strict, buf.as_mut_slice())
+}
+
+/// The game of the base, with its head.
+fn first_game(alloc: Global) -> Result<(Head, Game), Fail> {
+    let mut files = files(alloc, 47, 0)?;
+    let mut buf = vec![in alloc; 0u8; 131_072]?;
+    let (base, _mended) = Base::open_base(alloc, &mut files, false, true, buf.as_mut_slice())?;
+    let read = base.game(alloc, 0, &mut files, buf.as_mut_slice())?;
+    Ok(read)
 }
 
 #[test]
 fn opens_a_base_and_gives_its_game(rt: HostRuntime) -> Result<(), Fail> {
-    let mut files = files(rt.alloc(), 47, 0)?;
-    let mut buf = vec![in rt.alloc(); 0u8; 131_072]?;
-    let (base, mended) = Base::open_base(rt.alloc(), &mut files, false, true, buf.as_mut_slice())?;
-    assert_eq!(rt; mended, 0);
-    assert!(rt; !base.unsaved());
-    let (head, game) = base.game(rt.alloc(), 0, &mut files, buf.as_mut_slice())?;
+    let (head, game) = first_game(rt.alloc())?;
     assert!(rt; head.black.as_bytes() == b"Tartakower, Savielly".as_slice());
     assert!(rt; head.site.as_bytes() == b"Vienna AUT".as_slice());
     assert_eq!(rt; game.line.len(), 21);
-    assert!(rt;
-        base.game(rt.alloc(), 1, &mut files, buf.as_mut_slice())
-            .is_err()
-    );
     Ok(())
 }
 
-#[test]
-fn mends_an_entry(rt: HostRuntime) -> Result<(), Fail> {
-    let mut files = files(rt.alloc(), 39, 0x5b)?;
-    let mut buf = vec![in rt.alloc(); 0u8; 131_072]?;
-    let (_base, mended) = Base::open_base(
-        rt.alloc(),
-        &mut files,
-        false,
-        false,
-        buf.as_mut_slice(),
-    )?;
-    assert_eq!(rt; mended, 1);
-    Ok(())
-}
+/// Another byte at a place of the entry, whether the opening is strict, and how many entries are mended or the
+/// fault.
+type Row = (usize, u8, bool, Result<u32, OpenError>);
 
-/// Another byte at a place of the entry, whether the opening is strict, and the fault.
-type Row = (usize, u8, bool, Option<OpenError>);
-
-const FAULTS: [Row; 8] = [
-    (37, 0x16, false, None),
+const ROWS: [Row; 9] = [
+    (37, 0x16, false, Ok(1)),
+    (39, 0x5b, false, Ok(1)),
     (
         37,
         0x16,
         true,
-        Some(OpenError::Bad(BaseFault::Derived {
+        Err(OpenError::Bad(BaseFault::Derived {
             game: 0,
             field: DerivedField::Plies,
         })),
@@ -101,7 +93,7 @@ const FAULTS: [Row; 8] = [
         39,
         0x5b,
         true,
-        Some(OpenError::Bad(BaseFault::Derived {
+        Err(OpenError::Bad(BaseFault::Derived {
             game: 0,
             field: DerivedField::Home,
         })),
@@ -110,7 +102,7 @@ const FAULTS: [Row; 8] = [
         21,
         0x50,
         false,
-        Some(OpenError::Bad(BaseFault::EntryField {
+        Err(OpenError::Bad(BaseFault::EntryField {
             game: 0,
             what: EntryFault::Result,
         })),
@@ -119,7 +111,7 @@ const FAULTS: [Row; 8] = [
         13,
         2,
         false,
-        Some(OpenError::Bad(BaseFault::Id {
+        Err(OpenError::Bad(BaseFault::Id {
             game: 0,
             field: IdField::Black,
         })),
@@ -128,7 +120,7 @@ const FAULTS: [Row; 8] = [
         20,
         1,
         false,
-        Some(OpenError::Bad(BaseFault::Id {
+        Err(OpenError::Bad(BaseFault::Id {
             game: 0,
             field: IdField::Round,
         })),
@@ -137,7 +129,7 @@ const FAULTS: [Row; 8] = [
         6,
         0x80,
         false,
-        Some(OpenError::Bad(BaseFault::Place {
+        Err(OpenError::Bad(BaseFault::Place {
             game: 0,
             what: PlaceWhat::Past,
         })),
@@ -146,7 +138,7 @@ const FAULTS: [Row; 8] = [
         5,
         0x0e,
         false,
-        Some(OpenError::Bad(BaseFault::Packed {
+        Err(OpenError::Bad(BaseFault::Packed {
             game: 0,
             fault: RecordFault {
                 place: 14,
@@ -156,19 +148,20 @@ const FAULTS: [Row; 8] = [
     ),
 ];
 
-/// Whether a row of the table is answered otherwise.
-fn misread(alloc: Global, rows: &[Row]) -> Result<bool, Fail> {
-    for (place, byte, strict, fault) in rows {
-        if refusal(alloc, *place, *byte, *strict)? != *fault {
-            return Ok(true);
-        }
-    }
-    Ok(false)
+/// How many entries of the base with that byte are mended, or its fault.
+fn opened(alloc: Global, row: &Row) -> Result<Result<u32, OpenError>, Fail> {
+    let mut files = files(alloc, row.0, row.1)?;
+    Ok(match open(alloc, &mut files, false, row.2) {
+        Ok((_base, mended)) => Ok(mended),
+        Err(error) => Err(error),
+    })
 }
 
 #[test]
-fn tells_the_first_fault(rt: HostRuntime) -> Result<(), Fail> {
-    assert!(rt; !misread(rt.alloc(), &FAULTS)?);
+fn mends_or_tells_the_first_fault(rt: HostRuntime) -> Result<(), Fail> {
+    for row in &ROWS {
+        assert!(rt; opened(rt.alloc(), row)? == row.3);
+    }
     Ok(())
 }
 
@@ -181,10 +174,7 @@ fn creates_a_base(rt: HostRuntime) -> Result<(), Fail> {
         Vec::new(alloc),
         Vec::new(alloc),
     );
-    let mut buf = vec![in alloc; 0u8; 131_072]?;
-    let refused = Base::open_base(alloc, &mut files, false, false, buf.as_mut_slice()).err();
-    assert!(rt; refused == Some(OpenError::Bad(BaseFault::Index(IndexFault::Short(0)))));
-    let (base, _mended) = Base::open_base(alloc, &mut files, true, false, buf.as_mut_slice())?;
+    let (base, _mended) = open(alloc, &mut files, true, false)?;
     assert_eq!(rt; base.header().games, 0);
     Ok(())
 }

@@ -13,7 +13,6 @@ use crate::sink::Sink;
 use crate::source::Source;
 use crate::std_sink::StdSink;
 use crate::std_source::StdSource;
-use crate::swap::Swap;
 use crate::writing::write_all;
 use std::alloc::Global;
 use std::io::{Error, ErrorKind, Read, Write};
@@ -108,18 +107,6 @@ fn has<F: Files>(
 }
 
 #[test]
-fn a_base_on_a_disk_is_loaded(rt: HostRuntime) -> Result<(), Fail> {
-    let paths = ["loaded.si4", "loaded.sn4", "loaded.sg4"];
-    write_base(&rt, "", paths)?;
-    let mut files = DiskFiles::new(rt.alloc(), &rt);
-    files.choose("loaded", true)?;
-    assert!(rt; has(rt.alloc(), &mut files, Part::Index, b"INDEX")?);
-    assert!(rt; has(rt.alloc(), &mut files, Part::Names, b"NAMES")?);
-    remove_base(&rt, paths)?;
-    Ok(())
-}
-
-#[test]
 fn games_on_a_disk_are_read_and_added(rt: HostRuntime) -> Result<(), Fail> {
     let paths = ["read.si4", "read.sn4", "read.sg4"];
     write_base(&rt, "abcdefgh", paths)?;
@@ -184,79 +171,17 @@ fn an_absent_base_is_made_on_demand(rt: HostRuntime) -> Result<(), Fail> {
 }
 
 #[test]
-fn planned_faults_of_files(rt: HostRuntime) -> Result<(), Fail> {
-    let index = b"INDEX".to_vec(rt.alloc())?;
-    let names = b"NAMES".to_vec(rt.alloc())?;
-    let games = b"abcdefgh".to_vec(rt.alloc())?;
-    let fails = vec![in rt.alloc(); 2, 5]?;
-    let mut files = MemFiles::new(index, names, games, fails);
-    files.choose("any", false)?;
-    assert!(rt; has(rt.alloc(), &mut files, Part::Names, b"NAMES")?);
-    assert_eq!(rt; files.games_len(), Err(Failed), "call 2");
-    let len = files.games_len()?;
-    assert_eq!(rt; len, 8);
-    let mut into = [0u8; 3];
-    files.read_games(5, 3, &mut into)?;
-    assert_eq!(rt; into, *b"fgh");
-    assert_eq!(rt; files.read_games(0, 3, &mut into), Err(Failed), "call 5");
-    assert_eq!(rt; files.asked(), 6);
-    Ok(())
-}
-
-#[test]
-fn planned_faults_of_additions(rt: HostRuntime) -> Result<(), Fail> {
+fn files_in_memory(rt: HostRuntime) -> Result<(), Fail> {
     let index = b"INDEX".to_vec(rt.alloc())?;
     let games = b"abc".to_vec(rt.alloc())?;
-    let fails = vec![in rt.alloc(); 0, 2]?;
-    let mut files = MemFiles::new(index, Vec::new(rt.alloc()), games, fails);
-    assert_eq!(rt;
-        files.append_games(1, b"de"),
-        Err(DeviceError::Failed),
-        "call 0"
-    );
+    let none_fail = Vec::new(rt.alloc());
+    let mut files = MemFiles::new(index, Vec::new(rt.alloc()), games, none_fail);
+    files.choose("any", false)?;
+    assert!(rt; has(rt.alloc(), &mut files, Part::Index, b"INDEX")?);
     files.append_games(1, b"de")?;
     assert_eq!(rt; files.games(), b"abc\0de".as_slice());
-    assert_eq!(rt;
-        files.replace(Part::Index, b"new"),
-        Err(DeviceError::Failed),
-        "call 2"
-    );
     files.replace(Part::Names, b"new")?;
-    assert_eq!(rt; files.index(), b"INDEX".as_slice());
     assert_eq!(rt; files.names(), b"new".as_slice());
-    Ok(())
-}
-
-#[test]
-fn a_games_file_changes_by_itself(rt: HostRuntime) -> Result<(), Fail> {
-    let games = b"abcd".to_vec(rt.alloc())?;
-    let swaps = vec![in rt.alloc();
-        Swap {
-            before: 2,
-            place: 1,
-            byte: b'x'
-        },
-        Swap {
-            before: 2,
-            place: 4,
-            byte: b'y'
-        },
-        Swap {
-            before: 3,
-            place: 1,
-            byte: b'z'
-        },
-    ]?;
-    let mut files = MemFiles::changing(Vec::new(rt.alloc()), Vec::new(rt.alloc()), games, swaps);
-    let len = files.games_len()?;
-    assert_eq!(rt; len, 4, "call 0");
-    let mut into = [0u8; 4];
-    files.read_games(0, 4, &mut into)?;
-    assert_eq!(rt; into, *b"abcd", "call 1");
-    files.read_games(0, 4, &mut into)?;
-    assert_eq!(rt; into, *b"axcd", "call 2");
-    files.read_games(0, 4, &mut into)?;
-    assert_eq!(rt; into, *b"azcd", "call 3");
     Ok(())
 }
 
@@ -295,16 +220,10 @@ fn an_input_is_read_up_to_a_limit(rt: HostRuntime) -> Result<(), Fail> {
 }
 
 #[test]
-fn a_planned_fault_of_a_sink_leaves_a_front_part(rt: HostRuntime) -> Result<(), Fail> {
+fn a_sink_takes_all_in_pieces(rt: HostRuntime) -> Result<(), Fail> {
     let taken = b">".to_vec(rt.alloc())?;
-    let fails = vec![in rt.alloc(); 3]?;
-    let mut sink = MemSink::new(taken, 2, fails);
-    assert_eq!(rt; write_all(&mut sink, b"one"), Ok(()), "calls 0 and 1");
-    assert_eq!(rt;
-        write_all(&mut sink, b" two"),
-        Err(DeviceError::Failed),
-        "calls 2 and 3"
-    );
-    assert_eq!(rt; sink.taken(), b">one t".as_slice());
+    let mut sink = MemSink::new(taken, 2, Vec::new(rt.alloc()));
+    assert_eq!(rt; write_all(&mut sink, b"one"), Ok(()));
+    assert_eq!(rt; sink.taken(), b">one".as_slice());
     Ok(())
 }

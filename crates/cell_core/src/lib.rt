@@ -2,19 +2,19 @@
 //! and texts without a zero byte.
 #![tactic(auto)]
 
-pub mod board;
-pub mod man;
-pub mod packed;
-pub mod square;
-pub mod step;
-pub mod text;
+mod board;
+mod man;
+mod packed;
+mod square;
+mod step;
+mod text;
 
 pub use board::Board;
 pub use man::{Colour, Kind, Man};
 pub use packed::{PackedBoard, pack, unpack};
 pub use square::Square;
 pub use step::Move;
-pub use text::Text;
+pub use text::{Text, is_zero_free};
 
 #[cfg(test)]
 mod tests;

@@ -1,3 +1,5 @@
+//! What no clause says: numbers of squares, packed boards and texts, beside values that were written by hand.
+
 use super::{Board, Colour, Kind, Man, Move, Square, Text, pack, unpack};
 use std::test::Fail;
 

@@ -1,3 +1,4 @@
+//! Which squares a side attacks.
 ghost use Rattle.std.specs.Prelude.{◌<◌, Some, ◌≡◌, ◌↔◌, ◌⊎◌, IsTrue, Any};
 ghost use Rattle.chess_laws.specs.Attacks.{Attacks};
 ghost use Rattle.chess_laws.specs.Geometry.{pawn_captures};

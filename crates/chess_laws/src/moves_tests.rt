@@ -1,3 +1,5 @@
+//! Legal moves of positions with castling, en passant, promotions, pins and checks.
+
 use super::Position;
 use super::play_tests::{board, move_of};
 use arrayvec::ArrayVec;

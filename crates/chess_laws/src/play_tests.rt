@@ -1,3 +1,5 @@
+//! Positions that moves lead to.
+
 use super::Position;
 use cell_core::{Board, Colour, Kind, Man, Move, Square};
 use std::process::Abort;

@@ -1,3 +1,5 @@
+//! Setups that are positions, and the first rule that others break.
+
 use super::attack::attacks;
 use super::play_tests::board;
 use super::slow_attacks::attacks_slowly;

@@ -1,3 +1,4 @@
+//! The filter of a base.
 use crate::plies;
 use std::alloc::{AllocError, Global};
 use std::marker::Model;

@@ -1,3 +1,4 @@
+//! The ways in which a search joins with a filter.
 /// How a search joins its matches with the filter that it finds.
 #[derive(Clone, Copy, Debug, PartialEq, Eq, Hash)]
 pub enum Op {

@@ -1,3 +1,4 @@
+//! Filters of a few games, beside lists that were worked out by hand.
 use crate::{Filter, Op};
 use std::alloc::{AllocError, Global};
 use std::process::Abort;

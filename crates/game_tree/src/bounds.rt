@@ -8,7 +8,7 @@ ghost use Rattle.game_tree.specs.Head.{IsName, is_name, IsRating, IsTag, IsBound
 use super::date::Date;
 use super::head::{Head, Rating, Tag};
 use super::tag_name::{is_reserved, is_tag_name};
-use cell_core::text::is_zero_free;
+use cell_core::is_zero_free;
 
 impl Head {
     /// Whether each field is within its bounds: names of at most 255 bytes, years of at most 2047, months of at most 12

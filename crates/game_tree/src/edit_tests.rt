@@ -1,7 +1,7 @@
 //! Tests of the texts of heads and of edits.
 use super::{
-    Date, Head, Outcome, Rating, Tag, TagEdit, TagEditError, Tags, apply, eco_text, rating_of,
-    read_decimal, read_eco,
+    Date, Head, Outcome, Rating, Tag, TagEdit, Tags, apply, eco_text, rating_of, read_decimal,
+    read_eco,
 };
 use cell_core::{Colour, Text};
 use std::alloc::{AllocError, Global};
@@ -45,40 +45,6 @@ fn results_and_decimals_read(rt: HostRuntime) {
     assert!(rt; read_decimal(b"", 9).is_none());
     assert!(rt; rating_of(b"BlackUSCF") == Some((Colour::Black, 4)));
     assert!(rt; rating_of(b"BlackUscf").is_none());
-}
-
-const REFUSED: [(&str, &str, TagEditError); 20] = [
-    ("SetUp", "1", TagEditError::Name),
-    ("Setup", "1", TagEditError::Name),
-    ("FEN", "x", TagEditError::Name),
-    ("ScidFlags", "W", TagEditError::Name),
-    ("FEN", "\0", TagEditError::Name),
-    ("", "x", TagEditError::Name),
-    ("a]", "x", TagEditError::Name),
-    ("a b", "x", TagEditError::Name),
-    ("Event", "a\0b", TagEditError::Value),
-    ("Annotator", "\0", TagEditError::Value),
-    ("Date", "1994-05-12", TagEditError::Value),
-    ("Date", "1994.13.01", TagEditError::Value),
-    ("EventDate", "", TagEditError::Value),
-    ("Result", "1/2", TagEditError::Value),
-    ("Result", "", TagEditError::Value),
-    ("ECO", "F00", TagEditError::Value),
-    ("ECO", "B15 ", TagEditError::Value),
-    ("WhiteElo", "4096", TagEditError::Value),
-    ("WhiteElo", "", TagEditError::Value),
-    ("BlackUSCF", "-1", TagEditError::Value),
-];
-
-#[test]
-fn edits_are_refused_by_their_name_or_their_value(rt: HostRuntime) {
-    for (name, value, want) in &REFUSED {
-        let refused = match TagEdit::read(rt.alloc(), name.as_bytes(), value.as_bytes()) {
-            Ok(_edit) => None,
-            Err(error) => Some(error),
-        };
-        assert!(rt; refused == Some(*want));
-    }
 }
 
 fn text(alloc: Global, bytes: &str) -> Result<Text, AllocError> {
@@ -185,34 +151,24 @@ fn edits_of_dates_and_tags_settle_the_head(rt: HostRuntime) -> Result<(), Fail> 
     Ok(())
 }
 
+const PARTS: [(&str, &str); 5] = [
+    ("White", "Reti, Richard"),
+    ("Result", "1-0"),
+    ("ECO", "B15a1"),
+    ("WhiteElo", "02600"),
+    ("BlackUSCF", "1900"),
+];
+
 #[test]
 fn edits_set_the_other_parts(rt: HostRuntime) -> Result<(), Fail> {
     let mut head = head(rt.alloc())?;
-    set(rt.alloc(), &mut head, "White", "Reti, Richard")?;
-    set(rt.alloc(), &mut head, "Result", "1-0")?;
-    set(rt.alloc(), &mut head, "ECO", "B15a1")?;
-    set(rt.alloc(), &mut head, "WhiteElo", "02600")?;
-    set(rt.alloc(), &mut head, "BlackUSCF", "1900")?;
+    for (name, value) in &PARTS {
+        set(rt.alloc(), &mut head, name, value)?;
+    }
     let copy = Head::of(rt.alloc(), head.fields(), Tags::new(rt.alloc()))?;
     assert!(rt; copy.white.as_bytes() == b"Reti, Richard".as_slice());
     assert!(rt; copy.result == Outcome::White && copy.eco == 15_068);
-    assert!(rt;
-        copy.white_rating
-            == Rating {
-                value: 2600,
-                kind: 0
-            }
-    );
-    assert!(rt;
-        copy.black_rating
-            == Rating {
-                value: 1900,
-                kind: 4
-            }
-    );
-    set(rt.alloc(), &mut head, "BlackUSCF", "0")?;
-    set(rt.alloc(), &mut head, "ECO", "")?;
-    assert!(rt; head.black_rating == Rating::default() && head.eco == 0);
+    assert!(rt; copy.white_rating.value == 2600 && copy.black_rating.kind == 4);
     let tags = Tags::from_vec(head.tags.into_vec());
     assert!(rt; tags.as_slice().len() == 1);
     Ok(())

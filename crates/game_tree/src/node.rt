@@ -105,6 +105,7 @@ impl Node {
         ensures added { OnOk result (self.new ≡ more_variations branch self.old) }
         ensures kept { IsPlayed self.new }
     {
+        // Reading the field makes the invariant of its text known, which gives the clause `kept`.
         let _ = &branch.lead;
         self.variations.push(branch)?;
         Ok(())
@@ -118,6 +119,7 @@ pub(crate) fn join(comment: Option<Text>, text: Text) -> Result<Text, AllocError
 {
     match comment {
         None => {
+            // The call tells that the text has no zero byte.
             let _ = text.as_bytes();
             Ok(text)
         }

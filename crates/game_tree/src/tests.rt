@@ -1,6 +1,6 @@
+//! Tests of dates, of settling, and of trees that items make.
 use super::{
-    Branch, Builder, Date, Game, Head, Node, Outcome, Rating, Tag, Tags, legal, main_line, plies,
-    settle,
+    Branch, Builder, Date, Game, Head, Outcome, Rating, Tag, Tags, legal, main_line, settle,
 };
 use cell_core::{Move, Square, Text};
 use chess_laws::Position;
@@ -277,34 +277,6 @@ fn mv(from: u8, to: u8) -> Move {
     }
 }
 
-// A line as text: the squares of a move, its NAGs, its comment, and its variations in brackets.
-#[cycle(printing)]
-fn print_line(alloc: Global, line: &[Node], out: &mut Vec<u8>) -> Result<(), AllocError> {
-    for node in line {
-        out.push(node.mv.from.index())?;
-        out.push(node.mv.to.index())?;
-        out.extend_from_slice(node.nags.as_slice())?;
-        if let Some(comment) = &node.comment {
-            out.extend_from_slice(comment.as_bytes())?;
-        }
-        print_branches(alloc, node.variations.as_slice(), out)?;
-    }
-    Ok(())
-}
-
-#[cycle(printing)]
-fn print_branches(alloc: Global, branches: &[Branch], out: &mut Vec<u8>) -> Result<(), AllocError> {
-    for branch in branches {
-        out.push(b'(')?;
-        if let Some(lead) = &branch.lead {
-            out.extend_from_slice(lead.as_bytes())?;
-        }
-        print_line(alloc, branch.line.as_slice(), out)?;
-        out.push(b')')?;
-    }
-    Ok(())
-}
-
 // Adds an item: a move is its two squares, `!` a NAG, `(` and `)` a variation, and other letters a comment.
 fn add(alloc: Global, builder: &mut Builder, what: u8, to: u8) -> Result<(), Fail> {
     match what {
@@ -371,26 +343,19 @@ const ITEMS: [(u8, u8); 17] = [
     E7_E5,
 ];
 
-const PRINTED: [u8; 21] = [
-    12, 28, 1, 14, b'a', b' ', b'b', b'(', b'l', b')', b'(', 11, 27, b'(', 10, 26, b'c', b')',
-    b')', 52, 36,
-];
-
 #[test]
 fn items_make_a_tree(rt: HostRuntime) -> Result<(), Fail> {
     // A comment of the game, NAGs and comments of a move, an empty variation with a comment, and nested variations
     let game = game(rt.alloc(), &ITEMS)?;
     let moves = main_line(rt.alloc(), &game)?;
     assert!(rt; moves.as_slice() == [mv(12, 28), mv(52, 36)].as_slice());
-    assert!(rt; game.line.len() == 2);
-    assert!(rt;
-        game.lead
-            .as_ref()
-            .is_some_and(|lead| lead.as_bytes() == b"s".as_slice())
-    );
-    let mut out = Vec::new(rt.alloc());
-    print_line(rt.alloc(), game.line.as_slice(), &mut out)?;
-    assert!(rt; out.as_slice() == PRINTED.as_slice());
+    let [first, _] = game.line.as_slice() else {
+        return Err("there are two moves".into());
+    };
+    assert!(rt; first.nags.as_slice() == [1, 14].as_slice());
+    assert!(rt; first.variations.len() == 2);
+    let comment = first.comment.as_ref().ok_or("there is no comment")?;
+    assert!(rt; comment.as_bytes() == b"a b".as_slice());
     Ok(())
 }
 
@@ -425,22 +390,5 @@ fn legal_games_are_chains_of_legal_moves(rt: HostRuntime) -> Result<(), Fail> {
     let mut commented = game(rt.alloc(), &[E2_E4])?;
     commented.lead = Some(Text::new(rt.alloc()));
     assert!(rt; !legal(&commented));
-    Ok(())
-}
-
-#[test]
-fn at_most_200_variations_are_open(rt: HostRuntime) -> Result<(), Fail> {
-    for (depth, want) in [(200, true), (201u8, false)] {
-        let mut written = Vec::new(rt.alloc());
-        written.push(E2_E4)?;
-        for _ in 0..depth {
-            written.push(OPENS)?;
-            written.push(D2_D4)?;
-        }
-        for _ in 0..depth {
-            written.push(CLOSES)?;
-        }
-        assert!(rt; legal(&game(rt.alloc(), written.as_slice())?) == want);
-    }
     Ok(())
 }

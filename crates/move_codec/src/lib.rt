@@ -1,9 +1,9 @@
 //! Packed moves: a half-move in one byte or two, by the number of the man that moves.
 #![tactic(auto)]
 
-pub mod fault;
-pub mod numbered;
-pub mod numbers;
+mod fault;
+mod numbered;
+mod numbers;
 mod targets;
 mod values;
 

@@ -48,13 +48,6 @@ fn reads_one_game(rt: HostRuntime) -> Result<(), Fail> {
     Ok(())
 }
 
-#[test]
-fn reads_it_otherwise(rt: HostRuntime) -> Result<(), Fail> {
-    let names = read_names(rt.alloc(), &OTHERWISE)?;
-    expect_the_names(&rt, &names);
-    Ok(())
-}
-
 /// The names file of names that are used so often.
 fn write(
     rt: &impl Abort,
@@ -78,6 +71,7 @@ fn write(
 #[test]
 fn writes_one_game(rt: HostRuntime) -> Result<(), Fail> {
     let names = read_names(rt.alloc(), &OTHERWISE)?;
+    expect_the_names(&rt, &names);
     let text = write(&rt, rt.alloc(), &names, &[1, 1], &[1])?;
     assert_eq!(rt; text.as_slice(), ONE_GAME.as_slice());
     Ok(())
@@ -105,16 +99,6 @@ fn adds_each_name_once(rt: HostRuntime) -> Result<(), Fail> {
         assert_eq!(rt; add(&rt, rt.alloc(), &mut names, kind, name)?, id);
     }
     expect_the_names(&rt, &names);
-    Ok(())
-}
-
-#[test]
-fn cuts_a_kind(rt: HostRuntime) -> Result<(), Fail> {
-    let mut names = read_names(rt.alloc(), &ONE_GAME)?;
-    assert!(rt; names.count(NameKind::Player) >= 1);
-    names.cut(NameKind::Player, 1);
-    assert_eq!(rt; names.id_of(NameKind::Player, b"Kasparov"), None);
-    assert_eq!(rt; names.name_of(NameKind::Player, 0), b"Karpov".as_slice());
     Ok(())
 }
 

@@ -7,6 +7,8 @@ ghost use Rattle.shell_session.specs.Stops.{status_of};
 ghost use Rattle.shell_session.specs.declared.status.Status.TheVariants as done;
 
 mod messages;
+#[cfg(test)]
+mod tests;
 
 use base_files::{DeviceError, DiskFiles, StdSink, StdSource};
 use messages::{HELP, VERSION, message};

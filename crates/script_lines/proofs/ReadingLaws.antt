@@ -1,12 +1,12 @@
 -- Laws of what a reader of lines has taken.
-use Rattle.std.proofs.Common.{Result, Ok, Bool, ◌⊎◌, ◌-◌, ◌==◌, ◌∷◌, zero, not, true, inl, inr, min, ◌≡◌, ◌≤◌, ◌<◌, ◌+◌, ℕ, suc, List, [], ◌++◌, length, take, drop, Option, Some, None, refl, sym, ap, ◌∙◌, subst, arith, append_assoc, append-nil}
+use Rattle.std.proofs.Common.{Result, Ok, Bool, ◌⊎◌, ◌-◌, ◌==◌, ◌∷◌, zero, not, true, inl, inr, min, ◌≡◌, ◌≤◌, ◌<◌, ◌+◌, ℕ, suc, List, [], ◌++◌, length, take, drop, Option, Some, None, refl, sym, ap, ◌∙◌, arith, append_assoc}
 use Rattle.std.proofs.Math.Seq.{take-append-add}
 use Rattle.std.proofs.lemmas.List.{take-take, take_all, take-append-drop, drop-drop, length-take, length-take-le, length-append}
 use Rattle.base_files.specs.Told.{before}
 use Rattle.base_files.proofs.Telling.{before-nil, before-append}
 use Rattle.script_text.specs.Reading.{reading}
 use Rattle.script_lines.specs.Script.{Order, Script, script, script_from, led_by}
-use Rattle.script_lines.specs.Reading.{Reader, TookLine, TookPart, Feeds, Ends, feed_at, grown, most_kept}
+use Rattle.script_lines.specs.Reading.{Reader, TookLine, TookPart, feed_at, grown, most_kept}
 use Rattle.script_lines.proofs.ScriptLaws.{feed_at_position, feed_room, first_feed, grown_none, line_read, part_read, reading_kept, script_kept}
 
 -- What is ahead is a front part of the unread bytes, and what is ahead then.

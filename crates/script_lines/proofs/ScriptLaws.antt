@@ -1,13 +1,12 @@
 -- Laws of scripts: a line is read by its beginning alone, and what bytes say in front of others.
-use Rattle.std.proofs.Common.{if◌then◌else◌, ◌⊎◌, inl, inr, Ok, Err, ◌≡◌, ◌≤◌, ◌<◌, ◌+◌, ◌-◌, ◌==◌, ℕ, zero, suc, Bool, true, false, cond, nat_lt, List, [], ◌∷◌, ◌++◌, length, take, drop, Option, Some, None, option_map, slice_index_or, refl, sym, ap, ◌∙◌, subst, arith, append_assoc, append-nil, min}
+use Rattle.std.proofs.Common.{if◌then◌else◌, ◌⊎◌, inl, inr, Ok, Err, ◌≡◌, ◌≤◌, ◌<◌, ◌+◌, ◌-◌, ◌==◌, ℕ, zero, suc, Bool, true, false, cond, nat_lt, List, [], ◌∷◌, ◌++◌, length, take, Option, Some, None, option_map, slice_index_or, refl, sym, ap, ◌∙◌, arith, append_assoc, append-nil, min}
 use Rattle.std.specs.List.{position_or_len}
 use Rattle.std.proofs.lemmas.List.{take_all, length-take, length-take-le}
 use Prim.Native.Nat.compare
 use Rattle.script_text.specs.declared.command.Command.TheVariants.{Nothing}
 use Rattle.script_text.specs.declared.fault.ScriptFault.TheVariants.{TooLong}
-use Rattle.script_text.specs.Reading.{reading, shorn, is_remark, command_of}
-use Rattle.script_text.specs.Words.{words_of}
-use Rattle.script_lines.specs.Script.{Order, Script, script, script_from, led_by, with_byte, is_quit, then_quit}
+use Rattle.script_text.specs.Reading.{reading, shorn, is_remark}
+use Rattle.script_lines.specs.Script.{Order, Script, script, script_from, led_by, with_byte}
 use Rattle.script_lines.specs.Reading.{feed_at, grown, most_kept}
 
 -- ---- lines that are too long

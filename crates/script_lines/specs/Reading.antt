@@ -1,5 +1,5 @@
 -- What a reader of lines has taken of its input. This project's own.
-use Rattle.std.specs.Prelude.{◌≡◌, ◌<◌, ℕ, suc, ⊤, ◌+◌, ◌==◌, List, [], ◌∷◌, ◌++◌, length, Option, Some, None, option_map, if◌then◌else◌}
+use Rattle.std.specs.Prelude.{◌≡◌, ◌<◌, ℕ, ⊤, ◌+◌, ◌==◌, List, [], ◌++◌, length, Option}
 use Rattle.std.specs.List.{position}
 use Rattle.base_files.specs.Told.{before, Tells}
 use Rattle.script_text.specs.Reading.{reading}

@@ -1,5 +1,5 @@
 -- The bounds of what a command holds (this project's own).
-use Rattle.std.specs.Prelude.{ℕ, ◌<◌, IfSome}
+use Rattle.std.specs.Prelude.{◌<◌, IfSome}
 use Rattle.game_tree.specs.TagEdit.{IsEdit}
 use Rattle.sig_index.specs.declared.head_query.HeadQuery.{HeadQuery}
 use Rattle.script_text.specs.declared.command.Command.{Command}

@@ -36,12 +36,6 @@ const TAG_WORDS: [Row; 25] = [
     ("tag 0 White x y", Some(Extra)),
 ];
 
-#[test]
-fn words_of_tags(rt: HostRuntime) -> Result<(), Fail> {
-    assert_eq!(rt; misread(rt.alloc(), &TAG_WORDS)?, None);
-    Ok(())
-}
-
 const TAGS: [Row; 21] = [
     ("tag 0 Event x", None),
     ("tag 0 Site ?", None),
@@ -65,12 +59,6 @@ const TAGS: [Row; 21] = [
     ("tag 0 Annotator \"\"", None),
     ("tag 0 WhiteFideId 4096", None),
 ];
-
-#[test]
-fn tags_of_each_name(rt: HostRuntime) -> Result<(), Fail> {
-    assert_eq!(rt; misread(rt.alloc(), &TAGS)?, None);
-    Ok(())
-}
 
 // Lines of `tag` with the side and the kind of the rating 4095 that they set.
 type Rated = (&'static str, Colour, u8);
@@ -138,12 +126,6 @@ const RATINGS_ABOVE: [Row; 14] = [
     ("tag 0 BlackECF 4096", Some(Argument(3))),
 ];
 
-#[test]
-fn ratings_above_the_limit(rt: HostRuntime) -> Result<(), Fail> {
-    assert_eq!(rt; misread(rt.alloc(), &RATINGS_ABOVE)?, None);
-    Ok(())
-}
-
 const TAG_VALUES: [Row; 23] = [
     ("tag 0 Event a\0", Some(Argument(3))),
     ("tag 0 Site \0", Some(Argument(3))),
@@ -170,9 +152,13 @@ const TAG_VALUES: [Row; 23] = [
     ("tag 0 BlackElo 0", None),
 ];
 
+const TABLES: [&[Row]; 4] = [&TAG_WORDS, &TAGS, &RATINGS_ABOVE, &TAG_VALUES];
+
 #[test]
-fn values_of_tags(rt: HostRuntime) -> Result<(), Fail> {
-    assert_eq!(rt; misread(rt.alloc(), &TAG_VALUES)?, None);
+fn tags_and_their_first_faults(rt: HostRuntime) -> Result<(), Fail> {
+    for rows in &TABLES {
+        assert_eq!(rt; misread(rt.alloc(), *rows)?, None);
+    }
     Ok(())
 }
 

@@ -60,12 +60,6 @@ const ALONE: [Row; 23] = [
     ("\"\" quit", Some(Unknown)),
 ];
 
-#[test]
-fn commands_without_arguments(rt: HostRuntime) -> Result<(), Fail> {
-    assert_eq!(rt; misread(rt.alloc(), &ALONE)?, None);
-    Ok(())
-}
-
 const OF_NUMBERS: [Row; 23] = [
     ("show 0", None),
     ("show", Some(Argument(1))),
@@ -91,12 +85,6 @@ const OF_NUMBERS: [Row; 23] = [
     ("restrict 1 y z", Some(Argument(2))),
     ("restrict 1 2 3", Some(Extra)),
 ];
-
-#[test]
-fn commands_of_numbers(rt: HostRuntime) -> Result<(), Fail> {
-    assert_eq!(rt; misread(rt.alloc(), &OF_NUMBERS)?, None);
-    Ok(())
-}
 
 const OF_NAMES: [Row; 25] = [
     ("keep A_1", None),
@@ -126,12 +114,6 @@ const OF_NAMES: [Row; 25] = [
     ("drop a b", Some(Extra)),
 ];
 
-#[test]
-fn commands_of_names(rt: HostRuntime) -> Result<(), Fail> {
-    assert_eq!(rt; misread(rt.alloc(), &OF_NAMES)?, None);
-    Ok(())
-}
-
 const OF_BODIES: [Row; 16] = [
     ("import <<END", None),
     ("import", Some(Argument(1))),
@@ -150,12 +132,6 @@ const OF_BODIES: [Row; 16] = [
     ("replace 0 END", Some(Argument(2))),
     ("replace 0 <<END x", Some(Extra)),
 ];
-
-#[test]
-fn commands_of_bodies(rt: HostRuntime) -> Result<(), Fail> {
-    assert_eq!(rt; misread(rt.alloc(), &OF_BODIES)?, None);
-    Ok(())
-}
 
 const MARKS: [Row; 20] = [
     ("mark 0 6 off", None),
@@ -180,12 +156,6 @@ const MARKS: [Row; 20] = [
     ("demo 1 1 1", Some(Extra)),
 ];
 
-#[test]
-fn marks_and_demo(rt: HostRuntime) -> Result<(), Fail> {
-    assert_eq!(rt; misread(rt.alloc(), &MARKS)?, None);
-    Ok(())
-}
-
 const BOARDS: [Row; 16] = [
     ("find 8/8/8/8/8/8/8/8 w", None),
     ("find", Some(Argument(1))),
@@ -204,12 +174,6 @@ const BOARDS: [Row; 16] = [
     ("tree 8/8/8/8/8/8/8/8 W", Some(Argument(2))),
     ("tree 8/8/8/8/8/8/8/8 w w", Some(Extra)),
 ];
-
-#[test]
-fn commands_of_boards(rt: HostRuntime) -> Result<(), Fail> {
-    assert_eq!(rt; misread(rt.alloc(), &BOARDS)?, None);
-    Ok(())
-}
 
 // The greatest and the least words of a form, and those beyond.
 const EDGES: [Row; 20] = [
@@ -237,12 +201,6 @@ const EDGES: [Row; 20] = [
     ),
     ("import <<a_b", Some(Argument(1))),
 ];
-
-#[test]
-fn edges_of_forms(rt: HostRuntime) -> Result<(), Fail> {
-    assert_eq!(rt; misread(rt.alloc(), &EDGES)?, None);
-    Ok(())
-}
 
 const POSITIONS: [Row; 18] = [
     ("search or position pawns 8/8/8/8/8/8/8/8 w", None),
@@ -286,12 +244,6 @@ const POSITIONS: [Row; 18] = [
     ),
 ];
 
-#[test]
-fn searches_of_positions(rt: HostRuntime) -> Result<(), Fail> {
-    assert_eq!(rt; misread(rt.alloc(), &POSITIONS)?, None);
-    Ok(())
-}
-
 const HEADS: [Row; 20] = [
     ("search ignore header white=A", None),
     (
@@ -324,12 +276,6 @@ const HEADS: [Row; 20] = [
     ("search ignore header mark=D", Some(Argument(3))),
 ];
 
-#[test]
-fn searches_of_heads(rt: HostRuntime) -> Result<(), Fail> {
-    assert_eq!(rt; misread(rt.alloc(), &HEADS)?, None);
-    Ok(())
-}
-
 const MATERIAL: [Row; 16] = [
     ("search ignore material wq=0..16 bp=8..8", None),
     ("search ignore material ply=0..131071 streak=131071", None),
@@ -351,12 +297,6 @@ const MATERIAL: [Row; 16] = [
     ),
     ("search ignore material wq=0..1 all", Some(Argument(4))),
 ];
-
-#[test]
-fn searches_of_material(rt: HostRuntime) -> Result<(), Fail> {
-    assert_eq!(rt; misread(rt.alloc(), &MATERIAL)?, None);
-    Ok(())
-}
 
 // Lines with two numbers and a switch that they say, each in its own place.
 type Placed = (&'static str, u64, u64, bool);
@@ -427,9 +367,25 @@ const LINES: [Row; 25] = [
     ("undelete 007", None),
 ];
 
+const TABLES: [&[Row]; 11] = [
+    &ALONE,
+    &OF_NUMBERS,
+    &OF_NAMES,
+    &OF_BODIES,
+    &MARKS,
+    &BOARDS,
+    &EDGES,
+    &POSITIONS,
+    &HEADS,
+    &MATERIAL,
+    &LINES,
+];
+
 #[test]
-fn lines_and_quotes(rt: HostRuntime) -> Result<(), Fail> {
-    assert_eq!(rt; misread(rt.alloc(), &LINES)?, None);
+fn lines_and_their_first_faults(rt: HostRuntime) -> Result<(), Fail> {
+    for rows in &TABLES {
+        assert_eq!(rt; misread(rt.alloc(), *rows)?, None);
+    }
     Ok(())
 }
 

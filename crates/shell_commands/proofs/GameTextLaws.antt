@@ -20,11 +20,11 @@ use Rattle.pgn_write.specs.Pgn.{pgn_of}
 use Rattle.script_text.specs.declared.command.Command.TheVariants.{Show, Export}
 use Rattle.shell_commands.specs.declared.halt.Halt.{Halt}
 use Rattle.shell_commands.specs.declared.halt.Halt.TheVariants as halt
-use Rattle.shell_commands.specs.Do.{plain}
+use Rattle.shell_commands.specs.Do.{len_if_in, len_in, plain}
 use Rattle.shell_commands.specs.Ends.{GameCut, GameEnds, GamesEnd, IsDevice, IsFault, IsOutput}
 use Rattle.shell_commands.specs.GameTexts.{ExportCut, exported, exported_first, game_text, no_game_line, shown, text_if_in}
 use Rattle.shell_commands.specs.Lines.{texts_from}
-use Rattle.shell_commands.specs.Stands.{Holding, Stands, Fits, Quiet, Broken, filtered_len, len_at, len_if_in, len_of}
+use Rattle.shell_commands.specs.Stands.{Holding, Stands, Fits, Quiet, Broken, exported_len, len_at}
 use Rattle.shell_commands.specs.State.{State}
 use Rattle.shell_commands.proofs.Causing.{broken_by_fault}
 use Rattle.shell_commands.proofs.TextLaws.{texts-more, texts-split}
@@ -141,23 +141,23 @@ export_breaks (Err e) plies games told told' ends = ends.0
 
 -- The bytes of the records of the games that are left, one game after the other.
 filtered-suc : (i : ℕ) (plies : List (Option ℕ)) (entries : List Entry) (ply : Option ℕ) → i < length entries → slice_get plies i ≡ Some ply
-    → filtered_len (drop i plies) (drop i entries) ≡ len_if_in ply (len_at entries i) + filtered_len (drop (suc i) plies) (drop (suc i) entries)
+    → exported_len (drop i plies) (drop i entries) ≡ len_if_in ply (len_at entries i) + exported_len (drop (suc i) plies) (drop (suc i) entries)
 filtered-suc i [] entries ply below p = absurd cc
 filtered-suc i (q ∷ plies) [] ply below p = absurd (omega (arith, below))
-filtered-suc zero (q ∷ plies) (e ∷ entries) ply below p = ap (λ (r : Option ℕ). len_if_in r e.len + filtered_len plies entries) (same_Some q ply p)
+filtered-suc zero (q ∷ plies) (e ∷ entries) ply below p = ap (λ (r : Option ℕ). len_if_in r e.len + exported_len plies entries) (same_Some q ply p)
 filtered-suc (suc i) (q ∷ plies) (e ∷ entries) ply below p = filtered-suc i plies entries ply (omega (arith, below)) p
 
 pub filtered-more : (i : ℕ) (plies : List (Option ℕ)) (entries : List Entry) (ply : Option ℕ) → i < length entries → slice_get plies i ≡ Some ply
-    → filtered_len (drop i plies) (drop i entries) ≡ len_if_in ply (len_at entries i) + filtered_len (drop (i + 1) plies) (drop (i + 1) entries)
+    → exported_len (drop i plies) (drop i entries) ≡ len_if_in ply (len_at entries i) + exported_len (drop (i + 1) plies) (drop (i + 1) entries)
 filtered-more i plies entries ply below p =
     filtered-suc i plies entries ply below p
-    ∙ ap (λ (k : ℕ). len_if_in ply (len_at entries i) + filtered_len (drop k plies) (drop k entries)) (sym (add-one i))
+    ∙ ap (λ (k : ℕ). len_if_in ply (len_at entries i) + exported_len (drop k plies) (drop k entries)) (sym (add-one i))
 
 -- What was asked for the record of one game.
 pub asked_at : (entries : List Entry) (i old new : ℕ) → i < length entries → ((e : Entry) → slice_get entries i ≡ Some e → new ≤ old + e.len) → new ≤ old + len_at entries i
 asked_at entries i old new below asks =
     let e = get_some entries i below in
-    let P : Option Entry → Type 0 = λ o. new ≤ old + len_of o in
+    let P : Option Entry → Type 0 = λ o. new ≤ old + len_in (λ e. e.len) o in
     subst P (sym e.1) (asks e.0 e.1)
 
 -- The text that was written is that of the game.

@@ -13,3 +13,4 @@ pub mod HeadLaws
 pub mod TextLaws
 pub mod ListingLaws
 pub mod GameTextLaws
+pub mod Prices

@@ -1,5 +1,5 @@
 -- What each line of a script does to a state, and the text that it writes: the plain machine. This project's own.
-use Rattle.std.specs.Prelude.{ℕ, Bool, true, false, List, [], Result, Ok, Err}
+use Rattle.std.specs.Prelude.{ℕ, ◌+◌, Bool, true, false, List, [], ◌∷◌, sum_by, slice_get, Option, Some, None, Result, Ok, Err}
 use Rattle.game_filter.specs.Filter.{intersection, union}
 use Rattle.script_text.specs.declared.command.Command.{Command}
 use Rattle.script_text.specs.declared.command.Command.TheVariants.{Nothing, Find, SearchPosition, SearchMaterial, SearchHeader, Reset, Clear, Negate, Restrict, Keep, Take, And, Or, Drop, Hits, List as Listing, Show, Export, Info, Quit}
@@ -82,3 +82,32 @@ command_asks _ = false
 abbrev pub order_asks : Order → Bool
 order_asks (Ok command) = command_asks command
 order_asks (Err fault) = false
+
+-- The length of the record of a game, if there is one.
+abbrev pub len_in : {A : Type 0} → (A → ℕ) → Option A → ℕ
+len_in len (Some game) = len game
+len_in len None = 0
+
+-- The length of the record of a game that is in.
+abbrev pub len_if_in : Option ℕ → ℕ → ℕ
+len_if_in (Some ply) len = len
+len_if_in None len = 0
+
+-- The lengths of the records of the games that are in, all told.
+abbrev pub filtered_len : {A : Type 0} → (A → ℕ) → List (Option ℕ) → List A → ℕ
+filtered_len len [] games = 0
+filtered_len len (ply ∷ plies) [] = 0
+filtered_len len (ply ∷ plies) (game ∷ games) = len_if_in ply (len game) + filtered_len len plies games
+
+-- How many bytes of the games file a command asks at most, by what has the lengths of the games' records: those of all games, of the game that
+-- is shown, of the games that are exported.
+abbrev pub command_price : {A : Type 0} → (A → ℕ) → List A → List (Option ℕ) → Command → ℕ
+command_price len games plies (Find board side) = sum_by len games
+command_price len games plies (Show game) = len_in len (slice_get games game)
+command_price len games plies Export = filtered_len len plies games
+command_price len games plies _ = 0
+
+-- How many bytes of the games file a line asks at most.
+abbrev pub price : State → Order → ℕ
+price s (Ok command) = command_price (λ held. held.len) s.base.games s.filter command
+price s (Err fault) = 0

@@ -1,17 +1,15 @@
 -- How the machine stands for a plain state, beside the files of its base. This project's own.
-use Rattle.std.specs.Prelude.{◌≡◌, ◌≤◌, ◌+◌, ℕ, false, IsTrue, ⊤, List, [], ◌∷◌, All, length, sum_by, slice_get, Option, Some, None, Ok, Err}
+use Rattle.std.specs.Prelude.{◌≡◌, ◌≤◌, ℕ, false, IsTrue, ⊤, List, All, length, sum_by, slice_get, Option, Some, Ok, Err}
 use Rattle.base_files.specs.Seen.{Seen}
 use Rattle.base_files.specs.declared.faults.Stop.TheVariants as stop
 use Rattle.base_core.specs.Base.{Base}
 use Rattle.base_core.specs.Represents.{Kept, Represents, IsSound}
 use Rattle.command_runs.specs.Counts.{Counts, Why}
 use Rattle.index_entry.specs.declared.entry.Entry.{Entry}
-use Rattle.script_text.specs.declared.command.Command.{Command}
-use Rattle.script_text.specs.declared.command.Command.TheVariants.{Find, Show, Export}
 use Rattle.shell_commands.specs.declared.halt.Halt.{Halt}
 use Rattle.shell_commands.specs.declared.halt.Halt.TheVariants as halt
 use Rattle.shell_commands.specs.declared.saved.SavedFilter.{SavedFilter}
-use Rattle.shell_commands.specs.Do.{Order, order_asks, after_order, text_of_order}
+use Rattle.shell_commands.specs.Do.{Order, order_asks, after_order, text_of_order, command_price, filtered_len, len_in}
 use Rattle.shell_commands.specs.State.{State, begin}
 
 -- What a machine holds: what the open base keeps, the filter, and the filters that are kept by name.
@@ -66,32 +64,16 @@ abbrev pub records_len : Holding → ℕ
 records_len holding = sum_by (λ e. e.len) holding.kept.entries
 
 -- The bytes of the record of one game; past the last game there are none.
-abbrev pub len_of : Option Entry → ℕ
-len_of (Some e) = e.len
-len_of None = 0
-
 abbrev pub len_at : List Entry → ℕ → ℕ
-len_at entries game = len_of (slice_get entries game)
+len_at entries game = len_in (λ e. e.len) (slice_get entries game)
 
 -- The bytes of the records of the games that are in.
-abbrev pub len_if_in : Option ℕ → ℕ → ℕ
-len_if_in (Some ply) len = len
-len_if_in None len = 0
+abbrev pub exported_len : List (Option ℕ) → List Entry → ℕ
+exported_len plies entries = filtered_len (λ e. e.len) plies entries
 
-abbrev pub filtered_len : List (Option ℕ) → List Entry → ℕ
-filtered_len [] entries = 0
-filtered_len (ply ∷ plies) [] = 0
-filtered_len (ply ∷ plies) (e ∷ entries) = len_if_in ply e.len + filtered_len plies entries
-
--- How many bytes of the games file a line asks at most: those of all records, of the game that is shown, of the games that are exported.
-abbrev pub command_cost : Holding → Command → ℕ
-command_cost holding (Find board side) = records_len holding
-command_cost holding (Show game) = len_at holding.kept.entries game
-command_cost holding Export = filtered_len holding.filter holding.kept.entries
-command_cost holding _ = 0
-
+-- How many bytes of the games file a line asks at most.
 abbrev pub cost : Holding → Order → ℕ
-cost holding (Ok command) = command_cost holding command
+cost holding (Ok command) = command_price (λ e. e.len) holding.kept.entries holding.filter command
 cost holding (Err fault) = 0
 
 -- A machine begins with what an open base keeps: it is sound where the base's records lie within the known length, and where these files

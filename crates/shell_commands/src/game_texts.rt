@@ -9,10 +9,10 @@ ghost use Rattle.game_tree.specs.Head.{IsBounded};
 ghost use Rattle.game_tree.specs.Legal.{IsLegalGame};
 ghost use Rattle.pgn_write.specs.Pgn.{pgn_of};
 ghost use Rattle.script_text.specs.declared.command.Command.TheVariants as command;
-ghost use Rattle.shell_commands.specs.Do.{plain};
+ghost use Rattle.shell_commands.specs.Do.{len_if_in, plain};
 ghost use Rattle.shell_commands.specs.Ends.{GameEnds, GamesEnd, HasGame, IsDevice, halt_of};
 ghost use Rattle.shell_commands.specs.GameTexts.{ExportCut, game_text, text_if_in};
-ghost use Rattle.shell_commands.specs.Stands.{Stands, Sound, Fits, Broken, WhyHalt, filtered_len, len_at, len_if_in};
+ghost use Rattle.shell_commands.specs.Stands.{Stands, Sound, Fits, Broken, WhyHalt, exported_len, len_at};
 ghost use Rattle.shell_commands.specs.State.{State};
 ghost use Rattle.shell_commands.specs.Turns.{IsTurn};
 
@@ -74,7 +74,7 @@ pub(crate) fn export<F: Files, K: Sink>(
     ensures serves { (s : State) → Stands machine.old (F.seen files.old) s → Serves plain (Stands machine.new (F.seen files.new)) Broken s (Ok command.Export) (K.taken out.old) (K.taken out.new) result }
     ensures cut { (s : State) → Stands machine.old (F.seen files.old) s → IfErr result (λ e. ExportCut s.filter s.base.games e (K.taken out.old) (K.taken out.new)) }
     ensures unchanged { F.seen files.new ≡ F.seen files.old }
-    ensures asks { F.asked files.new ≤ F.asked files.old + filtered_len machine.old.filter machine.old.kept.entries }
+    ensures asks { F.asked files.new ≤ F.asked files.old + exported_len machine.old.filter machine.old.kept.entries }
     ensures causes { Causes WhyHalt result (counts (F.faults files.old) 0 (K.faults out.old)) (counts (F.faults files.new) 0 (K.faults out.new)) }
 {
     let block = machine.block.as_mut_slice();
@@ -95,7 +95,7 @@ fn write_games<F: Files, K: Sink>(
     requires within { base.now.end ≤ (F.seen files.old).known }
     ensures written { (told : List ℕ) (all : PlainBase) → (F.seen files.old).games ≡ Some told → Represents base.now told all → GamesEnd result filter.now all.games (K.taken out.old) (K.taken out.new) }
     ensures unchanged { F.seen files.new ≡ F.seen files.old }
-    ensures asks { F.asked files.new ≤ F.asked files.old + filtered_len filter.now base.now.entries }
+    ensures asks { F.asked files.new ≤ F.asked files.old + exported_len filter.now base.now.entries }
     ensures causes { Causes WhyHalt result (counts (F.faults files.old) 0 (K.faults out.old)) (counts (F.faults files.new) 0 (K.faults out.new)) }
 {
     for i in 0..filter.len() {

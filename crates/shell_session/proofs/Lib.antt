@@ -1,3 +1,4 @@
 mod RunningLaws
 mod AnswerLaws
 mod OpeningLaws
+mod PriceLaws

@@ -44,7 +44,7 @@ ran_none s l t holding seen reader fresh stands = record {
 }
 
 -- The bytes of a line in front, and what was taken before.
-joined_led : (done : List Order) (m n : ℕ) (order : Order) (s : Script) → is_quit order ≡ false
+pub joined_led : (done : List Order) (m n : ℕ) (order : Order) (s : Script) → is_quit order ≡ false
     → joined done m (grown n (led_by order s)) ≡ joined (done ++ order ∷ []) (m + n) s
 joined_led done m n order s other =
     rw other (ap (λ os. script os (m + (n + s.size))) (sym (append_assoc done (order ∷ []) s.orders)) ∙ ap (script ((done ++ order ∷ []) ++ s.orders)) (omega arith))
@@ -54,7 +54,7 @@ joined_quit : (done : List Order) (m n : ℕ) (order : Order) (s : Script) → i
 joined_quit done m n order s quit = rw quit (ap (script (done ++ order ∷ [])) (omega arith))
 
 -- What is said with a line more.
-says_line : (done : List Order) (front more_front : List ℕ) (order : Order) (last : Order → List Order) (more : List ℕ)
+pub says_line : (done : List Order) (front more_front : List ℕ) (order : Order) (last : Order → List Order) (more : List ℕ)
     → ((last : Order → List Order) (more : List ℕ) → script_from last [] (front ++ more) ≡ joined done (length front) (script_from last [] more))
     → Ends [] more_front order
     → script_from last [] ((front ++ more_front) ++ more) ≡ joined done (length front) (grown (length more_front) (led_by order (script_from last [] more)))
@@ -62,7 +62,7 @@ says_line done front more_front order last more says ends =
     ap (script_from last []) (append_assoc front more_front more) ∙ says last (more_front ++ more) ∙ ap (joined done (length front)) (ends last more)
 
 -- A line more, which is not `quit`.
-pub ran_more : (s : State) (l₀ t₀ : Option (List ℕ)) (holding holding' : Holding) (seen seen' : Seen) (reader reader' : Reader) (l l' t t' : Option (List ℕ)) (order : Order)
+unfoldable pub ran_more : (s : State) (l₀ t₀ : Option (List ℕ)) (holding holding' : Holding) (seen seen' : Seen) (reader reader' : Reader) (l l' t t' : Option (List ℕ)) (order : Order)
     → (ran : Ran s l₀ t₀ holding seen reader l t) → TookLine [] reader l order reader' l'
     → Done (Stands holding' seen') (plain.after (after_all plain s ran.done) order) (plain.text (after_all plain s ran.done) order) t t'
     → is_quit order ≡ false
@@ -394,20 +394,43 @@ led_orders : (test : Bool) (order : Order) (behind : Script) → (left : List Or
 led_orders true order behind = ([], refl)
 led_orders false order behind = (behind.orders, refl)
 
--- The command of a line was broken off.
-pub ran_interrupted : (s : State) (bytes : List ℕ) (t₀ : Option (List ℕ)) (holding : Holding) (seen : Seen) (reader reader' : Reader) (l l' t t' : Option (List ℕ)) (order : Order) (status : Status)
-    → (ran : Ran s (Some bytes) t₀ holding seen reader l t) → TookLine [] reader l order reader' l'
-    → Interrupted status (after_all plain s ran.done) order t t' → RanPart status s bytes t₀ t' l'
-ran_interrupted s bytes t₀ holding seen reader reader' l l' t t' order status ran took cut =
+-- The lines that are done are the first of the script's.
+pub says_done : (s : State) (bytes : List ℕ) (t₀ : Option (List ℕ)) (holding : Holding) (seen : Seen) (reader : Reader) (l t : Option (List ℕ))
+    → (ran : Ran s (Some bytes) t₀ holding seen reader l t) → (left : List Order) × (script_of bytes ≡ ran.done ++ left)
+says_done s bytes t₀ holding seen reader l t ran =
+    let parts : (more : List ℕ) × (before reader.unread l ≡ Some more) × (bytes ≡ ran.front ++ more) = told_parts bytes ran.front (before reader.unread l) ran.left in
+    let says : script_from then_quit [] bytes ≡ joined ran.done (length ran.front) (script_from then_quit [] parts.0) = ap (script_from then_quit []) parts.2 ∙ ran.says then_quit parts.0 in
+    ((script_from then_quit [] parts.0).orders, ap (λ (x : Script). x.orders) says)
+
+-- The line that was read is the next one.
+pub says_next : (s : State) (bytes : List ℕ) (t₀ : Option (List ℕ)) (holding : Holding) (seen : Seen) (reader reader' : Reader) (l l' t : Option (List ℕ)) (order : Order)
+    → (ran : Ran s (Some bytes) t₀ holding seen reader l t) → TookLine [] reader l order reader' l' → (left : List Order) × (script_of bytes ≡ ran.done ++ order ∷ left)
+says_next s bytes t₀ holding seen reader reader' l l' t order ran took =
     let read : Some bytes ≡ before (ran.front ++ took.front) (before reader'.unread l') =
     ran.left ∙ ap (before ran.front) took.ahead ∙ sym (before-append ran.front took.front (before reader'.unread l')) in
     let parts : (more : List ℕ) × (before reader'.unread l' ≡ Some more) × (bytes ≡ (ran.front ++ took.front) ++ more) = told_parts bytes (ran.front ++ took.front) (before reader'.unread l') read in
     let says : script_from then_quit [] bytes ≡ joined ran.done (length ran.front) (grown (length took.front) (led_by order (script_from then_quit [] parts.0))) =
     ap (script_from then_quit []) parts.2 ∙ says_line ran.done ran.front took.front order then_quit parts.0 ran.says took.ends in
     let led : (left : List Order) × ((led_by order (script_from then_quit [] parts.0)).orders ≡ order ∷ left) = led_orders (is_quit order) order (script_from then_quit [] parts.0) in
-    ran_stopped s bytes t₀ holding seen reader l l' t t' status (order ∷ led.0) ran
-    (ap (λ (x : Script). x.orders) says ∙ ap (λ os. ran.done ++ os) led.1)
-    (cut_stops plain (λ state o. BrokenBy status o) (after_all plain s ran.done) order led.0 t t' cut.cut)
+    (led.0, ap (λ (x : Script). x.orders) says ∙ ap (λ os. ran.done ++ os) led.1)
+
+-- The last line is, and `quit` where it is not that.
+pub says_last : (s : State) (bytes : List ℕ) (t₀ : Option (List ℕ)) (holding : Holding) (seen : Seen) (reader reader' : Reader) (l l' t : Option (List ℕ)) (order : Order)
+    → (ran : Ran s (Some bytes) t₀ holding seen reader l t) → TookLast reader l reader' l' → order ≡ reading reader'.line → script_of bytes ≡ ran.done ++ then_quit order
+says_last s bytes t₀ holding seen reader reader' l l' t order ran took is =
+    let read : Some bytes ≡ before (ran.front ++ took.part.front) (before reader'.unread l') =
+    ran.left ∙ ap (before ran.front) took.part.ahead ∙ sym (before-append ran.front took.part.front (before reader'.unread l')) in
+    let all : bytes ≡ ran.front ++ took.part.front = to_the_end bytes (ran.front ++ took.part.front) reader'.unread l' read took.all took.end in
+    ap (λ (x : Script). x.orders) (last_says bytes ran.done ran.front took.part.front reader'.line order ran.says took.part.feeds is all)
+
+-- The command of a line was broken off.
+pub ran_interrupted : (s : State) (bytes : List ℕ) (t₀ : Option (List ℕ)) (holding : Holding) (seen : Seen) (reader reader' : Reader) (l l' t t' : Option (List ℕ)) (order : Order) (status : Status)
+    → (ran : Ran s (Some bytes) t₀ holding seen reader l t) → TookLine [] reader l order reader' l'
+    → Interrupted status (after_all plain s ran.done) order t t' → RanPart status s bytes t₀ t' l'
+ran_interrupted s bytes t₀ holding seen reader reader' l l' t t' order status ran took cut =
+    let says : (left : List Order) × (script_of bytes ≡ ran.done ++ order ∷ left) = says_next s bytes t₀ holding seen reader reader' l l' t order ran took in
+    ran_stopped s bytes t₀ holding seen reader l l' t t' status (order ∷ says.0) ran says.1
+    (cut_stops plain (λ state o. BrokenBy status o) (after_all plain s ran.done) order says.0 t t' cut.cut)
     (λ done. cut.lines bytes l' done)
 
 -- The last line stopped it.
@@ -415,12 +438,8 @@ pub ran_last_stopped : (s : State) (bytes : List ℕ) (t₀ : Option (List ℕ))
     → (ran : Ran s (Some bytes) t₀ holding seen reader l t) → TookLast reader l reader' l' → order ≡ reading reader'.line
     → Stops status (after_all plain s ran.done) (then_quit order) t t' → RanPart status s bytes t₀ t' l'
 ran_last_stopped s bytes t₀ holding seen reader reader' l l' t t' order status ran took is stops =
-    let read : Some bytes ≡ before (ran.front ++ took.part.front) (before reader'.unread l') =
-    ran.left ∙ ap (before ran.front) took.part.ahead ∙ sym (before-append ran.front took.part.front (before reader'.unread l')) in
-    let all : bytes ≡ ran.front ++ took.part.front = to_the_end bytes (ran.front ++ took.part.front) reader'.unread l' read took.all took.end in
-    let says : script_from then_quit [] bytes ≡ script (ran.done ++ then_quit order) (length ran.front + length took.part.front) =
-    last_says bytes ran.done ran.front took.part.front reader'.line order ran.says took.part.feeds is all in
-    ran_stopped s bytes t₀ holding seen reader l l' t t' status (then_quit order) ran (ap (λ (x : Script). x.orders) says) stops.stopped (λ done. stops.lines bytes l' done)
+    ran_stopped s bytes t₀ holding seen reader l l' t t' status (then_quit order) ran (says_last s bytes t₀ holding seen reader reader' l l' t order ran took is) stops.stopped
+    (λ done. stops.lines bytes l' done)
 
 -- No line was read.
 pub ran_stuck : (e : ReadError) (s : State) (bytes : List ℕ) (t₀ : Option (List ℕ)) (holding : Holding) (seen : Seen) (reader reader' : Reader) (l l' t : Option (List ℕ))

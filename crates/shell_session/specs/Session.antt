@@ -5,13 +5,13 @@ use Rattle.base_files.specs.Chosen.{Choice, choice}
 use Rattle.base_files.specs.Counters.{Rose}
 use Rattle.base_files.specs.Told.{adds, before}
 use Rattle.base_core.specs.Base.{Base}
-use Rattle.base_core.specs.Opening.{OpensAs, Refuses}
+use Rattle.base_core.specs.Opening.{OpensAs, Refuses, open_cost}
 use Rattle.base_core.specs.Represents.{Mended}
 use Rattle.base_core.specs.declared.fault.BaseFault.{BaseFault}
 use Rattle.command_runs.specs.Counts.{Counts}
 use Rattle.command_runs.specs.Endings.{Halted}
 use Rattle.command_runs.specs.Plain.{after_all, run}
-use Rattle.shell_commands.specs.Do.{Order, order_asks, plain}
+use Rattle.shell_commands.specs.Do.{Order, order_asks, plain, price}
 use Rattle.shell_commands.specs.State.{State, begin}
 use Rattle.script_lines.specs.Script.{longest_script, script_len, script_of, whole_lines}
 use Rattle.shell_session.specs.Words.{Wanted, words_read}
@@ -155,6 +155,17 @@ Due given InputTooLong = Opens given × (longest_script < script_len given.scrip
 Due given (BadBase fault) = Faulty given fault
 Due given Usage = words_read given.words ≡ None
 Due given _ = ⊥
+
+-- ---- bytes asked of the games file
+
+-- What some lines ask at most, one after the other.
+abbrev pub price_all : State → List Order → ℕ
+price_all s [] = 0
+price_all s (order ∷ orders) = price s order + price_all (plain.after s order) orders
+
+-- A session asks at most the records of all games, to open the base, and where it is open what the lines of its script ask.
+abbrev pub Asks : Given → ℕ → ℕ → Type 0
+Asks given old new = (new ≤ old + open_cost given.index) ⊎ ((opens : Opens given) × (new ≤ old + (open_cost given.index + price_all (begin opens.base) (script_of given.script))))
 
 -- ---- causes, for every files, input and output
 

@@ -3,7 +3,7 @@ ghost use Rattle.std.specs.Prelude.{◌≡◌, ◌↔◌, ℕ, ◌⊎◌, List, 
 ghost use Rattle.base_files.specs.Seen.{SameContents};
 ghost use Rattle.base_files.specs.Counters.{Rose};
 ghost use Rattle.command_runs.specs.Counts.{NoneFell, counts};
-ghost use Rattle.shell_session.specs.Session.{Answers, Chooses, Due, Reads, WhyStatus, given, inlet};
+ghost use Rattle.shell_session.specs.Session.{Answers, Asks, Chooses, Due, Reads, WhyStatus, given, inlet};
 ghost use Rattle.shell_session.specs.Words.{words_read};
 
 use crate::opening::{open, write_opening};
@@ -40,6 +40,10 @@ pub fn session<F: Files, S: Source, K: Sink>(
     // No count of faults fell, and a status has its cause.
     ensures counts { NoneFell (counts (F.faults files.old) (S.faults input.old) (K.faults out.old)) (counts (F.faults files.new) (S.faults input.new) (K.faults out.new)) }
     ensures why { WhyStatus result (counts (F.faults files.old) (S.faults input.old) (K.faults out.old)) (counts (F.faults files.new) (S.faults input.new) (K.faults out.new)) }
+
+    // The bytes that are asked of the games file.
+    ensures asks { (index names games script : List ℕ) → (F.seen files.old).index ≡ Some index → (F.seen files.old).names ≡ Some names → (F.seen files.old).games ≡ Some games → S.left input.old ≡ Some script →
+        Asks (given (map string_bytes words.now) index names games script) (F.asked files.old) (F.asked files.new) }
 
     // What is read of any input.
     ensures reads { Reads result (inlet (S.left input.old) (S.budget input.old) (S.faults input.old)) (inlet (S.left input.new) (S.budget input.new) (S.faults input.new)) }

@@ -4,12 +4,12 @@ ghost use Rattle.base_files.specs.Told.{adds};
 ghost use Rattle.command_runs.specs.Counts.{NoneFell, counts};
 ghost use Rattle.command_runs.specs.Endings.{Done};
 ghost use Rattle.command_runs.specs.Plain.{run};
-ghost use Rattle.script_lines.specs.Script.{is_quit, longest_script, then_quit};
-ghost use Rattle.shell_commands.specs.Do.{plain};
+ghost use Rattle.script_lines.specs.Script.{is_quit, longest_script, script_of, then_quit};
+ghost use Rattle.shell_commands.specs.Do.{plain, price};
 ghost use Rattle.shell_commands.specs.Stands.{Sound, Stands};
 ghost use Rattle.shell_commands.specs.State.{State};
 ghost use Rattle.shell_session.specs.Running.{Interrupted, Interrupts, Stops};
-ghost use Rattle.shell_session.specs.Session.{RanAll, RanPart, WhyStatus};
+ghost use Rattle.shell_session.specs.Session.{RanAll, RanPart, WhyStatus, price_all};
 
 use crate::status::Status;
 use base_files::{Files, Sink, Source};
@@ -30,6 +30,7 @@ pub(crate) fn run_script<F: Files, S: Source, K: Sink>(
     requires sound { Sound machine.old (F.seen files.old).known }
     ensures all { OnOk result ((s : State) (script : List ℕ) → Stands machine.old (F.seen files.old) s → S.left input.old ≡ Some script → RanAll s script (K.taken out.old) (K.taken out.new) (S.left input.new)) }
     ensures part { IfErr result (λ status. (s : State) (script : List ℕ) → Stands machine.old (F.seen files.old) s → S.left input.old ≡ Some script → RanPart status s script (K.taken out.old) (K.taken out.new) (S.left input.new)) }
+    ensures asks { (s : State) (script : List ℕ) → Stands machine.old (F.seen files.old) s → S.left input.old ≡ Some script → F.asked files.new ≤ F.asked files.old + price_all s (script_of script) }
     ensures unchanged { F.seen files.new ≡ F.seen files.old }
     ensures counts { NoneFell (counts (F.faults files.old) (S.faults input.old) (K.faults out.old)) (counts (F.faults files.new) (S.faults input.new) (K.faults out.new)) }
     ensures ends { IfErr result Interrupts }
@@ -63,6 +64,7 @@ fn run_last<F: Files, K: Sink>(
     requires sound { Sound machine.old (F.seen files.old).known }
     ensures done { OnOk result ((s : State) → Stands machine.old (F.seen files.old) s → K.taken out.new ≡ adds (K.taken out.old) (run plain s (then_quit order))) }
     ensures stops { IfErr result (λ status. (s : State) → Stands machine.old (F.seen files.old) s → Stops status s (then_quit order) (K.taken out.old) (K.taken out.new)) }
+    ensures asks { (s : State) → Stands machine.old (F.seen files.old) s → F.asked files.new ≤ F.asked files.old + price_all s (then_quit order) }
     ensures unchanged { F.seen files.new ≡ F.seen files.old }
     ensures counts { NoneFell (counts (F.faults files.old) 0 (K.faults out.old)) (counts (F.faults files.new) 0 (K.faults out.new)) }
     ensures ends { IfErr result Interrupts }
@@ -92,6 +94,7 @@ fn run_line<F: Files, K: Sink>(
     ensures done { OnOk result ((s : State) → Stands machine.old (F.seen files.old) s → Done (Stands machine.new (F.seen files.new)) (plain.after s order) (plain.text s order) (K.taken out.old) (K.taken out.new)) }
     ensures quit { IfOk result (λ quit. quit ≡ is_quit order) }
     ensures interrupted { IfErr result (λ status. (s : State) → Stands machine.old (F.seen files.old) s → Interrupted status s order (K.taken out.old) (K.taken out.new)) }
+    ensures asks { (s : State) → Stands machine.old (F.seen files.old) s → F.asked files.new ≤ F.asked files.old + price s order }
     ensures sound { OnOk result (Sound machine.new (F.seen files.new).known) }
     ensures unchanged { F.seen files.new ≡ F.seen files.old }
     ensures counts { NoneFell (counts (F.faults files.old) 0 (K.faults out.old)) (counts (F.faults files.new) 0 (K.faults out.new)) }
@@ -119,6 +122,7 @@ fn run_order<F: Files, K: Sink>(
     requires sound { Sound machine.old (F.seen files.old).known }
     ensures done { OnOk result ((s : State) → Stands machine.old (F.seen files.old) s → Done (Stands machine.new (F.seen files.new)) (plain.after s order.now) (plain.text s order.now) (K.taken out.old) (K.taken out.new)) }
     ensures interrupted { IfErr result (λ status. (s : State) → Stands machine.old (F.seen files.old) s → Interrupted status s order.now (K.taken out.old) (K.taken out.new)) }
+    ensures asks { (s : State) → Stands machine.old (F.seen files.old) s → F.asked files.new ≤ F.asked files.old + price s order.now }
     ensures sound { OnOk result (Sound machine.new (F.seen files.new).known) }
     ensures unchanged { F.seen files.new ≡ F.seen files.old }
     ensures counts { NoneFell (counts (F.faults files.old) 0 (K.faults out.old)) (counts (F.faults files.new) 0 (K.faults out.new)) }

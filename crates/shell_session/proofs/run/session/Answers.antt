@@ -6,6 +6,7 @@ use Rattle.shell_session.specs.declared.status.Status.{Status}
 use Rattle.shell_session.specs.declared.status.Status.TheVariants.{Done, Memory}
 use Rattle.shell_session.specs.Stops.{status_of}
 use Rattle.shell_session.proofs.AnswerLaws.{chooses_running, chosen, due_of, line_session, part_session, why_line, why_running, whole_session}
+use Rattle.shell_session.proofs.PriceLaws.{asks_opening, asks_script}
 use Rattle.shell_session.proofs.run.session.Goals as goal
 
 pub returns-in-Err-write_opening-clause-answers : goal.returns-in-Err-write_opening-clause-answers
@@ -74,3 +75,19 @@ returns-clause-choices g c =
     let wanted : Wanted = record { name = c.in-Some.wanted.name.now; create = c.in-Some.wanted.create; strict = c.in-Some.wanted.strict } in
     chooses_running c.in-Err-run_script.status (map string_bytes c.args.words.now) _ _ c.in-Err-run_script.ensures.ends
     (chosen (map string_bytes c.args.words.now) wanted _ _ (sym c.in-Some.ensures.read) (ap (λ (seen : Seen). seen.choices) c.run_script.ensures.unchanged ∙ c.in-Ok.ensures.chosen))
+
+pub returns-in-Err-write_opening-clause-asks : goal.returns-in-Err-write_opening-clause-asks
+returns-in-Err-write_opening-clause-asks g c = λ index names games script i n told left.
+    asks_opening (given (map string_bytes c.args.words.now) index names games script) _ _ (g.F.Files.seen c.args.files.now).index i c.open.ensures.asks
+
+pub returns-in-Ok-run_script-clause-asks : goal.returns-in-Ok-run_script-clause-asks
+returns-in-Ok-run_script-clause-asks g c = λ index names games script i n told left.
+    let wanted : Wanted = record { name = c.in-Some.wanted.name.now; create = c.in-Some.wanted.create; strict = c.in-Some.wanted.strict } in
+    asks_script (map string_bytes c.args.words.now) index names games script (g.F.Files.seen c.args.files.now) (g.F.Files.seen c.open.new.files) wanted c.in-Ok.opened.0 c.in-Ok.opened.1
+    (g.S.Source.left c.args.input.now) _ _ _ (sym c.in-Some.ensures.read) c.in-Ok.ensures.opens c.open.ensures.asks c.run_script.ensures.asks i n told left
+
+pub returns-clause-asks : goal.returns-clause-asks
+returns-clause-asks g c = λ index names games script i n told left.
+    let wanted : Wanted = record { name = c.in-Some.wanted.name.now; create = c.in-Some.wanted.create; strict = c.in-Some.wanted.strict } in
+    asks_script (map string_bytes c.args.words.now) index names games script (g.F.Files.seen c.args.files.now) (g.F.Files.seen c.open.new.files) wanted c.in-Ok.opened.0 c.in-Ok.opened.1
+    (g.S.Source.left c.args.input.now) _ _ _ (sym c.in-Some.ensures.read) c.in-Ok.ensures.opens c.open.ensures.asks c.run_script.ensures.asks i n told left

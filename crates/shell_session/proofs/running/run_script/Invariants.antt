@@ -2,13 +2,13 @@ use Rattle.std.proofs.Common.{◌≡◌, ◌+◌, length}
 use Rattle.command_runs.specs.Counts.{NoneFell, counts}
 use Rattle.shell_commands.specs.Stands.{Sound, Stands}
 use Rattle.shell_commands.specs.State.{State}
-use Rattle.shell_session.specs.Running.{Ran}
+use Rattle.shell_session.proofs.PriceLaws.{Paid}
 use Rattle.shell_session.proofs.running.run_script.Given as goal
 
--- The lines so far were run; each byte that was read is counted or unread; no fault is forgotten.
+-- The lines so far were run, and what was asked for them is paid; each byte that was read is counted or unread; no fault is forgotten.
 abbrev pub invariant-lines : goal.invariant-lines
 invariant-lines g l = record {
-  ran : (s : State) → Stands l.fn.machine (g.F.Files.seen l.fn.files) s → Ran s (g.S.Source.left l.fn.input) (g.K.Sink.taken l.fn.out) l.machine (g.F.Files.seen l.files) l.reader (g.S.Source.left l.input) (g.K.Sink.taken l.out);
+  ran : (s : State) → Stands l.fn.machine (g.F.Files.seen l.fn.files) s → Paid s (g.S.Source.left l.fn.input) (g.K.Sink.taken l.fn.out) l.machine (g.F.Files.seen l.files) l.reader (g.S.Source.left l.input) (g.K.Sink.taken l.out) (g.F.Files.asked l.fn.files) (g.F.Files.asked l.files);
   sound : Sound l.machine (g.F.Files.seen l.files).known;
   unchanged : g.F.Files.seen l.files ≡ g.F.Files.seen l.fn.files;
   sum : g.S.Source.budget l.input + (l.reader.used + length l.reader.unread) ≡ g.S.Source.budget l.fn.input;

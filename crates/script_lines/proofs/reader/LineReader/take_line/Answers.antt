@@ -1,4 +1,4 @@
-use Rattle.std.proofs.Common.{rules, arith, ◌≡◌, ◌≤◌, ◌<◌, ◌-◌, ◌+◌, ℕ, List, length, drop, ap, ◌∙◌}
+use Rattle.std.proofs.Common.{arith, ◌-◌, length, ap, ◌∙◌}
 use Rattle.std.proofs.lemmas.List.{length-drop}
 use Rattle.script_lines.specs.Script.{longest_script}
 use Rattle.script_lines.proofs.ScriptLaws.{feed_room}

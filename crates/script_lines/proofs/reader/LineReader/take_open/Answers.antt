@@ -1,4 +1,4 @@
-use Rattle.std.proofs.Common.{rules, arith, not, true, Ok, Result, Bool, ◌≡◌, ◌≤◌, ◌-◌, ◌+◌, ℕ, List, length, take, drop, min, ap, sym, ◌∙◌, subst}
+use Rattle.std.proofs.Common.{arith, not, ◌≡◌, ◌-◌, length, take, ap, sym, ◌∙◌}
 use Rattle.std.proofs.lemmas.List.{length-drop, length-take}
 use Rattle.script_lines.specs.Reading.{feed_at}
 use Rattle.script_lines.specs.Script.{longest_script}
