@@ -22,13 +22,13 @@ def material(white, black):
     return word
 
 
-def entry(offset, length, ids=(0, 0, 0, 0, 0), flags=0, counts=(0, 0, 0), result=0, eco=0, dates=0, ratings=(0, 0),
+def entry(offset, length, ids=(0, 0, 0, 0, 0), flags=0, customs=0, counts=(0, 0, 0), result=0, eco=0, dates=0, ratings=(0, 0),
           final=(START_MATERIAL, START_MATERIAL), plies=0, home=()):
     """The 47 bytes of an entry."""
     white, black, event, site, names_round = ids
     nibbles = list(home) + [0] * (16 - len(home))
     return (
-        struct.pack(">IHB", offset, length & 0xFFFF, length >> 16 << 7)
+        struct.pack(">IHB", offset, length & 0xFFFF, length >> 16 << 7 | customs)
         + struct.pack(">HB", flags, white >> 16 << 4 | black >> 16)
         + struct.pack(">HH", white & 0xFFFF, black & 0xFFFF)
         + struct.pack(">BHHH", event >> 16 << 5 | site >> 16 << 2 | names_round >> 16, event & 0xFFFF, site & 0xFFFF, names_round & 0xFFFF)
@@ -74,6 +74,63 @@ PAWNS = [
 ]
 PAWNS_NAMES = names_file([("A", 2), ("B", 2)], [("?", 2)], [("?", 2)], [("?", 2)])
 
+
+# Games that `show` writes: each is its record, and what its entry says besides the place of the record.
+E4 = b"\xcf"
+E5 = b"\xcf"
+D4 = b"\xbf"
+DATE = 2000 * 512 + 5 * 32 + 10
+
+
+def game(moves, texts=(), tags=b"", start=None):
+    """A record: extra tags, a start of its own, the moves with their marks, and the texts of the comments."""
+    place = b"\0" if start is None else b"\1" + start + b"\0"
+    return tags + b"\0" + place + moves + b"\x0f" + b"".join(text + b"\0" for text in texts)
+
+
+def tag(name, value):
+    return bytes([len(name)]) + name + bytes([len(value)]) + value
+
+
+SHOWN = [
+    (VIENNA_RECORD, dict(ids=(0, 1, 0, 0, 0), result=1, eco=1 + 13100 + 1310 + 131 * 5, dates=1910 * 512, final=VIENNA_FINAL, plies=21,
+                         home=VIENNA_HOME)),
+    # Comments, NAGs and variations
+    (game(b"\x0c" + E4 + b"\x0b\x01\x0b\x0e\x0c\x0d" + D4 + b"\xbf\x0d\x61\x0e\x0e" + E5, (b"Start", b"Best}")),
+     dict(counts=(2, 2, 2), plies=2, home=(11, 3))),
+    # A null move
+    (game(E4 + b"\0" + D4), dict(plies=3, home=(11, 12))),
+    # An event date near the game's, and one that is a tag
+    (game(E4), dict(dates=(3 + 4) << 29 | 1 << 25 | 2 << 20 | DATE, plies=1, home=(11,))),
+    (game(E4, tags=tag(b"EventDate", b"2004.01.02")), dict(dates=DATE, plies=1, home=(11,))),
+    # A start of its own with Black to move
+    (game(b"\x01\x1f", start=b"4k3/8/8/8/8/8/8/4K2R b - - 0 1"),
+     dict(flags=1, result=3, final=((0, 1, 0, 0, 0), (0, 0, 0, 0, 0)), plies=2)),
+    # Quotation marks and backslashes, all marks, ratings of two kinds, a code with an extension
+    (game(b"", tags=tag(b"Annotator", b"\\")),
+     dict(ids=(2, 3, 1, 0, 0), result=2, flags=0xfff8, customs=0x3f, eco=1 + 13100 + 1310 + 131 * 5 + 2, ratings=(2500, 5 << 12 | 2400))),
+    # Line feeds in comments before the 79th byte and at it, and a carriage return, which is no line end
+    (game(b"\x0c" + E4 + b"\x0c" + E5, (b"x" * 69, b"\nb")), dict(counts=(0, 2, 0), plies=2, home=(11, 3))),
+    (game(b"\x0c" + E4 + b"\x0c" + E5, (b"x" * 69, b"\r\nb")), dict(counts=(0, 2, 0), plies=2, home=(11, 3))),
+    # Units longer than a line
+    (game(b"\x0c" + E4 + b"\x0c", (b"x" * 80, b"x" * 80)), dict(counts=(0, 2, 0), plies=1, home=(11,))),
+    # A variation without moves, and variations one in the other, as many as there may be
+    (game(E4 + b"\x0d\x0e" + E5), dict(counts=(1, 0, 0), plies=2, home=(11, 3))),
+    (game(E4 + (b"\x0d" + E4) * 200 + b"\x0e" * 200), dict(counts=(15, 0, 0), plies=1, home=(11,))),
+]
+SHOWN_NAMES = names_file([("Reti, Richard", 11), ("Tartakower, Savielly", 11), ('O"Neil', 1), ("back\\slash", 1)], [("Vienna", 11), ('"', 1)],
+                         [("Vienna AUT", 12)], [("?", 12)])
+
+
+def all_of(games):
+    """The entries and the records of games, one behind the other; each has the names of Vienna but where it says others."""
+    entries, records = [], b""
+    for record, says in games:
+        entries.append(entry(len(records), len(record), **{"ids": (0, 1, 0, 0, 0), **says}))
+        records += record
+    return entries, records
+
+
 def put(one, at, byte):
     return one[:at] + bytes([byte]) + one[at + 1:]
 
@@ -103,7 +160,7 @@ def vienna(case, of_entry):
 
 
 def main():
-    for case in ("filters_by_number", "find_in_both_orders"):
+    for case in ("filters_by_number", "find_in_both_orders", "search_header_among_filters"):
         write(case, "pawns", index(PAWNS), PAWNS_NAMES, PAWNS_RECORDS)
     # One change a case.
     write("index_of_another_length", "vienna", index([VIENNA])[:-1], VIENNA_NAMES, VIENNA_RECORD)
@@ -124,6 +181,9 @@ def main():
                        [("Vienna AUT", 1)], [("?", 1), ("1", 1)])
     write("base_of_another_program", "vienna", index([shared, put(put(shared, 6, 0x40), 33, 7)]) + b"more", names[:8] + b"time" + names[12:] + b"more",
           b"ab" + VIENNA_RECORD + b"cd")
+    entries, records = all_of(SHOWN)
+    for case in ("show_games", "list_and_export", "search_header", "search_header_in_three_ways"):
+        write(case, "games", index(entries), SHOWN_NAMES, records)
     write("base_of_no_games", "none", index([]), names_file([("Nobody", 0)], [("?", 0)], [("?", 0)], [("?", 0)]), b"")
 
 

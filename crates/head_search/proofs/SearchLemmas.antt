@@ -13,7 +13,7 @@ use Rattle.head_search.specs.Matching.{first_of, firsts_of, head_matches}
 
 -- The first matching ply of a game, by its head and its signature.
 first_at : (query : HeadQuery) (heads : List Head) (sigs : List Sig) (i : ℕ) (head : Head) (sig : Sig) → slice_get heads i ≡ Some head → slice_get sigs i ≡ Some sig
-    → get_or (firsts_of query heads sigs) i None ≡ first_of query head sig
+    → get_or (firsts_of query heads sigs) i None ≡ first_of query head sig.plies
 first_at query [] sigs i head sig h s = absurd cc
 first_at query (a ∷ heads) [] i head sig h s = absurd cc
 first_at query (a ∷ heads) (b ∷ sigs) zero head sig h s = cc
@@ -29,14 +29,14 @@ refused : (r : Bool) → r ≡ false → ply_if false ≡ ply_if r
 refused r e = ap ply_if (sym e)
 
 pub first_there : (query : HeadQuery) (heads : List Head) (sigs : List Sig) (i : ℕ) (head : Head) (sig : Sig) (r : Bool) → slice_get heads i ≡ Some head
-    → slice_get sigs i ≡ Some sig → r ≡ head_matches head sig query → r ≡ true → ply_if true ≡ get_or (firsts_of query heads sigs) i None
+    → slice_get sigs i ≡ Some sig → r ≡ head_matches head sig.plies query → r ≡ true → ply_if true ≡ get_or (firsts_of query heads sigs) i None
 first_there query heads sigs i head sig r h s is asked =
-    chosen (head_matches head sig query) (sym is ∙ asked) ∙ sym (first_at query heads sigs i head sig h s)
+    chosen (head_matches head sig.plies query) (sym is ∙ asked) ∙ sym (first_at query heads sigs i head sig h s)
 
 pub first_none : (query : HeadQuery) (heads : List Head) (sigs : List Sig) (i : ℕ) (head : Head) (sig : Sig) (r : Bool) → slice_get heads i ≡ Some head
-    → slice_get sigs i ≡ Some sig → r ≡ head_matches head sig query → r ≡ false → ply_if false ≡ get_or (firsts_of query heads sigs) i None
+    → slice_get sigs i ≡ Some sig → r ≡ head_matches head sig.plies query → r ≡ false → ply_if false ≡ get_or (firsts_of query heads sigs) i None
 first_none query heads sigs i head sig r h s is passed =
-    refused (head_matches head sig query) (sym is ∙ passed) ∙ sym (first_at query heads sigs i head sig h s)
+    refused (head_matches head sig.plies query) (sym is ∙ passed) ∙ sym (first_at query heads sigs i head sig h s)
 
 -- There are as many first plies as games.
 pub length-firsts : (query : HeadQuery) (heads : List Head) (sigs : List Sig) → length heads ≡ length sigs → length (firsts_of query heads sigs) ≡ length sigs

@@ -64,8 +64,8 @@ abbrev pub belo_holds : Head → HeadQuery → Bool
 belo_holds head query = holds query.belo (λ span. is_in span head.black_rating.value)
 
 -- Key `plies`: those of the main line; more than 1,023 count as 1,023.
-abbrev pub plies_hold : Sig → HeadQuery → Bool
-plies_hold sig query = holds query.plies (λ span. is_in span sig.plies)
+abbrev pub plies_hold : ℕ → HeadQuery → Bool
+plies_hold plies query = holds query.plies (λ span. is_in span plies)
 
 -- Key `eco`: the opening code; it never holds of a game without one.
 abbrev pub eco_holds : Head → HeadQuery → Bool
@@ -79,20 +79,20 @@ deleted_holds head query = holds query.deleted (λ yes. if yes then head.deleted
 abbrev pub mark_holds : Head → HeadQuery → Bool
 mark_holds head query = holds query.mark (λ bit. bit_at head.marks bit == 1)
 
--- A game with this head and this signature is one that is asked for: every item holds.
-unfoldable pub head_matches : Head → Sig → HeadQuery → Bool
-head_matches head sig query =
-    (deleted_holds head query && mark_holds head query && result_holds head query && plies_hold sig query && year_holds head query
+-- A game with this head and so many plies is one that is asked for: every item holds.
+unfoldable pub head_matches : Head → ℕ → HeadQuery → Bool
+head_matches head plies query =
+    (deleted_holds head query && mark_holds head query && result_holds head query && plies_hold plies query && year_holds head query
     && welo_holds head query && belo_holds head query && eco_holds head query)
     && (white_holds head query && black_holds head query && player_holds head query && event_holds head query && site_holds head query
     && round_holds head query)
 
 -- The first ply at which a game matches: a search of heads matches at ply 0 or not at all.
-abbrev pub first_of : HeadQuery → Head → Sig → Option ℕ
-first_of query head sig = if head_matches head sig query then Some 0 else None
+abbrev pub first_of : HeadQuery → Head → ℕ → Option ℕ
+first_of query head plies = if head_matches head plies query then Some 0 else None
 
 -- The first matching plies of all games.
 abbrev pub firsts_of : HeadQuery → List Head → List Sig → List (Option ℕ)
 firsts_of query [] sigs = []
 firsts_of query (head ∷ heads) [] = []
-firsts_of query (head ∷ heads) (sig ∷ sigs) = first_of query head sig ∷ firsts_of query heads sigs
+firsts_of query (head ∷ heads) (sig ∷ sigs) = first_of query head sig.plies ∷ firsts_of query heads sigs

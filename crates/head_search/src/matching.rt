@@ -1,5 +1,6 @@
 //! What a search of heads asks of one game.
-ghost use Rattle.std.specs.Prelude.{◌≡◌, ◌<◌, ◌&&◌, [], IfSome};
+ghost use Rattle.std.specs.Prelude.{◌≡◌, ◌==◌, ◌&&◌, []};
+ghost use Rattle.std.specs.Int.{bit_at};
 ghost use Rattle.game_tree.specs.Head.{head_of};
 ghost use Rattle.head_search.specs.Matching.{begins, belo_holds, black_holds, deleted_holds, eco_holds, event_holds, head_matches, holds, is_in, mark_holds, player_holds, plies_hold, result_holds, round_holds, site_holds, welo_holds, white_holds, year_holds};
 
@@ -7,21 +8,18 @@ use cell_core::Text;
 use game_tree::HeadRef;
 use sig_index::{HeadQuery, Sig, Span};
 
-/// Whether a game with this head and this signature is one that is asked for: every item of the query holds. A mark that is asked for
-/// is below 18.
+/// Whether a game with this head and this signature is one that is asked for: every item of the query holds.
 #[tactic(auto, unfolding(crate::specs::Matching::head_matches))]
 pub fn matches(h: HeadRef<'_>, s: &Sig, q: &HeadQuery) -> bool
-    requires mark { IfSome q.now.mark (λ bit. bit < 18) }
-    ensures matches { result ≡ head_matches (head_of h.entry []) s.now q.now }
+    ensures matches { result ≡ head_matches (head_of h.entry []) s.now.plies q.now }
 {
     numbers_hold(&h, s, q) && names_hold(&h, q)
 }
 
 // Whether all items hold but those of names: these cost the least.
 fn numbers_hold(h: &HeadRef<'_>, s: &Sig, q: &HeadQuery) -> bool
-    requires mark { IfSome q.now.mark (λ bit. bit < 18) }
     ensures { result ≡ (deleted_holds (head_of h.now []) q.now && mark_holds (head_of h.now []) q.now && result_holds (head_of h.now []) q.now
-        && plies_hold s.now q.now && year_holds (head_of h.now []) q.now && welo_holds (head_of h.now []) q.now && belo_holds (head_of h.now []) q.now
+        && plies_hold s.now.plies q.now && year_holds (head_of h.now []) q.now && welo_holds (head_of h.now []) q.now && belo_holds (head_of h.now []) q.now
         && eco_holds (head_of h.now []) q.now) }
 {
     deleted_holds(h, q)
@@ -45,13 +43,20 @@ fn deleted_holds(h: &HeadRef<'_>, q: &HeadQuery) -> bool
 }
 
 fn mark_holds(h: &HeadRef<'_>, q: &HeadQuery) -> bool
-    requires mark { IfSome q.now.mark (λ bit. bit < 18) }
     ensures { result ≡ mark_holds (head_of h.now []) q.now }
 {
     match q.mark {
-        Some(bit) => h.marks >> bit & 1 == 1,
+        Some(bit) => is_set(h.marks, bit),
         None => true,
     }
+}
+
+// Whether this bit of the marks is set. No bit is from the thirty-second on.
+#[tactic(auto, using(crate::proofs::MarkLemmas::none_above))]
+fn is_set(marks: u32, bit: u8) -> bool
+    ensures { result ≡ (bit_at marks bit == 1) }
+{
+    bit < 32 && marks >> bit & 1 == 1
 }
 
 fn result_holds(h: &HeadRef<'_>, q: &HeadQuery) -> bool
@@ -100,7 +105,7 @@ fn eco_holds(h: &HeadRef<'_>, q: &HeadQuery) -> bool
 }
 
 fn plies_hold(s: &Sig, q: &HeadQuery) -> bool
-    ensures { result ≡ plies_hold s.now q.now }
+    ensures { result ≡ plies_hold s.now.plies q.now }
 {
     match &q.plies {
         Some(span) => is_in(span, s.plies),

@@ -1,5 +1,5 @@
 //! The search of all games.
-ghost use Rattle.std.specs.Prelude.{◌≡◌, ◌<◌, None, length, slice_index_or, slice_set, IfSome};
+ghost use Rattle.std.specs.Prelude.{◌≡◌, ◌<◌, None, length, slice_index_or, slice_set};
 ghost use Rattle.game_filter.specs.Search.{entry_after, searched};
 ghost use Rattle.head_search.specs.Matching.{first_of, firsts_of};
 
@@ -8,10 +8,9 @@ use game_filter::{Filter, Op};
 use sig_index::{Games, HeadQuery};
 
 /// Leaves in the filter what its entries become by a search of heads: a game that is asked for matches at ply 0. The filter has one
-/// entry per game, and a mark that is asked for is below 18.
+/// entry per game.
 pub fn search<G: Games>(games: &G, q: &HeadQuery, op: Op, filter: &mut Filter)
     requires games { length filter.old ≡ length (G.sigs games.now) }
-    requires mark { IfSome q.now.mark (λ bit. bit < 18) }
     ensures found { filter.new ≡ searched op (firsts_of q.now (G.heads games.now) (G.sigs games.now)) filter.old }
 {
     for i in 0..games.len() {
@@ -24,7 +23,6 @@ pub fn search<G: Games>(games: &G, q: &HeadQuery, op: Op, filter: &mut Filter)
 fn search_game<G: Games>(games: &G, i: u32, q: &HeadQuery, op: Op, filter: &mut Filter)
     requires game { i < length (G.sigs games.now) }
     requires games { length filter.old ≡ length (G.sigs games.now) }
-    requires mark { IfSome q.now.mark (λ bit. bit < 18) }
     ensures joined { filter.new ≡ slice_set filter.old i (entry_after op (slice_index_or filter.old i None)
         (slice_index_or (firsts_of q.now (G.heads games.now) (G.sigs games.now)) i None)) }
 {
@@ -39,7 +37,6 @@ fn search_game<G: Games>(games: &G, i: u32, q: &HeadQuery, op: Op, filter: &mut 
 #[tactic(auto, using(crate::proofs::SearchLemmas::first_there, crate::proofs::SearchLemmas::first_none))]
 fn first_ply<G: Games>(games: &G, i: u32, q: &HeadQuery) -> Option<u32>
     requires game { i < length (G.sigs games.now) }
-    requires mark { IfSome q.now.mark (λ bit. bit < 18) }
     ensures first { result ≡ slice_index_or (firsts_of q.now (G.heads games.now) (G.sigs games.now)) i None }
 {
     if matches(games.head(i), &games.sig(i), q) {

@@ -1,6 +1,4 @@
 //! What no clause says: each key beside its neighbours, over heads that were written by hand.
-ghost use Rattle.std.specs.Prelude.{◌<◌, IfOk, IfSome};
-
 use super::*;
 use cell_core::Text;
 use game_codec::decode_game;
@@ -110,7 +108,7 @@ static HEADS: [HeadRef<'static>; 3] = [
 const PLIES: [u16; 3] = [3, 3, 1023];
 
 // Keys, and the games that are asked for: game 0 is the bit of 1, game 1 that of 2, game 2 that of 4.
-const ROWS: [(Key, u8); 47] = [
+const ROWS: [(Key, u8); 48] = [
     (Key::White(b"A"), 1),
     (Key::White(b""), 7),
     (Key::White(b"K"), 4),
@@ -158,6 +156,7 @@ const ROWS: [(Key, u8); 47] = [
     (Key::Mark(0), 4),
     (Key::Mark(1), 0),
     (Key::Mark(17), 4),
+    (Key::Mark(32), 0),
 ];
 
 fn text(alloc: Global, bytes: &[u8]) -> Result<Text, Fail> {
@@ -167,11 +166,8 @@ fn text(alloc: Global, bytes: &[u8]) -> Result<Text, Fail> {
     }
 }
 
-// The query with one key more. A mark is below 18.
-fn asked(alloc: Global, mut query: HeadQuery, key: Key) -> Result<HeadQuery, Fail>
-    requires { IfSome query.mark (λ bit. bit < 18) }
-    ensures { IfOk result (λ asked. IfSome asked.mark (λ bit. bit < 18)) }
-{
+// The query with one key more.
+fn asked(alloc: Global, mut query: HeadQuery, key: Key) -> Result<HeadQuery, Fail> {
     match key {
         Key::White(name) => query.white = Some(text(alloc, name)?),
         Key::Black(name) => query.black = Some(text(alloc, name)?),
@@ -186,15 +182,13 @@ fn asked(alloc: Global, mut query: HeadQuery, key: Key) -> Result<HeadQuery, Fai
         Key::Plies(lo, hi) => query.plies = Some(Span { lo, hi }),
         Key::Eco(lo, hi) => query.eco = Some(Span { lo, hi }),
         Key::Deleted(yes) => query.deleted = Some(yes),
-        Key::Mark(bit) => query.mark = Some(bit.min(17)),
+        Key::Mark(bit) => query.mark = Some(bit),
     }
     Ok(query)
 }
 
 // The bits of the games that are asked for.
-fn found(query: &HeadQuery) -> u8
-    requires { IfSome query.now.mark (λ bit. bit < 18) }
-{
+fn found(query: &HeadQuery) -> u8 {
     let mut sig = Sig {
         material: [0; 10],
         home: HomeList {
@@ -285,9 +279,7 @@ fn left(
     query: &HeadQuery,
     op: Op,
     entries: [Option<u32>; 4],
-) -> Result<[Option<u32>; 4], Fail>
-    requires { IfSome query.now.mark (λ bit. bit < 18) }
-{
+) -> Result<[Option<u32>; 4], Fail> {
     let mut filter = Filter::new(alloc, 4)?;
     for i in 0..4u32 {
         assert!(rt; i < filter.len());

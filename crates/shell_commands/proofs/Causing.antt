@@ -9,7 +9,7 @@ use Rattle.shell_commands.specs.declared.halt.Halt.TheVariants as halt
 use Rattle.shell_commands.specs.Stands.{WhyHalt, Broken}
 use Rattle.shell_commands.specs.State.{State}
 use Rattle.shell_commands.specs.Do.{Order, order_asks}
-use Rattle.shell_commands.specs.Ends.{IsOutput, IsDevice}
+use Rattle.shell_commands.specs.Ends.{IsOutput, IsDevice, IsFault}
 
 -- No device that is not there has a fault.
 none_rose : Rose 0 0 → ⊥
@@ -66,3 +66,11 @@ causes_search (Ok x) f f' a c =
     record { none_fell = record { files = c.none_fell.files; input = c.none_fell.input; output = omega arith }; why = tt }
 causes_search (Err e) f f' a c =
     record { none_fell = record { files = c.none_fell.files; input = c.none_fell.input; output = omega arith }; why = why_search e f f' a c.why }
+
+-- What breaks off a command that writes games may break off a line that asks the files.
+pub broken_by_fault : (s : State) (order : Order) (e : Halt) → order_asks order ≡ true → IsFault e → Broken s order e
+broken_by_fault s order (halt.Device stop.Files) asks fault = asks
+broken_by_fault s order (halt.Device stop.Write) asks fault = tt
+broken_by_fault s order (halt.Device stop.Memory) asks fault = tt
+broken_by_fault s order (halt.Device stop.Read) asks fault = absurd fault
+broken_by_fault s order (halt.Changed game kept found) asks fault = absurd fault

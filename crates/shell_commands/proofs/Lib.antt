@@ -9,4 +9,8 @@ pub mod Informing
 pub mod FindingLaws
 pub mod HoldingLaws
 pub mod FirstPlyIs
+pub mod HeadLaws
+pub mod TextLaws
+pub mod ListingLaws
+pub mod GameTextLaws
 pub mod Prices

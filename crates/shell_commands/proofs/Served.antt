@@ -1,14 +1,16 @@
 -- Laws of what a line owes a state.
-use Rattle.std.proofs.Common.{◌≡◌, ℕ, List, [], Option, Result, Ok, Err, OnOk, ap, subst, ◌∙◌}
+use Rattle.std.proofs.Common.{◌≡◌, ℕ, false, List, [], Option, Result, Ok, Err, OnOk, ap, subst, ◌∙◌}
 use Rattle.std.specs.Prelude.{IfErr}
 use Rattle.base_files.specs.Seen.{Seen}
 use Rattle.base_files.specs.Told.{adds}
 use Rattle.command_runs.specs.Endings.{Halted, Serves}
+use Rattle.script_text.specs.declared.command.Command.TheVariants.{Export}
 use Rattle.shell_commands.specs.declared.halt.Halt.{Halt}
 use Rattle.shell_commands.specs.Do.{Order, plain}
 use Rattle.shell_commands.specs.Ends.{IsOutput}
 use Rattle.shell_commands.specs.Stands.{Holding, Stands, Quiet, Broken}
 use Rattle.shell_commands.specs.State.{State}
+use Rattle.shell_commands.specs.Turns.{is_export}
 use Rattle.shell_commands.proofs.Causing.{broken_by_output}
 
 -- A line that asked no file, and whose text was written or broken off.
@@ -20,3 +22,10 @@ quiet_serves (Ok x) old new order line seen s before after q st written halted o
 quiet_serves (Err e) old new order line seen s before after q st written halted output =
     let P : List ℕ → Type 0 = λ l. Halted [] l before after in
     record { wrote = subst P (q.text seen s st) halted; broken = broken_by_output s order e output }
+
+-- A line that is written whole is no export.
+pub no_export : (order : Order) → order ≡ Ok Export → is_export order ≡ false → ⊥
+no_export order exports other =
+    let P : Order → Type 0 = λ o. is_export o ≡ false in
+    let same : is_export (Ok Export) ≡ false = subst P exports other in
+    absurd cc

@@ -1,17 +1,19 @@
 -- What each line of a script does to a state, and the text that it writes: the plain machine. This project's own.
-use Rattle.std.specs.Prelude.{ℕ, Bool, true, false, if◌then◌else◌, List, [], sum_by, Result, Ok, Err}
+use Rattle.std.specs.Prelude.{ℕ, ◌+◌, Bool, true, false, List, [], ◌∷◌, sum_by, slice_get, Option, Some, None, Result, Ok, Err}
 use Rattle.game_filter.specs.Filter.{intersection, union}
 use Rattle.script_text.specs.declared.command.Command.{Command}
-use Rattle.script_text.specs.declared.command.Command.TheVariants.{Nothing, Find, SearchPosition, SearchMaterial, SearchHeader, Reset, Clear, Negate, Restrict, Keep, Take, And, Or, Drop, Hits, Info, Quit}
+use Rattle.script_text.specs.declared.command.Command.TheVariants.{Nothing, Find, SearchPosition, SearchMaterial, SearchHeader, Reset, Clear, Negate, Restrict, Keep, Take, And, Or, Drop, Hits, List as Listing, Show, Export, Info, Quit}
 use Rattle.script_text.specs.declared.fault.ScriptFault.{ScriptFault}
 use Rattle.script_text.specs.declared.fault.ScriptFault.TheVariants.{Unknown, Argument}
 use Rattle.command_runs.specs.Plain.{Plain}
 use Rattle.shell_commands.specs.FirstPly.{sought}
 use Rattle.shell_commands.specs.Lines.{filter_line, hits_text, fault_line}
 use Rattle.shell_commands.specs.State.{State}
-use Rattle.shell_commands.specs.Searching.{find_after, find_text}
+use Rattle.shell_commands.specs.Searching.{find_after, find_text, search_header_after, search_header_text}
 use Rattle.shell_commands.specs.Filters.{reset_after, clear_after, negate_after, restrict_after, keep_after, keep_text, join_after, join_text, drop_after, drop_text}
 use Rattle.shell_commands.specs.SavedFilters.{taken}
+use Rattle.shell_commands.specs.Listing.{list_text}
+use Rattle.shell_commands.specs.GameTexts.{show_text, export_text}
 use Rattle.shell_commands.specs.Showing.{info_text, quit_text}
 
 -- A line of a script: the command that it says, or its first fault.
@@ -21,6 +23,7 @@ Order = Result Command ScriptFault
 -- The state after a command. A command that is not there yet does nothing.
 abbrev pub done_by : State → Command → State
 done_by s (Find board side) = find_after s (sought board side)
+done_by s (SearchHeader op query) = search_header_after s op query
 done_by s Reset = reset_after s
 done_by s Clear = clear_after s
 done_by s Negate = negate_after s
@@ -38,7 +41,7 @@ said_by s Nothing = []
 said_by s (Find board side) = find_text s (sought board side)
 said_by s (SearchPosition op query) = fault_line (Argument 2)
 said_by s (SearchMaterial op query) = fault_line (Argument 2)
-said_by s (SearchHeader op query) = fault_line (Argument 2)
+said_by s (SearchHeader op query) = search_header_text s op query
 said_by s Reset = filter_line (reset_after s).filter
 said_by s Clear = filter_line (clear_after s).filter
 said_by s Negate = filter_line (negate_after s).filter
@@ -49,6 +52,9 @@ said_by s (And name) = join_text intersection s name
 said_by s (Or name) = join_text union s name
 said_by s (Drop name) = drop_text s name
 said_by s Hits = hits_text s.filter
+said_by s Listing = list_text s
+said_by s (Show game) = show_text s game
+said_by s Export = export_text s
 said_by s Info = info_text s
 said_by s Quit = quit_text s
 said_by s _ = fault_line Unknown
@@ -69,12 +75,39 @@ plain = record { after = after_order; text = text_of_order }
 -- Whether a line is one that asks the files of the base.
 abbrev pub command_asks : Command → Bool
 command_asks (Find board side) = true
+command_asks (Show game) = true
+command_asks Export = true
 command_asks _ = false
 
 abbrev pub order_asks : Order → Bool
 order_asks (Ok command) = command_asks command
 order_asks (Err fault) = false
 
--- How many bytes of the games file a line asks at most: those of all records, or none.
+-- The length of the record of a game, if there is one.
+abbrev pub len_in : {A : Type 0} → (A → ℕ) → Option A → ℕ
+len_in len (Some game) = len game
+len_in len None = 0
+
+-- The length of the record of a game that is in.
+abbrev pub len_if_in : Option ℕ → ℕ → ℕ
+len_if_in (Some ply) len = len
+len_if_in None len = 0
+
+-- The lengths of the records of the games that are in, all told.
+abbrev pub filtered_len : {A : Type 0} → (A → ℕ) → List (Option ℕ) → List A → ℕ
+filtered_len len [] games = 0
+filtered_len len (ply ∷ plies) [] = 0
+filtered_len len (ply ∷ plies) (game ∷ games) = len_if_in ply (len game) + filtered_len len plies games
+
+-- How many bytes of the games file a command asks at most, by what has the lengths of the games' records: those of all games, of the game that
+-- is shown, of the games that are exported.
+abbrev pub command_price : {A : Type 0} → (A → ℕ) → List A → List (Option ℕ) → Command → ℕ
+command_price len games plies (Find board side) = sum_by len games
+command_price len games plies (Show game) = len_in len (slice_get games game)
+command_price len games plies Export = filtered_len len plies games
+command_price len games plies _ = 0
+
+-- How many bytes of the games file a line asks at most.
 abbrev pub price : State → Order → ℕ
-price s order = if order_asks order then sum_by (λ held. held.len) s.base.games else 0
+price s (Ok command) = command_price (λ held. held.len) s.base.games s.filter command
+price s (Err fault) = 0

@@ -1,6 +1,12 @@
 -- Why a part of a command ends early. Only private functions cite this.
-use Rattle.std.specs.Prelude.{⊤}
+use Rattle.std.specs.Prelude.{◌≡◌, ⊤, ℕ, List, [], Option, Result, Ok, Err}
+use Rattle.base_core.specs.Base.{Held}
+use Rattle.base_core.specs.declared.fault.EditError.{EditError}
+use Rattle.base_core.specs.declared.fault.EditError.TheVariants as edit
+use Rattle.base_files.specs.Told.{adds}
 use Rattle.base_files.specs.declared.faults.Stop.TheVariants as stop
+use Rattle.command_runs.specs.Endings.{Halted}
+use Rattle.shell_commands.specs.GameTexts.{ExportCut, exported}
 use Rattle.shell_commands.specs.declared.halt.Halt.{Halt}
 use Rattle.shell_commands.specs.declared.halt.Halt.TheVariants as halt
 
@@ -15,3 +21,37 @@ abbrev pub IsOutput : Halt → Type 0
 IsOutput (halt.Device stop.Write) = ⊤
 IsOutput (halt.Device stop.Memory) = ⊤
 IsOutput _ = ⊥
+
+-- A command that reads and writes games ends early by the files, by the output or by memory alone.
+abbrev pub IsFault : Halt → Type 0
+IsFault (halt.Device stop.Files) = ⊤
+IsFault (halt.Device stop.Write) = ⊤
+IsFault (halt.Device stop.Memory) = ⊤
+IsFault _ = ⊥
+
+-- A game's text was written, or was broken off: nothing of it where the files failed, and else a front part. Told files never change.
+pub record GameCut (e : Halt) (text : List ℕ) (told : Option (List ℕ)) (told' : Option (List ℕ)) : Type 0 where
+  pub wrote : Halted [] text told told'
+  pub whole : e ≡ halt.Device stop.Files → told' ≡ told
+  pub fault : IsFault e
+
+abbrev pub GameEnds : {A : Type 0} → Result A Halt → List ℕ → Option (List ℕ) → Option (List ℕ) → Type 0
+GameEnds (Ok x) text told told' = told' ≡ adds told text
+GameEnds (Err e) text told told' = GameCut e text told told'
+
+-- The texts of the games that are in were written, or were broken off at a game.
+abbrev pub GamesEnd : {A : Type 0} → Result A Halt → List (Option ℕ) → List Held → Option (List ℕ) → Option (List ℕ) → Type 0
+GamesEnd (Ok x) plies games told told' = told' ≡ adds told (exported plies games)
+GamesEnd (Err e) plies games told told' = ExportCut plies games e told told' × IsFault e
+
+-- An error of reading a game that is there.
+abbrev pub HasGame : EditError → Type 0
+HasGame (edit.NoGame game) = ⊥
+HasGame _ = ⊤
+
+-- How a command ends that reads it.
+abbrev pub halt_of : EditError → Halt
+halt_of edit.Failed = halt.Device stop.Files
+halt_of edit.Memory = halt.Device stop.Memory
+halt_of (edit.Changed game kept found) = halt.Changed game kept found
+halt_of (edit.NoGame game) = halt.Device stop.Memory

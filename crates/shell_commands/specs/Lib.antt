@@ -5,6 +5,8 @@ pub mod State
 pub mod Searching
 pub mod Filters
 pub mod Showing
+pub mod Listing
+pub mod GameTexts
 pub mod Do
 pub mod Stands
 pub mod Turns

@@ -30,6 +30,12 @@ hit_lines game (None ∷ plies) = hit_lines (game + 1) plies
 abbrev pub hits_text : List (Option ℕ) → List ℕ
 hits_text plies = hit_lines 0 plies ++ filter_line plies
 
+-- The texts of the entries of a filter, each beside what there is of its game, the first being that of this game.
+abbrev pub texts_from : {A : Type 0} → (ℕ → Option ℕ → A → List ℕ) → ℕ → List (Option ℕ) → List A → List ℕ
+texts_from text game [] items = []
+texts_from text game (ply ∷ plies) [] = []
+texts_from text game (ply ∷ plies) (item ∷ items) = text game ply item ++ texts_from text (game + 1) plies items
+
 -- A word and a name.
 abbrev pub name_line : List ℕ → List ℕ → List ℕ
 name_line words name = words ++ name ++ 10 ∷ []

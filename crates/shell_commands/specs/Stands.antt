@@ -1,14 +1,15 @@
 -- How the machine stands for a plain state, beside the files of its base. This project's own.
-use Rattle.std.specs.Prelude.{◌≡◌, ◌≤◌, ℕ, false, IsTrue, ⊤, if◌then◌else◌, List, All, length, sum_by, Option, Some}
+use Rattle.std.specs.Prelude.{◌≡◌, ◌≤◌, ℕ, false, IsTrue, ⊤, List, All, length, sum_by, slice_get, Option, Some, Ok, Err}
 use Rattle.base_files.specs.Seen.{Seen}
 use Rattle.base_files.specs.declared.faults.Stop.TheVariants as stop
 use Rattle.base_core.specs.Base.{Base}
 use Rattle.base_core.specs.Represents.{Kept, Represents, IsSound}
 use Rattle.command_runs.specs.Counts.{Counts, Why}
+use Rattle.index_entry.specs.declared.entry.Entry.{Entry}
 use Rattle.shell_commands.specs.declared.halt.Halt.{Halt}
 use Rattle.shell_commands.specs.declared.halt.Halt.TheVariants as halt
 use Rattle.shell_commands.specs.declared.saved.SavedFilter.{SavedFilter}
-use Rattle.shell_commands.specs.Do.{Order, order_asks, after_order, text_of_order}
+use Rattle.shell_commands.specs.Do.{Order, order_asks, after_order, text_of_order, command_price, filtered_len, len_in}
 use Rattle.shell_commands.specs.State.{State, begin}
 
 -- What a machine holds: what the open base keeps, the filter, and the filters that are kept by name.
@@ -62,9 +63,18 @@ WhyHalt (halt.Changed game kept found) old new = found ≡ Some kept → ⊥
 abbrev pub records_len : Holding → ℕ
 records_len holding = sum_by (λ e. e.len) holding.kept.entries
 
+-- The bytes of the record of one game; past the last game there are none.
+abbrev pub len_at : List Entry → ℕ → ℕ
+len_at entries game = len_in (λ e. e.len) (slice_get entries game)
+
+-- The bytes of the records of the games that are in.
+abbrev pub exported_len : List (Option ℕ) → List Entry → ℕ
+exported_len plies entries = filtered_len (λ e. e.len) plies entries
+
 -- How many bytes of the games file a line asks at most.
 abbrev pub cost : Holding → Order → ℕ
-cost holding order = if order_asks order then records_len holding else 0
+cost holding (Ok command) = command_price (λ e. e.len) holding.kept.entries holding.filter command
+cost holding (Err fault) = 0
 
 -- A machine begins with what an open base keeps: it is sound where the base's records lie within the known length, and where these files
 -- tell a games file beside which what is kept stands for a base, without changes, it stands for the state in which a script begins.

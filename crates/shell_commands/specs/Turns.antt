@@ -1,13 +1,22 @@
 -- What a line leaves to do. Only private functions cite this.
-use Rattle.std.specs.Prelude.{◌≡◌, Ok}
+use Rattle.std.specs.Prelude.{◌≡◌, ◌<◌, Bool, true, false, Ok, Err, length}
 use Rattle.script_text.specs.declared.command.Command.TheVariants as command
 use Rattle.shell_commands.specs.declared.serving.Turn.{Turn}
-use Rattle.shell_commands.specs.declared.serving.Turn.TheVariants.{Line, Find, Hits}
+use Rattle.shell_commands.specs.declared.serving.Turn.TheVariants.{Line, Find, Hits, List, Show, Export}
 use Rattle.shell_commands.specs.Do.{Order}
 use Rattle.shell_commands.specs.Stands.{Holding, Quiet}
 
+-- Whether a line is `export`, which writes game by game.
+abbrev pub is_export : Order → Bool
+is_export (Ok command.Export) = true
+is_export (Ok _) = false
+is_export (Err fault) = false
+
 -- Its text is to be written, or it is one that writes as it goes and has done nothing yet.
 abbrev pub IsTurn : Holding → Order → Holding → Turn → Type 0
-IsTurn old order new (Line line) = Quiet old order new line.items
+IsTurn old order new (Line line) = Quiet old order new line.items × (is_export order ≡ false)
 IsTurn old order new (Find board side) = (order ≡ Ok (command.Find board.now side)) × (new ≡ old)
 IsTurn old order new Hits = (order ≡ Ok command.Hits) × (new ≡ old)
+IsTurn old order new List = (order ≡ Ok command.List) × (new ≡ old)
+IsTurn old order new (Show game) = (order ≡ Ok (command.Show game)) × ((game < length old.kept.entries) × (new ≡ old))
+IsTurn old order new Export = (order ≡ Ok command.Export) × (new ≡ old)

@@ -18,7 +18,7 @@ use game_filter::Filter;
 use std::alloc::AllocError;
 
 /// How many bytes of text are put together before they are written.
-const PIECE: usize = 32_768;
+pub(crate) const PIECE: usize = 32_768;
 
 // hits
 pub(crate) fn hits<K: Sink>(machine: &mut Machine, out: &mut K) -> Result<(), Halt>

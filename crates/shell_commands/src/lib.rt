@@ -4,10 +4,13 @@
 mod filters;
 mod find;
 mod finding;
+mod game_texts;
 mod halt;
+mod heads;
 mod hits;
 mod laws;
 mod lines;
+mod listing;
 mod machine;
 mod saved;
 mod serving;

@@ -1,6 +1,7 @@
 //! The lines that commands write.
 ghost use Rattle.std.specs.Prelude.{◌≡◌, ◌++◌, ◌∷◌, [], IfOk};
 ghost use Rattle.script_text.specs.declared.fault.ScriptFault.TheVariants.{Unknown};
+ghost use Rattle.shell_commands.specs.GameTexts.{no_game_line};
 ghost use Rattle.shell_commands.specs.Lines.{filter_line, name_line, line_of, fault_line, argument_line};
 
 use cell_core::Text;
@@ -54,6 +55,14 @@ fn argument_line(alloc: Global, n: u32) -> Result<Vec<u8>, AllocError>
     ensures { IfOk result (λ line. line.items ≡ argument_line n) }
 {
     let line = format!(in alloc; "error: argument {n}\n")?;
+    Ok(line.into_bytes())
+}
+
+// The error line of a game that is not there.
+pub(crate) fn no_game_line(alloc: Global, game: u64) -> Result<Vec<u8>, AllocError>
+    ensures { IfOk result (λ line. line.items ≡ no_game_line game) }
+{
+    let line = format!(in alloc; "error: no game {game}\n")?;
     Ok(line.into_bytes())
 }
 

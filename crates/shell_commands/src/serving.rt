@@ -6,15 +6,19 @@ ghost use Rattle.command_runs.specs.Counts.{Causes, Why, counts};
 ghost use Rattle.script_text.specs.declared.command.Command.TheVariants as command;
 ghost use Rattle.shell_commands.specs.Do.{plain};
 ghost use Rattle.shell_commands.specs.Ends.{IsOutput};
+ghost use Rattle.shell_commands.specs.GameTexts.{ExportCut};
 ghost use Rattle.shell_commands.specs.Stands.{Stands, Sound, Fits, Quiet, Broken, WhyHalt, cost};
 ghost use Rattle.shell_commands.specs.State.{State};
 ghost use Rattle.shell_commands.specs.Turns.{IsTurn};
 
 use crate::filters::{and, clear, drop_filter, keep_filter, negate, or, reset, restrict, take};
 use crate::finding::find;
+use crate::game_texts::{export, show, show_turn};
 use crate::halt::Halt;
+use crate::heads::search_header;
 use crate::hits::hits;
 use crate::lines::{fault_line, unknown};
+use crate::listing::list;
 use crate::machine::Machine;
 use crate::showing::{info, quit};
 use base_files::{Files, Sink, Stop};
@@ -32,6 +36,9 @@ pub(crate) enum Turn<'a> {
     Line(Vec<u8>),
     Find(&'a Board, Colour),
     Hits,
+    List,
+    Show(u32),
+    Export,
 }
 
 /// Does what a line of a script says, and writes its text.
@@ -47,6 +54,9 @@ pub fn serve<F: Files, K: Sink>(
     // Where the files are told, the machine stands for the state after the command and its text is written, or a front part of it.
     ensures serves { (s : State) → Stands machine.old (F.seen files.old) s → Serves plain (Stands machine.new (F.seen files.new)) Broken s order.now (K.taken out.old) (K.taken out.new) result }
     ensures sound { OnOk result (Sound machine.new (F.seen files.new).known) }
+
+    // Of an export that is broken off, the games before that one are written whole.
+    ensures whole { (s : State) → Stands machine.old (F.seen files.old) s → order.now ≡ Ok command.Export → IfErr result (λ e. ExportCut s.filter s.base.games e (K.taken out.old) (K.taken out.new)) }
     ensures unchanged { F.seen files.new ≡ F.seen files.old }
     ensures asks { F.asked files.new ≤ F.asked files.old + cost machine.old order.now }
     ensures causes { Causes WhyHalt result (counts (F.faults files.old) 0 (K.faults out.old)) (counts (F.faults files.new) 0 (K.faults out.new)) }
@@ -55,12 +65,15 @@ pub fn serve<F: Files, K: Sink>(
         Err(AllocError) => Err(Halt::Device(Stop::Memory)),
         Ok(Turn::Find(board, side)) => find(machine, files, out, board, side),
         Ok(Turn::Hits) => hits(machine, out),
+        Ok(Turn::List) => list(alloc, machine, out),
+        Ok(Turn::Show(i)) => show(alloc, machine, files, out, i),
+        Ok(Turn::Export) => export(alloc, machine, files, out),
         Ok(Turn::Line(line)) => write_line(out, line.as_slice()),
     }
 }
 
 // Writes a line whose work is done.
-fn write_line<K: Sink>(out: &mut K, line: &[u8]) -> Result<(), Halt>
+pub(crate) fn write_line<K: Sink>(out: &mut K, line: &[u8]) -> Result<(), Halt>
     ensures written { OnOk result (K.taken out.new ≡ adds (K.taken out.old) line.now) }
     ensures halted { Halted [] line.now (K.taken out.old) (K.taken out.new) }
     ensures output { IfErr result IsOutput }
@@ -88,6 +101,9 @@ fn take_turn<'a>(
     match command {
         Command::Find(board, side) => Ok(Turn::Find(board, *side)),
         Command::Hits => Ok(Turn::Hits),
+        Command::List => Ok(Turn::List),
+        Command::Show(number) => show_turn(alloc, machine, *number),
+        Command::Export => Ok(Turn::Export),
         Command::Nothing => Ok(Turn::Line(Vec::new(alloc))),
         Command::Reset => Ok(Turn::Line(reset(alloc, machine)?)),
         Command::Clear => Ok(Turn::Line(clear(alloc, machine)?)),
@@ -108,10 +124,9 @@ fn take_turn<'a>(
             alloc,
             ScriptFault::Argument(2),
         )?)),
-        Command::SearchHeader(_, _) => Ok(Turn::Line(fault_line(alloc, ScriptFault::Argument(2))?)),
-        Command::List => Ok(Turn::Line(unknown(alloc)?)),
-        Command::Show(_) => Ok(Turn::Line(unknown(alloc)?)),
-        Command::Export => Ok(Turn::Line(unknown(alloc)?)),
+        Command::SearchHeader(op, query) => {
+            Ok(Turn::Line(search_header(alloc, machine, *op, query)?))
+        }
         Command::Import(_) => Ok(Turn::Line(unknown(alloc)?)),
         Command::Replace(_, _) => Ok(Turn::Line(unknown(alloc)?)),
         Command::Tag(_, _) => Ok(Turn::Line(unknown(alloc)?)),

@@ -1,0 +1,170 @@
+-- Laws of `show` and `export`.
+use Rattle.std.proofs.Common.{◌≡◌, ◌<◌, ◌≤◌, ℕ, zero, suc, ◌+◌, List, [], ◌∷◌, ◌++◌, length, take, drop, Option, Some, Result, Ok, Err, OnOk, refl, sym, ap, subst, ◌∙◌, append-nil, add-one, arith}
+use Rattle.std.specs.Prelude.{IfErr, IfSome, slice_get}
+use Rattle.std.proofs.lemmas.List.{take_all}
+use Rattle.std.proofs.lemmas.Option.{same_Some, slice_get_past}
+use Rattle.base_core.specs.Base.{Base, Held}
+use Rattle.base_core.specs.GameAt.{IsGameAt}
+use Rattle.base_core.specs.Represents.{Kept, Represents}
+use Rattle.base_core.proofs.Lists.{get_some}
+use Rattle.base_files.specs.Seen.{Seen}
+use Rattle.base_files.specs.Told.{adds}
+use Rattle.base_files.proofs.Telling.{adds-nil}
+use Rattle.base_files.specs.declared.faults.Stop.TheVariants as stop
+use Rattle.command_runs.specs.Endings.{Halted, Serves}
+use Rattle.command_runs.proofs.Joining.{halted_after, halted_more, halted_none, halted_unsure, written_after}
+use Rattle.game_tree.specs.Game.{GameTree}
+use Rattle.game_tree.specs.declared.head.Head.{Head}
+use Rattle.index_entry.specs.declared.entry.Entry.{Entry}
+use Rattle.pgn_write.specs.Pgn.{pgn_of}
+use Rattle.script_text.specs.declared.command.Command.TheVariants.{Show, Export}
+use Rattle.shell_commands.specs.declared.halt.Halt.{Halt}
+use Rattle.shell_commands.specs.declared.halt.Halt.TheVariants as halt
+use Rattle.shell_commands.specs.Do.{len_if_in, len_in, plain}
+use Rattle.shell_commands.specs.Ends.{GameCut, GameEnds, GamesEnd, IsDevice, IsFault, IsOutput}
+use Rattle.shell_commands.specs.GameTexts.{ExportCut, exported, exported_first, game_text, no_game_line, shown, text_if_in}
+use Rattle.shell_commands.specs.Lines.{texts_from}
+use Rattle.shell_commands.specs.Stands.{Holding, Stands, Fits, Quiet, Broken, exported_len, len_at}
+use Rattle.shell_commands.specs.State.{State}
+use Rattle.shell_commands.proofs.Causing.{broken_by_fault}
+use Rattle.shell_commands.proofs.TextLaws.{texts-more, texts-split}
+
+-- `show` of a game that is not there.
+pub quiet_no_game : (old : Holding) (number : ℕ) (line : List ℕ) → length old.kept.entries ≤ number → line ≡ no_game_line number → Fits old → Quiet old (Ok (Show number)) old line
+quiet_no_game old number line past written fits = record {
+  stands = λ (seen : Seen) (s : State) (st : Stands old seen s). st;
+  text = λ (seen : Seen) (s : State) (st : Stands old seen s).
+      written ∙ ap (shown number) (sym (slice_get_past s.base.games number (omega (arith, past, st.base.count))));
+  fits = fits;
+  kept = refl;
+}
+
+-- What breaks off a part of a game's text.
+fault_of_output : (e : Halt) → IsOutput e → IsFault e
+fault_of_output (halt.Device stop.Write) output = tt
+fault_of_output (halt.Device stop.Memory) output = tt
+fault_of_output (halt.Device stop.Read) output = absurd output
+fault_of_output (halt.Device stop.Files) output = absurd output
+fault_of_output (halt.Changed game kept found) output = absurd output
+
+fault_of_device : (e : Halt) → IsDevice e → IsFault e
+fault_of_device (halt.Device stop.Files) device = tt
+fault_of_device (halt.Device stop.Memory) device = tt
+fault_of_device (halt.Device stop.Write) device = absurd device
+fault_of_device (halt.Device stop.Read) device = absurd device
+fault_of_device (halt.Changed game kept found) device = absurd device
+
+no_files : (e : Halt) → IsOutput e → e ≡ halt.Device stop.Files → ⊥
+no_files e output is = subst IsOutput is output
+
+-- A game's text was written, or broken off.
+pub game_written : {A : Type 0} (r : Result A Halt) (line text : List ℕ) (told told' : Option (List ℕ)) → line ≡ text → OnOk r (told' ≡ adds told line) → Halted [] line told told' → IfErr r IsOutput
+    → GameEnds r text told told'
+game_written (Ok x) line text told told' same written halted output = written ∙ ap (adds told) same
+game_written (Err e) line text told told' same written halted output =
+    let P : List ℕ → Type 0 = λ l. Halted [] l told told' in
+    record { wrote = subst P same halted; whole = λ is. absurd (no_files e output is); fault = fault_of_output e output }
+
+-- A game was not read.
+pub game_unread : (e : Halt) (text : List ℕ) (told : Option (List ℕ)) → IsDevice e → GameCut e text told told
+game_unread e text told device = record { wrote = halted_none text told; whole = λ is. refl; fault = fault_of_device e device }
+
+-- A game that is out has no text.
+pub game_out : (told : Option (List ℕ)) → told ≡ adds told []
+game_out told = sym (adds-nil told)
+
+-- `show` of a game that is there.
+pub show_serves : {A : Type 0} (r : Result A Halt) (holding : Holding) (seen : Seen) (s : State) (i : ℕ) (told told' : Option (List ℕ)) → i < length holding.kept.entries → Stands holding seen s
+    → ((held : Held) → slice_get s.base.games i ≡ Some held → GameEnds r (game_text held) told told') → Serves plain (Stands holding seen) Broken s (Ok (Show i)) told told' r
+show_serves (Ok x) holding seen s i told told' below st ends =
+    let held = get_some s.base.games i (omega (arith, below, st.base.count)) in
+    record { stands = st; written = ends held.0 held.1 ∙ ap (λ (h : Option Held). adds told (shown i h)) (sym held.1) }
+show_serves (Err e) holding seen s i told told' below st ends =
+    let held = get_some s.base.games i (omega (arith, below, st.base.count)) in
+    let cut : GameCut e (game_text held.0) told told' = ends held.0 held.1 in
+    let P : Option Held → Type 0 = λ h. Halted [] (shown i h) told told' in
+    record { wrote = subst P (sym held.1) cut.wrote; broken = broken_by_fault s (Ok (Show i)) e refl cut.fault }
+
+-- The text of one game more.
+first_more : (i : ℕ) (plies : List (Option ℕ)) (games : List Held) (ply : Option ℕ) (held : Held) → slice_get plies i ≡ Some ply → slice_get games i ≡ Some held
+    → exported_first (i + 1) plies games ≡ exported_first i plies games ++ text_if_in i ply held
+first_more i plies games ply held p x = texts-more text_if_in i plies games ply held p x
+
+pub export_more : (i : ℕ) (plies : List (Option ℕ)) (games : List Held) (ply : Option ℕ) (held : Held) (told taken taken' : Option (List ℕ)) → slice_get plies i ≡ Some ply → slice_get games i ≡ Some held
+    → taken ≡ adds told (exported_first i plies games) → taken' ≡ adds taken (text_if_in i ply held) → taken' ≡ adds told (exported_first (i + 1) plies games)
+export_more i plies games ply held told taken taken' p x before now =
+    written_after (exported_first i plies games) (text_if_in i ply held) told taken taken' before now ∙ ap (adds told) (sym (first_more i plies games ply held p x))
+
+-- No game more.
+pub export_all : (i : ℕ) (plies : List (Option ℕ)) (games : List Held) (told taken : Option (List ℕ)) → length plies ≤ i → length games ≤ i → taken ≡ adds told (exported_first i plies games)
+    → taken ≡ adds told (exported plies games)
+export_all i plies games told taken all every before =
+    before ∙ ap (λ (l : List (Option ℕ)). adds told (exported l (take i games))) (take_all i plies all) ∙ ap (λ (l : List Held). adds told (exported plies l)) (take_all i games every)
+
+-- A game's text was broken off behind those of the games before.
+pub export_cut : (e : Halt) (i : ℕ) (plies : List (Option ℕ)) (games : List Held) (ply : Option ℕ) (held : Held) (told taken taken' : Option (List ℕ)) → slice_get plies i ≡ Some ply → slice_get games i ≡ Some held
+    → taken ≡ adds told (exported_first i plies games) → GameCut e (text_if_in i ply held) taken taken' → ExportCut plies games e told taken' × IsFault e
+export_cut e i plies games ply held told taken taken' p x before cut =
+    let front : List ℕ = exported_first i plies games in
+    let whole : Halted (front ++ []) (front ++ text_if_in i ply held) told taken' = halted_after front [] (text_if_in i ply held) told taken taken' before cut.wrote in
+    let P : List ℕ → Type 0 = λ l. Halted l (front ++ text_if_in i ply held) told taken' in
+    let Q : List ℕ → Type 0 = λ l. Halted front l told taken' in (
+      record { count = i; wrote = subst Q (sym (first_more i plies games ply held p x)) (subst P (append-nil front) whole); whole = λ is. cut.whole is ∙ before },
+      cut.fault,
+    )
+
+-- The texts of the first games are a front part of all.
+front_of_all : (count : ℕ) (plies : List (Option ℕ)) (games : List Held)
+    → exported plies games ≡ exported_first count plies games ++ texts_from text_if_in (0 + count) (drop count plies) (drop count games)
+front_of_all count plies games = texts-split text_if_in 0 count plies games
+
+-- `export`
+pub export_serves : {A : Type 0} (r : Result A Halt) (holding : Holding) (seen : Seen) (s : State) (told told' : Option (List ℕ)) → Stands holding seen s
+    → GamesEnd r s.filter s.base.games told told' → Serves plain (Stands holding seen) Broken s (Ok Export) told told' r
+export_serves (Ok x) holding seen s told told' st ends = record { stands = st; written = ends }
+export_serves (Err e) holding seen s told told' st ends =
+    let cut = ends.0 in
+    let n : ℕ = cut.count + 1 in
+    let most : List ℕ = exported_first n s.filter s.base.games in
+    let more : List ℕ = texts_from text_if_in (0 + n) (drop n s.filter) (drop n s.base.games) in
+    let P : List ℕ → Type 0 = λ l. Halted [] l told told' in
+    record {
+      wrote = subst P (sym (front_of_all n s.filter s.base.games))
+          (halted_more [] most more told told' (halted_unsure (exported_first cut.count s.filter s.base.games) most told told' cut.wrote));
+      broken = broken_by_fault s (Ok Export) e refl ends.1;
+    }
+
+pub export_breaks : {A : Type 0} (r : Result A Halt) (plies : List (Option ℕ)) (games : List Held) (told told' : Option (List ℕ)) → GamesEnd r plies games told told'
+    → IfErr r (λ e. ExportCut plies games e told told')
+export_breaks (Ok x) plies games told told' ends = tt
+export_breaks (Err e) plies games told told' ends = ends.0
+
+-- The bytes of the records of the games that are left, one game after the other.
+filtered-suc : (i : ℕ) (plies : List (Option ℕ)) (entries : List Entry) (ply : Option ℕ) → i < length entries → slice_get plies i ≡ Some ply
+    → exported_len (drop i plies) (drop i entries) ≡ len_if_in ply (len_at entries i) + exported_len (drop (suc i) plies) (drop (suc i) entries)
+filtered-suc i [] entries ply below p = absurd cc
+filtered-suc i (q ∷ plies) [] ply below p = absurd (omega (arith, below))
+filtered-suc zero (q ∷ plies) (e ∷ entries) ply below p = ap (λ (r : Option ℕ). len_if_in r e.len + exported_len plies entries) (same_Some q ply p)
+filtered-suc (suc i) (q ∷ plies) (e ∷ entries) ply below p = filtered-suc i plies entries ply (omega (arith, below)) p
+
+pub filtered-more : (i : ℕ) (plies : List (Option ℕ)) (entries : List Entry) (ply : Option ℕ) → i < length entries → slice_get plies i ≡ Some ply
+    → exported_len (drop i plies) (drop i entries) ≡ len_if_in ply (len_at entries i) + exported_len (drop (i + 1) plies) (drop (i + 1) entries)
+filtered-more i plies entries ply below p =
+    filtered-suc i plies entries ply below p
+    ∙ ap (λ (k : ℕ). len_if_in ply (len_at entries i) + exported_len (drop k plies) (drop k entries)) (sym (add-one i))
+
+-- What was asked for the record of one game.
+pub asked_at : (entries : List Entry) (i old new : ℕ) → i < length entries → ((e : Entry) → slice_get entries i ≡ Some e → new ≤ old + e.len) → new ≤ old + len_at entries i
+asked_at entries i old new below asks =
+    let e = get_some entries i below in
+    let P : Option Entry → Type 0 = λ o. new ≤ old + len_in (λ e. e.len) o in
+    subst P (sym e.1) (asks e.0 e.1)
+
+-- The text that was written is that of the game.
+pub text_read : (games : Option (List ℕ)) (told : List ℕ) (kept : Kept) (all : Base) (held : Held) (i : ℕ) (head : Head) (game : GameTree) (text : List ℕ)
+    → games ≡ Some told → Represents kept told all → slice_get all.games i ≡ Some held → IfSome games (λ bytes. IsGameAt kept bytes i head game) → text ≡ pgn_of head game → text ≡ game_text held
+text_read games told kept all held i head game text same is at found written =
+    let P : Option (List ℕ) → Type 0 = λ o. IfSome o (λ bytes. IsGameAt kept bytes i head game) in
+    let here : IsGameAt kept told i head game = subst P same found in
+    let both = here all held is at in
+    written ∙ ap (λ (h : Head). pgn_of h game) both.0 ∙ ap (λ (g : GameTree). pgn_of held.head g) both.1
