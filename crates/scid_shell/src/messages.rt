@@ -21,6 +21,9 @@ nothing. Words stand between spaces and tabs; a quoted part keeps its spaces.
 
   find BOARD SIDE    the games that reach a board with a side to move, each
                      with its first such ply; they are the filter from then on
+  search OP header ITEM ..
+                     the games whose head has each item, as `white=Reti` or
+                     `year=1900..1910`
   reset              all games into the filter
   clear              none
   negate             those that are out, and no others
@@ -31,12 +34,16 @@ nothing. Words stand between spaces and tabs; a quoted part keeps its spaces.
   or NAME            the games that are in one of them
   drop NAME          forgets the kept filter
   hits               the games of the filter, each with its ply
+  list               the same with result, date, opening and players
+  show G             the game G in PGN
+  export             the games of the filter in PGN
   info               what is in the base
   quit               ends, as the end of the input does
 
 BOARD is the first field of a FEN, and SIDE is w or b. Games and plies count
-from 0. A line that is no command gives a line that begins with `error: `, and
-the script goes on.
+from 0. OP is `ignore` for a search of all games, `and` for one of those of the
+filter, `or` for one of the others, which come to it. A line that is no command
+gives a line that begins with `error: `, and the script goes on.
 
 Exit status: 0 done, 1 usage, 2 bad base, 3 read fault, 4 write fault, 5 files
 fault, 6 changed game, 7 input too long, 8 out of memory. What it was is told
