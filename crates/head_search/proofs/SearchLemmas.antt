@@ -19,6 +19,12 @@ first_at query (a ∷ heads) [] i head sig h s = absurd cc
 first_at query (a ∷ heads) (b ∷ sigs) zero head sig h s = cc
 first_at query (a ∷ heads) (b ∷ sigs) (suc i) head sig h s = first_at query heads sigs i head sig h s
 
+-- There is a signature for each place.
+sig_there : (sigs : List Sig) (i : ℕ) → i < length sigs → (sig : Sig) × (slice_get sigs i ≡ Some sig)
+sig_there [] i below = absurd (omega (arith, below))
+sig_there (s ∷ sigs) zero below = (s, refl)
+sig_there (s ∷ sigs) (suc i) below = sig_there sigs i (omega (arith, below))
+
 abbrev pub ply_if : Bool → Option ℕ
 ply_if r = if r then Some 0 else None
 
@@ -28,15 +34,18 @@ chosen r e = ap ply_if (sym e)
 refused : (r : Bool) → r ≡ false → ply_if false ≡ ply_if r
 refused r e = ap ply_if (sym e)
 
-pub first_there : (query : HeadQuery) (heads : List Head) (sigs : List Sig) (i : ℕ) (head : Head) (sig : Sig) (r : Bool) → slice_get heads i ≡ Some head
-    → slice_get sigs i ≡ Some sig → r ≡ head_matches head sig.plies query → r ≡ true → ply_if true ≡ get_or (firsts_of query heads sigs) i None
-first_there query heads sigs i head sig r h s is asked =
-    chosen (head_matches head sig.plies query) (sym is ∙ asked) ∙ sym (first_at query heads sigs i head sig h s)
+-- The first matching ply of a game that is asked for, and of one that is not.
+pub first_there : (query : HeadQuery) (heads : List Head) (sigs : List Sig) (i : ℕ) (head : Head) (r : Bool) → slice_get heads i ≡ Some head → i < length sigs
+    → ((sig : Sig) → slice_get sigs i ≡ Some sig → r ≡ head_matches head sig.plies query) → r ≡ true → ply_if true ≡ get_or (firsts_of query heads sigs) i None
+first_there query heads sigs i head r h below is asked =
+    let s = sig_there sigs i below in
+    chosen (head_matches head s.0.plies query) (sym (is s.0 s.1) ∙ asked) ∙ sym (first_at query heads sigs i head s.0 h s.1)
 
-pub first_none : (query : HeadQuery) (heads : List Head) (sigs : List Sig) (i : ℕ) (head : Head) (sig : Sig) (r : Bool) → slice_get heads i ≡ Some head
-    → slice_get sigs i ≡ Some sig → r ≡ head_matches head sig.plies query → r ≡ false → ply_if false ≡ get_or (firsts_of query heads sigs) i None
-first_none query heads sigs i head sig r h s is passed =
-    refused (head_matches head sig.plies query) (sym is ∙ passed) ∙ sym (first_at query heads sigs i head sig h s)
+pub first_none : (query : HeadQuery) (heads : List Head) (sigs : List Sig) (i : ℕ) (head : Head) (r : Bool) → slice_get heads i ≡ Some head → i < length sigs
+    → ((sig : Sig) → slice_get sigs i ≡ Some sig → r ≡ head_matches head sig.plies query) → r ≡ false → ply_if false ≡ get_or (firsts_of query heads sigs) i None
+first_none query heads sigs i head r h below is passed =
+    let s = sig_there sigs i below in
+    refused (head_matches head s.0.plies query) (sym (is s.0 s.1) ∙ passed) ∙ sym (first_at query heads sigs i head s.0 h s.1)
 
 -- There are as many first plies as games.
 pub length-firsts : (query : HeadQuery) (heads : List Head) (sigs : List Sig) → length heads ≡ length sigs → length (firsts_of query heads sigs) ≡ length sigs

@@ -82,10 +82,11 @@ mark_holds head query = holds query.mark (λ bit. bit_at head.marks bit == 1)
 -- A game with this head and so many plies is one that is asked for: every item holds.
 unfoldable pub head_matches : Head → ℕ → HeadQuery → Bool
 head_matches head plies query =
-    (deleted_holds head query && mark_holds head query && result_holds head query && plies_hold plies query && year_holds head query
-    && welo_holds head query && belo_holds head query && eco_holds head query)
+    (deleted_holds head query && mark_holds head query && result_holds head query && year_holds head query && welo_holds head query
+    && belo_holds head query && eco_holds head query)
+    && (plies_hold plies query
     && (white_holds head query && black_holds head query && player_holds head query && event_holds head query && site_holds head query
-    && round_holds head query)
+    && round_holds head query))
 
 -- The first ply at which a game matches: a search of heads matches at ply 0 or not at all.
 abbrev pub first_of : HeadQuery → Head → ℕ → Option ℕ

@@ -13,19 +13,18 @@ use sig_index::{HeadQuery, Sig, Span};
 pub fn matches(h: HeadRef<'_>, s: &Sig, q: &HeadQuery) -> bool
     ensures matches { result ≡ head_matches (head_of h.entry []) s.now.plies q.now }
 {
-    numbers_hold(&h, s, q) && names_hold(&h, q)
+    numbers_hold(&h, q) && plies_hold(s, q) && names_hold(&h, q)
 }
 
-// Whether all items hold but those of names: these cost the least.
-fn numbers_hold(h: &HeadRef<'_>, s: &Sig, q: &HeadQuery) -> bool
+// Whether all items hold but those of plies and of names: these cost the least.
+pub(crate) fn numbers_hold(h: &HeadRef<'_>, q: &HeadQuery) -> bool
     ensures { result ≡ (deleted_holds (head_of h.now []) q.now && mark_holds (head_of h.now []) q.now && result_holds (head_of h.now []) q.now
-        && plies_hold s.now.plies q.now && year_holds (head_of h.now []) q.now && welo_holds (head_of h.now []) q.now && belo_holds (head_of h.now []) q.now
+        && year_holds (head_of h.now []) q.now && welo_holds (head_of h.now []) q.now && belo_holds (head_of h.now []) q.now
         && eco_holds (head_of h.now []) q.now) }
 {
     deleted_holds(h, q)
         && mark_holds(h, q)
         && result_holds(h, q)
-        && plies_hold(s, q)
         && year_holds(h, q)
         && welo_holds(h, q)
         && belo_holds(h, q)
@@ -104,7 +103,7 @@ fn eco_holds(h: &HeadRef<'_>, q: &HeadQuery) -> bool
     }
 }
 
-fn plies_hold(s: &Sig, q: &HeadQuery) -> bool
+pub(crate) fn plies_hold(s: &Sig, q: &HeadQuery) -> bool
     ensures { result ≡ plies_hold s.now.plies q.now }
 {
     match &q.plies {
@@ -114,7 +113,7 @@ fn plies_hold(s: &Sig, q: &HeadQuery) -> bool
 }
 
 // Whether all items of names hold.
-fn names_hold(h: &HeadRef<'_>, q: &HeadQuery) -> bool
+pub(crate) fn names_hold(h: &HeadRef<'_>, q: &HeadQuery) -> bool
     ensures { result ≡ (white_holds (head_of h.now []) q.now && black_holds (head_of h.now []) q.now && player_holds (head_of h.now []) q.now
         && event_holds (head_of h.now []) q.now && site_holds (head_of h.now []) q.now && round_holds (head_of h.now []) q.now) }
 {
