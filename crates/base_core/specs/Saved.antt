@@ -1,5 +1,5 @@
 -- What saving an open base writes, and what the files then mean (this project's own, over Scid's format si4).
-use Rattle.std.specs.Prelude.{◌≡◌, ℕ, Bool, List}
+use Rattle.std.specs.Prelude.{◌≡◌, ◌⊎◌, ℕ, Bool, List}
 use Rattle.base_files.specs.Seen.{Seen, replaced}
 use Rattle.base_files.specs.declared.part.Part.TheVariants as part
 use Rattle.index_entry.specs.Index.{index_bytes}
@@ -30,6 +30,11 @@ pub record IsSaved (kept : Kept) (old new : Seen) : Type 0 where
   pub names : List ℕ
   pub writes : Writes kept index names
   pub replaced : new ≡ replaced part.Index index (replaced part.Names names old)
+
+-- After an error nothing changed, or the names file alone was replaced.
+abbrev pub IsLeft : Kept → Seen → Seen → Type 0
+IsLeft kept old new =
+    (new ≡ old) ⊎ ((names : List ℕ) × (IsNamesText kept.names (frequencies_of kept.names kept.entries) names × (new ≡ replaced part.Names names old)))
 
 -- The files mean this base, have no fault however strict the opening is, and whatever is opened of them stands for this base.
 pub record OpensAgain (index names games : List ℕ) (base : Base) : Type 0 where

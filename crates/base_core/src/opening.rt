@@ -4,6 +4,7 @@ ghost use Rattle.base_files.specs.Causes.{HasCause};
 ghost use Rattle.base_files.specs.Counters.{Rose};
 ghost use Rattle.base_files.specs.Seen.{measured};
 ghost use Rattle.base_files.specs.Told.{Tells, TellsLength};
+ghost use Rattle.block_store.specs.Placing.{IsEnd};
 ghost use Rattle.base_core.specs.FirstFault.{FirstFault, whole_read};
 ghost use Rattle.base_core.specs.Opening.{IfBad, IfTold, Opens, Refuses, are_empty, is_created, open_cost};
 ghost use Rattle.sig_index.specs.Games.{AreWithin};
@@ -54,6 +55,7 @@ impl Base {
         // Whatever the files hold, each record of the base lies within them, and nothing is unsaved.
         ensures sound { IfOk result (λ opened. IsSound opened.0) }
         ensures end { IfOk result (λ opened. opened.0.end ≡ (F.seen files.new).known) }
+        ensures at_end { IfOk result (λ opened. IsEnd opened.0.end (F.seen files.new)) }
         ensures within { IfOk result (λ opened. AreWithin (F.seen files.new).known (extents_of opened.0)) }
         ensures saved { IfOk result (λ opened. opened.0.unsaved ≡ false) }
         ensures cause { IfErr result (λ error. error ≡ OpenError.Failed → Rose (F.faults files.old) (F.faults files.new)) }

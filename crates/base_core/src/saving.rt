@@ -4,7 +4,7 @@ ghost use Rattle.base_files.specs.Counters.{Rose};
 ghost use Rattle.block_store.specs.Placing.{IsEnd};
 ghost use Rattle.index_entry.specs.Index.{index_read};
 ghost use Rattle.name_base.specs.NamesText.{IsNamesText};
-ghost use Rattle.base_core.specs.Saved.{IsIndexOf, IsSaved, MeansIt, StillCarries, with_parts};
+ghost use Rattle.base_core.specs.Saved.{IsIndexOf, IsLeft, IsSaved, MeansIt, StillCarries, with_parts};
 ghost use Rattle.base_core.specs.Uses.{frequencies_of};
 
 use crate::base::Base;
@@ -29,6 +29,7 @@ impl Base {
         // The files mean the base, and open again as it.
         ensures means { OnOk result (MeansIt self.new (F.seen files.new)) }
         ensures unchanged { OnErr result (self.new ≡ self.old) }
+        ensures left { OnErr result (IsLeft self.old (F.seen files.old) (F.seen files.new)) }
         // A fault between the two parts leaves what the files carried.
         ensures carries { OnErr result (StillCarries self.old (F.seen files.old) (F.seen files.new)) }
         ensures rest { F.seen files.new ≡ with_parts (F.seen files.old) (F.seen files.new) }

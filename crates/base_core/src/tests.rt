@@ -185,21 +185,22 @@ fn creates_a_base(rt: HostRuntime) -> Result<(), Fail> {
     Ok(())
 }
 
-/// The base, marked as deleted and with its last mark, where the call of this number fails.
-fn marked(alloc: Global, fails: u64) -> Result<(Base, MemFiles), Fail> {
+/// The files after the base was marked as deleted and with its last mark, and saved, where the call of this number fails; and why it was
+/// not saved.
+fn saved(alloc: Global, fails: u64) -> Result<(MemFiles, Option<SaveError>), Fail> {
     let mut files = files_with(alloc, 47, 0, fails)?;
     let mut buf = vec![in alloc; 0u8; 131_072]?;
     let (mut base, _mended) = Base::open_base(alloc, &mut files, false, true, buf.as_mut_slice())?;
     base.delete(0)?;
     base.mark(0, 17, true)?;
-    Ok((base, files))
+    let error = base.save(alloc, &mut files).err();
+    Ok((files, error))
 }
 
 #[test]
 fn saves_marks(rt: HostRuntime) -> Result<(), Fail> {
-    let (mut base, mut files) = marked(rt.alloc(), 9)?;
-    assert!(rt; base.unsaved());
-    base.save(rt.alloc(), &mut files)?;
+    let (files, error) = saved(rt.alloc(), 99)?;
+    assert!(rt; error.is_none());
     assert!(rt; files.names() == NAMES);
     assert!(rt; files.index().get(188) == Some(&0x20));
     assert!(rt; files.index().get(190) == Some(&0x08));
@@ -208,8 +209,8 @@ fn saves_marks(rt: HostRuntime) -> Result<(), Fail> {
 
 #[test]
 fn fails_between_the_parts(rt: HostRuntime) -> Result<(), Fail> {
-    let (mut base, mut files) = marked(rt.alloc(), 5)?;
-    assert!(rt; base.save(rt.alloc(), &mut files) == Err(SaveError::Failed));
+    let (files, error) = saved(rt.alloc(), 5)?;
+    assert!(rt; error == Some(SaveError::Failed));
     assert!(rt; files.index().get(190) == Some(&0));
     Ok(())
 }

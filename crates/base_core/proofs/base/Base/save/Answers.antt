@@ -1,9 +1,9 @@
-use Rattle.std.proofs.Common.{◌≡◌, false, List, ℕ, sym, ap, ◌∙◌, subst}
+use Rattle.std.proofs.Common.{◌≡◌, false, List, ℕ, sym, ap, ◌∙◌, subst, inr}
 use Rattle.base_files.specs.Seen.{Seen, replaced}
 use Rattle.base_files.specs.declared.part.Part.TheVariants as part
 use Rattle.name_base.specs.NameLists.{AreSound}
 use Rattle.base_core.specs.Represents.{IsSound, Kept}
-use Rattle.base_core.specs.Saved.{MeansIt, StillCarries}
+use Rattle.base_core.specs.Saved.{IsLeft, MeansIt, StillCarries}
 use Rattle.base_core.proofs.SaveLaws.{on_err, saved-means, still-carries}
 use Rattle.base_core.proofs.base.Base.save.Goals as goal
 
@@ -17,6 +17,14 @@ returns-in_err-replace-2-clause-carries g c =
     let S : Seen → Type 0 = λ s. StillCarries c.args.self.now old s in
     on_err c.from_residual-in_err-replace-2.result (S (g.F.Files.seen c.replace-2.new.self))
     (subst S (sym seen) (still-carries c.args.self.now old c.in_ok-names.names.items (subst N c.self.view_is c.self.invariant.names) c.in_ok-names.ensures.names))
+
+pub returns-in_err-replace-2-clause-left : goal.returns-in_err-replace-2-clause-left
+returns-in_err-replace-2-clause-left g c =
+    let old = g.F.Files.seen c.args.files.now in
+    let seen : g.F.Files.seen c.replace-2.new.self ≡ replaced part.Names c.in_ok-names.names.items old =
+    c.in_err-replace-2.ensures.unchanged ∙ (c.in_ok-replace.ensures.put ∙ ap (λ (b : List ℕ). replaced part.Names b old) c.as_slice.ensures.value)
+    in
+    on_err c.from_residual-in_err-replace-2.result (IsLeft c.args.self.now old (g.F.Files.seen c.replace-2.new.self)) (inr (c.in_ok-names.names.items, (c.in_ok-names.ensures.names, seen)))
 
 pub returns-clause-means : goal.returns-clause-means
 returns-clause-means g c =
