@@ -1,0 +1,52 @@
+-- At which plies a game matches a search of counts of men (this project's own).
+use Rattle.std.specs.Prelude.{ℕ, ◌+◌, ◌-◌, ◌&&◌, ◌||◌, nat_le, Bool, List, [], ◌∷◌, Option, map, slice_index}
+use Rattle.std.specs.List.{find, list_all, range_with_len}
+use Rattle.chess_laws.specs.Counts.{counts_of}
+use Rattle.game_tree.specs.Game.{GameTree}
+use Rattle.game_tree.specs.Replay.{plies_of, position_at}
+use Rattle.sig_index.specs.declared.mat_query.MatQuery.{MatQuery}
+use Rattle.sig_index.specs.declared.mat_query.MatRange.{MatRange}
+
+-- The count at this place among the ten is from the least to the greatest that the range allows.
+abbrev pub count_in : MatRange → List ℕ → ℕ → Bool
+count_in range counts place =
+    nat_le (slice_index range.lo place) (slice_index counts place) && nat_le (slice_index counts place) (slice_index range.hi place)
+
+-- The ten counts are in the range: each of them is.
+unfoldable pub in_range : MatRange → List ℕ → Bool
+in_range range counts =
+    count_in range counts 0 && count_in range counts 1 && count_in range counts 2 && count_in range counts 3 && count_in range counts 4
+    && count_in range counts 5 && count_in range counts 6 && count_in range counts 7 && count_in range counts 8 && count_in range counts 9
+
+-- Ten bounds, and a range, with the colours exchanged.
+abbrev pub other_bounds : List ℕ → List ℕ
+other_bounds bounds =
+    slice_index bounds 5 ∷ slice_index bounds 6 ∷ slice_index bounds 7 ∷ slice_index bounds 8 ∷ slice_index bounds 9
+    ∷ slice_index bounds 0 ∷ slice_index bounds 1 ∷ slice_index bounds 2 ∷ slice_index bounds 3 ∷ slice_index bounds 4
+    ∷ []
+
+abbrev pub exchanged : MatRange → MatRange
+exchanged range = record { lo = other_bounds range.lo; hi = other_bounds range.hi }
+
+-- The counts after k moves of the main line.
+abbrev pub counts_at : GameTree → ℕ → List ℕ
+counts_at game k = counts_of (position_at game k).board
+
+-- A streak: the counts are in the range at each of so many plies from this one on, and the main line has all of these plies.
+abbrev pub is_streak : MatRange → GameTree → ℕ → ℕ → Bool
+is_streak range game ply plies =
+    nat_le (ply + plies - 1) (plies_of game) && list_all (λ k. in_range range (counts_at game k)) (range_with_len ply plies)
+
+-- The game matches at a ply: it is from `ply_lo` to `ply_hi`, and a streak begins there, in the range or with `swap` in the exchanged one.
+unfoldable pub matches_at : MatQuery → GameTree → ℕ → Bool
+matches_at query game ply =
+    nat_le query.ply_lo ply && nat_le ply query.ply_hi
+    && (is_streak query.range game ply query.streak || (query.swap && is_streak (exchanged query.range) game ply query.streak))
+
+-- The first ply of the main line at which it matches, or none where it never does; ply 0 is the start.
+abbrev pub first_of : MatQuery → GameTree → Option ℕ
+first_of query game = find (matches_at query game) (range_with_len 0 (plies_of game + 1))
+
+-- The first matching plies of all games.
+abbrev pub firsts_of : MatQuery → List GameTree → List (Option ℕ)
+firsts_of query games = map (first_of query) games

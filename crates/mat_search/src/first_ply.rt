@@ -1,0 +1,41 @@
+//! The first matching ply of a record.
+ghost use Rattle.std.specs.Prelude.{◌≡◌, ◌≤◌, ◌^◌, ◌<◌, List, length, IfOk, IfErr};
+ghost use Rattle.game_codec.specs.Record.{IsRecord, IsSomeRecord};
+ghost use Rattle.game_tree.specs.Game.{GameTree};
+ghost use Rattle.game_tree.specs.declared.head.Tag.{Tag};
+ghost use Rattle.mat_search.specs.Matching.{first_of};
+
+use crate::matching::exchanged;
+use crate::streaks::{Streaks, is_over};
+use game_codec::{RecordFault, Walk};
+use sig_index::MatQuery;
+
+// The first ply of the main line of a record that matches, or `None` where none does. The walk ends where the answer is known. The
+// fault comes only where the bytes are no record.
+pub(crate) fn first_ply(bytes: &[u8], q: &MatQuery) -> Result<Option<u32>, RecordFault>
+    requires few { length bytes.now < 2 ^ 32 }
+    requires streak { 1 ≤ q.now.streak }
+    ensures first { IfOk result (λ ply. (tags : List Tag) (game : GameTree) → IsRecord bytes.now tags game → ply ≡ first_of q.now game) }
+    ensures fault { IfErr result (λ _. IsSomeRecord bytes.now → ⊥) }
+{
+    let exchanged = exchanged(&q.range);
+    let mut walk = Walk::new(bytes)?;
+    let mut streaks = Streaks::none();
+    loop {
+        let ply = walk.ply();
+        let counts = walk.position().counts();
+        streaks = streaks.after(q, &exchanged, ply, &counts);
+        if streaks.is_whole(q) {
+            // The streak ends at this ply.
+            return Ok(Some(ply.saturating_sub(q.streak - 1)));
+        }
+        if streaks.is_none() && is_over(q, &exchanged, ply, &counts) {
+            return Ok(None);
+        }
+        match walk.step() {
+            Ok(Some(_)) => {}
+            Ok(None) => return Ok(None),
+            Err(fault) => return Err(fault),
+        }
+    }
+}

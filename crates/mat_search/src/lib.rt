@@ -1,0 +1,15 @@
+//! Search of games by the men on the board: games are passed over by their signatures, and no memory is taken.
+#![tactic(auto)]
+
+mod first_ply;
+mod laws;
+mod matching;
+mod searching;
+mod streaks;
+#[cfg(test)]
+mod tests;
+
+pub use laws::tests_are_sound;
+pub use matching::passes;
+pub use searching::search;
+pub use sig_index::{MatQuery, MatRange};
