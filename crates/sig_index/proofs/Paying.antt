@@ -117,6 +117,7 @@ calm promo under old new falls =
   where
     sum_none : (x y : ℕ) → x ≡ 0 → y ≡ 0 → x + y ≡ 0
     sum_none x y h i = omega arith
+
     paid_none : (x p q : ℕ) → x ≡ 0 → p ≤ q → x + p ≤ q
     paid_none x p q h i = omega arith
 
