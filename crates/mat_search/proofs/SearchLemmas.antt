@@ -1,7 +1,7 @@
 -- The search through the games, one after the other.
 use Rattle.std.proofs.Common.{◌≡◌, ℕ, ◌+◌, ◌<◌, ◌≤◌, zero, suc, Bool, true, cond, ◌&&◌, List, [], ◌∷◌, Option, None, Some, length, get_or, set, take, refl, sym, ap, ◌∙◌, arith, add-one}
 use Rattle.std.specs.Prelude.{option_map, slice_get}
-use Rattle.std.proofs.lemmas.List.{get_or-set_other, length-map, set-get_or}
+use Rattle.std.proofs.lemmas.List.{get_or-set_other, length-map, set-get_or, take_all}
 use Rattle.std.proofs.lemmas.Option.{get_or_from_slice_get, slice_get-map}
 use Rattle.base_files.specs.declared.extent.Extent.{Extent}
 use Rattle.game_filter.specs.Search.{entry_after, looks_at, searched}
@@ -116,3 +116,11 @@ search_more op query list plies now new i game done within here there is =
     ∙ ap (λ (o : Option ℕ). set (searched op (take i firsts) plies) i (entry_after op o (get_or firsts i None))) (searched-behind op firsts plies i)
     ∙ searched-more op firsts plies i inside here
     ∙ ap (λ k. searched op (take k firsts) plies) (sym (add-one i))
+
+-- All were.
+pub all_searched : (op : Op) (query : MatQuery) (list : List GameTree) (plies now : List (Option ℕ)) (i : ℕ) → now ≡ searched op (take i (firsts_of query list)) plies
+    → length list ≤ i → now ≡ searched op (firsts_of query list) plies
+all_searched op query list plies now i done past =
+    done
+    ∙ ap (λ (firsts : List (Option ℕ)). searched op firsts plies)
+    (take_all i (firsts_of query list) (omega (arith, past, length-map list (first_of query))))

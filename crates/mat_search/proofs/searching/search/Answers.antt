@@ -6,7 +6,7 @@ use Rattle.sig_index.specs.Games.{extent_in}
 use Rattle.mat_search.specs.Matching.{first_of as first_ply_of, firsts_of}
 use Rattle.mat_search.specs.Searching.{cost_of, price}
 use Rattle.mat_search.proofs.ReadLemmas.{some_game, some_sig}
-use Rattle.mat_search.proofs.SearchLemmas.{asked_all, asked_more, price_front, price_more, search_more, untouched_more}
+use Rattle.mat_search.proofs.SearchLemmas.{all_searched, asked_all, asked_more, price_front, price_more, search_more, untouched_more}
 use Rattle.mat_search.proofs.searching.search.Goals as goal
 
 pub returns-in-Err-clause-asks : goal.returns-in-Err-clause-asks
@@ -61,8 +61,5 @@ loop-i-preserved g c =
 
 pub returns-clause-found : goal.returns-clause-found
 returns-clause-found g c = λ told list same holds.
-    let q = c.args.q.now in
-    let past : length (firsts_of q list) ≤ c.loop-i.i =
-    omega (arith, length-map list (first_ply_of q), holds.count, c.len-i-end.ensures.one_sig_each, c.loop-i-test.false) in
-    c.loop-i.invariant.done told list same holds
-    ∙ ap (λ (plies : List (Option ℕ)). searched c.args.op plies c.args.filter.now) (take_all c.loop-i.i (firsts_of q list) past)
+    all_searched c.args.op c.args.q.now list c.args.filter.now c.loop-i.filter c.loop-i.i (c.loop-i.invariant.done told list same holds)
+    (omega (arith, holds.count, c.len-i-end.ensures.one_sig_each, c.loop-i-test.false))
