@@ -1,0 +1,11 @@
+pub mod Place
+pub mod Bytes
+pub mod Token
+pub mod TagText
+pub mod Lexing
+pub mod Text
+pub mod SanAnswer
+pub mod FenAnswer
+pub mod Heads
+pub mod Reading
+pub mod Items
