@@ -2,6 +2,9 @@
 use Rattle.std.specs.Prelude.{ℕ, ◌==◌, nat_le, Bool, true, false, not, ◌&&◌, ◌||◌, if◌then◌else◌, List, [], ◌∷◌}
 use Rattle.std.specs.List.{list_any}
 use Rattle.std.specs.Char.{is_ascii_digit}
+use Rattle.game_tree.specs.TagName.{is_tag_byte}
+use Rattle.pgn_read.specs.declared.run.Run.{Run}
+use Rattle.pgn_read.specs.declared.run.Run.TheVariants as run
 
 -- White space: the bytes 9 to 13 and 32.
 abbrev pub is_white : ℕ → Bool
@@ -41,3 +44,14 @@ abbrev pub begins : List ℕ → List ℕ → Bool
 begins [] text = true
 begins (first ∷ form) [] = false
 begins (first ∷ form) (byte ∷ text) = (byte == first) && begins form text
+
+-- The bytes of a run.
+abbrev pub is_of : Run → ℕ → Bool
+is_of run.White = is_white
+is_of run.TagName = is_tag_byte
+is_of run.Digits = is_ascii_digit
+is_of run.Dots = is_dot
+is_of run.Glyphs = is_glyph
+is_of run.Move = is_move_byte
+is_of run.ToBrace = λ byte. not (byte == 125)
+is_of run.ToFeed = λ byte. not (byte == 10)

@@ -69,6 +69,14 @@ digit_from text =
     else if begins (codes "0-0") text then move_from text
     else number_from text
 
+-- What begins with one of many bytes.
+abbrev pub by_kind : ℕ → List ℕ → List ℕ → Lexed
+by_kind byte text behind_it =
+    if is_glyph byte then suffix_from text
+    else if is_ascii_digit byte then digit_from text
+    else if is_move_byte byte then move_from text
+    else lexed_as bad behind_it
+
 -- The token at the beginning of a text.
 unfoldable pub lexed : List ℕ → Lexed
 lexed [] = lexed_as the_end []
@@ -77,14 +85,11 @@ lexed (byte ∷ text) =
     else if byte == 123 then brace_from text
     else if byte == 59 then line_from text
     else if byte == 36 then nag_from text
-    else if is_glyph byte then suffix_from (byte ∷ text)
     else if byte == 40 then lexed_as opens text
     else if byte == 41 then lexed_as closes text
     else if byte == 42 then lexed_as (ending Unknown) text
-    else if is_ascii_digit byte then digit_from (byte ∷ text)
     else if byte == 46 then number_from (byte ∷ text)
-    else if is_move_byte byte then move_from (byte ∷ text)
-    else lexed_as bad text
+    else by_kind byte (byte ∷ text) text
 
 -- How many bytes it has.
 abbrev pub size : List ℕ → ℕ

@@ -3,6 +3,7 @@ pub mod Bytes
 pub mod Token
 pub mod TagText
 pub mod Lexing
+pub mod Said
 pub mod Text
 pub mod SanAnswer
 pub mod FenAnswer

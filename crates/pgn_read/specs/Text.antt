@@ -68,6 +68,10 @@ abbrev pub next_at : At → At
 next_at a = skipped (behind_token a)
 
 -- At most so many tokens, the first of them here. The last one is the end of the text.
+abbrev pub unless_end : List ℕ → List Spot → List Spot
+unless_end [] more = []
+unless_end (byte ∷ bytes) more = more
+
 unfoldable pub spots : ℕ → At → List Spot
 spots zero a = []
-spots (suc n) a = spot_at a ∷ spots n (next_at a)
+spots (suc n) a = spot_at a ∷ unless_end a.bytes (spots n (next_at a))

@@ -3,7 +3,11 @@
 
 mod error;
 mod item;
+mod lexing;
 mod place;
+mod run;
+mod tag_text;
+mod token;
 
 pub use error::PgnError;
 pub use item::{GameFault, GameWhat, Item};
