@@ -10,3 +10,5 @@ pub mod FenAnswer
 pub mod Heads
 pub mod Reading
 pub mod Items
+pub mod Window
+pub mod Causes

@@ -1,7 +1,7 @@
 -- A text as a list of tokens, each where it stands (PGN standard, 7).
-use Rattle.std.specs.Prelude.{ℕ, zero, suc, ◌-◌, ◌==◌, Bool, true, false, not, ◌&&◌, ◌||◌, if◌then◌else◌, List, [], ◌∷◌, length, drop}
+use Rattle.std.specs.Prelude.{ℕ, zero, suc, ◌-◌, ◌==◌, Bool, true, false, not, ◌&&◌, ◌||◌, if◌then◌else◌, List, [], ◌∷◌, length, take, drop}
 use Rattle.pgn_read.specs.declared.place.Place.{Place}
-use Rattle.pgn_read.specs.Place.{next_place}
+use Rattle.pgn_read.specs.Place.{next_place, place_behind}
 use Rattle.pgn_read.specs.Bytes.{is_white, begins}
 use Rattle.pgn_read.specs.Token.{Token}
 use Rattle.pgn_read.specs.Lexing.{lexed, size}
@@ -20,10 +20,8 @@ abbrev pub longest : ℕ
 longest = 1048576
 
 -- So many bytes further.
-abbrev pub passed : ℕ → Place → ℕ → List ℕ → At
-passed zero place room bytes = here place room bytes
-passed (suc n) place room [] = here place room []
-passed (suc n) place room (byte ∷ bytes) = passed n (next_place place byte) (room - 1) bytes
+abbrev pub passed : ℕ → At → At
+passed n a = here (place_behind a.place (take n a.bytes)) (a.room - n) (drop n a.bytes)
 
 -- Whether a byte is on a line that is skipped: one whose first byte is `%` (PGN standard, 6).
 abbrev pub on_remark : Bool → Place → ℕ → Bool
@@ -45,7 +43,7 @@ abbrev pub is_first : Place → Bool
 is_first place = (place.line == 1) && (place.column == 1)
 
 abbrev pub behind_mark : At → At
-behind_mark a = if is_first a.place && begins byte_order_mark a.bytes then passed 3 a.place a.room a.bytes else a
+behind_mark a = if is_first a.place && begins byte_order_mark a.bytes then passed 3 a else a
 
 -- From here on, behind white space and skipped lines.
 abbrev pub skipped : At → At
@@ -62,7 +60,7 @@ spot_at a = record { at = a; token = (lexed a.bytes).token; size = size a.bytes 
 
 -- Behind the token that stands here, and where the next one stands.
 abbrev pub behind_token : At → At
-behind_token a = passed (size a.bytes) a.place a.room a.bytes
+behind_token a = passed (size a.bytes) a
 
 abbrev pub next_at : At → At
 next_at a = skipped (behind_token a)

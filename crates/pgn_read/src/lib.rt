@@ -8,6 +8,7 @@ mod place;
 mod run;
 mod tag_text;
 mod token;
+mod window;
 
 pub use error::PgnError;
 pub use item::{GameFault, GameWhat, Item};
