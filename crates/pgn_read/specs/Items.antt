@@ -36,9 +36,12 @@ resumed place room (byte ∷ bytes) =
     if begins_game place room (byte ∷ bytes) then here place room (byte ∷ bytes)
     else resumed (next_place place byte) (room - 1) bytes
 
+abbrev pub resumed_at : At → At
+resumed_at a = resumed a.place a.room a.bytes
+
 abbrev pub faulty : GameWhat → At → Next
 faulty what a =
-    next (Some (Bad (record { line = a.place.line; column = a.place.column; what = what }))) (resumed a.place a.room a.bytes)
+    next (Some (Bad (record { line = a.place.line; column = a.place.column; what = what }))) (resumed_at a)
 
 -- ---- the tokens of an item
 

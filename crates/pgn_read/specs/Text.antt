@@ -46,8 +46,11 @@ abbrev pub behind_mark : At → At
 behind_mark a = if is_first a.place && begins byte_order_mark a.bytes then passed 3 a else a
 
 -- From here on, behind white space and skipped lines.
+abbrev pub gap_behind : Bool → At → At
+gap_behind inside a = behind_gap inside a.place a.room a.bytes
+
 abbrev pub skipped : At → At
-skipped a = behind_gap false a.place a.room a.bytes
+skipped a = gap_behind false a
 
 -- A token with its number of bytes, where it stands.
 pub record Spot : Type 0 where

@@ -1,10 +1,10 @@
 //! The bytes of a source that were read and not yet taken.
-ghost use Rattle.std.specs.Prelude.{◌≡◌, ◌≤◌, ◌<◌, ◌+◌, ◌-◌, ◌∷◌, ◌⊎◌, [], length, take, drop, option_map, true, false, IfOk, IfErr, OnOk, OnErr, IsTrue, MatchOption};
+ghost use Rattle.std.specs.Prelude.{◌≡◌, ◌≤◌, ◌<◌, ◌+◌, ◌-◌, ◌∷◌, ◌⊎◌, ℕ, List, None, IfSome, OnSome, [], length, take, drop, option_map, true, false, IfOk, IfErr, OnOk, OnErr, IsTrue, MatchOption};
 ghost use Rattle.base_files.specs.Told.{before, Tells};
 ghost use Rattle.pgn_read.specs.Causes.{HasCause};
 ghost use Rattle.pgn_read.specs.Place.{next_place, place_behind, first_place};
-ghost use Rattle.pgn_read.specs.Text.{longest, skipped, behind_mark, on_remark};
-ghost use Rattle.pgn_read.specs.Window.{ahead, Decides};
+ghost use Rattle.pgn_read.specs.Text.{longest, gap_behind, skipped, behind_mark, on_remark};
+ghost use Rattle.pgn_read.specs.Window.{with_more, ahead, Decides};
 
 use crate::error::PgnError;
 use crate::lexing::lexed;
@@ -193,6 +193,65 @@ impl Window {
         }
         Ok(())
     }
+
+    // Reads until there are so many unread bytes, where there are fewer, or to the source's end.
+    fn look<S: Source>(&mut self, source: &mut S, count: usize) -> Result<(), PgnError>
+        requires told { IsTrue self.old.ended → Tells (S.left source.old) [] }
+        ensures kept { OnOk result (ahead self.old (S.left source.old) ≡ ahead self.new (S.left source.new)) }
+        ensures there { OnOk result (IsTrue self.new.ended ⊎ (count ≤ length self.new.unread)) }
+        ensures told { OnOk result (IsTrue self.new.ended → Tells (S.left source.new) []) }
+        ensures place { self.new.place ≡ self.old.place }
+        ensures room { self.new.room ≡ self.old.room }
+        ensures sum { OnOk result (S.budget source.new + length self.new.unread ≡ S.budget source.old + length self.old.unread) }
+        ensures spends { S.budget source.new ≤ S.budget source.old }
+        ensures counts { S.faults source.old ≤ S.faults source.new }
+        ensures cause { IfErr result (λ e. HasCause e (S.faults source.old) (S.faults source.new)) }
+    {
+        if self.unread().len() >= count {
+            return Ok(());
+        }
+        self.fill(source, count)
+    }
+
+    // Passes over a byte of a gap, and says whether a skipped line goes on behind it; nothing where the gap has ended.
+    fn pass_gap(&mut self, inside: bool) -> Option<bool>
+        ensures passes { IfSome result (λ later. (more : List ℕ) → gap_behind inside (with_more self.old more) ≡ gap_behind later (with_more self.new more)) }
+        ensures shorter { OnSome result (length self.new.unread < length self.old.unread) }
+        ensures ended { self.new.ended ≡ self.old.ended }
+        ensures stops { result ≡ None → 0 < length self.old.unread → (more : List ℕ) → gap_behind inside (with_more self.old more) ≡ with_more self.old more }
+        ensures kept { result ≡ None → self.new ≡ self.old }
+    {
+        let byte = self.peek()?;
+        let remark = on_remark(inside, self.place, byte);
+        if !remark && !is_white(byte) {
+            return None;
+        }
+        self.pass_byte(byte);
+        Some(remark && byte != b'\n')
+    }
+
+    /// Skips white space and lines that are skipped, up to the next token or the end of the text.
+    pub(crate) fn skip_gap<S: Source>(&mut self, source: &mut S) -> Result<(), PgnError>
+        requires told { IsTrue self.old.ended → Tells (S.left source.old) [] }
+        ensures skipped { OnOk result (option_map skipped (ahead self.old (S.left source.old)) ≡ ahead self.new (S.left source.new)) }
+        ensures there { OnOk result (IsTrue self.new.ended ⊎ (1 ≤ length self.new.unread)) }
+        ensures told { OnOk result (IsTrue self.new.ended → Tells (S.left source.new) []) }
+        ensures sum { OnOk result (S.budget source.new + length self.new.unread ≤ S.budget source.old + length self.old.unread) }
+        ensures spends { S.budget source.new ≤ S.budget source.old }
+        ensures counts { S.faults source.old ≤ S.faults source.new }
+        ensures cause { IfErr result (λ e. HasCause e (S.faults source.old) (S.faults source.new)) }
+    {
+        let mut inside = false;
+        'gap: loop {
+            if let Err(error) = self.look(source, 1) {
+                return Err(error);
+            }
+            match self.pass_gap(inside) {
+                Some(later) => inside = later,
+                None => return Ok(()),
+            }
+        }
+    }
 }
 
 // Takes so many bytes away from the front.
@@ -204,4 +263,11 @@ fn shift(bytes: &mut Vec<u8>, from: usize)
     let left = bytes.len() - from;
     bytes.copy_within(from.., 0);
     bytes.truncate(left);
+}
+
+// Whether a byte is on a line that is skipped.
+fn on_remark(inside: bool, place: Place, byte: u8) -> bool
+    ensures { result ≡ on_remark inside place byte }
+{
+    inside || (place.column == 1 && byte == b'%')
 }
