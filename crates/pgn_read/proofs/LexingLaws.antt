@@ -153,7 +153,7 @@ number_goes x more =
 
 -- ---- what begins with a digit
 
-begins_more : (form w more : List ℕ) → length form ≤ length w → begins form (w ++ more) ≡ begins form w
+pub begins_more : (form w more : List ℕ) → length form ≤ length w → begins form (w ++ more) ≡ begins form w
 begins_more [] w more fits = refl
 begins_more (first ∷ form) [] more fits = absurd (omega (arith, fits))
 begins_more (first ∷ form) (b ∷ w) more fits = rw (begins_more form w more (omega (arith, fits))) refl

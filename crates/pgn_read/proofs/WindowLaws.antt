@@ -1,11 +1,13 @@
 -- Laws of a window over a source.
-use Rattle.std.proofs.Common.{◌≡◌, ◌≤◌, ◌+◌, ◌-◌, ◌==◌, ◌&&◌, ◌||◌, not, Bool, true, false, Option, Some, None, option_map, ℕ, List, [], ◌∷◌, ◌++◌, length, take, drop, refl, sym, ap, ◌∙◌, subst, arith, length-drop, length-take}
+use Rattle.std.proofs.Common.{◌≡◌, ◌≤◌, ◌+◌, ◌-◌, ◌==◌, ◌&&◌, ◌||◌, not, Bool, true, false, Option, Some, None, option_map, ℕ, List, [], ◌∷◌, ◌++◌, length, take, drop, refl, sym, ap, ◌∙◌, subst, arith, length-drop, length-take, append-nil, ◌⊎◌, inl, inr, IsTrue}
 use Rattle.std.proofs.Math.Seq.{take-append_seam}
-use Rattle.std.proofs.lemmas.List.{take_all}
+use Rattle.std.proofs.lemmas.List.{take_all, take-append-le, drop-append-le}
 use Rattle.base_files.specs.Told.{before, Tells}
-use Rattle.pgn_read.specs.Place.{next_place}
-use Rattle.pgn_read.specs.Bytes.{is_white}
-use Rattle.pgn_read.specs.Text.{At, on_remark, gap_behind}
+use Rattle.pgn_read.specs.Place.{next_place, place_behind}
+use Rattle.pgn_read.specs.Bytes.{is_white, begins}
+use Rattle.pgn_read.specs.Items.{begins_game, resumed, resumed_at}
+use Rattle.pgn_read.proofs.LexingLaws.{begins_more}
+use Rattle.pgn_read.specs.Text.{At, passed, on_remark, gap_behind}
 use Rattle.pgn_read.specs.Window.{Window, with_more, ahead}
 
 -- Bytes that were moved to the front, without those behind them.
@@ -57,3 +59,22 @@ pub gap_ends : (inside : Bool) (v : Window) (l : Option (List ℕ)) → v.unread
     → option_map (gap_behind inside) (ahead v l) ≡ ahead v l
 gap_ends inside v None none told = refl
 gap_ends inside v (Some more) none told = rw none rw (sym told) refl
+
+-- ---- the mark at the beginning of a text
+
+pub told_none : (l : Option (List ℕ)) (more : List ℕ) → l ≡ Some more → Tells l [] → more ≡ []
+told_none None more is told = absurd (cc)
+told_none (Some left) more is told = sym (told ∙ cc)
+
+-- Either a text has at least so many bytes, or nothing comes behind it: then what comes behind it changes nothing of how it begins.
+pub begins_told : (form : List ℕ) (w : Window) (more : List ℕ) → IsTrue w.ended ⊎ (length form ≤ length w.unread) → (IsTrue w.ended → more ≡ [])
+    → begins form (w.unread ++ more) ≡ begins form w.unread
+begins_told form w more (inl ended) none = ap (λ m. begins form (w.unread ++ m)) (none ended) ∙ ap (begins form) (append-nil w.unread)
+begins_told form w more (inr long) none = begins_more form w.unread more long
+
+-- Bytes of the window were passed over.
+pub passed_more : (n : ℕ) (v w : Window) (more : List ℕ) → n ≤ length v.unread → w.unread ≡ drop n v.unread
+    → w.place ≡ place_behind v.place (take n v.unread) → w.room ≡ v.room - n → passed n (with_more v more) ≡ with_more w more
+passed_more n v w more fits unread place room =
+    rw (take-append-le n v.unread more fits) rw (drop-append-le n v.unread more fits) rw unread rw place rw room refl
+

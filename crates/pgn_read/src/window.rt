@@ -1,9 +1,12 @@
 //! The bytes of a source that were read and not yet taken.
-ghost use Rattle.std.specs.Prelude.{◌≡◌, ◌≤◌, ◌<◌, ◌+◌, ◌-◌, ◌∷◌, ◌⊎◌, ℕ, List, None, IfSome, OnSome, [], length, take, drop, option_map, true, false, IfOk, IfErr, OnOk, OnErr, IsTrue, MatchOption};
+ghost use Rattle.std.specs.Prelude.{◌≡◌, ◌≤◌, ◌<◌, ◌+◌, ◌-◌, ◌∷◌, ◌⊎◌, ℕ, List, None, IfSome, OnSome, ◌&&◌, slice_index_or, [], length, take, drop, option_map, true, false, IfOk, IfErr, OnOk, OnErr, IsTrue, MatchOption};
 ghost use Rattle.base_files.specs.Told.{before, Tells};
+ghost use Rattle.std.specs.Bool.{OnTrue, OnFalse};
+ghost use Rattle.pgn_read.specs.Bytes.{begins};
 ghost use Rattle.pgn_read.specs.Causes.{HasCause};
+ghost use Rattle.pgn_read.specs.Items.{begins_game, resumed_at};
 ghost use Rattle.pgn_read.specs.Place.{next_place, place_behind, first_place};
-ghost use Rattle.pgn_read.specs.Text.{longest, gap_behind, skipped, behind_mark, on_remark};
+ghost use Rattle.pgn_read.specs.Text.{longest, gap_behind, skipped, is_first, byte_order_mark, behind_mark, on_remark};
 ghost use Rattle.pgn_read.specs.Window.{with_more, ahead, Decides};
 
 use crate::error::PgnError;
@@ -249,6 +252,113 @@ impl Window {
             match self.pass_gap(inside) {
                 Some(later) => inside = later,
                 None => return Ok(()),
+            }
+        }
+    }
+
+    // Whether this is the beginning of a text, and has a byte order mark.
+    fn has_mark(&self) -> bool
+        ensures mark { result ≡ is_first self.now.place && begins byte_order_mark self.now.unread }
+    {
+        self.place.line == 1 && self.place.column == 1 && begins(b"\xef\xbb\xbf", self.unread())
+    }
+
+    /// Skips a byte order mark at the beginning of a text.
+    pub(crate) fn skip_mark<S: Source>(&mut self, source: &mut S) -> Result<(), PgnError>
+        requires told { IsTrue self.old.ended → Tells (S.left source.old) [] }
+        ensures skipped { OnOk result (option_map behind_mark (ahead self.old (S.left source.old)) ≡ ahead self.new (S.left source.new)) }
+        ensures told { OnOk result (IsTrue self.new.ended → Tells (S.left source.new) []) }
+        ensures sum { OnOk result (S.budget source.new + length self.new.unread ≤ S.budget source.old + length self.old.unread) }
+        ensures spends { S.budget source.new ≤ S.budget source.old }
+        ensures counts { S.faults source.old ≤ S.faults source.new }
+        ensures cause { IfErr result (λ e. HasCause e (S.faults source.old) (S.faults source.new)) }
+    {
+        if let Err(error) = self.look(source, 3) {
+            return Err(error);
+        }
+        if self.has_mark() {
+            self.pass(3);
+        }
+        Ok(())
+    }
+
+    // Whether the unread bytes tell the token at their front, or that it is too long.
+    fn decides(&self) -> bool
+        ensures decides { OnTrue result (Decides self.now) }
+        ensures not_ended { OnFalse result (self.now.ended ≡ false) }
+        ensures short { OnFalse result (length self.now.unread < longest + 8) }
+    {
+        let unread = self.unread();
+        self.ended || lexed(unread).rest.len() >= 8 || unread.len() >= self.room + 8
+    }
+
+    /// Reads so far that the unread bytes tell the token at their front, or that it is too long.
+    pub(crate) fn prepare<S: Source>(&mut self, source: &mut S) -> Result<(), PgnError>
+        requires told { IsTrue self.old.ended → Tells (S.left source.old) [] }
+        ensures kept { OnOk result (ahead self.old (S.left source.old) ≡ ahead self.new (S.left source.new)) }
+        ensures decides { OnOk result (Decides self.new) }
+        ensures told { OnOk result (IsTrue self.new.ended → Tells (S.left source.new) []) }
+        ensures place { self.new.place ≡ self.old.place }
+        ensures room { self.new.room ≡ self.old.room }
+        ensures sum { OnOk result (S.budget source.new + length self.new.unread ≡ S.budget source.old + length self.old.unread) }
+        ensures spends { S.budget source.new ≤ S.budget source.old }
+        ensures counts { S.faults source.old ≤ S.faults source.new }
+        ensures cause { IfErr result (λ e. HasCause e (S.faults source.old) (S.faults source.new)) }
+    {
+        'looks: while !self.decides() {
+            let wanted = 2 * self.unread().len() + PIECE;
+            if let Err(error) = self.fill(source, wanted) {
+                return Err(error);
+            }
+            if self.ended {
+                return Ok(());
+            }
+        }
+        Ok(())
+    }
+
+    // Whether a line begins here on which reading goes on behind a fault.
+    fn begins_game(&self) -> bool
+        ensures begins { result ≡ begins_game self.now.place self.now.room self.now.unread }
+    {
+        self.place.column == 1 && self.room != LONGEST && begins(b"[Event \"", self.unread())
+    }
+
+    // Passes over a byte before such a line, and says whether there was one.
+    fn pass_faulty(&mut self) -> bool
+        ensures passes { OnTrue result (begins_game self.old.place self.old.room self.old.unread ≡ false) }
+        ensures some { OnTrue result (0 < length self.old.unread) }
+        ensures stops { OnFalse result ((self.old.unread ≡ []) ⊎ (begins_game self.old.place self.old.room self.old.unread ≡ true)) }
+        ensures kept { OnFalse result (self.new ≡ self.old) }
+        ensures unread { OnTrue result (self.new.unread ≡ drop 1 self.old.unread) }
+        ensures place { OnTrue result (self.new.place ≡ next_place self.old.place (slice_index_or self.old.unread 0 0)) }
+        ensures room { OnTrue result (self.new.room ≡ self.old.room - 1) }
+        ensures ended { self.new.ended ≡ self.old.ended }
+    {
+        let Some(byte) = self.peek() else {
+            return false;
+        };
+        if self.begins_game() {
+            return false;
+        }
+        self.pass_byte(byte);
+        true
+    }
+
+    /// Goes on, behind a fault, to the first line that begins a game, or to the end of the text.
+    pub(crate) fn resume<S: Source>(&mut self, source: &mut S) -> Result<(), PgnError>
+        requires told { IsTrue self.old.ended → Tells (S.left source.old) [] }
+        ensures resumed { OnOk result (option_map resumed_at (ahead self.old (S.left source.old)) ≡ ahead self.new (S.left source.new)) }
+        ensures spends { S.budget source.new ≤ S.budget source.old }
+        ensures counts { S.faults source.old ≤ S.faults source.new }
+        ensures cause { IfErr result (λ e. HasCause e (S.faults source.old) (S.faults source.new)) }
+    {
+        'lines: loop {
+            if let Err(error) = self.look(source, 8) {
+                return Err(error);
+            }
+            if !self.pass_faulty() {
+                return Ok(());
             }
         }
     }
