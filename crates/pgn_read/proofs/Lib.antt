@@ -1,2 +1,3 @@
 pub mod LexingLaws
 pub mod WindowLaws
+pub mod HeadLaws

@@ -2,6 +2,7 @@
 #![tactic(auto)]
 
 mod error;
+mod heads;
 mod item;
 mod lexing;
 mod place;
