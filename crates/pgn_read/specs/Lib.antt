@@ -9,6 +9,7 @@ pub mod SanAnswer
 pub mod FenAnswer
 pub mod Heads
 pub mod Reading
+pub mod ReadingCode
 pub mod Items
 pub mod Window
 pub mod Causes

@@ -18,16 +18,12 @@ use Rattle.game_tree.specs.TagList.{is_named}
 use Rattle.game_tree.specs.TagName.{is_among, roster_names}
 use Rattle.pgn_read.specs.declared.item.GameWhat.{GameWhat}
 use Rattle.pgn_read.specs.declared.item.GameWhat.TheVariants as what
+use Rattle.pgn_read.specs.declared.turn.Turn.{Turn}
 use Rattle.pgn_read.specs.SanAnswer.{san_answer}
 use Rattle.pgn_read.specs.FenAnswer.{fen_answer}
 use Rattle.pgn_read.specs.Heads.{head_from}
 use Rattle.pgn_read.specs.Token.{Token}
 use Rattle.pgn_read.specs.Token as token
-
--- A place in a line of moves: the position before its last move, where a variation begins, and the position that it has come to.
-pub record Turn : Type 0 where
-  pub before : Setup
-  pub now_at : Setup
 
 -- The tags so far; whether another token than tags and comments was read; the position at the start; the moves with what belongs
 -- to them; and the place in the innermost line and in those round it.
@@ -41,6 +37,9 @@ pub record Reading : Type 0 where
 
 abbrev pub turn_at : Setup → Turn
 turn_at p = record { before = p; now_at = p }
+
+abbrev pub turn_behind : Turn → Move → Turn
+turn_behind t m = record { before = t.now_at; now_at = stepped t.now_at m }
 
 -- Before the first token.
 abbrev pub unread : Reading
@@ -101,7 +100,7 @@ moving r = record r { in_moves = true }
 
 abbrev pub played : Move → Reading → Reading
 played m r =
-    record (moving r) { moves = added (item.move m) r.moves; turn = record { before = r.turn.now_at; now_at = stepped r.turn.now_at m } }
+    record (moving r) { moves = added (item.move m) r.moves; turn = turn_behind r.turn m }
 
 abbrev pub move_effect : Reading → Result Move SanFault → Effect
 move_effect r (Ok m) = goes_on (played m r)

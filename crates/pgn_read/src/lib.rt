@@ -1,14 +1,17 @@
 //! Games as text in Portable Game Notation (PGN), as they are read.
 #![tactic(auto)]
 
+mod answers;
 mod error;
 mod heads;
 mod item;
 mod lexing;
 mod place;
+mod reading;
 mod run;
 mod tag_text;
 mod token;
+mod turn;
 mod window;
 
 pub use error::PgnError;
