@@ -1,7 +1,7 @@
 -- The head of read tags is within its bounds.
-use Rattle.std.proofs.Common.{◌≡◌, Bool, true, false, not, List, [], ◌∷◌, All, rules, inl, inr}
+use Rattle.std.proofs.Common.{◌≡◌, Bool, true, false, not, List, [], ◌∷◌, ◌++◌, All, rules, inl, inr}
 use Rattle.std.proofs.lemmas.Bool.{cases_Bool}
-use Rattle.std.proofs.lemmas.List.Elements.{All-cons, All-head, All-tail}
+use Rattle.std.proofs.lemmas.List.Elements.{All-cons, All-head, All-push, All-tail}
 use Rattle.game_tree.specs.declared.head.Tag.{Tag}
 use Rattle.game_tree.specs.Head.{IsTag}
 use Rattle.game_tree.specs.TagName.{is_reserved, free_of}
@@ -20,3 +20,7 @@ free_are_tags (tag ∷ tags) read =
           rw free (All-cons IsTag tag (free_of tags) (free_is_tag tag (All-head IsReadTag tag tags read) free)
           (free_are_tags tags (All-tail IsReadTag tag tags read)))
     ]
+
+-- One more read tag.
+pub pushed_read : (tags : List Tag) (tag : Tag) → All IsReadTag tags → IsReadTag tag → All IsReadTag (tags ++ tag ∷ [])
+pushed_read tags tag read one = All-push IsReadTag tags tag read one

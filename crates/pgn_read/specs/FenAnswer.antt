@@ -1,6 +1,6 @@
 -- The answer to a text in Forsyth-Edwards Notation, as it is computed: the position that its fields say, or the first fault
 -- (PGN standard, 16.1).
-use Rattle.std.specs.Prelude.{ℕ, ◌==◌, ◌&&◌, ◌||◌, not, nat_le, Bool, true, if◌then◌else◌, Option, Some, None, Result, Ok, Err, List, count_by}
+use Rattle.std.specs.Prelude.{ℕ, ◌==◌, ◌&&◌, ◌||◌, not, nat_le, Bool, true, if◌then◌else◌, Option, Some, None, Result, Ok, Err, List, length, count_by}
 use Rattle.cell_core.specs.declared.man.Colour.{Colour}
 use Rattle.cell_core.specs.declared.man.Colour.TheVariants.{White, Black}
 use Rattle.cell_core.specs.declared.man.Kind.TheVariants.{King, Pawn}
@@ -23,7 +23,7 @@ has_kings men = (count_by (is_man White King) men == 1) && (count_by (is_man Bla
 
 abbrev pub has_pawn_outside : Men → Colour → Bool
 has_pawn_outside men side =
-    some_below (λ s. is_man side Pawn (man_at men s) && ((rank_of s == 0) || (rank_of s == 7))) 64
+    some_below (λ s. is_man side Pawn (man_at men s) && ((rank_of s == 0) || nat_le 7 (rank_of s))) (length men)
 
 abbrev pub has_few_men : Men → Bool
 has_few_men men = nat_le (count_by (is_of White) men) 16 && nat_le (count_by (is_of Black) men) 16

@@ -1,6 +1,6 @@
 -- The items of a text: its games, and the first fault of each that is none (PGN standard, 8; the faults and where reading goes on
 -- are this project's own).
-use Rattle.std.specs.Prelude.{◌≡◌, ℕ, suc, ◌-◌, ◌==◌, nat_lt, Bool, not, ◌&&◌, ◌||◌, if◌then◌else◌, List, [], ◌∷◌, length, Option, Some, None, slice_index_or, codes}
+use Rattle.std.specs.Prelude.{◌≡◌, ℕ, suc, ◌-◌, ◌==◌, nat_lt, Bool, not, ◌&&◌, ◌||◌, if◌then◌else◌, List, [], ◌∷◌, length, Option, Some, None, codes}
 use Rattle.game_tree.specs.declared.head.Outcome.{Outcome}
 use Rattle.pgn_read.specs.declared.place.Place.{Place}
 use Rattle.pgn_read.specs.declared.item.GameFault.{GameFault}
@@ -11,9 +11,9 @@ use Rattle.pgn_read.specs.declared.item.Item.TheVariants.{Good, Bad}
 use Rattle.pgn_read.specs.Place.{next_place, first_place}
 use Rattle.pgn_read.specs.Bytes.{begins}
 use Rattle.pgn_read.specs.Token.{Token}
-use Rattle.pgn_read.specs.Text.{At, here, longest, Spot, behind_mark, behind_token, skipped, spots}
+use Rattle.pgn_read.specs.Text.{At, here, longest, Spot, spot_at, behind_mark, behind_token, skipped, spots}
 use Rattle.pgn_read.specs.Heads.{head_from}
-use Rattle.pgn_read.specs.Reading.{Reading, Effect, goes_on, ends_behind, ends_before, is_faulty, unread, is_inside, effect, is_game, game_of}
+use Rattle.pgn_read.specs.Reading.{Reading, Effect, goes_on, ends_behind, ends_before, is_faulty, unread, effect, is_next_game, is_game, game_of}
 
 -- An item, if there is one, and where reading goes on behind it.
 pub record Next : Type 0 where
@@ -52,16 +52,15 @@ ended r mark a = next (Some (Good (head_from r.tags mark) (game_of r))) a
 abbrev pub ended_before : Reading → At → Next
 ended_before r a = if is_game r then ended r None a else next None a
 
--- A tag outside variations behind moves belongs to the next game, however long it is. A token that ends further than the limit
--- from the item's first byte is too long, whatever else it is.
-abbrev pub is_next_game : Reading → List ℕ → Bool
-is_next_game r bytes = r.in_moves && (not (is_inside r) && (slice_index_or bytes 0 0 == 91))
-
+-- A token that ends further than the limit from the item's first byte is too long, whatever else it is.
 abbrev pub effect_of : Reading → Spot → Effect
 effect_of r spot =
     if is_next_game r spot.at.bytes then ends_before
     else if nat_lt spot.at.room spot.size then is_faulty TooLong
     else effect spot.token r
+
+abbrev pub effect_at : Reading → At → Effect
+effect_at r a = effect_of r (spot_at a)
 
 -- The item that these tokens are, behind what was read.
 abbrev pub by_effect : Reading → At → (Reading → Next) → Effect → Next
@@ -78,6 +77,10 @@ item_from r (spot ∷ more) = by_effect r spot.at (λ s. item_from s more) (effe
 abbrev pub all_spots : At → List Spot
 all_spots a = spots (suc (length a.bytes)) a
 
+-- The item from here on, behind what was read.
+abbrev pub item_at : Reading → At → Next
+item_at r a = item_from r (all_spots a)
+
 -- ---- items
 
 -- The first token of an item, from whose first byte its length counts.
@@ -89,7 +92,7 @@ first_token a = whole_room (skipped (behind_mark a))
 
 -- The next item from here on.
 unfoldable pub next_item : At → Next
-next_item a = item_from unread (all_spots (first_token a))
+next_item a = item_at unread (first_token a)
 
 -- The items from here on, to the end of the text.
 abbrev pub AreItems : At → List Item → Type 0

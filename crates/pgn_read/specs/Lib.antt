@@ -13,3 +13,4 @@ pub mod ReadingCode
 pub mod Items
 pub mod Window
 pub mod Causes
+pub mod Readers

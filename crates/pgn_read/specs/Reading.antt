@@ -1,5 +1,5 @@
 -- A game while its tokens are read: what the tokens so far say, and what the next one does (PGN standard, 8).
-use Rattle.std.specs.Prelude.{ℕ, ◌==◌, nat_lt, nat_le, Bool, true, false, ◌||◌, ◌&&◌, if◌then◌else◌, List, [], ◌∷◌, ◌++◌, length, Option, Some, None, is_some, Result, Ok, Err, codes}
+use Rattle.std.specs.Prelude.{ℕ, ◌==◌, nat_lt, nat_le, Bool, true, false, not, slice_index_or, ◌||◌, ◌&&◌, if◌then◌else◌, List, [], ◌∷◌, ◌++◌, length, Option, Some, None, is_some, Result, Ok, Err, codes}
 use Rattle.std.specs.List.{list_any}
 use Rattle.cell_core.specs.declared.step.Move.{Move}
 use Rattle.chess_laws.specs.declared.setup.Setup.{Setup}
@@ -116,22 +116,41 @@ closed_to r (turn ∷ outer) = goes_on (record (moving r) { moves = added item.c
 
 -- ---- a token
 
+abbrev pub commented : List ℕ → Reading → Reading
+commented text r = record r { moves = added (item.comment text) r.moves }
+
+abbrev pub nag_effect : ℕ → Reading → Effect
+nag_effect n r = if has_move r then goes_on (record (moving r) { moves = added (item.nag n) r.moves }) else is_faulty what.Token
+
+abbrev pub opens_effect : Reading → Effect
+opens_effect r =
+    if nat_le deepest (length r.outer) then is_faulty what.Depth
+    else if has_move r then goes_on (opened r) else is_faulty what.Token
+
+-- An end mark inside a variation is skipped.
+abbrev pub ending_effect : Outcome → Reading → Effect
+ending_effect outcome r = if is_inside r then goes_on (moving r) else ends_behind outcome
+
+abbrev pub end_effect : Reading → Effect
+end_effect r = if is_inside r then is_faulty what.Paren else ends_before
+
 unfoldable pub effect : Token → Reading → Effect
 effect (token.tag name value) r = at_tag r (tag_effect name value r)
 effect token.bad_tag r = at_tag r (is_faulty what.Tag)
-effect (token.comment text) r = goes_on (record r { moves = added (item.comment text) r.moves })
+effect (token.comment text) r = goes_on (commented text r)
 effect token.open_comment r = is_faulty what.Brace
-effect (token.nag n) r =
-    if has_move r then goes_on (record (moving r) { moves = added (item.nag n) r.moves }) else is_faulty what.Token
-effect token.opens r =
-    if nat_le deepest (length r.outer) then is_faulty what.Depth
-    else if has_move r then goes_on (opened r) else is_faulty what.Token
+effect (token.nag n) r = nag_effect n r
+effect token.opens r = opens_effect r
 effect token.closes r = closed_to r r.outer
-effect (token.ending outcome) r = if is_inside r then goes_on (moving r) else ends_behind outcome
+effect (token.ending outcome) r = ending_effect outcome r
 effect token.number r = goes_on (moving r)
 effect (token.move text) r = move_effect r (san_answer r.turn.now_at text)
 effect token.bad r = is_faulty what.Token
-effect token.the_end r = if is_inside r then is_faulty what.Paren else ends_before
+effect token.the_end r = end_effect r
+
+-- A tag outside variations behind moves belongs to the next game, however long it is.
+abbrev pub is_next_game : Reading → List ℕ → Bool
+is_next_game r bytes = r.in_moves && (not (is_inside r) && (slice_index_or bytes 0 0 == 91))
 
 -- ---- the end
 

@@ -13,6 +13,7 @@ pub(crate) fn san_answer(p: &Position, text: &[u8]) -> Result<Move, SanFault>
     ensures answer { result ≡ san_answer p.now text.now }
     ensures legal { IfOk result (λ m. Legal p.now m) }
 {
+    let _ = p.setup();
     read_san(p, text)
 }
 

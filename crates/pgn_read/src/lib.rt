@@ -7,8 +7,10 @@ mod heads;
 mod item;
 mod lexing;
 mod place;
+mod reader;
 mod reading;
 mod run;
+mod step;
 mod tag_text;
 mod token;
 mod turn;
@@ -16,3 +18,4 @@ mod window;
 
 pub use error::PgnError;
 pub use item::{GameFault, GameWhat, Item};
+pub use reader::Reader;

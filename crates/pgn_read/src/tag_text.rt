@@ -1,10 +1,11 @@
 //! Tags as they are read.
-ghost use Rattle.std.specs.Prelude.{◌≡◌, false};
+ghost use Rattle.std.specs.Prelude.{◌≡◌, ◌++◌, false, IfOk, OnOk};
 ghost use Rattle.pgn_read.specs.Said.{said};
-ghost use Rattle.pgn_read.specs.TagText.{raw_value, behind_value, ends_value, escapes, closing, unquoting, quoting, naming, tag_from};
+ghost use Rattle.pgn_read.specs.TagText.{raw_value, behind_value, ends_value, escapes, meant_by, unescaped, closing, unquoting, quoting, naming, tag_from};
 
 use crate::run::{Run, has_zero, split_run};
 use crate::token::{Lexed, Token};
+use std::alloc::{AllocError, Global};
 
 /// A tag, from behind its opening bracket on.
 pub(crate) fn tag_from(text: &[u8]) -> Lexed<'_>
@@ -113,4 +114,33 @@ fn escapes(escaped: bool, byte: u8) -> bool
     ensures { result ≡ escapes escaped byte }
 {
     !escaped && byte == b'\\'
+}
+
+/// The value that these bytes are, without its escapes.
+pub(crate) fn unescaped(alloc: Global, raw: &[u8]) -> Result<Vec<u8>, AllocError>
+    ensures value { IfOk result (λ value. value.items ≡ unescaped raw.now) }
+{
+    let mut value = Vec::new(alloc);
+    let mut escaped = false;
+    for byte in raw {
+        push_meant(&mut value, escaped, *byte)?;
+        escaped = escapes(escaped, *byte);
+    }
+    if escaped {
+        value.push(b'\\')?;
+    }
+    Ok(value)
+}
+
+// Adds what a byte of a value means.
+fn push_meant(value: &mut Vec<u8>, escaped: bool, byte: u8) -> Result<(), AllocError>
+    ensures meant { OnOk result (value.new.items ≡ value.old.items ++ meant_by escaped byte) }
+{
+    if escaped && byte != b'"' && byte != b'\\' {
+        value.push(b'\\')?;
+    }
+    if escaped || byte != b'\\' {
+        value.push(byte)?;
+    }
+    Ok(())
 }
