@@ -1,5 +1,5 @@
 -- Laws of items: what one token does, and that a text has one list of items.
-use Rattle.std.proofs.Common.{◌≡◌, ◌⊎◌, inl, inr, ◌≤◌, ◌<◌, ◌+◌, ◌-◌, ◌==◌, ◌&&◌, ◌||◌, ℕ, zero, suc, Bool, true, false, not, cond, nat_lt, IsTrue, List, [], ◌∷◌, ◌++◌, length, take, drop, Option, Some, None, option_map, IfSome, refl, sym, ap, ◌∙◌, subst, arith, rules, length-append, length-drop, append-nil}
+use Rattle.std.proofs.Common.{◌≡◌, ◌⊎◌, inl, inr, ◌≤◌, ◌<◌, ◌+◌, ◌-◌, ◌==◌, ◌&&◌, ◌||◌, ℕ, zero, suc, Bool, true, false, not, cond, nat_lt, IsTrue, List, [], ◌∷◌, ◌++◌, length, take, drop, Option, Some, None, option_map, IfSome, Result, Ok, Err, IfOk, refl, sym, ap, ◌∙◌, subst, arith, rules, length-append, length-drop, append-nil}
 use Rattle.std.proofs.lemmas.Bool.{cases_Bool}
 use Rattle.std.proofs.lemmas.List.{take-append-le, drop-append-le}
 use Rattle.base_files.specs.Told.{Tells}
@@ -21,7 +21,7 @@ use Rattle.pgn_read.specs.Text.{At, here, passed, on_remark, behind_gap, longest
 use Rattle.pgn_read.specs.Reading.{Reading, Effect, goes_on, ends_behind, ends_before, is_faulty, unread, is_inside, effect, end_effect, is_next_game, is_game, game_of}
 use Rattle.pgn_read.specs.Heads.{head_from}
 use Rattle.pgn_read.specs.Items.{Next, next, resumed_at, faulty, ended, ended_before, by_effect, effect_at, item_from, item_at, whole_room, first_token, next_item, AreItems, PgnReads}
-use Rattle.pgn_read.specs.Said.{said_end, said_step}
+use Rattle.pgn_read.specs.Said.{said_end, said_step, EndsWell}
 use Rattle.pgn_read.specs.Window.{Window, with_more, ahead, front, Decides, by_end, Moved, FrontPassed, FrontMoved}
 use Rattle.pgn_read.proofs.LexingLaws.{Goes, token_goes, token_shorter}
 
@@ -218,6 +218,20 @@ comes_to_end r (end.Behind outcome) t u is moved =
 comes_to_end r end.Before t u is moved = ended_told r end.Before t (by_end r end.Before) (λ a. refl) is ∙ ap (option_map (by_end r end.Before)) moved
 comes_to_end r (end.Faulty fault) t u is moved =
     ended_told r (end.Faulty fault) t (by_end r (end.Faulty fault)) (λ a. refl) is ∙ ap (option_map (by_end r (end.Faulty fault))) moved
+
+by_end_same : (r s : Reading) (e : End) → EndsWell e r s → by_end r e ≡ by_end s e
+by_end_same r s (end.Behind outcome) well = ap (λ x. by_end x (end.Behind outcome)) (sym well.0)
+by_end_same r s end.Before well = ap (λ x. by_end x end.Before) (sym well.0)
+by_end_same r s (end.Faulty fault) well = refl
+
+pub ends_item : (r s : Reading) (e : End) (t u : Option At) → IfSome t (λ a. effect_at r a ≡ said_end e) → Moved (step.Ends e) t u → EndsWell e r s
+    → option_map (item_at r) t ≡ option_map (by_end s e) u
+ends_item r s e t u is moved well = comes_to_end r e t u is moved ∙ ap (λ f. option_map f u) (by_end_same r s e well)
+
+-- What holds of an answer of Ok holds in another form.
+pub ok_so : {A E : Type 0} (r : Result A E) (P Q : A → Type 0) → ((x : A) → P x → Q x) → IfOk r P → IfOk r Q
+ok_so (Ok x) P Q so h = so x h
+ok_so (Err e) P Q so h = h
 
 -- ---- one list of items
 

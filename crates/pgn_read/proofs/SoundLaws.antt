@@ -24,7 +24,6 @@ token_if false x y p q = q
 
 -- ---- zero bytes
 
-NotZero : ℕ → Type 0
 
 neither : (a b : Bool) → (a || b) ≡ false → (a ≡ false) × (b ≡ false)
 neither true b none = cc
@@ -38,7 +37,7 @@ joined_free : (v w : List ℕ) → AllByRecursion (λ byte. byte ≢ 0) v → Al
 joined_free [] w p q = q
 joined_free (b ∷ v) w p q = (p.0, joined_free v w p.1 q)
 
-backslash_some : 92 ≢ 0
+backslash_some : ◌≢◌ {A = ℕ} 92 0
 backslash_some is = omega (arith, is)
 
 escaped_free : (c : Bool) (b : ℕ) → b ≢ 0 → AllByRecursion (λ byte. byte ≢ 0) (cond c (b ∷ []) (92 ∷ b ∷ []))
@@ -69,7 +68,7 @@ comment_sound text = elim (cases_Bool (has_zero text)) [
 
 each_if : (test : ℕ → Bool) (c : Bool) (b : ℕ) (f : List ℕ) → test b ≡ c → AllByRecursion (λ byte. IsTrue (test byte)) f
     → AllByRecursion (λ byte. IsTrue (test byte)) (cond c (b ∷ f) [])
-each_if test true b f is each = (rw is tt, each)
+each_if test true b f is each = (is, each)
 each_if test false b f is each = tt
 
 front_each : (test : ℕ → Bool) (w : List ℕ) → AllByRecursion (λ byte. IsTrue (test byte)) (front test w)

@@ -1,5 +1,5 @@
 -- What the lexer's tokens say, and what the steps of a game's reading do. No public contract cites these words.
-use Rattle.std.specs.Prelude.{◌≡◌, ℕ, ◌≤◌, ◌<◌, List, [], length, All, ⊤}
+use Rattle.std.specs.Prelude.{◌≡◌, ℕ, ◌≤◌, List, [], length, All, ⊤}
 use Rattle.cell_core.specs.Text.{IsZeroFree}
 use Rattle.game_tree.specs.TagName.{IsTagByte}
 use Rattle.pgn_read.specs.declared.step.End.{End}
@@ -57,7 +57,7 @@ IsSound (token.tag name value) = (1 ≤ length name) × (All IsTagByte name × I
 IsSound token.bad_tag = ⊤
 IsSound (token.comment text) = IsZeroFree text
 IsSound token.open_comment = ⊤
-IsSound (token.nag n) = n < 256
+IsSound (token.nag n) = ⊤
 IsSound token.opens = ⊤
 IsSound token.closes = ⊤
 IsSound (token.ending outcome) = ⊤

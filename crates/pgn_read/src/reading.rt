@@ -96,7 +96,7 @@ impl Reading {
     /// Takes a token into the game, and says what it does.
     #[tactic(auto, unfolding(crate::specs::Reading::effect))]
     pub(crate) fn take(&mut self, alloc: Global, token: Token<'_>) -> Result<Step, AllocError>
-        requires sound { IsSound (said token.entry) }
+        requires sound { IsSound (said token) }
         requires balanced { IsBalanced self.old }
         ensures effect { IfOk result (λ step. said_step step self.new ≡ effect (said token.entry) self.old) }
         ensures well { IfOk result (λ step. StepsWell step self.old self.new) }
