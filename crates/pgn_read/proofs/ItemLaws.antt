@@ -15,7 +15,7 @@ use Rattle.pgn_read.specs.declared.step.Step.{Step}
 use Rattle.pgn_read.specs.declared.step.Step.TheVariants as step
 use Rattle.pgn_read.specs.Place.{next_place, place_behind}
 use Rattle.pgn_read.specs.Bytes.{is_white}
-use Rattle.pgn_read.specs.Token.{Lexed, lexed_as}
+use Rattle.pgn_read.specs.Token.{Token, Lexed, lexed_as}
 use Rattle.pgn_read.specs.Lexing.{lexed, size}
 use Rattle.pgn_read.specs.Text.{At, here, passed, on_remark, behind_gap, longest, skipped, behind_mark, spot_at, behind_token, next_at, spots}
 use Rattle.pgn_read.specs.Reading.{Reading, Effect, goes_on, ends_behind, ends_before, is_faulty, unread, is_inside, effect, end_effect, is_next_game, is_game, game_of}
@@ -96,9 +96,15 @@ not_end : (c : Bool) (s : Reading) → cond c (is_faulty what.Paren) ends_before
 not_end true s is = cc
 not_end false s is = cc
 
-pub goes_some : (r s : Reading) (place : Place) (room : ℕ) (w : List ℕ) → effect_at r (here place room w) ≡ goes_on s → 1 ≤ size w
-goes_some r s place room [] is = absurd (not_end (is_inside r) s (sym (end_at r place room) ∙ is))
-goes_some r s place room (b ∷ w) is = omega (arith, token_shorter b w)
+pub token_some : (w : List ℕ) (r s : Reading) (t : Token) → t ≡ (lexed w).token → goes_on s ≡ effect t r → length (lexed w).rest < length w
+unfolding lexed effect
+token_some [] r s t is goes = absurd (not_end (is_inside r) s (sym (goes ∙ ap (λ k. effect k r) is)))
+token_some (b ∷ x) r s t is goes = omega (arith, token_shorter b x)
+
+pub rest_fits : (w : List ℕ) → length (lexed w).rest ≤ length w
+unfolding lexed
+rest_fits [] = omega arith
+rest_fits (b ∷ x) = omega (arith, token_shorter b x)
 
 -- ---- what the window tells
 

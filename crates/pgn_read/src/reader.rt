@@ -172,7 +172,7 @@ fn take_token<S: Source>(
 }
 
 // Takes the token at the front of the window into the game, and passes over it where reading goes on behind it.
-#[tactic(auto, using(crate::proofs::SoundLaws::token_sound, crate::proofs::ItemLaws::goes_some))]
+#[tactic(auto, using(crate::proofs::SoundLaws::token_sound))]
 fn take_front(
     alloc: Global,
     window: &mut Window,
