@@ -24,7 +24,6 @@ token_if false x y p q = q
 
 -- ---- zero bytes
 
-
 neither : (a b : Bool) → (a || b) ≡ false → (a ≡ false) × (b ≡ false)
 neither true b none = cc
 neither false b none = (refl, none)

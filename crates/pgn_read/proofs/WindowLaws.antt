@@ -77,4 +77,3 @@ pub passed_more : (n : ℕ) (v w : Window) (more : List ℕ) → n ≤ length v.
     → w.place ≡ place_behind v.place (take n v.unread) → w.room ≡ v.room - n → passed n (with_more v more) ≡ with_more w more
 passed_more n v w more fits unread place room =
     rw (take-append-le n v.unread more fits) rw (drop-append-le n v.unread more fits) rw unread rw place rw room refl
-

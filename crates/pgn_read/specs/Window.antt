@@ -18,7 +18,6 @@ pub record Window : Type 0 where
   pub room : ℕ
   pub ended : Bool
 
-
 -- What stands ahead, if these bytes come behind the window, and where the source tells what it has left.
 abbrev pub with_more : Window → List ℕ → At
 with_more w more = here w.place w.room (w.unread ++ more)

@@ -31,11 +31,7 @@ pub(crate) fn head_from(
 }
 
 // The head before it is settled.
-fn head_told(
-    alloc: Global,
-    tags: Vec<Tag>,
-    mark: Option<Outcome>,
-) -> Result<Head, AllocError>
+fn head_told(alloc: Global, tags: Vec<Tag>, mark: Option<Outcome>) -> Result<Head, AllocError>
     requires read { All IsReadTag tags.items }
     ensures head { IfOk result (λ head. head ≡ head_told tags.items mark) }
     ensures bounded { IfOk result (λ head. IsBounded head) }

@@ -5,6 +5,7 @@ mod answers;
 mod error;
 mod heads;
 mod item;
+mod laws;
 mod lexing;
 mod place;
 mod reader;
@@ -18,4 +19,8 @@ mod window;
 
 pub use error::PgnError;
 pub use item::{GameFault, GameWhat, Item};
+pub use laws::texts_have_one_list_of_items;
 pub use reader::Reader;
+
+#[cfg(test)]
+mod tests;

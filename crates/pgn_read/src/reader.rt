@@ -173,11 +173,7 @@ fn take_token<S: Source>(
 
 // Takes the token at the front of the window into the game, and passes over it where reading goes on behind it.
 #[tactic(auto, using(crate::proofs::SoundLaws::token_sound))]
-fn take_front(
-    alloc: Global,
-    window: &mut Window,
-    game: &mut Reading,
-) -> Result<Step, AllocError>
+fn take_front(alloc: Global, window: &mut Window, game: &mut Reading) -> Result<Step, AllocError>
     requires balanced { IsBalanced game.old }
     ensures effect { IfOk result (λ step. effect_at game.old (front window.old) ≡ said_step step game.new) }
     ensures moved { IfOk result (λ step. FrontMoved step window.old window.new) }

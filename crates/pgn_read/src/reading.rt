@@ -154,12 +154,7 @@ impl Reading {
     }
 
     // A tag before the moves.
-    fn take_pair(
-        &mut self,
-        alloc: Global,
-        name: &[u8],
-        value: Vec<u8>,
-    ) -> Result<Step, AllocError>
+    fn take_pair(&mut self, alloc: Global, name: &[u8], value: Vec<u8>) -> Result<Step, AllocError>
         requires sound { IsSound (token.tag name.now value.items) }
         requires balanced { IsBalanced self.old }
         ensures effect { IfOk result (λ step. said_step step self.new ≡ tag_effect name.now value.items self.old) }
@@ -180,12 +175,7 @@ impl Reading {
     }
 
     // A tag that gives the start, where it is the first.
-    fn take_fen(
-        &mut self,
-        alloc: Global,
-        name: &[u8],
-        value: Vec<u8>,
-    ) -> Result<Step, AllocError>
+    fn take_fen(&mut self, alloc: Global, name: &[u8], value: Vec<u8>) -> Result<Step, AllocError>
         requires fen { name.now ≡ codes "FEN" }
         requires read { IsReadTag (record { name = name.now; value = value.items }) }
         requires balanced { IsBalanced self.old }
@@ -341,11 +331,7 @@ impl Reading {
     }
 
     /// The game that was read, with its head.
-    pub(crate) fn finish(
-        self,
-        alloc: Global,
-        mark: Option<Outcome>,
-    ) -> Result<Item, AllocError>
+    pub(crate) fn finish(self, alloc: Global, mark: Option<Outcome>) -> Result<Item, AllocError>
         requires balanced { IsBalanced self }
         requires outside { self.outer ≡ [] }
         ensures item { IfOk result (λ item. item ≡ Item.Good (head_from self.tags mark) (game_of self)) }

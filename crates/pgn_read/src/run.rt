@@ -103,13 +103,7 @@ fn behind_byte(first: u8, bytes: &[u8]) -> Option<&[u8]>
         (λ tail. (form : List ℕ) → begins (first ∷ form) bytes.now ≡ begins form tail.now) }
 {
     match bytes {
-        [byte, tail @ ..] => {
-            if *byte == first {
-                Some(tail)
-            } else {
-                None
-            }
-        }
+        [byte, tail @ ..] => { if *byte == first { Some(tail) } else { None } }
         [] => None,
     }
 }

@@ -16,5 +16,11 @@ pub returns-then-passes-clause-shorter : goal.returns-then-passes-clause-shorter
 returns-then-passes-clause-shorter c = λ is.
     let goes = rw (step_of c.in_ok-step.step step.GoesOn is) at c.in_ok-step.ensures.effect in
     let some = token_some c.unread-unread.result.now c.args.game.now c.take.new.self (said c.lexed-found.result.token) c.lexed-found.ensures.token goes in
-    omega (arith, some, ap length c.lexed-found.ensures.rest, ap length c.unread-unread.ensures.unread, ap length c.pass.ensures.unread,
-      length-drop (length c.unread-unread.result.now - length c.lexed-found.result.rest.now) c.args.window.now.unread)
+    omega (
+      arith,
+      some,
+      ap length c.lexed-found.ensures.rest,
+      ap length c.unread-unread.ensures.unread,
+      ap length c.pass.ensures.unread,
+      length-drop (length c.unread-unread.result.now - length c.lexed-found.result.rest.now) c.args.window.now.unread,
+    )
