@@ -1,0 +1,6 @@
+pub mod LexingLaws
+pub mod SoundLaws
+pub mod WindowLaws
+pub mod HeadLaws
+pub mod AnswerLaws
+pub mod ItemLaws

@@ -1,0 +1,7 @@
+use Rattle.std.proofs.Common.{◌≡◌, ◌++◌, drop}
+use Rattle.pgn_read.specs.TagText.{unescaped_from, unescaped}
+use Rattle.pgn_read.proofs.tag_text.unescaped.Given as goal
+
+-- The value so far, and what the bytes that are left mean, are the whole value.
+abbrev pub invariant-loop-byte : goal.invariant-loop-byte
+invariant-loop-byte l = l.value.items ++ unescaped_from l.escaped (drop l.byte-index l.raw) ≡ unescaped l.raw

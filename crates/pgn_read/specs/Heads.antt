@@ -1,0 +1,134 @@
+-- The head of a game, from its tags in their order and the result of its end mark (PGN standard, 8.1 and 9).
+use Rattle.std.specs.Prelude.{ℕ, ◌+◌, ◌*◌, ◌==◌, nat_le, ◌&&◌, Bool, false, if◌then◌else◌, List, [], ◌∷◌, ◌++◌, Option, Some, None, option_and_then, codes}
+use Rattle.std.specs.List.{list_any}
+use Rattle.cell_core.specs.declared.man.Colour.{Colour}
+use Rattle.cell_core.specs.declared.man.Colour.TheVariants.{White, Black}
+use Rattle.cell_core.specs.Man.{same_colour}
+use Rattle.game_tree.specs.declared.date.Date.{Date}
+use Rattle.game_tree.specs.declared.head.Head.{Head}
+use Rattle.game_tree.specs.declared.head.Outcome.{Outcome}
+use Rattle.game_tree.specs.declared.head.Outcome.TheVariants as outcome
+use Rattle.game_tree.specs.declared.head.Rating.{Rating}
+use Rattle.game_tree.specs.declared.head.Tag.{Tag}
+use Rattle.game_tree.specs.Date.{unknown_date, date_read}
+use Rattle.game_tree.specs.Decimal.{decimal_read}
+use Rattle.game_tree.specs.Eco.{eco_read}
+use Rattle.game_tree.specs.Outcome.{outcome_read}
+use Rattle.game_tree.specs.Settle.{settled}
+use Rattle.game_tree.specs.TagList.{is_named}
+use Rattle.game_tree.specs.TagName.{rating_of, free_of, IsTagName}
+use Rattle.game_tree.specs.Head.{IsName}
+
+-- A tag that was read: its name and its value are within their bounds.
+pub record IsReadTag (tag : Tag) : Type 0 where
+  pub name : IsTagName tag.name
+  pub value : IsName tag.value
+
+-- What is there, or something in its place.
+abbrev pub or_else : {A : Type 0} → Option A → A → A
+or_else None other = other
+or_else (Some x) other = x
+
+-- The first of the tags that tells something.
+abbrev pub first_or : {A : Type 0} → Option A → Option A → Option A
+first_or None later = later
+first_or (Some x) later = Some x
+
+abbrev pub first_told : {A : Type 0} → (Tag → Option A) → List Tag → Option A
+first_told told [] = None
+first_told told (tag ∷ tags) = first_or (told tag) (first_told told tags)
+
+-- The value of the first tag of this name.
+abbrev pub value_told : List ℕ → Tag → Option (List ℕ)
+value_told name tag = if is_named name tag then Some tag.value else None
+
+abbrev pub value_of : List ℕ → List Tag → Option (List ℕ)
+value_of name tags = first_told (value_told name) tags
+
+-- A name that is missing is `?` (PGN standard, 8.1.1).
+abbrev pub name_from : List ℕ → List Tag → List ℕ
+name_from name tags = or_else (value_of name tags) (codes "?")
+
+-- A date that is missing or does not read is unknown.
+abbrev pub date_from : List Tag → Date
+date_from tags = or_else (option_and_then date_read (value_of (codes "Date") tags)) unknown_date
+
+-- The result is that of the end mark; where there is none or it is `*`, that of the tag, if it reads.
+abbrev pub result_told : List Tag → Outcome
+result_told tags = or_else (option_and_then outcome_read (value_of (codes "Result") tags)) outcome.Unknown
+
+abbrev pub result_from : Option Outcome → List Tag → Outcome
+result_from None tags = result_told tags
+result_from (Some outcome.White) tags = outcome.White
+result_from (Some outcome.Black) tags = outcome.Black
+result_from (Some outcome.Draw) tags = outcome.Draw
+result_from (Some outcome.Unknown) tags = result_told tags
+
+-- A rating from 1 to 4095 of the side, of the kind that the tag's name tells.
+abbrev pub rated : ℕ → Option ℕ → Option Rating
+rated kind None = None
+rated kind (Some value) = if value == 0 then None else Some (record { value = value; kind = kind })
+
+abbrev pub rating_as : Colour → List ℕ → Option (Colour × ℕ) → Option Rating
+rating_as side value None = None
+rating_as side value (Some told) = if same_colour told.0 side then rated told.1 (decimal_read 4095 value) else None
+
+unfoldable pub rating_told : Colour → Tag → Option Rating
+rating_told side tag = rating_as side tag.value (rating_of tag.name)
+
+abbrev pub no_rating : Rating
+no_rating = record { value = 0; kind = 0 }
+
+abbrev pub rating_from : Colour → List Tag → Rating
+rating_from side tags = or_else (first_told (rating_told side) tags) no_rating
+
+-- The first opening code that reads; 0 is none.
+abbrev pub eco_told : Tag → Option ℕ
+eco_told tag = if is_named (codes "ECO") tag then eco_read tag.value else None
+
+abbrev pub eco_from : List Tag → ℕ
+eco_from tags = or_else (first_told eco_told tags) 0
+
+-- The letters of all tags ScidFlags, and the marks that they set: the twelve user marks and the six custom marks from the lowest
+-- bit on, and D the mark of a deleted game (after Scid). Other letters set none.
+abbrev pub flags_of : List Tag → List ℕ
+flags_of [] = []
+flags_of (tag ∷ tags) = (if is_named (codes "ScidFlags") tag then tag.value else []) ++ flags_of tags
+
+abbrev pub has_letter : List ℕ → ℕ → Bool
+has_letter flags letter = list_any (λ flag. flag == letter) flags
+
+abbrev pub marks_of : List ℕ → List ℕ → ℕ
+marks_of flags [] = 0
+marks_of flags (letter ∷ letters) = (if has_letter flags letter then 1 else 0) + 2 * marks_of flags letters
+
+-- The number of which the bits of all letters are set.
+abbrev pub all_marks : List ℕ → ℕ
+all_marks [] = 0
+all_marks (letter ∷ letters) = 1 + 2 * all_marks letters
+
+abbrev pub mark_letters : List ℕ
+mark_letters = codes "WBMENPTKQ!?U123456"
+
+-- The head before it is settled: the event date stands in its tag.
+abbrev pub head_told : List Tag → Option Outcome → Head
+head_told tags mark = record {
+  white = name_from (codes "White") tags;
+  black = name_from (codes "Black") tags;
+  event = name_from (codes "Event") tags;
+  site = name_from (codes "Site") tags;
+  round = name_from (codes "Round") tags;
+  date = date_from tags;
+  event_date = unknown_date;
+  result = result_from mark tags;
+  white_rating = rating_from White tags;
+  black_rating = rating_from Black tags;
+  eco = eco_from tags;
+  marks = marks_of (flags_of tags) mark_letters;
+  deleted = has_letter (flags_of tags) 68;
+  tags = free_of tags;
+}
+
+-- The head.
+unfoldable pub head_from : List Tag → Option Outcome → Head
+head_from tags mark = settled (head_told tags mark)

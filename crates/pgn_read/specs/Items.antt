@@ -1,0 +1,108 @@
+-- The items of a text: its games, and the first fault of each that is none (PGN standard, 8; the faults and where reading goes on
+-- are this project's own).
+use Rattle.std.specs.Prelude.{◌≡◌, ℕ, suc, ◌-◌, ◌==◌, nat_lt, Bool, not, ◌&&◌, ◌||◌, if◌then◌else◌, List, [], ◌∷◌, length, Option, Some, None, codes}
+use Rattle.game_tree.specs.declared.head.Outcome.{Outcome}
+use Rattle.pgn_read.specs.declared.place.Place.{Place}
+use Rattle.pgn_read.specs.declared.item.GameFault.{GameFault}
+use Rattle.pgn_read.specs.declared.item.GameWhat.{GameWhat}
+use Rattle.pgn_read.specs.declared.item.GameWhat.TheVariants.{TooLong}
+use Rattle.pgn_read.specs.declared.item.Item.{Item}
+use Rattle.pgn_read.specs.declared.item.Item.TheVariants.{Good, Bad}
+use Rattle.pgn_read.specs.Place.{next_place, first_place}
+use Rattle.pgn_read.specs.Bytes.{begins}
+use Rattle.pgn_read.specs.Token.{Token}
+use Rattle.pgn_read.specs.Text.{At, here, longest, Spot, spot_at, behind_mark, behind_token, skipped, spots}
+use Rattle.pgn_read.specs.Heads.{head_from}
+use Rattle.pgn_read.specs.Reading.{Reading, Effect, goes_on, ends_behind, ends_before, is_faulty, unread, effect, is_next_game, is_game, game_of}
+
+-- An item, if there is one, and where reading goes on behind it.
+pub record Next : Type 0 where
+  pub item : Option Item
+  pub at : At
+
+abbrev pub next : Option Item → At → Next
+next item a = record { item = item; at = a }
+
+-- ---- behind a fault
+
+-- A line on which reading goes on: one that begins with a tag Event, and begins behind the item's first byte.
+abbrev pub begins_game : Place → ℕ → List ℕ → Bool
+begins_game place room bytes = (place.column == 1) && (not (room == longest) && begins (codes "[Event \"") bytes)
+
+-- The first such line that does not begin before this place, or the end of the text.
+abbrev pub resumed : Place → ℕ → List ℕ → At
+resumed place room [] = here place room []
+resumed place room (byte ∷ bytes) =
+    if begins_game place room (byte ∷ bytes) then here place room (byte ∷ bytes)
+    else resumed (next_place place byte) (room - 1) bytes
+
+abbrev pub resumed_at : At → At
+resumed_at a = resumed a.place a.room a.bytes
+
+abbrev pub faulty : GameWhat → At → Next
+faulty what a =
+    next (Some (Bad (record { line = a.place.line; column = a.place.column; what = what }))) (resumed_at a)
+
+-- ---- the tokens of an item
+
+-- A game that was read, if anything but comments was.
+abbrev pub ended : Reading → Option Outcome → At → Next
+ended r mark a = next (Some (Good (head_from r.tags mark) (game_of r))) a
+
+abbrev pub ended_before : Reading → At → Next
+ended_before r a = if is_game r then ended r None a else next None a
+
+-- A token that ends further than the limit from the item's first byte is too long, whatever else it is.
+abbrev pub effect_of : Reading → Spot → Effect
+effect_of r spot =
+    if is_next_game r spot.at.bytes then ends_before
+    else if nat_lt spot.at.room spot.size then is_faulty TooLong
+    else effect spot.token r
+
+abbrev pub effect_at : Reading → At → Effect
+effect_at r a = effect_of r (spot_at a)
+
+-- The item that these tokens are, behind what was read.
+abbrev pub by_effect : Reading → At → (Reading → Next) → Effect → Next
+by_effect r a later (goes_on s) = later s
+by_effect r a later (ends_behind outcome) = ended r (Some outcome) (behind_token a)
+by_effect r a later ends_before = ended_before r a
+by_effect r a later (is_faulty what) = faulty what a
+
+unfoldable pub item_from : Reading → List Spot → Next
+item_from r [] = next None (here first_place 0 [])
+item_from r (spot ∷ more) = by_effect r spot.at (λ s. item_from s more) (effect_of r spot)
+
+-- The tokens of a text from here on.
+abbrev pub all_spots : At → List Spot
+all_spots a = spots (suc (length a.bytes)) a
+
+-- The item from here on, behind what was read.
+abbrev pub item_at : Reading → At → Next
+item_at r a = item_from r (all_spots a)
+
+-- ---- items
+
+-- The first token of an item, from whose first byte its length counts.
+abbrev pub whole_room : At → At
+whole_room a = here a.place longest a.bytes
+
+abbrev pub first_token : At → At
+first_token a = whole_room (skipped (behind_mark a))
+
+-- The next item from here on.
+unfoldable pub next_item : At → Next
+next_item a = item_at unread (first_token a)
+
+-- The items from here on, to the end of the text.
+abbrev pub AreItems : At → List Item → Type 0
+AreItems a [] = (next_item a).item ≡ None
+AreItems a (item ∷ items) = ((next_item a).item ≡ Some item) × AreItems (next_item a).at items
+
+-- The beginning of a text.
+abbrev pub text_start : List ℕ → At
+text_start text = here first_place longest text
+
+-- The text has these items.
+abbrev pub PgnReads : List ℕ → List Item → Type 0
+PgnReads text items = AreItems (text_start text) items

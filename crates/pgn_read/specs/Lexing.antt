@@ -1,0 +1,96 @@
+-- The token at a place of a text: each is told by its first byte, but for what begins with a digit (PGN standard, 7 and 8.2).
+use Rattle.std.specs.Prelude.{ℕ, ◌-◌, ◌==◌, not, if◌then◌else◌, List, [], ◌∷◌, length, take, drop, slice_index_or, Option, Some, None, codes}
+use Rattle.std.specs.Str.{bytes_eq}
+use Rattle.std.specs.Char.{is_ascii_digit}
+use Rattle.game_tree.specs.declared.head.Outcome.TheVariants.{White, Black, Draw, Unknown}
+use Rattle.game_tree.specs.Decimal.{decimal_read}
+use Rattle.pgn_read.specs.Bytes.{is_move_byte, is_glyph, is_dot, has_zero, front, behind, begins}
+use Rattle.pgn_read.specs.Token.{Token, comment, open_comment, nag, opens, closes, ending, number, move, bad, the_end, Lexed, lexed_as}
+use Rattle.pgn_read.specs.TagText.{tag_from}
+
+-- No byte of a comment is zero.
+abbrev pub comment_of : List ℕ → Token
+comment_of text = if has_zero text then bad else comment text
+
+-- A comment in braces, from behind the opening one: it goes to the next closing brace (PGN standard, 5).
+abbrev pub braced : List ℕ → List ℕ → Lexed
+braced text [] = lexed_as open_comment []
+braced text (brace ∷ rest) = lexed_as (comment_of text) rest
+
+abbrev pub brace_from : List ℕ → Lexed
+brace_from text = braced (front (λ byte. not (byte == 125)) text) (behind (λ byte. not (byte == 125)) text)
+
+-- A comment to the end of its line, from behind the semicolon, without a last carriage return (PGN standard, 5).
+unfoldable pub without_return : List ℕ → List ℕ
+without_return text = if slice_index_or text (length text - 1) 0 == 13 then take (length text - 1) text else text
+
+abbrev pub line_from : List ℕ → Lexed
+line_from text =
+    lexed_as (comment_of (without_return (front (λ byte. not (byte == 10)) text))) (behind (λ byte. not (byte == 10)) text)
+
+-- A NAG, from behind its sign: a number of 0 to 255 (PGN standard, 8.2.4).
+abbrev pub nag_of : Option ℕ → Token
+nag_of None = bad
+nag_of (Some n) = nag n
+
+abbrev pub nag_from : List ℕ → Lexed
+nag_from text = lexed_as (nag_of (decimal_read 255 (front is_ascii_digit text))) (behind is_ascii_digit text)
+
+-- A suffix stands for one of the first six NAGs (PGN standard, 8.2.3.8 and 10).
+unfoldable pub suffix_of : List ℕ → Token
+suffix_of glyphs =
+    if bytes_eq glyphs (codes "!") then nag 1
+    else if bytes_eq glyphs (codes "?") then nag 2
+    else if bytes_eq glyphs (codes "!!") then nag 3
+    else if bytes_eq glyphs (codes "??") then nag 4
+    else if bytes_eq glyphs (codes "!?") then nag 5
+    else if bytes_eq glyphs (codes "?!") then nag 6
+    else bad
+
+abbrev pub suffix_from : List ℕ → Lexed
+suffix_from text = lexed_as (suffix_of (front is_glyph text)) (behind is_glyph text)
+
+-- The text of a move (PGN standard, 8.2.3).
+abbrev pub move_from : List ℕ → Lexed
+move_from text = lexed_as (move (front is_move_byte text)) (behind is_move_byte text)
+
+-- A number of a move with any dots, or dots alone (PGN standard, 8.2.2).
+abbrev pub number_from : List ℕ → Lexed
+number_from text = lexed_as number (behind is_dot (behind is_ascii_digit text))
+
+-- What begins with a digit: the longest end mark that fits (PGN standard, 8.2.6; `1/2` is this project's own), castling in
+-- digits, or a number.
+unfoldable pub digit_from : List ℕ → Lexed
+digit_from text =
+    if begins (codes "1-0") text then lexed_as (ending White) (drop 3 text)
+    else if begins (codes "0-1") text then lexed_as (ending Black) (drop 3 text)
+    else if begins (codes "1/2-1/2") text then lexed_as (ending Draw) (drop 7 text)
+    else if begins (codes "1/2") text then lexed_as (ending Draw) (drop 3 text)
+    else if begins (codes "0-0") text then move_from text
+    else number_from text
+
+-- What begins with one of many bytes.
+abbrev pub by_kind : ℕ → List ℕ → List ℕ → Lexed
+by_kind byte text behind_it =
+    if is_glyph byte then suffix_from text
+    else if is_ascii_digit byte then digit_from text
+    else if is_move_byte byte then move_from text
+    else lexed_as bad behind_it
+
+-- The token at the beginning of a text.
+unfoldable pub lexed : List ℕ → Lexed
+lexed [] = lexed_as the_end []
+lexed (byte ∷ text) =
+    if byte == 91 then tag_from text
+    else if byte == 123 then brace_from text
+    else if byte == 59 then line_from text
+    else if byte == 36 then nag_from text
+    else if byte == 40 then lexed_as opens text
+    else if byte == 41 then lexed_as closes text
+    else if byte == 42 then lexed_as (ending Unknown) text
+    else if byte == 46 then number_from (byte ∷ text)
+    else by_kind byte (byte ∷ text) text
+
+-- How many bytes it has.
+abbrev pub size : List ℕ → ℕ
+size text = length text - length (lexed text).rest

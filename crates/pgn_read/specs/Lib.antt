@@ -1,0 +1,16 @@
+pub mod Place
+pub mod Bytes
+pub mod Token
+pub mod TagText
+pub mod Lexing
+pub mod Said
+pub mod Text
+pub mod SanAnswer
+pub mod FenAnswer
+pub mod Heads
+pub mod Reading
+pub mod ReadingCode
+pub mod Items
+pub mod Window
+pub mod Causes
+pub mod Readers

@@ -1,0 +1,30 @@
+-- A reader of the items of a text, as its contracts see it.
+use Rattle.std.specs.Prelude.{◌≡◌, ◌⊎◌, ℕ, false, List, [], Option, None, Some, option_map}
+use Rattle.pgn_read.specs.declared.error.PgnError.{PgnError}
+use Rattle.pgn_read.specs.declared.item.Item.{Item}
+use Rattle.pgn_read.specs.Causes.{HasCause}
+use Rattle.pgn_read.specs.Place.{first_place}
+use Rattle.pgn_read.specs.Text.{At, longest}
+use Rattle.pgn_read.specs.Items.{next, next_item}
+use Rattle.pgn_read.specs.Window.{Window, ahead}
+
+-- What was read of the source and not yet used, and the error from which on the reader answers the same.
+pub record Reader : Type 0 where
+  pub window : Window
+  pub stuck : Option PgnError
+
+-- At the beginning of a text.
+abbrev pub fresh_reader : Reader
+fresh_reader = record { window = record { unread = []; place = first_place; room = longest; ended = false }; stuck = None }
+
+-- What stands ahead of the reader, where the source tells what it has left.
+abbrev pub told : Reader → Option (List ℕ) → Option At
+told reader left = ahead reader.window left
+
+-- The next item of what was ahead is this one, or there is none, and what is ahead then stands behind it.
+abbrev pub Follows : Option At → Option Item → Option At → Type 0
+Follows old item new = option_map next_item old ≡ option_map (next item) new
+
+-- An error has its cause in this call, or the reader had the same error before.
+abbrev pub IsStuck : PgnError → Reader → ℕ → ℕ → Type 0
+IsStuck error old before after = (old.stuck ≡ Some error) ⊎ HasCause error before after

@@ -1,0 +1,163 @@
+-- A game while its tokens are read: what the tokens so far say, and what the next one does (PGN standard, 8).
+use Rattle.std.specs.Prelude.{ℕ, ◌==◌, nat_lt, nat_le, Bool, true, false, not, slice_index_or, ◌||◌, ◌&&◌, if◌then◌else◌, List, [], ◌∷◌, ◌++◌, length, Option, Some, None, is_some, Result, Ok, Err, codes}
+use Rattle.std.specs.List.{list_any}
+use Rattle.cell_core.specs.declared.step.Move.{Move}
+use Rattle.chess_laws.specs.declared.setup.Setup.{Setup}
+use Rattle.chess_laws.specs.Position.{start_setup}
+use Rattle.chess_laws.specs.Step.{stepped}
+use Rattle.chess_text.specs.declared.fault.FenFault.{FenFault}
+use Rattle.chess_text.specs.declared.fault.SanFault.{SanFault}
+use Rattle.game_tree.specs.declared.head.Head.{Head}
+use Rattle.game_tree.specs.declared.head.Outcome.{Outcome}
+use Rattle.game_tree.specs.declared.head.Tag.{Tag}
+use Rattle.game_tree.specs.Item as item
+use Rattle.game_tree.specs.Building.{Building, added, opening, read_line}
+use Rattle.game_tree.specs.Game.{GameTree}
+use Rattle.game_tree.specs.Legal.{deepest}
+use Rattle.game_tree.specs.TagList.{is_named}
+use Rattle.game_tree.specs.TagName.{is_among, roster_names}
+use Rattle.pgn_read.specs.declared.item.GameWhat.{GameWhat}
+use Rattle.pgn_read.specs.declared.item.GameWhat.TheVariants as what
+use Rattle.pgn_read.specs.declared.turn.Turn.{Turn}
+use Rattle.pgn_read.specs.SanAnswer.{san_answer}
+use Rattle.pgn_read.specs.FenAnswer.{fen_answer}
+use Rattle.pgn_read.specs.Heads.{head_from}
+use Rattle.pgn_read.specs.Token.{Token}
+use Rattle.pgn_read.specs.Token as token
+
+-- The tags so far; whether another token than tags and comments was read; the position at the start; the moves with what belongs
+-- to them; and the place in the innermost line and in those round it.
+pub record Reading : Type 0 where
+  pub tags : List Tag
+  pub in_moves : Bool
+  pub start : Setup
+  pub moves : Building
+  pub turn : Turn
+  pub outer : List Turn
+
+abbrev pub turn_at : Setup → Turn
+turn_at p = record { before = p; now_at = p }
+
+abbrev pub turn_behind : Turn → Move → Turn
+turn_behind t m = record { before = t.now_at; now_at = stepped t.now_at m }
+
+-- Before the first token.
+abbrev pub unread : Reading
+unread = record {
+  tags = [];
+  in_moves = false;
+  start = start_setup;
+  moves = opening;
+  turn = turn_at start_setup;
+  outer = [];
+}
+
+-- What a token does: reading goes on in the same game, the game ends behind the token or before it, or the token is faulty.
+pub data Effect : Type 0 where
+  goes_on : Reading → Effect
+  ends_behind : Outcome → Effect
+  ends_before : Effect
+  is_faulty : GameWhat → Effect
+
+-- Whether a variation is open, and whether the innermost line has a move.
+abbrev pub is_inside : Reading → Bool
+is_inside r = nat_lt 0 (length r.outer)
+
+abbrev pub has_move : Reading → Bool
+has_move r = is_some r.moves.current.last
+
+-- ---- tags
+
+abbrev pub has_tag : List ℕ → List Tag → Bool
+has_tag name tags = list_any (is_named name) tags
+
+abbrev pub with_tag : List ℕ → List ℕ → Reading → Reading
+with_tag name value r = record r { tags = r.tags ++ record { name = name; value = value } ∷ [] }
+
+-- The first FEN tag gives the start (PGN standard, 9.7.2; it counts also without a tag SetUp).
+abbrev pub starting : Setup → Reading → Reading
+starting p r = if has_tag (codes "FEN") r.tags then r else record r { start = p; turn = turn_at p }
+
+abbrev pub fen_effect : List ℕ → Reading → Result Setup FenFault → Effect
+fen_effect value r (Ok p) = goes_on (with_tag (codes "FEN") value (starting p r))
+fen_effect value r (Err fault) = is_faulty (what.Fen fault)
+
+abbrev pub tag_effect : List ℕ → List ℕ → Reading → Effect
+tag_effect name value r =
+    if is_among roster_names name && has_tag name r.tags then is_faulty what.Tag
+    else if nat_lt 240 (length name) || nat_lt 255 (length value) then is_faulty what.TagTooLong
+    else if is_named (codes "FEN") (record { name = name; value = value }) then fen_effect value r (fen_answer value)
+    else goes_on (with_tag name value r)
+
+-- A tag inside a variation is a fault, and one behind moves begins the next game (PGN standard, 8.1).
+abbrev pub at_tag : Reading → Effect → Effect
+at_tag r effect = if is_inside r then is_faulty what.Paren else if r.in_moves then ends_before else effect
+
+-- ---- moves
+
+abbrev pub moving : Reading → Reading
+moving r = record r { in_moves = true }
+
+abbrev pub played : Move → Reading → Reading
+played m r =
+    record (moving r) { moves = added (item.move m) r.moves; turn = turn_behind r.turn m }
+
+abbrev pub move_effect : Reading → Result Move SanFault → Effect
+move_effect r (Ok m) = goes_on (played m r)
+move_effect r (Err fault) = is_faulty (what.San fault)
+
+-- A variation begins at the position before the last move, and ends at that of the line round it.
+abbrev pub opened : Reading → Reading
+opened r = record (moving r) { moves = added item.opens r.moves; turn = turn_at r.turn.before; outer = r.turn ∷ r.outer }
+
+abbrev pub closed_to : Reading → List Turn → Effect
+closed_to r [] = is_faulty what.Paren
+closed_to r (turn ∷ outer) = goes_on (record (moving r) { moves = added item.closes r.moves; turn = turn; outer = outer })
+
+-- ---- a token
+
+abbrev pub commented : List ℕ → Reading → Reading
+commented text r = record r { moves = added (item.comment text) r.moves }
+
+abbrev pub nag_effect : ℕ → Reading → Effect
+nag_effect n r = if has_move r then goes_on (record (moving r) { moves = added (item.nag n) r.moves }) else is_faulty what.Token
+
+abbrev pub opens_effect : Reading → Effect
+opens_effect r =
+    if nat_le deepest (length r.outer) then is_faulty what.Depth
+    else if has_move r then goes_on (opened r) else is_faulty what.Token
+
+-- An end mark inside a variation is skipped.
+abbrev pub ending_effect : Outcome → Reading → Effect
+ending_effect outcome r = if is_inside r then goes_on (moving r) else ends_behind outcome
+
+abbrev pub end_effect : Reading → Effect
+end_effect r = if is_inside r then is_faulty what.Paren else ends_before
+
+unfoldable pub effect : Token → Reading → Effect
+effect (token.tag name value) r = at_tag r (tag_effect name value r)
+effect token.bad_tag r = at_tag r (is_faulty what.Tag)
+effect (token.comment text) r = goes_on (commented text r)
+effect token.open_comment r = is_faulty what.Brace
+effect (token.nag n) r = nag_effect n r
+effect token.opens r = opens_effect r
+effect token.closes r = closed_to r r.outer
+effect (token.ending outcome) r = ending_effect outcome r
+effect token.number r = goes_on (moving r)
+effect (token.move text) r = move_effect r (san_answer r.turn.now_at text)
+effect token.bad r = is_faulty what.Token
+effect token.the_end r = end_effect r
+
+-- A tag outside variations behind moves belongs to the next game, however long it is.
+abbrev pub is_next_game : Reading → List ℕ → Bool
+is_next_game r bytes = r.in_moves && (not (is_inside r) && (slice_index_or bytes 0 0 == 91))
+
+-- ---- the end
+
+-- Whether anything but comments was read.
+abbrev pub is_game : Reading → Bool
+is_game r = r.in_moves || nat_lt 0 (length r.tags)
+
+-- The game that was read.
+abbrev pub game_of : Reading → GameTree
+game_of r = record { start = r.start; lead = r.moves.current.lead; line = read_line r.moves.current }

@@ -1,0 +1,64 @@
+-- Tags: `[`, a name, a value in quotation marks, and `]`, with white space between or without (PGN standard, 8.1). A tag that
+-- is malformed ends before the first byte that does not fit.
+use Rattle.std.specs.Prelude.{ℕ, ◌==◌, Bool, true, false, not, ◌&&◌, ◌||◌, if◌then◌else◌, List, [], ◌∷◌, ◌++◌}
+use Rattle.game_tree.specs.TagName.{is_tag_byte}
+use Rattle.pgn_read.specs.Bytes.{is_white, has_zero, front, behind}
+use Rattle.pgn_read.specs.Token.{Token, tag, bad_tag, Lexed, lexed_as}
+
+-- A backslash escapes the byte behind it, unless it is itself escaped. The first quotation mark that none escapes ends a value.
+abbrev pub escapes : Bool → ℕ → Bool
+escapes escaped byte = not escaped && (byte == 92)
+
+abbrev pub ends_value : Bool → ℕ → Bool
+ends_value escaped byte = not escaped && (byte == 34)
+
+-- The bytes of a value as they stand, and those from its closing quotation mark on; none where there is no such mark.
+abbrev pub raw_value : Bool → List ℕ → List ℕ
+raw_value escaped [] = []
+raw_value escaped (byte ∷ text) = if ends_value escaped byte then [] else byte ∷ raw_value (escapes escaped byte) text
+
+abbrev pub behind_value : Bool → List ℕ → List ℕ
+behind_value escaped [] = []
+behind_value escaped (byte ∷ text) = if ends_value escaped byte then byte ∷ text else behind_value (escapes escaped byte) text
+
+-- The value that these bytes are: `\"` and `\\` stand for `"` and `\`, and another backslash for itself.
+abbrev pub meant_by : Bool → ℕ → List ℕ
+meant_by true byte = if (byte == 34) || (byte == 92) then byte ∷ [] else 92 ∷ byte ∷ []
+meant_by false byte = if byte == 92 then [] else byte ∷ []
+
+abbrev pub unescaped_from : Bool → List ℕ → List ℕ
+unescaped_from true [] = 92 ∷ []
+unescaped_from false [] = []
+unescaped_from escaped (byte ∷ text) = meant_by escaped byte ++ unescaped_from (escapes escaped byte) text
+
+abbrev pub unescaped : List ℕ → List ℕ
+unescaped raw = unescaped_from false raw
+
+-- From the closing bracket on. No byte of a tag is zero.
+abbrev pub closing : List ℕ → List ℕ → List ℕ → Lexed
+closing name raw [] = lexed_as bad_tag []
+closing name raw (byte ∷ text) =
+    if byte == 93 then lexed_as (if has_zero raw then bad_tag else tag name (unescaped raw)) text else lexed_as bad_tag (byte ∷ text)
+
+-- From the closing quotation mark on.
+abbrev pub unquoting : List ℕ → List ℕ → List ℕ → Lexed
+unquoting name raw [] = lexed_as bad_tag []
+unquoting name raw (mark ∷ text) = closing name raw (behind is_white text)
+
+-- From the opening quotation mark on.
+abbrev pub quoting : List ℕ → List ℕ → Lexed
+quoting name [] = lexed_as bad_tag []
+quoting name (byte ∷ text) =
+    if byte == 34 then unquoting name (raw_value false text) (behind_value false text) else lexed_as bad_tag (byte ∷ text)
+
+-- From behind the name, which has at least one byte.
+abbrev pub naming : List ℕ → List ℕ → Lexed
+naming [] text = lexed_as bad_tag text
+naming (byte ∷ name) text = quoting (byte ∷ name) (behind is_white text)
+
+-- From the name on, and from behind the opening bracket on.
+abbrev pub named : List ℕ → Lexed
+named text = naming (front is_tag_byte text) (behind is_tag_byte text)
+
+abbrev pub tag_from : List ℕ → Lexed
+tag_from text = named (behind is_white text)

@@ -1,0 +1,78 @@
+-- A text as a list of tokens, each where it stands (PGN standard, 7).
+use Rattle.std.specs.Prelude.{ℕ, zero, suc, ◌-◌, ◌==◌, Bool, true, false, not, ◌&&◌, ◌||◌, if◌then◌else◌, List, [], ◌∷◌, length, take, drop}
+use Rattle.pgn_read.specs.declared.place.Place.{Place}
+use Rattle.pgn_read.specs.Place.{next_place, place_behind}
+use Rattle.pgn_read.specs.Bytes.{is_white, begins}
+use Rattle.pgn_read.specs.Token.{Token}
+use Rattle.pgn_read.specs.Lexing.{lexed, size}
+
+-- Where reading stands: the place, how many bytes of the greatest length of a game's text are left, and the bytes from here on.
+pub record At : Type 0 where
+  pub place : Place
+  pub room : ℕ
+  pub bytes : List ℕ
+
+abbrev pub here : Place → ℕ → List ℕ → At
+here place room bytes = record { place = place; room = room; bytes = bytes }
+
+-- The greatest length of a game's text (this project's own).
+abbrev pub longest : ℕ
+longest = 1048576
+
+-- So many bytes further.
+abbrev pub passed : ℕ → At → At
+passed n a = here (place_behind a.place (take n a.bytes)) (a.room - n) (drop n a.bytes)
+
+-- Whether a byte is on a line that is skipped: one whose first byte is `%` (PGN standard, 6).
+abbrev pub on_remark : Bool → Place → ℕ → Bool
+on_remark inside place byte = inside || ((place.column == 1) && (byte == 37))
+
+-- Behind white space and skipped lines. It may begin inside a line that is skipped.
+abbrev pub behind_gap : Bool → Place → ℕ → List ℕ → At
+behind_gap inside place room [] = here place room []
+behind_gap inside place room (byte ∷ bytes) =
+    if on_remark inside place byte || is_white byte
+    then behind_gap (on_remark inside place byte && not (byte == 10)) (next_place place byte) (room - 1) bytes
+    else here place room (byte ∷ bytes)
+
+-- Three bytes at the beginning of a text are skipped: the mark of the order of bytes (Unicode, 23.8).
+abbrev pub byte_order_mark : List ℕ
+byte_order_mark = 239 ∷ 187 ∷ 191 ∷ []
+
+abbrev pub is_first : Place → Bool
+is_first place = (place.line == 1) && (place.column == 1)
+
+abbrev pub behind_mark : At → At
+behind_mark a = if is_first a.place && begins byte_order_mark a.bytes then passed 3 a else a
+
+-- From here on, behind white space and skipped lines.
+abbrev pub gap_behind : Bool → At → At
+gap_behind inside a = behind_gap inside a.place a.room a.bytes
+
+abbrev pub skipped : At → At
+skipped a = gap_behind false a
+
+-- A token with its number of bytes, where it stands.
+pub record Spot : Type 0 where
+  pub at : At
+  pub token : Token
+  pub size : ℕ
+
+abbrev pub spot_at : At → Spot
+spot_at a = record { at = a; token = (lexed a.bytes).token; size = size a.bytes }
+
+-- Behind the token that stands here, and where the next one stands.
+abbrev pub behind_token : At → At
+behind_token a = passed (size a.bytes) a
+
+abbrev pub next_at : At → At
+next_at a = skipped (behind_token a)
+
+-- At most so many tokens, the first of them here. The last one is the end of the text.
+abbrev pub unless_end : List ℕ → List Spot → List Spot
+unless_end [] more = []
+unless_end (byte ∷ bytes) more = more
+
+unfoldable pub spots : ℕ → At → List Spot
+spots zero a = []
+spots (suc n) a = spot_at a ∷ unless_end a.bytes (spots n (next_at a))

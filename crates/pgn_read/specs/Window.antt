@@ -1,0 +1,71 @@
+-- The bytes of a source that were read and not yet taken, with where they stand. No public contract cites these words.
+use Rattle.std.specs.Prelude.{◌≡◌, ◌≤◌, ◌⊎◌, ℕ, ◌+◌, ◌-◌, Bool, true, false, List, ◌++◌, length, take, drop, Option, Some, option_map, IsTrue}
+use Rattle.pgn_read.specs.declared.place.Place.{Place}
+use Rattle.pgn_read.specs.declared.step.End.{End}
+use Rattle.pgn_read.specs.declared.step.End.TheVariants as end
+use Rattle.pgn_read.specs.declared.step.Step.{Step}
+use Rattle.pgn_read.specs.declared.step.Step.TheVariants as step
+use Rattle.pgn_read.specs.Place.{place_behind}
+use Rattle.pgn_read.specs.Lexing.{lexed, size}
+use Rattle.pgn_read.specs.Text.{At, here, behind_token}
+use Rattle.pgn_read.specs.Reading.{Reading}
+use Rattle.pgn_read.specs.Items.{Next, ended, ended_before, faulty}
+
+-- The unread bytes, where they stand, and whether the source has come to its end behind them.
+pub record Window : Type 0 where
+  pub unread : List ℕ
+  pub place : Place
+  pub room : ℕ
+  pub ended : Bool
+
+-- What stands ahead, if these bytes come behind the window, and where the source tells what it has left.
+abbrev pub with_more : Window → List ℕ → At
+with_more w more = here w.place w.room (w.unread ++ more)
+
+abbrev pub ahead : Window → Option (List ℕ) → Option At
+ahead w left = option_map (with_more w) left
+
+-- What the window has tells the token at its front, or that it is too long.
+abbrev pub Decides : Window → Type 0
+Decides w = IsTrue w.ended ⊎ ((8 ≤ length (lexed w.unread).rest) ⊎ (w.room + 8 ≤ length w.unread))
+
+-- The window alone, as if nothing came behind it.
+abbrev pub front : Window → At
+front w = here w.place w.room w.unread
+
+-- ---- steps over a window
+
+-- The token at the front was passed over; it is not too long.
+pub record FrontPassed (old new : Window) : Type 0 where
+  pub fits : size old.unread ≤ old.room
+  pub unread : new.unread ≡ drop (size old.unread) old.unread
+  pub place : new.place ≡ place_behind old.place (take (size old.unread) old.unread)
+  pub room : new.room ≡ old.room - size old.unread
+  pub ended : new.ended ≡ old.ended
+
+-- It is passed over where reading goes on, and where it is an end mark.
+abbrev pub FrontMoved : Step → Window → Window → Type 0
+FrontMoved step.GoesOn old new = FrontPassed old new
+FrontMoved (step.Ends (end.Behind outcome)) old new = FrontPassed old new
+FrontMoved (step.Ends end.Before) old new = new ≡ old
+FrontMoved (step.Ends (end.Faulty what)) old new = new ≡ old
+
+-- The same of what is ahead.
+abbrev pub Moved : Step → Option At → Option At → Type 0
+Moved step.GoesOn old new = option_map behind_token old ≡ new
+Moved (step.Ends (end.Behind outcome)) old new = option_map behind_token old ≡ new
+Moved (step.Ends end.Before) old new = old ≡ new
+Moved (step.Ends (end.Faulty what)) old new = old ≡ new
+
+-- The item of a game that ends so, from behind its end mark on, and else from the token on that ends it.
+abbrev pub by_end : Reading → End → At → Next
+by_end r (end.Behind outcome) a = ended r (Some outcome) a
+by_end r end.Before a = ended_before r a
+by_end r (end.Faulty what) a = faulty what a
+
+-- Whether the token at the front is passed over.
+abbrev pub passes : Step → Bool
+passes step.GoesOn = true
+passes (step.Ends (end.Behind outcome)) = true
+passes (step.Ends end.Before) = false
+passes (step.Ends (end.Faulty what)) = false

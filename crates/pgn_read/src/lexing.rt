@@ -1,0 +1,236 @@
+//! The token at the beginning of a text.
+ghost use Rattle.std.specs.Prelude.{◌≡◌, ◌≤◌, length, drop, IfSome};
+ghost use Rattle.pgn_read.specs.Said.{said};
+ghost use Rattle.pgn_read.specs.Lexing.{lexed, by_kind, comment_of, braced, brace_from, without_return, line_from, nag_of, nag_from, suffix_of, suffix_from, move_from, number_from, digit_from};
+
+use crate::run::{Run, begins, has_zero, is_glyph, is_move_byte, split_run};
+use crate::tag_text::tag_from;
+use crate::token::{Lexed, Token};
+use game_tree::{Outcome, read_decimal};
+
+/// The token at the beginning of the text, and what stands behind it.
+#[tactic(auto, unfolding(crate::specs::Lexing::lexed))]
+pub(crate) fn lexed(text: &[u8]) -> Lexed<'_>
+    ensures token { said result.token ≡ (lexed text.now).token }
+    ensures rest { result.rest.now ≡ (lexed text.now).rest }
+{
+    let [byte, rest @ ..] = text else {
+        return Lexed {
+            token: Token::TheEnd,
+            rest: text,
+        };
+    };
+    match *byte {
+        b'[' => tag_from(rest),
+        b'{' => brace_from(rest),
+        b';' => line_from(rest),
+        b'$' => nag_from(rest),
+        b'(' => Lexed {
+            token: Token::Opens,
+            rest,
+        },
+        b')' => Lexed {
+            token: Token::Closes,
+            rest,
+        },
+        b'*' => Lexed {
+            token: Token::Ending(Outcome::Unknown),
+            rest,
+        },
+        b'.' => number_from(text),
+        byte => lexed_by_kind(byte, text, rest),
+    }
+}
+
+// A token whose first byte is one of many.
+#[tactic(auto, unfolding(crate::specs::Lexing::lexed))]
+fn lexed_by_kind<'a>(byte: u8, text: &'a [u8], rest: &'a [u8]) -> Lexed<'a>
+    ensures token { said result.token ≡ (by_kind byte text.now rest.now).token }
+    ensures rest { result.rest.now ≡ (by_kind byte text.now rest.now).rest }
+{
+    if is_glyph(byte) {
+        return suffix_from(text);
+    }
+    if byte.is_ascii_digit() {
+        return digit_from(text);
+    }
+    if is_move_byte(byte) {
+        return move_from(text);
+    }
+    Lexed {
+        token: Token::Bad,
+        rest,
+    }
+}
+
+fn comment_of(text: &[u8]) -> Token<'_>
+    ensures { said result ≡ comment_of text.now }
+{
+    if has_zero(text) {
+        Token::Bad
+    } else {
+        Token::Comment(text)
+    }
+}
+
+// A comment in braces, from behind the opening one on.
+fn brace_from(text: &[u8]) -> Lexed<'_>
+    ensures token { said result.token ≡ (brace_from text.now).token }
+    ensures rest { result.rest.now ≡ (brace_from text.now).rest }
+{
+    let (text, rest) = split_run(Run::ToBrace, text);
+    match rest {
+        [_, rest @ ..] => Lexed {
+            token: comment_of(text),
+            rest,
+        },
+        [] => Lexed {
+            token: Token::OpenComment,
+            rest,
+        },
+    }
+}
+
+// A comment to the end of its line, from behind the semicolon on.
+fn line_from(text: &[u8]) -> Lexed<'_>
+    ensures token { said result.token ≡ (line_from text.now).token }
+    ensures rest { result.rest.now ≡ (line_from text.now).rest }
+{
+    let (text, rest) = split_run(Run::ToFeed, text);
+    Lexed {
+        token: comment_of(without_return(text)),
+        rest,
+    }
+}
+
+// The text without a last carriage return.
+#[tactic(auto, unfolding(crate::specs::Lexing::without_return))]
+fn without_return(text: &[u8]) -> &[u8]
+    ensures { result.now ≡ without_return text.now }
+{
+    match text {
+        [rest @ .., b'\r'] => rest,
+        _ => text,
+    }
+}
+
+// A NAG, from behind its sign on.
+fn nag_from(text: &[u8]) -> Lexed<'_>
+    ensures token { said result.token ≡ (nag_from text.now).token }
+    ensures rest { result.rest.now ≡ (nag_from text.now).rest }
+{
+    let (digits, rest) = split_run(Run::Digits, text);
+    Lexed {
+        token: nag_of(read_decimal(digits, 255)),
+        rest,
+    }
+}
+
+fn nag_of(number: Option<u64>) -> Token<'static>
+    requires { IfSome number (λ n. n ≤ 255) }
+    ensures { said result ≡ nag_of number }
+{
+    match number {
+        Some(n) => Token::Nag(n as u8),
+        None => Token::Bad,
+    }
+}
+
+// A suffix.
+fn suffix_from(text: &[u8]) -> Lexed<'_>
+    ensures token { said result.token ≡ (suffix_from text.now).token }
+    ensures rest { result.rest.now ≡ (suffix_from text.now).rest }
+{
+    let (glyphs, rest) = split_run(Run::Glyphs, text);
+    Lexed {
+        token: suffix_of(glyphs),
+        rest,
+    }
+}
+
+// The NAG that a suffix stands for.
+#[tactic(auto, unfolding(crate::specs::Lexing::suffix_of))]
+fn suffix_of(glyphs: &[u8]) -> Token<'static>
+    ensures { said result ≡ suffix_of glyphs.now }
+{
+    if glyphs == b"!".as_slice() {
+        return Token::Nag(1);
+    }
+    if glyphs == b"?".as_slice() {
+        return Token::Nag(2);
+    }
+    if glyphs == b"!!".as_slice() {
+        return Token::Nag(3);
+    }
+    if glyphs == b"??".as_slice() {
+        return Token::Nag(4);
+    }
+    if glyphs == b"!?".as_slice() {
+        return Token::Nag(5);
+    }
+    if glyphs == b"?!".as_slice() {
+        return Token::Nag(6);
+    }
+    Token::Bad
+}
+
+// The text of a move.
+fn move_from(text: &[u8]) -> Lexed<'_>
+    ensures token { said result.token ≡ (move_from text.now).token }
+    ensures rest { result.rest.now ≡ (move_from text.now).rest }
+{
+    let (text, rest) = split_run(Run::Move, text);
+    Lexed {
+        token: Token::Move(text),
+        rest,
+    }
+}
+
+// A number with its dots, or dots alone.
+fn number_from(text: &[u8]) -> Lexed<'_>
+    ensures token { said result.token ≡ (number_from text.now).token }
+    ensures rest { result.rest.now ≡ (number_from text.now).rest }
+{
+    let (_, rest) = split_run(Run::Digits, text);
+    let (_, rest) = split_run(Run::Dots, rest);
+    Lexed {
+        token: Token::Number,
+        rest,
+    }
+}
+
+// What begins with a digit: an end mark, castling in digits, or a number.
+#[tactic(auto, unfolding(crate::specs::Lexing::digit_from))]
+fn digit_from(text: &[u8]) -> Lexed<'_>
+    ensures token { said result.token ≡ (digit_from text.now).token }
+    ensures rest { result.rest.now ≡ (digit_from text.now).rest }
+{
+    if begins(b"1-0", text) {
+        return ending(Outcome::White, 3, text);
+    }
+    if begins(b"0-1", text) {
+        return ending(Outcome::Black, 3, text);
+    }
+    if begins(b"1/2-1/2", text) {
+        return ending(Outcome::Draw, 7, text);
+    }
+    if begins(b"1/2", text) {
+        return ending(Outcome::Draw, 3, text);
+    }
+    if begins(b"0-0", text) {
+        return move_from(text);
+    }
+    number_from(text)
+}
+
+// An end mark of so many bytes.
+fn ending(outcome: Outcome, size: usize, text: &[u8]) -> Lexed<'_>
+    requires { size ≤ length text.now }
+    ensures token { said result.token ≡ said (Token.Ending outcome) }
+    ensures rest { result.rest.now ≡ drop size text.now }
+{
+    Lexed {
+        token: Token::Ending(outcome),
+        rest: text.split_at(size).1,
+    }
+}

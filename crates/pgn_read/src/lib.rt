@@ -1,0 +1,26 @@
+//! Games as text in Portable Game Notation (PGN), as they are read.
+#![tactic(auto)]
+
+mod answers;
+mod error;
+mod heads;
+mod item;
+mod laws;
+mod lexing;
+mod place;
+mod reader;
+mod reading;
+mod run;
+mod step;
+mod tag_text;
+mod token;
+mod turn;
+mod window;
+
+pub use error::PgnError;
+pub use item::{GameFault, GameWhat, Item};
+pub use laws::texts_have_one_list_of_items;
+pub use reader::Reader;
+
+#[cfg(test)]
+mod tests;

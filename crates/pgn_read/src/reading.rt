@@ -1,0 +1,394 @@
+//! A game while its tokens are read.
+ghost use Rattle.std.specs.Prelude.{◌≡◌, ◌==◌, ◌++◌, ◌∷◌, [], All, IfOk, OnOk, IsTrue, slice_index_or, codes};
+ghost use Rattle.std.specs.List.{list_any};
+ghost use Rattle.std.specs.Str.{bytes_eq};
+ghost use Rattle.cell_core.specs.Text.{IsZeroFree};
+ghost use Rattle.game_tree.specs.TagName.{is_among, roster_names};
+ghost use Rattle.pgn_read.specs.Said.{said, said_step, StepsWell, IsBalanced, IsSound};
+ghost use Rattle.pgn_read.specs.TagText.{unescaped};
+ghost use Rattle.pgn_read.specs.Token as token;
+ghost use Rattle.pgn_read.specs.SanAnswer.{san_answer};
+ghost use Rattle.pgn_read.specs.FenAnswer.{fen_answer};
+ghost use Rattle.pgn_read.specs.declared.item.GameWhat.TheVariants as what;
+ghost use Rattle.pgn_read.specs.Heads.{head_from, IsReadTag};
+ghost use Rattle.pgn_read.specs.Reading.{unread, is_inside, has_move, has_tag, with_tag, starting, fen_effect, tag_effect, at_tag, goes_on, is_faulty, commented, nag_effect, opens_effect, opened, closed_to, ending_effect, move_effect, end_effect, effect, is_next_game, is_game, game_of};
+
+use crate::answers::{fen_answer, san_answer};
+use crate::heads::{head_from, text_of};
+use crate::item::{GameWhat, Item};
+use crate::step::{End, Step};
+use crate::tag_text::unescaped;
+use crate::token::Token;
+use crate::turn::Turn;
+use cell_core::Text;
+use chess_laws::Position;
+use game_tree::{Branch, Builder, Game, Outcome, Tag};
+use std::alloc::{AllocError, Global};
+use std::marker::Model;
+use std::mem::replace;
+
+const ROSTER_NAMES: [&[u8]; 7] = [
+    b"Event", b"Site", b"Date", b"Round", b"White", b"Black", b"Result",
+];
+
+/// A game while its tokens are read. After want of memory it is spent.
+#[derive(Drop)]
+pub(crate) struct Reading {
+    tags: Vec<Tag>,
+    in_moves: bool,
+    start: Position,
+    moves: Builder,
+    turn: Turn,
+    outer: Vec<Turn>,
+}
+
+impl Model for Reading {
+    ghost use Rattle.std.specs.Prelude.{reverse, All};
+    ghost use Rattle.pgn_read.specs.Heads.{IsReadTag};
+    ghost use Rattle.pgn_read.specs.Reading.{Reading as Read};
+    ghost use Rattle.pgn_read.specs.ReadingCode.{coded_reading};
+
+    ghost Value = { Read };
+
+    ghost coded = { coded_reading };
+
+    ghost view = { λ r. record { tags = r.tags.items; in_moves = r.in_moves; start = r.start; moves = r.moves; turn = r.turn; outer = reverse r.outer.items } };
+
+    ghost invariant = { λ r. All IsReadTag r.tags.items };
+}
+
+impl Reading {
+    /// Before the first token.
+    pub(crate) fn new(alloc: Global) -> Reading
+        ensures unread { result ≡ unread }
+    {
+        Reading {
+            tags: Vec::new(alloc),
+            in_moves: false,
+            start: Position::start(),
+            moves: Builder::new(alloc),
+            turn: Turn::at(&Position::start()),
+            outer: Vec::new(alloc),
+        }
+    }
+
+    /// Whether a variation is open.
+    pub(crate) fn is_inside(&self) -> bool
+        ensures inside { result ≡ is_inside self.now }
+    {
+        !self.outer.is_empty()
+    }
+
+    /// Whether anything but comments was read.
+    pub(crate) fn is_game(&self) -> bool
+        ensures game { result ≡ is_game self.now }
+    {
+        self.in_moves || !self.tags.is_empty()
+    }
+
+    /// Whether a tag of these bytes belongs to the next game.
+    pub(crate) fn is_next_game(&self, bytes: &[u8]) -> bool
+        ensures next { result ≡ is_next_game self.now bytes.now }
+    {
+        self.in_moves && !self.is_inside() && begins_with_bracket(bytes)
+    }
+
+    /// Takes a token into the game, and says what it does.
+    #[tactic(auto, unfolding(crate::specs::Reading::effect))]
+    pub(crate) fn take(&mut self, alloc: Global, token: Token<'_>) -> Result<Step, AllocError>
+        requires sound { IsSound (said token) }
+        requires balanced { IsBalanced self.old }
+        ensures effect { IfOk result (λ step. said_step step self.new ≡ effect (said token.entry) self.old) }
+        ensures well { IfOk result (λ step. StepsWell step self.old self.new) }
+        ensures balanced { OnOk result (IsBalanced self.new) }
+    {
+        match token {
+            Token::Tag(name, raw) => self.take_tag(alloc, name, raw),
+            Token::BadTag => Ok(self.take_bad_tag()),
+            Token::Comment(text) => self.take_comment(alloc, text),
+            Token::OpenComment => Ok(Step::Ends(End::Faulty(GameWhat::Brace))),
+            Token::Nag(n) => self.take_nag(alloc, n),
+            Token::Opens => self.open(alloc),
+            Token::Closes => self.close(alloc),
+            Token::Ending(outcome) => Ok(self.take_ending(outcome)),
+            Token::Number => {
+                self.in_moves = true;
+                Ok(Step::GoesOn)
+            }
+            Token::Move(text) => self.take_move(alloc, text),
+            Token::Bad => Ok(Step::Ends(End::Faulty(GameWhat::Token))),
+            Token::TheEnd => Ok(self.take_end()),
+        }
+    }
+
+    // A malformed tag.
+    fn take_bad_tag(&self) -> Step
+        ensures effect { said_step result self.now ≡ at_tag self.now (is_faulty what.Tag) }
+        ensures well { StepsWell result self.now self.now }
+    {
+        if self.is_inside() {
+            return Step::Ends(End::Faulty(GameWhat::Paren));
+        }
+        if self.in_moves {
+            return Step::Ends(End::Before);
+        }
+        Step::Ends(End::Faulty(GameWhat::Tag))
+    }
+
+    // A tag.
+    fn take_tag(&mut self, alloc: Global, name: &[u8], raw: &[u8]) -> Result<Step, AllocError>
+        requires sound { IsSound (token.tag name.now (unescaped raw.now)) }
+        requires balanced { IsBalanced self.old }
+        ensures effect { IfOk result (λ step. said_step step self.new ≡ at_tag self.old (tag_effect name.now (unescaped raw.now) self.old)) }
+        ensures well { IfOk result (λ step. StepsWell step self.old self.new) }
+        ensures balanced { OnOk result (IsBalanced self.new) }
+    {
+        if self.is_inside() {
+            return Ok(Step::Ends(End::Faulty(GameWhat::Paren)));
+        }
+        if self.in_moves {
+            return Ok(Step::Ends(End::Before));
+        }
+        let value = unescaped(alloc, raw)?;
+        self.take_pair(alloc, name, value)
+    }
+
+    // A tag before the moves.
+    fn take_pair(&mut self, alloc: Global, name: &[u8], value: Vec<u8>) -> Result<Step, AllocError>
+        requires sound { IsSound (token.tag name.now value.items) }
+        requires balanced { IsBalanced self.old }
+        ensures effect { IfOk result (λ step. said_step step self.new ≡ tag_effect name.now value.items self.old) }
+        ensures well { IfOk result (λ step. StepsWell step self.old self.new) }
+        ensures balanced { OnOk result (IsBalanced self.new) }
+    {
+        if is_roster(name) && has_tag(name, self.tags.as_slice()) {
+            return Ok(Step::Ends(End::Faulty(GameWhat::Tag)));
+        }
+        if name.len() > 240 || value.len() > 255 {
+            return Ok(Step::Ends(End::Faulty(GameWhat::TagTooLong)));
+        }
+        if name == b"FEN".as_slice() {
+            return self.take_fen(alloc, name, value);
+        }
+        self.push_tag(alloc, name, value)?;
+        Ok(Step::GoesOn)
+    }
+
+    // A tag that gives the start, where it is the first.
+    fn take_fen(&mut self, alloc: Global, name: &[u8], value: Vec<u8>) -> Result<Step, AllocError>
+        requires fen { name.now ≡ codes "FEN" }
+        requires read { IsReadTag (record { name = name.now; value = value.items }) }
+        requires balanced { IsBalanced self.old }
+        ensures effect { IfOk result (λ step. said_step step self.new ≡ fen_effect value.items self.old (fen_answer value.items)) }
+        ensures well { IfOk result (λ step. StepsWell step self.old self.new) }
+        ensures balanced { OnOk result (IsBalanced self.new) }
+    {
+        match fen_answer(value.as_slice()) {
+            Ok(position) => {
+                self.start_at(&position);
+                self.push_tag(alloc, name, value)?;
+                Ok(Step::GoesOn)
+            }
+            Err(fault) => Ok(Step::Ends(End::Faulty(GameWhat::Fen(fault)))),
+        }
+    }
+
+    // The start of the game, where no other was given before.
+    fn start_at(&mut self, position: &Position)
+        ensures starting { self.new ≡ starting position.now self.old }
+    {
+        if !has_tag(b"FEN", self.tags.as_slice()) {
+            self.start = *position;
+            self.turn = Turn::at(position);
+        }
+    }
+
+    // Adds a tag behind the others.
+    fn push_tag(&mut self, alloc: Global, name: &[u8], value: Vec<u8>) -> Result<(), AllocError>
+        requires read { IsReadTag (record { name = name.now; value = value.items }) }
+        ensures tag { OnOk result (self.new ≡ with_tag name.now value.items self.old) }
+    {
+        let name = text_of(alloc, name)?;
+        let value = Text::from_zero_free(value);
+        push_read(&mut self.tags, Tag { name, value })
+    }
+
+    // A comment.
+    fn take_comment(&mut self, alloc: Global, text: &[u8]) -> Result<Step, AllocError>
+        requires sound { IsZeroFree text.now }
+        requires balanced { IsBalanced self.old }
+        ensures effect { IfOk result (λ step. said_step step self.new ≡ goes_on (commented text.now self.old)) }
+        ensures well { IfOk result (λ step. StepsWell step self.old self.new) }
+        ensures balanced { OnOk result (IsBalanced self.new) }
+    {
+        let text = text_of(alloc, text)?;
+        self.moves.comment(alloc, text)?;
+        Ok(Step::GoesOn)
+    }
+
+    // A NAG, which belongs to a move.
+    fn take_nag(&mut self, alloc: Global, n: u8) -> Result<Step, AllocError>
+        requires balanced { IsBalanced self.old }
+        ensures effect { IfOk result (λ step. said_step step self.new ≡ nag_effect n self.old) }
+        ensures well { IfOk result (λ step. StepsWell step self.old self.new) }
+        ensures balanced { OnOk result (IsBalanced self.new) }
+    {
+        if !self.moves.has_move() {
+            return Ok(Step::Ends(End::Faulty(GameWhat::Token)));
+        }
+        self.in_moves = true;
+        self.moves.nag(alloc, n)?;
+        Ok(Step::GoesOn)
+    }
+
+    // The beginning of a variation of the last move.
+    fn open(&mut self, alloc: Global) -> Result<Step, AllocError>
+        requires balanced { IsBalanced self.old }
+        ensures effect { IfOk result (λ step. said_step step self.new ≡ opens_effect self.old) }
+        ensures well { IfOk result (λ step. StepsWell step self.old self.new) }
+        ensures balanced { OnOk result (IsBalanced self.new) }
+    {
+        if self.outer.len() >= 200 {
+            return Ok(Step::Ends(End::Faulty(GameWhat::Depth)));
+        }
+        if !self.moves.has_move() {
+            return Ok(Step::Ends(End::Faulty(GameWhat::Token)));
+        }
+        self.open_line(alloc)?;
+        Ok(Step::GoesOn)
+    }
+
+    fn open_line(&mut self, alloc: Global) -> Result<(), AllocError>
+        requires move_there { IsTrue (has_move self.old) }
+        requires balanced { IsBalanced self.old }
+        ensures opened { OnOk result (self.new ≡ opened self.old) }
+        ensures balanced { OnOk result (IsBalanced self.new) }
+    {
+        let inner = Turn::at(&self.turn.before);
+        let round = replace(&mut self.turn, inner);
+        self.in_moves = true;
+        self.outer.push(round)?;
+        self.moves.open(alloc)
+    }
+
+    // The end of a variation.
+    fn close(&mut self, alloc: Global) -> Result<Step, AllocError>
+        requires balanced { IsBalanced self.old }
+        ensures effect { IfOk result (λ step. said_step step self.new ≡ closed_to self.old self.old.outer) }
+        ensures well { IfOk result (λ step. StepsWell step self.old self.new) }
+        ensures balanced { OnOk result (IsBalanced self.new) }
+    {
+        let Some(turn) = self.outer.pop() else {
+            return Ok(Step::Ends(End::Faulty(GameWhat::Paren)));
+        };
+        self.turn = turn;
+        self.in_moves = true;
+        self.moves.close(alloc)?;
+        Ok(Step::GoesOn)
+    }
+
+    // An end mark, which is skipped inside a variation.
+    fn take_ending(&mut self, outcome: Outcome) -> Step
+        requires balanced { IsBalanced self.old }
+        ensures effect { said_step result self.new ≡ ending_effect outcome self.old }
+        ensures well { StepsWell result self.old self.new }
+        ensures balanced { IsBalanced self.new }
+    {
+        if self.is_inside() {
+            self.in_moves = true;
+            return Step::GoesOn;
+        }
+        Step::Ends(End::Behind(outcome))
+    }
+
+    // The text of a move.
+    fn take_move(&mut self, alloc: Global, text: &[u8]) -> Result<Step, AllocError>
+        requires balanced { IsBalanced self.old }
+        ensures effect { IfOk result (λ step. said_step step self.new ≡ move_effect self.old (san_answer self.old.turn.now_at text.now)) }
+        ensures well { IfOk result (λ step. StepsWell step self.old self.new) }
+        ensures balanced { OnOk result (IsBalanced self.new) }
+    {
+        match san_answer(&self.turn.now_at, text) {
+            Ok(m) => {
+                self.turn.play(&m);
+                self.in_moves = true;
+                self.moves.play(alloc, m)?;
+                Ok(Step::GoesOn)
+            }
+            Err(fault) => Ok(Step::Ends(End::Faulty(GameWhat::San(fault)))),
+        }
+    }
+
+    // The end of the text.
+    fn take_end(&self) -> Step
+        ensures effect { said_step result self.now ≡ end_effect self.now }
+        ensures well { StepsWell result self.now self.now }
+    {
+        if self.is_inside() {
+            return Step::Ends(End::Faulty(GameWhat::Paren));
+        }
+        Step::Ends(End::Before)
+    }
+
+    /// The game that was read, with its head.
+    pub(crate) fn finish(self, alloc: Global, mark: Option<Outcome>) -> Result<Item, AllocError>
+        requires balanced { IsBalanced self }
+        requires outside { self.outer ≡ [] }
+        ensures item { IfOk result (λ item. item ≡ Item.Good (head_from self.tags mark) (game_of self)) }
+    {
+        let Reading {
+            tags,
+            start,
+            moves,
+            in_moves: _in_moves,
+            turn: _turn,
+            outer: _outer,
+        } = self;
+        let head = head_from(alloc, tags, mark)?;
+        let Branch { lead, line } = moves.finish(alloc)?;
+        Ok(Item::Good(head, Game { start, lead, line }))
+    }
+}
+
+// Adds a read tag behind the others.
+#[tactic(auto, using(crate::proofs::HeadLaws::pushed_read))]
+fn push_read(tags: &mut Vec<Tag>, tag: Tag) -> Result<(), AllocError>
+    requires read { All IsReadTag tags.old.items }
+    requires tag_read { IsReadTag tag }
+    ensures pushed { OnOk result (tags.new.items ≡ tags.old.items ++ tag ∷ []) }
+    ensures still_read { All IsReadTag tags.new.items }
+{
+    tags.push(tag)?;
+    Ok(())
+}
+
+// Whether the bytes begin with `[`.
+fn begins_with_bracket(bytes: &[u8]) -> bool
+    ensures { result ≡ (slice_index_or bytes.now 0 0 == 91) }
+{
+    match bytes {
+        [byte, ..] => *byte == b'[',
+        [] => false,
+    }
+}
+
+// Whether it is the name of a tag of the roster.
+fn is_roster(name: &[u8]) -> bool
+    ensures { result ≡ is_among roster_names name.now }
+{
+    is_among(&ROSTER_NAMES, name)
+}
+
+// Whether one of these names is `name`.
+fn is_among(names: &[&[u8]], name: &[u8]) -> bool
+    ensures { result ≡ list_any (λ other. bytes_eq other.now name.now) names.now }
+{
+    names.iter().any(|other| *other == name)
+}
+
+// Whether one of the tags has this name.
+fn has_tag(name: &[u8], tags: &[Tag]) -> bool
+    ensures { result ≡ has_tag name.now tags.now }
+{
+    tags.iter().any(|tag| tag.name.as_bytes() == name)
+}

@@ -1,0 +1,116 @@
+//! Runs of bytes of one kind.
+ghost use Rattle.std.specs.Prelude.{◌≡◌, ◌==◌, ◌∷◌, false, ℕ, List, MatchOption};
+ghost use Rattle.std.specs.List.{list_any};
+ghost use Rattle.pgn_read.specs.Bytes.{is_of, is_white, is_letter, is_move_byte, is_glyph, front, behind, begins, has_zero};
+
+use game_tree::is_tag_byte;
+
+/// The kinds of bytes of which runs are made.
+#[derive(Clone, Copy, Debug, PartialEq, Eq)]
+pub(crate) enum Run {
+    White,
+    TagName,
+    Digits,
+    Dots,
+    Glyphs,
+    Move,
+    /// All bytes but a closing brace.
+    ToBrace,
+    /// All bytes but a line feed.
+    ToFeed,
+}
+
+impl Run {
+    fn has(self, byte: u8) -> bool
+        ensures has { result ≡ is_of self byte }
+    {
+        match self {
+            Run::White => is_white(byte),
+            Run::TagName => is_tag_byte(byte),
+            Run::Digits => byte.is_ascii_digit(),
+            Run::Dots => byte == b'.',
+            Run::Glyphs => is_glyph(byte),
+            Run::Move => is_move_byte(byte),
+            Run::ToBrace => byte != b'}',
+            Run::ToFeed => byte != b'\n',
+        }
+    }
+}
+
+/// The longest run at the beginning of the bytes, and what stands behind it.
+pub(crate) fn split_run(run: Run, bytes: &[u8]) -> (&[u8], &[u8])
+    ensures front { result.0.now ≡ front (is_of run) bytes.now }
+    ensures behind { result.1.now ≡ behind (is_of run) bytes.now }
+{
+    for (i, byte) in bytes.iter().enumerate() {
+        if !run.has(*byte) {
+            return bytes.split_at(i);
+        }
+    }
+    (bytes, &bytes[bytes.len()..])
+}
+
+/// Whether a byte is white space.
+pub(crate) fn is_white(byte: u8) -> bool
+    ensures white { result ≡ is_white byte }
+{
+    byte == b' ' || (9 <= byte && byte <= 13)
+}
+
+/// Whether a byte is one of a suffix.
+pub(crate) fn is_glyph(byte: u8) -> bool
+    ensures glyph { result ≡ is_glyph byte }
+{
+    byte == b'!' || byte == b'?'
+}
+
+/// Whether a byte is one of a move's text.
+pub(crate) fn is_move_byte(byte: u8) -> bool
+    ensures move_byte { result ≡ is_move_byte byte }
+{
+    is_letter(byte)
+        || byte.is_ascii_digit()
+        || byte == b'+'
+        || byte == b'#'
+        || byte == b'='
+        || byte == b'-'
+        || byte == b':'
+}
+
+fn is_letter(byte: u8) -> bool
+    ensures letter { result ≡ is_letter byte }
+{
+    (b'A' <= byte && byte <= b'Z') || (b'a' <= byte && byte <= b'z')
+}
+
+/// Whether the bytes begin with this form.
+pub(crate) fn begins(form: &[u8], bytes: &[u8]) -> bool
+    ensures begins { result ≡ begins form.now bytes.now }
+{
+    let mut rest = bytes;
+    for first in form {
+        let Some(tail) = behind_byte(*first, rest) else {
+            return false;
+        };
+        rest = tail;
+    }
+    true
+}
+
+// What stands behind this byte, where the bytes begin with it.
+fn behind_byte(first: u8, bytes: &[u8]) -> Option<&[u8]>
+    ensures begins { MatchOption result ((form : List ℕ) → begins (first ∷ form) bytes.now ≡ false)
+        (λ tail. (form : List ℕ) → begins (first ∷ form) bytes.now ≡ begins form tail.now) }
+{
+    match bytes {
+        [byte, tail @ ..] => { if *byte == first { Some(tail) } else { None } }
+        [] => None,
+    }
+}
+
+/// Whether one of the bytes is zero.
+pub(crate) fn has_zero(text: &[u8]) -> bool
+    ensures zero { result ≡ has_zero text.now }
+{
+    text.iter().any(|byte| *byte == 0)
+}

@@ -1,0 +1,383 @@
+//! The bytes of a source that were read and not yet taken.
+ghost use Rattle.std.specs.Prelude.{◌≡◌, ◌≤◌, ◌<◌, ◌+◌, ◌-◌, ◌∷◌, ◌⊎◌, ℕ, List, None, IfSome, OnSome, ◌&&◌, slice_index_or, [], length, take, drop, option_map, true, false, IfOk, IfErr, OnOk, OnErr, IsTrue, MatchOption};
+ghost use Rattle.base_files.specs.Told.{before, Tells};
+ghost use Rattle.std.specs.Bool.{OnTrue, OnFalse};
+ghost use Rattle.pgn_read.specs.Bytes.{begins};
+ghost use Rattle.pgn_read.specs.Causes.{HasCause};
+ghost use Rattle.pgn_read.specs.Items.{begins_game, resumed_at};
+ghost use Rattle.pgn_read.specs.Place.{next_place, place_behind, first_place};
+ghost use Rattle.pgn_read.specs.Text.{longest, gap_behind, skipped, is_first, byte_order_mark, behind_mark, on_remark};
+ghost use Rattle.pgn_read.specs.Window.{with_more, ahead, Decides};
+
+use crate::error::PgnError;
+use crate::lexing::lexed;
+use crate::place::Place;
+use crate::run::{begins, is_white};
+use base_files::{Failed, Source};
+use std::alloc::{AllocError, Global};
+use std::marker::Model;
+
+/// The greatest length of a game's text.
+pub(crate) const LONGEST: usize = 1_048_576;
+
+// How many bytes are read at once.
+const PIECE: usize = 4_096;
+
+/// The bytes of a source that were read and not yet taken, with the place of the first of them.
+#[derive(Drop)]
+pub(crate) struct Window {
+    // The bytes from `from` on are unread.
+    bytes: Vec<u8>,
+    from: usize,
+    place: Place,
+    room: usize,
+    ended: bool,
+}
+
+impl Model for Window {
+    ghost use Rattle.std.specs.Prelude.{◌≤◌, length, drop};
+    ghost use Rattle.pgn_read.specs.Window.{Window as Seen};
+    ghost use Rattle.pgn_read.specs.Text.{longest};
+
+    ghost Value = { Seen };
+
+    ghost view = { λ w. record { unread = drop w.from w.bytes.items; place = w.place; room = w.room; ended = w.ended } };
+
+    ghost invariant = { λ w. (w.from ≤ length w.bytes.items) × (w.room ≤ longest) };
+}
+
+impl Window {
+    /// Before the first byte of a text.
+    pub(crate) fn new(alloc: Global) -> Window
+        ensures new { result ≡ record { unread = []; place = first_place; room = longest; ended = false } }
+    {
+        Window {
+            bytes: Vec::new(alloc),
+            from: 0,
+            place: Place::first(),
+            room: LONGEST,
+            ended: false,
+        }
+    }
+
+    /// The unread bytes.
+    pub(crate) fn unread(&self) -> &[u8]
+        ensures unread { result.now ≡ self.now.unread }
+    {
+        self.bytes.as_slice().split_at(self.from).1
+    }
+
+    /// The place of the first unread byte.
+    pub(crate) fn place(&self) -> Place
+        ensures place { result ≡ self.now.place }
+    {
+        self.place
+    }
+
+    /// How many bytes a game's text may still have.
+    pub(crate) fn room(&self) -> usize
+        ensures room { result ≡ self.now.room }
+        ensures most { self.now.room ≤ longest }
+    {
+        self.room
+    }
+
+    /// Begins a call: the end of the source is not known.
+    pub(crate) fn begin(&mut self)
+        ensures begun { self.new ≡ record self.old { ended = false } }
+    {
+        self.ended = false;
+    }
+
+    /// The length of a game's text counts from here.
+    pub(crate) fn count_from_here(&mut self)
+        ensures counted { self.new ≡ record self.old { room = longest } }
+    {
+        self.room = LONGEST;
+    }
+
+    // The first unread byte.
+    fn peek(&self) -> Option<u8>
+        ensures first { MatchOption result (self.now.unread ≡ []) (λ byte. self.now.unread ≡ byte ∷ drop 1 self.now.unread) }
+    {
+        match self.unread() {
+            [byte, ..] => Some(*byte),
+            [] => None,
+        }
+    }
+
+    // Passes over the first unread byte.
+    fn pass_byte(&mut self, byte: u8)
+        requires some { 0 < length self.old.unread }
+        ensures unread { self.new.unread ≡ drop 1 self.old.unread }
+        ensures place { self.new.place ≡ next_place self.old.place byte }
+        ensures room { self.new.room ≡ self.old.room - 1 }
+        ensures ended { self.new.ended ≡ self.old.ended }
+    {
+        self.place = self.place.next(byte);
+        self.room = self.room.saturating_sub(1);
+        self.from += 1;
+    }
+
+    // The place behind so many unread bytes.
+    fn place_behind(&self, count: usize) -> Place
+        requires there { count ≤ length self.now.unread }
+        ensures place { result ≡ place_behind self.now.place (take count self.now.unread) }
+    {
+        self.place.behind(self.unread().split_at(count).0)
+    }
+
+    /// Passes over so many unread bytes.
+    pub(crate) fn pass(&mut self, count: usize)
+        requires there { count ≤ length self.old.unread }
+        ensures unread { self.new.unread ≡ drop count self.old.unread }
+        ensures place { self.new.place ≡ place_behind self.old.place (take count self.old.unread) }
+        ensures room { self.new.room ≡ self.old.room - count }
+        ensures ended { self.new.ended ≡ self.old.ended }
+    {
+        self.place = self.place_behind(count);
+        self.room = self.room.saturating_sub(count);
+        self.from += count;
+    }
+
+    // Moves the unread bytes to the front.
+    fn shift(&mut self)
+        ensures same { self.new ≡ self.old }
+    {
+        shift(&mut self.bytes, self.from);
+        self.from = 0;
+    }
+
+    // Reads once. No bytes come only at the source's end.
+    fn read<S: Source>(&mut self, source: &mut S) -> Result<usize, PgnError>
+        ensures kept { OnOk result (before self.old.unread (S.left source.old) ≡ before self.new.unread (S.left source.new)) }
+        ensures more { IfOk result (λ n. length self.new.unread ≡ length self.old.unread + n) }
+        ensures end { IfOk result (λ n. n ≡ 0 → Tells (S.left source.new) []) }
+        ensures place { self.new.place ≡ self.old.place }
+        ensures room { self.new.room ≡ self.old.room }
+        ensures ended { self.new.ended ≡ self.old.ended }
+        ensures sum { OnOk result (S.budget source.new + length self.new.unread ≡ S.budget source.old + length self.old.unread) }
+        ensures spends { S.budget source.new ≤ S.budget source.old }
+        ensures counts { S.faults source.old ≤ S.faults source.new }
+        ensures cause { IfErr result (λ e. HasCause e (S.faults source.old) (S.faults source.new)) }
+    {
+        let mut piece = [0; PIECE];
+        let n = match source.read(&mut piece) {
+            Ok(n) => n,
+            Err(fault) => return Err(PgnError::from(fault)),
+        };
+        self.bytes.extend_from_slice(piece.split_at(n).0)?;
+        Ok(n)
+    }
+
+    // Reads until there are so many unread bytes, or to the source's end.
+    fn fill<S: Source>(&mut self, source: &mut S, wanted: usize) -> Result<(), PgnError>
+        requires told { IsTrue self.old.ended → Tells (S.left source.old) [] }
+        ensures kept { OnOk result (before self.old.unread (S.left source.old) ≡ before self.new.unread (S.left source.new)) }
+        ensures full { OnOk result (IsTrue self.new.ended ⊎ (wanted ≤ length self.new.unread)) }
+        ensures told { OnOk result (IsTrue self.new.ended → Tells (S.left source.new) []) }
+        ensures place { self.new.place ≡ self.old.place }
+        ensures room { self.new.room ≡ self.old.room }
+        ensures sum { OnOk result (S.budget source.new + length self.new.unread ≡ S.budget source.old + length self.old.unread) }
+        ensures spends { S.budget source.new ≤ S.budget source.old }
+        ensures counts { S.faults source.old ≤ S.faults source.new }
+        ensures cause { IfErr result (λ e. HasCause e (S.faults source.old) (S.faults source.new)) }
+    {
+        self.shift();
+        'reads: while self.unread().len() < wanted {
+            let n = match self.read(source) {
+                Ok(n) => n,
+                Err(error) => return Err(error),
+            };
+            if n == 0 {
+                self.ended = true;
+                return Ok(());
+            }
+        }
+        Ok(())
+    }
+
+    // Reads until there are so many unread bytes, where there are fewer, or to the source's end.
+    fn look<S: Source>(&mut self, source: &mut S, count: usize) -> Result<(), PgnError>
+        requires told { IsTrue self.old.ended → Tells (S.left source.old) [] }
+        ensures kept { OnOk result (ahead self.old (S.left source.old) ≡ ahead self.new (S.left source.new)) }
+        ensures there { OnOk result (IsTrue self.new.ended ⊎ (count ≤ length self.new.unread)) }
+        ensures told { OnOk result (IsTrue self.new.ended → Tells (S.left source.new) []) }
+        ensures place { self.new.place ≡ self.old.place }
+        ensures room { self.new.room ≡ self.old.room }
+        ensures sum { OnOk result (S.budget source.new + length self.new.unread ≡ S.budget source.old + length self.old.unread) }
+        ensures spends { S.budget source.new ≤ S.budget source.old }
+        ensures counts { S.faults source.old ≤ S.faults source.new }
+        ensures cause { IfErr result (λ e. HasCause e (S.faults source.old) (S.faults source.new)) }
+    {
+        if self.unread().len() >= count {
+            return Ok(());
+        }
+        self.fill(source, count)
+    }
+
+    // Passes over a byte of a gap, and says whether a skipped line goes on behind it; nothing where the gap has ended.
+    fn pass_gap(&mut self, inside: bool) -> Option<bool>
+        ensures passes { IfSome result (λ later. (more : List ℕ) → gap_behind inside (with_more self.old more) ≡ gap_behind later (with_more self.new more)) }
+        ensures shorter { OnSome result (length self.new.unread < length self.old.unread) }
+        ensures ended { self.new.ended ≡ self.old.ended }
+        ensures stops { result ≡ None → 0 < length self.old.unread → (more : List ℕ) → gap_behind inside (with_more self.old more) ≡ with_more self.old more }
+        ensures kept { result ≡ None → self.new ≡ self.old }
+    {
+        let byte = self.peek()?;
+        let remark = on_remark(inside, self.place, byte);
+        if !remark && !is_white(byte) {
+            return None;
+        }
+        self.pass_byte(byte);
+        Some(remark && byte != b'\n')
+    }
+
+    /// Skips white space and lines that are skipped, up to the next token or the end of the text.
+    pub(crate) fn skip_gap<S: Source>(&mut self, source: &mut S) -> Result<(), PgnError>
+        requires told { IsTrue self.old.ended → Tells (S.left source.old) [] }
+        ensures skipped { OnOk result (option_map skipped (ahead self.old (S.left source.old)) ≡ ahead self.new (S.left source.new)) }
+        ensures there { OnOk result (IsTrue self.new.ended ⊎ (1 ≤ length self.new.unread)) }
+        ensures told { OnOk result (IsTrue self.new.ended → Tells (S.left source.new) []) }
+        ensures sum { OnOk result (S.budget source.new + length self.new.unread ≤ S.budget source.old + length self.old.unread) }
+        ensures spends { S.budget source.new ≤ S.budget source.old }
+        ensures counts { S.faults source.old ≤ S.faults source.new }
+        ensures cause { IfErr result (λ e. HasCause e (S.faults source.old) (S.faults source.new)) }
+    {
+        let mut inside = false;
+        'gap: loop {
+            if let Err(error) = self.look(source, 1) {
+                return Err(error);
+            }
+            match self.pass_gap(inside) {
+                Some(later) => inside = later,
+                None => return Ok(()),
+            }
+        }
+    }
+
+    // Whether this is the beginning of a text, and has a byte order mark.
+    fn has_mark(&self) -> bool
+        ensures mark { result ≡ is_first self.now.place && begins byte_order_mark self.now.unread }
+    {
+        self.place.line == 1 && self.place.column == 1 && begins(b"\xef\xbb\xbf", self.unread())
+    }
+
+    /// Skips a byte order mark at the beginning of a text.
+    pub(crate) fn skip_mark<S: Source>(&mut self, source: &mut S) -> Result<(), PgnError>
+        requires told { IsTrue self.old.ended → Tells (S.left source.old) [] }
+        ensures skipped { OnOk result (option_map behind_mark (ahead self.old (S.left source.old)) ≡ ahead self.new (S.left source.new)) }
+        ensures told { OnOk result (IsTrue self.new.ended → Tells (S.left source.new) []) }
+        ensures sum { OnOk result (S.budget source.new + length self.new.unread ≤ S.budget source.old + length self.old.unread) }
+        ensures spends { S.budget source.new ≤ S.budget source.old }
+        ensures counts { S.faults source.old ≤ S.faults source.new }
+        ensures cause { IfErr result (λ e. HasCause e (S.faults source.old) (S.faults source.new)) }
+    {
+        if let Err(error) = self.look(source, 3) {
+            return Err(error);
+        }
+        if self.has_mark() {
+            self.pass(3);
+        }
+        Ok(())
+    }
+
+    // Whether the unread bytes tell the token at their front, or that it is too long.
+    fn decides(&self) -> bool
+        ensures decides { OnTrue result (Decides self.now) }
+        ensures not_ended { OnFalse result (self.now.ended ≡ false) }
+        ensures short { OnFalse result (length self.now.unread < longest + 8) }
+    {
+        let unread = self.unread();
+        self.ended || lexed(unread).rest.len() >= 8 || unread.len() >= self.room + 8
+    }
+
+    /// Reads so far that the unread bytes tell the token at their front, or that it is too long.
+    pub(crate) fn prepare<S: Source>(&mut self, source: &mut S) -> Result<(), PgnError>
+        requires told { IsTrue self.old.ended → Tells (S.left source.old) [] }
+        ensures kept { OnOk result (ahead self.old (S.left source.old) ≡ ahead self.new (S.left source.new)) }
+        ensures decides { OnOk result (Decides self.new) }
+        ensures told { OnOk result (IsTrue self.new.ended → Tells (S.left source.new) []) }
+        ensures place { self.new.place ≡ self.old.place }
+        ensures room { self.new.room ≡ self.old.room }
+        ensures sum { OnOk result (S.budget source.new + length self.new.unread ≡ S.budget source.old + length self.old.unread) }
+        ensures spends { S.budget source.new ≤ S.budget source.old }
+        ensures counts { S.faults source.old ≤ S.faults source.new }
+        ensures cause { IfErr result (λ e. HasCause e (S.faults source.old) (S.faults source.new)) }
+    {
+        'looks: while !self.decides() {
+            let wanted = 2 * self.unread().len() + PIECE;
+            if let Err(error) = self.fill(source, wanted) {
+                return Err(error);
+            }
+            if self.ended {
+                return Ok(());
+            }
+        }
+        Ok(())
+    }
+
+    // Whether a line begins here on which reading goes on behind a fault.
+    fn begins_game(&self) -> bool
+        ensures begins { result ≡ begins_game self.now.place self.now.room self.now.unread }
+    {
+        self.place.column == 1 && self.room != LONGEST && begins(b"[Event \"", self.unread())
+    }
+
+    // Passes over a byte before such a line, and says whether there was one.
+    fn pass_faulty(&mut self) -> bool
+        ensures passes { OnTrue result (begins_game self.old.place self.old.room self.old.unread ≡ false) }
+        ensures some { OnTrue result (0 < length self.old.unread) }
+        ensures stops { OnFalse result ((self.old.unread ≡ []) ⊎ (begins_game self.old.place self.old.room self.old.unread ≡ true)) }
+        ensures kept { OnFalse result (self.new ≡ self.old) }
+        ensures unread { OnTrue result (self.new.unread ≡ drop 1 self.old.unread) }
+        ensures place { OnTrue result (self.new.place ≡ next_place self.old.place (slice_index_or self.old.unread 0 0)) }
+        ensures room { OnTrue result (self.new.room ≡ self.old.room - 1) }
+        ensures ended { self.new.ended ≡ self.old.ended }
+    {
+        let Some(byte) = self.peek() else {
+            return false;
+        };
+        if self.begins_game() {
+            return false;
+        }
+        self.pass_byte(byte);
+        true
+    }
+
+    /// Goes on, behind a fault, to the first line that begins a game, or to the end of the text.
+    pub(crate) fn resume<S: Source>(&mut self, source: &mut S) -> Result<(), PgnError>
+        requires told { IsTrue self.old.ended → Tells (S.left source.old) [] }
+        ensures resumed { OnOk result (option_map resumed_at (ahead self.old (S.left source.old)) ≡ ahead self.new (S.left source.new)) }
+        ensures spends { S.budget source.new ≤ S.budget source.old }
+        ensures counts { S.faults source.old ≤ S.faults source.new }
+        ensures cause { IfErr result (λ e. HasCause e (S.faults source.old) (S.faults source.new)) }
+    {
+        'lines: loop {
+            if let Err(error) = self.look(source, 8) {
+                return Err(error);
+            }
+            if !self.pass_faulty() {
+                return Ok(());
+            }
+        }
+    }
+}
+
+// Takes so many bytes away from the front.
+#[tactic(auto, using(crate::proofs::WindowLaws::shifted))]
+fn shift(bytes: &mut Vec<u8>, from: usize)
+    requires there { from ≤ length bytes.old.items }
+    ensures rest { bytes.new.items ≡ drop from bytes.old.items }
+{
+    let left = bytes.len() - from;
+    bytes.copy_within(from.., 0);
+    bytes.truncate(left);
+}
+
+// Whether a byte is on a line that is skipped.
+fn on_remark(inside: bool, place: Place, byte: u8) -> bool
+    ensures { result ≡ on_remark inside place byte }
+{
+    inside || (place.column == 1 && byte == b'%')
+}
