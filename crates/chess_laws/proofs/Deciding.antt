@@ -47,7 +47,7 @@ is_of-Decides c (Some m) =
     Decides-like (same_colour m.colour c) (λ h. (m.kind, of_colour c m h)) (λ h. let e = h.1 in cc) (same_colour-Decides m.colour c)
 
 -- lists
-any-Decides : {X : Type 0} (p : X → Bool) (P : X → Type 0) → ((x : X) → Decides (p x) (P x)) → (xs : List X) → Decides (list_any p xs) (Any P xs)
+pub any-Decides : {X : Type 0} (p : X → Bool) (P : X → Type 0) → ((x : X) → Decides (p x) (P x)) → (xs : List X) → Decides (list_any p xs) (Any P xs)
 any-Decides p P each xs = (
   (λ h. let (k, x, less, at, e) = Any-from_list_any p xs h in (k, x, less, at, (each x).0 e)),
   (λ h. let (k, x, less, at, e) = h in list_any-from_Any p xs (k, x, less, at, (each x).1 e)),
@@ -61,7 +61,7 @@ unfolding some_below
 some_below-Decides p P each n = Decides-below_or p P (some_below p) each refl (λ k. refl) n
 
 -- steps and walks
-leaps-Decides : (a b : ℕ) (o : Offset) → Decides (leaps_now a b o) (Leaps a b o)
+pub leaps-Decides : (a b : ℕ) (o : Offset) → Decides (leaps_now a b o) (Leaps a b o)
 unfolding leaps_now
 leaps-Decides a b o = is_square-Decides b (shift o a)
 

@@ -26,3 +26,6 @@ pub mod Stepping
 pub mod Initial
 pub mod Deciding
 pub mod Officers
+pub mod Ways
+pub mod Joining
+pub mod PawnMoves

@@ -18,7 +18,7 @@ use Rattle.chess_laws.specs.Geometry.{rank_of}
 use Rattle.chess_laws.specs.Position.{Sound}
 use Rattle.chess_laws.specs.Step.{effect_of, Case, GoesPlainly, may_become, last_rank, promotes_rightly}
 use Rattle.chess_laws.specs.Moves.{IsMove, promotion_number, place_of, Ascends, ListsMoves, HasMoreMoves}
-use Rattle.chess_laws.specs.Targets.{Comes, Has, ListsBelow, MayPromote}
+use Rattle.chess_laws.specs.Targets.{Comes, Has, ListsBelow, MayPromote, MayTake}
 use Rattle.chess_laws.proofs.Boards.{on_board, same_kind-true}
 use Rattle.chess_laws.proofs.Following.{case-on_board}
 use Rattle.chess_laws.proofs.Keeping.{castle-squares}
@@ -39,6 +39,7 @@ none-is None h = refl
 none-is (Some k) h = absurd (cc)
 
 plain-comes : (p : Setup) (k : Kind) (m : Move) → GoesPlainly p k m → Comes p k m.from m.to
+unfolding MayTake
 plain-comes p Pawn m (inl g) = inl g
 plain-comes p Pawn m (inr g) = inr (inr (g.0, inl g.1))
 plain-comes p King m g = inl g
@@ -62,13 +63,14 @@ plain-promotes p k m stands h =
     ]
 
 case-fits : (p : Setup) (m : Move) (e : Effect) → effect_of p m ≡ e → Case p m e → (m.to ≡ m.from → ⊥) → Fits p m
+unfolding MayTake
 case-fits p m Plain is h leaves = record {
   kind = h.kind;
   stands = h.stands;
   comes = plain-comes p h.kind m h.goes;
   promotes = plain-promotes p h.kind m h.stands h.promotes;
 }
-case-fits p m Double is h leaves = record { kind = Pawn; stands = h.stands; comes = inr (inl (h.walks, h.target)); promotes = inl h.promo }
+case-fits p m Double is h leaves = record { kind = Pawn; stands = h.stands; comes = inr (inl (h.own_rank, (h.walks, h.target))); promotes = inl h.promo }
 case-fits p m Passing is h leaves = record { kind = Pawn; stands = h.stands; comes = inr (inr (h.goes, inr h.target)); promotes = inl h.promo }
 case-fits p m (Castle wing) is h leaves =
     let at = castle-squares p m wing h.stands is in

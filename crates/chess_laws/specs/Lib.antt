@@ -10,3 +10,4 @@ pub mod Moves
 pub mod Targets
 pub mod LegalNow
 pub mod Checks
+pub mod Ways

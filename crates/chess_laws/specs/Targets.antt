@@ -11,7 +11,8 @@ use Rattle.chess_laws.specs.Geometry.{rank_of, forward, pawn_captures, rook_step
 use Rattle.cell_core.specs.Board.{man_at}
 use Rattle.cell_core.specs.Man.{man}
 use Rattle.chess_laws.specs.LegalTests.{IsEnemyOn}
-use Rattle.chess_laws.specs.Step.{last_rank, HasNoOwn}
+use Rattle.chess_laws.specs.declared.effect.Effect.{Effect}
+use Rattle.chess_laws.specs.Step.{effect_of, last_rank, pawn_rank, Case, HasNoOwn}
 use Rattle.chess_laws.specs.Castling.{king_home, king_target}
 use Rattle.chess_laws.specs.Moves.{IsMove, place_of, Ascends}
 
@@ -23,14 +24,18 @@ Has set s = bit_at set.bits s ≡ 1
 abbrev pub CastlesTo : Setup → ℕ → ℕ → Type 0
 CastlesTo p a b = (a ≡ king_home p.side) × ((wing : Wing) × (b ≡ king_target p.side wing))
 
--- A pawn comes from a to b: one square forward or two, to an empty one, or diagonally to an enemy or in passing.
-abbrev pub MayTake : Setup → ℕ → Type 0
+-- A pawn comes from a to b: one square forward, or two from its own rank, to an empty one, or diagonally to an enemy or in
+-- passing.
+abbrev pub DoublesTo : Setup → ℕ → ℕ → Type 0
+DoublesTo p a b = (rank_of a ≡ pawn_rank p.side) × (Walk p.board (forward p.side) 1 a b × (man_at p.board b ≡ None))
+
+unfoldable pub MayTake : Setup → ℕ → Type 0
 MayTake p b = IsEnemyOn p.board p.side b ⊎ (p.en_passant ≡ Some b)
 
 abbrev pub PawnComes : Setup → ℕ → ℕ → Type 0
 PawnComes p a b =
     (Leaps a b (forward p.side) × (man_at p.board b ≡ None))
-    ⊎ ((Walk p.board (forward p.side) 1 a b × (man_at p.board b ≡ None)) ⊎ (Any (Leaps a b) (pawn_captures p.side) × MayTake p b))
+    ⊎ (DoublesTo p a b ⊎ (Any (Leaps a b) (pawn_captures p.side) × MayTake p b))
 
 -- A man of the side to move and of this kind comes from a to b by some legal move, whatever else that needs.
 abbrev pub Comes : Setup → Kind → ℕ → ℕ → Type 0
@@ -79,3 +84,20 @@ ListsBefore p room m ms = ListsBelow p room (place_of m) ms
 pub record MayPromote (p : Setup) (a b : ℕ) : Type 0 where
   pub stands : man_at p.board a ≡ Some (man p.side Pawn)
   pub last : rank_of b ≡ last_rank p.side
+
+-- A pawn of the side to move stands on a, and goes to b neither in passing nor to be promoted.
+pub record PawnGoes (p : Setup) (a b : ℕ) : Type 0 where
+  pub stands : man_at p.board a ≡ Some (man p.side Pawn)
+  pub apart : p.en_passant ≡ Some b → ⊥
+  pub inside : rank_of b ≡ last_rank p.side → ⊥
+
+-- The move from a to b that names no promotion.
+abbrev pub goes : ℕ → ℕ → Move
+goes a b = record { from = a; to = b; promo = None }
+
+-- This move is of this kind and allowed by its rules, it leaves its square, and no other leads from a to b.
+pub record Known (p : Setup) (a b : ℕ) (e : Effect) : Type 0 where
+  pub effect : e ≡ effect_of p (goes a b)
+  pub allowed : Case p (goes a b) e
+  pub leaves : b ≡ a → ⊥
+  pub plain : MayPromote p a b → ⊥

@@ -3,17 +3,17 @@ ghost use Rattle.std.specs.Prelude.{◌≡◌, ◌↔◌, ◌<◌, IsTrue, Any, 
 ghost use Rattle.cell_core.specs.Board.{man_at};
 ghost use Rattle.cell_core.specs.Man.{man, other};
 ghost use Rattle.cell_core.specs.declared.man.Kind.TheVariants.{Pawn};
-ghost use Rattle.chess_laws.specs.Geometry.{forward, king_steps, pawn_captures, Leaps, Runs, Walk};
+ghost use Rattle.chess_laws.specs.Geometry.{forward, king_steps, pawn_captures, rank_of, Leaps, Runs, Walk};
 ghost use Rattle.chess_laws.specs.Attacks.{Reaches, IsInCheck};
 ghost use Rattle.chess_laws.specs.LegalTests.{IsOnlyKing, MayCastle, glides, run, slides, IsEnemyOn};
 ghost use Rattle.chess_laws.specs.Rays.{offset_at};
-ghost use Rattle.chess_laws.specs.Step.{Case, CastleCase, DoubleCase, GoesPlainly, HasNoOwn, NullCase, PassingCase, PlainCase, last_rank, may_become, promotes_rightly};
+ghost use Rattle.chess_laws.specs.Step.{Case, CastleCase, DoubleCase, GoesPlainly, HasNoOwn, NullCase, PassingCase, PlainCase, last_rank, may_become, pawn_rank, promotes_rightly};
 
 use super::attack::{attacks, stands};
 use super::castling::{has_right, is_path_safe, is_way_free};
 use super::effect::Effect;
 use super::next::passed_square;
-use super::offset::{BLACK_CAPTURES, DOWN, KNIGHT_STEPS, Offset, UP, WHITE_CAPTURES, line};
+use super::offset::{BLACK_CAPTURES, DOWN, Offset, UP, WHITE_CAPTURES, is_knight_step, line};
 use super::setup::{Setup, Wing};
 use cell_core::{Board, Colour, Kind, Man, Move, Square};
 
@@ -124,15 +124,21 @@ fn may_become(promo: Option<Kind>) -> bool
 fn is_double(p: &Setup, m: &Move) -> bool
     ensures { IsTrue result ↔ DoubleCase p.now m.now }
 {
-    let own_rank = match p.side {
-        Colour::White => 1,
-        Colour::Black => 6,
-    };
     has_own(p, Kind::Pawn, m.from)
-        && m.from.index() / 8 == own_rank
+        && is_on_own_rank(p.side, m.from)
         && walks_two(&p.board, p.side, m.from, m.to)
         && p.board.at(m.to).is_none()
         && m.promo.is_none()
+}
+
+/// Whether the square is on the rank on which a side's pawns begin.
+pub fn is_on_own_rank(side: Colour, s: Square) -> bool
+    ensures { IsTrue result ↔ (rank_of s ≡ pawn_rank side) }
+{
+    match side {
+        Colour::White => s.index() / 8 == 1,
+        Colour::Black => s.index() / 8 == 6,
+    }
 }
 
 /// Whether two steps forward lead from one square to the other, over an empty one.
@@ -232,7 +238,7 @@ pub fn reaches(board: &Board, colour: Colour, kind: Kind, from: Square, to: Squa
     match kind {
         Kind::King => adjoins(from, to),
         Kind::Queen | Kind::Rook | Kind::Bishop => runs(board, kind, from, to),
-        Kind::Knight => leaps(&KNIGHT_STEPS, from, to),
+        Kind::Knight => is_knight_step(from, to),
         Kind::Pawn => pawn_takes(colour, from, to),
     }
 }

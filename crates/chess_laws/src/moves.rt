@@ -1,5 +1,7 @@
 //! Every legal move of a position, in order.
-ghost use Rattle.std.specs.Prelude.{◌≡◌, ◌↔◌, ◌+◌, ◌*◌, ◌<◌, ◌≤◌, IsTrue, []};
+ghost use Rattle.std.specs.Prelude.{◌≡◌, ◌↔◌, ◌+◌, ◌*◌, ◌<◌, ◌≤◌, IsTrue, Some, []};
+ghost use Rattle.cell_core.specs.Board.{man_at};
+ghost use Rattle.cell_core.specs.Man.{man};
 ghost use Rattle.std.specs.Bool.{OnTrue, OnFalse};
 ghost use Rattle.std.specs.Ordering.{is_lt};
 ghost use Rattle.chess_laws.specs.Attacks.{IsInCheck};
@@ -7,12 +9,12 @@ ghost use Rattle.chess_laws.specs.LegalTests.{IsOnlyKing};
 ghost use Rattle.chess_laws.specs.Position.{Sound};
 ghost use Rattle.chess_laws.specs.Rays.{Shut};
 ghost use Rattle.chess_laws.specs.Moves.{HasMoreMoves, IsMove, ListsMoves, place_of, promotion_number};
-ghost use Rattle.chess_laws.specs.Targets.{HasOfficer, ListsBelow, ListsBefore, MayPromote, OfficerComes, is_officer};
+ghost use Rattle.chess_laws.specs.Targets.{Comes, HasOfficer, Known, ListsBelow, ListsBefore, MayPromote, OfficerComes, PawnGoes, is_officer};
 
 use super::cases::{has_own, last_rank};
 use super::effect::Effect;
 use super::legal::{is_legal_allowed, is_legal_from, is_shut};
-use super::next::effect_of;
+use super::next::{effect_of, pawn_effect};
 use super::position::Position;
 use super::setup::Setup;
 use super::targets::targets;
@@ -137,8 +139,8 @@ fn list_from<const N: usize>(
     true
 }
 
-/// Lists the moves from one square to another behind those before them. A queen, a rook, a bishop or a knight is known to
-/// come there.
+/// Lists the moves from one square to another behind those before them, where what stands on the first is known to come to
+/// the other.
 fn list_to<const N: usize>(
     p: &Setup,
     king: Square,
@@ -152,13 +154,25 @@ fn list_to<const N: usize>(
     requires king { IsOnlyKing p.now.board p.now.side king }
     requires shut { OnTrue shut (Shut p.now king from) }
     requires officer { OnTrue officer (OfficerComes p.now from to) }
+    requires comes { (k : Kind) → man_at p.now.board from ≡ Some (man p.now.side k) → Comes p.now k from to }
     requires on_board { to < 64 }
     requires before { ListsBelow p.now N (512 * from + 8 * to) into.old.items }
     ensures listed { OnTrue result (ListsBelow p.now N (512 * from + 8 * (to + 1)) into.new.items) }
     ensures many { OnFalse result (HasMoreMoves p.now N) }
 {
     if officer {
-        return add_officer(p, king, shut, from, to, into);
+        return add_known(p, king, shut, from, to, Effect::Plain, into);
+    }
+    if pawn_goes(p, from, to) {
+        let effect = pawn_effect(
+            p,
+            &Move {
+                from,
+                to,
+                promo: None,
+            },
+        );
+        return add_known(p, king, shut, from, to, effect, into);
     }
     if !add(p, king, shut, from, to, None, into) {
         return false;
@@ -205,6 +219,13 @@ fn may_promote(p: &Setup, from: Square, to: Square) -> bool
     to.index() / 8 == last_rank(p.side) && has_own(p, Kind::Pawn, from)
 }
 
+/// Whether a pawn of the side to move stands on `from`, and goes to `to` neither in passing nor to be promoted.
+fn pawn_goes(p: &Setup, from: Square, to: Square) -> bool
+    ensures { OnTrue result (PawnGoes p.now from to) }
+{
+    has_own(p, Kind::Pawn, from) && p.en_passant != Some(to) && to.index() / 8 != last_rank(p.side)
+}
+
 /// Whether a queen, a rook, a bishop or a knight of the side to move stands on the square.
 fn has_officer(p: &Setup, from: Square) -> bool
     ensures { OnTrue result (HasOfficer p.now from) }
@@ -225,21 +246,22 @@ fn is_officer(kind: Kind) -> bool
     }
 }
 
-/// Adds the move of a queen, a rook, a bishop or a knight that comes there if it is legal, or answers false where there is
-/// no room for it.
-fn add_officer<const N: usize>(
+/// Adds the one move from one square to another, which is of this kind and allowed by its rules, if it is legal, or answers
+/// false where there is no room for it.
+fn add_known<const N: usize>(
     p: &Setup,
     king: Square,
     shut: bool,
     from: Square,
     to: Square,
+    effect: Effect,
     into: &mut ArrayVec<Move, N>,
 ) -> bool
     requires sound { Sound p.now }
     requires king { IsOnlyKing p.now.board p.now.side king }
     requires shut { OnTrue shut (Shut p.now king from) }
     requires on_board { to < 64 }
-    requires comes { OfficerComes p.now from to }
+    requires known { Known p.now from to effect }
     requires before { ListsBelow p.now N (512 * from + 8 * to) into.old.items }
     ensures listed { OnTrue result (ListsBelow p.now N (512 * from + 8 * (to + 1)) into.new.items) }
     ensures many { OnFalse result (HasMoreMoves p.now N) }
@@ -249,7 +271,7 @@ fn add_officer<const N: usize>(
         to,
         promo: None,
     };
-    if !is_legal_allowed(p, king, shut, &m, Effect::Plain) {
+    if !is_legal_allowed(p, king, shut, &m, effect) {
         return true;
     }
     if into.is_full() {

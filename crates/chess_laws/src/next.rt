@@ -40,7 +40,7 @@ fn king_effect(p: &Setup, m: &Move) -> Effect
 }
 
 /// What kind of half-move a pawn's move is.
-fn pawn_effect(p: &Setup, m: &Move) -> Effect
+pub fn pawn_effect(p: &Setup, m: &Move) -> Effect
     ensures { result ≡ effect_as Pawn p.now m.now }
 {
     if goes_two(p.side, m) {

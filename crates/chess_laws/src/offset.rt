@@ -1,8 +1,9 @@
 //! Steps on the board, and where they lead from each square.
-ghost use Rattle.std.specs.Prelude.{◌≡◌, ◌<◌, IfSome, true};
+ghost use Rattle.std.specs.Prelude.{◌≡◌, ◌↔◌, ◌<◌, Any, IfSome, IsTrue, true};
 ghost use Rattle.chess_laws.specs.LegalTests.{line};
 ghost use Rattle.chess_laws.specs.Rays.{names_all, offset_at, origin_by, reversed, target_by};
-ghost use Rattle.chess_laws.specs.Geometry.{shift};
+ghost use Rattle.chess_laws.specs.Geometry.{Leaps, knight_steps, shift};
+ghost use Rattle.chess_laws.specs.Ways.{names_knights, names_lines, spread, way};
 
 use cell_core::Square;
 use std::marker::Model;
@@ -77,30 +78,53 @@ impl Offset {
 }
 
 /// The row of the queen's step that leads from one square towards the other, where one does.
-#[tactic(auto, unfolding(crate::specs::LegalTests::line))]
 pub fn line(from: Square, to: Square) -> Option<u8>
     ensures row { result ≡ line from to }
     ensures queen { IfSome result (λ row. row < 8) }
 {
-    let (from_file, from_rank) = (from.index() % 8, from.index() / 8);
-    let (to_file, to_rank) = (to.index() % 8, to.index() / 8);
-    if from_rank == to_rank {
-        if from_file < to_file {
-            Some(0)
-        } else if to_file < from_file {
-            Some(1)
-        } else {
-            None
-        }
-    } else if from_file == to_file {
-        Some(if from_rank < to_rank { 2 } else { 3 })
-    } else if to_rank + from_file == to_file + from_rank {
-        Some(if from_rank < to_rank { 4 } else { 7 })
-    } else if to_rank + to_file == from_file + from_rank {
-        Some(if from_rank < to_rank { 5 } else { 6 })
-    } else {
-        None
-    }
+    line_in(&WAYS, from, to)
+}
+
+/// Whether one of a knight's steps leads from one square to the other.
+pub fn is_knight_step(from: Square, to: Square) -> bool
+    ensures { IsTrue result ↔ Any (Leaps from to) knight_steps }
+{
+    is_knight_step_in(&WAYS, from, to)
+}
+
+// The row of the queen's step between two squares, by a table of the ways between squares.
+fn line_in(table: &[u8; 240], from: Square, to: Square) -> Option<u8>
+    requires says { names_lines table.now ≡ true }
+    ensures row { result ≡ line from to }
+    ensures queen { IfSome result (λ row. row < 8) }
+{
+    let way = way_in(table, from, to);
+    if way < 8 { Some(way) } else { None }
+}
+
+// Whether a knight's step leads from one square to the other, by a table of the ways between squares.
+fn is_knight_step_in(table: &[u8; 240], from: Square, to: Square) -> bool
+    requires says { names_knights table.now ≡ true }
+    ensures { IsTrue result ↔ Any (Leaps from to) knight_steps }
+{
+    way_in(table, from, to) == 8
+}
+
+// What a table says of the way from one square to the other.
+fn way_in(table: &[u8; 240], from: Square, to: Square) -> u8
+    ensures way { result ≡ way table.now from to }
+    ensures on_board { from < 64 × to < 64 }
+{
+    table[(119 + spread(to) - spread(from)) as usize]
+}
+
+// The number of the square on a board of sixteen files, on which a difference of numbers tells files and ranks apart.
+fn spread(s: Square) -> u8
+    ensures spread { result ≡ spread s }
+    ensures less { result < 120 }
+    ensures on_board { s < 64 }
+{
+    s.index() + 8 * (s.index() / 8)
 }
 
 // Along a file or a rank.
@@ -147,6 +171,19 @@ pub const UP_LEFT: Offset = Offset { row: 5 };
 pub const DOWN_RIGHT: Offset = Offset { row: 6 };
 
 pub const DOWN_LEFT: Offset = Offset { row: 7 };
+
+// By the difference of two squares on a board of sixteen files, 119 being none: the row of the queen's step that leads from
+// one towards the other, 8 where a knight's step does, and 9 where neither does.
+const WAYS: [u8; 240] = [
+    7, 9, 9, 9, 9, 9, 9, 3, 9, 9, 9, 9, 9, 9, 6, 9, 9, 7, 9, 9, 9, 9, 9, 3, 9, 9, 9, 9, 9, 6, 9, 9,
+    9, 9, 7, 9, 9, 9, 9, 3, 9, 9, 9, 9, 6, 9, 9, 9, 9, 9, 9, 7, 9, 9, 9, 3, 9, 9, 9, 6, 9, 9, 9, 9,
+    9, 9, 9, 9, 7, 9, 9, 3, 9, 9, 6, 9, 9, 9, 9, 9, 9, 9, 9, 9, 9, 7, 8, 3, 8, 6, 9, 9, 9, 9, 9, 9,
+    9, 9, 9, 9, 9, 8, 7, 3, 6, 8, 9, 9, 9, 9, 9, 9, 1, 1, 1, 1, 1, 1, 1, 9, 0, 0, 0, 0, 0, 0, 0, 9,
+    9, 9, 9, 9, 9, 8, 5, 2, 4, 8, 9, 9, 9, 9, 9, 9, 9, 9, 9, 9, 9, 5, 8, 2, 8, 4, 9, 9, 9, 9, 9, 9,
+    9, 9, 9, 9, 5, 9, 9, 2, 9, 9, 4, 9, 9, 9, 9, 9, 9, 9, 9, 5, 9, 9, 9, 2, 9, 9, 9, 4, 9, 9, 9, 9,
+    9, 9, 5, 9, 9, 9, 9, 2, 9, 9, 9, 9, 4, 9, 9, 9, 9, 5, 9, 9, 9, 9, 9, 2, 9, 9, 9, 9, 9, 4, 9, 9,
+    5, 9, 9, 9, 9, 9, 9, 2, 9, 9, 9, 9, 9, 9, 4, 9,
+];
 
 // Where each step leads from each square, 64 where that is off the board.
 const TARGETS: [[u8; 64]; 16] = [

@@ -1,15 +1,15 @@
-//! Where the geometry of a man may lead it, before the other rules are asked.
+//! Where the rules of a man lead it, apart from the safety of its king.
 ghost use Rattle.std.specs.Prelude.{◌≡◌, ℕ, ◌<◌, ◌≤◌, ◌⊎◌, Any, MatchOption, None, Some, true};
 ghost use Rattle.std.specs.Bool.{OnTrue};
 ghost use Rattle.std.specs.Int.{bit_at};
 ghost use Rattle.cell_core.specs.Board.{man_at};
 ghost use Rattle.cell_core.specs.Man.{man};
-ghost use Rattle.chess_laws.specs.Geometry.{Leaps, Runs, Walk, forward, pawn_captures};
+ghost use Rattle.chess_laws.specs.Geometry.{Leaps, Runs, forward, pawn_captures};
 ghost use Rattle.chess_laws.specs.LegalTests.{run};
-ghost use Rattle.chess_laws.specs.Targets.{CastlesTo, Comes, Has, MayTake, is_officer};
+ghost use Rattle.chess_laws.specs.Targets.{CastlesTo, Comes, DoublesTo, Has, MayTake};
 ghost use Rattle.chess_laws.specs.Step.{HasNoOwn};
 
-use super::cases::{forward, has_enemy, has_no_own};
+use super::cases::{forward, has_enemy, has_no_own, is_on_own_rank};
 use super::castling::{king_home, king_target};
 use super::offset::{
     BISHOP_STEPS, BLACK_CAPTURES, KING_STEPS, KNIGHT_STEPS, Offset, ROOK_STEPS, WHITE_CAPTURES,
@@ -87,9 +87,10 @@ fn first_bit(word: u64) -> Option<u8>
     }
 }
 
-/// Where a man of the side to move may come from this square: among others to every target of a legal move.
+/// Where a man of the side to move comes from this square, as far as its rules are told by the squares alone: among
+/// others to every target of a legal move.
 pub fn targets(p: &Setup, from: Square) -> SquareSet
-    ensures only { (k : Kind) (b : ℕ) → man_at p.now.board from ≡ Some (man p.now.side k) → is_officer k ≡ true → Has result b → Comes p.now k from b }
+    ensures only { (k : Kind) (b : ℕ) → man_at p.now.board from ≡ Some (man p.now.side k) → Has result b → Comes p.now k from b }
     ensures all { (k : Kind) (b : ℕ) → man_at p.now.board from ≡ Some (man p.now.side k) → Comes p.now k from b → Has result b }
 {
     match p.board.at(from) {
@@ -100,7 +101,7 @@ pub fn targets(p: &Setup, from: Square) -> SquareSet
 
 /// Where a man of this kind may come from this square.
 fn targets_of(p: &Setup, kind: Kind, from: Square) -> SquareSet
-    ensures only { (b : ℕ) → is_officer kind ≡ true → Has result b → Comes p.now kind from b }
+    ensures only { (b : ℕ) → Has result b → Comes p.now kind from b }
     ensures all { (b : ℕ) → Comes p.now kind from b → Has result b }
 {
     match kind {
@@ -117,6 +118,7 @@ fn targets_of(p: &Setup, kind: Kind, from: Square) -> SquareSet
 fn castling_targets(p: &Setup, from: Square, set: SquareSet) -> SquareSet
     ensures castles { (b : ℕ) → CastlesTo p.now from b → Has result b }
     ensures kept { (b : ℕ) → Has set b → Has result b }
+    ensures only { (b : ℕ) → Has result b → (Has set b ⊎ CastlesTo p.now from b) }
 {
     if from != king_home(p.side) {
         return set;
@@ -125,11 +127,12 @@ fn castling_targets(p: &Setup, from: Square, set: SquareSet) -> SquareSet
         .with(king_target(p.side, Wing::QueenSide))
 }
 
-/// The set, and where one and two steps forward lead a pawn from this square, over and to empty ones.
+/// The set, and where one step forward leads a pawn from this square and two from its own rank, over and to empty ones.
 fn way_targets(p: &Setup, from: Square, set: SquareSet) -> SquareSet
     ensures one { (b : ℕ) → Leaps from b (forward p.now.side) → man_at p.now.board b ≡ None → Has result b }
-    ensures two { (b : ℕ) → Walk p.now.board (forward p.now.side) 1 from b → man_at p.now.board b ≡ None → Has result b }
+    ensures two { (b : ℕ) → DoublesTo p.now from b → Has result b }
     ensures kept { (b : ℕ) → Has set b → Has result b }
+    ensures only { (b : ℕ) → Has result b → (Has set b ⊎ ((Leaps from b (forward p.now.side) × (man_at p.now.board b ≡ None)) ⊎ DoublesTo p.now from b)) }
 {
     let step = forward(p.side);
     let Some(next) = step.target(from) else {
@@ -138,9 +141,13 @@ fn way_targets(p: &Setup, from: Square, set: SquareSet) -> SquareSet
     if p.board.at(next).is_some() {
         return set;
     }
+    let set = set.with(next);
+    if !is_on_own_rank(p.side, from) {
+        return set;
+    }
     match step.target(next) {
-        Some(second) => with_empty(p, second, set.with(next)),
-        None => set.with(next),
+        Some(second) => with_empty(p, second, set),
+        None => set,
     }
 }
 
@@ -148,6 +155,7 @@ fn way_targets(p: &Setup, from: Square, set: SquareSet) -> SquareSet
 fn with_empty(p: &Setup, s: Square, set: SquareSet) -> SquareSet
     ensures added { man_at p.now.board s ≡ None → Has result s }
     ensures kept { (b : ℕ) → Has set b → Has result b }
+    ensures only { (b : ℕ) → Has result b → (Has set b ⊎ ((b ≡ s) × (man_at p.now.board s ≡ None))) }
 {
     if p.board.at(s).is_none() {
         set.with(s)
@@ -158,7 +166,8 @@ fn with_empty(p: &Setup, s: Square, set: SquareSet) -> SquareSet
 
 /// The squares diagonally in front of a pawn on which it may capture.
 fn capture_targets(p: &Setup, from: Square) -> SquareSet
-    ensures { (b : ℕ) → Any (Leaps from b) (pawn_captures p.now.side) → MayTake p.now b → Has result b }
+    ensures only { (b : ℕ) → Has result b → (Any (Leaps from b) (pawn_captures p.now.side) × MayTake p.now b) }
+    ensures all { (b : ℕ) → Any (Leaps from b) (pawn_captures p.now.side) → MayTake p.now b → Has result b }
 {
     match p.side {
         Colour::White => takes_by(p, &WHITE_CAPTURES, from),
@@ -168,7 +177,8 @@ fn capture_targets(p: &Setup, from: Square) -> SquareSet
 
 /// Where one of the steps leads to an enemy, or to the en passant square.
 fn takes_by(p: &Setup, steps: &[Offset], from: Square) -> SquareSet
-    ensures { (b : ℕ) → Any (Leaps from b) steps.now → MayTake p.now b → Has result b }
+    ensures only { (b : ℕ) → Has result b → (Any (Leaps from b) steps.now × MayTake p.now b) }
+    ensures all { (b : ℕ) → Any (Leaps from b) steps.now → MayTake p.now b → Has result b }
 {
     let mut set = SquareSet::empty();
     for step in steps {
@@ -180,9 +190,11 @@ fn takes_by(p: &Setup, steps: &[Offset], from: Square) -> SquareSet
 }
 
 /// The set, and this square where an enemy stands on it or it is the en passant square.
+#[tactic(auto, unfolding(crate::specs::Targets::MayTake))]
 fn with_taken(p: &Setup, s: Square, set: SquareSet) -> SquareSet
     ensures added { MayTake p.now s → Has result s }
     ensures kept { (b : ℕ) → Has set b → Has result b }
+    ensures only { (b : ℕ) → Has result b → (Has set b ⊎ ((b ≡ s) × MayTake p.now s)) }
 {
     if has_enemy(&p.board, p.side, s) || p.en_passant == Some(s) {
         set.with(s)
