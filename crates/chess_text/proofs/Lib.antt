@@ -9,5 +9,7 @@ pub mod SearchLaws
 pub mod PawnLaws
 pub mod WrittenSan
 pub mod RivalLaws
+pub mod FewLaws
 pub mod OneText
 pub mod TextLaws
+pub mod AnswerLaws

@@ -1,5 +1,5 @@
 -- What the writer of a move's text counts is what the definition says.
-use Rattle.std.proofs.Common.{◌≡◌, ◌↔◌, List, [], ◌∷◌, ◌++◌, codes, append_assoc, ℕ, ◌+◌, ◌<◌, ◌≤◌, ◌==◌, ◌||◌, inl, inr, Bool, true, false, IsTrue, refl, sym, ◌∙◌, subst, arith}
+use Rattle.std.proofs.Common.{◌≡◌, ◌↔◌, List, [], ◌∷◌, ◌++◌, codes, append_assoc, ℕ, ◌+◌, ◌<◌, ◌≤◌, ◌==◌, ◌||◌, inl, inr, Bool, true, false, IsTrue, refl, sym, ap, ◌∙◌, subst, arith}
 use Rattle.std.proofs.lemmas.Bool.{false≢true, cases_lt, or_cases, eqb-true, eq-eqb}
 use Rattle.cell_core.specs.declared.man.Kind.{Kind}
 use Rattle.cell_core.specs.declared.step.Move.{Move}
@@ -14,7 +14,7 @@ use Rattle.chess_laws.specs.Geometry.{file_of, rank_of}
 use Rattle.chess_laws.proofs.Boards.{on_board}
 use Rattle.chess_text.specs.San.{IsRival, HasRival, HasRivalOnFile, HasRivalOnRank, OriginText, HasMove, SignText, SanBy, San}
 use Rattle.chess_text.specs.declared.san_writing.Rivals.{Rivals}
-use Rattle.chess_text.specs.SanWriting.{SomeBelow, RivalsBelow, AreRivals, origin_by, FrontText, SignBy}
+use Rattle.chess_text.specs.SanWriting.{SomeBelow, RivalsBelow, AreRivals, origin_by, FrontText, SignBehind}
 
 -- ---- square by square
 
@@ -120,27 +120,17 @@ square-taken p k m n seen b file rank is e f r h = rw (f, r) (one-rival p k m n 
 
 -- ---- the sign
 
-pub checks : (p q : Setup) (m : Move) (check more : Bool) → Step p m q → IsTrue check ↔ IsInCheck q.board q.side → IsTrue more ↔ HasMove q
-    → check ≡ true → more ≡ true → SignText (after p m (effect_of p m)) (codes "+")
-checks p q m check more step c h e some =
-    subst (λ (q : Setup). SignText q (codes "+")) step.becomes (inr (inl (c.0 e, (h.0 some, refl))))
+pub checks : (q : Setup) (check more : Bool) → IsTrue check ↔ IsInCheck q.board q.side → IsTrue more ↔ HasMove q
+    → check ≡ true → more ≡ true → SignText q (codes "+")
+checks q check more c h e some = inr (inl (c.0 e, (h.0 some, refl)))
 
-pub mates : (p q : Setup) (m : Move) (check more : Bool) → Step p m q → IsTrue check ↔ IsInCheck q.board q.side → IsTrue more ↔ HasMove q
-    → check ≡ true → more ≡ false → SignText (after p m (effect_of p m)) (codes "#")
-mates p q m check more step c h e none =
-    subst (λ (q : Setup). SignText q (codes "#")) step.becomes (inr (inr (c.0 e, (never _ more h none, refl))))
-
-pub sign-by : (p : Setup) (m : Move) (e : Effect) (sign : List ℕ) → e ≡ effect_of p m → (e ≡ Null → ⊥)
-    → SignText (after p m (effect_of p m)) sign → SignBy e p m sign
-sign-by p m Plain sign is other h = subst (λ (e : Effect). SignText (after p m e) sign) (sym is) h
-sign-by p m Double sign is other h = subst (λ (e : Effect). SignText (after p m e) sign) (sym is) h
-sign-by p m Passing sign is other h = subst (λ (e : Effect). SignText (after p m e) sign) (sym is) h
-sign-by p m (Castle wing) sign is other h = subst (λ (e : Effect). SignText (after p m e) sign) (sym is) h
-sign-by p m Null sign is other h = absurd (other refl)
+pub mates : (q : Setup) (check more : Bool) → IsTrue check ↔ IsInCheck q.board q.side → IsTrue more ↔ HasMove q
+    → check ≡ true → more ≡ false → SignText q (codes "#")
+mates q check more c h e none = inr (inr (c.0 e, (never _ more h none, refl)))
 
 -- ---- the whole text
 
-by-effect : (p : Setup) (m : Move) (e : Effect) (text front sign : List ℕ) → FrontText e p m front → SignBy e p m sign
+by-effect : (p : Setup) (m : Move) (e : Effect) (text front sign : List ℕ) → FrontText e p m front → SignBehind e (after p m e) sign
     → text ≡ front ++ sign → SanBy e p m text
 by-effect p m Plain text front sign f s spelled = record { front = front; sign = sign; spelled = spelled; is_front = f; is_sign = s }
 by-effect p m Double text front sign f s spelled = record { front = front; sign = sign; spelled = spelled; is_front = f; is_sign = s }
@@ -153,7 +143,8 @@ pub spelled-out : (letter : ℕ) (origin capture square a b c d e : List ℕ) �
 spelled-out letter origin capture square a b c d e f g h i j =
     rw (j, i, h, g, f) (append_assoc (letter ∷ origin) capture square)
 
-pub san-by : (p : Setup) (m : Move) (e : Effect) (text front sign : List ℕ) → e ≡ effect_of p m → FrontText e p m front → SignBy e p m sign
-    → text ≡ front ++ sign → San p m text
-san-by p m e text front sign is f s spelled =
-    subst (λ (e : Effect). SanBy e p m text) is (by-effect p m e text front sign f s spelled)
+pub san-by : (p q : Setup) (m : Move) (e : Effect) (text front sign : List ℕ) → e ≡ effect_of p m → Step p m q → FrontText e p m front
+    → SignBehind e q sign → text ≡ front ++ sign → San p m text
+san-by p q m e text front sign is step f s spelled =
+    let leads : q ≡ after p m e = step.becomes ∙ ap (λ (x : Effect). after p m x) (sym is) in
+    subst (λ (x : Effect). SanBy x p m text) is (by-effect p m e text front sign f (subst (λ (r : Setup). SignBehind e r sign) leads s) spelled)

@@ -15,3 +15,5 @@ pub mod SanSearch
 pub mod San
 pub mod SanWriting
 pub mod SanText
+pub mod SanAnswer
+pub mod FenAnswer

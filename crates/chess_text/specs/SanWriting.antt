@@ -7,7 +7,6 @@ use Rattle.cell_core.specs.Board.{man_at}
 use Rattle.chess_laws.specs.declared.effect.Effect.{Effect}
 use Rattle.chess_laws.specs.declared.effect.Effect.TheVariants.{Plain, Double, Passing, Castle, Null}
 use Rattle.chess_laws.specs.Geometry.{file_of, rank_of}
-use Rattle.chess_laws.specs.Step.{after}
 use Rattle.chess_text.specs.SanShape.{castling_text, null_text}
 use Rattle.chess_text.specs.declared.san_writing.Rivals.{Rivals}
 use Rattle.chess_text.specs.Squares.{file_text, rank_text, square_text}
@@ -37,7 +36,7 @@ origin_by seen s =
     then (if seen.on_file then (if seen.on_rank then square_text s else rank_text (rank_of s)) else file_text (file_of s))
     else []
 
--- The text of a move before its sign, and its sign, by the kind of half-move.
+-- The text of a move before its sign, by the kind of half-move.
 abbrev pub FrontText : Effect → Setup → Move → List ℕ → Type 0
 FrontText Plain p m text = GoingText (man_at p.board m.from) p m text
 FrontText Double p m text = GoingText (man_at p.board m.from) p m text
@@ -45,9 +44,10 @@ FrontText Passing p m text = GoingText (man_at p.board m.from) p m text
 FrontText (Castle wing) p m text = text ≡ castling_text wing
 FrontText Null p m text = text ≡ null_text
 
-abbrev pub SignBy : Effect → Setup → Move → List ℕ → Type 0
-SignBy Plain p m text = SignText (after p m Plain) text
-SignBy Double p m text = SignText (after p m Double) text
-SignBy Passing p m text = SignText (after p m Passing) text
-SignBy (Castle wing) p m text = SignText (after p m (Castle wing)) text
-SignBy Null p m text = text ≡ []
+-- The sign by the kind of half-move and the position that it leads to.
+abbrev pub SignBehind : Effect → Setup → List ℕ → Type 0
+SignBehind Plain q text = SignText q text
+SignBehind Double q text = SignText q text
+SignBehind Passing q text = SignText q text
+SignBehind (Castle wing) q text = SignText q text
+SignBehind Null q text = text ≡ []

@@ -6,6 +6,7 @@ ghost use Rattle.chess_laws.specs.Position.{Sound, Breaks};
 ghost use Rattle.chess_text.specs.declared.fault.FenFault.{FenFault};
 ghost use Rattle.chess_text.specs.Fault.{fault_of};
 ghost use Rattle.chess_text.specs.Fen.{FenReads, FenFaultOf, kept};
+ghost use Rattle.chess_text.specs.FenAnswer.{fen_answer};
 ghost use Rattle.chess_text.specs.FieldReading.{counters_named, rights_from, setup_named, Answers};
 
 use super::fault::FenFault;
@@ -26,6 +27,7 @@ pub fn read_fen(text: &[u8]) -> Result<Position, FenFault>
     ensures only { (p : Setup) → FenReads text.now p → result ≡ Ok p }
     ensures fault { IfErr result (FenFaultOf text.now) }
     ensures first { (fault : FenFault) → FenFaultOf text.now fault → result ≡ Err fault }
+    ensures answers { result ≡ fen_answer text.now }
 {
     read(text)
 }

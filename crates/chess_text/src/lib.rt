@@ -20,7 +20,7 @@ pub use fen::read_fen;
 pub use placement::read_board;
 pub use san_laws::{moves_have_one_text, texts_have_one_shape};
 pub use san_reading::read_san;
-pub use san_writing::write_san;
+pub use san_writing::{play_san, write_san};
 pub use writing::write_fen;
 
 #[cfg(test)]

@@ -5,6 +5,7 @@ ghost use Rattle.chess_laws.specs.Position.{Sound};
 ghost use Rattle.chess_laws.specs.Step.{effect_of, Legal};
 ghost use Rattle.chess_text.specs.declared.fault.SanFault.{SanFault};
 ghost use Rattle.chess_text.specs.declared.shape.Shape.TheVariants.{Castle, Goes, Null};
+ghost use Rattle.chess_text.specs.SanAnswer.{san_answer};
 ghost use Rattle.chess_text.specs.SanReads.{SanReads, SanFaultOf, Fits, has_own_form};
 ghost use Rattle.chess_text.specs.SanSearch.{AnswersShape, StandsSo, FitsFrom};
 
@@ -26,21 +27,36 @@ pub fn read_san(p: &Position, text: &[u8]) -> Result<Move, SanFault>
     ensures only { (m : Move) → SanReads p.now text.now m → result ≡ Ok m }
     ensures fault { IfErr result (SanFaultOf p.now text.now) }
     ensures first { (fault : SanFault) → SanFaultOf p.now text.now fault → result ≡ Err fault }
+    ensures answers { result ≡ san_answer p.now text.now }
+{
+    read(p, p.setup(), text)
+}
+
+// The one legal move of the text's form. The setup is that of the position.
+fn read(p: &Position, setup: &Setup, text: &[u8]) -> Result<Move, SanFault>
+    requires same { setup.now ≡ p.now }
+    requires sound { Sound p.now }
+    ensures found { IfOk result (SanReads p.now text.now) }
+    ensures only { (m : Move) → SanReads p.now text.now m → result ≡ Ok m }
+    ensures fault { IfErr result (SanFaultOf p.now text.now) }
+    ensures first { (fault : SanFault) → SanFaultOf p.now text.now fault → result ≡ Err fault }
 {
     match shape_of(text) {
-        Some(shape) => move_of(p, &shape),
+        Some(shape) => move_of(p, setup, &shape),
         None => Err(SanFault::Shape),
     }
 }
 
 // The one legal move of the shape.
-fn move_of(p: &Position, shape: &Shape) -> Result<Move, SanFault>
+fn move_of(p: &Position, setup: &Setup, shape: &Shape) -> Result<Move, SanFault>
+    requires same { setup.now ≡ p.now }
+    requires sound { Sound p.now }
     ensures answers { AnswersShape p.now shape.now result }
 {
     match shape {
         Shape::Castle(wing) => castling_of(p, *wing),
         Shape::Null => null_of(p),
-        Shape::Goes(going) => going_of(p, going),
+        Shape::Goes(going) => search(p, setup, going),
     }
 }
 
@@ -79,14 +95,7 @@ fn null_of(p: &Position) -> Result<Move, SanFault>
     }
 }
 
-// The one man that goes so.
-fn going_of(p: &Position, g: &Going) -> Result<Move, SanFault>
-    ensures answers { AnswersShape p.now (Goes g.now) result }
-{
-    search(p, p.setup(), g)
-}
-
-// The one man that goes so: each square is tried on which such a man stands. The setup is that of the position.
+// The one man that goes so: each square is tried on which such a man stands.
 fn search(p: &Position, setup: &Setup, g: &Going) -> Result<Move, SanFault>
     requires same { setup.now ≡ p.now }
     requires sound { Sound p.now }

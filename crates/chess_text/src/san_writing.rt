@@ -1,23 +1,25 @@
 //! Moves written in Standard Algebraic Notation.
-ghost use Rattle.std.specs.Prelude.{◌≡◌, ◌↔◌, ◌<◌, ◌≤◌, ◌+◌, ◌++◌, ◌∷◌, ◌||◌, ◌==◌, length, IsTrue};
+ghost use Rattle.std.specs.Prelude.{◌≡◌, ◌↔◌, ℕ, ◌<◌, ◌≤◌, ◌+◌, ◌++◌, ◌∷◌, ◌||◌, ◌==◌, length, IsTrue, IfSome, Some};
+ghost use Rattle.std.specs.Bool.{OnTrue};
 ghost use Rattle.std.specs.Option.{option_to_list};
 ghost use Rattle.cell_core.specs.Board.{man_at};
 ghost use Rattle.cell_core.specs.Man.{man};
+ghost use Rattle.chess_laws.specs.Counts.{count_of};
 ghost use Rattle.chess_laws.specs.Geometry.{file_of, rank_of};
 ghost use Rattle.chess_laws.specs.Position.{Sound};
-ghost use Rattle.chess_laws.specs.Step.{effect_of, after, Legal};
+ghost use Rattle.chess_laws.specs.Step.{Legal, Step, stepped};
 ghost use Rattle.chess_text.specs.Letters.{capital_of};
 ghost use Rattle.chess_text.specs.Squares.{square_text};
 ghost use Rattle.chess_text.specs.SanShape.{castling_text, null_text};
 ghost use Rattle.chess_text.specs.SanReads.{SanReads};
-ghost use Rattle.chess_text.specs.San.{San, GoingText, IsRival, PieceText, SignText, capture_text, pawn_capture_text, pawn_text, promotion_text};
+ghost use Rattle.chess_text.specs.San.{San, GoingText, HasMove, IsRival, PieceText, SignText, capture_text, pawn_capture_text, pawn_text, promotion_text};
 ghost use Rattle.chess_text.specs.SanText.{san_text};
-ghost use Rattle.chess_text.specs.SanWriting.{AreRivals, FrontText, RivalsBelow, SignBy, origin_by};
+ghost use Rattle.chess_text.specs.SanWriting.{AreRivals, FrontText, RivalsBelow, SignBehind, origin_by};
 
 use super::letters::capital_of;
 use super::squares::{file_letter, rank_digit};
 use arrayvec::ArrayVec;
-use cell_core::{Kind, Man, Move, Square};
+use cell_core::{Colour, Kind, Man, Move, Square};
 use chess_laws::{Effect, Position, Setup, Wing};
 
 // Which other men of its kind can legally go to a move's target: any, one on the file of its origin, one on the rank.
@@ -27,6 +29,9 @@ pub struct Rivals {
     pub on_file: bool,
     pub on_rank: bool,
 }
+
+// From a square to those beside it, counted from a1 over h8 back to a1.
+const KING_STEPS: [u8; 8] = [1, 7, 8, 9, 55, 56, 57, 63];
 
 /// Writes a legal move in Standard Algebraic Notation (PGN standard, 8.2.3): the letter of the man, as much of its origin as
 /// tells it from all others of its kind that can legally go there, `x` for a capture, the target, `=` and the letter of a
@@ -38,21 +43,24 @@ pub fn write_san(p: &Position, m: Move) -> ArrayVec<u8, 8>
     ensures exact { result.items ≡ san_text p.now m }
     ensures read_again { SanReads p.now result.items m }
 {
-    written(p, p.setup(), &m)
+    let mut next = *p;
+    play_san(&mut next, &m)
 }
 
-// The text of a legal move in the position of this setup.
-fn written(p: &Position, setup: &Setup, m: &Move) -> ArrayVec<u8, 8>
-    requires legal { Legal p.now m.now }
-    requires same { setup.now ≡ p.now }
-    requires sound { Sound p.now }
-    ensures text { San p.now m.now result.items }
-    ensures exact { result.items ≡ san_text p.now m.now }
-    ensures read_again { SanReads p.now result.items m.now }
+/// Plays a legal move, and writes it in Standard Algebraic Notation as `write_san` does. The sign of check or mate is seen in
+/// the position that the move leads to, so whoever goes on from there need not play the move once more.
+pub fn play_san(p: &mut Position, m: &Move) -> ArrayVec<u8, 8>
+    requires legal { Legal p.old m.now }
+    ensures text { San p.old m.now result.items }
+    ensures exact { result.items ≡ san_text p.old m.now }
+    ensures read_again { SanReads p.old result.items m.now }
+    ensures step { Step p.old m.now p.new }
+    ensures becomes { p.new ≡ stepped p.old m.now }
 {
     let effect = p.effect(m);
-    let mut text = front_of(p, setup, m, effect);
-    push_sign(&mut text, sign_of(p, m, effect));
+    let mut text = front_of(p, p.setup(), m, effect);
+    p.play(*m);
+    push_sign(&mut text, sign_behind(p, effect));
     text
 }
 
@@ -101,32 +109,66 @@ fn append(text: &mut ArrayVec<u8, 8>, bytes: &[u8])
     let _ = text.try_extend_from_slice(bytes);
 }
 
-// The sign of check or mate after a legal move, if there is one. The null move has none.
-fn sign_of(p: &Position, m: &Move, effect: Effect) -> Option<u8>
-    requires legal { Legal p.now m.now }
-    requires effect { effect ≡ effect_of p.now m.now }
-    ensures sign { SignBy effect p.now m.now (option_to_list result) }
+// The sign of check or mate in the position that a half-move of this kind leads to, if there is one. The null move has none.
+fn sign_behind(next: &Position, effect: Effect) -> Option<u8>
+    ensures sign { SignBehind effect next.now (option_to_list result) }
 {
     match effect {
         Effect::Null => None,
-        _ => sign_after(p, m),
+        Effect::Plain | Effect::Double | Effect::Passing | Effect::Castle(_) => sign_of(next),
     }
 }
 
-// The sign of check or mate in the position that a legal move leads to, if there is one.
-fn sign_after(p: &Position, m: &Move) -> Option<u8>
-    requires legal { Legal p.now m.now }
-    ensures sign { SignText (after p.now m.now (effect_of p.now m.now)) (option_to_list result) }
+// The sign of check or mate in a position, if there is one.
+fn sign_of(next: &Position) -> Option<u8>
+    ensures sign { SignText next.now (option_to_list result) }
 {
-    let mut next = *p;
-    next.play(*m);
     if !next.in_check() {
         return None;
     }
-    if next.has_move() {
+    if has_answer(next) {
         return Some(b'+');
     }
     Some(b'#')
+}
+
+// Whether there is a legal move besides the null move. The king's own moves are tried first, since they answer most checks.
+fn has_answer(p: &Position) -> bool
+    ensures some { IsTrue result ↔ HasMove p.now }
+{
+    if king_has_move(p, &KING_STEPS) {
+        return true;
+    }
+    p.has_move()
+}
+
+// Whether the king can go on by one of these numbers of squares.
+fn king_has_move(p: &Position, steps: &[u8]) -> bool
+    ensures some { OnTrue result (HasMove p.now) }
+{
+    let king = p.king(p.side());
+    for step in steps {
+        if can_go_on(p, king, *step) {
+            return true;
+        }
+    }
+    false
+}
+
+// Whether the man on this square can legally go so many squares on, counted from a1 over h8 back to a1.
+fn can_go_on(p: &Position, from: Square, step: u8) -> bool
+    ensures some { OnTrue result (HasMove p.now) }
+{
+    let to = Square::at((from.index() + step % 64) % 64);
+    if to == from {
+        return false;
+    }
+    let m = Move {
+        from,
+        to,
+        promo: None,
+    };
+    p.is_legal(m)
 }
 
 // Adds the sign, if there is one.
@@ -264,17 +306,154 @@ fn push_origin(text: &mut ArrayVec<u8, 8>, from: Square, rivals: Rivals)
     push_square(text, from);
 }
 
-// The other men of this kind that can legally go to the target.
+const NO_RIVALS: Rivals = Rivals {
+    any: false,
+    on_file: false,
+    on_rank: false,
+};
+
+// The other men of this kind that can legally go to the target. Most often there is none or one that has to be looked for.
 fn rivals_of(p: &Position, setup: &Setup, kind: Kind, m: &Move) -> Rivals
     requires same { setup.now ≡ p.now }
     requires sound { Sound p.now }
     ensures found { AreRivals p.now kind m.now result }
 {
-    let mut seen = Rivals {
-        any: false,
-        on_file: false,
-        on_rank: false,
+    if is_one_of(p, setup, kind, m.from, 1) {
+        return NO_RIVALS;
+    }
+    if is_one_of(p, setup, kind, m.from, 2) {
+        return other_rival(p, setup, kind, m);
+    }
+    search_rivals(p, setup, kind, m)
+}
+
+// Whether the side to move has so many men of this kind, of which one stands on this square.
+fn is_one_of(p: &Position, setup: &Setup, kind: Kind, from: Square, number: u8) -> bool
+    requires same { setup.now ≡ p.now }
+    requires sound { Sound p.now }
+    ensures one { IsTrue result ↔ ((count_of p.now.board p.now.side kind ≡ number) × (man_at p.now.board from ≡ Some (man p.now.side kind))) }
+{
+    has_count(p, setup.side, kind, number) && stands(setup, kind, from)
+}
+
+// Whether a man of this kind of the side to move stands on the square.
+fn stands(p: &Setup, kind: Kind, s: Square) -> bool
+    ensures stands { IsTrue result ↔ (man_at p.now.board s ≡ Some (man p.now.side kind)) }
+{
+    let man = Man {
+        colour: p.side,
+        kind,
     };
+    p.board.at(s) == Some(man)
+}
+
+// Whether the side has so many men of this kind.
+fn has_count(p: &Position, side: Colour, kind: Kind, number: u8) -> bool
+    requires sound { Sound p.now }
+    ensures count { IsTrue result ↔ (count_of p.now.board side kind ≡ number) }
+{
+    count_of(p, side, kind) == number
+}
+
+// How many men of this kind the side has. It has one king.
+fn count_of(p: &Position, side: Colour, kind: Kind) -> u8
+    requires sound { Sound p.now }
+    ensures count { result ≡ count_of p.now.board side kind }
+{
+    let counts = p.counts();
+    match side {
+        Colour::White => match kind {
+            Kind::King => 1,
+            Kind::Queen => counts[0],
+            Kind::Rook => counts[1],
+            Kind::Bishop => counts[2],
+            Kind::Knight => counts[3],
+            Kind::Pawn => counts[4],
+        },
+        Colour::Black => match kind {
+            Kind::King => 1,
+            Kind::Queen => counts[5],
+            Kind::Rook => counts[6],
+            Kind::Bishop => counts[7],
+            Kind::Knight => counts[8],
+            Kind::Pawn => counts[9],
+        },
+    }
+}
+
+// The other of two men of this kind, if it can legally go to the target.
+fn other_rival(p: &Position, setup: &Setup, kind: Kind, m: &Move) -> Rivals
+    requires same { setup.now ≡ p.now }
+    requires sound { Sound p.now }
+    requires two { count_of p.now.board p.now.side kind ≡ 2 }
+    requires stands { man_at p.now.board m.now.from ≡ Some (man p.now.side kind) }
+    ensures found { AreRivals p.now kind m.now result }
+{
+    match other_place(setup, kind, m.from) {
+        Some(s) => rival_on(p, setup, kind, m, s),
+        None => search_rivals(p, setup, kind, m),
+    }
+}
+
+// The man on this square, which is the only other one that may go to the target, if it legally can.
+fn rival_on(p: &Position, setup: &Setup, kind: Kind, m: &Move, s: Square) -> Rivals
+    requires same { setup.now ≡ p.now }
+    requires only { (t : ℕ) → IsRival p.now kind m.now t → t ≡ s }
+    ensures found { AreRivals p.now kind m.now result }
+{
+    if !is_rival(p, setup, kind, m, s) {
+        return NO_RIVALS;
+    }
+    Rivals {
+        any: true,
+        on_file: is_same_file(s, m.from),
+        on_rank: is_same_rank(s, m.from),
+    }
+}
+
+// Another square than this one on which a man of this kind of the side to move stands: the first, from the side's own
+// rank on, since most men stand near it.
+fn other_place(p: &Setup, kind: Kind, from: Square) -> Option<Square>
+    ensures stands { IfSome result (λ s. man_at p.now.board s ≡ Some (man p.now.side kind)) }
+    ensures apart { IfSome result (λ s. s ≡ from → ⊥) }
+{
+    for number in 0..64u8 {
+        let s = from_own_side(p.side, number);
+        if is_other(p, kind, from, s) {
+            return Some(s);
+        }
+    }
+    None
+}
+
+// The square with this number, counted from the side's own rank.
+fn from_own_side(side: Colour, number: u8) -> Square
+    requires { number < 64 }
+{
+    match side {
+        Colour::White => Square::at(number),
+        Colour::Black => Square::at(63 - number),
+    }
+}
+
+// Whether a man of this kind of the side to move stands on the square, which is another than `from`.
+fn is_other(p: &Setup, kind: Kind, from: Square, s: Square) -> bool
+    ensures stands { OnTrue result (man_at p.now.board s ≡ Some (man p.now.side kind)) }
+    ensures apart { OnTrue result (s ≡ from → ⊥) }
+{
+    if s == from {
+        return false;
+    }
+    stands(p, kind, s)
+}
+
+// The other men of this kind that can legally go to the target: each square is tried.
+fn search_rivals(p: &Position, setup: &Setup, kind: Kind, m: &Move) -> Rivals
+    requires same { setup.now ≡ p.now }
+    requires sound { Sound p.now }
+    ensures found { AreRivals p.now kind m.now result }
+{
+    let mut seen = NO_RIVALS;
     for s in 0..64u8 {
         seen = with_square(seen, p, setup, kind, m, Square::at(s));
     }
@@ -323,11 +502,7 @@ fn is_rival(p: &Position, setup: &Setup, kind: Kind, m: &Move, s: Square) -> boo
     requires same { setup.now ≡ p.now }
     ensures rival { IsTrue result ↔ IsRival p.now kind m.now s }
 {
-    let man = Man {
-        colour: setup.side,
-        kind,
-    };
-    if setup.board.at(s) != Some(man) {
+    if !stands(setup, kind, s) {
         return false;
     }
     if s == m.from {

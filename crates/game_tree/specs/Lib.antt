@@ -4,6 +4,7 @@ pub mod Outcome
 pub mod Eco
 pub mod TagName
 pub mod Head
+pub mod Marks
 pub mod TagList
 pub mod Settle
 pub mod TagEdit

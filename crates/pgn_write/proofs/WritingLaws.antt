@@ -9,8 +9,7 @@ use Rattle.cell_core.specs.declared.man.Colour.TheVariants.{White, Black}
 use Rattle.cell_core.specs.declared.step.Move.{Move}
 use Rattle.cell_core.specs.Man.{other}
 use Rattle.chess_laws.specs.declared.setup.Setup.{Setup}
-use Rattle.chess_laws.specs.Step.{Step, stepped}
-use Rattle.chess_laws.proofs.Stepping.{Step-stepped}
+use Rattle.chess_laws.specs.Step.{stepped}
 use Rattle.chess_text.specs.SanText.{san_text}
 use Rattle.game_tree.specs.Movetext.{Movetext}
 use Rattle.game_tree.specs.Legal.{IsLegalLine, AreLegalBranches}
@@ -207,9 +206,6 @@ pub legal-more : (p q : Setup) (line : List Played) (i : ℕ) (node : Played) �
 legal-more p q line i node left played legal =
     let all : IsLegalLine p (line_of (node ∷ drop (i + 1) line)) = subst (λ (ps : List Played). IsLegalLine p (line_of ps)) left legal in
     subst (λ (r : Setup). IsLegalLine r (line_of (drop (i + 1) line))) (sym played) all.1.1.1
-
-pub played : (p q : Setup) (m : Move) → Step p m q → q ≡ stepped p m
-played p q m step = Step-stepped p m q step
 
 -- One more variation was written.
 

@@ -11,6 +11,7 @@ use Rattle.game_tree.specs.declared.head.Tag.{Tag}
 use Rattle.game_tree.specs.Date.{date_text, is_unknown}
 use Rattle.game_tree.specs.Eco.{eco_text}
 use Rattle.game_tree.specs.Game.{GameTree, has_own_start}
+use Rattle.game_tree.specs.Marks.{mark_letters}
 use Rattle.game_tree.specs.Outcome.{outcome_text}
 use Rattle.game_tree.specs.TagName.{rating_tag}
 
@@ -56,10 +57,6 @@ eco_pairs eco = if eco == 0 then [] else pair (codes "ECO") (eco_text eco) ∷ [
 -- The event date, where there is one (PGN standard, 9.2.1).
 abbrev pub event_date_pairs : Date → List Tag
 event_date_pairs date = if is_unknown date then [] else pair (codes "EventDate") (date_text date) ∷ []
-
--- The letters of the marks from the lowest bit on: the twelve user marks and the six custom marks (after Scid).
-abbrev pub mark_letters : List ℕ
-mark_letters = codes "WBMENPTKQ!?U123456"
 
 -- The letters whose bits are set, the first letter's bit being the lowest (this project's own).
 abbrev pub letters_set : List ℕ → ℕ → List ℕ

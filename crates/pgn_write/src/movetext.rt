@@ -1,6 +1,6 @@
 //! The tokens of a game's lines, with the positions played along.
 ghost use Rattle.std.specs.Prelude.{◌≡◌, ◌<◌, ◌+◌, ◌^◌, OnOk, true};
-ghost use Rattle.chess_laws.specs.Step.{Legal};
+ghost use Rattle.chess_laws.specs.Step.{Legal, stepped};
 ghost use Rattle.game_tree.specs.Tree.{line_of, branches_of};
 ghost use Rattle.game_tree.specs.Legal.{IsLegalLine, AreLegalBranches};
 ghost use Rattle.game_tree.specs.Written.{comment_before, movetext_of};
@@ -10,7 +10,7 @@ ghost use Rattle.pgn_write.specs.Writing.{put_all, size, IsLow, turn, comment_to
 use crate::writer::Writer;
 use cell_core::{Colour, Move, Text};
 use chess_laws::Position;
-use chess_text::write_san;
+use chess_text::play_san;
 use game_tree::{Branch, Node};
 use std::alloc::AllocError;
 
@@ -33,32 +33,34 @@ pub(crate) fn put_line(
     let mut number = first;
     let mut resumed = true;
     for node in line {
-        put_node(writer, &position, number, resumed, node)?;
+        let mover = position.side();
+        put_node(writer, &mut position, number, resumed, node)?;
         let bytes = writer.size();
         prove!(number <= bytes);
         resumed = is_resumed(node);
-        number = number_behind(position.side(), number);
-        position.play(node.mv);
+        number = number_behind(mover, number);
     }
     Ok(())
 }
 
-// Adds a move of a line, by the position before it, with its NAGs, its comment and its variations.
+// Adds a move of a line, by the position before it, with its NAGs, its comment and its variations, and plays it.
 #[cycle(lines)]
 fn put_node(
     writer: &mut Writer,
-    position: &Position,
+    position: &mut Position,
     number: u64,
     resumed: bool,
     node: &Node,
 ) -> Result<(), AllocError>
-    requires legal { Legal position.now node.now.mv }
-    requires variations { AreLegalBranches position.now node.now.variations }
-    requires low { IsLow position.now.side number (size writer.old) }
-    ensures tokens { OnOk result (writer.new ≡ put_all (node_tokens (turn position.now number) resumed node.now) writer.old) }
+    requires legal { Legal position.old node.now.mv }
+    requires variations { AreLegalBranches position.old node.now.variations }
+    requires low { IsLow position.old.side number (size writer.old) }
+    ensures tokens { OnOk result (writer.new ≡ put_all (node_tokens (turn position.old number) resumed node.now) writer.old) }
+    ensures played { OnOk result (position.new ≡ stepped position.old node.now.mv) }
 {
+    let start = *position;
     put_own(writer, position, number, resumed, node)?;
-    put_branches(writer, position, number, node.variations.as_slice())?;
+    put_branches(writer, &start, number, node.variations.as_slice())?;
     Ok(())
 }
 
@@ -82,38 +84,42 @@ fn put_branches(
     Ok(())
 }
 
-// Adds a move of a line, by the position before it, with its NAGs and its comment.
+// Adds a move of a line, by the position before it, with its NAGs and its comment, and plays it.
 fn put_own(
     writer: &mut Writer,
-    position: &Position,
+    position: &mut Position,
     number: u64,
     resumed: bool,
     node: &Node,
 ) -> Result<(), AllocError>
-    requires legal { Legal position.now node.now.mv }
-    requires low { IsLow position.now.side number (size writer.old) }
-    ensures tokens { OnOk result (writer.new ≡ put_all (own_tokens (turn position.now number) resumed node.now) writer.old) }
-    ensures low { OnOk result (IsLow position.now.side number (size writer.new)) }
+    requires legal { Legal position.old node.now.mv }
+    requires low { IsLow position.old.side number (size writer.old) }
+    ensures tokens { OnOk result (writer.new ≡ put_all (own_tokens (turn position.old number) resumed node.now) writer.old) }
+    ensures low { OnOk result (IsLow position.old.side number (size writer.new)) }
+    ensures played { OnOk result (position.new ≡ stepped position.old node.now.mv) }
 {
-    put_move(writer, position, number, resumed, node.mv)?;
+    put_move(writer, position, number, resumed, &node.mv)?;
     put_nags(writer, node.nags.as_slice())?;
     put_comment(writer, &node.comment)?;
     Ok(())
 }
 
-// Adds a move, with its number where that is due.
+// Adds a move, with its number where that is due, and plays it.
 fn put_move(
     writer: &mut Writer,
-    position: &Position,
+    position: &mut Position,
     number: u64,
     resumed: bool,
-    mv: Move,
+    mv: &Move,
 ) -> Result<(), AllocError>
-    requires legal { Legal position.now mv }
-    ensures tokens { OnOk result (writer.new ≡ put_all (move_tokens (turn position.now number) resumed mv) writer.old) }
+    requires legal { Legal position.old mv.now }
+    ensures tokens { OnOk result (writer.new ≡ put_all (move_tokens (turn position.old number) resumed mv.now) writer.old) }
+    ensures played { OnOk result (position.new ≡ stepped position.old mv.now) }
 {
     put_number(writer, position.side(), number, resumed)?;
-    writer.mv(write_san(position, mv).as_slice())
+    let text = play_san(position, mv);
+    writer.mv(text.as_slice())?;
+    Ok(())
 }
 
 // Adds the number of a move, where it is due.

@@ -7,12 +7,9 @@ ghost use Rattle.pgn_write.specs.TagPairs.{escaped, escaped_byte, pair, tag_text
 use arrayvec::ArrayVec;
 use cell_core::Colour;
 use chess_text::write_fen;
-use game_tree::{Date, Game, HeadRef, Rating, Tag, eco_text, rating_tag};
+use game_tree::{Date, Game, HeadRef, Rating, Tag, eco_text, mark_letters, rating_tag};
 use itoa::Buffer;
 use std::alloc::{AllocError, Global};
-
-// The letters of the marks from the lowest bit on.
-const MARK_LETTERS: &[u8; 18] = b"WBMENPTKQ!?U123456";
 
 /// Adds all tags of a game: the roster, what the head has besides, the start, and the other tags.
 pub(crate) fn put_tags(
@@ -115,7 +112,7 @@ fn flags_text(deleted: bool, marks: u32) -> ArrayVec<u8, 19>
 {
     let mut letters = ArrayVec::new();
     push_where(&mut letters, deleted, b'D');
-    push_set(&mut letters, MARK_LETTERS, marks);
+    push_set(&mut letters, mark_letters(), marks);
     letters
 }
 

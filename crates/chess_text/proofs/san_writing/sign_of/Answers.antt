@@ -1,7 +1,10 @@
-use Rattle.std.specs.Option.{option_to_list}
-use Rattle.chess_text.proofs.RivalLaws.{sign-by}
+use Rattle.chess_text.proofs.RivalLaws.{checks, mates}
 use Rattle.chess_text.proofs.san_writing.sign_of.Goals as goal
 
-pub returns-in_default : goal.returns-in_default
-returns-in_default c =
-    record { sign = sign-by c.args.p.now c.args.m.now c.args.effect (option_to_list c.sign_after.result) c.requires.effect c.in_default.not-Null c.sign_after.ensures.sign }
+pub returns-then-has_answer : goal.returns-then-has_answer
+returns-then-has_answer c =
+    record { sign = checks c.args.next.now c.in_check.result c.has_answer.result c.in_check.ensures.check c.has_answer.ensures.some c.if-not-in_check.false c.if-has_answer.true }
+
+pub returns : goal.returns
+returns c =
+    record { sign = mates c.args.next.now c.in_check.result c.has_answer.result c.in_check.ensures.check c.has_answer.ensures.some c.if-not-in_check.false c.if-has_answer.false }

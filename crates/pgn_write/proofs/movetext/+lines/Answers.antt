@@ -1,4 +1,4 @@
-use Rattle.std.proofs.Common.{◌≡◌, ℕ, ◌+◌, Bool, List, true, drop, ap, subst, ◌∙◌, arith}
+use Rattle.std.proofs.Common.{◌≡◌, ℕ, ◌+◌, Bool, List, true, drop, ap, ◌∙◌, arith}
 use Rattle.cell_core.specs.declared.man.Colour.{Colour}
 use Rattle.chess_laws.specs.declared.setup.Setup.{Setup}
 use Rattle.chess_laws.specs.Step.{stepped}
@@ -6,13 +6,13 @@ use Rattle.game_tree.specs.Tree.{Branches, Played, Variation, line_of, branches_
 use Rattle.game_tree.specs.Written.{comment_before, movetext_of}
 use Rattle.pgn_write.specs.Tokens.{Turn, tokens_from, number_behind}
 use Rattle.pgn_write.specs.Writing.{Writing, put_all, size, turn, branch_tokens, node_tokens}
-use Rattle.pgn_write.proofs.WritingLaws.{left_more, low-put_all, low-bound, low-next, line-more, legal-more, node-put, one_branch, branch-put, branches-more, branches_legal-more, played}
+use Rattle.pgn_write.proofs.WritingLaws.{left_more, low-put_all, low-bound, low-next, line-more, legal-more, node-put, one_branch, branch-put, branches-more, branches_legal-more}
 use Rattle.pgn_write.proofs.movetext.+lines.Goals as goal
 
 pub put_line-loop-node-preserved : goal.put_line-loop-node-preserved
 put_line-loop-node-preserved t c =
     let p : Setup = c.loop-node.position in
-    let q : Setup = c.play.new.self in
+    let q : Setup = c.put_node.new.position in
     let n : ℕ = c.loop-node.number in
     let n' : ℕ = c.number_behind-number.result in
     let node : Played = c.node-item.result in
@@ -20,9 +20,8 @@ put_line-loop-node-preserved t c =
     let next : Writing = c.put_node.new.writer in
     let rest : List Played = drop (c.loop-node.node-index + 1) c.args.line.now in
     let left = left_more c.args.line.now c.loop-node.node-index node c.loop-node-test.true c.node-item.is in
-    let stepping : q ≡ stepped p node.mv =
-    subst (λ (x : Played). q ≡ stepped p x.mv) c.node.view_is (played p q c.node.inside.mv c.play.ensures.step) in
-    let counted : n' ≡ number_behind p.side n = c.number_behind-number.ensures ∙ ap (λ (side : Colour). number_behind side n) c.side.ensures.side in
+    let stepping : q ≡ stepped p node.mv = c.in_ok-put_node.ensures.played in
+    let counted : n' ≡ number_behind p.side n = c.number_behind-number.ensures ∙ ap (λ (side : Colour). number_behind side n) c.side-mover.ensures.side in
     record {
       legal = legal-more p q c.args.line.now c.loop-node.node-index node left stepping c.loop-node.invariant.legal;
       low = low-next p q n n' c.loop-node.resumed node now next stepping counted c.in_ok-put_node.ensures.tokens c.loop-node.invariant.low;
@@ -70,4 +69,5 @@ put_node-returns t c =
       tokens =
           node-put here c.args.resumed c.args.node.now c.args.writer.now c.put_own.new.writer c.put_branches.new.writer c.in_ok-put_own.ensures.tokens
           (c.in_ok-put_branches.ensures.tokens ∙ ap (λ (b : Branches). put_all (branch_tokens here b) c.put_own.new.writer) variations);
+      played = c.in_ok-put_own.ensures.played;
     }

@@ -1,4 +1,5 @@
 use Rattle.std.proofs.Common.{ℕ, List, ap, ◌∙◌}
+use Rattle.chess_laws.specs.Step.{stepped}
 use Rattle.game_tree.specs.Tree.{Played}
 use Rattle.pgn_write.specs.Tokens.{Turn}
 use Rattle.pgn_write.specs.Writing.{turn, put_all, nag_tokens, comment_tokens, move_tokens, own_tokens}
@@ -18,4 +19,5 @@ returns c =
     record {
       tokens = wrote;
       low = low-put_all c.args.position.now.side c.args.number (own_tokens here c.args.resumed node) c.args.writer.now c.put_comment.new.writer wrote c.requires.low;
+      played = c.in_ok-put_move.ensures.played ∙ ap (λ (x : Played). stepped c.args.position.now x.mv) c.node.view_is;
     }
