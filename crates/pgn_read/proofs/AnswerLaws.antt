@@ -1,7 +1,7 @@
 -- The computed answers to the texts of moves and positions are the right ones.
-use Rattle.std.proofs.Common.{◌≡◌, ◌⊎◌, inl, inr, ◌≤◌, ◌<◌, ◌+◌, ◌==◌, ◌&&◌, ◌||◌, nat_le, ℕ, zero, suc, Bool, true, false, not, cond, IsTrue, List, [], ◌∷◌, map, filter, Option, Some, None, Result, Ok, Err, IfOk, IfErr, IfSome, MatchResult, refl, sym, ap, ◌∙◌, subst, arith, length, count_by}
+use Rattle.std.proofs.Common.{◌≡◌, ◌⊎◌, inl, inr, ◌≤◌, ◌<◌, ◌+◌, ◌==◌, ◌&&◌, ◌||◌, nat_le, ℕ, zero, suc, Bool, true, false, not, cond, List, [], ◌∷◌, map, filter, Option, Some, None, Result, Ok, Err, IfOk, IfErr, IfSome, MatchResult, refl, sym, ap, ◌∙◌, subst, arith, length, count_by}
 use Rattle.std.specs.Bool.{Decides}
-use Rattle.std.proofs.lemmas.Bool.{cases_Bool, eqb-true, eq-eqb, and_parts, and_from, not-true, true≢false, leb-true, le-leb, cases_lt}
+use Rattle.std.proofs.lemmas.Bool.{cases_Bool, and_parts, and_from, not-true, true≢false, leb-true, le-leb, cases_lt}
 use Rattle.std.proofs.lemmas.List.{get_or_past}
 use Rattle.std.proofs.lemmas.Bool.Decides.{Decides-and, Decides-eqb, Decides-below_or, Decides-or, not_from_Decides}
 use Rattle.cell_core.specs.declared.man.Colour.{Colour}
@@ -19,17 +19,14 @@ use Rattle.chess_laws.specs.declared.effect.Effect.{Effect}
 use Rattle.chess_laws.specs.declared.effect.Effect.TheVariants as effect
 use Rattle.chess_laws.specs.declared.fault.PlaceFault.{PlaceFault}
 use Rattle.chess_laws.specs.declared.fault.PlaceFault.TheVariants as place
-use Rattle.chess_laws.specs.Castling.{king_target}
 use Rattle.chess_laws.specs.Geometry.{file_of, rank_of}
-use Rattle.chess_laws.specs.LegalNow.{legal_now, some_below, in_check_now}
-use Rattle.chess_laws.specs.Attacks.{IsInCheck}
+use Rattle.chess_laws.specs.LegalNow.{some_below, in_check_now}
 use Rattle.chess_laws.specs.Position.{Sound, Breaks, HasKings, HasPawnsInside, HasFewMen, HasFitEnPassant, king_square, en_passant_rank}
-use Rattle.chess_laws.specs.Step.{effect_of, Legal}
+use Rattle.chess_laws.specs.Step.{effect_of}
 use Rattle.chess_laws.proofs.Deciding.{legal-Decides, in_check-Decides}
 use Rattle.chess_laws.proofs.Kings.{king-only, is_man-Some, is_man-true}
 use Rattle.chess_text.specs.declared.fault.FenFault.{FenFault}
 use Rattle.chess_text.specs.declared.fault.SanFault.{SanFault}
-use Rattle.chess_text.specs.declared.fault.SanFault.TheVariants as fault
 use Rattle.chess_text.specs.declared.shape.Going.{Going}
 use Rattle.chess_text.specs.declared.shape.Shape.{Shape}
 use Rattle.chess_text.specs.declared.shape.Shape.TheVariants.{Castle, Null, Goes}
@@ -41,7 +38,7 @@ use Rattle.chess_text.specs.SanReads.{has_own_form, Fits, SanReads, SanFaultOf}
 use Rattle.chess_text.specs.SanSearch.{AreTwo, AnswersShape, FitsFrom, FoundBelow}
 use Rattle.chess_text.proofs.FenLaws.{fen_text_only, fen_fault_only}
 use Rattle.chess_text.proofs.SearchLaws.{same-move, found-none, found-some, found-two, found-all, castle-one, null-one, answers-text, shapeless}
-use Rattle.pgn_read.specs.SanAnswer.{goes, castling, is_castling, is_null, is_as_said, below, from_square, candidates, is_of_shape, fits_now, only_of, shape_answer, san_answer}
+use Rattle.pgn_read.specs.SanAnswer.{goes, castling, is_castling, is_null, is_as_said, below, from_square, fits_now, only_of, shape_answer, san_answer}
 use Rattle.pgn_read.specs.FenAnswer.{has_kings, has_pawn_outside, has_few_men, is_fit, first_broken, placed_unless, placed, fen_answer}
 
 -- ---- one square

@@ -1,6 +1,5 @@
 -- Laws of items: what one token does, and that a text has one list of items.
-use Rattle.std.proofs.Common.{◌≡◌, ◌⊎◌, inl, inr, ◌≤◌, ◌<◌, ◌+◌, ◌-◌, ◌==◌, ◌&&◌, ◌||◌, ℕ, zero, suc, Bool, true, false, not, cond, nat_lt, IsTrue, List, [], ◌∷◌, ◌++◌, length, take, drop, Option, Some, None, option_map, IfSome, Result, Ok, Err, IfOk, refl, sym, ap, ◌∙◌, subst, arith, rules, length-append, length-drop, append-nil}
-use Rattle.std.proofs.lemmas.Bool.{cases_Bool}
+use Rattle.std.proofs.Common.{◌≡◌, ◌⊎◌, inl, inr, ◌≤◌, ◌<◌, ◌+◌, ◌-◌, ◌==◌, ◌&&◌, ◌||◌, ℕ, zero, suc, Bool, true, false, not, cond, nat_lt, IsTrue, List, [], ◌∷◌, ◌++◌, length, Option, Some, None, option_map, IfSome, Result, Ok, Err, IfOk, refl, sym, ap, ◌∙◌, arith, length-append, length-drop, append-nil}
 use Rattle.std.proofs.lemmas.List.{take-append-le, drop-append-le}
 use Rattle.base_files.specs.Told.{Tells}
 use Rattle.game_tree.specs.declared.head.Outcome.{Outcome}
@@ -13,15 +12,15 @@ use Rattle.pgn_read.specs.declared.step.End.{End}
 use Rattle.pgn_read.specs.declared.step.End.TheVariants as end
 use Rattle.pgn_read.specs.declared.step.Step.{Step}
 use Rattle.pgn_read.specs.declared.step.Step.TheVariants as step
-use Rattle.pgn_read.specs.Place.{next_place, place_behind}
+use Rattle.pgn_read.specs.Place.{next_place}
 use Rattle.pgn_read.specs.Bytes.{is_white}
-use Rattle.pgn_read.specs.Token.{Token, Lexed, lexed_as}
+use Rattle.pgn_read.specs.Token.{Token, Lexed}
 use Rattle.pgn_read.specs.Lexing.{lexed, size}
-use Rattle.pgn_read.specs.Text.{At, here, passed, on_remark, behind_gap, longest, skipped, behind_mark, spot_at, behind_token, next_at, spots}
+use Rattle.pgn_read.specs.Text.{At, here, on_remark, behind_gap, longest, skipped, behind_mark, spot_at, behind_token, next_at, spots}
 use Rattle.pgn_read.specs.Reading.{Reading, Effect, goes_on, ends_behind, ends_before, is_faulty, unread, is_inside, effect, end_effect, is_next_game, is_game, game_of}
 use Rattle.pgn_read.specs.Heads.{head_from}
 use Rattle.pgn_read.specs.Items.{Next, next, resumed_at, faulty, ended, ended_before, by_effect, effect_at, item_from, item_at, whole_room, first_token, next_item, AreItems, PgnReads}
-use Rattle.pgn_read.specs.Said.{said_end, said_step, EndsWell}
+use Rattle.pgn_read.specs.Said.{said_end, EndsWell}
 use Rattle.pgn_read.specs.Window.{Window, with_more, ahead, front, Decides, by_end, Moved, FrontPassed, FrontMoved}
 use Rattle.pgn_read.proofs.LexingLaws.{Goes, token_goes, token_shorter}
 

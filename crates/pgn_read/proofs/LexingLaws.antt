@@ -1,16 +1,15 @@
 -- A token and a few bytes behind it tell the token, whatever comes then; and each token but the end of the text has a byte.
-use Rattle.std.proofs.Common.{◌≡◌, ◌⊎◌, inl, inr, ◌≤◌, ◌<◌, ◌+◌, ◌-◌, ◌==◌, ◌||◌, ℕ, zero, suc, Bool, true, false, not, cond, List, [], ◌∷◌, ◌++◌, length, take, drop, codes, refl, sym, ap, ◌∙◌, subst, arith, length-append, length-drop}
-use Rattle.std.proofs.lemmas.Bool.{cases_Bool, eqb-true}
+use Rattle.std.proofs.Common.{◌≡◌, ◌⊎◌, inl, inr, ◌≤◌, ◌<◌, ◌+◌, ◌==◌, ◌||◌, ℕ, suc, Bool, true, false, not, cond, List, [], ◌∷◌, ◌++◌, length, drop, codes, refl, sym, ap, subst, arith, length-append, length-drop}
+use Rattle.std.proofs.lemmas.Bool.{eqb-true}
 use Rattle.std.proofs.lemmas.List.{drop-append-le}
 use Rattle.std.specs.Char.{is_ascii_digit}
 use Rattle.game_tree.specs.Decimal.{decimal_read}
 use Rattle.game_tree.specs.TagName.{is_tag_byte}
-use Rattle.game_tree.specs.declared.head.Outcome.TheVariants.{White, Black, Draw}
 use Rattle.pgn_read.specs.Bytes.{is_white, is_letter, is_move_byte, is_glyph, is_dot, front, behind, begins}
 use Rattle.pgn_read.specs.Token.{Token, Lexed, lexed_as}
 use Rattle.pgn_read.specs.Token as token
 use Rattle.pgn_read.specs.TagText.{escapes, ends_value, raw_value, behind_value, closing, unquoting, quoting, naming, named, tag_from}
-use Rattle.pgn_read.specs.Lexing.{comment_of, braced, brace_from, without_return, line_from, nag_from, nag_of, suffix_from, suffix_of, move_from, number_from, digit_from, by_kind, lexed}
+use Rattle.pgn_read.specs.Lexing.{comment_of, braced, brace_from, without_return, nag_of, suffix_of, move_from, number_from, digit_from, by_kind, lexed}
 
 -- ---- parts are no longer than the whole
 
@@ -153,7 +152,7 @@ number_goes x more =
 
 -- ---- what begins with a digit
 
-pub begins_more : (form w more : List ℕ) → length form ≤ length w → begins form (w ++ more) ≡ begins form w
+begins_more : (form w more : List ℕ) → length form ≤ length w → begins form (w ++ more) ≡ begins form w
 begins_more [] w more fits = refl
 begins_more (first ∷ form) [] more fits = absurd (omega (arith, fits))
 begins_more (first ∷ form) (b ∷ w) more fits = rw (begins_more form w more (omega (arith, fits))) refl

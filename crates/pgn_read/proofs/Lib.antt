@@ -3,4 +3,6 @@ pub mod SoundLaws
 pub mod WindowLaws
 pub mod HeadLaws
 pub mod AnswerLaws
+pub mod LegalLaws
 pub mod ItemLaws
+pub mod ReadLaws

@@ -10,8 +10,8 @@ use Rattle.game_tree.specs.TagName.{is_tag_byte, IsTagByte}
 use Rattle.pgn_read.specs.Bytes.{is_white, is_move_byte, is_glyph, has_zero, front, behind, begins}
 use Rattle.pgn_read.specs.Token.{Token, Lexed}
 use Rattle.pgn_read.specs.Token as token
-use Rattle.pgn_read.specs.TagText.{escapes, meant_by, unescaped_from, unescaped, raw_value, behind_value, closing, unquoting, quoting, naming, named, tag_from}
-use Rattle.pgn_read.specs.Lexing.{comment_of, braced, brace_from, without_return, nag_of, suffix_of, digit_from, by_kind, lexed}
+use Rattle.pgn_read.specs.TagText.{escapes, meant_by, unescaped_from, unescaped, raw_value, behind_value, closing, unquoting, quoting, naming, tag_from}
+use Rattle.pgn_read.specs.Lexing.{comment_of, braced, without_return, nag_of, suffix_of, digit_from, by_kind, lexed}
 use Rattle.pgn_read.specs.Said.{IsSound}
 
 sound_if : (c : Bool) (x y : Lexed) → IsSound x.token → IsSound y.token → IsSound (cond c x y).token

@@ -1,16 +1,14 @@
 -- The items of a text: its games, and the first fault of each that is none (PGN standard, 8; the faults and where reading goes on
 -- are this project's own).
-use Rattle.std.specs.Prelude.{◌≡◌, ℕ, suc, ◌-◌, ◌==◌, nat_lt, Bool, not, ◌&&◌, ◌||◌, if◌then◌else◌, List, [], ◌∷◌, length, Option, Some, None, codes}
+use Rattle.std.specs.Prelude.{◌≡◌, ℕ, suc, ◌-◌, ◌==◌, nat_lt, Bool, not, ◌&&◌, if◌then◌else◌, List, [], ◌∷◌, length, Option, Some, None, codes}
 use Rattle.game_tree.specs.declared.head.Outcome.{Outcome}
 use Rattle.pgn_read.specs.declared.place.Place.{Place}
-use Rattle.pgn_read.specs.declared.item.GameFault.{GameFault}
 use Rattle.pgn_read.specs.declared.item.GameWhat.{GameWhat}
 use Rattle.pgn_read.specs.declared.item.GameWhat.TheVariants.{TooLong}
 use Rattle.pgn_read.specs.declared.item.Item.{Item}
 use Rattle.pgn_read.specs.declared.item.Item.TheVariants.{Good, Bad}
 use Rattle.pgn_read.specs.Place.{next_place, first_place}
 use Rattle.pgn_read.specs.Bytes.{begins}
-use Rattle.pgn_read.specs.Token.{Token}
 use Rattle.pgn_read.specs.Text.{At, here, longest, Spot, spot_at, behind_mark, behind_token, skipped, spots}
 use Rattle.pgn_read.specs.Heads.{head_from}
 use Rattle.pgn_read.specs.Reading.{Reading, Effect, goes_on, ends_behind, ends_before, is_faulty, unread, effect, is_next_game, is_game, game_of}

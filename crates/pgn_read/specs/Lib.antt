@@ -13,4 +13,6 @@ pub mod ReadingCode
 pub mod Items
 pub mod Window
 pub mod Causes
+pub mod Fit
+pub mod Legality
 pub mod Readers

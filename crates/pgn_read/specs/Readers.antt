@@ -1,11 +1,11 @@
 -- A reader of the items of a text, as its contracts see it.
-use Rattle.std.specs.Prelude.{◌≡◌, ◌⊎◌, ℕ, false, List, [], Option, None, Some, option_map}
+use Rattle.std.specs.Prelude.{◌≡◌, ◌⊎◌, ℕ, false, List, [], ◌∷◌, Option, None, Some, IfSome, option_map}
 use Rattle.pgn_read.specs.declared.error.PgnError.{PgnError}
 use Rattle.pgn_read.specs.declared.item.Item.{Item}
 use Rattle.pgn_read.specs.Causes.{HasCause}
 use Rattle.pgn_read.specs.Place.{first_place}
 use Rattle.pgn_read.specs.Text.{At, longest}
-use Rattle.pgn_read.specs.Items.{next, next_item}
+use Rattle.pgn_read.specs.Items.{next, next_item, AreItems}
 use Rattle.pgn_read.specs.Window.{Window, ahead}
 
 -- What was read of the source and not yet used, and the error from which on the reader answers the same.
@@ -24,6 +24,15 @@ told reader left = ahead reader.window left
 -- The next item of what was ahead is this one, or there is none, and what is ahead then stands behind it.
 abbrev pub Follows : Option At → Option Item → Option At → Type 0
 Follows old item new = option_map next_item old ≡ option_map (next item) new
+
+-- The items that are ahead, where the source tells what it has left.
+abbrev pub ItemsAhead : Option At → List Item → Type 0
+ItemsAhead ahead items = IfSome ahead (λ a. AreItems a items)
+
+-- These items were read one behind the other, and then that there is none.
+abbrev pub AreRead : Option At → List Item → Type 0
+AreRead old [] = (new : Option At) × Follows old None new
+AreRead old (item ∷ items) = (new : Option At) × (Follows old (Some item) new × AreRead new items)
 
 -- An error has its cause in this call, or the reader had the same error before.
 abbrev pub IsStuck : PgnError → Reader → ℕ → ℕ → Type 0

@@ -1,5 +1,5 @@
 -- A game while its tokens are read: what the tokens so far say, and what the next one does (PGN standard, 8).
-use Rattle.std.specs.Prelude.{ℕ, ◌==◌, nat_lt, nat_le, Bool, true, false, not, slice_index_or, ◌||◌, ◌&&◌, if◌then◌else◌, List, [], ◌∷◌, ◌++◌, length, Option, Some, None, is_some, Result, Ok, Err, codes}
+use Rattle.std.specs.Prelude.{ℕ, ◌==◌, nat_lt, nat_le, Bool, true, false, not, slice_index_or, ◌||◌, ◌&&◌, if◌then◌else◌, List, [], ◌∷◌, ◌++◌, length, is_some, Result, Ok, Err, codes}
 use Rattle.std.specs.List.{list_any}
 use Rattle.cell_core.specs.declared.step.Move.{Move}
 use Rattle.chess_laws.specs.declared.setup.Setup.{Setup}
@@ -7,7 +7,6 @@ use Rattle.chess_laws.specs.Position.{start_setup}
 use Rattle.chess_laws.specs.Step.{stepped}
 use Rattle.chess_text.specs.declared.fault.FenFault.{FenFault}
 use Rattle.chess_text.specs.declared.fault.SanFault.{SanFault}
-use Rattle.game_tree.specs.declared.head.Head.{Head}
 use Rattle.game_tree.specs.declared.head.Outcome.{Outcome}
 use Rattle.game_tree.specs.declared.head.Tag.{Tag}
 use Rattle.game_tree.specs.Item as item
@@ -21,7 +20,6 @@ use Rattle.pgn_read.specs.declared.item.GameWhat.TheVariants as what
 use Rattle.pgn_read.specs.declared.turn.Turn.{Turn}
 use Rattle.pgn_read.specs.SanAnswer.{san_answer}
 use Rattle.pgn_read.specs.FenAnswer.{fen_answer}
-use Rattle.pgn_read.specs.Heads.{head_from}
 use Rattle.pgn_read.specs.Token.{Token}
 use Rattle.pgn_read.specs.Token as token
 

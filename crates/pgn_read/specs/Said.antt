@@ -1,5 +1,5 @@
 -- What the lexer's tokens say, and what the steps of a game's reading do. No public contract cites these words.
-use Rattle.std.specs.Prelude.{◌≡◌, ℕ, ◌≤◌, List, [], length, All, ⊤}
+use Rattle.std.specs.Prelude.{◌≡◌, ◌≤◌, [], length, All, ⊤}
 use Rattle.cell_core.specs.Text.{IsZeroFree}
 use Rattle.game_tree.specs.TagName.{IsTagByte}
 use Rattle.pgn_read.specs.declared.step.End.{End}

@@ -1,6 +1,6 @@
 -- The answer to the text of a move, as it is computed: the one legal move of its shape, or why there is none (PGN standard,
 -- 8.2.3).
-use Rattle.std.specs.Prelude.{ℕ, zero, suc, ◌==◌, ◌&&◌, not, Bool, true, false, if◌then◌else◌, List, [], ◌∷◌, filter, map, Option, Some, None, Result, Ok, Err}
+use Rattle.std.specs.Prelude.{ℕ, zero, suc, ◌==◌, ◌&&◌, not, Bool, true, false, List, [], ◌∷◌, filter, map, Option, Some, None, Result, Ok, Err}
 use Rattle.cell_core.specs.declared.step.Move.{Move}
 use Rattle.cell_core.specs.Board.{man_at}
 use Rattle.cell_core.specs.Man.{is_man}
@@ -10,7 +10,7 @@ use Rattle.chess_laws.specs.declared.setup.Wing.TheVariants.{KingSide, QueenSide
 use Rattle.chess_laws.specs.declared.effect.Effect.{Effect}
 use Rattle.chess_laws.specs.declared.effect.Effect.TheVariants as effect
 use Rattle.chess_laws.specs.Geometry.{file_of, rank_of}
-use Rattle.chess_laws.specs.Castling.{king_home, king_target}
+use Rattle.chess_laws.specs.Castling.{king_target}
 use Rattle.chess_laws.specs.Position.{king_square}
 use Rattle.chess_laws.specs.Step.{effect_of}
 use Rattle.chess_laws.specs.LegalNow.{legal_now}

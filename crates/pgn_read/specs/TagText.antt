@@ -3,7 +3,7 @@
 use Rattle.std.specs.Prelude.{ℕ, ◌==◌, Bool, true, false, not, ◌&&◌, ◌||◌, if◌then◌else◌, List, [], ◌∷◌, ◌++◌}
 use Rattle.game_tree.specs.TagName.{is_tag_byte}
 use Rattle.pgn_read.specs.Bytes.{is_white, has_zero, front, behind}
-use Rattle.pgn_read.specs.Token.{Token, tag, bad_tag, Lexed, lexed_as}
+use Rattle.pgn_read.specs.Token.{tag, bad_tag, Lexed, lexed_as}
 
 -- A backslash escapes the byte behind it, unless it is itself escaped. The first quotation mark that none escapes ends a value.
 abbrev pub escapes : Bool → ℕ → Bool

@@ -3,6 +3,7 @@ ghost use Rattle.std.specs.Prelude.{◌≡◌, ◌++◌, ◌≤◌, ◌<◌, ◌
 ghost use Rattle.cell_core.specs.Text.{IsZeroFree};
 ghost use Rattle.game_tree.specs.Date.{IsDate};
 ghost use Rattle.game_tree.specs.Head.{IsName, IsRating, IsTag, IsBounded};
+ghost use Rattle.game_tree.specs.Settle.{IsSettled};
 ghost use Rattle.game_tree.specs.TagName.{is_reserved, free_of};
 ghost use Rattle.pgn_read.specs.Heads.{value_of, name_from, date_from, result_told, result_from, rated, rating_as, rating_told, rating_from, eco_told, eco_from, flags_of, has_letter, marks_of, all_marks, mark_letters, head_told, head_from, IsReadTag};
 
@@ -24,6 +25,8 @@ pub(crate) fn head_from(
 ) -> Result<Head, AllocError>
     requires read { All IsReadTag tags.items }
     ensures head { IfOk result (λ head. head ≡ head_from tags.items mark) }
+    ensures bounded { IfOk result (λ head. IsBounded head) }
+    ensures settled { IfOk result (λ head. IsSettled head) }
 {
     let mut head = head_told(alloc, tags, mark)?;
     settle(alloc, &mut head)?;

@@ -1,10 +1,23 @@
 //! Laws of texts and their items.
-ghost use Rattle.std.specs.Prelude.{◌≡◌, ℕ, List};
+ghost use Rattle.std.specs.Prelude.{◌≡◌, ◌∷◌, ℕ, [], List, Option, None, Some};
 ghost use Rattle.pgn_read.specs.declared.item.Item.{Item as PlainItem};
+ghost use Rattle.pgn_read.specs.Text.{At};
 ghost use Rattle.pgn_read.specs.Items.{PgnReads};
+ghost use Rattle.pgn_read.specs.Readers.{fresh_reader, told, Follows, ItemsAhead, AreRead};
 
 /// A law: a text has one list of items.
 #[tactic(auto, using(crate::proofs::ItemLaws::one_list))]
 pub fn texts_have_one_list_of_items()
     ensures one { (text : List ℕ) (items others : List PlainItem) → PgnReads text items → PgnReads text others → items ≡ others }
+{}
+
+/// A law: who reads a text that is told from its beginning, item by item until there is none, has read the items of the text.
+/// Of one item: what is ahead behind it was ahead behind the item itself.
+#[tactic(auto, using(crate::proofs::ReadLaws::more_ahead, crate::proofs::ReadLaws::none_ahead, crate::proofs::ReadLaws::all_read))]
+pub fn items_are_read_one_by_one()
+    ensures whole { (text : List ℕ) (items : List PlainItem) → AreRead (told fresh_reader (Some text)) items → PgnReads text items }
+    ensures first { (text : List ℕ) (items : List PlainItem) → ItemsAhead (told fresh_reader (Some text)) items → PgnReads text items }
+    ensures more { (old new : Option At) (item : PlainItem) (items : List PlainItem) → Follows old (Some item) new → ItemsAhead new items
+        → ItemsAhead old (item ∷ items) }
+    ensures last { (old new : Option At) → Follows old None new → ItemsAhead old [] }
 {}

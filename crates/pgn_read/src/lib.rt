@@ -19,7 +19,7 @@ mod window;
 
 pub use error::PgnError;
 pub use item::{GameFault, GameWhat, Item};
-pub use laws::texts_have_one_list_of_items;
+pub use laws::{items_are_read_one_by_one, texts_have_one_list_of_items};
 pub use reader::Reader;
 
 #[cfg(test)]

@@ -3,6 +3,8 @@ ghost use Rattle.std.specs.Prelude.{◌≡◌, ◌≤◌, ◌<◌, ◌+◌, [], 
 ghost use Rattle.base_files.specs.Told.{Tells};
 ghost use Rattle.pgn_read.specs.Causes.{HasCause};
 ghost use Rattle.pgn_read.specs.Items.{next, item_at, effect_at, first_token};
+ghost use Rattle.pgn_read.specs.Fit.{IsFit};
+ghost use Rattle.pgn_read.specs.Legality.{IsLegal, EndsLegally, StepsLegally};
 ghost use Rattle.pgn_read.specs.Readers.{fresh_reader, told, Follows, IsStuck};
 ghost use Rattle.pgn_read.specs.Said.{said_step, StepsWell, EndsWell, IsBalanced};
 ghost use Rattle.pgn_read.specs.Window.{ahead, front, by_end, Moved, FrontMoved, passes};
@@ -26,6 +28,8 @@ pub struct Reader {
 }
 
 impl Model for Reader {
+    ghost use Rattle.pgn_read.specs.Fit.{IsFit};
+    ghost use Rattle.pgn_read.specs.Legality.{IsLegal, EndsLegally, StepsLegally};
     ghost use Rattle.pgn_read.specs.Readers.{Reader as Seen};
 
     ghost Value = { Seen };
@@ -51,6 +55,8 @@ impl Reader {
         source: &mut S,
     ) -> Result<Option<Item>, PgnError>
         ensures item { IfOk result (λ item. Follows (told self.old (S.left source.old)) item (told self.new (S.left source.new))) }
+        // What a base asks of a game that it takes.
+        ensures good { IfOk result (λ item. IfSome item IsFit) }
         ensures stuck { IfErr result (λ error. self.new.stuck ≡ Some error) }
         ensures free { OnOk result (self.new.stuck ≡ None) }
         ensures again { IfSome self.old.stuck (λ error. (result ≡ Err error) × (self.new ≡ self.old)) }
@@ -72,12 +78,13 @@ impl Reader {
 }
 
 // Reads the next item.
-#[tactic(auto, using(crate::proofs::ItemLaws::item_follows))]
+#[tactic(auto, using(crate::proofs::ItemLaws::item_follows, crate::proofs::LegalLaws::unread_legal))]
 fn read_item<S: Source>(
     alloc: Global,
     window: &mut Window,
     source: &mut S,
 ) -> Result<Option<Item>, PgnError>
+    ensures good { IfOk result (λ item. IfSome item IsFit) }
     ensures item { IfOk result (λ item. Follows (ahead window.old (S.left source.old)) item (ahead window.new (S.left source.new))) }
     ensures spends { S.budget source.new ≤ S.budget source.old }
     ensures counts { S.faults source.old ≤ S.faults source.new }
@@ -120,6 +127,8 @@ fn read_game<S: Source>(
 ) -> Result<Option<Item>, PgnError>
     requires told { IsTrue window.old.ended → Tells (S.left source.old) [] }
     requires balanced { IsBalanced game }
+    requires legal { IsLegal game }
+    ensures good { IfOk result (λ item. IfSome item IsFit) }
     ensures item { IfOk result (λ item. option_map (item_at game) (ahead window.old (S.left source.old)) ≡ option_map (next item) (ahead window.new (S.left source.new))) }
     ensures spends { S.budget source.new ≤ S.budget source.old }
     ensures counts { S.faults source.old ≤ S.faults source.new }
@@ -152,10 +161,12 @@ fn take_token<S: Source>(
 ) -> Result<Step, PgnError>
     requires told { IsTrue window.old.ended → Tells (S.left source.old) [] }
     requires balanced { IsBalanced game.old }
+    requires legal { IsLegal game.old }
     ensures effect { IfOk result (λ step. IfSome (ahead window.old (S.left source.old)) (λ a. effect_at game.old a ≡ said_step step game.new)) }
     ensures moved { IfOk result (λ step. Moved step (ahead window.old (S.left source.old)) (ahead window.new (S.left source.new))) }
     ensures well { IfOk result (λ step. StepsWell step game.old game.new) }
     ensures balanced { OnOk result (IsBalanced game.new) }
+    ensures legal { IfOk result (λ step. StepsLegally step game.new) }
     ensures told { OnOk result (IsTrue window.new.ended → Tells (S.left source.new) []) }
     ensures shorter { result ≡ Ok Step.GoesOn → S.budget source.new + length window.new.unread < S.budget source.old + length window.old.unread }
     ensures spends { S.budget source.new ≤ S.budget source.old }
@@ -172,13 +183,15 @@ fn take_token<S: Source>(
 }
 
 // Takes the token at the front of the window into the game, and passes over it where reading goes on behind it.
-#[tactic(auto, using(crate::proofs::SoundLaws::token_sound))]
+#[tactic(auto, using(crate::proofs::SoundLaws::token_sound, crate::proofs::LegalLaws::steps_legally))]
 fn take_front(alloc: Global, window: &mut Window, game: &mut Reading) -> Result<Step, AllocError>
     requires balanced { IsBalanced game.old }
+    requires legal { IsLegal game.old }
     ensures effect { IfOk result (λ step. effect_at game.old (front window.old) ≡ said_step step game.new) }
     ensures moved { IfOk result (λ step. FrontMoved step window.old window.new) }
     ensures well { IfOk result (λ step. StepsWell step game.old game.new) }
     ensures balanced { OnOk result (IsBalanced game.new) }
+    ensures legal { IfOk result (λ step. StepsLegally step game.new) }
     ensures ended { window.new.ended ≡ window.old.ended }
     ensures shorter { result ≡ Ok Step.GoesOn → length window.new.unread < length window.old.unread }
 {
@@ -222,6 +235,8 @@ fn end_item<S: Source>(
     requires told { IsTrue window.old.ended → Tells (S.left source.old) [] }
     requires balanced { IsBalanced game }
     requires well { EndsWell end game game }
+    requires legal { EndsLegally end game }
+    ensures good { IfOk result (λ item. IfSome item IsFit) }
     ensures item { IfOk result (λ item. option_map (by_end game end) (ahead window.old (S.left source.old)) ≡ option_map (next item) (ahead window.new (S.left source.new))) }
     ensures spends { S.budget source.new ≤ S.budget source.old }
     ensures counts { S.faults source.old ≤ S.faults source.new }

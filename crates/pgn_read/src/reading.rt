@@ -4,6 +4,8 @@ ghost use Rattle.std.specs.List.{list_any};
 ghost use Rattle.std.specs.Str.{bytes_eq};
 ghost use Rattle.cell_core.specs.Text.{IsZeroFree};
 ghost use Rattle.game_tree.specs.TagName.{is_among, roster_names};
+ghost use Rattle.pgn_read.specs.Legality.{IsLegal};
+ghost use Rattle.pgn_read.specs.Fit.{IsFit};
 ghost use Rattle.pgn_read.specs.Said.{said, said_step, StepsWell, IsBalanced, IsSound};
 ghost use Rattle.pgn_read.specs.TagText.{unescaped};
 ghost use Rattle.pgn_read.specs.Token as token;
@@ -334,7 +336,9 @@ impl Reading {
     pub(crate) fn finish(self, alloc: Global, mark: Option<Outcome>) -> Result<Item, AllocError>
         requires balanced { IsBalanced self }
         requires outside { self.outer ≡ [] }
+        requires legal { IsLegal self }
         ensures item { IfOk result (λ item. item ≡ Item.Good (head_from self.tags mark) (game_of self)) }
+        ensures good { IfOk result IsFit }
     {
         let Reading {
             tags,

@@ -10,6 +10,7 @@ tokens-preserved g c = record {
       c.in_default.ensures.skipped;
   told = c.in_default.ensures.told;
   balanced = c.in-Ok.ensures.balanced;
+  legal = rw c.in-GoesOn.is at c.in-Ok.ensures.legal;
   spends = omega (arith, c.tokens.invariant.spends, c.take_token.ensures.spends, c.skip_gap.ensures.spends);
   faults = omega (arith, c.tokens.invariant.faults, c.take_token.ensures.counts, c.skip_gap.ensures.counts);
 }

@@ -4,6 +4,7 @@ use Rattle.pgn_read.specs.Said.{said}
 use Rattle.pgn_read.specs.declared.step.Step.{Step}
 use Rattle.pgn_read.specs.declared.step.Step.TheVariants as step
 use Rattle.pgn_read.proofs.ItemLaws.{token_some, rest_fits}
+use Rattle.pgn_read.proofs.LegalLaws.{steps_legally}
 use Rattle.pgn_read.proofs.reader.take_front.Goals as goal
 
 step_of : (a b : Step) → ◌≡◌ {A = Result Step AllocError} (Ok a) (Ok b) → a ≡ b
@@ -24,3 +25,8 @@ returns-then-passes-clause-shorter c = λ is.
       ap length c.pass.ensures.unread,
       length-drop (length c.unread-unread.result.now - length c.lexed-found.result.rest.now) c.args.window.now.unread,
     )
+
+pub returns-then-passes-clause-legal : goal.returns-then-passes-clause-legal
+returns-then-passes-clause-legal c =
+    steps_legally (said c.lexed-found.result.token) c.in_ok-step.step c.args.game.now c.take.new.self c.requires.legal
+    c.in_ok-step.ensures.effect c.in_ok-step.ensures.well
