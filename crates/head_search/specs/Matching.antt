@@ -29,55 +29,78 @@ outcome_number outcome.White = 1
 outcome_number outcome.Black = 2
 outcome_number outcome.Draw = 3
 
+-- An item of a name, of either player's name, of a result, of a number, of the opening code, of the deleted mark and of a mark, beside what a
+-- game has there. An item of the opening code never holds of a game without one.
+unfoldable pub name_item : Option (List ℕ) → List ℕ → Bool
+name_item asked name = holds asked (λ text. begins name text)
+
+unfoldable pub player_item : Option (List ℕ) → List ℕ → List ℕ → Bool
+player_item asked white black = holds asked (λ text. begins white text || begins black text)
+
+unfoldable pub result_item : Option Outcome → Outcome → Bool
+result_item asked found = holds asked (λ result. outcome_number found == outcome_number result)
+
+unfoldable pub span_item : Option Span → ℕ → Bool
+span_item asked n = holds asked (λ span. is_in span n)
+
+unfoldable pub eco_item : Option Span → ℕ → Bool
+eco_item asked eco = holds asked (λ span. nat_lt 0 eco && is_in span eco)
+
+unfoldable pub deleted_item : Option Bool → Bool → Bool
+deleted_item asked deleted = holds asked (λ yes. if yes then deleted else not deleted)
+
+unfoldable pub mark_item : Option ℕ → ℕ → Bool
+mark_item asked marks = holds asked (λ bit. bit_at marks bit == 1)
+
 -- Keys `white`, `black` and `player`: the beginning of the name of White, of Black, of either.
 abbrev pub white_holds : Head → HeadQuery → Bool
-white_holds head query = holds query.white (λ text. begins head.white text)
+white_holds head query = name_item query.white head.white
 
 abbrev pub black_holds : Head → HeadQuery → Bool
-black_holds head query = holds query.black (λ text. begins head.black text)
+black_holds head query = name_item query.black head.black
 
 abbrev pub player_holds : Head → HeadQuery → Bool
-player_holds head query = holds query.player (λ text. begins head.white text || begins head.black text)
+player_holds head query = player_item query.player head.white head.black
 
 -- Keys `event`, `site` and `round`: the beginning of that name.
 abbrev pub event_holds : Head → HeadQuery → Bool
-event_holds head query = holds query.event (λ text. begins head.event text)
+event_holds head query = name_item query.event head.event
 
 abbrev pub site_holds : Head → HeadQuery → Bool
-site_holds head query = holds query.site (λ text. begins head.site text)
+site_holds head query = name_item query.site head.site
 
 abbrev pub round_holds : Head → HeadQuery → Bool
-round_holds head query = holds query.round (λ text. begins head.round text)
+round_holds head query = name_item query.round head.round
 
 -- Key `result`: that result.
 abbrev pub result_holds : Head → HeadQuery → Bool
-result_holds head query = holds query.result (λ result. outcome_number head.result == outcome_number result)
+result_holds head query = result_item query.result head.result
 
 -- Key `year`: that of the game's date; an unknown year is 0. Keys `welo` and `belo`: the ratings of White and Black, of any kind; no rating is 0.
 abbrev pub year_holds : Head → HeadQuery → Bool
-year_holds head query = holds query.year (λ span. is_in span head.date.year)
+year_holds head query = span_item query.year head.date.year
 
 abbrev pub welo_holds : Head → HeadQuery → Bool
-welo_holds head query = holds query.welo (λ span. is_in span head.white_rating.value)
+welo_holds head query = span_item query.welo head.white_rating.value
 
 abbrev pub belo_holds : Head → HeadQuery → Bool
-belo_holds head query = holds query.belo (λ span. is_in span head.black_rating.value)
+belo_holds head query = span_item query.belo head.black_rating.value
 
 -- Key `plies`: those of the main line; more than 1,023 count as 1,023.
 abbrev pub plies_hold : ℕ → HeadQuery → Bool
-plies_hold plies query = holds query.plies (λ span. is_in span plies)
+plies_hold plies query = span_item query.plies plies
 
--- Key `eco`: the opening code; it never holds of a game without one.
+-- Key `eco`: the opening code.
 abbrev pub eco_holds : Head → HeadQuery → Bool
-eco_holds head query = holds query.eco (λ span. nat_lt 0 head.eco && is_in span head.eco)
+eco_holds head query = eco_item query.eco head.eco
 
 -- Key `deleted`: whether the game is marked as deleted.
 abbrev pub deleted_holds : Head → HeadQuery → Bool
-deleted_holds head query = holds query.deleted (λ yes. if yes then head.deleted else not head.deleted)
+deleted_holds head query = deleted_item query.deleted head.deleted
 
 -- Key `mark`: that mark is set.
 abbrev pub mark_holds : Head → HeadQuery → Bool
-mark_holds head query = holds query.mark (λ bit. bit_at head.marks bit == 1)
+mark_holds head query = mark_item query.mark head.marks
 
 -- A game with this head and so many plies is one that is asked for: every item holds.
 unfoldable pub head_matches : Head → ℕ → HeadQuery → Bool

@@ -2,10 +2,10 @@
 ghost use Rattle.std.specs.Prelude.{◌≡◌, ◌==◌, ◌&&◌, []};
 ghost use Rattle.std.specs.Int.{bit_at};
 ghost use Rattle.game_tree.specs.Head.{head_of};
-ghost use Rattle.head_search.specs.Matching.{begins, belo_holds, black_holds, deleted_holds, eco_holds, event_holds, head_matches, holds, is_in, mark_holds, player_holds, plies_hold, result_holds, round_holds, site_holds, welo_holds, white_holds, year_holds};
+ghost use Rattle.head_search.specs.Matching.{begins, belo_holds, black_holds, deleted_holds, deleted_item, eco_holds, eco_item, event_holds, head_matches, is_in, mark_holds, mark_item, name_item, player_holds, player_item, result_holds, result_item, round_holds, site_holds, span_item, welo_holds, white_holds, year_holds};
 
 use cell_core::Text;
-use game_tree::HeadRef;
+use game_tree::{HeadRef, Outcome};
 use sig_index::{HeadQuery, Sig, Span};
 
 /// Whether a game with this head and this signature is one that is asked for: every item of the query holds.
@@ -13,39 +13,55 @@ use sig_index::{HeadQuery, Sig, Span};
 pub fn matches(h: HeadRef<'_>, s: &Sig, q: &HeadQuery) -> bool
     ensures matches { result ≡ head_matches (head_of h.entry []) s.now.plies q.now }
 {
-    numbers_hold(&h, q) && plies_hold(s, q) && names_hold(&h, q)
+    numbers_hold(&h, q) && span_holds(&q.plies, s.plies) && names_hold(&h, q)
 }
 
 // Whether all items hold but those of plies and of names: these cost the least.
-pub(crate) fn numbers_hold(h: &HeadRef<'_>, q: &HeadQuery) -> bool
+fn numbers_hold(h: &HeadRef<'_>, q: &HeadQuery) -> bool
     ensures { result ≡ (deleted_holds (head_of h.now []) q.now && mark_holds (head_of h.now []) q.now && result_holds (head_of h.now []) q.now
         && year_holds (head_of h.now []) q.now && welo_holds (head_of h.now []) q.now && belo_holds (head_of h.now []) q.now
         && eco_holds (head_of h.now []) q.now) }
 {
-    deleted_holds(h, q)
-        && mark_holds(h, q)
-        && result_holds(h, q)
-        && year_holds(h, q)
-        && welo_holds(h, q)
-        && belo_holds(h, q)
-        && eco_holds(h, q)
+    deleted_holds(q.deleted, h.deleted)
+        && mark_holds(q.mark, h.marks)
+        && result_holds(q.result, h.result)
+        && span_holds(&q.year, h.date.year)
+        && span_holds(&q.welo, h.white_rating.value)
+        && span_holds(&q.belo, h.black_rating.value)
+        && eco_holds(&q.eco, h.eco)
 }
 
-// The items one by one: one that is not there holds.
-fn deleted_holds(h: &HeadRef<'_>, q: &HeadQuery) -> bool
-    ensures { result ≡ deleted_holds (head_of h.now []) q.now }
+// Whether all items of names hold.
+fn names_hold(h: &HeadRef<'_>, q: &HeadQuery) -> bool
+    ensures { result ≡ (white_holds (head_of h.now []) q.now && black_holds (head_of h.now []) q.now && player_holds (head_of h.now []) q.now
+        && event_holds (head_of h.now []) q.now && site_holds (head_of h.now []) q.now && round_holds (head_of h.now []) q.now) }
 {
-    match q.deleted {
-        Some(yes) => h.deleted == yes,
+    name_holds(&q.white, h.white)
+        && name_holds(&q.black, h.black)
+        && player_holds(&q.player, h.white, h.black)
+        && name_holds(&q.event, h.event)
+        && name_holds(&q.site, h.site)
+        && name_holds(&q.round, h.round)
+}
+
+/// Whether an item of the deleted mark holds. Of each kind of items: one that is not there holds.
+#[tactic(auto, unfolding(crate::specs::Matching::deleted_item))]
+pub(crate) fn deleted_holds(asked: Option<bool>, deleted: bool) -> bool
+    ensures { result ≡ deleted_item asked deleted }
+{
+    match asked {
+        Some(yes) => deleted == yes,
         None => true,
     }
 }
 
-fn mark_holds(h: &HeadRef<'_>, q: &HeadQuery) -> bool
-    ensures { result ≡ mark_holds (head_of h.now []) q.now }
+/// Whether an item of a mark holds.
+#[tactic(auto, unfolding(crate::specs::Matching::mark_item))]
+pub(crate) fn mark_holds(asked: Option<u8>, marks: u32) -> bool
+    ensures { result ≡ mark_item asked marks }
 {
-    match q.mark {
-        Some(bit) => is_set(h.marks, bit),
+    match asked {
+        Some(bit) => is_set(marks, bit),
         None => true,
     }
 }
@@ -58,86 +74,43 @@ fn is_set(marks: u32, bit: u8) -> bool
     bit < 32 && marks >> bit & 1 == 1
 }
 
-fn result_holds(h: &HeadRef<'_>, q: &HeadQuery) -> bool
-    ensures { result ≡ result_holds (head_of h.now []) q.now }
+/// Whether an item of the result holds.
+#[tactic(auto, unfolding(crate::specs::Matching::result_item))]
+pub(crate) fn result_holds(asked: Option<Outcome>, found: Outcome) -> bool
+    ensures { result ≡ result_item asked found }
 {
-    match q.result {
-        Some(result) => h.result == result,
+    match asked {
+        Some(outcome) => found == outcome,
         None => true,
     }
 }
 
-fn year_holds(h: &HeadRef<'_>, q: &HeadQuery) -> bool
-    ensures { result ≡ year_holds (head_of h.now []) q.now }
+/// Whether an item of a number holds.
+#[tactic(auto, unfolding(crate::specs::Matching::span_item))]
+pub(crate) fn span_holds(asked: &Option<Span>, n: u16) -> bool
+    ensures { result ≡ span_item asked.now n }
 {
-    match &q.year {
-        Some(span) => is_in(span, h.date.year),
+    match asked {
+        Some(span) => is_in(span, n),
         None => true,
     }
 }
 
-fn welo_holds(h: &HeadRef<'_>, q: &HeadQuery) -> bool
-    ensures { result ≡ welo_holds (head_of h.now []) q.now }
+/// Whether an item of the opening code holds: never where there is no code.
+#[tactic(auto, unfolding(crate::specs::Matching::eco_item))]
+pub(crate) fn eco_holds(asked: &Option<Span>, eco: u16) -> bool
+    ensures { result ≡ eco_item asked.now eco }
 {
-    match &q.welo {
-        Some(span) => is_in(span, h.white_rating.value),
+    match asked {
+        Some(span) => 0 < eco && is_in(span, eco),
         None => true,
     }
 }
 
-fn belo_holds(h: &HeadRef<'_>, q: &HeadQuery) -> bool
-    ensures { result ≡ belo_holds (head_of h.now []) q.now }
-{
-    match &q.belo {
-        Some(span) => is_in(span, h.black_rating.value),
-        None => true,
-    }
-}
-
-fn eco_holds(h: &HeadRef<'_>, q: &HeadQuery) -> bool
-    ensures { result ≡ eco_holds (head_of h.now []) q.now }
-{
-    match &q.eco {
-        Some(span) => 0 < h.eco && is_in(span, h.eco),
-        None => true,
-    }
-}
-
-pub(crate) fn plies_hold(s: &Sig, q: &HeadQuery) -> bool
-    ensures { result ≡ plies_hold s.now.plies q.now }
-{
-    match &q.plies {
-        Some(span) => is_in(span, s.plies),
-        None => true,
-    }
-}
-
-// Whether all items of names hold.
-pub(crate) fn names_hold(h: &HeadRef<'_>, q: &HeadQuery) -> bool
-    ensures { result ≡ (white_holds (head_of h.now []) q.now && black_holds (head_of h.now []) q.now && player_holds (head_of h.now []) q.now
-        && event_holds (head_of h.now []) q.now && site_holds (head_of h.now []) q.now && round_holds (head_of h.now []) q.now) }
-{
-    name_holds(h.white, &q.white)
-        && name_holds(h.black, &q.black)
-        && player_holds(h, q)
-        && name_holds(h.event, &q.event)
-        && name_holds(h.site, &q.site)
-        && name_holds(h.round, &q.round)
-}
-
-// Whether the name of either player begins with what is asked.
-fn player_holds(h: &HeadRef<'_>, q: &HeadQuery) -> bool
-    ensures { result ≡ player_holds (head_of h.now []) q.now }
-{
-    match &q.player {
-        Some(text) => begins(h.white, text) || begins(h.black, text),
-        None => true,
-    }
-}
-
-// Whether a name begins with what is asked of it.
-fn name_holds(name: &[u8], asked: &Option<Text>) -> bool
-    ensures { result ≡ holds asked.now (λ text. begins name.now text) }
+// Whether an item of a name holds.
+#[tactic(auto, unfolding(crate::specs::Matching::name_item))]
+fn name_holds(asked: &Option<Text>, name: &[u8]) -> bool
+    ensures { result ≡ name_item asked.now name.now }
 {
     match asked {
         Some(text) => begins(name, text),
@@ -145,8 +118,19 @@ fn name_holds(name: &[u8], asked: &Option<Text>) -> bool
     }
 }
 
-// Whether a name begins with these bytes, byte by byte.
-fn begins(name: &[u8], text: &Text) -> bool
+// Whether an item of either player holds.
+#[tactic(auto, unfolding(crate::specs::Matching::player_item))]
+fn player_holds(asked: &Option<Text>, white: &[u8], black: &[u8]) -> bool
+    ensures { result ≡ player_item asked.now white.now black.now }
+{
+    match asked {
+        Some(text) => begins(white, text) || begins(black, text),
+        None => true,
+    }
+}
+
+/// Whether a name begins with what is asked, byte by byte.
+pub(crate) fn begins(name: &[u8], text: &Text) -> bool
     ensures { result ≡ begins name.now text.now }
 {
     name.starts_with(text.as_bytes())

@@ -1,14 +1,13 @@
 //! The search of all games.
-ghost use Rattle.std.specs.Prelude.{◌≡◌, ◌<◌, [], None, length, slice_get, slice_index_or, slice_set, Some};
+ghost use Rattle.std.specs.Prelude.{◌≡◌, ◌<◌, ◌&&◌, None, length, slice_index_or, slice_set};
 ghost use Rattle.game_filter.specs.Search.{entry_after, searched};
-ghost use Rattle.game_tree.specs.Head.{head_of};
-ghost use Rattle.sig_index.specs.declared.signature.Sig.{Sig as Signature};
-ghost use Rattle.head_search.specs.Matching.{first_of, firsts_of, head_matches, plies_hold};
+ghost use Rattle.sig_index.specs.Games.{head_in, name_in, plies_in};
+ghost use Rattle.head_search.specs.Matching.{belo_holds, black_holds, deleted_holds, eco_holds, event_holds, firsts_of, head_matches, mark_holds, name_item, player_holds, player_item, result_holds, round_holds, site_holds, welo_holds, white_holds, year_holds};
 
-use crate::matching::{names_hold, numbers_hold, plies_hold};
+use crate::matching::{begins, deleted_holds, eco_holds, mark_holds, result_holds, span_holds};
+use cell_core::Text;
 use game_filter::{Filter, Op};
-use game_tree::HeadRef;
-use sig_index::{Games, HeadQuery};
+use sig_index::{Games, HeadName, HeadQuery};
 
 /// Leaves in the filter what its entries become by a search of heads: a game that is asked for matches at ply 0. The filter has one
 /// entry per game.
@@ -22,7 +21,7 @@ pub fn search<G: Games>(games: &G, q: &HeadQuery, op: Op, filter: &mut Filter)
 }
 
 // Joins the match of one game.
-#[tactic(auto, using(crate::proofs::SearchLemmas::joined, crate::proofs::SearchLemmas::not_looked_at))]
+#[tactic(auto, using(game_filter::proofs::Searches::joined, game_filter::proofs::Searches::not_looked_at))]
 fn search_game<G: Games>(games: &G, i: u32, q: &HeadQuery, op: Op, filter: &mut Filter)
     requires game { i < length (G.sigs games.now) }
     requires games { length filter.old ≡ length (G.sigs games.now) }
@@ -41,27 +40,75 @@ fn first_ply<G: Games>(games: &G, i: u32, q: &HeadQuery) -> Option<u32>
     requires game { i < length (G.sigs games.now) }
     ensures first { result ≡ slice_index_or (firsts_of q.now (G.heads games.now) (G.sigs games.now)) i None }
 {
-    let head = games.head(i);
-    if is_asked(games, i, &head, q) {
-        Some(0)
-    } else {
-        None
+    // There is a head for each signature.
+    let _count = games.len();
+    if is_asked(games, i, q) { Some(0) } else { None }
+}
+
+// Whether a game is one that is asked for. The items are tested from the cheapest on, each on its own part of the head.
+#[tactic(auto, unfolding(crate::specs::Matching::head_matches))]
+fn is_asked<G: Games>(games: &G, i: u32, q: &HeadQuery) -> bool
+    requires game { i < length (G.sigs games.now) }
+    ensures asked { result ≡ head_matches (head_in (G.heads games.now) i) (plies_in (G.sigs games.now) i) q.now }
+{
+    numbers_fit(games, i, q) && span_holds(&q.plies, games.plies(i)) && names_fit(games, i, q)
+}
+
+// Whether all items of a game hold but those of plies and of names.
+fn numbers_fit<G: Games>(games: &G, i: u32, q: &HeadQuery) -> bool
+    requires game { i < length (G.sigs games.now) }
+    ensures { result ≡ (deleted_holds (head_in (G.heads games.now) i) q.now && mark_holds (head_in (G.heads games.now) i) q.now
+        && result_holds (head_in (G.heads games.now) i) q.now && year_holds (head_in (G.heads games.now) i) q.now
+        && welo_holds (head_in (G.heads games.now) i) q.now && belo_holds (head_in (G.heads games.now) i) q.now
+        && eco_holds (head_in (G.heads games.now) i) q.now) }
+{
+    deleted_holds(q.deleted, games.is_deleted(i))
+        && mark_holds(q.mark, games.marks(i))
+        && result_holds(q.result, games.outcome(i))
+        && span_holds(&q.year, games.date(i).year)
+        && span_holds(&q.welo, games.white_rating(i).value)
+        && span_holds(&q.belo, games.black_rating(i).value)
+        && eco_holds(&q.eco, games.eco(i))
+}
+
+// Whether all items of names of a game hold.
+fn names_fit<G: Games>(games: &G, i: u32, q: &HeadQuery) -> bool
+    requires game { i < length (G.sigs games.now) }
+    ensures { result ≡ (white_holds (head_in (G.heads games.now) i) q.now && black_holds (head_in (G.heads games.now) i) q.now
+        && player_holds (head_in (G.heads games.now) i) q.now && event_holds (head_in (G.heads games.now) i) q.now
+        && site_holds (head_in (G.heads games.now) i) q.now && round_holds (head_in (G.heads games.now) i) q.now) }
+{
+    name_fits(games, i, HeadName::White, &q.white)
+        && name_fits(games, i, HeadName::Black, &q.black)
+        && player_fits(games, i, &q.player)
+        && name_fits(games, i, HeadName::Event, &q.event)
+        && name_fits(games, i, HeadName::Site, &q.site)
+        && name_fits(games, i, HeadName::Round, &q.round)
+}
+
+// Whether an item of one of a game's names holds. A name that is not asked for is not looked up.
+#[tactic(auto, unfolding(crate::specs::Matching::name_item))]
+fn name_fits<G: Games>(games: &G, i: u32, which: HeadName, asked: &Option<Text>) -> bool
+    requires game { i < length (G.sigs games.now) }
+    ensures { result ≡ name_item asked.now (name_in which (head_in (G.heads games.now) i)) }
+{
+    match asked {
+        Some(text) => begins(games.name(i, which), text),
+        None => true,
     }
 }
 
-// Whether a game with this head is one that is asked for. Its signature is not looked at where no plies are asked for.
-#[tactic(auto, unfolding(crate::specs::Matching::head_matches))]
-fn is_asked<G: Games>(games: &G, i: u32, head: &HeadRef<'_>, q: &HeadQuery) -> bool
+// Whether the item of either player holds.
+#[tactic(auto, unfolding(crate::specs::Matching::player_item))]
+fn player_fits<G: Games>(games: &G, i: u32, asked: &Option<Text>) -> bool
     requires game { i < length (G.sigs games.now) }
-    ensures asked { (sig : Signature) → slice_get (G.sigs games.now) i ≡ Some sig → result ≡ head_matches (head_of head.now []) sig.plies q.now }
+    ensures { result ≡ player_item asked.now (head_in (G.heads games.now) i).white (head_in (G.heads games.now) i).black }
 {
-    numbers_hold(head, q) && game_plies_hold(games, i, q) && names_hold(head, q)
-}
-
-// Whether the plies of a game are those that are asked for.
-fn game_plies_hold<G: Games>(games: &G, i: u32, q: &HeadQuery) -> bool
-    requires game { i < length (G.sigs games.now) }
-    ensures plies { (sig : Signature) → slice_get (G.sigs games.now) i ≡ Some sig → result ≡ plies_hold sig.plies q.now }
-{
-    q.plies.is_none() || plies_hold(&games.sig(i), q)
+    match asked {
+        Some(text) => {
+            begins(games.name(i, HeadName::White), text)
+                || begins(games.name(i, HeadName::Black), text)
+        }
+        None => true,
+    }
 }

@@ -4,6 +4,7 @@
 mod counts;
 mod entry;
 mod fault;
+mod fields;
 mod index;
 mod packing;
 mod unpacking;
@@ -11,6 +12,10 @@ mod unpacking;
 pub use counts::count_code;
 pub use entry::Entry;
 pub use fault::{EntryFault, IndexFault};
+pub use fields::{
+    black_in, black_rating_in, date_in, eco_in, event_in, is_deleted_in, marks_in, outcome_in,
+    plies_in, round_in, site_in, white_in, white_rating_in,
+};
 pub use index::{ENTRY_LEN, HEADER_LEN, IndexHead, entry_of, read_index, write_index};
 pub use packing::pack;
 pub use unpacking::{place_of, unpack};

@@ -71,7 +71,7 @@ fn read_entry(b: &[u8; 47]) -> Result<Entry, EntryFault>
 }
 
 // The number of the two bytes at a place.
-fn word(b: &[u8; 47], at: usize) -> u16
+pub(crate) fn word(b: &[u8; 47], at: usize) -> u16
     requires { at ≤ 45 }
     ensures { result ≡ big_from at 2 b.now }
 {
@@ -79,7 +79,7 @@ fn word(b: &[u8; 47], at: usize) -> u16
 }
 
 // The number of the four bytes at a place.
-fn quad(b: &[u8; 47], at: usize) -> u32
+pub(crate) fn quad(b: &[u8; 47], at: usize) -> u32
     requires { at ≤ 43 }
     ensures { result ≡ big_from at 4 b.now }
 {
@@ -87,7 +87,7 @@ fn quad(b: &[u8; 47], at: usize) -> u32
 }
 
 // A number of more than sixteen bits.
-fn split(high: u8, low: u16) -> u32
+pub(crate) fn split(high: u8, low: u16) -> u32
     ensures { result ≡ high * 65536 + low }
 {
     u32::from(high) * 65_536 + u32::from(low)

@@ -38,7 +38,7 @@ one_of_two P x y (zero, z, less, is, holds) = inl (rw (← is) at holds)
 one_of_two P x y (suc zero, z, less, is, holds) = inr (rw (← is) at holds)
 one_of_two P x y (suc (suc n), z, less, is, holds) = absurd (omega arith)
 
-captures-ahead : (c : Colour) (a b : ℕ) → Any (Leaps a b) (pawn_captures c) → Ahead c a b
+pub captures-ahead : (c : Colour) (a b : ℕ) → Any (Leaps a b) (pawn_captures c) → Ahead c a b
 captures-ahead White a b h = elim (one_of_two (Leaps a b) (by 1 0 1 0) (by 0 1 1 0) h) [
   | inl right ↦ let ranks = (shift-Some (by 1 0 1 0) a b right).ranks in omega arith
   | inr left ↦ let ranks = (shift-Some (by 0 1 1 0) a b left).ranks in omega arith
@@ -154,7 +154,7 @@ stood p m q t c sound step on home h =
 
 -- ---- home values
 
-home_fits : (v : ℕ) → v < 16 → (home_square v < 64) × (rank_of (home_square v) ≡ pawn_rank (home_colour v))
+pub home_fits : (v : ℕ) → v < 16 → (home_square v < 64) × (rank_of (home_square v) ≡ pawn_rank (home_colour v))
 home_fits v small = elim (cases_lt v 8) [
   | inl black ↦ rw (lt-ltb v 8 black) (omega arith, omega arith)
   | inr white ↦ rw (le-ltb v 8 white) (omega arith, omega arith)

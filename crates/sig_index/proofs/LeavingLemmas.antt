@@ -1,5 +1,5 @@
 -- The pawns that leave their own squares along a main line, move by move.
-use Rattle.std.proofs.Common.{◌≡◌, ℕ, ◌+◌, ◌<◌, zero, suc, Bool, true, false, cond, not, List, [], ◌∷◌, ◌++◌, length, map, get_or, take, drop, refl, sym, ap, ◌∙◌, subst, arith, add-one, append_assoc, eq-eqb}
+use Rattle.std.proofs.Common.{◌≡◌, ℕ, ◌+◌, ◌<◌, zero, suc, Bool, true, false, cond, not, List, [], ◌∷◌, ◌++◌, Some, length, map, get_or, take, drop, refl, sym, ap, ◌∙◌, subst, arith, add-one, append_assoc, eq-eqb}
 use Rattle.std.specs.Prelude.{fold, IsTrue, All, ◌↔◌}
 use Rattle.std.specs.List.{filter, range_with_len}
 use Rattle.std.specs.Int.{bit_at, IsBitSet}
@@ -20,6 +20,7 @@ use Rattle.game_tree.specs.Replay.{main_moves, position_at, plies_of}
 use Rattle.game_tree.specs.Legal.{IsLegalGame, IsLegalLine}
 use Rattle.chess_laws.proofs.Stepping.{Step-stepped}
 use Rattle.sig_index.specs.Leaving.{in_set, staying, gone}
+use Rattle.sig_index.specs.Looking.{KnowsHome}
 use Rattle.sig_index.specs.Signature.{all_homes, leaving, left_of}
 
 -- ---- the positions after each move
@@ -45,7 +46,7 @@ along_is p (m ∷ moves) =
 
 -- ---- values in a set
 
-same_tests : (a b : Bool) → (a ≡ true → b ≡ true) → (b ≡ true → a ≡ true) → a ≡ b
+pub same_tests : (a b : Bool) → (a ≡ true → b ≡ true) → (b ≡ true → a ≡ true) → a ≡ b
 same_tests true b f g = sym (f refl)
 same_tests false true f g = g refl
 same_tests false false f g = refl
@@ -54,7 +55,7 @@ same_tests false false f g = refl
 abbrev pub IsHomeSet : Setup → ℕ → Type 0
 IsHomeSet p set = (v : ℕ) → v < 16 → (IsBitSet set v ↔ IsTrue (is_home p.board v))
 
-home_is : (p : Setup) (set v : ℕ) → IsHomeSet p set → v < 16 → in_set set v ≡ is_home p.board v
+pub home_is : (p : Setup) (set v : ℕ) → IsHomeSet p set → v < 16 → in_set set v ≡ is_home p.board v
 home_is p set v h lt =
     let shift = bit_set_by_shift set v in
     let both = h v lt in
@@ -100,18 +101,15 @@ Replays-start game line legal same = record {
 }
 
 -- one move more
-pub Replays-more : (game : GameTree) (line : List Played) (i : ℕ) (n : Played) (p q : Setup) (set : ℕ) (still left still_now left_now : List ℕ)
-    → i < length line → n ≡ get_or line i n → Replays game (line_of (drop i line)) p still left → Step p n.mv q → IsHomeSet q set
-    → still_now ≡ staying set still → left_now ≡ left ++ gone set still → Replays game (line_of (drop (i + 1) line)) q still_now left_now
-unfolding staying gone
-Replays-more game line i n p q set still left still_now left_now under item r step home still_is left_is =
+pub Replays-more : (game : GameTree) (line : List Played) (i : ℕ) (n : Played) (p q : Setup) (still left still_now left_now : List ℕ)
+    → i < length line → n ≡ get_or line i n → Replays game (line_of (drop i line)) p still left → Step p n.mv q
+    → still_now ≡ filter (λ v. is_home q.board v) still → left_now ≡ left ++ filter (λ v. not (is_home q.board v)) still
+    → Replays game (line_of (drop (i + 1) line)) q still_now left_now
+Replays-more game line i n p q still left still_now left_now under item r step stay go =
     let rest : drop i line ≡ n ∷ drop (i + 1) line = drop_more line i n under ∙ ap (λ (m : Played). m ∷ drop (i + 1) line) (sym item) in
     let all = subst (λ (ns : List Played). Replays game (line_of ns) p still left) rest r in
     let e = Step-stepped p n.mv q step in
     let moves = moves_of (line_of (drop (i + 1) line)) in
-    let stay : still_now ≡ filter (λ v. is_home q.board v) still = still_is ∙ filter_same (in_set set) (λ v. is_home q.board v) still all.values (λ v lt. home_is q set v home lt) in
-    let go : left_now ≡ left ++ filter (λ v. not (is_home q.board v)) still =
-    left_is ∙ ap (λ (xs : List ℕ). left ++ xs) (filter_same (λ v. not (in_set set v)) (λ v. not (is_home q.board v)) still all.values (λ v lt. ap not (home_is q set v home lt))) in
     let halves = length-filter_both (λ v. is_home q.board v) (λ v. not (is_home q.board v)) (λ _. refl) still in
     let room = all.room in
     record {
@@ -125,6 +123,28 @@ Replays-more game line i n p q set still left still_now left_now under item r st
           ∙ all.leaves;
       last = ap (λ (s : Setup). fold stepped s (moves_of (line_of (drop (i + 1) line)))) e ∙ all.last;
     }
+
+-- what is known after a look
+pub looked-stay : (p : Setup) (set : ℕ) (still : List ℕ) → All (λ v. v < 16) still → IsHomeSet p set → staying set still ≡ filter (λ v. is_home p.board v) still
+unfolding staying
+looked-stay p set still values home = filter_same (in_set set) (λ v. is_home p.board v) still values (λ v lt. home_is p set v home lt)
+
+pub looked-go : (p : Setup) (set : ℕ) (still : List ℕ) → All (λ v. v < 16) still → IsHomeSet p set → gone set still ≡ filter (λ v. not (is_home p.board v)) still
+unfolding gone
+looked-go p set still values home = filter_same (λ v. not (in_set set v)) (λ v. not (is_home p.board v)) still values (λ v lt. ap not (home_is p set v home lt))
+
+All-kept : (f : ℕ → Bool) (t : Bool) (x : ℕ) (xs : List ℕ) → f x ≡ t → All (λ v. f v ≡ true) xs → All (λ v. f v ≡ true) (cond t (x ∷ xs) xs)
+All-kept f true x xs here all = All-cons (λ v. f v ≡ true) x xs here all
+All-kept f false x xs here all = all
+
+All-passed : (f : ℕ → Bool) (xs : List ℕ) → All (λ v. f v ≡ true) (filter f xs)
+All-passed f [] = All-nil (λ v. f v ≡ true)
+All-passed f (x ∷ xs) = All-kept f (f x) x (filter f xs) refl (All-passed f xs)
+
+pub looked-knows : (p : Setup) (set : ℕ) (still now : List ℕ) → IsHomeSet p set → now ≡ staying set still → KnowsHome (Some set) p now
+unfolding staying
+looked-knows p set still now home is =
+    (λ v small there. sym (home_is p set v home small) ∙ there, subst (All (λ v. in_set set v ≡ true)) (sym is) (All-passed (in_set set) still))
 
 pub Replays-begin : (game : GameTree) (line : List Played) (p : Setup) (still left : List ℕ) → IsLegalGame game → game.line ≡ line_of line → p ≡ game.start
     → still ≡ all_homes → left ≡ [] → Replays game (line_of line) p still left

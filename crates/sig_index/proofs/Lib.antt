@@ -7,3 +7,12 @@ pub mod HomeLemmas
 pub mod StepLemmas
 pub mod Paying
 pub mod SkippingLemmas
+pub mod Ranges
+pub mod AllowLemmas
+pub mod PrefixLemmas
+pub mod OneLeaves
+pub mod ComingLemmas
+pub mod RecordLemmas
+pub mod CostLemmas
+pub mod LookingLemmas
+pub mod ReadLemmas

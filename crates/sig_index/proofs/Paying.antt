@@ -1,5 +1,5 @@
 -- What becomes of the counts of men along the moves of a line: each man that is new was one of his side's pawns.
-use Rattle.std.proofs.Common.{◌≡◌, ℕ, ◌+◌, ◌-◌, ◌<◌, ◌≤◌, zero, suc, Bool, true, false, cond, ◌&&◌, ◌||◌, List, [], ◌∷◌, length, take, min, Option, Some, None, is_some, is_none, IsTrue, refl, sym, ap, ◌∙◌, subst, arith, count_by}
+use Rattle.std.proofs.Common.{◌≡◌, ℕ, ◌+◌, ◌-◌, ◌<◌, ◌≤◌, zero, suc, Bool, true, false, cond, ◌&&◌, ◌||◌, length, take, Option, Some, None, is_some, IsTrue, refl, sym, subst, arith}
 use Rattle.std.specs.Prelude.{fold}
 use Rattle.std.proofs.lemmas.Bool.{or_parts}
 use Rattle.cell_core.specs.declared.man.Colour.{Colour}
@@ -12,7 +12,7 @@ use Rattle.cell_core.specs.Man.{is_man, man, same_colour, same_kind}
 use Rattle.chess_laws.specs.Counts.{count_of}
 use Rattle.chess_laws.specs.Castling.{rook_home, rook_target}
 use Rattle.chess_laws.specs.Position.{Sound}
-use Rattle.chess_laws.specs.Step.{Case, PlainCase, Step, arriving, board_after, effect_of, last_rank, may_become, moved, passed_square, stepped}
+use Rattle.chess_laws.specs.Step.{Case, PlainCase, Step, arriving, board_after, effect_of, may_become, moved, passed_square, stepped}
 use Rattle.chess_laws.specs.declared.effect.Effect.{Effect}
 use Rattle.chess_laws.specs.declared.effect.Effect.TheVariants.{Plain, Double, Passing, Castle, Null}
 use Rattle.chess_laws.specs.declared.setup.Setup.{Setup}

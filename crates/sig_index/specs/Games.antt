@@ -1,16 +1,56 @@
 -- The games of a base as searches see them: what is kept of each, and where its record stands (this project's own).
-use Rattle.std.specs.Prelude.{◌≡◌, ℕ, ◌+◌, ◌≤◌, List, take, length, slice_get, slice_index_or, Option, None, Some, ⊤}
+use Rattle.std.specs.Prelude.{◌≡◌, ℕ, ◌+◌, ◌≤◌, false, List, [], map, take, length, slice_get, slice_index, slice_index_or, Option, None, Some, ⊤}
 use Rattle.base_files.specs.declared.extent.Extent.{Extent}
 use Rattle.base_files.specs.Counters.{Rose}
 use Rattle.base_files.specs.Extents.{record_in}
 use Rattle.base_files.specs.Told.{Tells, part_told}
+use Rattle.game_tree.specs.Date.{unknown_date}
 use Rattle.game_tree.specs.Game.{GameTree}
+use Rattle.game_tree.specs.declared.head.Head.{Head}
+use Rattle.game_tree.specs.declared.head.Outcome.TheVariants.{Unknown}
 use Rattle.game_tree.specs.declared.head.Tag.{Tag}
 use Rattle.game_codec.specs.Record.{IsRecord, IsSomeRecord}
 use Rattle.sig_index.specs.declared.signature.Sig.{Sig}
+use Rattle.sig_index.specs.declared.games.HeadName.{HeadName}
+use Rattle.sig_index.specs.declared.games.HeadName.TheVariants as names
 use Rattle.sig_index.specs.declared.games.FetchError.{FetchError}
 use Rattle.sig_index.specs.declared.games.FetchError.TheVariants.{Failed, Changed}
 use Rattle.sig_index.specs.Signature.{IsSig}
+
+-- A head that says nothing.
+abbrev pub no_head : Head
+no_head = record {
+  white = [];
+  black = [];
+  event = [];
+  site = [];
+  round = [];
+  date = unknown_date;
+  event_date = unknown_date;
+  result = Unknown;
+  white_rating = record { value = 0; kind = 0 };
+  black_rating = record { value = 0; kind = 0 };
+  eco = 0;
+  marks = 0;
+  deleted = false;
+  tags = [];
+}
+
+-- The head of game i; past the last game, one that says nothing.
+abbrev pub head_in : List Head → ℕ → Head
+head_in heads i = slice_index_or heads i no_head
+
+-- One of the names of a head.
+abbrev pub name_in : HeadName → Head → List ℕ
+name_in names.White head = head.white
+name_in names.Black head = head.black
+name_in names.Event head = head.event
+name_in names.Site head = head.site
+name_in names.Round head = head.round
+
+-- The plies that the signature of game i has.
+abbrev pub plies_in : List Sig → ℕ → ℕ
+plies_in sigs i = slice_index (map (λ sig. sig.plies) sigs) i
 
 -- Where the record of game i stands; past the last game, no bytes.
 abbrev pub extent_in : List Extent → ℕ → Extent

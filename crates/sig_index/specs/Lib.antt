@@ -1,7 +1,11 @@
 pub mod Queries
 pub mod Signature
 pub mod Leaving
+pub mod Looking
 pub mod Games
 pub mod MemGames
 pub mod Left
 pub mod Skipping
+pub mod Homes
+pub mod Coming
+pub mod Costs

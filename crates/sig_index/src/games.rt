@@ -6,12 +6,12 @@ ghost use Rattle.base_files.specs.declared.extent.Extent.{Extent as Place};
 ghost use Rattle.game_tree.specs.Head.{head_of, HasTexts};
 ghost use Rattle.game_tree.specs.declared.head.Head.{Head};
 ghost use Rattle.sig_index.specs.declared.signature.Sig.{Sig as Signature};
-ghost use Rattle.sig_index.specs.Games.{AreWithin, HasFetchCause, Names, extent_in, record_told};
+ghost use Rattle.sig_index.specs.Games.{AreWithin, HasFetchCause, Names, extent_in, head_in, name_in, plies_in, record_told};
 ghost use Rattle.sig_index.specs.Signature.{IsSigBounded};
 
 use crate::signature::Sig;
 use base_files::{Extent, Files};
-use game_tree::HeadRef;
+use game_tree::{Date, HeadRef, Outcome, Rating};
 use thiserror::Error;
 
 /// Why the moves of a game are not known.
@@ -30,7 +30,18 @@ pub enum FetchError {
     },
 }
 
-/// The games of a base, counted from 0: of each its head without tags, its signature, and where its record stands.
+/// The names of a head.
+#[derive(Clone, Copy, Debug, PartialEq, Eq)]
+pub enum HeadName {
+    White,
+    Black,
+    Event,
+    Site,
+    Round,
+}
+
+/// The games of a base, counted from 0: of each its head without tags, its signature, and where its record stands. What a search of
+/// heads asks for is read by itself, so that no game's head is made of all its parts for one of them.
 pub trait Games {
     // The heads, without tags.
     ghost heads: { Self → List Head };
@@ -58,6 +69,51 @@ pub trait Games {
         requires game { i < length (sigs self.now) }
         ensures head { slice_get (heads self.now) i ≡ Some (head_of result []) }
         ensures texts { HasTexts result };
+
+    /// One of the names of game `i`.
+    fn name(&self, i: u32, which: HeadName) -> &[u8]
+        requires game { i < length (sigs self.now) }
+        ensures name { result.now ≡ name_in which (head_in (heads self.now) i) };
+
+    /// Whether game `i` is marked as deleted.
+    fn is_deleted(&self, i: u32) -> bool
+        requires game { i < length (sigs self.now) }
+        ensures deleted { result ≡ (head_in (heads self.now) i).deleted };
+
+    /// The marks of game `i`.
+    fn marks(&self, i: u32) -> u32
+        requires game { i < length (sigs self.now) }
+        ensures marks { result ≡ (head_in (heads self.now) i).marks };
+
+    /// The result of game `i`.
+    fn outcome(&self, i: u32) -> Outcome
+        requires game { i < length (sigs self.now) }
+        ensures outcome { result ≡ (head_in (heads self.now) i).result };
+
+    /// The date of game `i`.
+    fn date(&self, i: u32) -> Date
+        requires game { i < length (sigs self.now) }
+        ensures date { result ≡ (head_in (heads self.now) i).date };
+
+    /// The rating of White in game `i`.
+    fn white_rating(&self, i: u32) -> Rating
+        requires game { i < length (sigs self.now) }
+        ensures rating { result ≡ (head_in (heads self.now) i).white_rating };
+
+    /// The rating of Black in game `i`.
+    fn black_rating(&self, i: u32) -> Rating
+        requires game { i < length (sigs self.now) }
+        ensures rating { result ≡ (head_in (heads self.now) i).black_rating };
+
+    /// The opening code of game `i`.
+    fn eco(&self, i: u32) -> u16
+        requires game { i < length (sigs self.now) }
+        ensures eco { result ≡ (head_in (heads self.now) i).eco };
+
+    /// The plies that the signature of game `i` has.
+    fn plies(&self, i: u32) -> u16
+        requires game { i < length (sigs self.now) }
+        ensures plies { result ≡ plies_in (sigs self.now) i };
 
     /// Where the record of game `i` stands. It has at most 131,071 bytes.
     fn extent(&self, i: u32) -> Extent

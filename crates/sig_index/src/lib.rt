@@ -1,8 +1,10 @@
 //! What searches ask of the games of a base, by their heads, by the men on the board, by a position; and the signature of a game.
 #![tactic(auto)]
 
+mod coming;
 mod games;
 mod head_query;
+mod homes;
 mod laws;
 mod mat_query;
 mod mem_games;
@@ -11,8 +13,10 @@ mod signature;
 mod skipping;
 mod span;
 
-pub use games::{FetchError, Games};
+pub use coming::{can_come, missing_men_are_promoted};
+pub use games::{FetchError, Games, HeadName};
 pub use head_query::HeadQuery;
+pub use homes::{home_allows, home_pawn_skipping_is_sound};
 pub use laws::{held_records_stay, pawns_leave_once};
 pub use mat_query::{MatQuery, MatRange};
 pub use mem_games::MemGames;

@@ -6,15 +6,15 @@ ghost use Rattle.game_codec.specs.Record.{IsRecord};
 ghost use Rattle.game_tree.specs.Head.{head_of, without_tags, HasTexts, IsTag};
 ghost use Rattle.game_tree.specs.Legal.{IsLegalGame};
 ghost use Rattle.sig_index.specs.declared.signature.Sig.{Sig as Signature};
-ghost use Rattle.sig_index.specs.Games.{AreWithin, extent_in, record_told};
+ghost use Rattle.sig_index.specs.Games.{AreWithin, extent_in, head_in, name_in, plies_in, record_told};
 ghost use Rattle.sig_index.specs.MemGames.{Kept, kept_of, heads_of, sigs_of, extents_of};
 ghost use Rattle.sig_index.specs.Signature.{IsSig, IsSigBounded};
 
-use crate::games::{FetchError, Games};
+use crate::games::{FetchError, Games, HeadName};
 use crate::signature::{Sig, sig_of};
 use base_files::{Extent, Files};
 use game_codec::{EncodeError, encode_game};
-use game_tree::{Game, Head, HeadRef};
+use game_tree::{Date, Game, Head, HeadRef, Outcome, Rating};
 use std::alloc::Global;
 use std::marker::Model;
 
@@ -100,7 +100,9 @@ impl MemGames {
     fn at(&self, i: u32) -> &MemGame
         requires game { i < length self.now }
         ensures head { slice_get (heads_of self.now) i ≡ Some result.now.head }
+        ensures fields { result.now.head ≡ head_in (heads_of self.now) i }
         ensures sig { slice_get (sigs_of self.now) i ≡ Some result.now.sig }
+        ensures plies { result.now.sig.plies ≡ plies_in (sigs_of self.now) i }
         ensures extent { result.now.extent ≡ extent_in (extents_of self.now) i }
     {
         &self.games[i as usize]
@@ -108,6 +110,18 @@ impl MemGames {
 }
 
 impl MemGame {
+    fn name(&self, which: HeadName) -> &[u8]
+        ensures name { result.now ≡ name_in which self.now.head }
+    {
+        match which {
+            HeadName::White => self.head.white.as_bytes(),
+            HeadName::Black => self.head.black.as_bytes(),
+            HeadName::Event => self.head.event.as_bytes(),
+            HeadName::Site => self.head.site.as_bytes(),
+            HeadName::Round => self.head.round.as_bytes(),
+        }
+    }
+
     fn sig(&self) -> Sig
         ensures sig { result ≡ self.now.sig }
         ensures bounded { IsSigBounded result }
@@ -140,6 +154,42 @@ impl Games for MemGames {
 
     fn head(&self, i: u32) -> HeadRef<'_> {
         self.at(i).head.fields()
+    }
+
+    fn name(&self, i: u32, which: HeadName) -> &[u8] {
+        self.at(i).name(which)
+    }
+
+    fn is_deleted(&self, i: u32) -> bool {
+        self.at(i).head.deleted
+    }
+
+    fn marks(&self, i: u32) -> u32 {
+        self.at(i).head.marks
+    }
+
+    fn outcome(&self, i: u32) -> Outcome {
+        self.at(i).head.result
+    }
+
+    fn date(&self, i: u32) -> Date {
+        self.at(i).head.date
+    }
+
+    fn white_rating(&self, i: u32) -> Rating {
+        self.at(i).head.white_rating
+    }
+
+    fn black_rating(&self, i: u32) -> Rating {
+        self.at(i).head.black_rating
+    }
+
+    fn eco(&self, i: u32) -> u16 {
+        self.at(i).head.eco
+    }
+
+    fn plies(&self, i: u32) -> u16 {
+        self.at(i).sig.plies
     }
 
     fn extent(&self, i: u32) -> Extent {

@@ -1,14 +1,17 @@
 //! The signature of a game, by which searches pass it over unread.
-ghost use Rattle.std.specs.Prelude.{◌≡◌, ◌≤◌, ◌<◌, ◌+◌, ◌++◌, ◌↔◌, ℕ, IsTrue, All, length, min};
-ghost use Rattle.chess_laws.specs.Counts.{counts_of};
+ghost use Rattle.std.specs.Prelude.{◌≡◌, ◌≤◌, ◌<◌, ◌+◌, ◌++◌, ◌↔◌, ℕ, true, not, IsTrue, All, length, min};
+ghost use Rattle.std.specs.List.{filter};
+ghost use Rattle.chess_laws.specs.Counts.{counts_of, home_square, is_home};
 ghost use Rattle.chess_laws.specs.Position.{start_setup};
 ghost use Rattle.index_entry.specs.Entry.{AreCounts};
 ghost use Rattle.game_tree.specs.Legal.{IsLegalGame};
 ghost use Rattle.game_tree.specs.Replay.{plies_of, position_at};
 ghost use Rattle.sig_index.specs.Leaving.{in_set, staying, gone};
+ghost use Rattle.sig_index.specs.Looking.{IsUntouched, KnowsHome};
 ghost use Rattle.sig_index.specs.Signature.{IsSig, IsSigBounded, material_of, left_of, home_list};
 
 use arrayvec::ArrayVec;
+use cell_core::{Move, Square};
 use chess_laws::{Position, Setup};
 use game_tree::Game;
 use index_entry::count_code;
@@ -80,11 +83,62 @@ fn replayed(g: &Game) -> (Position, HomeList)
     let mut position = g.start;
     let mut still = ArrayVec::from(HOMES);
     let mut left = ArrayVec::new();
+    let mut home = None;
     for node in line {
+        // The rules of a position bound where pawns stand.
+        let _setup = position.setup();
         position.play(node.mv);
-        leave(position.home_set(), &mut still, &mut left);
+        leave_by(&node.mv, &position, &mut home, &mut still, &mut left);
     }
     (position, home_list(left.as_slice()))
+}
+
+// Takes the values of the pawns that are not at home after a move out of `still`, and adds them to `left`. `home` has the values that
+// were at home at the last look: the sixteen squares are looked at only where the move touches one of these.
+fn leave_by(
+    m: &Move,
+    after: &Position,
+    home: &mut Option<u16>,
+    still: &mut ArrayVec<u8, 16>,
+    left: &mut ArrayVec<u8, 16>,
+)
+    requires values { All (λ value. value < 16) still.old.items }
+    requires room { length still.old.items + length left.old.items ≤ 16 }
+    requires known { IsUntouched home.old m.now → KnowsHome home.old after.now still.old.items }
+    ensures still { still.new.items ≡ filter (λ value. is_home after.now.board value) still.old.items }
+    ensures left { left.new.items ≡ left.old.items ++ filter (λ value. not (is_home after.now.board value)) still.old.items }
+    ensures known { KnowsHome home.new after.now still.new.items }
+{
+    if is_untouched(*home, m) {
+        return;
+    }
+    let set = after.home_set();
+    leave(set, still, left);
+    *home = Some(set);
+}
+
+// Whether a move touches no square of a pawn that was at home at the last look.
+fn is_untouched(home: Option<u16>, m: &Move) -> bool
+    ensures untouched { result ≡ true → IsUntouched home m.now }
+{
+    match home {
+        Some(set) => !has_home(set, m.from) && !has_home(set, m.to),
+        None => false,
+    }
+}
+
+// Whether this square is the own one of a pawn of the set.
+fn has_home(set: u16, square: Square) -> bool
+    ensures own { (v : ℕ) → v < 16 → home_square v ≡ square → result ≡ in_set set v }
+{
+    let n = square.index();
+    if 8 <= n && n < 16 {
+        return is_in(set, 23 - n);
+    }
+    if 48 <= n && n < 56 {
+        return is_in(set, 55 - n);
+    }
+    false
 }
 
 // Whether a value's bit is set.

@@ -1,0 +1,69 @@
+-- The search through the games, one after the other: what it asks, and the entries that it leaves.
+use Rattle.std.proofs.Common.{◌≡◌, ℕ, ◌+◌, ◌<◌, ◌≤◌, zero, suc, List, [], ◌∷◌, Option, None, Some, get_or, length, set, take, ap, ◌∙◌, arith, add-one}
+use Rattle.std.specs.Prelude.{slice_get}
+use Rattle.std.proofs.lemmas.List.{get_or-set_other}
+use Rattle.base_files.specs.declared.extent.Extent.{Extent}
+use Rattle.sig_index.specs.declared.signature.Sig.{Sig}
+use Rattle.sig_index.specs.Costs.{price_by}
+use Rattle.sig_index.specs.Games.{extent_in}
+
+-- ---- the price
+
+plus_none : (n : ℕ) → n + 0 ≡ 0 + n
+plus_none n = omega arith
+
+regroup : (a b c : ℕ) → a + (b + c) ≡ a + b + c
+regroup a b c = omega arith
+
+price_next : (cost : Sig → Extent → Option ℕ → ℕ) (sigs : List Sig) (extents : List Extent) (plies : List (Option ℕ)) (i : ℕ) (sig : Sig)
+    → slice_get sigs i ≡ Some sig → i < length extents → i < length plies
+    → price_by cost (take (suc i) sigs) extents plies ≡ price_by cost (take i sigs) extents plies + cost sig (extent_in extents i) (get_or plies i None)
+price_next cost [] extents plies i sig there inside entry = absurd (cc)
+price_next cost (s ∷ sigs) [] plies i sig there inside entry = absurd (omega (arith, inside))
+price_next cost (s ∷ sigs) (x ∷ extents) [] i sig there inside entry = absurd (omega (arith, entry))
+price_next cost (s ∷ sigs) (x ∷ extents) (o ∷ plies) zero sig there inside entry =
+    let same : s ≡ sig = cc in
+    ap (λ (z : Sig). cost z x o + 0) same ∙ plus_none (cost sig x o)
+price_next cost (s ∷ sigs) (x ∷ extents) (o ∷ plies) (suc i) sig there inside entry =
+    ap (λ (n : ℕ). cost s x o + n) (price_next cost sigs extents plies i sig there (omega (arith, inside)) (omega (arith, entry)))
+    ∙ regroup (cost s x o) (price_by cost (take i sigs) extents plies) (cost sig (extent_in extents i) (get_or plies i None))
+
+-- One game more.
+pub price_more : (cost : Sig → Extent → Option ℕ → ℕ) (sigs : List Sig) (extents : List Extent) (plies : List (Option ℕ)) (i : ℕ) (sig : Sig)
+    → slice_get sigs i ≡ Some sig → i < length extents → i < length plies
+    → price_by cost (take (i + 1) sigs) extents plies ≡ price_by cost (take i sigs) extents plies + cost sig (extent_in extents i) (get_or plies i None)
+price_more cost sigs extents plies i sig there inside entry =
+    ap (λ (k : ℕ). price_by cost (take k sigs) extents plies) (add-one i) ∙ price_next cost sigs extents plies i sig there inside entry
+
+add_both : (a b c : ℕ) → b ≤ c → a + b ≤ a + c
+add_both a b c h = omega arith
+
+-- Those of the first games cost no more than all.
+pub price_front : (cost : Sig → Extent → Option ℕ → ℕ) (sigs : List Sig) (extents : List Extent) (plies : List (Option ℕ)) (k : ℕ)
+    → price_by cost (take k sigs) extents plies ≤ price_by cost sigs extents plies
+price_front cost [] extents plies zero = omega arith
+price_front cost [] extents plies (suc k) = omega arith
+price_front cost (s ∷ sigs) extents plies zero = omega arith
+price_front cost (s ∷ sigs) [] plies (suc k) = omega arith
+price_front cost (s ∷ sigs) (x ∷ extents) [] (suc k) = omega arith
+price_front cost (s ∷ sigs) (x ∷ extents) (o ∷ plies) (suc k) =
+    add_both (cost s x o) (price_by cost (take k sigs) extents plies) (price_by cost sigs extents plies) (price_front cost sigs extents plies k)
+
+-- What was asked for with one game more, and so far with this one of all.
+pub asked_more : (first old new price cost cost' more : ℕ) → old ≤ first + price → new ≤ old + cost → cost ≡ cost' → more ≡ price + cost' → new ≤ first + more
+asked_more first old new price cost cost' more before asks same is = omega arith
+
+pub asked_all : (first new more all : ℕ) → new ≤ first + more → more ≤ all → new ≤ first + all
+asked_all first new more all asks h = omega arith
+
+-- ---- the entries
+
+-- The games behind this one have their old entries.
+abbrev pub Untouched : List (Option ℕ) → List (Option ℕ) → ℕ → Type 0
+Untouched old new i = (k : ℕ) → i ≤ k → get_or new k None ≡ get_or old k None
+
+pub untouched_more : (old now new : List (Option ℕ)) (i : ℕ) (ply : Option ℕ) → new ≡ set now i ply → Untouched old now i → Untouched old new (i + 1)
+untouched_more old now new i ply is before k behind =
+    ap (λ (l : List (Option ℕ)). get_or l k None) is
+    ∙ get_or-set_other now i k ply None (λ same. omega (arith, same, behind))
+    ∙ before k (omega (arith, behind))
