@@ -1,21 +1,14 @@
--- Counts that come into a range: what is missing is made of pawns.
-use Rattle.std.proofs.Common.{◌≡◌, ℕ, ◌+◌, ◌-◌, ◌<◌, ◌≤◌, zero, suc, Bool, true, false, ◌&&◌, leb, List, refl, arith, lit<}
+-- Counts in a range, each by itself; and those of a later ply, which can come.
+use Rattle.std.proofs.Common.{◌≡◌, ℕ, ◌<◌, ◌≤◌, zero, suc, Bool, true, ◌&&◌, leb, List, arith}
 use Rattle.std.specs.Prelude.{slice_index}
-use Rattle.std.proofs.lemmas.Bool.{and_from, and_parts, le-leb, leb-true}
-use Rattle.cell_core.specs.declared.man.Colour.{Colour}
-use Rattle.cell_core.specs.declared.man.Colour.TheVariants.{White, Black}
-use Rattle.cell_core.specs.declared.man.Kind.TheVariants.{Queen, Rook, Bishop, Knight, Pawn}
-use Rattle.cell_core.specs.Board.{Men}
-use Rattle.chess_laws.specs.Counts.{count_of, counts_of}
+use Rattle.std.proofs.lemmas.Bool.{and_parts, leb-true}
 use Rattle.chess_laws.specs.Position.{Sound}
 use Rattle.game_tree.specs.Game.{GameTree}
 use Rattle.game_tree.specs.Legal.{IsLegalGame}
-use Rattle.game_tree.specs.Replay.{position_at}
 use Rattle.sig_index.specs.declared.mat_query.MatRange.{MatRange}
-use Rattle.sig_index.proofs.Paying.{Pays, all_rose, rose}
-use Rattle.sig_index.proofs.SkippingLemmas.{game-pays}
+use Rattle.sig_index.specs.Coming.{can_come}
+use Rattle.sig_index.proofs.ComingLemmas as coming
 use Rattle.mat_search.specs.Matching.{count_in, counts_at, in_range}
-use Rattle.mat_search.specs.Streaks.{can_come, colour_can_come, lack}
 
 -- ---- the ten tests
 
@@ -76,47 +69,9 @@ at_most range counts all place less =
     leb-true (slice_index counts place) (slice_index range.hi place)
     (and_parts (leb (slice_index range.lo place) (slice_index counts place)) (leb (slice_index counts place) (slice_index range.hi place)) (each_in range counts all place less)).1
 
--- ---- one colour
-
-lacked : (lo old new : ℕ) → lo ≤ new → lo - old ≤ new - old
-lacked lo old new h = omega arith
-
-sums : (q r b n q' r' b' n' w w' p : ℕ) → q ≤ q' → r ≤ r' → b ≤ b' → n ≤ n' → w ≤ w' → q' + (r' + b' + n') + w' ≤ p → q + (r + b + n) + w ≤ p
-sums q r b n q' r' b' n' w w' p hq hr hb hn hw paid = omega arith
-
-white-comes : (range : MatRange) (old new : Men) (promo under : Bool) → Pays promo under old new → in_range range (counts_of new) ≡ true
-    → colour_can_come range (counts_of old) 0 ≡ true
-white-comes range old new promo under pays holds =
-    let lo = at_least range (counts_of new) holds in
-    le-leb (lack range (counts_of old) 0 + (lack range (counts_of old) 1 + lack range (counts_of old) 2 + lack range (counts_of old) 3) + slice_index range.lo 4) (count_of old White Pawn)
-    (sums (lack range (counts_of old) 0) (lack range (counts_of old) 1) (lack range (counts_of old) 2) (lack range (counts_of old) 3)
-    (rose old new White Queen) (rose old new White Rook) (rose old new White Bishop) (rose old new White Knight)
-    (slice_index range.lo 4) (count_of new White Pawn) (count_of old White Pawn)
-    (lacked (slice_index range.lo 0) (count_of old White Queen) (count_of new White Queen) (lo 0 (lit< tt)))
-    (lacked (slice_index range.lo 1) (count_of old White Rook) (count_of new White Rook) (lo 1 (lit< tt)))
-    (lacked (slice_index range.lo 2) (count_of old White Bishop) (count_of new White Bishop) (lo 2 (lit< tt)))
-    (lacked (slice_index range.lo 3) (count_of old White Knight) (count_of new White Knight) (lo 3 (lit< tt)))
-    (lo 4 (lit< tt)) (pays.paid White))
-
-black-comes : (range : MatRange) (old new : Men) (promo under : Bool) → Pays promo under old new → in_range range (counts_of new) ≡ true
-    → colour_can_come range (counts_of old) 5 ≡ true
-black-comes range old new promo under pays holds =
-    let lo = at_least range (counts_of new) holds in
-    le-leb (lack range (counts_of old) 5 + (lack range (counts_of old) 6 + lack range (counts_of old) 7 + lack range (counts_of old) 8) + slice_index range.lo 9) (count_of old Black Pawn)
-    (sums (lack range (counts_of old) 5) (lack range (counts_of old) 6) (lack range (counts_of old) 7) (lack range (counts_of old) 8)
-    (rose old new Black Queen) (rose old new Black Rook) (rose old new Black Bishop) (rose old new Black Knight)
-    (slice_index range.lo 9) (count_of new Black Pawn) (count_of old Black Pawn)
-    (lacked (slice_index range.lo 5) (count_of old Black Queen) (count_of new Black Queen) (lo 5 (lit< tt)))
-    (lacked (slice_index range.lo 6) (count_of old Black Rook) (count_of new Black Rook) (lo 6 (lit< tt)))
-    (lacked (slice_index range.lo 7) (count_of old Black Bishop) (count_of new Black Bishop) (lo 7 (lit< tt)))
-    (lacked (slice_index range.lo 8) (count_of old Black Knight) (count_of new Black Knight) (lo 8 (lit< tt)))
-    (lo 9 (lit< tt)) (pays.paid Black))
+-- ---- a later ply
 
 -- Counts that are in a range at a later ply can come into it.
 pub comes : (range : MatRange) (game : GameTree) (i j : ℕ) → Sound game.start → IsLegalGame game → i ≤ j → in_range range (counts_at game j) ≡ true
     → can_come range (counts_at game i) ≡ true
-comes range game i j sound legal later holds =
-    let pays = game-pays game i j sound legal later in
-    and_from (colour_can_come range (counts_at game i) 0) (colour_can_come range (counts_at game i) 5)
-    (white-comes range (position_at game i).board (position_at game j).board _ _ pays holds)
-    (black-comes range (position_at game i).board (position_at game j).board _ _ pays holds)
+comes range game i j sound legal later holds = coming.comes game range i j sound legal later (at_least range (counts_at game j) holds)

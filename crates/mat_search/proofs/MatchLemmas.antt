@@ -1,13 +1,14 @@
 -- Where a game matches, and where it does not.
-use Rattle.std.proofs.Common.{◌≡◌, ℕ, ◌+◌, ◌-◌, ◌<◌, ◌≤◌, zero, suc, inl, inr, Bool, true, false, cond, ◌&&◌, ◌||◌, leb, get_or, length, Option, None, Some, refl, sym, ap, ◌∙◌, subst, arith}
+use Rattle.std.proofs.Common.{◌≡◌, ℕ, ◌+◌, ◌-◌, ◌<◌, ◌≤◌, zero, suc, inl, inr, Bool, true, false, ◌&&◌, ◌||◌, leb, get_or, None, Some, refl, sym, ap, ◌∙◌, subst, arith}
 use Rattle.std.specs.List.{find, list_all, range_with_len}
-use Rattle.std.proofs.lemmas.Bool.{and_from, and_left, and_parts, and_right, cases_eq, cases_lt, le-leb, lt-leb, or_from}
+use Rattle.std.proofs.lemmas.Bool.{and_from, and_left, and_right, cases_eq, le-leb, lt-leb, or_from}
 use Rattle.std.proofs.lemmas.List.Folds.{list_all_at}
 use Rattle.std.proofs.lemmas.List.FromFn.{get_or-range_with_len, length-range_with_len}
 use Rattle.game_tree.specs.Game.{GameTree}
 use Rattle.game_tree.specs.Replay.{plies_of}
 use Rattle.sig_index.specs.declared.mat_query.MatQuery.{MatQuery}
 use Rattle.sig_index.specs.declared.mat_query.MatRange.{MatRange}
+use Rattle.sig_index.proofs.Ranges.{all_from, find_first, find_none}
 use Rattle.mat_search.specs.Matching.{counts_at, exchanged, first_of, in_range, is_streak, matches_at}
 use Rattle.mat_search.proofs.StreakLemmas.{Fails}
 
@@ -36,17 +37,11 @@ pub streak_past : (range : MatRange) (game : GameTree) (ply plies : ℕ) → pli
 streak_past range game ply plies past =
     and_left (leb (ply + plies - 1) (plies_of game)) (list_all (λ k. in_range range (counts_at game k)) (range_with_len ply plies)) (lt-leb (ply + plies - 1) (plies_of game) past)
 
-all_pass : (test : ℕ → Bool) (a n : ℕ) → ((k : ℕ) → a ≤ k → k < a + n → test k ≡ true) → list_all test (range_with_len a n) ≡ true
-all_pass test a zero pass = refl
-all_pass test a (suc n) pass =
-    and_from (test a) (list_all test (range_with_len (a + 1) n)) (pass a (omega arith) (omega arith))
-    (all_pass test (a + 1) n (λ k h less. pass k (omega (arith, h)) (omega (arith, less))))
-
 pub streak_holds : (range : MatRange) (game : GameTree) (ply plies : ℕ) → ply + plies - 1 ≤ plies_of game
     → ((k : ℕ) → ply ≤ k → k < ply + plies → in_range range (counts_at game k) ≡ true) → is_streak range game ply plies ≡ true
 streak_holds range game ply plies within pass =
     and_from (leb (ply + plies - 1) (plies_of game)) (list_all (λ k. in_range range (counts_at game k)) (range_with_len ply plies))
-    (le-leb (ply + plies - 1) (plies_of game) within) (all_pass (λ k. in_range range (counts_at game k)) ply plies pass)
+    (le-leb (ply + plies - 1) (plies_of game) within) (all_from (λ k. in_range range (counts_at game k)) ply plies pass)
 
 -- ---- matches
 
@@ -98,27 +93,10 @@ a_match query game ply lo hi streak =
 
 -- ---- the first
 
-find_first : (test : ℕ → Bool) (a n k : ℕ) → a ≤ k → k < a + n → test k ≡ true → ((j : ℕ) → j < k → test j ≡ false) → find test (range_with_len a n) ≡ Some k
-find_first test a zero k from within holds before = absurd (omega (arith, from, within))
-find_first test a (suc n) k from within holds before = elim (cases_eq a k) [
-  | inl same ↦
-      let here : test a ≡ true = ap test same ∙ holds in
-      rw here (ap (λ (j : ℕ). Some j) same)
-  | inr apart ↦
-      let here : test a ≡ false = before a (omega (arith, from, apart)) in
-      rw here (find_first test (a + 1) n k (omega (arith, from, apart)) (omega (arith, within)) holds before)
-]
-
-find_none : (test : ℕ → Bool) (a n : ℕ) → ((j : ℕ) → test j ≡ false) → find test (range_with_len a n) ≡ None
-find_none test a zero none = refl
-find_none test a (suc n) none =
-    let here : test a ≡ false = none a in
-    rw here (find_none test (a + 1) n none)
-
 pub first_found : (query : MatQuery) (game : GameTree) (ply : ℕ) → ply ≤ plies_of game → matches_at query game ply ≡ true
     → ((j : ℕ) → j < ply → matches_at query game j ≡ false) → Some ply ≡ first_of query game
 first_found query game ply within holds before =
     sym (find_first (matches_at query game) 0 (plies_of game + 1) ply (omega arith) (omega (arith, within)) holds before)
 
 pub first_none : (query : MatQuery) (game : GameTree) → ((j : ℕ) → matches_at query game j ≡ false) → None ≡ first_of query game
-first_none query game none = sym (find_none (matches_at query game) 0 (plies_of game + 1) none)
+first_none query game none = sym (find_none (matches_at query game) 0 (plies_of game + 1) (λ ply from less. none ply))

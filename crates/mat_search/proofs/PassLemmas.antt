@@ -1,5 +1,5 @@
 -- The test of signatures is sound: a game that matches passes it.
-use Rattle.std.proofs.Common.{◌≡◌, ℕ, ◌+◌, ◌-◌, ◌<◌, ◌≤◌, zero, suc, inl, inr, Bool, true, false, ◌&&◌, ◌||◌, eqb, leb, min, eq-eqb, refl, sym, ◌∙◌, arith}
+use Rattle.std.proofs.Common.{◌≡◌, ℕ, ◌+◌, ◌-◌, ◌≤◌, zero, suc, inl, inr, Bool, true, false, ◌&&◌, ◌||◌, eqb, leb, min, eq-eqb, arith}
 use Rattle.std.specs.List.{list_all, range_with_len}
 use Rattle.std.proofs.lemmas.Bool.{and_from, and_parts, both_ways, cases_Bool, cases_lt, le-leb, leb-true, or_cases, or_left, or_right}
 use Rattle.chess_laws.specs.Position.{Sound}

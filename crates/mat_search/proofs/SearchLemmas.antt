@@ -1,12 +1,12 @@
 -- The search through the games, one after the other.
-use Rattle.std.proofs.Common.{◌≡◌, ℕ, ◌+◌, ◌<◌, ◌≤◌, zero, suc, Bool, true, cond, ◌&&◌, List, [], ◌∷◌, Option, None, Some, length, get_or, set, take, refl, sym, ap, ◌∙◌, arith, add-one}
+use Rattle.std.proofs.Common.{◌≡◌, ℕ, ◌+◌, ◌<◌, ◌≤◌, zero, suc, Bool, true, cond, ◌&&◌, List, [], ◌∷◌, Option, None, Some, length, get_or, set, take, sym, ap, ◌∙◌, arith, add-one}
 use Rattle.std.specs.Prelude.{option_map, slice_get}
-use Rattle.std.proofs.lemmas.List.{get_or-set_other, length-map, set-get_or, take_all}
+use Rattle.std.proofs.lemmas.List.{get_or-set_other, length-map, take_all}
 use Rattle.std.proofs.lemmas.Option.{get_or_from_slice_get, slice_get-map}
 use Rattle.base_files.specs.declared.extent.Extent.{Extent}
 use Rattle.game_filter.specs.Search.{entry_after, looks_at, searched}
 use Rattle.game_filter.specs.declared.op.Op.{Op}
-use Rattle.game_filter.proofs.Searches.{searched-behind, searched-more}
+use Rattle.game_filter.proofs.Searches.{search_more}
 use Rattle.game_tree.specs.Game.{GameTree}
 use Rattle.sig_index.specs.Games.{extent_in}
 use Rattle.sig_index.specs.declared.mat_query.MatQuery.{MatQuery}
@@ -86,36 +86,19 @@ untouched_more old now new i ply is before k behind =
     ∙ get_or-set_other now i k ply None (λ same. omega (arith, same, behind))
     ∙ before k (omega (arith, behind))
 
--- A game that is not looked at keeps its entry.
-pub not_looked_at : (op : Op) (plies : List (Option ℕ)) (i : ℕ) (old first : Option ℕ) → slice_get plies i ≡ Some old
-    → entry_after op old first ≡ old → plies ≡ set plies i (entry_after op (get_or plies i None) first)
-not_looked_at op plies i old first there kept =
-    let here = get_or_from_slice_get plies i old None there in
-    sym (set-get_or plies i None) ∙ ap (set plies i) (here ∙ sym kept ∙ ap (λ (o : Option ℕ). entry_after op o first) (sym here))
-
--- A game's entry is joined with its first ply.
-pub joined : (op : Op) (plies new : List (Option ℕ)) (i : ℕ) (old first found entry : Option ℕ) → slice_get plies i ≡ Some old → found ≡ first
-    → entry ≡ entry_after op old found → new ≡ set plies i entry → new ≡ set plies i (entry_after op (get_or plies i None) first)
-joined op plies new i old first found entry there same after is =
-    is ∙ ap (set plies i) (after ∙ (λ j. entry_after op (sym (get_or_from_slice_get plies i old None there) j) (same j)))
-
+-- The first matching ply of a game.
 first_at : (query : MatQuery) (list : List GameTree) (i : ℕ) (game : GameTree) → slice_get list i ≡ Some game → get_or (firsts_of query list) i None ≡ first_of query game
 first_at query list i game there =
     get_or_from_slice_get (firsts_of query list) i (first_of query game) None
     (slice_get-map (first_of query) list i ∙ ap (option_map (first_of query)) there)
 
 -- One game more was searched.
-pub search_more : (op : Op) (query : MatQuery) (list : List GameTree) (plies now new : List (Option ℕ)) (i : ℕ) (game : GameTree)
+pub game_more : (op : Op) (query : MatQuery) (list : List GameTree) (plies now new : List (Option ℕ)) (i : ℕ) (game : GameTree)
     → now ≡ searched op (take i (firsts_of query list)) plies → i < length list → i < length plies → slice_get list i ≡ Some game
     → new ≡ set now i (entry_after op (get_or now i None) (first_of query game)) → new ≡ searched op (take (i + 1) (firsts_of query list)) plies
-search_more op query list plies now new i game done within here there is =
-    let firsts = firsts_of query list in
-    let inside : i < length firsts = omega (arith, within, length-map list (first_of query)) in
-    is
-    ∙ (λ j. set (done j) i (entry_after op (get_or (done j) i None) (sym (first_at query list i game there) j)))
-    ∙ ap (λ (o : Option ℕ). set (searched op (take i firsts) plies) i (entry_after op o (get_or firsts i None))) (searched-behind op firsts plies i)
-    ∙ searched-more op firsts plies i inside here
-    ∙ ap (λ k. searched op (take k firsts) plies) (sym (add-one i))
+game_more op query list plies now new i game done within here there is =
+    search_more op (firsts_of query list) plies now new i (first_of query game) done (omega (arith, within, length-map list (first_of query))) here
+    (first_at query list i game there) is
 
 -- All were.
 pub all_searched : (op : Op) (query : MatQuery) (list : List GameTree) (plies now : List (Option ℕ)) (i : ℕ) → now ≡ searched op (take i (firsts_of query list)) plies

@@ -1,5 +1,5 @@
 -- What is known at a ply of the streaks that are under way.
-use Rattle.std.proofs.Common.{◌≡◌, ℕ, ◌+◌, ◌<◌, ◌≤◌, ◌⊎◌, inl, inr, Bool, true, false, cond, ◌&&◌, ◌||◌, leb, ltb, refl, sym, ◌∙◌, subst, arith}
+use Rattle.std.proofs.Common.{◌≡◌, ℕ, ◌+◌, ◌<◌, ◌≤◌, ◌⊎◌, inl, inr, Bool, true, false, cond, ◌&&◌, ◌||◌, leb, ltb, refl, sym, subst, arith}
 use Rattle.std.proofs.lemmas.Bool.{and_cases, and_parts, cases_eq, cases_lt, leb-false, leb-true, ltb-false, ltb-true, or_cases, or_parts}
 use Rattle.sig_index.specs.declared.mat_query.MatQuery.{MatQuery}
 use Rattle.mat_search.specs.Streaks.{streak_after}
@@ -19,15 +19,6 @@ pub record Run (test : ℕ → Bool) (query : MatQuery) (ply streak : ℕ) : Typ
   pub to_hi : 0 < streak → ply ≤ query.ply_hi + streak
   pub passed : (k : ℕ) → ply ≤ k + streak → k < ply → test k ≡ true
   pub before : (k : ℕ) → k + streak < ply → query.ply_lo ≤ k → k ≤ query.ply_hi → Fails test query.streak k
-
-pub run_start : (test : ℕ → Bool) (query : MatQuery) → Run test query 0 0
-run_start test query = record {
-  within = omega arith;
-  from_lo = λ h. absurd (omega (arith, h));
-  to_hi = λ h. absurd (omega (arith, h));
-  passed = λ k h less. absurd (omega (arith, less));
-  before = λ k h lo hi. absurd (omega (arith, h));
-}
 
 -- The streak goes on, or begins.
 grows : (test : ℕ → Bool) (query : MatQuery) (ply streak : ℕ) → Run test query ply streak → query.ply_lo + streak ≤ ply → ply ≤ query.ply_hi + streak

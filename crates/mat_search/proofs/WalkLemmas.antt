@@ -1,34 +1,20 @@
 -- The walk over a main line: what is known at a ply, and when the answer is known.
-use Rattle.std.proofs.Common.{◌≡◌, ℕ, ◌+◌, ◌-◌, ◌<◌, ◌≤◌, inl, inr, Bool, true, false, not, ◌&&◌, ◌||◌, eqb, leb, List, Option, None, Some, refl, sym, ap, ◌∙◌, subst, arith}
-use Rattle.std.specs.Prelude.{slice_get}
-use Rattle.std.proofs.lemmas.Bool.{and_parts, and_right, both_ways, cases_Bool, cases_lt, eqb-false, eqb-true, leb-true, not-true, or_cases, or_left, or_parts, or_right}
-use Rattle.std.proofs.lemmas.Option.{slice_get_cases}
+use Rattle.std.proofs.Common.{◌≡◌, ℕ, ◌+◌, ◌-◌, ◌<◌, ◌≤◌, inl, inr, Bool, true, false, not, ◌&&◌, ◌||◌, eqb, leb, List, None, Some, refl, sym, ap, ◌∙◌, subst, arith}
+use Rattle.std.proofs.lemmas.Bool.{and_parts, both_ways, cases_Bool, cases_lt, eqb-false, eqb-true, leb-true, not-true, or_cases, or_left, or_parts, or_right}
 use Rattle.chess_laws.specs.Counts.{counts_of}
 use Rattle.chess_laws.specs.Position.{Sound}
 use Rattle.chess_laws.specs.declared.setup.Setup.{Setup}
-use Rattle.game_codec.specs.Record.{IsRecord}
-use Rattle.game_codec.proofs.LegalLaws.{record-legal}
-use Rattle.game_codec.proofs.StartLaws.{BeginsStart-Sound}
 use Rattle.game_tree.specs.Game.{GameTree}
 use Rattle.game_tree.specs.Legal.{IsLegalGame}
-use Rattle.game_tree.specs.Replay.{main_moves, plies_of, position_at}
-use Rattle.game_tree.specs.declared.head.Tag.{Tag}
+use Rattle.game_tree.specs.Replay.{plies_of, position_at}
 use Rattle.sig_index.specs.declared.mat_query.MatQuery.{MatQuery}
 use Rattle.sig_index.specs.declared.mat_query.MatRange.{MatRange}
 use Rattle.mat_search.specs.Matching.{counts_at, exchanged, first_of, in_range, is_streak, matches_at}
-use Rattle.mat_search.specs.Streaks.{can_come, can_match_later, is_over, streak_after}
+use Rattle.sig_index.specs.Coming.{can_come}
+use Rattle.mat_search.specs.Streaks.{can_match_later, is_over, streak_after}
 use Rattle.mat_search.proofs.ComingLemmas.{comes}
 use Rattle.mat_search.proofs.MatchLemmas.{a_match, early, first_found, first_none, late, no_match, other_at, own_at, past_end, streak_holds}
-use Rattle.mat_search.proofs.StreakLemmas.{Fails, Run, run_start, run_step, step_short}
-
--- ---- the game of a record
-
--- It is legal, and its start keeps the rules of a position.
-pub game_legal : (bytes : List ℕ) (tags : List Tag) (game : GameTree) → IsRecord bytes tags game → IsLegalGame game
-game_legal bytes tags game is = subst IsLegalGame (sym is.game_is) (record-legal is.start is.movetext is.behind_start is.behind_moves is.then_moves)
-
-pub game_sound : (bytes : List ℕ) (tags : List Tag) (game : GameTree) → IsRecord bytes tags game → Sound game.start
-game_sound bytes tags game is = subst (λ (g : GameTree). Sound g.start) (sym is.game_is) (BeginsStart-Sound is.behind_tags is.start is.behind_start is.then_start)
+use Rattle.mat_search.proofs.StreakLemmas.{Fails, Run, run_step, step_short}
 
 -- ---- before a ply, and after it
 
@@ -36,9 +22,6 @@ game_sound bytes tags game is = subst (λ (g : GameTree). Sound g.start) (sym is
 pub record IsAt (query : MatQuery) (game : GameTree) (ply own other : ℕ) : Type 0 where
   pub own_run : Run (own_at query game) query ply own
   pub other_run : Run (other_at query game) query ply other
-
-pub at_start : (query : MatQuery) (game : GameTree) → IsAt query game 0 0 0
-at_start query game = record { own_run = run_start (own_at query game) query; other_run = run_start (other_at query game) query }
 
 -- One ply more was looked at.
 pub looked : (query : MatQuery) (game : GameTree) (ply own other own' other' : ℕ) (counts : List ℕ) → IsAt query game ply own other
@@ -145,12 +128,6 @@ other_less own other plies short not =
     let apart = eqb-false other plies (or_parts (eqb own plies) (eqb other plies) not).1 in omega (arith, short, apart)
 
 -- ---- the end of the line
-
-pub no_next : (game : GameTree) (k : ℕ) → slice_get (main_moves game) k ≡ None → plies_of game ≤ k
-no_next game k none = elim (slice_get_cases (main_moves game) k).1 [
-  | inl at ↦ absurd (cc (none, at.2))
-  | inr past ↦ past.0
-]
 
 pub none_at_end : (query : MatQuery) (game : GameTree) (ply own other : ℕ) → IsAt query game (ply + 1) own other → own < query.streak → other < query.streak
     → plies_of game ≤ ply → None ≡ first_of query game

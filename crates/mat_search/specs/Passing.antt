@@ -1,5 +1,5 @@
 -- Which games a search of counts of men has to read, by their signatures (this project's own).
-use Rattle.std.specs.Prelude.{ℕ, ◌+◌, ◌-◌, ◌==◌, ◌&&◌, ◌||◌, nat_le, Bool}
+use Rattle.std.specs.Prelude.{◌+◌, ◌-◌, ◌==◌, ◌&&◌, ◌||◌, nat_le, Bool}
 use Rattle.sig_index.specs.declared.mat_query.MatQuery.{MatQuery}
 use Rattle.sig_index.specs.declared.signature.Sig.{Sig}
 use Rattle.sig_index.specs.Skipping.{can_stand}

@@ -1,10 +1,10 @@
 //! Streaks of plies whose counts are in a range, along a main line.
-ghost use Rattle.std.specs.Prelude.{◌≡◌, ◌≤◌, ◌<◌, ◌+◌, ◌&&◌, ◌||◌, ◌==◌, slice_index};
+ghost use Rattle.std.specs.Prelude.{◌≡◌, ◌<◌, ◌&&◌, ◌||◌, ◌==◌};
 ghost use Rattle.mat_search.specs.Matching.{in_range};
-ghost use Rattle.mat_search.specs.Streaks.{can_come, can_match_later, colour_can_come, is_over, lack, streak_after};
+ghost use Rattle.mat_search.specs.Streaks.{can_match_later, is_over, streak_after};
 
 use crate::matching::in_range;
-use sig_index::{MatQuery, MatRange};
+use sig_index::{MatQuery, MatRange, can_come};
 
 // How many of the last plies have counts in the range, and in the exchanged one: as many as can be the beginning of a match.
 #[derive(Clone, Copy, Debug, PartialEq, Eq)]
@@ -81,32 +81,4 @@ fn can_match_later(q: &MatQuery, other: &MatRange, counts: &[u8; 10]) -> bool
     ensures { result ≡ can_match_later q.now other.now counts.now }
 {
     can_come(&q.range, counts) || q.swap && can_come(other, counts)
-}
-
-// Whether the counts can come into the range.
-fn can_come(range: &MatRange, counts: &[u8; 10]) -> bool
-    ensures { result ≡ can_come range.now counts.now }
-{
-    colour_can_come(range, counts, 0) && colour_can_come(range, counts, 5)
-}
-
-// Whether one colour's counts can; its queens stand at this place among the ten.
-fn colour_can_come(range: &MatRange, counts: &[u8; 10], queens: usize) -> bool
-    requires { queens ≤ 5 }
-    ensures { result ≡ colour_can_come range.now counts.now queens }
-{
-    let lesser = lack(range, counts, queens + 1)
-        + lack(range, counts, queens + 2)
-        + lack(range, counts, queens + 3);
-    lack(range, counts, queens) + lesser + u32::from(range.lo[queens + 4])
-        <= u32::from(counts[queens + 4])
-}
-
-// How many men of a kind are missing to the least that the range allows.
-fn lack(range: &MatRange, counts: &[u8; 10], place: usize) -> u32
-    requires { place < 10 }
-    ensures lack { result ≡ lack range.now counts.now place }
-    ensures few { result ≤ 255 }
-{
-    u32::from(range.lo[place].saturating_sub(counts[place]))
 }

@@ -1,7 +1,8 @@
 use Rattle.std.proofs.Common.{◌≡◌, ℕ, ◌+◌, ◌-◌, List, Some, sym, ap, subst, ◌∙◌, arith}
 use Rattle.game_codec.specs.Record.{IsRecord}
+use Rattle.sig_index.proofs.RecordLemmas.{game_legal, game_sound, no_next}
 use Rattle.mat_search.proofs.StreakLemmas.{step_short}
-use Rattle.mat_search.proofs.WalkLemmas.{IsAt, at_start, found_here, game_legal, game_sound, looked_by, no_next, none_at_end, none_later, other_less, own_less}
+use Rattle.mat_search.proofs.WalkLemmas.{IsAt, found_here, looked_by, none_at_end, none_later, other_less, own_less}
 use Rattle.mat_search.proofs.first_ply.first_ply.Goals as goal
 
 pub returns-then-is_whole-clause-first : goal.returns-then-is_whole-clause-first

@@ -1,4 +1,4 @@
-use Rattle.mat_search.proofs.ReadLemmas.{front_is, game_read}
+use Rattle.sig_index.proofs.ReadLemmas.{front_is, game_read}
 use Rattle.mat_search.proofs.searching.first_read.Goals as goal
 
 pub returns-in-Ok-first_ply-clause-first : goal.returns-in-Ok-first_ply-clause-first

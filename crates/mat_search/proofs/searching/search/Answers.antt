@@ -1,12 +1,10 @@
-use Rattle.std.proofs.Common.{◌≡◌, ◌<◌, ◌≤◌, ℕ, ◌+◌, List, None, Option, Some, get_or, length, take, sym, ap, ◌∙◌, arith}
-use Rattle.std.proofs.lemmas.List.{length-map, length-set, take_all}
+use Rattle.std.proofs.Common.{◌<◌, ℕ, ◌+◌, List, None, Option, get_or, length, take, ap, ◌∙◌, arith}
+use Rattle.std.proofs.lemmas.List.{length-set}
 use Rattle.base_files.specs.Seen.{Seen}
-use Rattle.game_filter.specs.Search.{searched}
 use Rattle.sig_index.specs.Games.{extent_in}
-use Rattle.mat_search.specs.Matching.{first_of as first_ply_of, firsts_of}
+use Rattle.sig_index.proofs.ReadLemmas.{some_at}
 use Rattle.mat_search.specs.Searching.{cost_of, price}
-use Rattle.mat_search.proofs.ReadLemmas.{some_game, some_sig}
-use Rattle.mat_search.proofs.SearchLemmas.{all_searched, asked_all, asked_more, price_front, price_more, search_more, untouched_more}
+use Rattle.mat_search.proofs.SearchLemmas.{all_searched, asked_all, asked_more, game_more, price_front, price_more, untouched_more}
 use Rattle.mat_search.proofs.searching.search.Goals as goal
 
 pub returns-in-Err-clause-asks : goal.returns-in-Err-clause-asks
@@ -19,7 +17,7 @@ returns-in-Err-clause-asks g c =
     let extents = g.G.Games.extents c.args.games.now in
     let inside : i < length extents = omega (arith, c.len-i-end.ensures.one_extent_each, c.loop-i-test.true) in
     let here : i < length old = omega (arith, c.requires.games, c.len-i-end.ensures.one_sig_each, c.loop-i-test.true) in
-    let sig = some_sig sigs i (omega (arith, c.len-i-end.ensures.one_sig_each, c.loop-i-test.true)) in
+    let sig = some_at sigs i (omega (arith, c.len-i-end.ensures.one_sig_each, c.loop-i-test.true)) in
     let cost : Option ℕ → ℕ = cost_of op q sig.0 (extent_in extents i) in
     asked_all (g.F.Files.asked c.args.files.now) (g.F.Files.asked c.search_game.new.files) (price op q (take (i + 1) sigs) extents old) (price op q sigs extents old)
     (asked_more (g.F.Files.asked c.args.files.now) (g.F.Files.asked c.loop-i.files) (g.F.Files.asked c.search_game.new.files) (price op q (take i sigs) extents old)
@@ -38,15 +36,15 @@ loop-i-preserved g c =
     let extents = g.G.Games.extents c.args.games.now in
     let inside : i < length extents = omega (arith, c.len-i-end.ensures.one_extent_each, c.loop-i-test.true) in
     let here : i < length old = omega (arith, c.requires.games, c.len-i-end.ensures.one_sig_each, c.loop-i-test.true) in
-    let sig = some_sig sigs i (omega (arith, c.len-i-end.ensures.one_sig_each, c.loop-i-test.true)) in
+    let sig = some_at sigs i (omega (arith, c.len-i-end.ensures.one_sig_each, c.loop-i-test.true)) in
     let cost : Option ℕ → ℕ = cost_of op q sig.0 (extent_in extents i) in
     let entry = c.in-Ok.ensures.entry in
     record {
       done = λ told list same holds.
           let told_now = ap (λ (s : Seen). s.games) c.loop-i.invariant.unchanged ∙ same in
           let in_list : i < length list = omega (arith, holds.count, c.len-i-end.ensures.one_sig_each, c.loop-i-test.true) in
-          let game = some_game list i in_list in
-          search_more op q list old c.loop-i.filter c.search_game.new.filter i game.0 (c.loop-i.invariant.done told list same holds) in_list here game.1
+          let game = some_at list i in_list in
+          game_more op q list old c.loop-i.filter c.search_game.new.filter i game.0 (c.loop-i.invariant.done told list same holds) in_list here game.1
           (c.in-Ok.ensures.joined told list game.0 told_now holds game.1);
       rest = untouched_more old c.loop-i.filter c.search_game.new.filter i entry.0 entry.1 c.loop-i.invariant.rest;
       entries = ap (λ (f : List (Option ℕ)). length f) entry.1 ∙ (length-set c.loop-i.filter i entry.0 ∙ c.loop-i.invariant.entries);

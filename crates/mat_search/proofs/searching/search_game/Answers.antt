@@ -1,17 +1,18 @@
-use Rattle.std.proofs.Common.{◌≡◌, ◌+◌, ◌≤◌, ℕ, true, false, None, get_or, rules, sym, subst, ◌∙◌}
+use Rattle.std.proofs.Common.{◌≡◌, ◌+◌, ◌≤◌, ℕ, true, false, None, get_or, rules, sym, subst}
 use Rattle.std.proofs.lemmas.Bool.{not-false, not-true}
 use Rattle.std.proofs.lemmas.List.{set-get_or}
 use Rattle.game_filter.specs.Search.{looks_at}
+use Rattle.game_filter.proofs.Searches.{joined, not_looked_at}
 use Rattle.sig_index.specs.Games.{extent_in}
 use Rattle.mat_search.specs.Matching.{first_of as first_ply_of}
-use Rattle.mat_search.proofs.SearchLemmas.{joined, looked, looked_cost, not_looked_at}
+use Rattle.mat_search.proofs.SearchLemmas.{looked, looked_cost}
 use Rattle.mat_search.proofs.searching.search_game.Goals as goal
 
 pub returns-then-not-looks_at-clause-joined : goal.returns-then-not-looks_at-clause-joined
 returns-then-not-looks_at-clause-joined g c = λ told list game same holds there.
     let not : c.looks_at.result ≡ false = search (rules, not-true c.looks_at.result) in
     not_looked_at c.args.op c.args.filter.now c.args.i c.get-old.result (first_ply_of c.args.q.now game) c.get-old.ensures.entry
-    (c.looks_at.ensures.kept (first_ply_of c.args.q.now game) not)
+    (λ first. c.looks_at.ensures.kept first not)
 
 pub returns-then-not-looks_at-clause-entry : goal.returns-then-not-looks_at-clause-entry
 returns-then-not-looks_at-clause-entry g c = (get_or c.args.filter.now c.args.i None, sym (set-get_or c.args.filter.now c.args.i None))

@@ -1,0 +1,65 @@
+-- The search through the games, one after the other.
+use Rattle.std.proofs.Common.{◌≡◌, ℕ, ◌+◌, ◌<◌, ◌≤◌, true, false, cond, ◌&&◌, List, Option, None, Some, length, get_or, set, take, refl, sym, ap, ◌∙◌, arith}
+use Rattle.std.specs.Prelude.{option_map, slice_get}
+use Rattle.std.proofs.lemmas.List.{length-map, take_all}
+use Rattle.std.proofs.lemmas.Option.{get_or_from_slice_get, slice_get-map}
+use Rattle.base_files.specs.declared.extent.Extent.{Extent}
+use Rattle.cell_core.specs.declared.step.Move.{Move}
+use Rattle.game_filter.specs.Search.{entry_after, looks_at, searched}
+use Rattle.game_filter.specs.declared.op.Op.{Op}
+use Rattle.game_filter.proofs.Searches.{search_more}
+use Rattle.game_tree.specs.Game.{GameTree}
+use Rattle.game_tree.specs.Replay.{next_at}
+use Rattle.sig_index.specs.Games.{Holds}
+use Rattle.sig_index.specs.declared.pos_query.PosQuery.{PosQuery}
+use Rattle.sig_index.specs.declared.signature.Sig.{Sig}
+use Rattle.sig_index.proofs.RecordLemmas.{game_legal, game_sound}
+use Rattle.pos_search.specs.Matching.{first_of, firsts_of, hit_of}
+use Rattle.pos_search.specs.Passing.{passes}
+use Rattle.pos_search.specs.Searching.{cost_of, ply_of}
+use Rattle.pos_search.proofs.FollowLemmas.{refused}
+use Rattle.pos_search.proofs.WalkLemmas.{no_hit, none_of}
+
+-- A game that can't match does not.
+pub unread : (told : List ℕ) (extents : List Extent) (sigs : List Sig) (list : List GameTree) (i : ℕ) (sig : Sig) (game : GameTree) (query : PosQuery)
+    → Holds told extents sigs list → slice_get sigs i ≡ Some sig → slice_get list i ≡ Some game → passes sig query ≡ false → None ≡ hit_of query game
+unread told extents sigs list i sig game query holds kept there not =
+    let held = holds.each i sig game kept there in
+    no_hit query game (none_of query game (λ ply within.
+    refused game sig query ply (game_sound _ held.tags game held.is_record) (game_legal _ held.tags game held.is_record) held.is_sig within not))
+
+-- The ply of a hit is the first.
+ply_by : (first : Option ℕ) (next : ℕ → Option Move) → ply_of (option_map (λ (k : ℕ). (k, next k)) first) ≡ first
+ply_by None next = refl
+ply_by (Some k) next = refl
+
+pub ply_is : (query : PosQuery) (game : GameTree) (hit : Option (ℕ × Option Move)) (ply : Option ℕ) → hit ≡ hit_of query game → ply ≡ ply_of hit → ply ≡ first_of query game
+ply_is query game hit ply found is = is ∙ ap ply_of found ∙ ply_by (first_of query game) (next_at game)
+
+-- What a game costs that is looked at.
+pub looked_cost : (op : Op) (query : PosQuery) (sig : Sig) (extent : Extent) (plies : List (Option ℕ)) (i : ℕ) (old : Option ℕ) → slice_get plies i ≡ Some old
+    → looks_at op old ≡ true → cond (passes sig query) extent.len 0 ≡ cost_of op query sig extent (get_or plies i None)
+looked_cost op query sig extent plies i old there looks =
+    (λ j. cond (sym looks j && passes sig query) extent.len 0)
+    ∙ ap (cost_of op query sig extent) (sym (get_or_from_slice_get plies i old None there))
+
+first_at : (query : PosQuery) (list : List GameTree) (i : ℕ) (game : GameTree) → slice_get list i ≡ Some game → get_or (firsts_of query list) i None ≡ first_of query game
+first_at query list i game there =
+    get_or_from_slice_get (firsts_of query list) i (first_of query game) None
+    (slice_get-map (first_of query) list i ∙ ap (option_map (first_of query)) there)
+
+-- One game more was searched.
+pub game_more : (op : Op) (query : PosQuery) (list : List GameTree) (plies now new : List (Option ℕ)) (i : ℕ) (game : GameTree)
+    → now ≡ searched op (take i (firsts_of query list)) plies → i < length list → i < length plies → slice_get list i ≡ Some game
+    → new ≡ set now i (entry_after op (get_or now i None) (first_of query game)) → new ≡ searched op (take (i + 1) (firsts_of query list)) plies
+game_more op query list plies now new i game done within here there is =
+    search_more op (firsts_of query list) plies now new i (first_of query game) done (omega (arith, within, length-map list (first_of query))) here
+    (first_at query list i game there) is
+
+-- All were.
+pub all_searched : (op : Op) (query : PosQuery) (list : List GameTree) (plies now : List (Option ℕ)) (i : ℕ) → now ≡ searched op (take i (firsts_of query list)) plies
+    → length list ≤ i → now ≡ searched op (firsts_of query list) plies
+all_searched op query list plies now i done past =
+    done
+    ∙ ap (λ (firsts : List (Option ℕ)). searched op firsts plies)
+    (take_all i (firsts_of query list) (omega (arith, past, length-map list (first_of query))))

@@ -1,0 +1,4 @@
+pub mod Matching
+pub mod Passing
+pub mod Sought
+pub mod Searching

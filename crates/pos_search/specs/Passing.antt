@@ -1,0 +1,27 @@
+-- Which games a search of a position has to read, by their signatures (this project's own).
+use Rattle.std.specs.Prelude.{ℕ, Bool, true, false, not, ◌&&◌, ◌||◌, List}
+use Rattle.chess_laws.specs.Counts.{counts_of}
+use Rattle.sig_index.specs.declared.mat_query.MatRange.{MatRange}
+use Rattle.sig_index.specs.declared.pos_query.Mode.{Mode}
+use Rattle.sig_index.specs.declared.pos_query.Mode.TheVariants.{Exact, Pawns, Files, Material}
+use Rattle.sig_index.specs.declared.pos_query.PosQuery.{PosQuery}
+use Rattle.sig_index.specs.declared.signature.Sig.{Sig}
+use Rattle.sig_index.specs.Homes.{home_allows, home_set}
+use Rattle.sig_index.specs.Skipping.{can_stand}
+
+-- The range of these counts alone.
+abbrev pub just : List ℕ → MatRange
+just counts = record { lo = counts; hi = counts }
+
+-- A mode in which the pawns stand on the same squares, and so the same ones at home.
+abbrev pub fixes_pawns : Mode → Bool
+fixes_pawns Exact = true
+fixes_pawns Pawns = true
+fixes_pawns Files = false
+fixes_pawns Material = false
+
+-- A game with this signature can match: the counts of the board can have stood, and where the mode fixes them the pawns that stand at home
+-- on the board can have been those at home.
+unfoldable pub passes : Sig → PosQuery → Bool
+passes sig query =
+    can_stand sig (just (counts_of query.board)) && (not (fixes_pawns query.mode) || home_allows sig (home_set query.board))

@@ -1,0 +1,35 @@
+-- What the functions of this crate keep of a query, and when they end a walk.
+use Rattle.std.specs.Prelude.{◌≡◌, ℕ, Bool, true, not, ◌&&◌, ◌||◌}
+use Rattle.std.specs.List.{list_all}
+use Rattle.cell_core.specs.Board.{Men, same_men}
+use Rattle.chess_laws.specs.Counts.{counts_of, is_home}
+use Rattle.chess_laws.specs.declared.setup.Setup.{Setup}
+use Rattle.sig_index.specs.declared.mat_query.MatRange.{MatRange}
+use Rattle.sig_index.specs.declared.pos_query.Mode.{Mode}
+use Rattle.sig_index.specs.declared.pos_query.Mode.TheVariants.{Exact, Pawns, Files, Material}
+use Rattle.sig_index.specs.declared.pos_query.PosQuery.{PosQuery}
+use Rattle.sig_index.specs.Coming.{can_come}
+use Rattle.sig_index.specs.Homes.{home_set}
+use Rattle.sig_index.specs.Signature.{all_homes}
+use Rattle.pos_search.specs.Matching.{same_files, same_pawns}
+use Rattle.pos_search.specs.Passing.{fixes_pawns, just}
+
+-- What is counted on the board of a query: its ten counts, as the only ones of a range, and its pawns at home.
+pub record IsCounted (query : PosQuery) (range : MatRange) (homes : ℕ) : Type 0 where
+  pub counted : range ≡ just (counts_of query.board)
+  pub at_home : homes ≡ home_set query.board
+
+-- What a mode asks of two boards beside the ten counts.
+abbrev pub alike_beside : Mode → Men → Men → Bool
+alike_beside Exact a b = same_men a b
+alike_beside Pawns a b = same_pawns a b
+alike_beside Files a b = same_files a b
+alike_beside Material a b = true
+
+-- Each pawn at home on the first board stands at home on the second.
+unfoldable pub has_homes : Men → Men → Bool
+has_homes sought men = list_all (λ value. not (is_home sought value) || is_home men value) all_homes
+
+-- A position that is sought can still come after this one: no man is missing, and where the mode fixes them no pawn at home.
+unfoldable pub can_follow : PosQuery → Setup → Bool
+can_follow query p = can_come (just (counts_of query.board)) (counts_of p.board) && (not (fixes_pawns query.mode) || has_homes query.board p.board)

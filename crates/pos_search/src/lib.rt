@@ -1,0 +1,16 @@
+//! Search of games by a position: games are passed over by their signatures, and no memory is taken.
+#![tactic(auto)]
+
+mod boards;
+mod laws;
+mod matching;
+mod searching;
+#[cfg(test)]
+mod tests;
+mod walking;
+
+pub use laws::{first_plies_are_first, tests_are_sound};
+pub use matching::passes;
+pub use searching::{hit, search};
+pub use sig_index::{Mode, PosQuery};
+pub use walking::first_match;

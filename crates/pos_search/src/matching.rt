@@ -1,0 +1,124 @@
+//! What a search of a position asks of one position, and of a signature.
+ghost use Rattle.std.specs.Prelude.{◌≡◌};
+ghost use Rattle.chess_laws.specs.Position.{Sound};
+ghost use Rattle.sig_index.specs.Homes.{IsHomeList};
+ghost use Rattle.pos_search.specs.Matching.{alike, matches};
+ghost use Rattle.pos_search.specs.Passing.{fixes_pawns, passes};
+ghost use Rattle.pos_search.specs.Sought.{alike_beside, can_follow, has_homes};
+
+use crate::boards::{counts, home_set, same_files, same_pawns};
+use cell_core::Board;
+use chess_laws::Position;
+use sig_index::{MatRange, Mode, PosQuery, Sig, can_come, can_stand, home_allows};
+use std::marker::Model;
+
+/// Whether a game with this signature can match: where it cannot, no ply of its main line matches. A home list has at most 16 values, each
+/// below 16.
+pub fn passes(s: &Sig, q: &PosQuery) -> bool
+    requires home { IsHomeList s.now.home }
+    ensures passes { result ≡ passes s.now q.now }
+{
+    Sought::new(q).passes(s)
+}
+
+// What is sought, with what is counted on its board once.
+#[derive(Drop)]
+pub(crate) struct Sought<'a> {
+    query: &'a PosQuery,
+    // The ten counts as the only ones.
+    range: MatRange,
+    // The pawns at home.
+    homes: u16,
+}
+
+impl<'a> Model for Sought<'a> {
+    ghost use Rattle.sig_index.specs.declared.pos_query.PosQuery.{PosQuery as Query};
+    ghost use Rattle.pos_search.specs.Sought.{IsCounted};
+
+    ghost Value = { Query };
+
+    ghost view = { λ s. s.query.now };
+
+    ghost invariant = { λ s. IsCounted s.query.now s.range s.homes };
+}
+
+impl<'a> Sought<'a> {
+    // What a query seeks.
+    pub(crate) fn new(query: &'a PosQuery) -> Sought<'a>
+        ensures query { result ≡ query.now }
+    {
+        let counts = counts(&query.board);
+        Sought {
+            query,
+            range: MatRange {
+                lo: counts,
+                hi: counts,
+            },
+            homes: home_set(&query.board),
+        }
+    }
+
+    // Whether a game with this signature can match.
+    #[tactic(auto, unfolding(crate::specs::Passing::passes))]
+    pub(crate) fn passes(&self, s: &Sig) -> bool
+        requires home { IsHomeList s.now.home }
+        ensures passes { result ≡ passes s.now self.now }
+    {
+        can_stand(s, &self.range) && (!fixes_pawns(self.query.mode) || home_allows(s, self.homes))
+    }
+
+    // Whether a position is one that is sought. The 64 squares are looked at only where the ten counts agree.
+    #[tactic(auto, unfolding(crate::specs::Matching::matches))]
+    pub(crate) fn matches(&self, p: &Position) -> bool
+        ensures matches { result ≡ matches self.now p.now }
+        ensures sound { Sound p.now }
+    {
+        // The rules of a position.
+        let _setup = p.setup();
+        p.side() == self.query.side && self.is_alike(p)
+    }
+
+    // Whether its board has in common with the sought one what the mode says.
+    fn is_alike(&self, p: &Position) -> bool
+        ensures { result ≡ alike self.now.mode p.now.board self.now.board }
+    {
+        p.counts() == self.range.lo && self.is_alike_beside(p.board())
+    }
+
+    // Whether a board has in common with the sought one what the mode asks beside the ten counts.
+    fn is_alike_beside(&self, board: &Board) -> bool
+        ensures { result ≡ alike_beside self.now.mode board.now self.now.board }
+    {
+        match self.query.mode {
+            Mode::Exact => board.is_same(&self.query.board),
+            Mode::Pawns => same_pawns(board, &self.query.board),
+            Mode::Files => same_files(board, &self.query.board),
+            Mode::Material => true,
+        }
+    }
+
+    // Whether a position that is sought can still come after this one.
+    #[tactic(auto, unfolding(crate::specs::Sought::can_follow))]
+    pub(crate) fn can_follow(&self, p: &Position) -> bool
+        ensures { result ≡ can_follow self.now p.now }
+    {
+        can_come(&self.range, &p.counts()) && (!fixes_pawns(self.query.mode) || self.has_homes(p))
+    }
+
+    // Whether each pawn at home on the sought board stands at home.
+    fn has_homes(&self, p: &Position) -> bool
+        ensures { result ≡ has_homes self.now.board p.now.board }
+    {
+        p.home_set() & self.homes == self.homes
+    }
+}
+
+// Whether the pawns stand on the same squares in this mode.
+fn fixes_pawns(mode: Mode) -> bool
+    ensures { result ≡ fixes_pawns mode }
+{
+    match mode {
+        Mode::Exact | Mode::Pawns => true,
+        Mode::Files | Mode::Material => false,
+    }
+}

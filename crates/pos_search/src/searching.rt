@@ -1,0 +1,187 @@
+//! The search of all games.
+ghost use Rattle.std.specs.Prelude.{◌≡◌, ◌≤◌, ◌<◌, ◌+◌, ℕ, if◌then◌else◌, List, Option, None, Some, length, slice_get, slice_index_or, slice_set, take, IfOk, IfErr, OnOk, OnErr};
+ghost use Rattle.game_filter.specs.Search.{entry_after, searched};
+ghost use Rattle.game_tree.specs.Game.{GameTree};
+ghost use Rattle.sig_index.specs.Costs.{EndsAt, LeavesRest, price_by};
+ghost use Rattle.sig_index.specs.Games.{AreWithin, HasFetchCause, Holds, Names, extent_in};
+ghost use Rattle.sig_index.specs.declared.signature.Sig.{Sig};
+ghost use Rattle.pos_search.specs.Matching.{first_of, firsts_of, hit_of, IsLegalFrom};
+ghost use Rattle.pos_search.specs.Passing.{passes};
+ghost use Rattle.pos_search.specs.Searching.{cost_of, ply_of};
+
+use crate::matching::Sought;
+use crate::walking::first_sought;
+use base_files::Files;
+use cell_core::Move;
+use game_filter::{Filter, Op};
+use sig_index::{FetchError, Games, PosQuery};
+
+/// The first ply at which game `i` matches, with the move after it, or `None` where it never does. `i` is below the number of games, and
+/// `buf` has 131,072 bytes. The game's record is read if it can match, and so many bytes count as asked.
+pub fn hit<G: Games, F: Files>(
+    games: &G,
+    i: u32,
+    q: &PosQuery,
+    files: &mut F,
+    buf: &mut [u8],
+) -> Result<Option<(u32, Option<Move>)>, FetchError>
+    requires game { i < length (G.sigs games.now) }
+    requires room { length buf.old ≡ 131072 }
+    requires within { AreWithin (F.seen files.old).known (G.extents games.now) }
+    // Over a games file that is told and holds the records of these games.
+    ensures found { (told : List ℕ) (list : List GameTree) (game : GameTree) → (F.seen files.old).games ≡ Some told → Holds told (G.extents games.now) (G.sigs games.now) list → slice_get list i ≡ Some game → IfOk result (λ hit. hit ≡ hit_of q.now game) }
+    ensures legal { IfOk result (λ hit. IsLegalFrom q.now hit) }
+    ensures room { length buf.new ≡ 131072 }
+    ensures unchanged { F.seen files.new ≡ F.seen files.old }
+    ensures asks { (sig : Sig) → slice_get (G.sigs games.now) i ≡ Some sig → F.asked files.new ≤ F.asked files.old + (if passes sig q.now then (extent_in (G.extents games.now) i).len else 0) }
+    ensures counts { F.faults files.old ≤ F.faults files.new }
+    ensures cause { IfErr result (λ e. HasFetchCause e (G.sigs games.now) (G.extents games.now) (F.seen files.old).games buf.new (F.faults files.old) (F.faults files.new)) }
+    ensures own { IfErr result (λ e. Names e i) }
+{
+    hit_in(games, i, &Sought::new(q), files, buf)
+}
+
+/// Leaves in the filter what its entries become by a search of a position. The filter has one entry per game, and `buf` has 131,072 bytes.
+/// A game is read where `op` looks at it and it can match, and so many bytes count as asked. After an error the games before the refused
+/// one have their new entries, and the others the old.
+pub fn search<G: Games, F: Files>(
+    games: &G,
+    q: &PosQuery,
+    op: Op,
+    filter: &mut Filter,
+    files: &mut F,
+    buf: &mut [u8],
+) -> Result<(), FetchError>
+    requires games { length filter.old ≡ length (G.sigs games.now) }
+    requires room { length buf.old ≡ 131072 }
+    requires within { AreWithin (F.seen files.old).known (G.extents games.now) }
+    // Over a games file that is told and holds the records of these games.
+    ensures found { (told : List ℕ) (list : List GameTree) → (F.seen files.old).games ≡ Some told → Holds told (G.extents games.now) (G.sigs games.now) list → OnOk result (filter.new ≡ searched op (firsts_of q.now list) filter.old) }
+    ensures ended { (told : List ℕ) (list : List GameTree) → (F.seen files.old).games ≡ Some told → Holds told (G.extents games.now) (G.sigs games.now) list → IfErr result (λ e. EndsAt e (λ n. searched op (take n (firsts_of q.now list)) filter.old) filter.new) }
+    ensures rest { IfErr result (λ e. LeavesRest e filter.old filter.new) }
+    ensures entries { length filter.new ≡ length filter.old }
+    ensures room { length buf.new ≡ 131072 }
+    ensures unchanged { F.seen files.new ≡ F.seen files.old }
+    ensures asks { F.asked files.new ≤ F.asked files.old + price_by (cost_of op q.now) (G.sigs games.now) (G.extents games.now) filter.old }
+    ensures counts { F.faults files.old ≤ F.faults files.new }
+    ensures cause { IfErr result (λ e. HasFetchCause e (G.sigs games.now) (G.extents games.now) (F.seen files.old).games buf.new (F.faults files.old) (F.faults files.new)) }
+{
+    let sought = Sought::new(q);
+    for i in 0..games.len() {
+        match search_game(games, i, &sought, op, filter, files, buf) {
+            Ok(()) => {}
+            Err(error) => return Err(error),
+        }
+    }
+    Ok(())
+}
+
+// Joins the first matching ply of one game.
+fn search_game<G: Games, F: Files>(
+    games: &G,
+    i: u32,
+    q: &Sought<'_>,
+    op: Op,
+    filter: &mut Filter,
+    files: &mut F,
+    buf: &mut [u8],
+) -> Result<(), FetchError>
+    requires game { i < length (G.sigs games.now) }
+    requires games { length filter.old ≡ length (G.sigs games.now) }
+    requires room { length buf.old ≡ 131072 }
+    requires within { AreWithin (F.seen files.old).known (G.extents games.now) }
+    ensures joined { (told : List ℕ) (list : List GameTree) (game : GameTree) → (F.seen files.old).games ≡ Some told → Holds told (G.extents games.now) (G.sigs games.now) list → slice_get list i ≡ Some game
+        → OnOk result (filter.new ≡ slice_set filter.old i (entry_after op (slice_index_or filter.old i None) (first_of q.now game))) }
+    ensures entry { OnOk result ((ply : Option ℕ) × (filter.new ≡ slice_set filter.old i ply)) }
+    ensures left { OnErr result (filter.new ≡ filter.old) }
+    ensures room { length buf.new ≡ 131072 }
+    ensures unchanged { F.seen files.new ≡ F.seen files.old }
+    ensures asks { (sig : Sig) → slice_get (G.sigs games.now) i ≡ Some sig → F.asked files.new ≤ F.asked files.old + cost_of op q.now sig (extent_in (G.extents games.now) i) (slice_index_or filter.old i None) }
+    ensures counts { F.faults files.old ≤ F.faults files.new }
+    ensures cause { IfErr result (λ e. HasFetchCause e (G.sigs games.now) (G.extents games.now) (F.seen files.old).games buf.new (F.faults files.old) (F.faults files.new)) }
+    ensures own { IfErr result (λ e. Names e i) }
+{
+    let old = filter.get(i);
+    if !op.looks_at(old) {
+        return Ok(());
+    }
+    match hit_in(games, i, q, files, buf) {
+        Ok(hit) => {
+            filter.set(i, op.entry(old, ply_of(hit)));
+            Ok(())
+        }
+        Err(error) => Err(error),
+    }
+}
+
+// The ply of a hit.
+fn ply_of(hit: Option<(u32, Option<Move>)>) -> Option<u32>
+    ensures { result ≡ ply_of hit }
+{
+    match hit {
+        Some((ply, _)) => Some(ply),
+        None => None,
+    }
+}
+
+// The hit of one game. Its record is read if the game can match.
+fn hit_in<G: Games, F: Files>(
+    games: &G,
+    i: u32,
+    q: &Sought<'_>,
+    files: &mut F,
+    buf: &mut [u8],
+) -> Result<Option<(u32, Option<Move>)>, FetchError>
+    requires game { i < length (G.sigs games.now) }
+    requires room { length buf.old ≡ 131072 }
+    requires within { AreWithin (F.seen files.old).known (G.extents games.now) }
+    ensures found { (told : List ℕ) (list : List GameTree) (game : GameTree) → (F.seen files.old).games ≡ Some told → Holds told (G.extents games.now) (G.sigs games.now) list → slice_get list i ≡ Some game → IfOk result (λ hit. hit ≡ hit_of q.now game) }
+    ensures legal { IfOk result (λ hit. IsLegalFrom q.now hit) }
+    ensures room { length buf.new ≡ 131072 }
+    ensures unchanged { F.seen files.new ≡ F.seen files.old }
+    ensures asks { (sig : Sig) → slice_get (G.sigs games.now) i ≡ Some sig → F.asked files.new ≤ F.asked files.old + (if passes sig q.now then (extent_in (G.extents games.now) i).len else 0) }
+    ensures counts { F.faults files.old ≤ F.faults files.new }
+    ensures cause { IfErr result (λ e. HasFetchCause e (G.sigs games.now) (G.extents games.now) (F.seen files.old).games buf.new (F.faults files.old) (F.faults files.new)) }
+    ensures own { IfErr result (λ e. Names e i) }
+{
+    if q.passes(&games.sig(i)) {
+        hit_read(games, i, q, files, buf)
+    } else {
+        Ok(None)
+    }
+}
+
+// The hit of one game, whose record is read into `buf`.
+fn hit_read<G: Games, F: Files>(
+    games: &G,
+    i: u32,
+    q: &Sought<'_>,
+    files: &mut F,
+    buf: &mut [u8],
+) -> Result<Option<(u32, Option<Move>)>, FetchError>
+    requires game { i < length (G.sigs games.now) }
+    requires room { length buf.old ≡ 131072 }
+    requires within { AreWithin (F.seen files.old).known (G.extents games.now) }
+    ensures found { (told : List ℕ) (list : List GameTree) (game : GameTree) → (F.seen files.old).games ≡ Some told → Holds told (G.extents games.now) (G.sigs games.now) list → slice_get list i ≡ Some game → IfOk result (λ hit. hit ≡ hit_of q.now game) }
+    ensures legal { IfOk result (λ hit. IsLegalFrom q.now hit) }
+    ensures room { length buf.new ≡ 131072 }
+    ensures unchanged { F.seen files.new ≡ F.seen files.old }
+    ensures asks { F.asked files.new ≤ F.asked files.old + (extent_in (G.extents games.now) i).len }
+    ensures counts { F.faults files.old ≤ F.faults files.new }
+    ensures cause { IfErr result (λ e. HasFetchCause e (G.sigs games.now) (G.extents games.now) (F.seen files.old).games buf.new (F.faults files.old) (F.faults files.new)) }
+    ensures own { IfErr result (λ e. Names e i) }
+{
+    let len = games.extent(i).len as usize;
+    match games.fetch(i, files, buf) {
+        Ok(_) => {}
+        Err(error) => return Err(error),
+    }
+    match first_sought(buf.split_at(len).0, q) {
+        Ok(hit) => Ok(hit),
+        Err(_) => Err(FetchError::Changed {
+            game: i,
+            kept: games.sig(i),
+            found: None,
+        }),
+    }
+}
