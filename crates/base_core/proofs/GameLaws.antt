@@ -57,3 +57,5 @@ unchanged_told (Some games) kept i e bytes (edit.Changed game sig found) at tell
 unchanged_told told kept i e bytes edit.Memory at tells change = tt
 unchanged_told told kept i e bytes edit.Failed at tells change = absurd change
 unchanged_told told kept i e bytes (edit.NoGame game) at tells change = absurd change
+unchanged_told told kept i e bytes (edit.TooLong n) at tells change = absurd change
+unchanged_told told kept i e bytes (edit.Full what) at tells change = absurd change

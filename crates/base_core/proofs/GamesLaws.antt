@@ -10,11 +10,11 @@ use Rattle.game_tree.specs.declared.date.Date.{Date}
 use Rattle.game_tree.specs.declared.head.Head.{Head}
 use Rattle.index_entry.specs.declared.entry.Entry.{Entry}
 use Rattle.name_base.specs.NameLists.{NameLists}
-use Rattle.sig_index.specs.Games.{AreWithin, Holds, IsHeld, extent_in}
+use Rattle.sig_index.specs.Games.{AreWithin, Holds, IsHeld, extent_in, head_in, plies_in}
 use Rattle.sig_index.specs.Signature.{IsSigBounded}
 use Rattle.sig_index.specs.declared.signature.Sig.{Sig}
 use Rattle.base_core.specs.Base.{Base, Held}
-use Rattle.base_core.specs.Entries.{extent_of, head_of, sig_in}
+use Rattle.base_core.specs.Entries.{HasNames, extent_of, head_of, sig_in}
 use Rattle.base_core.specs.Represents.{IsKept, IsSound, Keeps, Kept, Represents, extents_of, heads_of, sigs_of}
 use Rattle.base_core.proofs.CheckLaws.{ends_within}
 use Rattle.base_core.proofs.KeptLaws.{settled-rest}
@@ -26,6 +26,15 @@ at-map f entries i e at = slice_get-map f entries i ∙ ap (option_map f) at
 
 pub extent-at : (entries : List Entry) (i : ℕ) (e : Entry) → slice_get entries i ≡ Some e → extent_of e ≡ extent_in (map extent_of entries) i
 extent-at entries i e at = sym (get_or_from_slice_get (map extent_of entries) i (extent_of e) _ (at-map extent_of entries i e at))
+
+-- What searches read of a game's entry.
+pub head-at : (kept : Kept) (i : ℕ) (e : Entry) → slice_get kept.entries i ≡ Some e → head_in (heads_of kept) i ≡ head_of kept.names e []
+head-at kept i e at = get_or_from_slice_get (heads_of kept) i (head_of kept.names e []) _ (at-map (λ d. head_of kept.names d []) kept.entries i e at)
+
+pub plies-at : (kept : Kept) (i : ℕ) (e : Entry) → slice_get kept.entries i ≡ Some e → plies_in (sigs_of kept) i ≡ e.plies
+plies-at kept i e at =
+    get_or_from_slice_get (map (λ (s : Sig). s.plies) (sigs_of kept)) i e.plies 0
+    (slice_get-map (λ (s : Sig). s.plies) (sigs_of kept) i ∙ ap (option_map (λ (s : Sig). s.plies)) (at-map sig_in kept.entries i e at))
 
 pub sig-bounded : (names : NameLists) (end : ℕ) (e : Entry) → IsKept names end e → IsSigBounded (sig_in e)
 sig-bounded names end e is = record {
@@ -41,6 +50,9 @@ sig-bounded names end e is = record {
 -- An element of which all hold.
 pub at-all : {X : Type 0} (P : X → Type 0) (xs : List X) (i : ℕ) (x : X) → All P xs → slice_get xs i ≡ Some x → P x
 at-all P xs i x all at = subst P (get_or_from_slice_get xs i x x at) (all i x (slice_get_within xs i x at))
+
+pub named-at : (kept : Kept) (i : ℕ) (e : Entry) → IsSound kept → slice_get kept.entries i ≡ Some e → HasNames kept.names e
+named-at kept i e sound at = (at-all (IsKept kept.names kept.end) kept.entries i e sound.entries at).named
 
 -- Each record of an open base lies within its games file.
 pub are-within : (kept : Kept) (known : ℕ) → IsSound kept → kept.end ≤ known → AreWithin known (extents_of kept)

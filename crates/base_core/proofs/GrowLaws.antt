@@ -46,7 +46,7 @@ carries-longer index names games more base is = record {
   held = games-stay index base.names games more base.header.games base.games is.held;
 }
 
-holds-own : (names : NameLists) → HoldsNames names names
+pub holds-own : (names : NameLists) → HoldsNames names names
 holds-own names = record {
   players = ([], sym (append-nil names.players));
   events = ([], sym (append-nil names.events));

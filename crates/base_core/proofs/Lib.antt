@@ -15,3 +15,6 @@ pub mod MarkLaws
 pub mod UseLaws
 pub mod SaveLaws
 pub mod GrowLaws
+pub mod NamingLaws
+pub mod PlaceLaws
+pub mod TagLaws

@@ -77,17 +77,17 @@ keeps-deleted names games e held is =
 
 -- ---- one game of a list.
 
-changed-length : (change : Held → Held) (i : ℕ) (games : List Held) → length (changed_at change i games) ≡ length games
+pub changed-length : (change : Held → Held) (i : ℕ) (games : List Held) → length (changed_at change i games) ≡ length games
 changed-length change i [] = refl
 changed-length change zero (held ∷ games) = refl
 changed-length change (suc i) (held ∷ games) = ap suc (changed-length change i games)
 
-changed-same : (change : Held → Held) (i : ℕ) (games : List Held) → slice_get (changed_at change i games) i ≡ option_map change (slice_get games i)
+pub changed-same : (change : Held → Held) (i : ℕ) (games : List Held) → slice_get (changed_at change i games) i ≡ option_map change (slice_get games i)
 changed-same change i [] = refl
 changed-same change zero (held ∷ games) = refl
 changed-same change (suc i) (held ∷ games) = changed-same change i games
 
-changed-other : (change : Held → Held) (i j : ℕ) (games : List Held) → j ≢ i → slice_get (changed_at change i games) j ≡ slice_get games j
+pub changed-other : (change : Held → Held) (i j : ℕ) (games : List Held) → j ≢ i → slice_get (changed_at change i games) j ≡ slice_get games j
 changed-other change i j [] other = refl
 changed-other change zero zero (held ∷ games) other = absurd (other refl)
 changed-other change zero (suc j) (held ∷ games) other = refl

@@ -3,7 +3,7 @@ use Rattle.std.proofs.Common.{◌≡◌, ◌<◌, ◌≤◌, ◌+◌, ◌*◌, �
 use Rattle.std.specs.List.{range_with_len}
 use Rattle.std.proofs.lemmas.Bool.{cases_eq, cases_order}
 use Rattle.std.proofs.lemmas.Option.{same_Some, slice_get-get_or, slice_get_within}
-use Rattle.std.proofs.lemmas.List.{drop-append-le, take-append-le, drop_all, take_all, ext_get_or, length-append, length-drop, length-take-le, length-set, get_or-set_same, get_or-set_other, take-append-drop, append_assoc}
+use Rattle.std.proofs.lemmas.List.{drop-append-le, take-append-le, drop_all, take_all, ext_get_or, length-append, length-drop, length-take-le, length-set, get_or-set_same, get_or-set_other, get_or-take, take-append-drop, append_assoc}
 use Rattle.std.proofs.lemmas.Slice.{drop-append-drop}
 use Rattle.std.proofs.lemmas.List.FromFn.{get_or-map-range_with_len, length-map-range_with_len, map-range_with_len_more}
 use Rattle.index_entry.specs.Entry.{IsWritten, entry_in, entry_read}
@@ -151,6 +151,37 @@ entries-put bytes more count i e long is below =
           ap (λ (b : List ℕ). entry_in b) (put-other bytes more count i j long is.size below other)
           ∙ sym (get_or-set_other (map f (range_with_len 0 count)) i j e e other ∙ get_or-map-range_with_len f 0 count j j e at (omega arith))
     ]))
+
+-- ---- the first entries.
+
+front-own : (bytes : List ℕ) (count i : ℕ) → 47 * count ≤ length bytes → i < count → packed_at (take (47 * count) bytes) i ≡ packed_at bytes i
+front-own bytes count i within below =
+    let front : length (take (47 * count) bytes) ≡ 47 * count = length-take-le (47 * count) bytes within in
+    sym (packed-old (take (47 * count) bytes) (drop (47 * count) bytes) i (omega (arith, front, below))) ∙ ap (λ (b : List ℕ). packed_at b i) (take-append-drop (47 * count) bytes)
+
+pub packed-front : (bytes : List ℕ) (all count : ℕ) → ArePacked bytes all → count ≤ all → ArePacked (take (47 * count) bytes) count
+packed-front bytes all count are few =
+    let within : 47 * count ≤ length bytes = omega (arith, are.size, few) in
+    record {
+      size = length-take-le (47 * count) bytes within;
+      each = λ i below. subst IsOwn (sym (front-own bytes count i within below)) (are.each i (omega (arith, below, few)));
+    }
+
+pub entries-front : (bytes : List ℕ) (all count : ℕ) → length bytes ≡ 47 * all → count ≤ all → entries_in (take (47 * count) bytes) count ≡ take count (entries_in bytes all)
+unfolding entries_in
+entries-front bytes all count long few =
+    let f : ℕ → Entry = λ k. entry_in (packed_at bytes k) in
+    let g : ℕ → Entry = λ k. entry_in (packed_at (take (47 * count) bytes) k) in
+    let within : 47 * count ≤ length bytes = omega (arith, long, few) in
+    let fs : length (map f (range_with_len 0 all)) ≡ all = length-map-range_with_len f 0 all in
+    let gs : length (map g (range_with_len 0 count)) ≡ count = length-map-range_with_len g 0 count in
+    let e : Entry = entry_in bytes in
+    ext_get_or e (map g (range_with_len 0 count)) (take count (map f (range_with_len 0 all))) (gs ∙ sym (length-take-le count (map f (range_with_len 0 all)) (omega (arith, fs, few))))
+    (λ i below.
+    let at : i < count = subst (λ n. i < n) gs below in
+    get_or-map-range_with_len g 0 count i i e at (omega arith)
+    ∙ (ap (λ (b : List ℕ). entry_in b) (front-own bytes count i within at)
+    ∙ sym (get_or-take count (map f (range_with_len 0 all)) i e at ∙ get_or-map-range_with_len f 0 all i i e (omega (arith, at, few)) (omega arith))))
 
 pub none-packed : ArePacked [] 0
 none-packed = record { size = refl; each = λ i below. absurd (omega (arith, below)) }

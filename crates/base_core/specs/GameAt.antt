@@ -39,12 +39,13 @@ pub record IsChanged (kept : Kept) (told : Option (List ℕ)) (i : ℕ) (buf : L
   pub read : Tells (part_told told e.offset e.len) (take e.len buf)
   pub shown : ShowChange (take e.len buf) sig found
 
--- What each error says.
+-- What each error says. No other comes.
 abbrev pub SaysWhy : Kept → Option (List ℕ) → ℕ → List ℕ → EditError → Type 0
 SaysWhy kept told i buf (error.NoGame game) = (game ≡ i) × (length kept.entries ≤ i)
 SaysWhy kept told i buf (error.Changed game sig found) = IsChanged kept told i buf game sig found
 SaysWhy kept told i buf error.Failed = ⊤
 SaysWhy kept told i buf error.Memory = ⊤
+SaysWhy kept told i buf _ = ⊥
 
 -- The fact, where the error tells a change.
 abbrev pub IfChanged : EditError → Type 0 → Type 0

@@ -13,3 +13,5 @@ pub mod Edited
 pub mod Uses
 pub mod Counting
 pub mod Saved
+pub mod Placing
+pub mod Tagged

@@ -1,6 +1,6 @@
 //! The entries of the games of an open base.
 ghost use Rattle.std.specs.Prelude.{◌≡◌, ◌≤◌, ◌<◌, ◌+◌, ◌-◌, ◌*◌, ◌^◌, ◌++◌, [], ◌∷◌, Some, length, slice_get, OnOk, OnErr, slice_set, take, drop};
-ghost use Rattle.index_entry.specs.Entry.{IsEntry};
+ghost use Rattle.index_entry.specs.Entry.{IsEntry, IsWritten, entry_in};
 ghost use Rattle.base_core.specs.Packing.{AreWritten, packed_at};
 
 use index_entry::{ENTRY_LEN, Entry, pack, unpack};
@@ -49,10 +49,19 @@ impl Entries {
         requires there { i < length self.now }
         ensures at { slice_get self.now i ≡ Some result }
     {
-        match unpack(&packed_at(self.bytes.as_slice(), i)) {
+        match unpack(&self.packed(i)) {
             Ok(entry) => entry,
             Err(_) => unreachable!(),
         }
+    }
+
+    /// The 47 bytes of the entry at a place.
+    pub(crate) fn packed(&self, i: u32) -> [u8; ENTRY_LEN]
+        requires there { i < length self.now }
+        ensures at { slice_get self.now i ≡ Some (entry_in result) }
+        ensures written { IsWritten result (entry_in result) }
+    {
+        packed_at(self.bytes.as_slice(), i)
     }
 
     /// The written forms of the entries, one after the other.
@@ -81,6 +90,15 @@ impl Entries {
         self.bytes.extend_from_slice(&pack(entry))?;
         self.count += 1;
         Ok(())
+    }
+
+    /// Keeps so many entries.
+    pub(crate) fn truncate(&mut self, count: u32)
+        requires within { count ≤ length self.old }
+        ensures kept { self.new ≡ take count self.old }
+    {
+        self.bytes.truncate(ENTRY_LEN * count as usize);
+        self.count = count;
     }
 }
 

@@ -1,12 +1,13 @@
 //! Why a base is not opened.
 ghost use Rattle.std.specs.Prelude.{◌≡◌};
-ghost use Rattle.base_core.specs.Errors.{names_error, open_error, packed_error, save_error, unread_error};
+ghost use Rattle.base_core.specs.Errors.{names_error, open_error, packed_error, save_error, unplaced_error, unread_error, unwritten_error};
 ghost use Rattle.base_core.specs.declared.fault.OpenError.TheVariants as opening;
 ghost use Rattle.base_core.specs.declared.fault.EditError.TheVariants as edit;
 ghost use Rattle.base_core.specs.declared.fault.SaveError.TheVariants as saving;
 
 use base_files::DeviceError;
-use game_codec::{DecodeError, RecordFault};
+use block_store::StoreError;
+use game_codec::{DecodeError, EncodeError, RecordFault};
 use index_entry::{EntryFault, IndexFault};
 use name_base::{NameFault, NamesError};
 use sig_index::Sig;
@@ -110,12 +111,35 @@ pub struct NoGame {
     pub game: u32,
 }
 
-/// Why a base does not give a game.
+/// What of a base is full: its games, its names of a kind, or the games file.
+#[derive(Clone, Copy, Debug, Drop, PartialEq, Eq, Hash, Error)]
+pub enum What {
+    #[error("games")]
+    Games,
+    #[error("players")]
+    Players,
+    #[error("events")]
+    Events,
+    #[error("sites")]
+    Sites,
+    #[error("rounds")]
+    Rounds,
+    #[error("file")]
+    File,
+}
+
+/// Why a base does not give a game, or is not edited.
 #[derive(Clone, Copy, Debug, Drop, PartialEq, Eq, Error)]
 pub enum EditError {
     /// The base has no game of this number.
     #[error("no game {0}")]
     NoGame(u32),
+    /// The record would have this length, which is above 131,071 bytes.
+    #[error("record too long: {0} bytes")]
+    TooLong(u64),
+    /// This would pass its limit.
+    #[error("full {0}")]
+    Full(What),
     /// The record has changed since the base was opened: it is none, or that of a game with another signature, which was `found`.
     #[error("changed game {game}")]
     Changed {
@@ -124,7 +148,7 @@ pub enum EditError {
         found: Option<Sig>,
     },
     /// The files failed.
-    #[error("cannot read the games file")]
+    #[error("the games file failed")]
     Failed,
     /// Memory ran out.
     #[error("out of memory")]
@@ -166,6 +190,29 @@ impl From<AllocError> for EditError {
 
     fn from(_refused: AllocError) -> EditError {
         EditError::Memory
+    }
+}
+
+impl From<EncodeError> for EditError {
+    ghost from_gives = { λ error e. e ≡ unwritten_error error };
+
+    fn from(error: EncodeError) -> EditError {
+        match error {
+            EncodeError::TooLong(len) => EditError::TooLong(len),
+            EncodeError::Memory => EditError::Memory,
+        }
+    }
+}
+
+impl From<StoreError> for EditError {
+    ghost from_gives = { λ error e. e ≡ unplaced_error error };
+
+    fn from(error: StoreError) -> EditError {
+        match error {
+            StoreError::Full => EditError::Full(What::File),
+            StoreError::Memory => EditError::Memory,
+            StoreError::Failed => EditError::Failed,
+        }
     }
 }
 

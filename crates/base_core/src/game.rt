@@ -174,8 +174,8 @@ pub(crate) fn fields_of<'a>(names: &'a Names, e: &Entry) -> HeadRef<'a>
     }
 }
 
-// The name with an id.
-fn name_of(names: &Names, kind: NameKind, id: u32) -> &[u8]
+/// The name with an id.
+pub(crate) fn name_of(names: &Names, kind: NameKind, id: u32) -> &[u8]
     requires below { id < length (of_kind kind names.now) }
     requires sound { AreSound names.now }
     ensures name { result.now ≡ name_at (of_kind kind names.now) id }

@@ -1,13 +1,21 @@
 //! The games of an open base, as searches see them.
-ghost use Rattle.std.specs.Prelude.{◌≡◌, ◌≤◌, ◌<◌, length};
-ghost use Rattle.sig_index.specs.Games.{extent_in};
+ghost use Rattle.std.specs.Prelude.{◌≡◌, ◌≤◌, ◌<◌, [], length};
+ghost use Rattle.index_entry.specs.Entry.{entry_in};
+ghost use Rattle.name_base.specs.NameLists.{AreSound};
+ghost use Rattle.sig_index.specs.Games.{extent_in, head_in, name_in, plies_in};
+ghost use Rattle.base_core.specs.Entries.{HasNames, head_of};
 ghost use Rattle.base_core.specs.Represents.{extents_of, heads_of, sigs_of};
 
 use crate::base::Base;
-use crate::game::{extent_of, fields_of, sig_in};
+use crate::game::{extent_of, fields_of, name_of, sig_in};
 use base_files::{Extent, Files};
-use game_tree::HeadRef;
-use sig_index::{FetchError, Games, Sig};
+use game_tree::{Date, HeadRef, Outcome, Rating};
+use index_entry::{
+    ENTRY_LEN, black_in, black_rating_in, date_in, eco_in, event_in, is_deleted_in, marks_in,
+    outcome_in, plies_in, round_in, site_in, white_in, white_rating_in,
+};
+use name_base::{NameKind, Names};
+use sig_index::{FetchError, Games, HeadName, Sig};
 
 impl Base {
     // Where the record of game `i` stands.
@@ -17,6 +25,32 @@ impl Base {
         ensures short { result.len ≤ 131071 }
     {
         extent_of(&self.entry(i))
+    }
+
+    // The 47 bytes of the entry of game `i`, in which searches read one field after the other.
+    fn packed(&self, i: u32) -> [u8; ENTRY_LEN]
+        requires there { i < length self.now.entries }
+        ensures head { head_in (heads_of self.now) i ≡ head_of self.now.names (entry_in result) [] }
+        ensures plies { plies_in (sigs_of self.now) i ≡ (entry_in result).plies }
+        ensures named { HasNames self.now.names (entry_in result) }
+    {
+        self.entries.packed(i)
+    }
+}
+
+// One of the names of an entry of 47 bytes.
+#[tactic(auto, unfolding(crate::specs::Entries::head_of))]
+fn entry_name<'a>(names: &'a Names, packed: &[u8; ENTRY_LEN], which: HeadName) -> &'a [u8]
+    requires named { HasNames names.now (entry_in packed.now) }
+    requires sound { AreSound names.now }
+    ensures name { result.now ≡ name_in which (head_of names.now (entry_in packed.now) []) }
+{
+    match which {
+        HeadName::White => name_of(names, NameKind::Player, white_in(packed)),
+        HeadName::Black => name_of(names, NameKind::Player, black_in(packed)),
+        HeadName::Event => name_of(names, NameKind::Event, event_in(packed)),
+        HeadName::Site => name_of(names, NameKind::Site, site_in(packed)),
+        HeadName::Round => name_of(names, NameKind::Round, round_in(packed)),
     }
 }
 
@@ -37,6 +71,50 @@ impl Games for Base {
 
     fn head(&self, i: u32) -> HeadRef<'_> {
         fields_of(&self.names, &self.entry(i))
+    }
+
+    #[tactic(auto, unfolding(crate::specs::Entries::head_of))]
+    fn name(&self, i: u32, which: HeadName) -> &[u8] {
+        entry_name(&self.names, &self.packed(i), which)
+    }
+
+    #[tactic(auto, unfolding(crate::specs::Entries::head_of))]
+    fn is_deleted(&self, i: u32) -> bool {
+        is_deleted_in(&self.packed(i))
+    }
+
+    #[tactic(auto, unfolding(crate::specs::Entries::head_of))]
+    fn marks(&self, i: u32) -> u32 {
+        marks_in(&self.packed(i))
+    }
+
+    #[tactic(auto, unfolding(crate::specs::Entries::head_of))]
+    fn outcome(&self, i: u32) -> Outcome {
+        outcome_in(&self.packed(i))
+    }
+
+    #[tactic(auto, unfolding(crate::specs::Entries::head_of))]
+    fn date(&self, i: u32) -> Date {
+        date_in(&self.packed(i))
+    }
+
+    #[tactic(auto, unfolding(crate::specs::Entries::head_of))]
+    fn white_rating(&self, i: u32) -> Rating {
+        white_rating_in(&self.packed(i))
+    }
+
+    #[tactic(auto, unfolding(crate::specs::Entries::head_of))]
+    fn black_rating(&self, i: u32) -> Rating {
+        black_rating_in(&self.packed(i))
+    }
+
+    #[tactic(auto, unfolding(crate::specs::Entries::head_of))]
+    fn eco(&self, i: u32) -> u16 {
+        eco_in(&self.packed(i))
+    }
+
+    fn plies(&self, i: u32) -> u16 {
+        plies_in(&self.packed(i))
     }
 
     fn extent(&self, i: u32) -> Extent {

@@ -9,14 +9,16 @@ mod game;
 mod games;
 mod laws;
 mod marking;
+mod naming;
 mod opening;
+mod placing;
 mod reading;
 mod saving;
 mod uses;
 
 pub use base::Base;
 pub use fault::{
-    BaseFault, DerivedField, EditError, IdField, NoGame, OpenError, PlaceWhat, SaveError,
+    BaseFault, DerivedField, EditError, IdField, NoGame, OpenError, PlaceWhat, SaveError, What,
 };
 pub use laws::{
     carried_bases_stay, files_have_one_meaning, open_bases_have_one_meaning, searches_see_the_games,
