@@ -1,5 +1,5 @@
 #!/usr/bin/env python3
-"""Writes the bases of some cases, byte by byte: CASE/before/NAME.si4, .sn4 and .sg4.
+"""Writes the bases of some cases, byte by byte: CASE/before/NAME.si4, .sn4 and .sg4, and for some CASE/after.
 
 usage: cases/make_bases.py
 
@@ -122,6 +122,19 @@ SHOWN_NAMES = names_file([("Reti, Richard", 11), ("Tartakower, Savielly", 11), (
                          [("Vienna AUT", 12)], [("?", 12)])
 
 
+# Games that a search of material looks at: with a fourth queen, with a knight that was a pawn and is captured, with more half-moves than an
+# entry tells.
+MEN = [
+    (PAWNS_RECORDS[:6], dict(plies=3, home=(11, 4, 12))),
+    (PAWNS_RECORDS[6:], dict(plies=3, home=(12, 4, 11))),
+    (game(b"\x14", start=b"7k/P7/8/8/8/8/8/KQQQ4 w - - 0 1"), dict(flags=3, final=((4, 0, 0, 0, 0), (0, 0, 0, 0, 0)), plies=1)),
+    (game(b"\x1d\x01\x12\x01\x04\x04", start=b"4k3/P7/8/8/8/8/8/4K3 w - - 0 1"),
+     dict(flags=7, final=((0, 0, 0, 0, 0), (0, 0, 0, 0, 0)), plies=6)),
+    (game(b"\x67\x61\x62\x68" * 275), dict(plies=1023)),
+]
+MEN_NAMES = names_file([("A", 5), ("B", 5)], [("?", 5)], [("?", 5)], [("?", 5)])
+
+
 def all_of(games):
     """The entries and the records of games, one behind the other; each has the names of Vienna but where it says others."""
     entries, records = [], b""
@@ -135,8 +148,8 @@ def put(one, at, byte):
     return one[:at] + bytes([byte]) + one[at + 1:]
 
 
-def write(case, name, index_bytes, names_bytes, games_bytes):
-    folder = HERE / case / "before"
+def write(case, name, index_bytes, names_bytes, games_bytes, when="before"):
+    folder = HERE / case / when
     folder.mkdir(parents=True, exist_ok=True)
     for ending, content in (("si4", index_bytes), ("sn4", names_bytes), ("sg4", games_bytes)):
         (folder / f"{name}.{ending}").write_bytes(content)
@@ -159,8 +172,63 @@ def vienna(case, of_entry):
     write(case, "vienna", index([of_entry]), VIENNA_NAMES, VIENNA_RECORD)
 
 
+# The games of the base of pawns after edits: `tag 0 WhiteElo 2600` and then `mark 0 W on` and `delete 1`, or `tag 0 White C`. The record
+# is written once more, behind the others.
+TAGGED_RECORDS = PAWNS_RECORDS + PAWNS_RECORDS[:6]
+PAWNS_DATE = 2001 * 512 + 2 * 32 + 3
+EDITED = [
+    entry(12, 6, ids=(0, 1, 0, 0, 0), flags=0x10, result=1, dates=PAWNS_DATE, ratings=(2600, 2400), plies=3, home=(11, 4, 12)),
+    entry(6, 6, ids=(1, 0, 0, 0, 0), flags=0x08, result=3, plies=3, home=(12, 4, 11)),
+]
+RENAMED_NAMES = names_file([("A", 1), ("B", 2), ("C", 1)], [("?", 2)], [("?", 2)], [("?", 2)])
+
+# The event dates that a game of 2000 may have in its entry, and those that are a tag of its record.
+DATED_RECORD = game(E4)
+EVENT_TAGGED_RECORD = game(E4, tags=tag(b"EventDate", b"2004.01.02"))
+EVENT_DATE = (3 + 4) << 29 | 1 << 25 | 2 << 20
+
+# A record whose length is near the limit, and the same with a tag that takes it there.
+LONG_COMMENT = game(b"\x0c", (b"x" * 130_995,))
+LONGEST_RECORD = game(b"\x0c", (b"x" * 130_995,), tags=tag(b"Z", b"z" * 68))
+
+
+def edits():
+    """The bases of the cases of edits and of saving."""
+    ids = (0, 1, 0, 0, 0)
+    for case in ("edit_and_save", "edits_of_no_game", "edits_not_saved", "names_not_replaced", "index_not_replaced", "filters_after_edits"):
+        write(case, "pawns", index(PAWNS), PAWNS_NAMES, PAWNS_RECORDS)
+    write("edit_and_save", "pawns", index(EDITED), PAWNS_NAMES, TAGGED_RECORDS, "after")
+    write("open_what_was_saved", "pawns", index(EDITED), PAWNS_NAMES, TAGGED_RECORDS)
+    write("edits_not_saved", "pawns", index(PAWNS), PAWNS_NAMES, TAGGED_RECORDS, "after")
+    write("filters_after_edits", "pawns", index(PAWNS), PAWNS_NAMES, TAGGED_RECORDS, "after")
+    write("names_not_replaced", "pawns", index(PAWNS), PAWNS_NAMES, TAGGED_RECORDS, "after")
+    write("index_not_replaced", "pawns", index(PAWNS), RENAMED_NAMES, TAGGED_RECORDS, "after")
+    write("open_after_a_save_that_failed", "pawns", index(PAWNS), RENAMED_NAMES, TAGGED_RECORDS)
+    renamed = entry(18, 6, ids=(2, 1, 0, 0, 0), result=1, dates=PAWNS_DATE, ratings=(2500, 2400), plies=3, home=(11, 4, 12))
+    write("open_after_a_save_that_failed", "pawns", index([renamed, PAWNS[1]]), RENAMED_NAMES, TAGGED_RECORDS + PAWNS_RECORDS[:6], "after")
+    for case, part in (("names_not_replaced", "sn4"), ("index_not_replaced", "si4")):
+        for when in ("before", "after"):
+            blocked = HERE / case / when / f"pawns.{part}.new"
+            blocked.mkdir(parents=True, exist_ok=True)
+            (blocked / "why").write_text("The new file is written here before it takes the place of the old one.\n")
+    dated = dict(ids=ids, plies=1, home=(11,))
+    date = 2000 * 512 + 5 * 32 + 10
+    names = names_file([("A", 1), ("B", 1)], [("?", 1)], [("?", 1)], [("?", 1)])
+    write("event_dates_by_tag", "dated", index([entry(0, 4, dates=date, **dated)]), names, DATED_RECORD)
+    write("event_dates_by_tag", "dated", index([entry(8, 25, dates=date, **dated)]), names, DATED_RECORD * 2 + EVENT_TAGGED_RECORD, "after")
+    write("event_date_near", "dated", index([entry(0, 4, dates=date, **dated)]), names, DATED_RECORD)
+    write("event_date_near", "dated", index([entry(4, 4, dates=EVENT_DATE | date, **dated)]), names, DATED_RECORD * 2, "after")
+    long = entry(0, len(LONG_COMMENT), ids=ids, counts=(0, 1, 0))
+    tagged = entry(131_072, len(LONGEST_RECORD), ids=ids, counts=(0, 1, 0))
+    write("record_too_long", "long", index([long]), names, LONG_COMMENT)
+    write("record_too_long", "long", index([tagged]), names, LONG_COMMENT + bytes(131_072 - len(LONG_COMMENT)) + LONGEST_RECORD, "after")
+    write("edits_of_vienna", "vienna", index([VIENNA]), VIENNA_NAMES, VIENNA_RECORD)
+    write("created_and_saved", "base", index([]), b"Scid.sn\0" + bytes(28), b"", "after")
+
+
 def main():
-    for case in ("filters_by_number", "find_in_both_orders", "search_header_among_filters"):
+    edits()
+    for case in ("filters_by_number", "find_in_both_orders", "search_header_among_filters", "search_material_by_signatures"):
         write(case, "pawns", index(PAWNS), PAWNS_NAMES, PAWNS_RECORDS)
     # One change a case.
     write("index_of_another_length", "vienna", index([VIENNA])[:-1], VIENNA_NAMES, VIENNA_RECORD)
@@ -184,6 +252,8 @@ def main():
     entries, records = all_of(SHOWN)
     for case in ("show_games", "list_and_export", "search_header", "search_header_in_three_ways"):
         write(case, "games", index(entries), SHOWN_NAMES, records)
+    entries, records = all_of(MEN)
+    write("search_material", "games", index(entries), MEN_NAMES, records)
     write("base_of_no_games", "none", index([]), names_file([("Nobody", 0)], [("?", 0)], [("?", 0)], [("?", 0)]), b"")
 
 

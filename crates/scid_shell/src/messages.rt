@@ -37,6 +37,11 @@ nothing. Words stand between spaces and tabs; a quoted part keeps its spaces.
   list               the same with result, date, opening and players
   show G             the game G in PGN
   export             the games of the filter in PGN
+  tag G NAME VALUE   sets a tag of the game G
+  delete G           marks the game G as deleted
+  undelete G         takes that mark away
+  mark G LETTER on   sets a mark of the game G; `off` takes it away
+  save               makes the files mean the base
   info               what is in the base
   quit               ends, as the end of the input does
 

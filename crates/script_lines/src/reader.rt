@@ -3,6 +3,7 @@ ghost use Rattle.std.specs.Prelude.{◌≡◌, ◌≤◌, ◌<◌, ◌+◌, ◌-
 ghost use Rattle.base_files.specs.Counters.{Rose};
 ghost use Rattle.base_files.specs.Told.{before, Tells};
 ghost use Rattle.script_text.specs.Reading.{reading};
+ghost use Rattle.script_text.specs.Sound.{IsSoundLine};
 ghost use Rattle.script_lines.specs.Reading.{TookPart, TookLine, TookLast, SaysLast, IsFull, Stuck, feed_at, most_kept, piece_len};
 ghost use Rattle.script_lines.specs.Script.{Order as PlainOrder, is_quit, longest_script};
 
@@ -128,6 +129,7 @@ impl LineReader {
         ensures end { result ≡ Ok false → Tells (S.left input.new) [] }
         ensures failed { OnErr result (self.new.unread ≡ []) }
         ensures sum { S.budget input.new + length self.new.unread ≡ S.budget input.old + length self.old.unread }
+        ensures falls { S.budget input.new ≤ S.budget input.old }
         ensures counts { S.faults input.old ≤ S.faults input.new }
         ensures cause { OnErr result (Rose (S.faults input.old) (S.faults input.new)) }
     {
@@ -236,6 +238,7 @@ impl LineReader {
         ensures last { result ≡ Ok false → TookLast self.old (S.left input.old) self.new (S.left input.new) }
         ensures stuck { IfErr result (λ e. Stuck e self.old (S.left input.old) self.new (S.left input.new)) }
         ensures sum { S.budget input.new + (self.new.used + length self.new.unread) ≡ S.budget input.old + (self.old.used + length self.old.unread) }
+        ensures falls { S.budget input.new ≤ S.budget input.old }
         ensures ahead { result ≡ Ok true → S.budget input.new + length self.new.unread < S.budget input.old + length self.old.unread }
         ensures counts { S.faults input.old ≤ S.faults input.new }
         ensures cause { IfErr result (λ e. e ≡ ReadError.Failed → Rose (S.faults input.old) (S.faults input.new)) }
@@ -264,7 +267,10 @@ impl LineReader {
         ensures stuck { IfErr result (λ e. Stuck e self.old (S.left input.old) self.new (S.left input.new)) }
         ensures within { OnOk result (self.new.used ≤ longest_script) }
         ensures few { OnOk result (length self.new.unread ≤ piece_len) }
+        ensures bounds { (order : PlainOrder) → result ≡ Ok (Taken.Line order) → IsSoundLine order }
+        ensures last_bounds { (order : PlainOrder) → result ≡ Ok (Taken.Last order) → IsSoundLine order }
         ensures sum { S.budget input.new + (self.new.used + length self.new.unread) ≡ S.budget input.old + (self.old.used + length self.old.unread) }
+        ensures falls { S.budget input.new ≤ S.budget input.old }
         ensures ahead { (order : PlainOrder) → result ≡ Ok (Taken.Line order) → S.budget input.new + length self.new.unread < S.budget input.old + length self.old.unread }
         ensures counts { S.faults input.old ≤ S.faults input.new }
         ensures cause { IfErr result (λ e. e ≡ ReadError.Failed → Rose (S.faults input.old) (S.faults input.new)) }
@@ -280,6 +286,7 @@ impl LineReader {
     // What the line says.
     fn order(&self, alloc: Global) -> Result<Order, ReadError>
         ensures order { IfOk result (λ order. order ≡ reading self.now.line) }
+        ensures bounds { IfOk result IsSoundLine }
         ensures memory { IfErr result (λ e. e ≡ ReadError.Memory) }
         ensures within { self.now.used ≤ longest_script }
         ensures few { length self.now.unread ≤ piece_len }

@@ -1,23 +1,29 @@
 -- The bounds of what a command holds (this project's own).
-use Rattle.std.specs.Prelude.{◌<◌, IfSome}
+use Rattle.std.specs.Prelude.{◌<◌, ◌≤◌, IfSome, Result, IfOk}
 use Rattle.game_tree.specs.TagEdit.{IsEdit}
 use Rattle.sig_index.specs.declared.head_query.HeadQuery.{HeadQuery}
+use Rattle.sig_index.specs.declared.mat_query.MatQuery.{MatQuery}
 use Rattle.script_text.specs.declared.command.Command.{Command}
+use Rattle.script_text.specs.declared.fault.ScriptFault.{ScriptFault}
 use Rattle.script_text.specs.declared.command.Command.TheVariants.{Nothing, Find, SearchPosition, SearchMaterial, SearchHeader, Reset, Clear, Negate, Restrict, Keep, Take, And, Or, Drop, Hits, List as Listing, Show, Export, Import, Replace, Tag, Delete, Undelete, Mark, Tree, Save, Info, Demo, Quit}
 
 -- A mark that is asked for is one of the 18 bits.
 abbrev pub IsHeadQuery : HeadQuery → Type 0
 IsHeadQuery query = IfSome query.mark (λ bit. bit < 18)
 
--- An edit is within the bounds of heads, and a mark is one of the 18 bits.
+-- A streak that is asked for has at least one ply.
+abbrev pub IsMatQuery : MatQuery → Type 0
+IsMatQuery query = 1 ≤ query.streak
+
+-- An edit is within the bounds of heads, a mark is one of the 18 bits, and a streak has a ply.
 abbrev pub IsSound : Command → Type 0
 IsSound (Tag game edit) = IsEdit edit
 IsSound (Mark game bit on) = bit < 18
 IsSound (SearchHeader op query) = IsHeadQuery query
+IsSound (SearchMaterial op query) = IsMatQuery query
 IsSound Nothing = Unit {0}
 IsSound (Find board side) = Unit {0}
 IsSound (SearchPosition op query) = Unit {0}
-IsSound (SearchMaterial op query) = Unit {0}
 IsSound Reset = Unit {0}
 IsSound Clear = Unit {0}
 IsSound Negate = Unit {0}
@@ -40,3 +46,7 @@ IsSound Save = Unit {0}
 IsSound Info = Unit {0}
 IsSound (Demo seed games) = Unit {0}
 IsSound Quit = Unit {0}
+
+-- Of a line: of its command, if it is one.
+abbrev pub IsSoundLine : Result Command ScriptFault → Type 0
+IsSoundLine line = IfOk line IsSound

@@ -5,7 +5,7 @@ ghost use Rattle.sig_index.specs.Queries.{any_head, any_material};
 ghost use Rattle.script_text.specs.Items.{key_and_value, is_keyed, has_key, new_item, with_item, with_items, items};
 ghost use Rattle.script_text.specs.HeadItems.{head_item};
 ghost use Rattle.script_text.specs.MatItems.{mat_item};
-ghost use Rattle.script_text.specs.Sound.{IsHeadQuery};
+ghost use Rattle.script_text.specs.Sound.{IsHeadQuery, IsMatQuery};
 ghost use Rattle.script_text.specs.Answer.{Answers};
 ghost use Rattle.script_text.specs.declared.fault.CommandError.TheVariants.{Memory};
 
@@ -72,7 +72,8 @@ fn with_head_item(
 
 #[tactic(auto, unfolding(crate::specs::Items::with_item))]
 fn with_mat_item(before: &[Word], query: MatQuery, word: &Word) -> Option<MatQuery>
-    ensures { result ≡ with_item mat_item before.now query word.now }
+    ensures added { result ≡ with_item mat_item before.now query word.now }
+    ensures bounds { IsMatQuery query → IfSome result IsMatQuery }
 {
     let (key, value) = new_item(before, word)?;
     mat_item(query, key, value)
@@ -112,7 +113,8 @@ fn all_head_items(alloc: Global, items: &[Word]) -> Result<HeadQuery, CommandErr
 #[tactic(auto, unfolding(crate::specs::Items::items))]
 pub(crate) fn mat_items(words: &[Word]) -> Result<MatQuery, ScriptFault>
     requires { length words.now < 4294967290 }
-    ensures { result ≡ items mat_item any_material words.now }
+    ensures exact { result ≡ items mat_item any_material words.now }
+    ensures bounds { IfOk result IsMatQuery }
 {
     if words.len() <= 3 {
         return Err(ScriptFault::Argument(3));
@@ -124,7 +126,8 @@ pub(crate) fn mat_items(words: &[Word]) -> Result<MatQuery, ScriptFault>
 #[tactic(auto, using(crate::proofs::ItemLaws::item_missed, crate::proofs::ItemLaws::item_added, crate::proofs::ItemLaws::items_end))]
 fn all_mat_items(items: &[Word]) -> Result<MatQuery, ScriptFault>
     requires { length items.now < 4294967290 }
-    ensures { result ≡ with_items mat_item [] items.now any_material }
+    ensures exact { result ≡ with_items mat_item [] items.now any_material }
+    ensures bounds { IfOk result IsMatQuery }
 {
     let mut query = MatQuery::any();
     for n in 0..items.len() {

@@ -1,6 +1,7 @@
 //! The items of a search of material.
 ghost use Rattle.std.specs.Prelude.{◌≡◌, ◌<◌, ◌≤◌, IfSome};
 ghost use Rattle.script_text.specs.MatItems.{count_place, streak, count_item, mat_item};
+ghost use Rattle.script_text.specs.Sound.{IsMatQuery};
 
 use crate::numbers::span_within;
 use game_tree::read_decimal;
@@ -9,7 +10,8 @@ use sig_index::MatQuery;
 /// The query with the value of an item, or `None` where no item has the key, or the value is not of its form.
 #[tactic(auto, unfolding(crate::specs::MatItems::mat_item))]
 pub(crate) fn mat_item(mut query: MatQuery, key: &[u8], value: &[u8]) -> Option<MatQuery>
-    ensures { result ≡ mat_item query key.now value.now }
+    ensures added { result ≡ mat_item query key.now value.now }
+    ensures bounds { IsMatQuery query → IfSome result IsMatQuery }
 {
     if key == b"ply".as_slice() {
         let span = span_within(131_071, value)?;
@@ -34,7 +36,8 @@ pub(crate) fn mat_item(mut query: MatQuery, key: &[u8], value: &[u8]) -> Option<
 // The items whose value is a span of a count.
 #[tactic(auto, unfolding(crate::specs::MatItems::count_item))]
 fn count_item(mut query: MatQuery, key: &[u8], value: &[u8]) -> Option<MatQuery>
-    ensures { result ≡ count_item query key.now value.now }
+    ensures added { result ≡ count_item query key.now value.now }
+    ensures bounds { IsMatQuery query → IfSome result IsMatQuery }
 {
     let place = count_place(key)?;
     let span = span_within(16, value)?;
@@ -83,7 +86,8 @@ fn count_place(key: &[u8]) -> Option<usize>
 
 // A number of plies from 1 to 131,071.
 fn streak(value: &[u8]) -> Option<u32>
-    ensures { result ≡ streak value.now }
+    ensures streak { result ≡ streak value.now }
+    ensures from_one { IfSome result (λ plies. 1 ≤ plies) }
 {
     let plies = read_decimal(value, 131_071)?;
     if plies >= 1 { Some(plies as u32) } else { None }

@@ -244,8 +244,8 @@ fn is_remark(line: &[u8]) -> bool
     }
 }
 
-/// The command that a line of a script says. The line stands without its line feed. A mark's bit is below 18, and a tag's
-/// edit is within the bounds of heads.
+/// The command that a line of a script says. The line stands without its line feed. A mark's bit is below 18, a tag's
+/// edit is within the bounds of heads, and a streak has at least one ply.
 ///
 /// # Errors
 ///

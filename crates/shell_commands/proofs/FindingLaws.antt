@@ -1,35 +1,30 @@
 -- Laws of `find` over a machine.
-use Rattle.std.proofs.Common.{◌≡◌, ◌≤◌, ◌+◌, ℕ, List, [], ◌∷◌, length, map, Option, Result, Ok, Err, OnOk, refl, sym, ap, subst, ◌∙◌}
-use Rattle.std.specs.Prelude.{sum_by}
-use Rattle.std.proofs.lemmas.List.Sums.{sum_by-cons}
+use Rattle.std.proofs.Common.{◌≡◌, ◌≤◌, ℕ, true, List, length, Option, Result, Ok, Err, OnOk, refl, sym, ap, subst, ◌∙◌}
 use Rattle.base_files.specs.Seen.{Seen}
 use Rattle.base_files.specs.declared.faults.Stop.TheVariants as stop
-use Rattle.base_files.specs.declared.extent.Extent.{Extent}
-use Rattle.base_core.specs.Entries.{extent_of}
 use Rattle.base_core.specs.Represents.{Kept}
+use Rattle.block_store.specs.Placing.{IsEnd}
 use Rattle.cell_core.specs.Board.{Men}
 use Rattle.cell_core.specs.declared.man.Colour.{Colour}
 use Rattle.command_runs.specs.Endings.{Cut, Serves}
 use Rattle.command_runs.proofs.Joining.{halted_none}
-use Rattle.index_entry.specs.declared.entry.Entry.{Entry}
 use Rattle.script_text.specs.declared.command.Command.TheVariants.{Find, Hits}
 use Rattle.shell_commands.specs.declared.halt.Halt.{Halt}
 use Rattle.shell_commands.specs.declared.halt.Halt.TheVariants as halt
 use Rattle.shell_commands.specs.declared.saved.SavedFilter.{SavedFilter}
-use Rattle.shell_commands.specs.Do.{plain}
+use Rattle.shell_commands.specs.Do.{Order, order_asks, plain}
 use Rattle.shell_commands.specs.Ends.{IsDevice}
 use Rattle.shell_commands.specs.FirstPly.{Sought, sought}
 use Rattle.shell_commands.specs.Searching.{found, find_after, find_text}
+use Rattle.shell_commands.specs.Saving.{AreBeside}
 use Rattle.shell_commands.specs.Stands.{Holding, Stands, Sound, Broken}
 use Rattle.shell_commands.specs.State.{State, games_of}
 use Rattle.shell_commands.proofs.Causing.{broken_by_device}
 use Rattle.shell_commands.proofs.Quietly.{fits_by}
 
 -- The search was broken off, and nothing was written.
-pub search_cuts : (e : Halt) (s : State) (board : Men) (side : Colour) (told : Option (List ℕ))
-    → IsDevice e → Cut (Broken s (Ok (Find board side)) e) (find_text s (sought board side)) told told
-search_cuts e s board side told device =
-    record { wrote = halted_none (find_text s (sought board side)) told; broken = broken_by_device s (Ok (Find board side)) e refl device }
+pub search_cuts : (e : Halt) (s : State) (order : Order) (text : List ℕ) (told : Option (List ℕ)) → order_asks order ≡ true → IsDevice e → Cut (Broken s order e) text told told
+search_cuts e s order text told asks device = record { wrote = halted_none text told; broken = broken_by_device s order e asks device }
 
 -- What is held, by its parts.
 abbrev pub held_by : Kept → List (Option ℕ) → List SavedFilter → Holding
@@ -39,14 +34,14 @@ held_by kept filter saved = record { kept = kept; filter = filter; saved = saved
 pub found_stands : (kept : Kept) (filter later : List (Option ℕ)) (saved : List SavedFilter) (seen seen' : Seen) (s : State) (what : Sought)
     → Stands (held_by kept filter saved) seen s → seen' ≡ seen → later ≡ found what (games_of s) → Stands (held_by kept later saved) seen' (find_after s what)
 found_stands kept filter later saved seen seen' s what st same filtered =
-    record { games = st.games; told = ap (λ (t : Seen). t.games) same ∙ st.told; base = st.base; filter = filtered; saved = st.saved; unsaved = st.unsaved }
+    record { games = st.games; told = ap (λ (t : Seen). t.games) same ∙ st.told; base = st.base; filter = filtered; saved = st.saved; unsaved = st.unsaved; carried = subst (λ (x : Seen). AreBeside kept x s.unsaved s.carried) (sym same) st.carried }
 
-pub found_sound : (kept : Kept) (filter later : List (Option ℕ)) (saved : List SavedFilter) (known known' : ℕ)
-    → Sound (held_by kept filter saved) known → length later ≡ length filter → known' ≡ known → Sound (held_by kept later saved) known'
-found_sound kept filter later saved known known' sound same knows = record {
+pub found_sound : (kept : Kept) (filter later : List (Option ℕ)) (saved : List SavedFilter) (seen seen' : Seen)
+    → Sound (held_by kept filter saved) seen → length later ≡ length filter → seen' ≡ seen → Sound (held_by kept later saved) seen'
+found_sound kept filter later saved seen seen' sound same unchanged = record {
   fits = fits_by (held_by kept filter saved) (held_by kept later saved) refl refl same sound.fits;
   base = sound.base;
-  end = subst (λ (k : ℕ). kept.end ≤ k) (sym knows) sound.end;
+  at_end = subst (λ (x : Seen). IsEnd kept.end x) (sym unchanged) sound.at_end;
 }
 
 -- What breaks off the writing of the hits breaks off `find`.
@@ -63,13 +58,6 @@ pub hits_are_found : {A : Type 0} (r : Result A Halt) (new : Holding) (seen : Se
 hits_are_found (Ok x) new seen s board side before after done = done
 hits_are_found (Err e) new seen s board side before after cut =
     record { wrote = cut.wrote; broken = hits_broken s (find_after s (sought board side)) board side e cut.broken }
-
--- The bytes of all records, by the extents and by the entries.
-pub all_records : (entries : List Entry) → sum_by (λ (x : Extent). x.len) (map extent_of entries) ≡ sum_by (λ (e : Entry). e.len) entries
-all_records [] = refl
-all_records (e ∷ entries) =
-    sum_by-cons (λ (x : Extent). x.len) (extent_of e) (map extent_of entries)
-    ∙ (ap (λ (n : ℕ). e.len + n) (all_records entries) ∙ sym (sum_by-cons (λ (d : Entry). d.len) e entries))
 
 -- A fact on success, where it holds anyhow.
 pub on_ok : {A E : Type 0} (P : Type 0) (r : Result A E) → P → OnOk r P

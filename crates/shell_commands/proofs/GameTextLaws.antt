@@ -36,7 +36,8 @@ quiet_no_game old number line past written fits = record {
   text = λ (seen : Seen) (s : State) (st : Stands old seen s).
       written ∙ ap (shown number) (sym (slice_get_past s.base.games number (omega (arith, past, st.base.count))));
   fits = fits;
-  kept = refl;
+  base = λ sound. sound;
+  end = refl;
 }
 
 -- What breaks off a part of a game's text.

@@ -61,10 +61,11 @@ quiet_heads kept filter later saved op query line found written fits =
     ∙ ap (λ (plies : Plies). searched op (map (first_by_head query) s.base.games) plies) same in
     record {
       stands = λ (seen : Seen) (s : State) (st : Stands (held_by kept filter saved) seen s).
-          record { games = st.games; told = st.told; base = st.base; filter = after s st.games st.base st.filter; saved = st.saved; unsaved = st.unsaved };
+          record { games = st.games; told = st.told; base = st.base; filter = after s st.games st.base st.filter; saved = st.saved; unsaved = st.unsaved; carried = st.carried };
       text = λ (seen : Seen) (s : State) (st : Stands (held_by kept filter saved) seen s).
           written ∙ ap (λ (plies : Plies). filter_line plies) (after s st.games st.base st.filter);
       fits = fits_by (held_by kept filter saved) (held_by kept later saved) refl refl
           (ap (λ (plies : Plies). length plies) found ∙ length-searched op (firsts_of query (heads_of kept) (sigs_of kept)) filter) fits;
-      kept = refl;
+      base = λ is. is;
+      end = refl;
     }

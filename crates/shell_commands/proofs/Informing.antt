@@ -41,5 +41,6 @@ quiet_info old line games deleted players events sites rounds unsaved fits writt
       let unsaved' : unsaved ≡ s.unsaved = u ∙ st.unsaved in
       written ∙ cc;
   fits = fits;
-  kept = refl;
+  base = λ sound. sound;
+  end = refl;
 }

@@ -13,4 +13,10 @@ pub mod HeadLaws
 pub mod TextLaws
 pub mod ListingLaws
 pub mod GameTextLaws
+pub mod PassingLaws
+pub mod MaterialLaws
 pub mod Prices
+pub mod CarryLaws
+pub mod EditLaws
+pub mod TagLaws
+pub mod SaveLaws

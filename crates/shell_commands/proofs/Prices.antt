@@ -1,29 +1,59 @@
 -- What a line costs over what a machine holds is its price in the state that the machine stands for.
-use Rattle.std.proofs.Common.{◌≡◌, ◌+◌, ℕ, zero, suc, List, [], ◌∷◌, length, sum_by, slice_get, Option, Some, Ok, Err, refl, sym, ap, ap₂, ◌∙◌, arith}
+use Rattle.std.proofs.Common.{◌≡◌, ◌+◌, ◌&&◌, ℕ, zero, suc, Bool, true, List, [], ◌∷◌, length, sum_by, slice_get, Option, Some, Ok, Err, refl, sym, ap, ap₂, ◌∙◌, arith}
 use Rattle.std.proofs.lemmas.List.Sums.{sum_by-cons}
 use Rattle.base_files.specs.Seen.{Seen}
 use Rattle.base_core.specs.Base.{Held}
+use Rattle.base_core.specs.Entries.{sig_in}
 use Rattle.index_entry.specs.declared.entry.Entry.{Entry}
+use Rattle.game_filter.specs.Search.{looks_at}
+use Rattle.game_filter.specs.declared.op.Op.{Op}
+use Rattle.mat_search.specs.Passing.{passes}
 use Rattle.script_text.specs.declared.command.Command.{Command}
-use Rattle.script_text.specs.declared.command.Command.TheVariants.{Find, Show, Export}
+use Rattle.script_text.specs.declared.command.Command.TheVariants.{Find, SearchMaterial, Show, Export, Tag}
+use Rattle.sig_index.specs.declared.signature.Sig.{Sig}
 use Rattle.shell_commands.specs.Do.{Order, command_price, filtered_len, len_if_in, len_in, price}
+use Rattle.shell_commands.specs.Passing.{can_have, len_if, searched_len, sig_of}
 use Rattle.shell_commands.specs.Stands.{Holding, Stands, cost}
 use Rattle.shell_commands.specs.State.{State}
+use Rattle.shell_commands.proofs.PassingLaws.{sig_is}
 
--- Lists with the same lengths, game by game, have the same sum.
-same_sums : (es : List Entry) (all : List Held) → length es ≡ length all
-    → ((i : ℕ) (e : Entry) (held : Held) → slice_get es i ≡ Some e → slice_get all i ≡ Some held → held.len ≡ e.len)
-    → sum_by (λ (x : Entry). x.len) es ≡ sum_by (λ (x : Held). x.len) all
-same_sums [] [] count each = refl
-same_sums [] (held ∷ all) count each = cc
-same_sums (e ∷ es) [] count each = cc
-same_sums (e ∷ es) (held ∷ all) count each =
+-- Lists with the same numbers, game by game, have the same sum.
+same_sums : (f : Entry → ℕ) (g : Held → ℕ) (es : List Entry) (all : List Held) → length es ≡ length all
+    → ((i : ℕ) (e : Entry) (held : Held) → slice_get es i ≡ Some e → slice_get all i ≡ Some held → f e ≡ g held)
+    → sum_by f es ≡ sum_by g all
+same_sums f g [] [] count each = refl
+same_sums f g [] (held ∷ all) count each = cc
+same_sums f g (e ∷ es) [] count each = cc
+same_sums f g (e ∷ es) (held ∷ all) count each =
     let count' : length es ≡ length all = cc in
-    let rest : sum_by (λ (x : Entry). x.len) es ≡ sum_by (λ (x : Held). x.len) all = same_sums es all count' (λ i e' held' there here. each (suc i) e' held' there here) in
-    let first : held.len ≡ e.len = each zero e held refl refl in
-    let left : sum_by (λ (x : Entry). x.len) (e ∷ es) ≡ e.len + sum_by (λ (x : Entry). x.len) es = sum_by-cons (λ (x : Entry). x.len) e es in
-    let right : sum_by (λ (x : Held). x.len) (held ∷ all) ≡ held.len + sum_by (λ (x : Held). x.len) all = sum_by-cons (λ (x : Held). x.len) held all in
+    let rest : sum_by f es ≡ sum_by g all = same_sums f g es all count' (λ i e' held' there here. each (suc i) e' held' there here) in
+    let first : f e ≡ g held = each zero e held refl refl in
+    let left : sum_by f (e ∷ es) ≡ f e + sum_by f es = sum_by-cons f e es in
+    let right : sum_by g (held ∷ all) ≡ g held + sum_by g all = sum_by-cons g held all in
     omega (arith, rest, first, left, right)
+
+-- What the price of a command looks at: the length of a game's record, and its signature.
+record Alike (e : Entry) (held : Held) : Type 0 where
+  len : held.len ≡ e.len
+  sig : sig_in e ≡ sig_of held.game
+
+-- A game that is read by its signature costs the same.
+same_read : (test : Sig → Bool) (looks : Bool) (e : Entry) (held : Held) → Alike e held
+    → len_if (looks && test (sig_in e)) e.len ≡ len_if (looks && test (sig_of held.game)) held.len
+same_read test looks e held alike =
+    ap (λ (s : Sig). len_if (looks && test s) e.len) alike.sig ∙ ap (λ (n : ℕ). len_if (looks && test (sig_of held.game)) n) (sym alike.len)
+
+same_searched : (test : Sig → Bool) (op : Op) (plies : List (Option ℕ)) (es : List Entry) (all : List Held) → length es ≡ length all
+    → ((i : ℕ) (e : Entry) (held : Held) → slice_get es i ≡ Some e → slice_get all i ≡ Some held → Alike e held)
+    → searched_len (λ (x : Entry). x.len) (λ (x : Entry). test (sig_in x)) op plies es ≡ searched_len (λ (x : Held). x.len) (λ (x : Held). test (sig_of x.game)) op plies all
+same_searched test op [] es all count each = refl
+same_searched test op (old ∷ plies) [] [] count each = refl
+same_searched test op (old ∷ plies) [] (held ∷ all) count each = cc
+same_searched test op (old ∷ plies) (e ∷ es) [] count each = cc
+same_searched test op (old ∷ plies) (e ∷ es) (held ∷ all) count each =
+    let count' : length es ≡ length all = cc in
+    ap₂ (λ (m n : ℕ). m + n) (same_read test (looks_at op old) e held (each zero e held refl refl))
+    (same_searched test op plies es all count' (λ i e' held' there here. each (suc i) e' held' there here))
 
 same_filtered : (plies : List (Option ℕ)) (es : List Entry) (all : List Held) → length es ≡ length all
     → ((i : ℕ) (e : Entry) (held : Held) → slice_get es i ≡ Some e → slice_get all i ≡ Some held → held.len ≡ e.len)
@@ -48,15 +78,22 @@ same_shown (suc game) (e ∷ es) (held ∷ all) count each =
     same_shown game es all count' (λ i e' held' there here. each (suc i) e' held' there here)
 
 same_price : (command : Command) (plies : List (Option ℕ)) (es : List Entry) (all : List Held) → length es ≡ length all
-    → ((i : ℕ) (e : Entry) (held : Held) → slice_get es i ≡ Some e → slice_get all i ≡ Some held → held.len ≡ e.len)
-    → command_price (λ (x : Entry). x.len) es plies command ≡ command_price (λ (x : Held). x.len) all plies command
-same_price (Find board side) plies es all count each = same_sums es all count each
-same_price (Show game) plies es all count each = same_shown game es all count each
-same_price Export plies es all count each = same_filtered plies es all count each
+    → ((i : ℕ) (e : Entry) (held : Held) → slice_get es i ≡ Some e → slice_get all i ≡ Some held → Alike e held)
+    → command_price (λ (x : Entry). x.len) sig_in es plies command ≡ command_price (λ (x : Held). x.len) (λ (x : Held). sig_of x.game) all plies command
+same_price (Find board side) plies es all count each =
+    same_sums (λ (x : Entry). len_if (can_have board (sig_in x)) x.len) (λ (x : Held). len_if (can_have board (sig_of x.game)) x.len) es all count
+    (λ i e held there here. same_read (can_have board) true e held (each i e held there here))
+same_price (SearchMaterial op query) plies es all count each = same_searched (λ (s : Sig). passes s query) op plies es all count each
+same_price (Show game) plies es all count each = same_shown game es all count (λ i e held there here. (each i e held there here).len)
+same_price (Tag game edit) plies es all count each = same_shown game es all count (λ i e held there here. (each i e held there here).len)
+same_price Export plies es all count each = same_filtered plies es all count (λ i e held there here. (each i e held there here).len)
 same_price _ plies es all count each = refl
 
 pub cost_price : (holding : Holding) (seen : Seen) (s : State) (order : Order) → Stands holding seen s → cost holding order ≡ price s order
 cost_price holding seen s (Ok command) stands =
-    ap (λ (plies : List (Option ℕ)). command_price (λ (x : Entry). x.len) holding.kept.entries plies command) stands.filter
-    ∙ same_price command s.filter holding.kept.entries s.base.games stands.base.count (λ i e held there here. (stands.base.each i e held there here).says.len)
+    ap (λ (plies : List (Option ℕ)). command_price (λ (x : Entry). x.len) sig_in holding.kept.entries plies command) stands.filter
+    ∙ same_price command s.filter holding.kept.entries s.base.games stands.base.count
+    (λ i e held there here.
+    let keeps = stands.base.each i e held there here in
+    record { len = keeps.says.len; sig = sig_is held.game (sig_in e) keeps.signed })
 cost_price holding seen s (Err fault) stands = refl

@@ -7,9 +7,10 @@ use Rattle.shell_commands.specs.Filters.{drop_line}
 use Rattle.shell_commands.specs.SavedFilters.{dropped_in}
 use Rattle.std.proofs.lemmas.Bool.Decides.{nat_tests}
 use Rattle.game_filter.specs.Filter.{joined, restricted, restricted_from, entry_within}
-use Rattle.base_core.specs.Represents.{Kept, Represents}
+use Rattle.base_core.specs.Represents.{IsSound, Kept, Represents}
 use Rattle.shell_commands.specs.declared.saved.SavedFilter.{SavedFilter}
 use Rattle.shell_commands.specs.Do.{Order, after_order, text_of_order}
+use Rattle.shell_commands.specs.Saving.{AreBeside}
 use Rattle.shell_commands.specs.Stands.{Holding, Stands, Fits, Quiet}
 use Rattle.shell_commands.specs.State.{State}
 
@@ -35,12 +36,14 @@ quiet_by F G T old new order line after says kept filter saved written fits = re
         filter = filter ∙ ap (λ (x : Plies). F x old.saved) st.filter ∙ ap (F s.filter) st.saved;
         saved = saved ∙ ap (λ (x : Plies). G x old.saved) st.filter ∙ ap (G s.filter) st.saved;
         unsaved = ap (λ (k : Kept). k.unsaved) kept ∙ st.unsaved;
+        carried = subst (λ (k : Kept). AreBeside k seen s.unsaved s.carried) (sym kept) st.carried;
       } in
       subst (Stands new seen) (sym (after s)) standing;
   text = λ (seen : Seen) (s : State) (st : Stands old seen s).
       written ∙ ap (λ (x : Plies). T x old.saved) st.filter ∙ ap (T s.filter) st.saved ∙ sym (says s);
   fits = fits;
-  kept = kept;
+  base = λ (sound : IsSound old.kept). subst (λ (k : Kept). IsSound k) (sym kept) sound;
+  end = ap (λ (k : Kept). k.end) kept;
 }
 
 -- A line that changes nothing and has the same text in each state.

@@ -6,22 +6,29 @@ use Rattle.base_files.specs.Told.{adds}
 use Rattle.command_runs.specs.Endings.{Halted, Serves}
 use Rattle.script_text.specs.declared.command.Command.TheVariants.{Export}
 use Rattle.shell_commands.specs.declared.halt.Halt.{Halt}
-use Rattle.shell_commands.specs.Do.{Order, plain}
+use Rattle.shell_commands.specs.Do.{Order, after_order, plain, text_of_order}
 use Rattle.shell_commands.specs.Ends.{IsOutput}
 use Rattle.shell_commands.specs.Stands.{Holding, Stands, Quiet, Broken}
 use Rattle.shell_commands.specs.State.{State}
 use Rattle.shell_commands.specs.Turns.{is_export}
 use Rattle.shell_commands.proofs.Causing.{broken_by_output}
 
+-- The state after a line stands, and its text was written or broken off.
+pub line_serves : {A : Type 0} (r : Result A Halt) (new : Holding) (order : Order) (line : List ℕ) (seen : Seen) (s : State) (before after : Option (List ℕ))
+    → Stands new seen (after_order s order) → line ≡ text_of_order s order → OnOk r (after ≡ adds before line) → Halted [] line before after → IfErr r IsOutput
+    → Serves plain (Stands new seen) Broken s order before after r
+line_serves (Ok x) new order line seen s before after st text written halted output =
+    record { stands = st; written = written ∙ ap (adds before) text }
+line_serves (Err e) new order line seen s before after st text written halted output =
+    let P : List ℕ → Type 0 = λ l. Halted [] l before after in
+    record { wrote = subst P text halted; broken = broken_by_output s order e output }
+
 -- A line that asked no file, and whose text was written or broken off.
 pub quiet_serves : {A : Type 0} (r : Result A Halt) (old new : Holding) (order : Order) (line : List ℕ) (seen : Seen) (s : State) (before after : Option (List ℕ))
     → Quiet old order new line → Stands old seen s → OnOk r (after ≡ adds before line) → Halted [] line before after → IfErr r IsOutput
     → Serves plain (Stands new seen) Broken s order before after r
-quiet_serves (Ok x) old new order line seen s before after q st written halted output =
-    record { stands = q.stands seen s st; written = written ∙ ap (adds before) (q.text seen s st) }
-quiet_serves (Err e) old new order line seen s before after q st written halted output =
-    let P : List ℕ → Type 0 = λ l. Halted [] l before after in
-    record { wrote = subst P (q.text seen s st) halted; broken = broken_by_output s order e output }
+quiet_serves r old new order line seen s before after q st written halted output =
+    line_serves r new order line seen s before after (q.stands seen s st) (q.text seen s st) written halted output
 
 -- A line that is written whole is no export.
 pub no_export : (order : Order) → order ≡ Ok Export → is_export order ≡ false → ⊥

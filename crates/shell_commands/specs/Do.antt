@@ -1,20 +1,25 @@
 -- What each line of a script does to a state, and the text that it writes: the plain machine. This project's own.
-use Rattle.std.specs.Prelude.{ℕ, ◌+◌, Bool, true, false, List, [], ◌∷◌, sum_by, slice_get, Option, Some, None, Result, Ok, Err}
+use Rattle.std.specs.Prelude.{ℕ, ◌+◌, Bool, true, false, codes, List, [], ◌∷◌, sum_by, slice_get, Option, Some, None, Result, Ok, Err}
 use Rattle.game_filter.specs.Filter.{intersection, union}
+use Rattle.mat_search.specs.Passing.{passes}
 use Rattle.script_text.specs.declared.command.Command.{Command}
-use Rattle.script_text.specs.declared.command.Command.TheVariants.{Nothing, Find, SearchPosition, SearchMaterial, SearchHeader, Reset, Clear, Negate, Restrict, Keep, Take, And, Or, Drop, Hits, List as Listing, Show, Export, Info, Quit}
+use Rattle.script_text.specs.declared.command.Command.TheVariants.{Nothing, Find, SearchPosition, SearchMaterial, SearchHeader, Reset, Clear, Negate, Restrict, Keep, Take, And, Or, Drop, Hits, List as Listing, Show, Export, Tag, Delete, Undelete, Mark, Save, Info, Quit}
 use Rattle.script_text.specs.declared.fault.ScriptFault.{ScriptFault}
 use Rattle.script_text.specs.declared.fault.ScriptFault.TheVariants.{Unknown, Argument}
 use Rattle.command_runs.specs.Plain.{Plain}
+use Rattle.sig_index.specs.declared.signature.Sig.{Sig}
 use Rattle.shell_commands.specs.FirstPly.{sought}
 use Rattle.shell_commands.specs.Lines.{filter_line, hits_text, fault_line}
+use Rattle.shell_commands.specs.Passing.{can_have, len_if, searched_len, sig_of}
 use Rattle.shell_commands.specs.State.{State}
-use Rattle.shell_commands.specs.Searching.{find_after, find_text, search_header_after, search_header_text}
+use Rattle.shell_commands.specs.Searching.{find_after, find_text, search_material_after, search_material_text, search_header_after, search_header_text}
 use Rattle.shell_commands.specs.Filters.{reset_after, clear_after, negate_after, restrict_after, keep_after, keep_text, join_after, join_text, drop_after, drop_text}
 use Rattle.shell_commands.specs.SavedFilters.{taken}
 use Rattle.shell_commands.specs.Listing.{list_text}
 use Rattle.shell_commands.specs.GameTexts.{show_text, export_text}
 use Rattle.shell_commands.specs.Showing.{info_text, quit_text}
+use Rattle.shell_commands.specs.Editing.{delete_after, undelete_after, mark_after, edit_text, tag_after, tag_text}
+use Rattle.shell_commands.specs.Saving.{save_after, save_text}
 
 -- A line of a script: the command that it says, or its first fault.
 abbrev pub Order : Type 0
@@ -23,6 +28,7 @@ Order = Result Command ScriptFault
 -- The state after a command. A command that is not there yet does nothing.
 abbrev pub done_by : State → Command → State
 done_by s (Find board side) = find_after s (sought board side)
+done_by s (SearchMaterial op query) = search_material_after s op query
 done_by s (SearchHeader op query) = search_header_after s op query
 done_by s Reset = reset_after s
 done_by s Clear = clear_after s
@@ -33,6 +39,11 @@ done_by s (Take name) = join_after taken s name
 done_by s (And name) = join_after intersection s name
 done_by s (Or name) = join_after union s name
 done_by s (Drop name) = drop_after s name
+done_by s (Tag game edit) = tag_after s game edit
+done_by s (Delete game) = delete_after s game
+done_by s (Undelete game) = undelete_after s game
+done_by s (Mark game bit on) = mark_after s game bit on
+done_by s Save = save_after s
 done_by s _ = s
 
 -- The text of a command. One that is not there yet is an unknown command, and a kind of search that is not there yet is no argument.
@@ -40,7 +51,7 @@ abbrev pub said_by : State → Command → List ℕ
 said_by s Nothing = []
 said_by s (Find board side) = find_text s (sought board side)
 said_by s (SearchPosition op query) = fault_line (Argument 2)
-said_by s (SearchMaterial op query) = fault_line (Argument 2)
+said_by s (SearchMaterial op query) = search_material_text s op query
 said_by s (SearchHeader op query) = search_header_text s op query
 said_by s Reset = filter_line (reset_after s).filter
 said_by s Clear = filter_line (clear_after s).filter
@@ -55,6 +66,11 @@ said_by s Hits = hits_text s.filter
 said_by s Listing = list_text s
 said_by s (Show game) = show_text s game
 said_by s Export = export_text s
+said_by s (Tag game edit) = tag_text s game edit
+said_by s (Delete game) = edit_text (codes "deleted ") s game
+said_by s (Undelete game) = edit_text (codes "undeleted ") s game
+said_by s (Mark game bit on) = edit_text (codes "marked ") s game
+said_by s Save = save_text s
 said_by s Info = info_text s
 said_by s Quit = quit_text s
 said_by s _ = fault_line Unknown
@@ -72,16 +88,29 @@ text_of_order s (Err fault) = fault_line fault
 abbrev pub plain : Plain State Order
 plain = record { after = after_order; text = text_of_order }
 
--- Whether a line is one that asks the files of the base.
+-- Whether a line is one that uses the files of the base.
 abbrev pub command_asks : Command → Bool
 command_asks (Find board side) = true
+command_asks (SearchMaterial op query) = true
 command_asks (Show game) = true
 command_asks Export = true
+command_asks (Tag game edit) = true
+command_asks Save = true
 command_asks _ = false
 
 abbrev pub order_asks : Order → Bool
 order_asks (Ok command) = command_asks command
 order_asks (Err fault) = false
+
+-- Whether a line may change the files: `tag` adds to the games file, and `save` replaces the other two.
+abbrev pub command_writes : Command → Bool
+command_writes (Tag game edit) = true
+command_writes Save = true
+command_writes _ = false
+
+abbrev pub order_writes : Order → Bool
+order_writes (Ok command) = command_writes command
+order_writes (Err fault) = false
 
 -- The length of the record of a game, if there is one.
 abbrev pub len_in : {A : Type 0} → (A → ℕ) → Option A → ℕ
@@ -99,15 +128,18 @@ filtered_len len [] games = 0
 filtered_len len (ply ∷ plies) [] = 0
 filtered_len len (ply ∷ plies) (game ∷ games) = len_if_in ply (len game) + filtered_len len plies games
 
--- How many bytes of the games file a command asks at most, by what has the lengths of the games' records: those of all games, of the game that
--- is shown, of the games that are exported.
-abbrev pub command_price : {A : Type 0} → (A → ℕ) → List A → List (Option ℕ) → Command → ℕ
-command_price len games plies (Find board side) = sum_by len games
-command_price len games plies (Show game) = len_in len (slice_get games game)
-command_price len games plies Export = filtered_len len plies games
-command_price len games plies _ = 0
+-- How many bytes of the games file a command asks at most, by what has the lengths of the games' records and their signatures: those of the
+-- games in which the board's counts can have stood, of the games that are looked at and can match, of the game that is shown or tagged, of
+-- the games that are exported.
+abbrev pub command_price : {A : Type 0} → (A → ℕ) → (A → Sig) → List A → List (Option ℕ) → Command → ℕ
+command_price len sig games plies (Find board side) = sum_by (λ game. len_if (can_have board (sig game)) (len game)) games
+command_price len sig games plies (SearchMaterial op query) = searched_len len (λ game. passes (sig game) query) op plies games
+command_price len sig games plies (Show game) = len_in len (slice_get games game)
+command_price len sig games plies (Tag game edit) = len_in len (slice_get games game)
+command_price len sig games plies Export = filtered_len len plies games
+command_price len sig games plies _ = 0
 
 -- How many bytes of the games file a line asks at most.
 abbrev pub price : State → Order → ℕ
-price s (Ok command) = command_price (λ held. held.len) s.base.games s.filter command
+price s (Ok command) = command_price (λ held. held.len) (λ held. sig_of held.game) s.base.games s.filter command
 price s (Err fault) = 0

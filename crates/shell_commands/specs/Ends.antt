@@ -1,12 +1,17 @@
 -- Why a part of a command ends early. Only private functions cite this.
-use Rattle.std.specs.Prelude.{◌≡◌, ⊤, ℕ, List, [], Option, Result, Ok, Err}
+use Rattle.std.specs.Prelude.{◌≡◌, ◌⊎◌, ⊤, ℕ, List, [], Option, Result, Ok, Err}
 use Rattle.base_core.specs.Base.{Held}
 use Rattle.base_core.specs.declared.fault.EditError.{EditError}
 use Rattle.base_core.specs.declared.fault.EditError.TheVariants as edit
 use Rattle.base_files.specs.Told.{adds}
 use Rattle.base_files.specs.declared.faults.Stop.TheVariants as stop
 use Rattle.command_runs.specs.Endings.{Halted}
+use Rattle.base_core.specs.declared.fault.SaveError.{SaveError}
+use Rattle.base_core.specs.declared.fault.SaveError.TheVariants as saving
+use Rattle.shell_commands.specs.Editing.{full_line, too_long_line}
 use Rattle.shell_commands.specs.GameTexts.{ExportCut, exported}
+use Rattle.sig_index.specs.declared.games.FetchError.{FetchError}
+use Rattle.sig_index.specs.declared.games.FetchError.TheVariants as fetch
 use Rattle.shell_commands.specs.declared.halt.Halt.{Halt}
 use Rattle.shell_commands.specs.declared.halt.Halt.TheVariants as halt
 
@@ -47,6 +52,8 @@ GamesEnd (Err e) plies games told told' = ExportCut plies games e told told' × 
 -- An error of reading a game that is there.
 abbrev pub HasGame : EditError → Type 0
 HasGame (edit.NoGame game) = ⊥
+HasGame (edit.TooLong size) = ⊥
+HasGame (edit.Full what) = ⊥
 HasGame _ = ⊤
 
 -- How a command ends that reads it.
@@ -55,3 +62,30 @@ halt_of edit.Failed = halt.Device stop.Files
 halt_of edit.Memory = halt.Device stop.Memory
 halt_of (edit.Changed game kept found) = halt.Changed game kept found
 halt_of (edit.NoGame game) = halt.Device stop.Memory
+halt_of (edit.TooLong size) = halt.Device stop.Memory
+halt_of (edit.Full what) = halt.Device stop.Memory
+
+-- How a command ends whose game could not be fetched.
+abbrev pub halt_of_fetch : FetchError → Halt
+halt_of_fetch fetch.Failed = halt.Device stop.Files
+halt_of_fetch (fetch.Changed game kept found) = halt.Changed game kept found
+
+-- An error of editing a game that is there.
+abbrev pub IsThere : EditError → Type 0
+IsThere (edit.NoGame game) = ⊥
+IsThere _ = ⊤
+
+-- How a command ends whose edit of such a game is refused: with an error line, or early.
+abbrev pub refused_edit : EditError → Result (List ℕ) Halt
+refused_edit (edit.TooLong size) = Ok too_long_line
+refused_edit (edit.Full what) = Ok (full_line what)
+refused_edit error = Err (halt_of error)
+
+-- So it ended, or memory ran out.
+abbrev pub EndsAs : Result (List ℕ) Halt → Halt → Type 0
+EndsAs ends e = (e ≡ halt.Device stop.Memory) ⊎ (ends ≡ Err e)
+
+-- How a command ends whose base is not saved.
+abbrev pub unsaved_halt : SaveError → Halt
+unsaved_halt saving.Failed = halt.Device stop.Files
+unsaved_halt saving.Memory = halt.Device stop.Memory

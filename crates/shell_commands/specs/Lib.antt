@@ -2,6 +2,7 @@ pub mod SavedFilters
 pub mod Lines
 pub mod FirstPly
 pub mod State
+pub mod Passing
 pub mod Searching
 pub mod Filters
 pub mod Showing
@@ -11,3 +12,5 @@ pub mod Do
 pub mod Stands
 pub mod Turns
 pub mod Ends
+pub mod Editing
+pub mod Saving

@@ -6,7 +6,9 @@ use Rattle.game_filter.specs.declared.op.Op.{Op}
 use Rattle.game_tree.specs.Game.{GameTree}
 use Rattle.game_tree.specs.Replay.{plies_of}
 use Rattle.head_search.specs.Matching as head
+use Rattle.mat_search.specs.Matching as material
 use Rattle.sig_index.specs.declared.head_query.HeadQuery.{HeadQuery}
+use Rattle.sig_index.specs.declared.mat_query.MatQuery.{MatQuery}
 use Rattle.shell_commands.specs.FirstPly.{Sought, first_of}
 use Rattle.shell_commands.specs.Lines.{filter_line, hits_text}
 use Rattle.shell_commands.specs.State.{State, games_of}
@@ -32,3 +34,10 @@ search_header_after s op query = record s { filter = searched op (map (first_by_
 
 abbrev pub search_header_text : State → Op → HeadQuery → List ℕ
 search_header_text s op query = filter_line (search_header_after s op query).filter
+
+-- search OP material ITEM ..
+abbrev pub search_material_after : State → Op → MatQuery → State
+search_material_after s op query = record s { filter = searched op (material.firsts_of query (games_of s)) s.filter }
+
+abbrev pub search_material_text : State → Op → MatQuery → List ℕ
+search_material_text s op query = filter_line (search_material_after s op query).filter

@@ -1,15 +1,21 @@
 -- How the machine stands for a plain state, beside the files of its base. This project's own.
-use Rattle.std.specs.Prelude.{◌≡◌, ◌≤◌, ℕ, false, IsTrue, ⊤, List, All, length, sum_by, slice_get, Option, Some, Ok, Err}
+use Rattle.std.specs.Prelude.{◌≡◌, ◌⊎◌, ℕ, Bool, false, IsTrue, ⊤, List, All, length, slice_get, Option, Some, None, Ok, Err}
+use Rattle.std.specs.Bool.{MatchBool}
 use Rattle.base_files.specs.Seen.{Seen}
 use Rattle.base_files.specs.declared.faults.Stop.TheVariants as stop
 use Rattle.base_core.specs.Base.{Base}
+use Rattle.base_core.specs.Entries.{sig_in}
 use Rattle.base_core.specs.Represents.{Kept, Represents, IsSound}
+use Rattle.base_core.specs.Means.{Means}
+use Rattle.block_store.specs.Placing.{IsEnd}
 use Rattle.command_runs.specs.Counts.{Counts, Why}
 use Rattle.index_entry.specs.declared.entry.Entry.{Entry}
+use Rattle.script_text.specs.declared.command.Command.TheVariants.{Save}
 use Rattle.shell_commands.specs.declared.halt.Halt.{Halt}
 use Rattle.shell_commands.specs.declared.halt.Halt.TheVariants as halt
 use Rattle.shell_commands.specs.declared.saved.SavedFilter.{SavedFilter}
 use Rattle.shell_commands.specs.Do.{Order, order_asks, after_order, text_of_order, command_price, filtered_len, len_in}
+use Rattle.shell_commands.specs.Saving.{AreBeside, AreEmpty, CarryIt, Contents}
 use Rattle.shell_commands.specs.State.{State, begin}
 
 -- What a machine holds: what the open base keeps, the filter, and the filters that are kept by name.
@@ -18,7 +24,7 @@ pub record Holding : Type 0 where
   pub filter : List (Option ℕ)
   pub saved : List SavedFilter
 
--- The machine stands for this state, where the games file is told: no state where it is not.
+-- The machine stands for this state, where the files are told: for none where they are not.
 pub record Stands (holding : Holding) (seen : Seen) (s : State) : Type 0 where
   pub games : List ℕ
   pub told : seen.games ≡ Some games
@@ -26,27 +32,38 @@ pub record Stands (holding : Holding) (seen : Seen) (s : State) : Type 0 where
   pub filter : holding.filter ≡ s.filter
   pub saved : holding.saved ≡ s.saved
   pub unsaved : holding.kept.unsaved ≡ s.unsaved
+  pub carried : AreBeside holding.kept seen s.unsaved s.carried
 
 -- Each filter of a machine has an entry for each game.
 pub record Fits (holding : Holding) : Type 0 where
   pub filter : length holding.filter ≡ length holding.kept.entries
   pub saved : All (λ kept. length kept.plies ≡ length holding.kept.entries) holding.saved
 
--- What every machine keeps, whatever the files tell: its filters fit, its base is sound, and each record lies within the known length of
--- the games file.
-pub record Sound (holding : Holding) (known : ℕ) : Type 0 where
+-- What every machine keeps, whatever the files tell: its filters fit, its base is sound, and the base ends where the games file ends, within
+-- its known length.
+pub record Sound (holding : Holding) (seen : Seen) : Type 0 where
   pub fits : Fits holding
   pub base : IsSound holding.kept
-  pub end : holding.kept.end ≤ known
+  pub at_end : IsEnd holding.kept.end seen
 
--- A line that asks no file did what it says, and this is its text.
+-- A line that uses no file did what it says, and this is its text. The base keeps its end.
 pub record Quiet (old : Holding) (order : Order) (new : Holding) (line : List ℕ) : Type 0 where
   pub stands : (seen : Seen) (s : State) → Stands old seen s → Stands new seen (after_order s order)
   pub text : (seen : Seen) (s : State) → Stands old seen s → line ≡ text_of_order s order
   pub fits : Fits new
-  pub kept : new.kept ≡ old.kept
+  pub base : IsSound old.kept → IsSound new.kept
+  pub end : new.kept.end ≡ old.kept.end
 
--- What is known of a command that was broken off in a state: the files fail only at a line that asks them, and told files never change.
+-- What the files carry where a command was broken off: what they carried before it, or perhaps, after `save`, the base that it saves. Nothing
+-- is said where the base was created and never saved.
+abbrev pub MayCarry : Seen → Option Base → Order → Base → Type 0
+MayCarry seen (Some base) order saved = CarryIt seen base ⊎ ((order ≡ Ok Save) × CarryIt seen saved)
+MayCarry seen None order saved = ⊤
+
+abbrev pub StillCarry : Seen → State → Order → Type 0
+StillCarry seen s order = MayCarry seen s.carried order s.base
+
+-- What is known of a command that was broken off in a state: the files fail only at a line that uses them, and told files never change.
 abbrev pub Broken : State → Order → Halt → Type 0
 Broken s order (halt.Device stop.Files) = IsTrue (order_asks order)
 Broken s order (halt.Device stop.Write) = ⊤
@@ -59,10 +76,6 @@ abbrev pub WhyHalt : Halt → Counts → Counts → Type 0
 WhyHalt (halt.Device stop) old new = Why stop old new
 WhyHalt (halt.Changed game kept found) old new = found ≡ Some kept → ⊥
 
--- The bytes of all records that a machine finds by its entries, all told.
-abbrev pub records_len : Holding → ℕ
-records_len holding = sum_by (λ e. e.len) holding.kept.entries
-
 -- The bytes of the record of one game; past the last game there are none.
 abbrev pub len_at : List Entry → ℕ → ℕ
 len_at entries game = len_in (λ e. e.len) (slice_get entries game)
@@ -73,11 +86,18 @@ exported_len plies entries = filtered_len (λ e. e.len) plies entries
 
 -- How many bytes of the games file a line asks at most.
 abbrev pub cost : Holding → Order → ℕ
-cost holding (Ok command) = command_price (λ e. e.len) holding.kept.entries holding.filter command
+cost holding (Ok command) = command_price (λ e. e.len) sig_in holding.kept.entries holding.filter command
 cost holding (Err fault) = 0
 
--- A machine begins with what an open base keeps: it is sound where the base's records lie within the known length, and where these files
--- tell a games file beside which what is kept stands for a base, without changes, it stands for the state in which a script begins.
+-- A base was opened or created, beside files that are told: what is kept stands for it, without changes, and the files mean it or are empty.
+pub record IsOpen (kept : Kept) (seen : Seen) (created : Bool) (base : Base) : Type 0 where
+  pub contents : Contents seen
+  pub represents : Represents kept contents.games base
+  pub saved : kept.unsaved ≡ false
+  pub means : MatchBool created (AreEmpty seen) (Means contents.index contents.names contents.games base)
+
+-- A machine begins with what an open base keeps: it is sound where the base ends with the games file, and where a base was opened or created
+-- it stands for the state in which a script begins.
 pub record Begins (kept : Kept) (holding : Holding) : Type 0 where
-  pub sound : (known : ℕ) → kept.end ≤ known → Sound holding known
-  pub stands : (seen : Seen) (games : List ℕ) (base : Base) → seen.games ≡ Some games → Represents kept games base → kept.unsaved ≡ false → Stands holding seen (begin base)
+  pub sound : (seen : Seen) → IsEnd kept.end seen → Sound holding seen
+  pub stands : (seen : Seen) (created : Bool) (base : Base) → IsOpen kept seen created base → Stands holding seen (begin created base)

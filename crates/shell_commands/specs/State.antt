@@ -1,13 +1,15 @@
 -- The state that a script changes: a plain value. This project's own.
-use Rattle.std.specs.Prelude.{ℕ, Bool, false, List, [], length, Option, map}
+use Rattle.std.specs.Prelude.{ℕ, Bool, false, if◌then◌else◌, List, [], length, Option, Some, None, map}
 use Rattle.game_filter.specs.Filter.{all_in}
 use Rattle.game_tree.specs.Game.{GameTree}
 use Rattle.base_core.specs.Base.{Base}
 use Rattle.shell_commands.specs.declared.saved.SavedFilter.{SavedFilter}
 
--- The base, the filter with an entry for each game, the filters that are kept by name, and whether changes are unsaved.
+-- The base, the one that the files carry (the one that was saved last, or that was opened; none where it was created and never saved), the
+-- filter with an entry for each game, the filters that are kept by name, and whether changes are unsaved.
 pub record State : Type 0 where
   pub base : Base
+  pub carried : Option Base
   pub filter : List (Option ℕ)
   pub saved : List SavedFilter
   pub unsaved : Bool
@@ -16,6 +18,13 @@ pub record State : Type 0 where
 abbrev pub games_of : State → List GameTree
 games_of s = map (λ held. held.game) s.base.games
 
--- The state in which a script begins: every game is in at ply 0, and nothing is kept or unsaved.
-abbrev pub begin : Base → State
-begin base = record { base = base; filter = all_in (length base.games); saved = []; unsaved = false }
+-- The state in which a script begins over a base that was opened or, in an empty folder, created: every game is in at ply 0, and nothing is
+-- kept or unsaved.
+abbrev pub begin : Bool → Base → State
+begin created base = record {
+  base = base;
+  carried = if created then None else Some base;
+  filter = all_in (length base.games);
+  saved = [];
+  unsaved = false;
+}

@@ -36,10 +36,10 @@ pub(crate) fn show_turn<'a>(
     requires fits { Fits machine.now }
     ensures turn { IfOk result (IsTurn machine.now (Ok (command.Show number)) machine.now) }
 {
-    if number < u64::from(machine.games()) {
-        return Ok(Turn::Show(number as u32));
+    match machine.game_at(number) {
+        Some(i) => Ok(Turn::Show(i)),
+        None => Ok(Turn::Line(no_game_line(alloc, number)?)),
     }
-    Ok(Turn::Line(no_game_line(alloc, number)?))
 }
 
 // show G, of a game that is there
@@ -51,7 +51,7 @@ pub(crate) fn show<F: Files, K: Sink>(
     i: u32,
 ) -> Result<(), Halt>
     requires there { i < length machine.old.kept.entries }
-    requires sound { Sound machine.old (F.seen files.old).known }
+    requires sound { Sound machine.old (F.seen files.old) }
     ensures same { machine.new ≡ machine.old }
     ensures serves { (s : State) → Stands machine.old (F.seen files.old) s → Serves plain (Stands machine.new (F.seen files.new)) Broken s (Ok (command.Show i)) (K.taken out.old) (K.taken out.new) result }
     ensures unchanged { F.seen files.new ≡ F.seen files.old }
@@ -69,7 +69,7 @@ pub(crate) fn export<F: Files, K: Sink>(
     files: &mut F,
     out: &mut K,
 ) -> Result<(), Halt>
-    requires sound { Sound machine.old (F.seen files.old).known }
+    requires sound { Sound machine.old (F.seen files.old) }
     ensures same { machine.new ≡ machine.old }
     ensures serves { (s : State) → Stands machine.old (F.seen files.old) s → Serves plain (Stands machine.new (F.seen files.new)) Broken s (Ok command.Export) (K.taken out.old) (K.taken out.new) result }
     ensures cut { (s : State) → Stands machine.old (F.seen files.old) s → IfErr result (λ e. ExportCut s.filter s.base.games e (K.taken out.old) (K.taken out.new)) }
@@ -196,7 +196,7 @@ fn text_of(alloc: Global, head: &Head, game: &Game) -> Result<Vec<u8>, AllocErro
 }
 
 // How a command ends where a game that is there is not read.
-fn halt_of(error: EditError) -> Halt
+pub(crate) fn halt_of(error: EditError) -> Halt
     requires there { HasGame error }
     ensures halt { result ≡ halt_of error }
 {
@@ -204,6 +204,6 @@ fn halt_of(error: EditError) -> Halt
         EditError::Failed => Halt::Device(Stop::Files),
         EditError::Memory => Halt::Device(Stop::Memory),
         EditError::Changed { game, kept, found } => Halt::Changed { game, kept, found },
-        EditError::NoGame(_) => unreachable!(),
+        EditError::NoGame(_) | EditError::TooLong(_) | EditError::Full(_) => unreachable!(),
     }
 }

@@ -1,6 +1,7 @@
 //! Why a command ends a session early.
 use base_files::Stop;
-use sig_index::Sig;
+use sig_index::{FetchError, Sig};
+use std::alloc::AllocError;
 
 /// Why a command was broken off.
 #[derive(Clone, Copy, Debug, PartialEq, Eq)]
@@ -23,5 +24,31 @@ impl From<Stop> for Halt {
 
     fn from(stop: Stop) -> Halt {
         Halt::Device(stop)
+    }
+}
+
+impl From<FetchError> for Halt {
+    ghost use Rattle.std.specs.Prelude.{◌≡◌};
+    ghost use Rattle.shell_commands.specs.Ends.{halt_of_fetch};
+
+    ghost from_gives = { λ error e. e ≡ halt_of_fetch error };
+
+    fn from(error: FetchError) -> Halt {
+        match error {
+            FetchError::Failed => Halt::Device(Stop::Files),
+            FetchError::Changed { game, kept, found } => Halt::Changed { game, kept, found },
+        }
+    }
+}
+
+impl From<AllocError> for Halt {
+    ghost use Rattle.std.specs.Prelude.{◌≡◌};
+    ghost use Rattle.base_files.specs.declared.faults.Stop.TheVariants as stop;
+    ghost use Rattle.shell_commands.specs.declared.halt.Halt.TheVariants as halt;
+
+    ghost from_gives = { λ _ e. e ≡ halt.Device stop.Memory };
+
+    fn from(_refused: AllocError) -> Halt {
+        Halt::Device(Stop::Memory)
     }
 }

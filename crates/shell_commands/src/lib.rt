@@ -1,6 +1,8 @@
 //! The commands of a script over an open base: what each makes of the state, and the text that it writes.
 #![tactic(auto)]
 
+mod counting;
+mod editing;
 mod filters;
 mod find;
 mod finding;
@@ -12,9 +14,12 @@ mod laws;
 mod lines;
 mod listing;
 mod machine;
+mod material;
 mod saved;
+mod saving;
 mod serving;
 mod showing;
+mod tagging;
 
 pub use halt::Halt;
 pub use laws::first_plies_are_first;

@@ -1,6 +1,7 @@
 //! The lines that commands write.
 ghost use Rattle.std.specs.Prelude.{◌≡◌, ◌++◌, ◌∷◌, [], IfOk};
 ghost use Rattle.script_text.specs.declared.fault.ScriptFault.TheVariants.{Unknown};
+ghost use Rattle.shell_commands.specs.Editing.{game_line};
 ghost use Rattle.shell_commands.specs.GameTexts.{no_game_line};
 ghost use Rattle.shell_commands.specs.Lines.{filter_line, name_line, line_of, fault_line, argument_line};
 
@@ -64,6 +65,16 @@ pub(crate) fn no_game_line(alloc: Global, game: u64) -> Result<Vec<u8>, AllocErr
 {
     let line = format!(in alloc; "error: no game {game}\n")?;
     Ok(line.into_bytes())
+}
+
+// A line of words and the number of a game.
+pub(crate) fn game_line(alloc: Global, words: &[u8], game: u64) -> Result<Vec<u8>, AllocError>
+    ensures { IfOk result (λ line. line.items ≡ game_line words.now game) }
+{
+    let mut line = Vec::from_slice(alloc, words)?;
+    let digits = format!(in alloc; "{game}\n")?;
+    line.extend_from_slice(digits.as_bytes())?;
+    Ok(line)
 }
 
 // The error line of a command that is not there.

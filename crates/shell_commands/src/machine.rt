@@ -1,5 +1,5 @@
 //! The machine that runs commands.
-ghost use Rattle.std.specs.Prelude.{◌≡◌, ◌≤◌, [], false, length, IfOk};
+ghost use Rattle.std.specs.Prelude.{◌≡◌, ◌≤◌, ◌<◌, [], false, length, IfOk, MatchOption};
 ghost use Rattle.base_core.specs.Base.{Base as PlainBase};
 ghost use Rattle.base_core.specs.Represents.{Represents, IsSound};
 ghost use Rattle.base_files.specs.Seen.{Seen};
@@ -53,6 +53,24 @@ impl Machine {
             block,
             page: String::new(alloc),
         })
+    }
+
+    // What every open base keeps, this one too. Nothing is done.
+    pub(crate) fn keeps_sound(&self)
+        ensures sound { IsSound self.now.kept }
+    {
+        let _header = self.base.header();
+    }
+
+    // The game of a number, where there is one.
+    pub(crate) fn game_at(&self, number: u64) -> Option<u32>
+        ensures at { MatchOption result (length self.now.kept.entries ≤ number) (λ i. (i ≡ number) × (i < length self.now.kept.entries)) }
+    {
+        if number < u64::from(self.games()) {
+            Some(number as u32)
+        } else {
+            None
+        }
     }
 
     /// The number of games of its base.

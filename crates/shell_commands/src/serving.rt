@@ -1,16 +1,18 @@
 //! What one line of a script does.
-ghost use Rattle.std.specs.Prelude.{◌≡◌, ◌≤◌, ◌+◌, [], Ok, OnOk, IfOk, IfErr};
+ghost use Rattle.std.specs.Prelude.{◌≡◌, ◌≤◌, ◌+◌, [], false, Ok, OnOk, IfOk, IfErr};
 ghost use Rattle.base_files.specs.Told.{adds};
 ghost use Rattle.command_runs.specs.Endings.{Halted, Serves};
 ghost use Rattle.command_runs.specs.Counts.{Causes, Why, counts};
+ghost use Rattle.script_text.specs.Sound.{IsSoundLine};
 ghost use Rattle.script_text.specs.declared.command.Command.TheVariants as command;
-ghost use Rattle.shell_commands.specs.Do.{plain};
+ghost use Rattle.shell_commands.specs.Do.{order_writes, plain};
 ghost use Rattle.shell_commands.specs.Ends.{IsOutput};
 ghost use Rattle.shell_commands.specs.GameTexts.{ExportCut};
-ghost use Rattle.shell_commands.specs.Stands.{Stands, Sound, Fits, Quiet, Broken, WhyHalt, cost};
+ghost use Rattle.shell_commands.specs.Stands.{Stands, Sound, Fits, Quiet, Broken, StillCarry, WhyHalt, cost};
 ghost use Rattle.shell_commands.specs.State.{State};
 ghost use Rattle.shell_commands.specs.Turns.{IsTurn};
 
+use crate::editing::{delete, mark, undelete};
 use crate::filters::{and, clear, drop_filter, keep_filter, negate, or, reset, restrict, take};
 use crate::finding::find;
 use crate::game_texts::{export, show, show_turn};
@@ -20,11 +22,17 @@ use crate::hits::hits;
 use crate::lines::{fault_line, unknown};
 use crate::listing::list;
 use crate::machine::Machine;
+use crate::material::search_material;
+use crate::saving::save;
 use crate::showing::{info, quit};
+use crate::tagging::{tag, tag_turn};
 use base_files::{Files, Sink, Stop};
 use cell_core::{Board, Colour};
 use command_runs::write_text;
+use game_filter::Op;
+use game_tree::TagEdit;
 use script_text::{Command, ScriptFault};
+use sig_index::MatQuery;
 use std::alloc::{AllocError, Global};
 
 /// A line of a script: the command that it says, or its first fault.
@@ -35,10 +43,13 @@ pub type Order = Result<Command, ScriptFault>;
 pub(crate) enum Turn<'a> {
     Line(Vec<u8>),
     Find(&'a Board, Colour),
+    Material(Op, &'a MatQuery),
     Hits,
     List,
     Show(u32),
     Export,
+    Tag(u32, &'a TagEdit),
+    Save,
 }
 
 /// Does what a line of a script says, and writes its text.
@@ -49,25 +60,37 @@ pub fn serve<F: Files, K: Sink>(
     out: &mut K,
     order: &Order,
 ) -> Result<(), Halt>
-    requires sound { Sound machine.old (F.seen files.old).known }
+    requires sound { Sound machine.old (F.seen files.old) }
+
+    // Its edit, its mark or its streak is within its bounds, as that of a line that was read.
+    requires order { IsSoundLine order.now }
 
     // Where the files are told, the machine stands for the state after the command and its text is written, or a front part of it.
     ensures serves { (s : State) → Stands machine.old (F.seen files.old) s → Serves plain (Stands machine.new (F.seen files.new)) Broken s order.now (K.taken out.old) (K.taken out.new) result }
-    ensures sound { OnOk result (Sound machine.new (F.seen files.new).known) }
+    ensures sound { OnOk result (Sound machine.new (F.seen files.new)) }
 
     // Of an export that is broken off, the games before that one are written whole.
     ensures whole { (s : State) → Stands machine.old (F.seen files.old) s → order.now ≡ Ok command.Export → IfErr result (λ e. ExportCut s.filter s.base.games e (K.taken out.old) (K.taken out.new)) }
-    ensures unchanged { F.seen files.new ≡ F.seen files.old }
+
+    // Where it is broken off the files carry what they carried, or perhaps what `save` saves.
+    ensures carries { (s : State) → Stands machine.old (F.seen files.old) s → IfErr result (λ _. StillCarry (F.seen files.new) s order.now) }
+
+    // Whatever the files tell, they change by a line alone that may change them, and no base is chosen.
+    ensures unchanged { order_writes order.now ≡ false → F.seen files.new ≡ F.seen files.old }
+    ensures choices { (F.seen files.new).choices ≡ (F.seen files.old).choices }
     ensures asks { F.asked files.new ≤ F.asked files.old + cost machine.old order.now }
     ensures causes { Causes WhyHalt result (counts (F.faults files.old) 0 (K.faults out.old)) (counts (F.faults files.new) 0 (K.faults out.new)) }
 {
     match take_turn(alloc, machine, order) {
         Err(AllocError) => Err(Halt::Device(Stop::Memory)),
         Ok(Turn::Find(board, side)) => find(machine, files, out, board, side),
+        Ok(Turn::Material(op, query)) => search_material(alloc, machine, files, out, op, query),
         Ok(Turn::Hits) => hits(machine, out),
         Ok(Turn::List) => list(alloc, machine, out),
         Ok(Turn::Show(i)) => show(alloc, machine, files, out, i),
         Ok(Turn::Export) => export(alloc, machine, files, out),
+        Ok(Turn::Tag(i, edit)) => tag(alloc, machine, files, out, i, edit),
+        Ok(Turn::Save) => save(alloc, machine, files, out),
         Ok(Turn::Line(line)) => write_line(out, line.as_slice()),
     }
 }
@@ -85,13 +108,14 @@ pub(crate) fn write_line<K: Sink>(out: &mut K, line: &[u8]) -> Result<(), Halt>
     }
 }
 
-// Does what a line says where it asks no file, and tells what is left to do. A command that is not built yet is an unknown one.
+// Does what a line says where it uses no file, and tells what is left to do. A command that is not built yet is an unknown one.
 fn take_turn<'a>(
     alloc: Global,
     machine: &mut Machine,
     order: &'a Order,
 ) -> Result<Turn<'a>, AllocError>
     requires fits { Fits machine.old }
+    requires order { IsSoundLine order.now }
     ensures turn { IfOk result (IsTurn machine.old order.now machine.new) }
 {
     let command = match order {
@@ -120,21 +144,20 @@ fn take_turn<'a>(
             alloc,
             ScriptFault::Argument(2),
         )?)),
-        Command::SearchMaterial(_, _) => Ok(Turn::Line(fault_line(
-            alloc,
-            ScriptFault::Argument(2),
-        )?)),
+        Command::SearchMaterial(op, query) => Ok(Turn::Material(*op, query)),
         Command::SearchHeader(op, query) => {
             Ok(Turn::Line(search_header(alloc, machine, *op, query)?))
         }
         Command::Import(_) => Ok(Turn::Line(unknown(alloc)?)),
         Command::Replace(_, _) => Ok(Turn::Line(unknown(alloc)?)),
-        Command::Tag(_, _) => Ok(Turn::Line(unknown(alloc)?)),
-        Command::Delete(_) => Ok(Turn::Line(unknown(alloc)?)),
-        Command::Undelete(_) => Ok(Turn::Line(unknown(alloc)?)),
-        Command::Mark(_, _, _) => Ok(Turn::Line(unknown(alloc)?)),
+        Command::Tag(number, edit) => tag_turn(alloc, machine, *number, edit),
+        Command::Delete(number) => Ok(Turn::Line(delete(alloc, machine, *number)?)),
+        Command::Undelete(number) => Ok(Turn::Line(undelete(alloc, machine, *number)?)),
+        Command::Mark(number, bit, on) => {
+            Ok(Turn::Line(mark(alloc, machine, *number, *bit, *on)?))
+        }
         Command::Tree(_, _) => Ok(Turn::Line(unknown(alloc)?)),
-        Command::Save => Ok(Turn::Line(unknown(alloc)?)),
+        Command::Save => Ok(Turn::Save),
         Command::Demo(_, _) => Ok(Turn::Line(unknown(alloc)?)),
     }
 }

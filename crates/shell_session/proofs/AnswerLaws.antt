@@ -5,18 +5,18 @@ use Rattle.base_files.specs.Counters.{Rose}
 use Rattle.base_files.proofs.Rising.{Rose-after}
 use Rattle.base_core.specs.declared.fault.BaseFault.{BaseFault}
 use Rattle.script_lines.specs.Script.{longest_script}
-use Rattle.base_files.specs.Seen.{Seen}
+use Rattle.base_files.specs.Seen.{SameContents, Seen}
 use Rattle.base_files.specs.Told.{adds}
 use Rattle.base_files.specs.declared.faults.Stop.{Stop}
 use Rattle.base_files.specs.declared.faults.Stop.TheVariants as stop
 use Rattle.base_core.specs.Base.{Base}
-use Rattle.base_core.specs.Opening.{IfTold}
+use Rattle.base_core.specs.Opening.{IfTold, is_created}
 use Rattle.command_runs.specs.Counts.{Why, counts}
 use Rattle.command_runs.specs.Endings.{Halted}
 use Rattle.shell_commands.specs.Stands.{Holding, Stands}
 use Rattle.shell_commands.specs.State.{State, begin}
 use Rattle.shell_session.specs.Running.{Interrupts, Opening, OpeningRefused}
-use Rattle.shell_session.specs.Session.{Answers, Chooses, ChoosesBase, Reads, WhyStatus, Due, Given, Inlet, Opened, RanAll, RanPart, given, opening_line, opening_text}
+use Rattle.shell_session.specs.Session.{Answers, AreGiven, Chooses, ChoosesBase, Reads, WhyStatus, Due, Given, Inlet, Opened, RanAll, RanPart, begun, given, opening_line, opening_text}
 use Rattle.shell_session.specs.Stops.{status_of}
 use Rattle.shell_session.specs.Words.{Wanted, words_read}
 use Rattle.shell_session.specs.declared.status.Status.{Status}
@@ -30,24 +30,29 @@ told seen F index names games known i n g =
     let G : Option (List ℕ) → Type 0 = λ o. IfSome o (λ games. F index names games) in
     subst G g (subst N n (subst I i known))
 
+-- The contents are those that were given.
+pub as_given : (words : List (List ℕ)) (index names games script : List ℕ) (seen seen' : Seen) → SameContents seen seen' → seen.index ≡ Some index → seen.names ≡ Some names → seen.games ≡ Some games
+    → AreGiven (given words index names games script) seen'
+as_given words index names games script seen seen' same i n g = record { index = same.index ∙ i; names = same.names ∙ n; games = same.games ∙ g }
+
 -- The opening refused.
-pub opening_answers : (words : List (List ℕ)) (index names games script : List ℕ) (seen : Seen) (t : Option (List ℕ)) (input : Inlet) (wanted : Wanted) (status : Status)
-    → words_read words ≡ Some wanted → OpeningRefused wanted.create wanted.strict seen status
+pub opening_answers : (words : List (List ℕ)) (index names games script : List ℕ) (seen seen' : Seen) (t : Option (List ℕ)) (input : Inlet) (wanted : Wanted) (status : Status)
+    → words_read words ≡ Some wanted → OpeningRefused wanted.create wanted.strict seen status → SameContents seen seen'
     → seen.index ≡ Some index → seen.names ≡ Some names → seen.games ≡ Some games
-    → Answers (given words index names games script) t t input input status
-opening_answers words index names games script seen t input wanted (BadBase fault) said refused i n g =
-    (record { wanted = wanted; words = said; first = told seen _ index names games refused i n g }, record { unwritten = refl; unread = refl })
-opening_answers words index names games script seen t input wanted FilesFault said refused i n g = inl (record { unwritten = refl; unread = refl })
-opening_answers words index names games script seen t input wanted Memory said refused i n g = inl (record { unwritten = refl; unread = refl })
-opening_answers words index names games script seen t input wanted Done said refused i n g = absurd refused
-opening_answers words index names games script seen t input wanted Usage said refused i n g = absurd refused
-opening_answers words index names games script seen t input wanted ReadFault said refused i n g = absurd refused
-opening_answers words index names games script seen t input wanted WriteFault said refused i n g = absurd refused
-opening_answers words index names games script seen t input wanted InputTooLong said refused i n g = absurd refused
-opening_answers words index names games script seen t input wanted (Changed game kept found) said refused i n g = absurd refused
+    → Answers (given words index names games script) t t input input seen' status
+opening_answers words index names games script seen seen' t input wanted (BadBase fault) said refused same i n g =
+    (record { wanted = wanted; words = said; first = told seen _ index names games refused i n g }, record { unwritten = refl; unread = refl; files = as_given words index names games script seen seen' same i n g })
+opening_answers words index names games script seen seen' t input wanted FilesFault said refused same i n g = inl (record { unwritten = refl; unread = refl; files = as_given words index names games script seen seen' same i n g })
+opening_answers words index names games script seen seen' t input wanted Memory said refused same i n g = inl (record { unwritten = refl; unread = refl; files = as_given words index names games script seen seen' same i n g })
+opening_answers words index names games script seen seen' t input wanted Done said refused same i n g = absurd refused
+opening_answers words index names games script seen seen' t input wanted Usage said refused same i n g = absurd refused
+opening_answers words index names games script seen seen' t input wanted ReadFault said refused same i n g = absurd refused
+opening_answers words index names games script seen seen' t input wanted WriteFault said refused same i n g = absurd refused
+opening_answers words index names games script seen seen' t input wanted InputTooLong said refused same i n g = absurd refused
+opening_answers words index names games script seen seen' t input wanted (Changed game kept found) said refused same i n g = absurd refused
 
 -- The base was opened.
-pub opened : (words : List (List ℕ)) (index names games script : List ℕ) (seen : Seen) (wanted : Wanted) (holding : Holding) (mended : ℕ)
+abbrev pub opened : (words : List (List ℕ)) (index names games script : List ℕ) (seen : Seen) (wanted : Wanted) (holding : Holding) (mended : ℕ)
     → words_read words ≡ Some wanted → (o : Opening wanted.create wanted.strict index names games holding seen mended)
     → Opened (given words index names games script) o.base mended
 opened words index names games script seen wanted holding mended said o =
@@ -58,40 +63,40 @@ none_rose (inl rose) = absurd (omega (arith, rose))
 none_rose (inr last) = absurd (omega (arith, last))
 
 -- The opening line was broken off.
-pub line_answers : (g : Given) (t t' : Option (List ℕ)) (input : Inlet) (base : Base) (mended : ℕ) (s : Stop) (k k' : ℕ)
-    → Opened g base mended → Halted [] (opening_line base mended) t t' → Why s (counts 0 0 k) (counts 0 0 k')
-    → Answers g t t' input input (status_of s)
-line_answers g t t' input base mended stop.Read k k' base_open wrote why = absurd (none_rose why)
-line_answers g t t' input base mended stop.Files k k' base_open wrote why = absurd (none_rose why)
-line_answers g t t' input base mended stop.Write k k' base_open wrote why = inl (record { base = base; mended = mended; opened = base_open; wrote = wrote; unread = refl })
-line_answers g t t' input base mended stop.Memory k k' base_open wrote why = inr (inl (record { base = base; mended = mended; opened = base_open; wrote = wrote; unread = refl }))
+pub line_answers : (g : Given) (t t' : Option (List ℕ)) (input : Inlet) (seen' : Seen) (base : Base) (mended : ℕ) (s : Stop) (k k' : ℕ)
+    → Opened g base mended → Halted [] (opening_line base mended) t t' → AreGiven g seen' → Why s (counts 0 0 k) (counts 0 0 k')
+    → Answers g t t' input input seen' (status_of s)
+line_answers g t t' input seen' base mended stop.Read k k' base_open wrote files why = absurd (none_rose why)
+line_answers g t t' input seen' base mended stop.Files k k' base_open wrote files why = absurd (none_rose why)
+line_answers g t t' input seen' base mended stop.Write k k' base_open wrote files why = inl (record { base = base; mended = mended; opened = base_open; wrote = wrote; unread = refl; files = files })
+line_answers g t t' input seen' base mended stop.Memory k k' base_open wrote files why = inr (inl (record { base = base; mended = mended; opened = base_open; wrote = wrote; unread = refl; files = files }))
 
 -- The run of the script stopped.
-pub part_answers : (g : Given) (t t' : Option (List ℕ)) (input input' : Inlet) (base : Base) (mended : ℕ) (status : Status)
-    → Opened g base mended → RanPart status (begin base) g.script (adds t (opening_line base mended)) t' input'.left
-    → Answers g t t' input input' status
-part_answers g t t' input input' base mended ReadFault base_open ran = record { base = base; mended = mended; opened = base_open; ran = ran }
-part_answers g t t' input input' base mended WriteFault base_open ran = inr (record { base = base; mended = mended; opened = base_open; ran = ran })
-part_answers g t t' input input' base mended FilesFault base_open ran = inr (record { base = base; mended = mended; opened = base_open; ran = ran })
-part_answers g t t' input input' base mended InputTooLong base_open ran = record { base = base; mended = mended; opened = base_open; ran = ran }
-part_answers g t t' input input' base mended Memory base_open ran = inr (inr (record { base = base; mended = mended; opened = base_open; ran = ran }))
-part_answers g t t' input input' base mended Done base_open ran = absurd ran.broken
-part_answers g t t' input input' base mended Usage base_open ran = absurd ran.broken
-part_answers g t t' input input' base mended (BadBase fault) base_open ran = absurd ran.broken
-part_answers g t t' input input' base mended (Changed game kept found) base_open ran = absurd ran.broken
+pub part_answers : (g : Given) (t t' : Option (List ℕ)) (input input' : Inlet) (seen' : Seen) (base : Base) (mended : ℕ) (status : Status)
+    → (o : Opened g base mended) → RanPart status (begun g base mended o) g.script (adds t (opening_line base mended)) t' input'.left seen'
+    → Answers g t t' input input' seen' status
+part_answers g t t' input input' seen' base mended ReadFault base_open ran = record { base = base; mended = mended; opened = base_open; ran = ran }
+part_answers g t t' input input' seen' base mended WriteFault base_open ran = inr (record { base = base; mended = mended; opened = base_open; ran = ran })
+part_answers g t t' input input' seen' base mended FilesFault base_open ran = inr (record { base = base; mended = mended; opened = base_open; ran = ran })
+part_answers g t t' input input' seen' base mended InputTooLong base_open ran = record { base = base; mended = mended; opened = base_open; ran = ran }
+part_answers g t t' input input' seen' base mended Memory base_open ran = inr (inr (record { base = base; mended = mended; opened = base_open; ran = ran }))
+part_answers g t t' input input' seen' base mended Done base_open ran = absurd ran.broken.broken
+part_answers g t t' input input' seen' base mended Usage base_open ran = absurd ran.broken.broken
+part_answers g t t' input input' seen' base mended (BadBase fault) base_open ran = absurd ran.broken.broken
+part_answers g t t' input input' seen' base mended (Changed game kept found) base_open ran = absurd ran.broken.broken
 
 -- Where no device has a fault, the status is due, or memory ran out.
-pub due_of : (g : Given) (t t' : Option (List ℕ)) (input input' : Inlet) (status : Status) (f f' i i' k k' : ℕ) → Answers g t t' input input' status
+pub due_of : (g : Given) (t t' : Option (List ℕ)) (input input' : Inlet) (seen' : Seen) (status : Status) (f f' i i' k k' : ℕ) → Answers g t t' input input' seen' status
     → WhyStatus status (counts f i k) (counts f' i' k') → (Rose f f' → ⊥) → (Rose i i' → ⊥) → (Rose k k' → ⊥) → (status ≡ Memory) ⊎ Due g status
-due_of g t t' input input' Done f f' i i' k k' answer why no_files no_input no_output = inr (record { base = answer.base; mended = answer.mended; opened = answer.opened }, answer.ran.within)
-due_of g t t' input input' Usage f f' i i' k k' answer why no_files no_input no_output = inr answer.0
-due_of g t t' input input' (BadBase fault) f f' i i' k k' answer why no_files no_input no_output = inr answer.0
-due_of g t t' input input' ReadFault f f' i i' k k' answer why no_files no_input no_output = absurd (no_input why)
-due_of g t t' input input' WriteFault f f' i i' k k' answer why no_files no_input no_output = absurd (no_output why)
-due_of g t t' input input' FilesFault f f' i i' k k' answer why no_files no_input no_output = absurd (no_files why)
-due_of g t t' input input' (Changed game kept found) f f' i i' k k' answer why no_files no_input no_output = absurd answer
-due_of g t t' input input' InputTooLong f f' i i' k k' answer why no_files no_input no_output = inr (record { base = answer.base; mended = answer.mended; opened = answer.opened }, answer.ran.lines.0)
-due_of g t t' input input' Memory f f' i i' k k' answer why no_files no_input no_output = inl refl
+due_of g t t' input input' seen' Done f f' i i' k k' answer why no_files no_input no_output = inr (record { base = answer.base; mended = answer.mended; opened = answer.opened }, answer.ran.within)
+due_of g t t' input input' seen' Usage f f' i i' k k' answer why no_files no_input no_output = inr answer.0
+due_of g t t' input input' seen' (BadBase fault) f f' i i' k k' answer why no_files no_input no_output = inr answer.0
+due_of g t t' input input' seen' ReadFault f f' i i' k k' answer why no_files no_input no_output = absurd (no_input why)
+due_of g t t' input input' seen' WriteFault f f' i i' k k' answer why no_files no_input no_output = absurd (no_output why)
+due_of g t t' input input' seen' FilesFault f f' i i' k k' answer why no_files no_input no_output = absurd (no_files why)
+due_of g t t' input input' seen' (Changed game kept found) f f' i i' k k' answer why no_files no_input no_output = absurd answer
+due_of g t t' input input' seen' InputTooLong f f' i i' k k' answer why no_files no_input no_output = inr (record { base = answer.base; mended = answer.mended; opened = answer.opened }, answer.ran.lines.0)
+due_of g t t' input input' seen' Memory f f' i i' k k' answer why no_files no_input no_output = inl refl
 
 -- ---- for every files, input and output
 
@@ -223,8 +228,8 @@ why_running (BadBase fault) f f' f'' i i' k k' k'' files out why = tt
 -- ---- the ways in which a session returns
 
 -- The words say nothing.
-pub usage_answers : (g : Given) (t : Option (List ℕ)) (input : Inlet) → words_read g.words ≡ None → Answers g t t input input Usage
-usage_answers g t input none = (none, record { unwritten = refl; unread = refl })
+pub usage_answers : (g : Given) (t : Option (List ℕ)) (input : Inlet) (seen : Seen) → words_read g.words ≡ None → AreGiven g seen → Answers g t t input input seen Usage
+usage_answers g t input seen none files = (none, record { unwritten = refl; unread = refl; files = files })
 
 pub usage_due : (g : Given) → words_read g.words ≡ None → Due g Usage
 usage_due g none = none
@@ -236,9 +241,9 @@ pub usage_reads : (input : Inlet) → Reads Usage input input
 usage_reads input = refl
 
 -- The script was run to its end.
-pub whole_answers : (g : Given) (t t' : Option (List ℕ)) (input input' : Inlet) (base : Base) (mended : ℕ)
-    → Opened g base mended → RanAll (begin base) g.script (adds t (opening_line base mended)) t' input'.left → Answers g t t' input input' Done
-whole_answers g t t' input input' base mended base_open ran = record { base = base; mended = mended; opened = base_open; ran = ran }
+pub whole_answers : (g : Given) (t t' : Option (List ℕ)) (input input' : Inlet) (seen' : Seen) (base : Base) (mended : ℕ)
+    → (o : Opened g base mended) → RanAll (begun g base mended o) g.script (adds t (opening_line base mended)) t' input'.left seen' → Answers g t t' input input' seen' Done
+whole_answers g t t' input input' seen' base mended base_open ran = record { base = base; mended = mended; opened = base_open; ran = ran }
 
 pub done_chooses : (words : List (List ℕ)) (old new : List Choice) → ChoosesBase words old new → Chooses Done words old new
 done_chooses words old new chose = chose
@@ -257,42 +262,42 @@ count_of create strict index names games holding seen mended count o same = ap (
 pub line_session : (words : List (List ℕ)) (index names games script : List ℕ) (seen seen' : Seen) (wanted : Wanted) (holding : Holding) (mended count : ℕ) (t t' : Option (List ℕ)) (input : Inlet) (s : Stop) (k k' : ℕ)
     → words_read words ≡ Some wanted
     → IfTold seen (λ index names games. Opening wanted.create wanted.strict index names games holding seen' mended)
-    → count ≡ length holding.kept.entries → Halted [] (opening_text count mended) t t' → Why s (counts 0 0 k) (counts 0 0 k')
+    → count ≡ length holding.kept.entries → Halted [] (opening_text count mended) t t' → SameContents seen seen' → Why s (counts 0 0 k) (counts 0 0 k')
     → seen.index ≡ Some index → seen.names ≡ Some names → seen.games ≡ Some games
-    → Answers (given words index names games script) t t' input input (status_of s)
-line_session words index names games script seen seen' wanted holding mended count t t' input s k k' said opens same wrote why i n g =
+    → Answers (given words index names games script) t t' input input seen' (status_of s)
+line_session words index names games script seen seen' wanted holding mended count t t' input s k k' said opens same wrote files why i n g =
     let o : Opening wanted.create wanted.strict index names games holding seen' mended =
     told seen (λ index names games. Opening wanted.create wanted.strict index names games holding seen' mended) index names games opens i n g in
     let P : List ℕ → Type 0 = λ text. Halted [] text t t' in
-    line_answers (given words index names games script) t t' input o.base mended s k k' (opened words index names games script seen' wanted holding mended said o)
-    (subst P (count_of wanted.create wanted.strict index names games holding seen' mended count o same) wrote) why
+    line_answers (given words index names games script) t t' input seen' o.base mended s k k' (opened words index names games script seen' wanted holding mended said o)
+    (subst P (count_of wanted.create wanted.strict index names games holding seen' mended count o same) wrote) (as_given words index names games script seen seen' files i n g) why
 
 -- The script was run to its end.
-pub whole_session : (words : List (List ℕ)) (index names games script : List ℕ) (seen seen' : Seen) (wanted : Wanted) (holding : Holding) (mended count : ℕ) (t t' t'' : Option (List ℕ)) (input input' : Inlet)
+pub whole_session : (words : List (List ℕ)) (index names games script : List ℕ) (seen seen' seen'' : Seen) (wanted : Wanted) (holding : Holding) (mended count : ℕ) (t t' t'' : Option (List ℕ)) (input input' : Inlet)
     → words_read words ≡ Some wanted
     → IfTold seen (λ index names games. Opening wanted.create wanted.strict index names games holding seen' mended)
     → count ≡ length holding.kept.entries → t' ≡ adds t (opening_text count mended)
-    → ((s : State) (script : List ℕ) → Stands holding seen' s → input.left ≡ Some script → RanAll s script t' t'' input'.left)
+    → ((s : State) (script : List ℕ) → Stands holding seen' s → input.left ≡ Some script → RanAll s script t' t'' input'.left seen'')
     → seen.index ≡ Some index → seen.names ≡ Some names → seen.games ≡ Some games → input.left ≡ Some script
-    → Answers (given words index names games script) t t'' input input' Done
-whole_session words index names games script seen seen' wanted holding mended count t t' t'' input input' said opens same wrote ran i n g left =
+    → Answers (given words index names games script) t t'' input input' seen'' Done
+whole_session words index names games script seen seen' seen'' wanted holding mended count t t' t'' input input' said opens same wrote ran i n g left =
     let o : Opening wanted.create wanted.strict index names games holding seen' mended =
     told seen (λ index names games. Opening wanted.create wanted.strict index names games holding seen' mended) index names games opens i n g in
-    let P : Option (List ℕ) → Type 0 = λ x. RanAll (begin o.base) script x t'' input'.left in
-    whole_answers (given words index names games script) t t'' input input' o.base mended (opened words index names games script seen' wanted holding mended said o)
-    (subst P (wrote ∙ ap (adds t) (count_of wanted.create wanted.strict index names games holding seen' mended count o same)) (ran (begin o.base) script o.stands left))
+    let P : Option (List ℕ) → Type 0 = λ x. RanAll (begin (is_created wanted.create index names games) o.base) script x t'' input'.left seen'' in
+    whole_answers (given words index names games script) t t'' input input' seen'' o.base mended (opened words index names games script seen' wanted holding mended said o)
+    (subst P (wrote ∙ ap (adds t) (count_of wanted.create wanted.strict index names games holding seen' mended count o same)) (ran (begin (is_created wanted.create index names games) o.base) script o.stands left))
 
 -- The run of the script stopped.
-pub part_session : (words : List (List ℕ)) (index names games script : List ℕ) (seen seen' : Seen) (wanted : Wanted) (holding : Holding) (mended count : ℕ) (t t' t'' : Option (List ℕ)) (input input' : Inlet) (status : Status)
+pub part_session : (words : List (List ℕ)) (index names games script : List ℕ) (seen seen' seen'' : Seen) (wanted : Wanted) (holding : Holding) (mended count : ℕ) (t t' t'' : Option (List ℕ)) (input input' : Inlet) (status : Status)
     → words_read words ≡ Some wanted
     → IfTold seen (λ index names games. Opening wanted.create wanted.strict index names games holding seen' mended)
     → count ≡ length holding.kept.entries → t' ≡ adds t (opening_text count mended)
-    → ((s : State) (script : List ℕ) → Stands holding seen' s → input.left ≡ Some script → RanPart status s script t' t'' input'.left)
+    → ((s : State) (script : List ℕ) → Stands holding seen' s → input.left ≡ Some script → RanPart status s script t' t'' input'.left seen'')
     → seen.index ≡ Some index → seen.names ≡ Some names → seen.games ≡ Some games → input.left ≡ Some script
-    → Answers (given words index names games script) t t'' input input' status
-part_session words index names games script seen seen' wanted holding mended count t t' t'' input input' status said opens same wrote ran i n g left =
+    → Answers (given words index names games script) t t'' input input' seen'' status
+part_session words index names games script seen seen' seen'' wanted holding mended count t t' t'' input input' status said opens same wrote ran i n g left =
     let o : Opening wanted.create wanted.strict index names games holding seen' mended =
     told seen (λ index names games. Opening wanted.create wanted.strict index names games holding seen' mended) index names games opens i n g in
-    let P : Option (List ℕ) → Type 0 = λ x. RanPart status (begin o.base) script x t'' input'.left in
-    part_answers (given words index names games script) t t'' input input' o.base mended status (opened words index names games script seen' wanted holding mended said o)
-    (subst P (wrote ∙ ap (adds t) (count_of wanted.create wanted.strict index names games holding seen' mended count o same)) (ran (begin o.base) script o.stands left))
+    let P : Option (List ℕ) → Type 0 = λ x. RanPart status (begin (is_created wanted.create index names games) o.base) script x t'' input'.left seen'' in
+    part_answers (given words index names games script) t t'' input input' seen'' o.base mended status (opened words index names games script seen' wanted holding mended said o)
+    (subst P (wrote ∙ ap (adds t) (count_of wanted.create wanted.strict index names games holding seen' mended count o same)) (ran (begin (is_created wanted.create index names games) o.base) script o.stands left))

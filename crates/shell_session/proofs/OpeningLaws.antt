@@ -1,10 +1,14 @@
 -- Laws of the opening of a session.
-use Rattle.std.proofs.Common.{◌≡◌, ℕ, Bool, List, Option, Some, None, IfSome, refl}
+use Rattle.std.proofs.Common.{◌≡◌, ℕ, Bool, true, false, ◌&&◌, nat_eq, List, [], ◌∷◌, length, Option, Some, None, IfSome, refl, ap, ◌∙◌, arith, eqb-true}
+use Rattle.std.specs.Bool.{MatchBool}
 use Rattle.base_files.specs.Seen.{Seen}
-use Rattle.base_core.specs.Opening.{IfBad, IfTold, Opens, Refuses}
+use Rattle.base_core.specs.Base.{Base, empty_base}
+use Rattle.base_core.specs.Means.{Means}
+use Rattle.base_core.specs.Opening.{IfBad, IfTold, Opens, Refuses, are_empty, is_created}
 use Rattle.base_core.specs.Represents.{Kept}
 use Rattle.base_core.specs.declared.fault.OpenError.{OpenError}
 use Rattle.base_core.specs.declared.fault.OpenError.TheVariants as error
+use Rattle.shell_commands.specs.Saving.{AreEmpty, Contents}
 use Rattle.shell_commands.specs.Stands.{Begins, Holding}
 use Rattle.shell_session.specs.Running.{Opening, OpeningRefused}
 use Rattle.shell_session.specs.Stops.{status_of_opening}
@@ -22,22 +26,53 @@ failed_is (error.Bad fault) is = cc
 failed_is error.Failed is = refl
 failed_is error.Memory is = cc
 
+-- The files of a base that is created are empty.
+none_of : (bytes : List ℕ) → nat_eq (length bytes) 0 ≡ true → bytes ≡ []
+none_of [] is = refl
+none_of (byte ∷ bytes) is = absurd (omega (arith, eqb-true (length (byte ∷ bytes)) 0 is))
+
+both_so : (a b : Bool) → (a && b) ≡ true → (a ≡ true) × (b ≡ true)
+both_so true b is = (refl, is)
+both_so false b is = absurd (cc)
+
+empty_parts : (create : Bool) (index names games : List ℕ) → is_created create index names games ≡ true → (index ≡ []) × (names ≡ [])
+empty_parts create index names games is =
+    let are = (both_so create (are_empty index names (length games)) is).1 in
+    let both = both_so (nat_eq (length index) 0) (nat_eq (length names) 0) (both_so (nat_eq (length index) 0 && nat_eq (length names) 0) (nat_eq (length games) 0) are).0 in
+    (none_of index both.0, none_of names both.1)
+
+meant_so : (created : Bool) (seen : Seen) (base : Base) (c : Contents seen) → MatchBool created (base ≡ empty_base) (Means c.index c.names c.games base)
+    → (created ≡ true → (c.index ≡ []) × (c.names ≡ [])) → MatchBool created (AreEmpty seen) (Means c.index c.names c.games base)
+meant_so true seen base c means empty =
+    let parts = empty refl in
+    let S : List ℕ → Option (List ℕ) = λ x. Some x in
+    (c.index_told ∙ ap S parts.0, c.names_told ∙ ap S parts.1)
+meant_so false seen base c means empty = means
+
 -- The machine over an open base stands for the state in which a script begins.
 opening_by : (create strict : Bool) (i n g : Option (List ℕ)) (seen : Seen) (kept : Kept) (holding : Holding) (mended : ℕ)
     → IfSome i (λ index. IfSome n (λ names. IfSome g (λ games. Opens create strict index names games kept mended)))
-    → seen.games ≡ g → Begins kept holding
+    → seen.index ≡ i → seen.names ≡ n → seen.games ≡ g → Begins kept holding
     → IfSome i (λ index. IfSome n (λ names. IfSome g (λ games. Opening create strict index names games holding seen mended)))
-opening_by create strict None n g seen kept holding mended opens told begins = tt
-opening_by create strict (Some index) None g seen kept holding mended opens told begins = tt
-opening_by create strict (Some index) (Some names) None seen kept holding mended opens told begins = tt
-opening_by create strict (Some index) (Some names) (Some games) seen kept holding mended opens told begins = record {
-  base = opens.base;
-  means = opens.means;
-  mends = opens.mends;
-  faultless = opens.sound;
-  stands = begins.stands seen games opens.base told opens.represents opens.saved;
-}
+opening_by create strict None n g seen kept holding mended opens is ns gs begins = tt
+opening_by create strict (Some index) None g seen kept holding mended opens is ns gs begins = tt
+opening_by create strict (Some index) (Some names) None seen kept holding mended opens is ns gs begins = tt
+opening_by create strict (Some index) (Some names) (Some games) seen kept holding mended opens is ns gs begins =
+    let c : Contents seen = record { index = index; names = names; games = games; index_told = is; names_told = ns; games_told = gs } in
+    let created : Bool = is_created create index names games in
+    record {
+      base = opens.base;
+      means = opens.means;
+      mends = opens.mends;
+      faultless = opens.sound;
+      stands = begins.stands seen created opens.base (record {
+        contents = c;
+        represents = opens.represents;
+        saved = opens.saved;
+        means = meant_so created seen opens.base c opens.means (empty_parts create index names games);
+      });
+    }
 
 pub opening : (create strict : Bool) (old seen : Seen) (kept : Kept) (holding : Holding) (mended : ℕ) → IfTold old (λ index names games. Opens create strict index names games kept mended)
-    → seen.games ≡ old.games → Begins kept holding → IfTold old (λ index names games. Opening create strict index names games holding seen mended)
-opening create strict old seen kept holding mended opens told begins = opening_by create strict old.index old.names old.games seen kept holding mended opens told begins
+    → seen.index ≡ old.index → seen.names ≡ old.names → seen.games ≡ old.games → Begins kept holding → IfTold old (λ index names games. Opening create strict index names games holding seen mended)
+opening create strict old seen kept holding mended opens is ns gs begins = opening_by create strict old.index old.names old.games seen kept holding mended opens is ns gs begins

@@ -1,7 +1,7 @@
 -- Laws of what the lines of a script ask: those that are done, and one line more.
 use Rattle.std.proofs.Common.{◌≡◌, ◌≤◌, ◌+◌, inl, inr, ℕ, Bool, true, false, cond, List, [], ◌∷◌, ◌++◌, Option, Some, IfSome, Ok, ap, subst, arith}
 use Rattle.base_files.specs.Seen.{Seen}
-use Rattle.base_core.specs.Opening.{IfTold, open_cost}
+use Rattle.base_core.specs.Opening.{IfTold, is_created, open_cost}
 use Rattle.command_runs.specs.Endings.{Done}
 use Rattle.command_runs.specs.Plain.{after_all}
 use Rattle.script_lines.specs.Reading.{Reader, TookLast, TookLine}
@@ -115,5 +115,6 @@ asks_script words index names games script seen seen' wanted holding mended left
     told seen (λ index names games. Opening wanted.create wanted.strict index names games holding seen' mended) index names games opens i n g in
     let P : Option (List ℕ) → Type 0 = λ x. IfSome x (λ index. a' ≤ a + open_cost index) in
     let paid : a' ≤ a + open_cost index = subst P i opening in
-    let ran : a'' ≤ a' + price_all (begin o.base) (script_of script) = running (begin o.base) script o.stands l in
+    let s : State = begin (is_created wanted.create index names games) o.base in
+    let ran : a'' ≤ a' + price_all s (script_of script) = running s script o.stands l in
     inr (record { base = o.base; mended = mended; opened = opened words index names games script seen' wanted holding mended said o }, omega (arith, paid, ran))

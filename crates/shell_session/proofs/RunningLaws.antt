@@ -14,19 +14,21 @@ use Rattle.script_lines.specs.declared.reader.ReadError.{ReadError}
 use Rattle.script_lines.specs.declared.reader.ReadError.TheVariants as error
 use Rattle.script_lines.specs.Reading.{Ends, Feeds, IsFull, Reader, Stuck, TookLast, TookLine, TookPart, grown, piece_len}
 use Rattle.script_lines.specs.Script.{Script, is_quit, led_by, longest_script, script, script_from, script_len, script_of, then_quit, whole_lines}
-use Rattle.script_text.specs.Reading.{reading}
+use Rattle.script_text.specs.Reading.{reading, shorn}
+use Rattle.script_text.specs.Words.{cut}
 use Rattle.script_text.specs.declared.command.Command.TheVariants.{Quit}
-use Rattle.shell_commands.specs.Do.{Order, plain}
+use Rattle.shell_commands.specs.Do.{Order, order_writes, plain}
 use Rattle.base_files.specs.Counters.{Rose}
 use Rattle.base_files.specs.declared.faults.Stop.TheVariants as stop
 use Rattle.command_runs.specs.Counts.{counts}
 use Rattle.shell_commands.specs.declared.halt.Halt.{Halt}
 use Rattle.shell_commands.specs.declared.halt.Halt.TheVariants as halt
-use Rattle.shell_commands.specs.Stands.{Broken, Holding, Stands, WhyHalt}
+use Rattle.shell_commands.specs.Stands.{Broken, Holding, Stands, StillCarry, WhyHalt}
 use Rattle.shell_commands.specs.State.{State}
 use Rattle.shell_session.specs.Running.{Interrupted, Interrupts, Ran, Stops, joined}
 use Rattle.shell_session.specs.Stops.{status_of_halt, status_of_reading}
-use Rattle.shell_session.specs.Session.{BrokenBy, LinesDone, RanAll, RanPart, WhyStatus}
+use Rattle.shell_commands.proofs.CarryLaws.{carry_of, left_of}
+use Rattle.shell_session.specs.Session.{Breaks, LinesDone, RanAll, RanPart, WhyStatus}
 use Rattle.shell_session.specs.declared.status.Status.{Status}
 use Rattle.shell_session.specs.declared.status.Status.TheVariants.{InputTooLong, Memory, ReadFault}
 
@@ -144,7 +146,7 @@ pub ran_quit : (s : State) (bytes : List ℕ) (t₀ : Option (List ℕ)) (holdin
     → (ran : Ran s (Some bytes) t₀ holding seen reader l t) → TookLine [] reader l order reader' l'
     → Done (Stands holding' seen') (plain.after (after_all plain s ran.done) order) (plain.text (after_all plain s ran.done) order) t t'
     → is_quit order ≡ true → reader'.used ≤ longest_script → length reader'.unread ≤ piece_len
-    → RanAll s bytes t₀ t' l'
+    → RanAll s bytes t₀ t' l' seen'
 ran_quit s bytes t₀ holding holding' seen seen' reader reader' l l' t t' order ran took did quit few small =
     let n : length (ran.front ++ took.front) ≡ length ran.front + length took.front = length-append ran.front took.front in
     let read : Some bytes ≡ before (ran.front ++ took.front) (before reader'.unread l') =
@@ -165,6 +167,9 @@ ran_quit s bytes t₀ holding holding' seen seen' reader reader' l l' t t' order
       read = read ∙ sym (before-append (ran.front ++ took.front) reader'.unread l');
       enough = omega (arith, size, n, whole);
       no_further = omega (arith, size, n, whole, small);
+      files =
+          left_of holding' seen' (after_all plain s (script_of bytes))
+          (subst (Stands holding' seen') (sym (after_all-append plain s ran.done (order ∷ [])) ∙ ap (after_all plain s) (sym orders)) did.stands);
     }
 
 -- The end of the input ends it: these are the orders that are left, and nothing is left of the script.
@@ -188,12 +193,12 @@ to_the_end bytes front unread (Some more) told none end =
     let f : bytes ≡ front ++ more = cc in
     f ∙ ap (λ m. front ++ m) (sym end) ∙ append-nil front
 
-pub ran_last : (s : State) (bytes : List ℕ) (t₀ : Option (List ℕ)) (holding : Holding) (seen : Seen) (reader reader' : Reader) (l l' t t' : Option (List ℕ)) (order : Order)
+pub ran_last : (s : State) (bytes : List ℕ) (t₀ : Option (List ℕ)) (holding holding' : Holding) (seen seen' : Seen) (reader reader' : Reader) (l l' t t' : Option (List ℕ)) (order : Order)
     → (ran : Ran s (Some bytes) t₀ holding seen reader l t) → TookLast reader l reader' l' → order ≡ reading reader'.line
-    → t' ≡ adds t (run plain (after_all plain s ran.done) (then_quit order))
+    → Done (Stands holding' seen') (after_all plain (after_all plain s ran.done) (then_quit order)) (run plain (after_all plain s ran.done) (then_quit order)) t t'
     → reader'.used ≤ longest_script
-    → RanAll s bytes t₀ t' l'
-ran_last s bytes t₀ holding seen reader reader' l l' t t' order ran took is wrote few =
+    → RanAll s bytes t₀ t' l' seen'
+ran_last s bytes t₀ holding holding' seen seen' reader reader' l l' t t' order ran took is did few =
     let n : length (ran.front ++ took.part.front) ≡ length ran.front + length took.part.front = length-append ran.front took.part.front in
     let read : Some bytes ≡ before (ran.front ++ took.part.front) (before reader'.unread l') =
     ran.left ∙ ap (before ran.front) took.part.ahead ∙ sym (before-append ran.front took.part.front (before reader'.unread l')) in
@@ -204,26 +209,29 @@ ran_last s bytes t₀ holding seen reader reader' l l' t t' order ran took is wr
     let size : script_len bytes ≡ length ran.front + length took.part.front = ap (λ (x : Script). x.size) says in
     record {
       written =
-          written_after (run plain s ran.done) (run plain (after_all plain s ran.done) (then_quit order)) t₀ t t' ran.written wrote
+          written_after (run plain s ran.done) (run plain (after_all plain s ran.done) (then_quit order)) t₀ t t' ran.written did.written
           ∙ ap (adds t₀) (sym (run-append plain s ran.done (then_quit order)) ∙ ap (run plain s) (sym orders));
       within = omega (arith, size, ran.used, took.part.used, few);
       front = ran.front ++ took.part.front;
       read = read ∙ ap (λ u. before (ran.front ++ took.part.front) (before u l')) took.all ∙ ap (before (ran.front ++ took.part.front)) (before-nil l');
       enough = omega (arith, size, n);
       no_further = omega (arith, size, n);
+      files =
+          left_of holding' seen' (after_all plain s (script_of bytes))
+          (subst (Stands holding' seen') (sym (after_all-append plain s ran.done (then_quit order)) ∙ ap (after_all plain s) (sym orders)) did.stands);
     }
 
 -- ---- what stops a run
 
 -- A command of those that are left stopped it.
-pub ran_stopped : (s : State) (bytes : List ℕ) (t₀ : Option (List ℕ)) (holding : Holding) (seen : Seen) (reader : Reader) (l l' t t' : Option (List ℕ)) (status : Status) (orders : List Order)
+pub ran_stopped : (s : State) (bytes : List ℕ) (t₀ : Option (List ℕ)) (holding : Holding) (seen seen' : Seen) (reader : Reader) (l l' t t' : Option (List ℕ)) (status : Status) (orders : List Order)
     → (ran : Ran s (Some bytes) t₀ holding seen reader l t) → script_of bytes ≡ ran.done ++ orders
-    → (stopped : Stopped plain (λ state order. BrokenBy status order) (after_all plain s ran.done) orders t t')
+    → (stopped : Stopped plain (Breaks status seen') (after_all plain s ran.done) orders t t')
     → ((done : List Order) → LinesDone status bytes l' done)
-    → RanPart status s bytes t₀ t' l'
-ran_stopped s bytes t₀ holding seen reader l l' t t' status orders ran all stopped lines =
-    let whole : Stopped plain (λ state order. BrokenBy status order) s (ran.done ++ orders) t₀ t' =
-    did_stops plain (λ state order. BrokenBy status order) s (after_all plain s ran.done) (ran.done ++ orders) orders t₀ t t'
+    → RanPart status s bytes t₀ t' l' seen'
+ran_stopped s bytes t₀ holding seen seen' reader l l' t t' status orders ran all stopped lines =
+    let whole : Stopped plain (Breaks status seen') s (ran.done ++ orders) t₀ t' =
+    did_stops plain (Breaks status seen') s (after_all plain s ran.done) (ran.done ++ orders) orders t₀ t t'
     (record { done = ran.done; all = refl; state = refl; written = ran.written }) stopped in
     record {
       done = whole.done;
@@ -254,7 +262,7 @@ lines_taken done front part line says feeds =
 -- The input failed.
 pub ran_failed : (s : State) (bytes : List ℕ) (t₀ : Option (List ℕ)) (holding : Holding) (seen : Seen) (reader reader' : Reader) (l l' t : Option (List ℕ))
     → (ran : Ran s (Some bytes) t₀ holding seen reader l t) → TookPart [] reader l reader' l' → reader'.unread ≡ []
-    → RanPart ReadFault s bytes t₀ t l'
+    → RanPart ReadFault s bytes t₀ t l' seen
 ran_failed s bytes t₀ holding seen reader reader' l l' t ran took none =
     let read : Some bytes ≡ before (ran.front ++ took.front) (before reader'.unread l') =
     ran.left ∙ ap (before ran.front) took.ahead ∙ sym (before-append ran.front took.front (before reader'.unread l')) in
@@ -268,7 +276,7 @@ ran_failed s bytes t₀ holding seen reader reader' l l' t ran took none =
       left = some.1;
       all = ap (λ (x : Script). x.orders) says ∙ ap (λ os. ran.done ++ os) some.2;
       wrote = unwritten s ran.done some.0 t₀ t ran.written;
-      broken = tt;
+      broken = record { broken = tt; carries = carry_of holding seen (after_all plain s ran.done) some.0 ran.stands };
       lines = (
         ran.front ++ took.front,
         read ∙ ap (λ u. before (ran.front ++ took.front) (before u l')) none ∙ ap (before (ran.front ++ took.front)) (before-nil l'),
@@ -279,7 +287,7 @@ ran_failed s bytes t₀ holding seen reader reader' l l' t ran took none =
 -- The script is too long.
 pub ran_too_long : (s : State) (bytes : List ℕ) (t₀ : Option (List ℕ)) (holding : Holding) (seen : Seen) (reader reader' : Reader) (l l' t : Option (List ℕ))
     → (ran : Ran s (Some bytes) t₀ holding seen reader l t) → TookPart [] reader l reader' l' → IsFull reader'
-    → RanPart InputTooLong s bytes t₀ t l'
+    → RanPart InputTooLong s bytes t₀ t l' seen
 ran_too_long s bytes t₀ holding seen reader reader' l l' t ran took full =
     let n : length (ran.front ++ took.front) ≡ length ran.front + length took.front = length-append ran.front took.front in
     let read : Some bytes ≡ before (ran.front ++ took.front) (before reader'.unread l') =
@@ -300,7 +308,7 @@ ran_too_long s bytes t₀ holding seen reader reader' l l' t ran took full =
       left = some.1;
       all = ap (λ (x : Script). x.orders) says ∙ ap (λ os. ran.done ++ os) some.2;
       wrote = unwritten s ran.done some.0 t₀ t ran.written;
-      broken = tt;
+      broken = record { broken = tt; carries = carry_of holding seen (after_all plain s ran.done) some.0 ran.stands };
       lines = (
         omega (arith, size, bigger, n, exact),
         sym (lines_taken ran.done ran.front took.front reader'.line ran.says took.feeds) ∙ ap whole_lines (sym within),
@@ -309,7 +317,7 @@ ran_too_long s bytes t₀ holding seen reader reader' l l' t ran took full =
 
 -- Memory ran out before a line was read.
 pub ran_short : (s : State) (bytes : List ℕ) (t₀ : Option (List ℕ)) (holding : Holding) (seen : Seen) (reader : Reader) (l l' t : Option (List ℕ))
-    → (ran : Ran s (Some bytes) t₀ holding seen reader l t) → RanPart Memory s bytes t₀ t l'
+    → (ran : Ran s (Some bytes) t₀ holding seen reader l t) → RanPart Memory s bytes t₀ t l' seen
 ran_short s bytes t₀ holding seen reader l l' t ran =
     let parts : (more : List ℕ) × (before reader.unread l ≡ Some more) × (bytes ≡ ran.front ++ more) = told_parts bytes ran.front (before reader.unread l) ran.left in
     let says : script_from then_quit [] bytes ≡ joined ran.done (length ran.front) (script_from then_quit [] parts.0) = ap (script_from then_quit []) parts.2 ∙ ran.says then_quit parts.0 in
@@ -320,19 +328,20 @@ ran_short s bytes t₀ holding seen reader l l' t ran =
       left = some.1;
       all = ap (λ (x : Script). x.orders) says ∙ ap (λ os. ran.done ++ os) some.2;
       wrote = unwritten s ran.done some.0 t₀ t ran.written;
-      broken = tt;
+      broken = record { broken = tt; carries = carry_of holding seen (after_all plain s ran.done) some.0 ran.stands };
       lines = tt;
     }
 
 -- ---- one line
 
 -- A command that was broken off.
-pub interrupted : (halt : Halt) (s : State) (order : Order) (t t' : Option (List ℕ)) → Cut (Broken s order halt) (plain.text s order) t t' → Interrupted (status_of_halt halt) s order t t'
-interrupted (halt.Device stop.Files) s order t t' cut = record { cut = record { wrote = cut.wrote; broken = cut.broken }; lines = λ bytes l done. tt }
-interrupted (halt.Device stop.Write) s order t t' cut = record { cut = record { wrote = cut.wrote; broken = tt }; lines = λ bytes l done. tt }
-interrupted (halt.Device stop.Memory) s order t t' cut = record { cut = record { wrote = cut.wrote; broken = tt }; lines = λ bytes l done. tt }
-interrupted (halt.Device stop.Read) s order t t' cut = absurd cut.broken
-interrupted (halt.Changed game kept found) s order t t' cut = absurd cut.broken
+pub interrupted : (halt : Halt) (seen' : Seen) (s : State) (order : Order) (t t' : Option (List ℕ)) → Cut (Broken s order halt) (plain.text s order) t t' → StillCarry seen' s order
+    → Interrupted (status_of_halt halt) seen' s order t t'
+interrupted (halt.Device stop.Files) seen' s order t t' cut carries = record { cut = record { wrote = cut.wrote; broken = record { broken = cut.broken; carries = carries } }; lines = λ bytes l done. tt }
+interrupted (halt.Device stop.Write) seen' s order t t' cut carries = record { cut = record { wrote = cut.wrote; broken = record { broken = tt; carries = carries } }; lines = λ bytes l done. tt }
+interrupted (halt.Device stop.Memory) seen' s order t t' cut carries = record { cut = record { wrote = cut.wrote; broken = record { broken = tt; carries = carries } }; lines = λ bytes l done. tt }
+interrupted (halt.Device stop.Read) seen' s order t t' cut carries = absurd cut.broken
+interrupted (halt.Changed game kept found) seen' s order t t' cut carries = absurd cut.broken
 
 none_rose : Rose 0 0 → ⊥
 none_rose (inl rose) = absurd (omega (arith, rose))
@@ -359,28 +368,34 @@ then_orders : (test : Bool) (order quit : Order) → (left : List Order) × (con
 then_orders true order quit = ([], refl)
 then_orders false order quit = (quit ∷ [], refl)
 
-pub last_done : (s : State) (order : Order) (t t' : Option (List ℕ)) → is_quit order ≡ true → t' ≡ adds t (plain.text s order) → t' ≡ adds t (run plain s (then_quit order))
-last_done s order t t' quit wrote = rw quit (wrote ∙ ap (adds t) (sym (append-nil (plain.text s order))))
+pub last_done : (Stands' : State → Type 0) (s : State) (order : Order) (t t' : Option (List ℕ)) → is_quit order ≡ true → Done Stands' (plain.after s order) (plain.text s order) t t'
+    → Done Stands' (after_all plain s (then_quit order)) (run plain s (then_quit order)) t t'
+last_done Stands' s order t t' quit did = rw quit (record { stands = did.stands; written = did.written ∙ ap (adds t) (sym (append-nil (plain.text s order))) })
 
-pub last_then_quit : (s : State) (order : Order) (t t' t'' : Option (List ℕ)) → is_quit order ≡ false → t' ≡ adds t (plain.text s order)
-    → t'' ≡ adds t' (plain.text (plain.after s order) (Ok Quit)) → t'' ≡ adds t (run plain s (then_quit order))
-last_then_quit s order t t' t'' other first second =
-    rw other (written_after (plain.text s order) (plain.text (plain.after s order) (Ok Quit)) t t' t'' first second
-    ∙ ap (λ x. adds t (plain.text s order ++ x)) (sym (append-nil (plain.text (plain.after s order) (Ok Quit)))))
+pub last_then_quit : (Stands' Stands'' : State → Type 0) (s : State) (order : Order) (t t' t'' : Option (List ℕ)) → is_quit order ≡ false → Done Stands' (plain.after s order) (plain.text s order) t t'
+    → Done Stands'' (plain.after (plain.after s order) (Ok Quit)) (plain.text (plain.after s order) (Ok Quit)) t' t''
+    → Done Stands'' (after_all plain s (then_quit order)) (run plain s (then_quit order)) t t''
+last_then_quit Stands' Stands'' s order t t' t'' other first second =
+    rw other (record {
+      stands = second.stands;
+      written =
+          written_after (plain.text s order) (plain.text (plain.after s order) (Ok Quit)) t t' t'' first.written second.written
+          ∙ ap (λ x. adds t (plain.text s order ++ x)) (sym (append-nil (plain.text (plain.after s order) (Ok Quit))));
+    })
 
-pub last_stops : (s : State) (order : Order) (t t' : Option (List ℕ)) (status : Status) → Interrupted status s order t t' → Stops status s (then_quit order) t t'
-last_stops s order t t' status cut =
+pub last_stops : (seen' : Seen) (s : State) (order : Order) (t t' : Option (List ℕ)) (status : Status) → Interrupted status seen' s order t t' → Stops status seen' s (then_quit order) t t'
+last_stops seen' s order t t' status cut =
     let orders : (left : List Order) × (then_quit order ≡ order ∷ left) = then_orders (is_quit order) order (Ok Quit) in
-    let P : List Order → Type 0 = λ os. Stopped plain (λ state o. BrokenBy status o) s os t t' in
-    record { stopped = subst P (sym orders.1) (cut_stops plain (λ state o. BrokenBy status o) s order orders.0 t t' cut.cut); lines = cut.lines }
+    let P : List Order → Type 0 = λ os. Stopped plain (Breaks status seen') s os t t' in
+    record { stopped = subst P (sym orders.1) (cut_stops plain (Breaks status seen') s order orders.0 t t' cut.cut); lines = cut.lines }
 
-pub quit_stops : (Stands' : State → Type 0) (s : State) (order : Order) (t t' t'' : Option (List ℕ)) (status : Status) → is_quit order ≡ false
-    → Done Stands' (plain.after s order) (plain.text s order) t t' → Interrupted status (plain.after s order) (Ok Quit) t' t'' → Stops status s (then_quit order) t t''
-quit_stops Stands' s order t t' t'' status other did cut = record {
+pub quit_stops : (Stands' : State → Type 0) (seen' : Seen) (s : State) (order : Order) (t t' t'' : Option (List ℕ)) (status : Status) → is_quit order ≡ false
+    → Done Stands' (plain.after s order) (plain.text s order) t t' → Interrupted status seen' (plain.after s order) (Ok Quit) t' t'' → Stops status seen' s (then_quit order) t t''
+quit_stops Stands' seen' s order t t' t'' status other did cut = record {
   stopped =
-      rw other (did_stops plain (λ state o. BrokenBy status o) s (plain.after s order) (order ∷ Ok Quit ∷ []) (Ok Quit ∷ []) t t' t''
+      rw other (did_stops plain (Breaks status seen') s (plain.after s order) (order ∷ Ok Quit ∷ []) (Ok Quit ∷ []) t t' t''
       (did_one plain Stands' s order (Ok Quit ∷ []) t t' did)
-      (cut_stops plain (λ state o. BrokenBy status o) (plain.after s order) (Ok Quit) [] t' t'' cut.cut));
+      (cut_stops plain (Breaks status seen') (plain.after s order) (Ok Quit) [] t' t'' cut.cut));
   lines = cut.lines;
 }
 
@@ -424,26 +439,26 @@ says_last s bytes t₀ holding seen reader reader' l l' t order ran took is =
     ap (λ (x : Script). x.orders) (last_says bytes ran.done ran.front took.part.front reader'.line order ran.says took.part.feeds is all)
 
 -- The command of a line was broken off.
-pub ran_interrupted : (s : State) (bytes : List ℕ) (t₀ : Option (List ℕ)) (holding : Holding) (seen : Seen) (reader reader' : Reader) (l l' t t' : Option (List ℕ)) (order : Order) (status : Status)
+pub ran_interrupted : (s : State) (bytes : List ℕ) (t₀ : Option (List ℕ)) (holding : Holding) (seen seen' : Seen) (reader reader' : Reader) (l l' t t' : Option (List ℕ)) (order : Order) (status : Status)
     → (ran : Ran s (Some bytes) t₀ holding seen reader l t) → TookLine [] reader l order reader' l'
-    → Interrupted status (after_all plain s ran.done) order t t' → RanPart status s bytes t₀ t' l'
-ran_interrupted s bytes t₀ holding seen reader reader' l l' t t' order status ran took cut =
+    → Interrupted status seen' (after_all plain s ran.done) order t t' → RanPart status s bytes t₀ t' l' seen'
+ran_interrupted s bytes t₀ holding seen seen' reader reader' l l' t t' order status ran took cut =
     let says : (left : List Order) × (script_of bytes ≡ ran.done ++ order ∷ left) = says_next s bytes t₀ holding seen reader reader' l l' t order ran took in
-    ran_stopped s bytes t₀ holding seen reader l l' t t' status (order ∷ says.0) ran says.1
-    (cut_stops plain (λ state o. BrokenBy status o) (after_all plain s ran.done) order says.0 t t' cut.cut)
+    ran_stopped s bytes t₀ holding seen seen' reader l l' t t' status (order ∷ says.0) ran says.1
+    (cut_stops plain (Breaks status seen') (after_all plain s ran.done) order says.0 t t' cut.cut)
     (λ done. cut.lines bytes l' done)
 
 -- The last line stopped it.
-pub ran_last_stopped : (s : State) (bytes : List ℕ) (t₀ : Option (List ℕ)) (holding : Holding) (seen : Seen) (reader reader' : Reader) (l l' t t' : Option (List ℕ)) (order : Order) (status : Status)
+pub ran_last_stopped : (s : State) (bytes : List ℕ) (t₀ : Option (List ℕ)) (holding : Holding) (seen seen' : Seen) (reader reader' : Reader) (l l' t t' : Option (List ℕ)) (order : Order) (status : Status)
     → (ran : Ran s (Some bytes) t₀ holding seen reader l t) → TookLast reader l reader' l' → order ≡ reading reader'.line
-    → Stops status (after_all plain s ran.done) (then_quit order) t t' → RanPart status s bytes t₀ t' l'
-ran_last_stopped s bytes t₀ holding seen reader reader' l l' t t' order status ran took is stops =
-    ran_stopped s bytes t₀ holding seen reader l l' t t' status (then_quit order) ran (says_last s bytes t₀ holding seen reader reader' l l' t order ran took is) stops.stopped
+    → Stops status seen' (after_all plain s ran.done) (then_quit order) t t' → RanPart status s bytes t₀ t' l' seen'
+ran_last_stopped s bytes t₀ holding seen seen' reader reader' l l' t t' order status ran took is stops =
+    ran_stopped s bytes t₀ holding seen seen' reader l l' t t' status (then_quit order) ran (says_last s bytes t₀ holding seen reader reader' l l' t order ran took is) stops.stopped
     (λ done. stops.lines bytes l' done)
 
 -- No line was read.
 pub ran_stuck : (e : ReadError) (s : State) (bytes : List ℕ) (t₀ : Option (List ℕ)) (holding : Holding) (seen : Seen) (reader reader' : Reader) (l l' t : Option (List ℕ))
-    → Ran s (Some bytes) t₀ holding seen reader l t → Stuck e reader l reader' l' → RanPart (status_of_reading e) s bytes t₀ t l'
+    → Ran s (Some bytes) t₀ holding seen reader l t → Stuck e reader l reader' l' → RanPart (status_of_reading e) s bytes t₀ t l' seen
 ran_stuck error.Failed s bytes t₀ holding seen reader reader' l l' t ran stuck = ran_failed s bytes t₀ holding seen reader reader' l l' t ran stuck.0 stuck.1
 ran_stuck error.TooLong s bytes t₀ holding seen reader reader' l l' t ran stuck = ran_too_long s bytes t₀ holding seen reader reader' l l' t ran stuck.0 stuck.1
 ran_stuck error.Memory s bytes t₀ holding seen reader reader' l l' t ran stuck = ran_short s bytes t₀ holding seen reader l l' t ran
@@ -490,3 +505,20 @@ pub ends_stuck : (e : ReadError) → Interrupts (status_of_reading e)
 ends_stuck error.Failed = tt
 ends_stuck error.TooLong = tt
 ends_stuck error.Memory = tt
+
+-- ---- where nothing of the input was taken
+
+-- A last line of no bytes changes no file.
+said_nothing : (front line : List ℕ) → Feeds [] front line → length front ≡ 0 → reading [] ≡ reading line
+unfolding script_from
+said_nothing (byte ∷ front) line feeds none = cc
+said_nothing [] line feeds none =
+    let one : reading [] ∷ [] ≡ reading line ∷ [] = ap (λ (x : Script). x.orders) (feeds (λ order. order ∷ []) []) in
+    cc
+
+nothing_writes : order_writes (reading []) ≡ false
+unfolding reading shorn cut
+nothing_writes = refl
+
+pub last_quiet : (front line : List ℕ) (order : Order) → Feeds [] front line → order ≡ reading line → length front ≡ 0 → order_writes order ≡ false
+last_quiet front line order feeds says none = ap order_writes (says ∙ sym (said_nothing front line feeds none)) ∙ nothing_writes

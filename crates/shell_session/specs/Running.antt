@@ -3,7 +3,7 @@ use Rattle.std.specs.Prelude.{◌≡◌, ℕ, Bool, ⊤, ◌+◌, List, [], ◌+
 use Rattle.base_files.specs.Seen.{Seen}
 use Rattle.base_files.specs.Told.{adds, before}
 use Rattle.base_core.specs.Base.{Base}
-use Rattle.base_core.specs.Opening.{IfTold, OpensAs, Refuses}
+use Rattle.base_core.specs.Opening.{IfTold, OpensAs, Refuses, is_created}
 use Rattle.base_core.specs.Represents.{Mended}
 use Rattle.base_core.specs.declared.fault.BaseFault.{BaseFault}
 use Rattle.command_runs.specs.Endings.{Cut}
@@ -14,7 +14,7 @@ use Rattle.shell_commands.specs.Stands.{Holding, Stands}
 use Rattle.shell_commands.specs.State.{State, begin}
 use Rattle.script_lines.specs.Reading.{Reader}
 use Rattle.script_lines.specs.Script.{Script, script, script_from}
-use Rattle.shell_session.specs.Session.{BrokenBy, LinesDone}
+use Rattle.shell_session.specs.Session.{Breaks, LinesDone}
 use Rattle.shell_session.specs.declared.status.Status.{Status}
 use Rattle.shell_session.specs.declared.status.Status.TheVariants.{BadBase, ReadFault, WriteFault, FilesFault, Changed, InputTooLong, Memory}
 
@@ -24,7 +24,7 @@ pub record Opening (create strict : Bool) (index names games : List ℕ) (holdin
   pub means : OpensAs create index names games base
   pub mends : Mended index base.games mended
   pub faultless : (fault : BaseFault) → Refuses create strict index names games fault → ⊥
-  pub stands : Stands holding seen (begin base)
+  pub stands : Stands holding seen (begin (is_created create index names games) base)
 
 -- Opening ends with a fault of the files' contents, the files or memory.
 abbrev pub OpeningRefused : Bool → Bool → Seen → Status → Type 0
@@ -48,13 +48,13 @@ pub record Ran (s₀ : State) (l₀ : Option (List ℕ)) (t₀ : Option (List �
   pub says : (last : Order → List Order) (more : List ℕ) → script_from last [] (front ++ more) ≡ joined done (length front) (script_from last [] more)
 
 -- A command was broken off: a front part of its text was written.
-pub record Interrupted (status : Status) (s : State) (order : Order) (t : Option (List ℕ)) (t' : Option (List ℕ)) : Type 0 where
-  pub cut : Cut (BrokenBy status order) (plain.text s order) t t'
+pub record Interrupted (status : Status) (seen' : Seen) (s : State) (order : Order) (t : Option (List ℕ)) (t' : Option (List ℕ)) : Type 0 where
+  pub cut : Cut (Breaks status seen' s order) (plain.text s order) t t'
   pub lines : (bytes : List ℕ) (l : Option (List ℕ)) (done : List Order) → LinesDone status bytes l done
 
 -- One of these orders was.
-pub record Stops (status : Status) (s : State) (orders : List Order) (t : Option (List ℕ)) (t' : Option (List ℕ)) : Type 0 where
-  pub stopped : Stopped plain (λ state order. BrokenBy status order) s orders t t'
+pub record Stops (status : Status) (seen' : Seen) (s : State) (orders : List Order) (t : Option (List ℕ)) (t' : Option (List ℕ)) : Type 0 where
+  pub stopped : Stopped plain (Breaks status seen') s orders t t'
   pub lines : (bytes : List ℕ) (l : Option (List ℕ)) (done : List Order) → LinesDone status bytes l done
 
 -- The statuses that end the run of a script before its end.

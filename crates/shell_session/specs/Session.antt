@@ -2,16 +2,19 @@
 use Rattle.std.specs.Prelude.{◌≡◌, ◌≤◌, ◌<◌, ℕ, ◌+◌, ◌⊎◌, ⊤, IsTrue, List, [], ◌∷◌, ◌++◌, length, take, Option, Some, None, codes}
 use Rattle.std.specs.Fmt.{decimal}
 use Rattle.base_files.specs.Chosen.{Choice, choice}
+use Rattle.base_files.specs.Seen.{Seen}
 use Rattle.base_files.specs.Counters.{Rose}
 use Rattle.base_files.specs.Told.{adds, before}
 use Rattle.base_core.specs.Base.{Base}
-use Rattle.base_core.specs.Opening.{OpensAs, Refuses, open_cost}
+use Rattle.base_core.specs.Opening.{OpensAs, Refuses, is_created, open_cost}
 use Rattle.base_core.specs.Represents.{Mended}
 use Rattle.base_core.specs.declared.fault.BaseFault.{BaseFault}
 use Rattle.command_runs.specs.Counts.{Counts}
 use Rattle.command_runs.specs.Endings.{Halted}
 use Rattle.command_runs.specs.Plain.{after_all, run}
 use Rattle.shell_commands.specs.Do.{Order, order_asks, plain, price}
+use Rattle.shell_commands.specs.Saving.{AreLeft}
+use Rattle.shell_commands.specs.Stands.{StillCarry}
 use Rattle.shell_commands.specs.State.{State, begin}
 use Rattle.script_lines.specs.Script.{longest_script, script_len, script_of, whole_lines}
 use Rattle.shell_session.specs.Words.{Wanted, words_read}
@@ -28,6 +31,12 @@ pub record Given : Type 0 where
 
 abbrev pub given : List (List ℕ) → List ℕ → List ℕ → List ℕ → List ℕ → Given
 given words index names games script = record { words = words; index = index; names = names; games = games; script = script }
+
+-- The contents of the files are those that were given.
+pub record AreGiven (given : Given) (seen : Seen) : Type 0 where
+  pub index : seen.index ≡ Some given.index
+  pub names : seen.names ≡ Some given.names
+  pub games : seen.games ≡ Some given.games
 
 -- What an input shows: the bytes left where it tells them, its budget, and its faults.
 pub record Inlet : Type 0 where
@@ -48,6 +57,10 @@ pub record Opened (given : Given) (base : Base) (mended : ℕ) : Type 0 where
   pub mends : Mended given.index base.games mended
   pub faultless : (fault : BaseFault) → Refuses wanted.create wanted.strict given.index given.names given.games fault → ⊥
 
+-- The state in which the script begins.
+abbrev pub begun : (given : Given) (base : Base) (mended : ℕ) → Opened given base mended → State
+begun given base mended opened = begin (is_created opened.wanted.create given.index given.names given.games) base
+
 -- The words name a base whose files have this first fault.
 pub record Faulty (given : Given) (fault : BaseFault) : Type 0 where
   pub wanted : Wanted
@@ -67,15 +80,17 @@ opening_line base mended = opening_text (length base.games) mended
 -- ---- the run of the script
 
 -- The whole script was run: its text is written, and the input was read to its end or to the line of `quit`, and at most so many bytes further.
-pub record RanAll (s : State) (script : List ℕ) (told : Option (List ℕ)) (told' : Option (List ℕ)) (later : Option (List ℕ)) : Type 0 where
+-- The files carry the base that was saved last, or the opened one, and mean it where no edit came after.
+pub record RanAll (s : State) (script : List ℕ) (told : Option (List ℕ)) (told' : Option (List ℕ)) (later : Option (List ℕ)) (seen' : Seen) : Type 0 where
   pub written : told' ≡ adds told (run plain s (script_of script))
   pub within : script_len script ≤ longest_script
   pub front : List ℕ
   pub read : Some script ≡ before front later
   pub enough : script_len script ≤ length front
   pub no_further : length front ≤ script_len script + 32768
+  pub files : AreLeft seen' (after_all plain s (script_of script)).carried (after_all plain s (script_of script)).unsaved
 
--- What is known of the command that a status breaks off: the files fail only at one that asks them, and told files never change.
+-- What is known of the command that a status breaks off: the files fail only at one that uses them, and told files never change.
 abbrev pub BrokenBy : Status → Order → Type 0
 BrokenBy ReadFault order = ⊤
 BrokenBy WriteFault order = ⊤
@@ -83,6 +98,11 @@ BrokenBy FilesFault order = IsTrue (order_asks order)
 BrokenBy InputTooLong order = ⊤
 BrokenBy Memory order = ⊤
 BrokenBy _ order = ⊥
+
+-- The same, with what the files carry then.
+pub record Breaks (status : Status) (seen' : Seen) (s : State) (order : Order) : Type 0 where
+  pub broken : BrokenBy status order
+  pub carries : StillCarry seen' s order
 
 -- The commands that are done at a fault of the input are those whose lines were read with their line feed; at a script that is too long
 -- those whose lines end within the limit.
@@ -92,55 +112,57 @@ LinesDone InputTooLong script later done = (longest_script < script_len script) 
 LinesDone _ script later done = ⊤
 
 -- The run stopped in the command `next`: the texts of those before it are written, and of its own a front part, which may be empty.
-pub record RanPart (status : Status) (s : State) (script : List ℕ) (told : Option (List ℕ)) (told' : Option (List ℕ)) (later : Option (List ℕ)) : Type 0 where
+pub record RanPart (status : Status) (s : State) (script : List ℕ) (told : Option (List ℕ)) (told' : Option (List ℕ)) (later : Option (List ℕ)) (seen' : Seen) : Type 0 where
   pub done : List Order
   pub next : Order
   pub left : List Order
   pub all : script_of script ≡ done ++ next ∷ left
   pub wrote : Halted (run plain s done) (run plain s done ++ plain.text (after_all plain s done) next) told told'
-  pub broken : BrokenBy status next
+  pub broken : Breaks status seen' (after_all plain s done) next
   pub lines : LinesDone status script later done
 
 -- ---- the answers
 
--- Nothing was written, and nothing was asked of the input.
-pub record Unbegun (told : Option (List ℕ)) (told' : Option (List ℕ)) (input : Inlet) (input' : Inlet) : Type 0 where
+-- Nothing was written, nothing was asked of the input, and no file was changed.
+pub record Unbegun (given : Given) (told : Option (List ℕ)) (told' : Option (List ℕ)) (input : Inlet) (input' : Inlet) (seen' : Seen) : Type 0 where
   pub unwritten : told' ≡ told
   pub unread : input' ≡ input
+  pub files : AreGiven given seen'
 
 -- The session ended in its opening line, before anything was asked of the input.
-pub record OpeningCut (given : Given) (told : Option (List ℕ)) (told' : Option (List ℕ)) (input : Inlet) (input' : Inlet) : Type 0 where
+pub record OpeningCut (given : Given) (told : Option (List ℕ)) (told' : Option (List ℕ)) (input : Inlet) (input' : Inlet) (seen' : Seen) : Type 0 where
   pub base : Base
   pub mended : ℕ
   pub opened : Opened given base mended
   pub wrote : Halted [] (opening_line base mended) told told'
   pub unread : input' ≡ input
+  pub files : AreGiven given seen'
 
 -- The opening line was written, and the run of the script stopped.
-pub record ScriptCut (status : Status) (given : Given) (told : Option (List ℕ)) (told' : Option (List ℕ)) (later : Option (List ℕ)) : Type 0 where
+pub record ScriptCut (status : Status) (given : Given) (told : Option (List ℕ)) (told' : Option (List ℕ)) (later : Option (List ℕ)) (seen' : Seen) : Type 0 where
   pub base : Base
   pub mended : ℕ
   pub opened : Opened given base mended
-  pub ran : RanPart status (begin base) given.script (adds told (opening_line base mended)) told' later
+  pub ran : RanPart status (begun given base mended opened) given.script (adds told (opening_line base mended)) told' later seen'
 
 -- The whole text was written: the opening line, and then what the plain machine makes of the script.
-pub record Whole (given : Given) (told : Option (List ℕ)) (told' : Option (List ℕ)) (later : Option (List ℕ)) : Type 0 where
+pub record Whole (given : Given) (told : Option (List ℕ)) (told' : Option (List ℕ)) (later : Option (List ℕ)) (seen' : Seen) : Type 0 where
   pub base : Base
   pub mended : ℕ
   pub opened : Opened given base mended
-  pub ran : RanAll (begin base) given.script (adds told (opening_line base mended)) told' later
+  pub ran : RanAll (begun given base mended opened) given.script (adds told (opening_line base mended)) told' later seen'
 
--- What each status says of what was given, of what was written, and of what was read. Told files never change.
-abbrev pub Answers : Given → Option (List ℕ) → Option (List ℕ) → Inlet → Inlet → Status → Type 0
-Answers given told told' input input' Done = Whole given told told' input'.left
-Answers given told told' input input' Usage = (words_read given.words ≡ None) × Unbegun told told' input input'
-Answers given told told' input input' (BadBase fault) = Faulty given fault × Unbegun told told' input input'
-Answers given told told' input input' ReadFault = ScriptCut ReadFault given told told' input'.left
-Answers given told told' input input' WriteFault = OpeningCut given told told' input input' ⊎ ScriptCut WriteFault given told told' input'.left
-Answers given told told' input input' FilesFault = Unbegun told told' input input' ⊎ ScriptCut FilesFault given told told' input'.left
-Answers given told told' input input' (Changed game kept found) = ⊥
-Answers given told told' input input' InputTooLong = ScriptCut InputTooLong given told told' input'.left
-Answers given told told' input input' Memory = Unbegun told told' input input' ⊎ (OpeningCut given told told' input input' ⊎ ScriptCut Memory given told told' input'.left)
+-- What each status says of what was given, of what was written, of what was read, and of what the files carry. Told records never change.
+abbrev pub Answers : Given → Option (List ℕ) → Option (List ℕ) → Inlet → Inlet → Seen → Status → Type 0
+Answers given told told' input input' seen' Done = Whole given told told' input'.left seen'
+Answers given told told' input input' seen' Usage = (words_read given.words ≡ None) × Unbegun given told told' input input' seen'
+Answers given told told' input input' seen' (BadBase fault) = Faulty given fault × Unbegun given told told' input input' seen'
+Answers given told told' input input' seen' ReadFault = ScriptCut ReadFault given told told' input'.left seen'
+Answers given told told' input input' seen' WriteFault = OpeningCut given told told' input input' seen' ⊎ ScriptCut WriteFault given told told' input'.left seen'
+Answers given told told' input input' seen' FilesFault = Unbegun given told told' input input' seen' ⊎ ScriptCut FilesFault given told told' input'.left seen'
+Answers given told told' input input' seen' (Changed game kept found) = ⊥
+Answers given told told' input input' seen' InputTooLong = ScriptCut InputTooLong given told told' input'.left seen'
+Answers given told told' input input' seen' Memory = Unbegun given told told' input input' seen' ⊎ (OpeningCut given told told' input input' seen' ⊎ ScriptCut Memory given told told' input'.left seen')
 
 -- A base is opened, whichever it is.
 pub record Opens (given : Given) : Type 0 where
@@ -165,7 +187,7 @@ price_all s (order ∷ orders) = price s order + price_all (plain.after s order)
 
 -- A session asks at most the records of all games, to open the base, and where it is open what the lines of its script ask.
 abbrev pub Asks : Given → ℕ → ℕ → Type 0
-Asks given old new = (new ≤ old + open_cost given.index) ⊎ ((opens : Opens given) × (new ≤ old + (open_cost given.index + price_all (begin opens.base) (script_of given.script))))
+Asks given old new = (new ≤ old + open_cost given.index) ⊎ ((opens : Opens given) × (new ≤ old + (open_cost given.index + price_all (begun given opens.base opens.mended opens.opened) (script_of given.script))))
 
 -- ---- causes, for every files, input and output
 

@@ -11,4 +11,6 @@ pub use run::session;
 pub use status::Status;
 
 #[cfg(test)]
+mod file_tests;
+#[cfg(test)]
 mod tests;

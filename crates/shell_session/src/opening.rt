@@ -30,7 +30,7 @@ pub(crate) fn open<F: Files>(
 ) -> Result<(Machine, u32), Status>
     ensures opens { IfOk result (λ opened. IfTold (F.seen files.old) (λ index names games. Opening wanted.now.create wanted.now.strict index names games opened.0 (F.seen files.new) opened.1)) }
     ensures refused { IfErr result (OpeningRefused wanted.now.create wanted.now.strict (F.seen files.old)) }
-    ensures sound { IfOk result (λ opened. Sound opened.0 (F.seen files.new).known) }
+    ensures sound { IfOk result (λ opened. Sound opened.0 (F.seen files.new)) }
     ensures chosen { OnOk result ((F.seen files.new).choices ≡ (F.seen files.old).choices ++ choice wanted.now.name.now wanted.now.create ∷ []) }
     ensures chosen_in_vain { IfErr result (λ status. ((status ≡ Status.Memory) × ((F.seen files.new).choices ≡ (F.seen files.old).choices)) ⊎ ((F.seen files.new).choices ≡ (F.seen files.old).choices ++ choice wanted.now.name.now wanted.now.create ∷ [])) }
     ensures contents { SameContents (F.seen files.old) (F.seen files.new) }

@@ -1,6 +1,6 @@
 //! The session: the one call that `main` makes.
 ghost use Rattle.std.specs.Prelude.{◌≡◌, ◌↔◌, ℕ, ◌⊎◌, List, None, Some, map, string_bytes};
-ghost use Rattle.base_files.specs.Seen.{SameContents};
+ghost use Rattle.base_files.specs.Seen.{SameContents, Seen};
 ghost use Rattle.base_files.specs.Counters.{Rose};
 ghost use Rattle.command_runs.specs.Counts.{NoneFell, counts};
 ghost use Rattle.shell_session.specs.Session.{Answers, Asks, Chooses, Due, Reads, WhyStatus, given, inlet};
@@ -24,10 +24,10 @@ pub fn session<F: Files, S: Source, K: Sink>(
     input: &mut S,
     out: &mut K,
 ) -> Status
-    // Where the files and the input tell their contents, the status says what was written, of what was given.
+    // Where the files and the input tell their contents, the status says what was written, of what was given, and what the files carry.
     ensures answers { (index names games script : List ℕ) → (F.seen files.old).index ≡ Some index → (F.seen files.old).names ≡ Some names → (F.seen files.old).games ≡ Some games → S.left input.old ≡ Some script →
         Answers (given (map string_bytes words.now) index names games script) (K.taken out.old) (K.taken out.new)
-        (inlet (S.left input.old) (S.budget input.old) (S.faults input.old)) (inlet (S.left input.new) (S.budget input.new) (S.faults input.new)) result }
+        (inlet (S.left input.old) (S.budget input.old) (S.faults input.old)) (inlet (S.left input.new) (S.budget input.new) (S.faults input.new)) (F.seen files.new) result }
 
     // Where no count of faults rises, the status is the one that is due, or memory ran out.
     ensures due { (index names games script : List ℕ) → (F.seen files.old).index ≡ Some index → (F.seen files.old).names ≡ Some names → (F.seen files.old).games ≡ Some games → S.left input.old ≡ Some script →
@@ -48,9 +48,9 @@ pub fn session<F: Files, S: Source, K: Sink>(
     // What is read of any input.
     ensures reads { Reads result (inlet (S.left input.old) (S.budget input.old) (S.faults input.old)) (inlet (S.left input.new) (S.budget input.new) (S.faults input.new)) }
 
-    // The base of the words is chosen once, as they say, and no file is changed.
+    // The base of the words is chosen once, as they say, and where nothing of the input was taken no file is changed.
     ensures choices { Chooses result (map string_bytes words.now) (F.seen files.old).choices (F.seen files.new).choices }
-    ensures contents { SameContents (F.seen files.old) (F.seen files.new) }
+    ensures contents { S.budget input.new ≡ S.budget input.old → SameContents (F.seen files.old) (F.seen files.new) }
 {
     let Some(wanted) = words_read(words) else {
         return Status::Usage;

@@ -15,11 +15,11 @@ const ENTRY: &[u8; 47] =
     b"\0\0\0\0\0\x19\0\0\0\0\0\0\0\0\0\0\0\0\0\0\0\x10\0\x3a\xda\0\x0e\xec\0\0\0\0\0\0\x29\x66\xa6\x15\x05\xb5\xc4\x30\0\0\0\0\0";
 
 /// One name of each kind.
-const NAMES: &[u8; 56] =
+pub(crate) const NAMES: &[u8; 56] =
     b"Scid.sn\0\0\0\0\0\0\0\x01\0\0\x01\0\0\x01\0\0\x01\0\0\x01\0\0\x01\0\0\x01\0\0\x01\0\0\x01\x01?\0\0\x01\x01?\0\0\x01\x01?\0\0\x01\x01?";
 
 /// 1. e4 c6 2. d4 d5 3. Nc3 dxe4 4. Nxe4 Nf6 5. Qd3 e5 6. dxe5 Qa5+ 7. Bd2 Qxe5 8. O-O-O Nxe4 9. Qd8+ Kxd8 10. Bg5+ Kc7 11. Bd8#
-const RECORD: &[u8; 25] =
+pub(crate) const RECORD: &[u8; 25] =
     b"\0\0\xcf\xa1\xbf\xbf\x28\xb0\x26\x61\x4a\xcf\xb2\x43\x60\x33\x44\x09\x61\x4f\x04\x36\x01\x3b\x0f";
 
 const SCRIPT: &[u8] = b"find rnbqkbnr/pppppppp/8/8/8/8/PPPPPPPP/RNBQKBNR w\n";
@@ -43,9 +43,19 @@ const NONE: Fails<'static> = Fails {
 };
 
 /// The index of the one game.
-fn index(alloc: Global) -> Result<Vec<u8>, AllocError> {
+pub(crate) fn index(alloc: Global) -> Result<Vec<u8>, AllocError> {
     let mut index = Vec::from_slice(alloc, HEAD)?;
     index.extend_from_slice(&[0u8; 165])?;
+    index.extend_from_slice(ENTRY)?;
+    Ok(index)
+}
+
+/// The index of that game twice.
+pub(crate) fn index_of_two(alloc: Global) -> Result<Vec<u8>, AllocError> {
+    let mut index = index(alloc)?;
+    if let Some(games) = index.get_mut(16) {
+        *games = 2;
+    }
     index.extend_from_slice(ENTRY)?;
     Ok(index)
 }

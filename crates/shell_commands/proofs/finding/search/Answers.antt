@@ -1,9 +1,10 @@
 use Rattle.std.proofs.Common.{◌<◌, ◌+◌, ℕ, List, Option, length, arith, sym, ap, subst, ◌∙◌}
 use Rattle.std.proofs.lemmas.List.{length-set}
-use Rattle.std.proofs.lemmas.List.Sums.{sum_by_more}
 use Rattle.base_files.specs.Seen.{Seen}
-use Rattle.base_files.specs.declared.extent.Extent.{Extent}
+use Rattle.sig_index.proofs.ReadLemmas.{some_at}
 use Rattle.shell_commands.specs.FirstPly.{sought}
+use Rattle.shell_commands.specs.Passing.{can_have}
+use Rattle.shell_commands.proofs.PassingLaws.{passing_front, passing_more}
 use Rattle.shell_commands.proofs.Searching.{Found, found_more, found_all}
 use Rattle.shell_commands.proofs.finding.search.Goals as goal
 
@@ -11,9 +12,10 @@ pub loop-i-preserved : goal.loop-i-preserved
 loop-i-preserved g c =
     let what = sought c.args.board.now c.args.side in
     let below : c.loop-i.i < length c.loop-i.filter = omega (arith, c.loop-i.invariant.entries, c.requires.entries, c.len-i-end.ensures.one_sig_each, c.loop-i-test.true) in
+    let sigs = g.G.Games.sigs c.args.games.now in
     let extents = g.G.Games.extents c.args.games.now in
     let inside : c.loop-i.i < length extents = omega (arith, c.len-i-end.ensures.one_extent_each, c.loop-i-test.true) in
-    let none : Extent = record { offset = 0; len = 0 } in
+    let sig = some_at sigs c.loop-i.i (omega (arith, c.len-i-end.ensures.one_sig_each, c.loop-i-test.true)) in
     record {
       found = λ told list same holds.
           let told_now = ap (λ (s : Seen). s.games) c.loop-i.invariant.unchanged ∙ same in
@@ -25,7 +27,7 @@ loop-i-preserved g c =
       entries = ap (λ (f : List (Option ℕ)). length f) c.set.ensures.changed ∙ (length-set c.loop-i.filter c.loop-i.i c.in-Ok.ply ∙ c.loop-i.invariant.entries);
       room = c.first_in.ensures.room;
       unchanged = c.first_in.ensures.unchanged ∙ c.loop-i.invariant.unchanged;
-      asks = omega (arith, c.loop-i.invariant.asks, c.first_in.ensures.asks, sum_by_more (λ (x : Extent). x.len) extents c.loop-i.i none inside);
+      asks = omega (arith, c.loop-i.invariant.asks, c.first_in.ensures.asks sig.0 sig.1, passing_more (can_have c.args.board.now) sigs extents c.loop-i.i sig.0 sig.1 inside);
       counts = omega (arith, c.loop-i.invariant.counts, c.first_in.ensures.causes.none_fell.files);
     }
 
@@ -35,3 +37,22 @@ returns-clause-found g c = λ told list same holds.
     (omega (arith, c.loop-i.invariant.entries, c.requires.entries, c.len-i-end.ensures.one_sig_each, c.loop-i-test.false))
     (omega (arith, holds.count, c.len-i-end.ensures.one_sig_each, c.loop-i-test.false))
     (c.loop-i.invariant.found told list same holds)
+
+pub returns-clause-asks : goal.returns-clause-asks
+returns-clause-asks g c =
+    omega (arith, c.loop-i.invariant.asks, passing_front (can_have c.args.board.now) (g.G.Games.sigs c.args.games.now) (g.G.Games.extents c.args.games.now) c.loop-i.i)
+
+pub returns-in-Err-clause-asks : goal.returns-in-Err-clause-asks
+returns-in-Err-clause-asks g c =
+    let i = c.loop-i.i in
+    let sigs = g.G.Games.sigs c.args.games.now in
+    let extents = g.G.Games.extents c.args.games.now in
+    let inside : i < length extents = omega (arith, c.len-i-end.ensures.one_extent_each, c.loop-i-test.true) in
+    let sig = some_at sigs i (omega (arith, c.len-i-end.ensures.one_sig_each, c.loop-i-test.true)) in
+    omega (
+      arith,
+      c.loop-i.invariant.asks,
+      c.first_in.ensures.asks sig.0 sig.1,
+      passing_more (can_have c.args.board.now) sigs extents i sig.0 sig.1 inside,
+      passing_front (can_have c.args.board.now) sigs extents (i + 1),
+    )

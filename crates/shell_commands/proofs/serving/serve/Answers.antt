@@ -1,5 +1,6 @@
 use Rattle.std.proofs.Common.{ℕ, List, sym, subst}
 use Rattle.shell_commands.specs.Stands.{Quiet}
+use Rattle.shell_commands.proofs.CarryLaws.{carry_of, carry_same, if_err}
 use Rattle.shell_commands.proofs.Served.{no_export, quiet_serves}
 use Rattle.shell_commands.proofs.serving.serve.Goals as goal
 
@@ -14,3 +15,35 @@ pub returns-in-Ok-Line-clause-whole : goal.returns-in-Ok-Line-clause-whole
 returns-in-Ok-Line-clause-whole g c = λ s st exports.
     let turned = rw c.in-Ok-Line.field-0-is at c.in-Ok-Line.ensures.turn in
     absurd (no_export c.args.order.now exports turned.1)
+
+pub returns-in-Ok-Line-clause-carries : goal.returns-in-Ok-Line-clause-carries
+returns-in-Ok-Line-clause-carries g c = λ s st.
+    if_err c.write_line.result _ (carry_of c.args.machine.now (g.F.Files.seen c.args.files.now) s c.args.order.now st)
+
+pub returns-in-Ok-Find-clause-carries : goal.returns-in-Ok-Find-clause-carries
+returns-in-Ok-Find-clause-carries g c = λ s st.
+    if_err c.find.result _ (carry_same c.args.machine.now (g.F.Files.seen c.args.files.now) (g.F.Files.seen c.find.new.files) s c.args.order.now c.find.ensures.unchanged st)
+
+pub returns-in-Ok-Material-clause-carries : goal.returns-in-Ok-Material-clause-carries
+returns-in-Ok-Material-clause-carries g c = λ s st.
+    if_err c.search_material.result _
+    (carry_same c.args.machine.now (g.F.Files.seen c.args.files.now) (g.F.Files.seen c.search_material.new.files) s c.args.order.now c.search_material.ensures.unchanged st)
+
+pub returns-in-Ok-Hits-clause-carries : goal.returns-in-Ok-Hits-clause-carries
+returns-in-Ok-Hits-clause-carries g c = λ s st.
+    if_err c.hits.result _ (carry_of c.args.machine.now (g.F.Files.seen c.args.files.now) s c.args.order.now st)
+
+pub returns-in-Ok-List-clause-carries : goal.returns-in-Ok-List-clause-carries
+returns-in-Ok-List-clause-carries g c = λ s st.
+    if_err c.list.result _ (carry_of c.args.machine.now (g.F.Files.seen c.args.files.now) s c.args.order.now st)
+
+pub returns-in-Ok-Show-clause-carries : goal.returns-in-Ok-Show-clause-carries
+returns-in-Ok-Show-clause-carries g c = λ s st.
+    if_err c.show.result _ (carry_same c.args.machine.now (g.F.Files.seen c.args.files.now) (g.F.Files.seen c.show.new.files) s c.args.order.now c.show.ensures.unchanged st)
+
+pub returns-in-Ok-Export-clause-carries : goal.returns-in-Ok-Export-clause-carries
+returns-in-Ok-Export-clause-carries g c = λ s st.
+    if_err c.export.result _ (carry_same c.args.machine.now (g.F.Files.seen c.args.files.now) (g.F.Files.seen c.export.new.files) s c.args.order.now c.export.ensures.unchanged st)
+
+pub returns-in-Err-clause-carries : goal.returns-in-Err-clause-carries
+returns-in-Err-clause-carries g c = λ s st. carry_of c.args.machine.now (g.F.Files.seen c.args.files.now) s c.args.order.now st

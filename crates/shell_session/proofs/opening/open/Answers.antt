@@ -39,6 +39,11 @@ returns-in-Err-opened-clause-cause g c = λ is.
 pub returns-in-Ok-new-clause-opens : goal.returns-in-Ok-new-clause-opens
 returns-in-Ok-new-clause-opens g c =
     let P : Seen → Type 0 = λ seen. IfTold seen (λ index names games. Opens c.args.wanted.now.create c.args.wanted.now.strict index names games c.in-Ok-opened.opened.0 c.in-Ok-opened.opened.1) in
+    let index = ap (λ (seen : Seen). seen.index) c.open_base-opened.ensures.measured ∙ ap (λ (seen : Seen). seen.index) c.in_default.ensures.chosen in
+    let names = ap (λ (seen : Seen). seen.names) c.open_base-opened.ensures.measured ∙ ap (λ (seen : Seen). seen.names) c.in_default.ensures.chosen in
     let games = ap (λ (seen : Seen). seen.games) c.open_base-opened.ensures.measured ∙ ap (λ (seen : Seen). seen.games) c.in_default.ensures.chosen in
     opening c.args.wanted.now.create c.args.wanted.now.strict (g.F.Files.seen c.args.files.now) _ c.in-Ok-opened.opened.0 c.in-Ok-new.machine c.in-Ok-opened.opened.1
-    (subst P c.in_default.ensures.chosen c.in-Ok-opened.ensures.opens) games c.in-Ok-new.ensures.begins
+    (subst P c.in_default.ensures.chosen c.in-Ok-opened.ensures.opens) index names games c.in-Ok-new.ensures.begins
+
+pub returns-in-Ok-new-clause-sound : goal.returns-in-Ok-new-clause-sound
+returns-in-Ok-new-clause-sound g c = c.in-Ok-new.ensures.begins.sound (g.F.Files.seen c.open_base-opened.new.files) c.in-Ok-opened.ensures.at_end

@@ -14,10 +14,10 @@ returns-in-Err-write_opening-clause-answers g c = λ index names games script i 
     let words : List (List ℕ) = map string_bytes c.args.words.now in
     let wanted : Wanted = record { name = c.in-Some.wanted.name.now; create = c.in-Some.wanted.create; strict = c.in-Some.wanted.strict } in
     let input = inlet (g.S.Source.left c.args.input.now) (g.S.Source.budget c.args.input.now) (g.S.Source.faults c.args.input.now) in
-    let P : Status → Type 0 = λ status. Answers (given words index names games script) (g.K.Sink.taken c.args.out.now) (g.K.Sink.taken c.write_opening.new.out) input input status in
+    let P : Status → Type 0 = λ status. Answers (given words index names games script) (g.K.Sink.taken c.args.out.now) (g.K.Sink.taken c.write_opening.new.out) input input (g.F.Files.seen c.open.new.files) status in
     subst P (sym c.from.ensures)
     (line_session words index names games script (g.F.Files.seen c.args.files.now) (g.F.Files.seen c.open.new.files) wanted c.in-Ok.opened.0 c.in-Ok.opened.1 c.games.result _ _ input c.in-Err-write_opening.stop _ _
-    (sym c.in-Some.ensures.read) c.in-Ok.ensures.opens c.games.ensures.games c.in-Err-write_opening.ensures.halted c.in-Err-write_opening.ensures.causes.why i n told)
+    (sym c.in-Some.ensures.read) c.in-Ok.ensures.opens c.games.ensures.games c.in-Err-write_opening.ensures.halted c.open.ensures.contents c.in-Err-write_opening.ensures.causes.why i n told)
 
 pub returns-in-Err-write_opening-clause-due : goal.returns-in-Err-write_opening-clause-due
 returns-in-Err-write_opening-clause-due g c = λ index names games script i n told left no_files no_input no_output.
@@ -26,16 +26,16 @@ returns-in-Err-write_opening-clause-due g c = λ index names games script i n to
     let input = inlet (g.S.Source.left c.args.input.now) (g.S.Source.budget c.args.input.now) (g.S.Source.faults c.args.input.now) in
     let P : Status → Type 0 = λ status. (status ≡ Memory) ⊎ Due (given words index names games script) status in
     subst P (sym c.from.ensures)
-    (due_of (given words index names games script) (g.K.Sink.taken c.args.out.now) (g.K.Sink.taken c.write_opening.new.out) input input (status_of c.in-Err-write_opening.stop) _ _ _ _ _ _
+    (due_of (given words index names games script) (g.K.Sink.taken c.args.out.now) (g.K.Sink.taken c.write_opening.new.out) input input (g.F.Files.seen c.open.new.files) (status_of c.in-Err-write_opening.stop) _ _ _ _ _ _
     (line_session words index names games script (g.F.Files.seen c.args.files.now) (g.F.Files.seen c.open.new.files) wanted c.in-Ok.opened.0 c.in-Ok.opened.1 c.games.result _ _ input c.in-Err-write_opening.stop _ _
-    (sym c.in-Some.ensures.read) c.in-Ok.ensures.opens c.games.ensures.games c.in-Err-write_opening.ensures.halted c.in-Err-write_opening.ensures.causes.why i n told)
+    (sym c.in-Some.ensures.read) c.in-Ok.ensures.opens c.games.ensures.games c.in-Err-write_opening.ensures.halted c.open.ensures.contents c.in-Err-write_opening.ensures.causes.why i n told)
     (why_line c.in-Err-write_opening.stop _ _ _ _ _ c.in-Err-write_opening.ensures.causes.why)
     no_files no_input no_output)
 
 pub returns-in-Ok-run_script-clause-answers : goal.returns-in-Ok-run_script-clause-answers
 returns-in-Ok-run_script-clause-answers g c = λ index names games script i n told left.
     let wanted : Wanted = record { name = c.in-Some.wanted.name.now; create = c.in-Some.wanted.create; strict = c.in-Some.wanted.strict } in
-    whole_session (map string_bytes c.args.words.now) index names games script (g.F.Files.seen c.args.files.now) (g.F.Files.seen c.open.new.files) wanted c.in-Ok.opened.0 c.in-Ok.opened.1 c.games.result _ (g.K.Sink.taken c.write_opening.new.out) _
+    whole_session (map string_bytes c.args.words.now) index names games script (g.F.Files.seen c.args.files.now) (g.F.Files.seen c.open.new.files) (g.F.Files.seen c.run_script.new.files) wanted c.in-Ok.opened.0 c.in-Ok.opened.1 c.games.result _ (g.K.Sink.taken c.write_opening.new.out) _
     (inlet (g.S.Source.left c.args.input.now) (g.S.Source.budget c.args.input.now) (g.S.Source.faults c.args.input.now))
     (inlet (g.S.Source.left c.run_script.new.input) (g.S.Source.budget c.run_script.new.input) (g.S.Source.faults c.run_script.new.input))
     (sym c.in-Some.ensures.read) c.in-Ok.ensures.opens c.games.ensures.games c.in_default-write_opening.ensures.written c.in-Ok-run_script.ensures.all i n told left
@@ -45,15 +45,15 @@ returns-in-Ok-run_script-clause-due g c = λ index names games script i n told l
     let wanted : Wanted = record { name = c.in-Some.wanted.name.now; create = c.in-Some.wanted.create; strict = c.in-Some.wanted.strict } in
     let input = inlet (g.S.Source.left c.args.input.now) (g.S.Source.budget c.args.input.now) (g.S.Source.faults c.args.input.now) in
     let input' = inlet (g.S.Source.left c.run_script.new.input) (g.S.Source.budget c.run_script.new.input) (g.S.Source.faults c.run_script.new.input) in
-    due_of (given (map string_bytes c.args.words.now) index names games script) (g.K.Sink.taken c.args.out.now) (g.K.Sink.taken c.run_script.new.out) input input' Done _ _ _ _ _ _
-    (whole_session (map string_bytes c.args.words.now) index names games script (g.F.Files.seen c.args.files.now) (g.F.Files.seen c.open.new.files) wanted c.in-Ok.opened.0 c.in-Ok.opened.1 c.games.result _ (g.K.Sink.taken c.write_opening.new.out) _ input input'
+    due_of (given (map string_bytes c.args.words.now) index names games script) (g.K.Sink.taken c.args.out.now) (g.K.Sink.taken c.run_script.new.out) input input' (g.F.Files.seen c.run_script.new.files) Done _ _ _ _ _ _
+    (whole_session (map string_bytes c.args.words.now) index names games script (g.F.Files.seen c.args.files.now) (g.F.Files.seen c.open.new.files) (g.F.Files.seen c.run_script.new.files) wanted c.in-Ok.opened.0 c.in-Ok.opened.1 c.games.result _ (g.K.Sink.taken c.write_opening.new.out) _ input input'
     (sym c.in-Some.ensures.read) c.in-Ok.ensures.opens c.games.ensures.games c.in_default-write_opening.ensures.written c.in-Ok-run_script.ensures.all i n told left)
     tt no_files no_input no_output
 
 pub returns-clause-answers : goal.returns-clause-answers
 returns-clause-answers g c = λ index names games script i n told left.
     let wanted : Wanted = record { name = c.in-Some.wanted.name.now; create = c.in-Some.wanted.create; strict = c.in-Some.wanted.strict } in
-    part_session (map string_bytes c.args.words.now) index names games script (g.F.Files.seen c.args.files.now) (g.F.Files.seen c.open.new.files) wanted c.in-Ok.opened.0 c.in-Ok.opened.1 c.games.result _ (g.K.Sink.taken c.write_opening.new.out) _
+    part_session (map string_bytes c.args.words.now) index names games script (g.F.Files.seen c.args.files.now) (g.F.Files.seen c.open.new.files) (g.F.Files.seen c.run_script.new.files) wanted c.in-Ok.opened.0 c.in-Ok.opened.1 c.games.result _ (g.K.Sink.taken c.write_opening.new.out) _
     (inlet (g.S.Source.left c.args.input.now) (g.S.Source.budget c.args.input.now) (g.S.Source.faults c.args.input.now))
     (inlet (g.S.Source.left c.run_script.new.input) (g.S.Source.budget c.run_script.new.input) (g.S.Source.faults c.run_script.new.input))
     c.in-Err-run_script.status
@@ -64,8 +64,8 @@ returns-clause-due g c = λ index names games script i n told left no_files no_i
     let wanted : Wanted = record { name = c.in-Some.wanted.name.now; create = c.in-Some.wanted.create; strict = c.in-Some.wanted.strict } in
     let input = inlet (g.S.Source.left c.args.input.now) (g.S.Source.budget c.args.input.now) (g.S.Source.faults c.args.input.now) in
     let input' = inlet (g.S.Source.left c.run_script.new.input) (g.S.Source.budget c.run_script.new.input) (g.S.Source.faults c.run_script.new.input) in
-    due_of (given (map string_bytes c.args.words.now) index names games script) (g.K.Sink.taken c.args.out.now) (g.K.Sink.taken c.run_script.new.out) input input' c.in-Err-run_script.status _ _ _ _ _ _
-    (part_session (map string_bytes c.args.words.now) index names games script (g.F.Files.seen c.args.files.now) (g.F.Files.seen c.open.new.files) wanted c.in-Ok.opened.0 c.in-Ok.opened.1 c.games.result _ (g.K.Sink.taken c.write_opening.new.out) _ input input' c.in-Err-run_script.status
+    due_of (given (map string_bytes c.args.words.now) index names games script) (g.K.Sink.taken c.args.out.now) (g.K.Sink.taken c.run_script.new.out) input input' (g.F.Files.seen c.run_script.new.files) c.in-Err-run_script.status _ _ _ _ _ _
+    (part_session (map string_bytes c.args.words.now) index names games script (g.F.Files.seen c.args.files.now) (g.F.Files.seen c.open.new.files) (g.F.Files.seen c.run_script.new.files) wanted c.in-Ok.opened.0 c.in-Ok.opened.1 c.games.result _ (g.K.Sink.taken c.write_opening.new.out) _ input input' c.in-Err-run_script.status
     (sym c.in-Some.ensures.read) c.in-Ok.ensures.opens c.games.ensures.games c.in_default-write_opening.ensures.written c.in-Err-run_script.ensures.part i n told left)
     (why_running c.in-Err-run_script.status _ (g.F.Files.faults c.open.new.files) _ _ _ _ (g.K.Sink.faults c.write_opening.new.out) _ c.open.ensures.counts c.in_default-write_opening.ensures.causes.none_fell.output c.in-Err-run_script.ensures.why)
     no_files no_input no_output
@@ -74,7 +74,7 @@ pub returns-clause-choices : goal.returns-clause-choices
 returns-clause-choices g c =
     let wanted : Wanted = record { name = c.in-Some.wanted.name.now; create = c.in-Some.wanted.create; strict = c.in-Some.wanted.strict } in
     chooses_running c.in-Err-run_script.status (map string_bytes c.args.words.now) _ _ c.in-Err-run_script.ensures.ends
-    (chosen (map string_bytes c.args.words.now) wanted _ _ (sym c.in-Some.ensures.read) (ap (λ (seen : Seen). seen.choices) c.run_script.ensures.unchanged ∙ c.in-Ok.ensures.chosen))
+    (chosen (map string_bytes c.args.words.now) wanted _ _ (sym c.in-Some.ensures.read) (c.run_script.ensures.choices ∙ c.in-Ok.ensures.chosen))
 
 pub returns-in-Err-write_opening-clause-asks : goal.returns-in-Err-write_opening-clause-asks
 returns-in-Err-write_opening-clause-asks g c = λ index names games script i n told left.

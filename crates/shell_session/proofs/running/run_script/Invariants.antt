@@ -9,8 +9,9 @@ use Rattle.shell_session.proofs.running.run_script.Given as goal
 abbrev pub invariant-lines : goal.invariant-lines
 invariant-lines g l = record {
   ran : (s : State) → Stands l.fn.machine (g.F.Files.seen l.fn.files) s → Paid s (g.S.Source.left l.fn.input) (g.K.Sink.taken l.fn.out) l.machine (g.F.Files.seen l.files) l.reader (g.S.Source.left l.input) (g.K.Sink.taken l.out) (g.F.Files.asked l.fn.files) (g.F.Files.asked l.files);
-  sound : Sound l.machine (g.F.Files.seen l.files).known;
-  unchanged : g.F.Files.seen l.files ≡ g.F.Files.seen l.fn.files;
+  untaken : l.reader.used ≡ 0 → g.F.Files.seen l.files ≡ g.F.Files.seen l.fn.files;
+  sound : Sound l.machine (g.F.Files.seen l.files);
+  choices : (g.F.Files.seen l.files).choices ≡ (g.F.Files.seen l.fn.files).choices;
   sum : g.S.Source.budget l.input + (l.reader.used + length l.reader.unread) ≡ g.S.Source.budget l.fn.input;
   counts : NoneFell (counts (g.F.Files.faults l.fn.files) (g.S.Source.faults l.fn.input) (g.K.Sink.faults l.fn.out)) (counts (g.F.Files.faults l.files) (g.S.Source.faults l.input) (g.K.Sink.faults l.out));
 }

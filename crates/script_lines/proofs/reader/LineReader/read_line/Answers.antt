@@ -15,6 +15,7 @@ parts-preserved g c = record {
       (took_filled [] _ _ _ _ _ _ c.parts.invariant.part c.refill.ensures.kept c.refill.ensures.line c.refill.ensures.used)
       (c.take_part.ensures.open (cc (c.in-Ok-Open.is, c.in-Ok-Open.field-0-is)) (g.S.Source.left c.refill.new.input));
   sum = omega (arith, c.parts.invariant.sum, c.refill.ensures.sum, c.refill.ensures.used, c.take_part.ensures.sum);
+  falls = omega (arith, c.parts.invariant.falls, c.refill.ensures.falls);
   faults = omega (arith, c.parts.invariant.faults, c.refill.ensures.counts);
 }
 

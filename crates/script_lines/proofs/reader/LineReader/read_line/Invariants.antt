@@ -7,6 +7,7 @@ abbrev pub invariant-parts : goal.invariant-parts
 invariant-parts g l = record {
   part : TookPart [] l.fn.self (g.S.Source.left l.fn.input) l.self (g.S.Source.left l.input);
   sum : g.S.Source.budget l.input + (l.self.used + length l.self.unread) ≡ g.S.Source.budget l.fn.input + (l.fn.self.used + length l.fn.self.unread);
+  falls : g.S.Source.budget l.input ≤ g.S.Source.budget l.fn.input;
   faults : g.S.Source.faults l.fn.input ≤ g.S.Source.faults l.input;
 }
 

@@ -1,0 +1,176 @@
+//! Files that fail at each call of a script of edits or in the middle of an export, and files that change between two reads.
+
+use crate::run::session;
+use crate::status::Status;
+use crate::tests::{NAMES, RECORD, index, index_of_two};
+use base_files::{MemFiles, MemSink, MemSource, Swap};
+use std::alloc::{AllocError, Global};
+use std::test::Fail;
+
+const EDITS: &[u8] = b"tag 0 White A\nsave\ntag 0 White B\nsave\n";
+
+const EDITS_TEXT: &[u8] =
+    b"base 1 games 0 mended\ntagged 0\nsaved 1 games\ntagged 0\nsaved 1 games\n";
+
+const OPENED: &[u8] = b"base 1 games 0 mended\n0 0 1-0 1910.??.?? B15 ? - ?\nfilter 1 of 1\n";
+
+const FIRST: &[u8] = b"base 1 games 0 mended\n0 0 1-0 1910.??.?? B15 A - ?\nfilter 1 of 1\n";
+
+const SECOND: &[u8] = b"base 1 games 0 mended\n0 0 1-0 1910.??.?? B15 B - ?\nfilter 1 of 1\n";
+
+const FIND: &[u8] = b"find rnbqkbnr/pppppppp/8/8/4P3/8/PPPP1PPP/RNBQKBNR b\n";
+
+const FIND_TWICE: &[u8] =
+    b"find rnbqkbnr/pppppppp/8/8/4P3/8/PPPP1PPP/RNBQKBNR b\nfind rnbqkbnr/pppppppp/8/8/4P3/8/PPPP1PPP/RNBQKBNR b\n";
+
+const OPENING: &[u8] = b"base 1 games 0 mended\n";
+
+const FOUND_ONCE: &[u8] = b"base 1 games 0 mended\n0 1\nfilter 1 of 1\n";
+
+const ONE_OF_TWO: &[u8] = b"base 2 games 0 mended\n\
+[Event \"?\"]\n[Site \"?\"]\n[Date \"1910.??.??\"]\n[Round \"?\"]\n[White \"?\"]\n[Black \"?\"]\n[Result \"1-0\"]\n[ECO \"B15\"]\n\n\
+1. e4 c6 2. d4 d5 3. Nc3 dxe4 4. Nxe4 Nf6 5. Qd3 e5 6. dxe5 Qa5+ 7. Bd2 Qxe5\n\
+8. O-O-O Nxe4 9. Qd8+ Kxd8 10. Bg5+ Kc7 11. Bd8# 1-0\n\n";
+
+/// Runs a script over files in memory, and gives the status and what was written.
+fn run_over(
+    alloc: Global,
+    files: &mut MemFiles,
+    strict: bool,
+    script: &[u8],
+) -> Result<(Status, Vec<u8>), AllocError> {
+    let mut words = Vec::new(alloc);
+    words.push(String::from_str(alloc, "base")?)?;
+    if strict {
+        words.push(String::from_str(alloc, "--strict")?)?;
+    }
+    let mut input = MemSource::new(Vec::from_slice(alloc, script)?, 64, Vec::new(alloc));
+    let mut out = MemSink::new(Vec::new(alloc), 64, Vec::new(alloc));
+    let status = session(alloc, words.as_slice(), files, &mut input, &mut out);
+    Ok((status, Vec::from_slice(alloc, out.taken())?))
+}
+
+/// The files of a base of these contents, of which these calls fail.
+fn failing(alloc: Global, index: Vec<u8>, fails: &[u64]) -> Result<MemFiles, AllocError> {
+    Ok(MemFiles::new(
+        index,
+        Vec::from_slice(alloc, NAMES)?,
+        Vec::from_slice(alloc, RECORD)?,
+        Vec::from_slice(alloc, fails)?,
+    ))
+}
+
+/// The same contents in files that do not fail.
+fn again(alloc: Global, files: &MemFiles) -> Result<MemFiles, AllocError> {
+    Ok(MemFiles::new(
+        Vec::from_slice(alloc, files.index())?,
+        Vec::from_slice(alloc, files.names())?,
+        Vec::from_slice(alloc, files.games())?,
+        Vec::new(alloc),
+    ))
+}
+
+/// The files of the one game, of which the third byte of the record changes before a call.
+fn changing(alloc: Global, before: u64, byte: u8) -> Result<MemFiles, AllocError> {
+    let swap = Swap {
+        before,
+        place: 2,
+        byte,
+    };
+    Ok(MemFiles::changing(
+        index(alloc)?,
+        Vec::from_slice(alloc, NAMES)?,
+        Vec::from_slice(alloc, RECORD)?,
+        Vec::from_slice(alloc, &[swap])?,
+    ))
+}
+
+/// How much is written of the edits' text where this call fails: opening takes five calls, and each edit and each `save` two.
+fn written_before(call: u64) -> usize {
+    if call < 5 {
+        return 0;
+    }
+    if call < 7 {
+        return 22;
+    }
+    if call < 9 {
+        return 31;
+    }
+    if call < 11 {
+        return 45;
+    }
+    if call < 13 { 54 } else { 68 }
+}
+
+/// What the files then list: the index is replaced last, so that a `save` has happened or not.
+fn listed_after(call: u64) -> &'static [u8] {
+    if call < 9 {
+        return OPENED;
+    }
+    if call < 13 { FIRST } else { SECOND }
+}
+
+/// The first game is no record any more.
+fn is_changed(status: &Status) -> bool {
+    match status {
+        Status::Changed { game, found, .. } => *game == 0 && found.is_none(),
+        _ => false,
+    }
+}
+
+#[test]
+fn carries_what_was_saved_at_each_fault(rt: HostRuntime) -> Result<(), Fail> {
+    for call in 0..14u64 {
+        let mut files = failing(rt.alloc(), index(rt.alloc())?, &[call])?;
+        let (status, written) = run_over(rt.alloc(), &mut files, false, EDITS)?;
+        assert!(rt; (status == Status::FilesFault) == (call < 13));
+        assert!(rt; (status == Status::Done) == (call == 13));
+        assert!(rt;
+            written.as_slice()
+                == EDITS_TEXT
+                    .split_at(written_before(call).min(EDITS_TEXT.len()))
+                    .0
+        );
+        let mut files = again(rt.alloc(), &files)?;
+        let (status, listed) = run_over(rt.alloc(), &mut files, true, b"list\n")?;
+        assert!(rt; status == Status::Done);
+        assert!(rt; listed.as_slice() == listed_after(call));
+    }
+    Ok(())
+}
+
+#[test]
+fn ends_where_a_shown_record_has_changed(rt: HostRuntime) -> Result<(), Fail> {
+    let mut files = changing(rt.alloc(), 5, 0x0f)?;
+    let (status, written) = run_over(rt.alloc(), &mut files, false, b"show 0\n")?;
+    assert!(rt; is_changed(&status));
+    assert!(rt; written.as_slice() == OPENING);
+    Ok(())
+}
+
+#[test]
+fn ends_where_a_searched_record_has_changed(rt: HostRuntime) -> Result<(), Fail> {
+    let mut files = changing(rt.alloc(), 5, 0xce)?;
+    let (status, written) = run_over(rt.alloc(), &mut files, false, FIND)?;
+    assert!(rt; is_changed(&status));
+    assert!(rt; written.as_slice() == OPENING);
+    Ok(())
+}
+
+#[test]
+fn ends_where_a_record_changes_between_two_searches(rt: HostRuntime) -> Result<(), Fail> {
+    let mut files = changing(rt.alloc(), 6, 0xce)?;
+    let (status, written) = run_over(rt.alloc(), &mut files, false, FIND_TWICE)?;
+    assert!(rt; is_changed(&status));
+    assert!(rt; written.as_slice() == FOUND_ONCE);
+    Ok(())
+}
+
+#[test]
+fn exports_the_games_before_a_fault(rt: HostRuntime) -> Result<(), Fail> {
+    let mut files = failing(rt.alloc(), index_of_two(rt.alloc())?, &[7])?;
+    let (status, written) = run_over(rt.alloc(), &mut files, false, b"export\n")?;
+    assert!(rt; status == Status::FilesFault);
+    assert!(rt; written.as_slice() == ONE_OF_TWO);
+    Ok(())
+}
