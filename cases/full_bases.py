@@ -1,0 +1,78 @@
+#!/usr/bin/env python3
+"""Runs the built program on bases that stand one below a limit: the edit that reaches it is done, the next one is refused by name.
+
+usage: cases/full_bases.py [PROGRAM]
+
+The bases are too large to be kept as cases: each is the Vienna game (make_bases.py) beside as many names of one kind as leave room for one
+more, or in a games file that has room for one more record.
+"""
+import os
+import pathlib
+import subprocess
+import sys
+import tempfile
+
+from make_bases import HERE, VIENNA, VIENNA_RECORD, index
+
+LONGEST_FILE = 4_294_967_295
+LIMITS = {"players": 1_048_576, "events": 524_288, "sites": 524_288, "rounds": 262_144}
+TAGS = {"players": "White", "events": "Event", "sites": "Site", "rounds": "Round"}
+
+
+def names_file(counts):
+    """As many names of each kind, `0`, `1`, and so on in one width, with their number as id."""
+    head, body = bytearray(b"Scid.sn\0" + bytes(4)), bytearray()
+    for count in counts:
+        head += count.to_bytes(3, "big")
+    head += bytes([0, 0, 1] * 4)
+    for count in counts:
+        id_width = 3 if count >= 65_536 else 2
+        before = b""
+        for number in range(count):
+            name = f"{number:07}".encode()
+            shared = len(os.path.commonprefix([before, name]))
+            body += number.to_bytes(id_width, "big") + bytes([1, len(name)])
+            body += (bytes([shared]) if before else b"") + name[shared:]
+            before = name
+    return bytes(head + body)
+
+
+def run(program, parts, games_len, script):
+    """What the program writes behind its opening line."""
+    with tempfile.TemporaryDirectory() as room:
+        base = pathlib.Path(room, "base")
+        for part, content in parts.items():
+            base.with_suffix(part).write_bytes(content)
+        os.truncate(base.with_suffix(".sg4"), games_len)
+        done = subprocess.run([program, base], input=script, capture_output=True, text=True, check=True)
+        return done.stdout.split("\n", 1)[1]
+
+
+def full_names(program, kind):
+    counts = [LIMITS[kind] - 1 if of == kind else 2 for of in LIMITS]
+    parts = {".si4": index([VIENNA]), ".sn4": names_file(counts), ".sg4": VIENNA_RECORD}
+    script = "".join(f"tag 0 {TAGS[kind]} {value}\n" for value in ("new", "newer", "new"))
+    return run(program, parts, len(VIENNA_RECORD), script + "quit\n")
+
+
+def full_file(program):
+    parts = {".si4": index([VIENNA]), ".sn4": names_file([2, 2, 2, 2]), ".sg4": VIENNA_RECORD}
+    script = "tag 0 WhiteElo 2600\ntag 0 WhiteElo 2700\n"
+    return run(program, parts, LONGEST_FILE - len(VIENNA_RECORD), script + "quit\n")
+
+
+def main():
+    program = os.path.realpath(sys.argv[1] if len(sys.argv) > 1 else HERE / "../crates/scid_shell/out/scid_shell")
+    failed = 0
+    for kind in LIMITS:
+        wanted = f"tagged 0\nerror: full {kind}\ntagged 0\nunsaved\n"
+        failed += (text := full_names(program, kind)) != wanted
+        print(f"full {kind}: {text!r}" if text != wanted else f"full {kind}: as it should be")
+    wanted = "tagged 0\nerror: full file\nunsaved\n"
+    failed += (text := full_file(program)) != wanted
+    print(f"full file: {text!r}" if text != wanted else "full file: as it should be")
+    sys.exit(failed != 0)
+
+
+if __name__ == "__main__":
+    main()
