@@ -6,3 +6,17 @@ pub mod AnswerLaws
 pub mod LegalLaws
 pub mod ItemLaws
 pub mod ReadLaws
+pub mod SpelledLaws
+pub mod PassingLaws
+pub mod RunLaws
+pub mod DecimalLaws
+pub mod TokenLaws
+pub mod SanLaws
+pub mod MovetextLaws
+pub mod ReadableLaws
+pub mod TagTextLaws
+pub mod TagsLaws
+pub mod MarksLaws
+pub mod HeadsAgainLaws
+pub mod TakenLaws
+pub mod RoundTripLaws

@@ -16,3 +16,4 @@ pub mod Causes
 pub mod Fit
 pub mod Legality
 pub mod Readers
+pub mod RoundTrip

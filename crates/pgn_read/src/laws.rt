@@ -1,9 +1,10 @@
 //! Laws of texts and their items.
-ghost use Rattle.std.specs.Prelude.{◌≡◌, ◌∷◌, ℕ, [], List, Option, None, Some};
+ghost use Rattle.std.specs.Prelude.{◌≡◌, ◌∷◌, ℕ, [], List, Option, None, Some, All, map};
 ghost use Rattle.pgn_read.specs.declared.item.Item.{Item as PlainItem};
 ghost use Rattle.pgn_read.specs.Text.{At};
 ghost use Rattle.pgn_read.specs.Items.{PgnReads};
 ghost use Rattle.pgn_read.specs.Readers.{fresh_reader, told, Follows, ItemsAhead, AreRead};
+ghost use Rattle.pgn_read.specs.RoundTrip.{Headed, IsReadAgain, texts_of, again};
 
 /// A law: a text has one list of items.
 #[tactic(auto, using(crate::proofs::ItemLaws::one_list))]
@@ -20,4 +21,11 @@ pub fn items_are_read_one_by_one()
     ensures more { (old new : Option At) (item : PlainItem) (items : List PlainItem) → Follows old (Some item) new → ItemsAhead new items
         → ItemsAhead old (item ∷ items) }
     ensures last { (old new : Option At) → Follows old None new → ItemsAhead old [] }
+{}
+
+/// A law: the joined texts of legal games with settled heads within their bounds, each of at most 1,048,576 bytes, are read as
+/// good items alone: the same heads with the same games, but that `}` in a comment is read as `)`.
+#[tactic(auto, using(crate::proofs::RoundTripLaws::read_again))]
+pub fn written_games_are_read_again()
+    ensures again { (games : List Headed) → All IsReadAgain games → PgnReads (texts_of games) (map again games) }
 {}

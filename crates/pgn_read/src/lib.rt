@@ -19,8 +19,12 @@ mod window;
 
 pub use error::PgnError;
 pub use item::{GameFault, GameWhat, Item};
-pub use laws::{items_are_read_one_by_one, texts_have_one_list_of_items};
+pub use laws::{
+    items_are_read_one_by_one, texts_have_one_list_of_items, written_games_are_read_again,
+};
 pub use reader::Reader;
 
+#[cfg(test)]
+mod round_trip_tests;
 #[cfg(test)]
 mod tests;

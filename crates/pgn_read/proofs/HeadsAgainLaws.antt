@@ -1,0 +1,505 @@
+-- The head that is read from the tags of a game is the game's head.
+use Rattle.std.proofs.Common.{◌≡◌, ◌≤◌, ◌==◌, ◌||◌, ◌&&◌, ℕ, Bool, true, false, not, cond, List, [], ◌∷◌, ◌++◌, codes, Option, Some, None, is_some, refl, sym, ap, ◌∙◌, subst, arith, append_assoc, append-nil, inl, inr}
+use Rattle.std.specs.Prelude.{option_and_then}
+use Rattle.std.specs.List.{AllByRecursion}
+use Rattle.std.specs.Str.{bytes_eq}
+use Rattle.std.specs.Fmt.{decimal}
+use Rattle.std.proofs.lemmas.Bool.{cases_Bool, eqb-true, eqb-false, and_parts, true≢false, not-true, agree_below, agree_below_at}
+use Rattle.std.proofs.lemmas.Slice.Eq.{bytes_eq-Decides}
+use Rattle.std.proofs.lemmas.List.Elements.{recursion_from_All, filter-append}
+use Rattle.cell_core.specs.declared.man.Colour.{Colour}
+use Rattle.cell_core.specs.declared.man.Colour.TheVariants.{White, Black}
+use Rattle.cell_core.specs.Man.{same_colour}
+use Rattle.chess_text.specs.Written.{fen_text}
+use Rattle.game_tree.specs.declared.date.Date.{Date}
+use Rattle.game_tree.specs.declared.head.Head.{Head}
+use Rattle.game_tree.specs.declared.head.Outcome.{Outcome}
+use Rattle.game_tree.specs.declared.head.Outcome.TheVariants as outcome
+use Rattle.game_tree.specs.declared.head.Rating.{Rating}
+use Rattle.game_tree.specs.declared.head.Tag.{Tag}
+use Rattle.game_tree.specs.Date.{IsDate, unknown_date, is_unknown, is_near, keeps_rule, date_text}
+use Rattle.game_tree.specs.Decimal.{decimal_read}
+use Rattle.game_tree.specs.Eco.{eco_text, eco_read}
+use Rattle.game_tree.specs.Game.{GameTree, has_own_start}
+use Rattle.game_tree.specs.Head.{IsRating, IsTag, IsBounded}
+use Rattle.game_tree.specs.Marks.{mark_letters}
+use Rattle.game_tree.specs.Outcome.{outcome_text, outcome_read}
+use Rattle.game_tree.specs.Settle.{event_date_tag, near_only, near_date, first_of, first_near_date, taken_up, settled, IsSettled}
+use Rattle.game_tree.specs.TagList.{is_named}
+use Rattle.game_tree.specs.TagName.{is_among, roster_names, is_refused, rating_tag, rating_of, is_reserved, is_tag_name, is_free, free_of}
+use Rattle.game_tree.proofs.DateLemmas.{date_read-date_text}
+use Rattle.game_tree.proofs.DecimalLemmas.{decimal_read-decimal}
+use Rattle.game_tree.proofs.EcoLemmas.{eco_read-eco_text}
+use Rattle.game_tree.proofs.SettleLemmas.{settled-near, settled-unknown, unknown-far, settled-keeps_rule}
+use Rattle.game_tree.proofs.TagNameLemmas.{rating_of-rating_tag}
+use Rattle.pgn_write.specs.TagPairs.{pair, roster, rating_pairs, eco_pairs, event_date_pairs, flags_text, flags_pairs, start_pairs, tags_of}
+use Rattle.pgn_read.specs.Heads.{or_else, first_or, first_told, value_of, date_from, result_from, rated, rating_as, rating_told, no_rating, rating_from, eco_told, eco_from, flags_of, has_letter, marks_of, head_told, head_from}
+use Rattle.pgn_read.proofs.MarksLaws.{marks_again, deleted_again}
+
+-- ---- names of ratings
+
+-- What the name of a rating is and is not.
+pub record IsRatingName (name : List ℕ) : Type 0 where
+  pub reserved : is_reserved name ≡ true
+  pub no_roster : is_among roster_names name ≡ false
+  pub no_fen : bytes_eq name (codes "FEN") ≡ false
+  pub no_eco : bytes_eq name (codes "ECO") ≡ false
+  pub no_flags : bytes_eq name (codes "ScidFlags") ≡ false
+  pub tag_name : is_tag_name name ≡ true
+
+is_good : List ℕ → Bool
+is_good name =
+    is_reserved name && (not (is_among roster_names name) && (not (bytes_eq name (codes "FEN"))
+    && (not (bytes_eq name (codes "ECO")) && (not (bytes_eq name (codes "ScidFlags")) && is_tag_name name))))
+
+good_name : (name : List ℕ) → is_good name ≡ true → IsRatingName name
+unfolding is_good
+good_name name is =
+    let a = and_parts (is_reserved name) _ is in
+    let b = and_parts (not (is_among roster_names name)) _ a.1 in
+    let c = and_parts (not (bytes_eq name (codes "FEN"))) _ b.1 in
+    let d = and_parts (not (bytes_eq name (codes "ECO"))) _ c.1 in
+    let e = and_parts (not (bytes_eq name (codes "ScidFlags"))) (is_tag_name name) d.1 in
+    record {
+      reserved = a.0;
+      no_roster = not-true (is_among roster_names name) b.0;
+      no_fen = not-true (bytes_eq name (codes "FEN")) c.0;
+      no_eco = not-true (bytes_eq name (codes "ECO")) d.0;
+      no_flags = not-true (bytes_eq name (codes "ScidFlags")) e.0;
+      tag_name = e.1;
+    }
+
+all_good : (side : Colour) → agree_below (λ k. is_good (rating_tag side k)) (λ k. true) 7 ≡ true
+unfolding is_good rating_tag is_reserved rating_of
+all_good White = refl
+all_good Black = refl
+
+pub rating_name : (side : Colour) (kind : ℕ) → kind ≤ 6 → IsRatingName (rating_tag side kind)
+rating_name side kind small =
+    good_name (rating_tag side kind)
+    (agree_below_at (λ k. is_good (rating_tag side k)) (λ k. true) 7 kind (all_good side) (omega (arith, small)))
+
+-- ---- names of other tags
+
+-- What a name that is not reserved is not.
+pub record IsFreeName (name : List ℕ) : Type 0 where
+  pub no_roster : is_among roster_names name ≡ false
+  pub no_eco : bytes_eq name (codes "ECO") ≡ false
+  pub no_rating : is_some (rating_of name) ≡ false
+  pub no_refused : is_refused name ≡ false
+
+four : (a b c d : Bool) → (a || b || c || d) ≡ false → (a ≡ false) × ((b ≡ false) × ((c ≡ false) × (d ≡ false)))
+four true b c d e = absurd (cc)
+four false true c d e = absurd (cc)
+four false false true d e = absurd (cc)
+four false false false true e = absurd (cc)
+four false false false false e = (refl, (refl, (refl, refl)))
+
+pub free_name : (name : List ℕ) → is_reserved name ≡ false → IsFreeName name
+unfolding is_reserved
+free_name name is =
+    let parts = four (is_among roster_names name) (bytes_eq name (codes "ECO")) (is_some (rating_of name)) (is_refused name) is in
+    record { no_roster = parts.0; no_eco = parts.1.0; no_rating = parts.1.1.0; no_refused = parts.1.1.1 }
+
+refused_four : (a b c d : Bool) → (a || (b || (c || (d || false)))) ≡ false → (a ≡ false) × ((b ≡ false) × ((c ≡ false) × (d ≡ false)))
+refused_four true b c d e = absurd (cc)
+refused_four false true c d e = absurd (cc)
+refused_four false false true d e = absurd (cc)
+refused_four false false false true e = absurd (cc)
+refused_four false false false false e = (refl, (refl, (refl, refl)))
+
+flipped : (a b : List ℕ) → bytes_eq a b ≡ false → bytes_eq b a ≡ false
+flipped a b e = elim (cases_Bool (bytes_eq b a)) [
+  | inl is ↦ absurd (true≢false (sym ((bytes_eq-Decides a b).1 (sym ((bytes_eq-Decides b a).0 is))) ∙ e))
+  | inr other ↦ other
+]
+
+pub no_fen_name : (name : List ℕ) → is_refused name ≡ false → bytes_eq name (codes "FEN") ≡ false
+no_fen_name name is =
+    flipped (codes "FEN") name
+    (refused_four (bytes_eq (codes "SetUp") name) (bytes_eq (codes "Setup") name) (bytes_eq (codes "FEN") name) (bytes_eq (codes "ScidFlags") name) is).1.1.0
+
+no_flags_name : (name : List ℕ) → is_refused name ≡ false → bytes_eq name (codes "ScidFlags") ≡ false
+no_flags_name name is =
+    flipped (codes "ScidFlags") name
+    (refused_four (bytes_eq (codes "SetUp") name) (bytes_eq (codes "Setup") name) (bytes_eq (codes "FEN") name) (bytes_eq (codes "ScidFlags") name) is).1.1.1
+
+-- ---- what the first tag tells
+
+told_or : {A : Type 0} (a b c : Option A) → first_or a (first_or b c) ≡ first_or (first_or a b) c
+told_or None b c = refl
+told_or (Some x) b c = refl
+
+told_then : {A : Type 0} (told : Tag → Option A) (xs ys : List Tag) → first_told told (xs ++ ys) ≡ first_or (first_told told xs) (first_told told ys)
+told_then told [] ys = refl
+told_then told (tag ∷ xs) ys = ap (first_or (told tag)) (told_then told xs ys) ∙ told_or (told tag) (first_told told xs) (first_told told ys)
+
+-- Behind tags that tell nothing.
+past : {A : Type 0} (told : Tag → Option A) (xs ys : List Tag) → first_told told xs ≡ None → first_told told (xs ++ ys) ≡ first_told told ys
+past told xs ys none = told_then told xs ys ∙ ap (λ o. first_or o (first_told told ys)) none
+
+nothing_if : {A : Type 0} (told : Tag → Option A) (c : Bool) (xs : List Tag) → first_told told xs ≡ None → first_told told (cond c [] xs) ≡ None
+nothing_if told true xs none = refl
+nothing_if told false xs none = none
+
+some_if : {A : Type 0} (told : Tag → Option A) (c : Bool) (xs : List Tag) → first_told told xs ≡ None → first_told told (cond c xs []) ≡ None
+some_if told true xs none = none
+some_if told false xs none = refl
+
+one_none : {A : Type 0} (told : Tag → Option A) (tag : Tag) → told tag ≡ None → first_told told (tag ∷ []) ≡ None
+one_none told tag none = ap (λ o. first_or o None) none
+
+-- ---- ratings
+
+rating_is : (side other : Colour) (kind : ℕ) (value : List ℕ) → kind ≤ 6
+    → rating_told side (pair (rating_tag other kind) value) ≡ rating_as side value (Some (other, kind))
+unfolding rating_told
+rating_is side other kind value small = ap (rating_as side value) (rating_of-rating_tag other kind small)
+
+roster_rating : (side : Colour) (head : Head) → first_told (rating_told side) (roster head) ≡ None
+unfolding rating_told rating_of
+roster_rating side head = refl
+
+other_rating : (rating : Rating) → IsRating rating → first_told (rating_told White) (rating_pairs Black rating) ≡ None
+other_rating rating is =
+    nothing_if (rating_told White) (rating.value == 0) _
+    (one_none (rating_told White) (pair (rating_tag Black rating.kind) (decimal rating.value)) (rating_is White Black rating.kind (decimal rating.value) is.kind))
+
+white_rating : (rating : Rating) → IsRating rating → first_told (rating_told Black) (rating_pairs White rating) ≡ None
+white_rating rating is =
+    nothing_if (rating_told Black) (rating.value == 0) _
+    (one_none (rating_told Black) (pair (rating_tag White rating.kind) (decimal rating.value)) (rating_is Black White rating.kind (decimal rating.value) is.kind))
+
+free_rating : (side : Colour) (tag : Tag) → is_some (rating_of tag.name) ≡ false → rating_told side tag ≡ None
+unfolding rating_told
+free_rating side tag none = ap (rating_as side tag.value) (none_is (rating_of tag.name) none)
+  where
+    none_is : {A : Type 0} (o : Option A) → is_some o ≡ false → o ≡ None
+    none_is None e = refl
+    none_is (Some x) e = absurd (cc)
+
+free_ratings : (side : Colour) (tags : List Tag) → AllByRecursion IsTag tags → first_told (rating_told side) tags ≡ None
+free_ratings side [] each = refl
+free_ratings side (tag ∷ tags) each =
+    ap (λ o. first_or o (first_told (rating_told side) tags)) (free_rating side tag (free_name tag.name each.0.free).no_rating) ∙ free_ratings side tags each.1
+
+eco_rating : (side : Colour) (eco : ℕ) → first_told (rating_told side) (eco_pairs eco) ≡ None
+unfolding rating_told rating_of
+eco_rating side eco = nothing_if (rating_told side) (eco == 0) (pair (codes "ECO") (eco_text eco) ∷ []) refl
+
+date_rating : (side : Colour) (date : Date) → first_told (rating_told side) (event_date_pairs date) ≡ None
+unfolding rating_told rating_of
+date_rating side date = nothing_if (rating_told side) (is_unknown date) (pair (codes "EventDate") (date_text date) ∷ []) refl
+
+flags_rating : (side : Colour) (flags : List ℕ) → first_told (rating_told side) (flags_pairs flags) ≡ None
+unfolding rating_told rating_of
+flags_rating side [] = refl
+flags_rating side (flag ∷ flags) = refl
+
+start_rating : (side : Colour) (game : GameTree) → first_told (rating_told side) (start_pairs game) ≡ None
+unfolding rating_told rating_of
+start_rating side game = some_if (rating_told side) (has_own_start game) (pair (codes "SetUp") (codes "1") ∷ pair (codes "FEN") (fen_text game.start) ∷ []) refl
+
+-- The tags behind the ratings.
+abbrev behind_ratings : Head → GameTree → List Tag
+behind_ratings head game =
+    eco_pairs head.eco ++ (event_date_pairs head.event_date ++ (flags_pairs (flags_text head.deleted head.marks) ++ (start_pairs game ++ head.tags)))
+
+rest_rating : (side : Colour) (head : Head) (game : GameTree) → IsBounded head → first_told (rating_told side) (behind_ratings head game) ≡ None
+rest_rating side head game is =
+    past (rating_told side) (eco_pairs head.eco) _ (eco_rating side head.eco)
+    ∙ past (rating_told side) (event_date_pairs head.event_date) _ (date_rating side head.event_date)
+    ∙ past (rating_told side) (flags_pairs (flags_text head.deleted head.marks)) _ (flags_rating side (flags_text head.deleted head.marks))
+    ∙ past (rating_told side) (start_pairs game) head.tags (start_rating side game)
+    ∙ free_ratings side head.tags (recursion_from_All IsTag head.tags is.tags)
+
+same_side : (side : Colour) → same_colour side side ≡ true
+same_side White = refl
+same_side Black = refl
+
+read_rating : (side : Colour) (rating : Rating) → IsRating rating → (rating.value == 0) ≡ false
+    → rating_as side (decimal rating.value) (Some (side, rating.kind)) ≡ Some rating
+read_rating side rating is some =
+    let value : decimal_read 4095 (decimal rating.value) ≡ Some rating.value =
+    decimal_read-decimal 4095 (decimal rating.value) rating.value (omega arith) is.value refl in
+    ap (λ b. cond b (rated rating.kind (decimal_read 4095 (decimal rating.value))) None) (same_side side)
+    ∙ ap (rated rating.kind) value
+    ∙ ap (λ b. cond b None (Some (record { value = rating.value; kind = rating.kind }))) some
+
+no_rating_is : (rating : Rating) → IsRating rating → (rating.value == 0) ≡ true → no_rating ≡ rating
+no_rating_is rating is zero_value =
+    let value : rating.value ≡ 0 = eqb-true rating.value 0 zero_value in
+    let kind : rating.kind ≡ 0 = is.none value in
+    sym (λ i. record { value = value i; kind = kind i })
+
+-- The side's own pair, with tags behind it that tell no rating of the side.
+own_rating : (c : Bool) (side : Colour) (rating : Rating) (rest : List Tag) → (rating.value == 0) ≡ c → IsRating rating
+    → first_told (rating_told side) rest ≡ None
+    → or_else (first_told (rating_told side) (cond c [] (pair (rating_tag side rating.kind) (decimal rating.value) ∷ []) ++ rest)) no_rating ≡ rating
+own_rating true side rating rest value is none = ap (λ o. or_else o no_rating) none ∙ no_rating_is rating is value
+own_rating false side rating rest value is none =
+    ap (λ o. or_else (first_or o (first_told (rating_told side) rest)) no_rating)
+    (rating_is side side rating.kind (decimal rating.value) is.kind ∙ read_rating side rating is value)
+
+white_again : (head : Head) (game : GameTree) → IsBounded head → rating_from White (tags_of head game) ≡ head.white_rating
+white_again head game is =
+    let rest : List Tag = rating_pairs Black head.black_rating ++ behind_ratings head game in
+    ap (λ o. or_else o no_rating) (past (rating_told White) (roster head) (rating_pairs White head.white_rating ++ rest) (roster_rating White head))
+    ∙ own_rating (head.white_rating.value == 0) White head.white_rating rest refl is.white_rating
+    (past (rating_told White) (rating_pairs Black head.black_rating) (behind_ratings head game) (other_rating head.black_rating is.black_rating)
+    ∙ rest_rating White head game is)
+
+black_again : (head : Head) (game : GameTree) → IsBounded head → rating_from Black (tags_of head game) ≡ head.black_rating
+black_again head game is =
+    let rest : List Tag = behind_ratings head game in
+    ap (λ o. or_else o no_rating)
+    (past (rating_told Black) (roster head) (rating_pairs White head.white_rating ++ (rating_pairs Black head.black_rating ++ rest)) (roster_rating Black head)
+    ∙ past (rating_told Black) (rating_pairs White head.white_rating) (rating_pairs Black head.black_rating ++ rest) (white_rating head.white_rating is.white_rating))
+    ∙ own_rating (head.black_rating.value == 0) Black head.black_rating rest refl is.black_rating (rest_rating Black head game is)
+
+-- ---- the opening code
+
+rating_eco : (side : Colour) (rating : Rating) → IsRating rating → first_told eco_told (rating_pairs side rating) ≡ None
+rating_eco side rating is =
+    nothing_if eco_told (rating.value == 0) _
+    (one_none eco_told (pair (rating_tag side rating.kind) (decimal rating.value))
+    (ap (λ b. cond b (eco_read (decimal rating.value)) None) (rating_name side rating.kind is.kind).no_eco))
+
+free_eco : (tags : List Tag) → AllByRecursion IsTag tags → first_told eco_told tags ≡ None
+free_eco [] each = refl
+free_eco (tag ∷ tags) each =
+    ap (λ b. first_or (cond b (eco_read tag.value) None) (first_told eco_told tags)) (free_name tag.name each.0.free).no_eco ∙ free_eco tags each.1
+
+flags_eco : (flags : List ℕ) → first_told eco_told (flags_pairs flags) ≡ None
+flags_eco [] = refl
+flags_eco (flag ∷ flags) = refl
+
+behind_eco : (head : Head) (game : GameTree) → IsBounded head
+    → first_told eco_told (event_date_pairs head.event_date ++ (flags_pairs (flags_text head.deleted head.marks) ++ (start_pairs game ++ head.tags))) ≡ None
+behind_eco head game is =
+    past eco_told (event_date_pairs head.event_date) _ (nothing_if eco_told (is_unknown head.event_date) (pair (codes "EventDate") (date_text head.event_date) ∷ []) refl)
+    ∙ past eco_told (flags_pairs (flags_text head.deleted head.marks)) _ (flags_eco (flags_text head.deleted head.marks))
+    ∙ past eco_told (start_pairs game) head.tags (some_if eco_told (has_own_start game) (pair (codes "SetUp") (codes "1") ∷ pair (codes "FEN") (fen_text game.start) ∷ []) refl)
+    ∙ free_eco head.tags (recursion_from_All IsTag head.tags is.tags)
+
+own_eco : (c : Bool) (eco : ℕ) (rest : List Tag) → (eco == 0) ≡ c → eco ≤ 65500 → first_told eco_told rest ≡ None
+    → or_else (first_told eco_told (cond c [] (pair (codes "ECO") (eco_text eco) ∷ []) ++ rest)) 0 ≡ eco
+own_eco true eco rest is small none = ap (λ o. or_else o 0) none ∙ sym (eqb-true eco 0 is)
+own_eco false eco rest is small none =
+    let some : 1 ≤ eco = omega (arith, eqb-false eco 0 is) in
+    ap (λ o. or_else (first_or o (first_told eco_told rest)) 0) (eco_read-eco_text eco some small)
+
+eco_again : (head : Head) (game : GameTree) → IsBounded head → eco_from (tags_of head game) ≡ head.eco
+eco_again head game is =
+    let rest : List Tag = event_date_pairs head.event_date ++ (flags_pairs (flags_text head.deleted head.marks) ++ (start_pairs game ++ head.tags)) in
+    ap (λ o. or_else o 0)
+    (past eco_told (rating_pairs White head.white_rating) (rating_pairs Black head.black_rating ++ (eco_pairs head.eco ++ rest)) (rating_eco White head.white_rating is.white_rating)
+    ∙ past eco_told (rating_pairs Black head.black_rating) (eco_pairs head.eco ++ rest) (rating_eco Black head.black_rating is.black_rating))
+    ∙ own_eco (head.eco == 0) head.eco rest refl is.eco (behind_eco head game is)
+
+-- ---- marks
+
+flags_then : (xs ys : List Tag) → flags_of (xs ++ ys) ≡ flags_of xs ++ flags_of ys
+flags_then [] ys = refl
+flags_then (tag ∷ xs) ys =
+    let own : List ℕ = cond (is_named (codes "ScidFlags") tag) tag.value [] in
+    ap (λ l. own ++ l) (flags_then xs ys) ∙ sym (append_assoc own (flags_of xs) (flags_of ys))
+
+flags_past : (xs ys : List Tag) → flags_of xs ≡ [] → flags_of (xs ++ ys) ≡ flags_of ys
+flags_past xs ys none = flags_then xs ys ∙ ap (λ l. l ++ flags_of ys) none
+
+no_flags_if : (c : Bool) (xs : List Tag) → flags_of xs ≡ [] → flags_of (cond c [] xs) ≡ []
+no_flags_if true xs none = refl
+no_flags_if false xs none = none
+
+flags_some_if : (c : Bool) (xs : List Tag) → flags_of xs ≡ [] → flags_of (cond c xs []) ≡ []
+flags_some_if true xs none = none
+flags_some_if false xs none = refl
+
+one_flags : (tag : Tag) → is_named (codes "ScidFlags") tag ≡ false → flags_of (tag ∷ []) ≡ []
+one_flags tag other = ap (λ b. cond b tag.value [] ++ []) other
+
+rating_flags : (side : Colour) (rating : Rating) → IsRating rating → flags_of (rating_pairs side rating) ≡ []
+rating_flags side rating is =
+    no_flags_if (rating.value == 0) _
+    (one_flags (pair (rating_tag side rating.kind) (decimal rating.value)) (rating_name side rating.kind is.kind).no_flags)
+
+free_flags : (tags : List Tag) → AllByRecursion IsTag tags → flags_of tags ≡ []
+free_flags [] each = refl
+free_flags (tag ∷ tags) each =
+    ap (λ b. cond b tag.value [] ++ flags_of tags) (no_flags_name tag.name (free_name tag.name each.0.free).no_refused) ∙ free_flags tags each.1
+
+own_flags : (flags : List ℕ) → flags_of (flags_pairs flags) ≡ flags
+own_flags [] = refl
+own_flags (flag ∷ flags) = append-nil (flag ∷ flags)
+
+flags_again : (head : Head) (game : GameTree) → IsBounded head → flags_of (tags_of head game) ≡ flags_text head.deleted head.marks
+flags_again head game is =
+    let flags : List ℕ = flags_text head.deleted head.marks in
+    flags_past (rating_pairs White head.white_rating) _ (rating_flags White head.white_rating is.white_rating)
+    ∙ flags_past (rating_pairs Black head.black_rating) _ (rating_flags Black head.black_rating is.black_rating)
+    ∙ flags_past (eco_pairs head.eco) _ (no_flags_if (head.eco == 0) (pair (codes "ECO") (eco_text head.eco) ∷ []) refl)
+    ∙ flags_past (event_date_pairs head.event_date) _ (no_flags_if (is_unknown head.event_date) (pair (codes "EventDate") (date_text head.event_date) ∷ []) refl)
+    ∙ flags_then (flags_pairs flags) (start_pairs game ++ head.tags)
+    ∙ ap (λ l. flags_of (flags_pairs flags) ++ l)
+    (flags_past (start_pairs game) head.tags (flags_some_if (has_own_start game) (pair (codes "SetUp") (codes "1") ∷ pair (codes "FEN") (fen_text game.start) ∷ []) refl)
+    ∙ free_flags head.tags (recursion_from_All IsTag head.tags is.tags))
+    ∙ append-nil (flags_of (flags_pairs flags))
+    ∙ own_flags flags
+
+-- ---- other tags
+
+free_then : (xs ys : List Tag) → free_of (xs ++ ys) ≡ free_of xs ++ free_of ys
+free_then xs ys = filter-append is_free xs ys
+
+free_past : (xs ys : List Tag) → free_of xs ≡ [] → free_of (xs ++ ys) ≡ free_of ys
+free_past xs ys none = free_then xs ys ∙ ap (λ l. l ++ free_of ys) none
+
+none_free_if : (c : Bool) (xs : List Tag) → free_of xs ≡ [] → free_of (cond c [] xs) ≡ []
+none_free_if true xs none = refl
+none_free_if false xs none = none
+
+free_some_if : (c : Bool) (xs : List Tag) → free_of xs ≡ [] → free_of (cond c xs []) ≡ []
+free_some_if true xs none = none
+free_some_if false xs none = refl
+
+one_free : (tag : Tag) → is_reserved tag.name ≡ true → free_of (tag ∷ []) ≡ []
+one_free tag reserved = ap (λ b. cond (not b) (tag ∷ []) []) reserved
+
+all_free : (tags : List Tag) → AllByRecursion IsTag tags → free_of tags ≡ tags
+all_free [] each = refl
+all_free (tag ∷ tags) each =
+    ap (λ b. cond (not b) (tag ∷ free_of tags) (free_of tags)) each.0.free ∙ ap (λ l. tag ∷ l) (all_free tags each.1)
+
+roster_free : (head : Head) → free_of (roster head) ≡ []
+unfolding is_reserved rating_of
+roster_free head = refl
+
+eco_free : (eco : ℕ) → free_of (eco_pairs eco) ≡ []
+unfolding is_reserved rating_of
+eco_free eco = none_free_if (eco == 0) (pair (codes "ECO") (eco_text eco) ∷ []) refl
+
+date_free : (date : Date) → free_of (event_date_pairs date) ≡ event_date_pairs date
+unfolding is_reserved rating_of
+date_free date = kept (is_unknown date) (pair (codes "EventDate") (date_text date) ∷ []) refl
+  where
+    kept : (c : Bool) (xs : List Tag) → free_of xs ≡ xs → free_of (cond c [] xs) ≡ cond c [] xs
+    kept true xs is = refl
+    kept false xs is = is
+
+flags_free : (flags : List ℕ) → free_of (flags_pairs flags) ≡ []
+unfolding is_reserved rating_of
+flags_free [] = refl
+flags_free (flag ∷ flags) = refl
+
+start_free : (game : GameTree) → free_of (start_pairs game) ≡ []
+unfolding is_reserved rating_of
+start_free game = free_some_if (has_own_start game) (pair (codes "SetUp") (codes "1") ∷ pair (codes "FEN") (fen_text game.start) ∷ []) refl
+
+rating_free : (side : Colour) (rating : Rating) → IsRating rating → free_of (rating_pairs side rating) ≡ []
+rating_free side rating is =
+    none_free_if (rating.value == 0) _ (one_free (pair (rating_tag side rating.kind) (decimal rating.value)) (rating_name side rating.kind is.kind).reserved)
+
+tags_again : (head : Head) (game : GameTree) → IsBounded head → free_of (tags_of head game) ≡ event_date_pairs head.event_date ++ head.tags
+tags_again head game is =
+    let flags : List ℕ = flags_text head.deleted head.marks in
+    free_past (roster head) _ (roster_free head)
+    ∙ free_past (rating_pairs White head.white_rating) _ (rating_free White head.white_rating is.white_rating)
+    ∙ free_past (rating_pairs Black head.black_rating) _ (rating_free Black head.black_rating is.black_rating)
+    ∙ free_past (eco_pairs head.eco) _ (eco_free head.eco)
+    ∙ free_then (event_date_pairs head.event_date) (flags_pairs flags ++ (start_pairs game ++ head.tags))
+    ∙ (λ i. date_free head.event_date i ++ others i)
+  where
+    others : free_of (flags_pairs (flags_text head.deleted head.marks) ++ (start_pairs game ++ head.tags)) ≡ head.tags
+    others =
+        free_past (flags_pairs (flags_text head.deleted head.marks)) _ (flags_free (flags_text head.deleted head.marks))
+        ∙ free_past (start_pairs game) head.tags (start_free game)
+        ∙ all_free head.tags (recursion_from_All IsTag head.tags is.tags)
+
+-- ---- the head before it is settled
+
+result_again : (o : Outcome) (tags : List Tag) → value_of (codes "Result") tags ≡ Some (outcome_text o) → result_from (Some o) tags ≡ o
+result_again outcome.White tags is = refl
+result_again outcome.Black tags is = refl
+result_again outcome.Draw tags is = refl
+result_again outcome.Unknown tags is = ap (λ v. or_else (option_and_then outcome_read v) outcome.Unknown) is
+
+date_again : (head : Head) (game : GameTree) → IsBounded head → date_from (tags_of head game) ≡ head.date
+date_again head game is = ap (λ o. or_else o unknown_date) (date_read-date_text head.date is.date)
+
+abbrev unsettled : Head → Head
+unsettled head = record head { event_date = unknown_date; tags = event_date_pairs head.event_date ++ head.tags }
+
+told_again : (head : Head) (game : GameTree) → IsBounded head → head_told (tags_of head game) (Some head.result) ≡ unsettled head
+told_again head game is =
+    let date : date_from (tags_of head game) ≡ head.date = date_again head game is in
+    let result : result_from (Some head.result) (tags_of head game) ≡ head.result = result_again head.result (tags_of head game) refl in
+    let white : rating_from White (tags_of head game) ≡ head.white_rating = white_again head game is in
+    let black : rating_from Black (tags_of head game) ≡ head.black_rating = black_again head game is in
+    let eco : eco_from (tags_of head game) ≡ head.eco = eco_again head game is in
+    let marks : marks_of (flags_of (tags_of head game)) mark_letters ≡ head.marks =
+    ap (λ l. marks_of l mark_letters) (flags_again head game is) ∙ marks_again head.deleted head.marks is.marks in
+    let deleted : has_letter (flags_of (tags_of head game)) 68 ≡ head.deleted =
+    ap (λ l. has_letter l 68) (flags_again head game is) ∙ deleted_again head.deleted head.marks in
+    let tags : free_of (tags_of head game) ≡ event_date_pairs head.event_date ++ head.tags = tags_again head game is in
+    λ i. record {
+      white = head.white;
+      black = head.black;
+      event = head.event;
+      site = head.site;
+      round = head.round;
+      date = date i;
+      event_date = unknown_date;
+      result = result i;
+      white_rating = white i;
+      black_rating = black i;
+      eco = eco i;
+      marks = marks i;
+      deleted = deleted i;
+      tags = tags i;
+    }
+
+-- ---- settled again
+
+unknown_is : (d : Date) → is_unknown d ≡ true → d ≡ unknown_date
+unknown_is d is =
+    let last = and_parts ((d.year == 0) && (d.month == 0)) (d.day == 0) is in
+    let first = and_parts (d.year == 0) (d.month == 0) last.0 in
+    let year : d.year ≡ 0 = eqb-true d.year 0 first.0 in
+    let month : d.month ≡ 0 = eqb-true d.month 0 first.1 in
+    let day : d.day ≡ 0 = eqb-true d.day 0 last.1 in
+    λ i. record { year = year i; month = month i; day = day i }
+
+rule_near : (head : Head) → IsSettled head → is_unknown head.event_date ≡ false → is_near head.event_date head.date ≡ true
+rule_near head settled_so known =
+    let keeps : keeps_rule head.event_date head.date ≡ true = subst (λ (h : Head). keeps_rule h.event_date h.date ≡ true) settled_so (settled-keeps_rule head) in
+    second (is_unknown head.event_date) (is_near head.event_date head.date) known keeps
+  where
+    second : (a b : Bool) → a ≡ false → (a || b) ≡ true → b ≡ true
+    second a b none either = rw none at either
+
+near_is : (head : Head) → IsDate head.event_date → is_near head.event_date head.date ≡ true
+    → near_date head.date (event_date_tag head.event_date) ≡ Some head.event_date
+unfolding near_date
+near_is head is near = ap (near_only head.date) (date_read-date_text head.event_date is) ∙ ap (λ b. cond b (Some head.event_date) None) near
+
+settled_known : (head : Head) → IsBounded head → IsSettled head → is_unknown head.event_date ≡ false
+    → settled (record head { event_date = unknown_date; tags = event_date_tag head.event_date ∷ head.tags }) ≡ head
+settled_known head is settled_so known =
+    let near : is_near head.event_date head.date ≡ true = rule_near head settled_so known in
+    let told : Head = record head { event_date = unknown_date; tags = event_date_tag head.event_date ∷ head.tags } in
+    settled-unknown told (unknown-far head.date) refl
+    ∙ ap (λ o. taken_up told (first_of o (first_near_date head.date head.tags))) (near_is head is.event_date near)
+    ∙ sym (settled-near head near)
+    ∙ settled_so
+
+settled_again : (c : Bool) (head : Head) → is_unknown head.event_date ≡ c → IsBounded head → IsSettled head
+    → settled (record head { event_date = unknown_date; tags = cond c [] (pair (codes "EventDate") (date_text head.event_date) ∷ []) ++ head.tags }) ≡ head
+settled_again true head unknown is settled_so =
+    ap (λ (d : Date). settled (record head { event_date = d })) (sym (unknown_is head.event_date unknown)) ∙ settled_so
+settled_again false head known is settled_so = settled_known head is settled_so known
+
+pub head_again : (head : Head) (game : GameTree) → IsBounded head → IsSettled head → head_from (tags_of head game) (Some head.result) ≡ head
+unfolding head_from
+head_again head game is settled_so =
+    ap settled (told_again head game is) ∙ settled_again (is_unknown head.event_date) head refl is settled_so
