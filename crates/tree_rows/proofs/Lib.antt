@@ -1,0 +1,10 @@
+mod KeyLaws
+mod RowLaws
+mod Placing
+mod Adding
+mod Dropping
+mod Totals
+mod SameBoard
+mod NeededLaws
+mod SharedSigns
+mod SharedTexts

@@ -1,0 +1,6 @@
+pub mod Keys
+pub mod Hits
+pub mod Rows
+pub mod MoveText
+pub mod TreeText
+pub mod Keeping

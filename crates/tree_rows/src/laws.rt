@@ -1,0 +1,20 @@
+//! Laws of the definitions.
+ghost use Rattle.std.specs.Prelude.{◌≡◌, ◌↔◌, Option, true};
+ghost use Rattle.cell_core.specs.declared.step.Move.{Move};
+ghost use Rattle.chess_laws.specs.declared.setup.Setup.{Setup};
+ghost use Rattle.chess_laws.specs.Position.{Sound};
+ghost use Rattle.chess_laws.specs.Step.{Legal};
+ghost use Rattle.chess_text.specs.SanText.{san_text};
+ghost use Rattle.tree_rows.specs.Keys.{same_key};
+ghost use Rattle.tree_rows.specs.MoveText.{needed};
+
+/// A law: keys are the same only where they are one move, or `end` both times.
+pub fn keys_are_told_apart()
+    ensures same { (a b : Option Move) → (same_key a b ≡ true) ↔ (a ≡ b) }
+{}
+
+/// A law: a move has the text of its row, its SAN in the position whose only right and en passant square are those that it needs, in
+/// every position of that board and side to move in which it is legal (PGN standard, 8.2.3).
+pub fn texts_of_moves_are_shared()
+    ensures shared { (p : Setup) (m : Move) → Sound p → Legal p m → san_text (needed p.board p.side m) m ≡ san_text p m }
+{}

@@ -1,0 +1,22 @@
+//! The opening tree: one row for each move that games made after a position, with its sums, and their text.
+//! A move has one text in all positions of that board and side in which it is legal (`texts_of_moves_are_shared`).
+#![tactic(auto)]
+
+mod hit;
+mod key;
+mod laws;
+mod move_text;
+mod numbers;
+mod order;
+mod row;
+mod rows;
+mod writing;
+
+pub use hit::GameHit;
+pub use laws::{keys_are_told_apart, texts_of_moves_are_shared};
+pub use row::Row;
+pub use rows::Rows;
+pub use writing::lines;
+
+#[cfg(test)]
+mod tests;
