@@ -228,7 +228,8 @@ def edits():
 
 def main():
     edits()
-    for case in ("filters_by_number", "find_in_both_orders", "search_header_among_filters", "search_material_by_signatures"):
+    for case in ("filters_by_number", "find_in_both_orders", "search_header_among_filters", "search_material_by_signatures",
+                 "search_position", "search_position_in_each_mode"):
         write(case, "pawns", index(PAWNS), PAWNS_NAMES, PAWNS_RECORDS)
     # One change a case.
     write("index_of_another_length", "vienna", index([VIENNA])[:-1], VIENNA_NAMES, VIENNA_RECORD)
@@ -254,6 +255,11 @@ def main():
         write(case, "games", index(entries), SHOWN_NAMES, records)
     entries, records = all_of(MEN)
     write("search_material", "games", index(entries), MEN_NAMES, records)
+    entries, records = all_of([SHOWN[0], MEN[2]])
+    names = names_file([("Reti, Richard", 2), ("Tartakower, Savielly", 2)], [("Vienna", 2)], [("Vienna AUT", 2)], [("?", 2)])
+    write("find_the_start", "starts", index(entries), names, records)
+    entries, records = all_of([(game(b"\x67\x61\x62\x68"), dict(plies=4))])
+    write("search_position_joined", "knights", index(entries), names_file([("A", 1), ("B", 1)], [("?", 1)], [("?", 1)], [("?", 1)]), records)
     write("base_of_no_games", "none", index([]), names_file([("Nobody", 0)], [("?", 0)], [("?", 0)], [("?", 0)]), b"")
 
 

@@ -2,6 +2,5 @@ pub mod BoardLemmas
 pub mod MatchLemmas
 pub mod FollowLemmas
 pub mod WalkLemmas
-pub mod ReadLemmas
 pub mod SearchLemmas
 pub mod FirstLemmas

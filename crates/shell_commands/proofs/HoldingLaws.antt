@@ -1,26 +1,15 @@
 -- What is read of games whose records are held.
-use Rattle.std.proofs.Common.{◌≡◌, ◌<◌, ℕ, List, length, Option, Some, subst, arith}
-use Rattle.base_files.specs.Told.{Tells}
+use Rattle.std.proofs.Common.{◌≡◌, ℕ, List, Option, Some, subst}
 use Rattle.base_files.specs.declared.extent.Extent.{Extent}
 use Rattle.command_runs.specs.Counts.{counts}
-use Rattle.game_codec.specs.Record.{IsSomeRecord}
 use Rattle.game_tree.specs.Game.{GameTree}
-use Rattle.sig_index.specs.Games.{Holds, HasChanged, HasFetchCause, extent_in, record_told}
+use Rattle.sig_index.specs.Games.{Holds, HasChanged, HasFetchCause}
 use Rattle.sig_index.specs.declared.games.FetchError.{FetchError}
 use Rattle.sig_index.specs.declared.games.FetchError.TheVariants.{Failed, Changed}
 use Rattle.sig_index.specs.declared.signature.Sig.{Sig}
 use Rattle.sig_index.proofs.HeldLemmas.{held_stays}
-use Rattle.sig_index.proofs.ReadLemmas.{game_read, some_at}
 use Rattle.shell_commands.specs.Ends.{IsDevice, halt_of_fetch}
 use Rattle.shell_commands.specs.Stands.{WhyHalt}
-
--- What was read of a game is some record.
-pub some_read : (games : Option (List ℕ)) (told : List ℕ) (extents : List Extent) (sigs : List Sig) (list : List GameTree) (i : ℕ) (bytes : List ℕ)
-    → games ≡ Some told → Holds told extents sigs list → i < length sigs → Tells (record_told games (extent_in extents i)) bytes → IsSomeRecord bytes
-some_read games told extents sigs list i bytes same holds below tells =
-    let game = some_at list i (omega (arith, holds.count, below)) in
-    let read = game_read games told extents sigs list i game.0 bytes same holds below game.1 tells in
-    (read.0, (game.0, read.1))
 
 -- It has not changed.
 pub never_changed : (games : Option (List ℕ)) (told : List ℕ) (extents : List Extent) (sigs : List Sig) (list : List GameTree) (buffer : List ℕ) (game : ℕ) (kept : Sig) (found : Option Sig)

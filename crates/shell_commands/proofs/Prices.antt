@@ -1,36 +1,23 @@
 -- What a line costs over what a machine holds is its price in the state that the machine stands for.
 use Rattle.std.proofs.Common.{◌≡◌, ◌+◌, ◌&&◌, ℕ, zero, suc, Bool, true, List, [], ◌∷◌, length, sum_by, slice_get, Option, Some, Ok, Err, refl, sym, ap, ap₂, ◌∙◌, arith}
-use Rattle.std.proofs.lemmas.List.Sums.{sum_by-cons}
 use Rattle.base_files.specs.Seen.{Seen}
 use Rattle.base_core.specs.Base.{Held}
 use Rattle.base_core.specs.Entries.{sig_in}
 use Rattle.index_entry.specs.declared.entry.Entry.{Entry}
 use Rattle.game_filter.specs.Search.{looks_at}
 use Rattle.game_filter.specs.declared.op.Op.{Op}
-use Rattle.mat_search.specs.Passing.{passes}
+use Rattle.game_filter.specs.declared.op.Op.TheVariants.{Ignore}
+use Rattle.mat_search.specs.Passing as material
+use Rattle.pos_search.specs.Passing as position
 use Rattle.script_text.specs.declared.command.Command.{Command}
-use Rattle.script_text.specs.declared.command.Command.TheVariants.{Find, SearchMaterial, Show, Export, Tag}
+use Rattle.script_text.specs.declared.command.Command.TheVariants.{Find, SearchPosition, SearchMaterial, Show, Export, Tag}
 use Rattle.sig_index.specs.declared.signature.Sig.{Sig}
 use Rattle.shell_commands.specs.Do.{Order, command_price, filtered_len, len_if_in, len_in, price}
-use Rattle.shell_commands.specs.Passing.{can_have, len_if, searched_len, sig_of}
+use Rattle.shell_commands.specs.Passing.{len_if, searched_len, sig_of}
+use Rattle.shell_commands.specs.Searching.{exactly}
 use Rattle.shell_commands.specs.Stands.{Holding, Stands, cost}
 use Rattle.shell_commands.specs.State.{State}
 use Rattle.shell_commands.proofs.PassingLaws.{sig_is}
-
--- Lists with the same numbers, game by game, have the same sum.
-same_sums : (f : Entry → ℕ) (g : Held → ℕ) (es : List Entry) (all : List Held) → length es ≡ length all
-    → ((i : ℕ) (e : Entry) (held : Held) → slice_get es i ≡ Some e → slice_get all i ≡ Some held → f e ≡ g held)
-    → sum_by f es ≡ sum_by g all
-same_sums f g [] [] count each = refl
-same_sums f g [] (held ∷ all) count each = cc
-same_sums f g (e ∷ es) [] count each = cc
-same_sums f g (e ∷ es) (held ∷ all) count each =
-    let count' : length es ≡ length all = cc in
-    let rest : sum_by f es ≡ sum_by g all = same_sums f g es all count' (λ i e' held' there here. each (suc i) e' held' there here) in
-    let first : f e ≡ g held = each zero e held refl refl in
-    let left : sum_by f (e ∷ es) ≡ f e + sum_by f es = sum_by-cons f e es in
-    let right : sum_by g (held ∷ all) ≡ g held + sum_by g all = sum_by-cons g held all in
-    omega (arith, rest, first, left, right)
 
 -- What the price of a command looks at: the length of a game's record, and its signature.
 record Alike (e : Entry) (held : Held) : Type 0 where
@@ -81,9 +68,9 @@ same_price : (command : Command) (plies : List (Option ℕ)) (es : List Entry) (
     → ((i : ℕ) (e : Entry) (held : Held) → slice_get es i ≡ Some e → slice_get all i ≡ Some held → Alike e held)
     → command_price (λ (x : Entry). x.len) sig_in es plies command ≡ command_price (λ (x : Held). x.len) (λ (x : Held). sig_of x.game) all plies command
 same_price (Find board side) plies es all count each =
-    same_sums (λ (x : Entry). len_if (can_have board (sig_in x)) x.len) (λ (x : Held). len_if (can_have board (sig_of x.game)) x.len) es all count
-    (λ i e held there here. same_read (can_have board) true e held (each i e held there here))
-same_price (SearchMaterial op query) plies es all count each = same_searched (λ (s : Sig). passes s query) op plies es all count each
+    same_searched (λ (s : Sig). position.passes s (exactly board side)) Ignore plies es all count each
+same_price (SearchPosition op query) plies es all count each = same_searched (λ (s : Sig). position.passes s query) op plies es all count each
+same_price (SearchMaterial op query) plies es all count each = same_searched (λ (s : Sig). material.passes s query) op plies es all count each
 same_price (Show game) plies es all count each = same_shown game es all count (λ i e held there here. (each i e held there here).len)
 same_price (Tag game edit) plies es all count each = same_shown game es all count (λ i e held there here. (each i e held there here).len)
 same_price Export plies es all count each = same_filtered plies es all count (λ i e held there here. (each i e held there here).len)

@@ -1,18 +1,19 @@
 -- What each line of a script does to a state, and the text that it writes: the plain machine. This project's own.
-use Rattle.std.specs.Prelude.{ℕ, ◌+◌, Bool, true, false, codes, List, [], ◌∷◌, sum_by, slice_get, Option, Some, None, Result, Ok, Err}
+use Rattle.std.specs.Prelude.{ℕ, ◌+◌, Bool, true, false, codes, List, [], ◌∷◌, slice_get, Option, Some, None, Result, Ok, Err}
 use Rattle.game_filter.specs.Filter.{intersection, union}
-use Rattle.mat_search.specs.Passing.{passes}
+use Rattle.game_filter.specs.declared.op.Op.TheVariants.{Ignore}
+use Rattle.mat_search.specs.Passing as material
+use Rattle.pos_search.specs.Passing as position
 use Rattle.script_text.specs.declared.command.Command.{Command}
 use Rattle.script_text.specs.declared.command.Command.TheVariants.{Nothing, Find, SearchPosition, SearchMaterial, SearchHeader, Reset, Clear, Negate, Restrict, Keep, Take, And, Or, Drop, Hits, List as Listing, Show, Export, Tag, Delete, Undelete, Mark, Save, Info, Quit}
 use Rattle.script_text.specs.declared.fault.ScriptFault.{ScriptFault}
-use Rattle.script_text.specs.declared.fault.ScriptFault.TheVariants.{Unknown, Argument}
+use Rattle.script_text.specs.declared.fault.ScriptFault.TheVariants.{Unknown}
 use Rattle.command_runs.specs.Plain.{Plain}
 use Rattle.sig_index.specs.declared.signature.Sig.{Sig}
-use Rattle.shell_commands.specs.FirstPly.{sought}
 use Rattle.shell_commands.specs.Lines.{filter_line, hits_text, fault_line}
-use Rattle.shell_commands.specs.Passing.{can_have, len_if, searched_len, sig_of}
+use Rattle.shell_commands.specs.Passing.{searched_len, sig_of}
 use Rattle.shell_commands.specs.State.{State}
-use Rattle.shell_commands.specs.Searching.{find_after, find_text, search_material_after, search_material_text, search_header_after, search_header_text}
+use Rattle.shell_commands.specs.Searching.{exactly, find_after, find_text, search_position_after, search_position_text, search_material_after, search_material_text, search_header_after, search_header_text}
 use Rattle.shell_commands.specs.Filters.{reset_after, clear_after, negate_after, restrict_after, keep_after, keep_text, join_after, join_text, drop_after, drop_text}
 use Rattle.shell_commands.specs.SavedFilters.{taken}
 use Rattle.shell_commands.specs.Listing.{list_text}
@@ -27,7 +28,8 @@ Order = Result Command ScriptFault
 
 -- The state after a command. A command that is not there yet does nothing.
 abbrev pub done_by : State → Command → State
-done_by s (Find board side) = find_after s (sought board side)
+done_by s (Find board side) = find_after s board side
+done_by s (SearchPosition op query) = search_position_after s op query
 done_by s (SearchMaterial op query) = search_material_after s op query
 done_by s (SearchHeader op query) = search_header_after s op query
 done_by s Reset = reset_after s
@@ -46,11 +48,11 @@ done_by s (Mark game bit on) = mark_after s game bit on
 done_by s Save = save_after s
 done_by s _ = s
 
--- The text of a command. One that is not there yet is an unknown command, and a kind of search that is not there yet is no argument.
+-- The text of a command. One that is not there yet is an unknown command.
 abbrev pub said_by : State → Command → List ℕ
 said_by s Nothing = []
-said_by s (Find board side) = find_text s (sought board side)
-said_by s (SearchPosition op query) = fault_line (Argument 2)
+said_by s (Find board side) = find_text s board side
+said_by s (SearchPosition op query) = search_position_text s op query
 said_by s (SearchMaterial op query) = search_material_text s op query
 said_by s (SearchHeader op query) = search_header_text s op query
 said_by s Reset = filter_line (reset_after s).filter
@@ -91,6 +93,7 @@ plain = record { after = after_order; text = text_of_order }
 -- Whether a line is one that uses the files of the base.
 abbrev pub command_asks : Command → Bool
 command_asks (Find board side) = true
+command_asks (SearchPosition op query) = true
 command_asks (SearchMaterial op query) = true
 command_asks (Show game) = true
 command_asks Export = true
@@ -129,11 +132,11 @@ filtered_len len (ply ∷ plies) [] = 0
 filtered_len len (ply ∷ plies) (game ∷ games) = len_if_in ply (len game) + filtered_len len plies games
 
 -- How many bytes of the games file a command asks at most, by what has the lengths of the games' records and their signatures: those of the
--- games in which the board's counts can have stood, of the games that are looked at and can match, of the game that is shown or tagged, of
--- the games that are exported.
+-- games that are looked at and can match, of the game that is shown or tagged, of the games that are exported.
 abbrev pub command_price : {A : Type 0} → (A → ℕ) → (A → Sig) → List A → List (Option ℕ) → Command → ℕ
-command_price len sig games plies (Find board side) = sum_by (λ game. len_if (can_have board (sig game)) (len game)) games
-command_price len sig games plies (SearchMaterial op query) = searched_len len (λ game. passes (sig game) query) op plies games
+command_price len sig games plies (Find board side) = searched_len len (λ game. position.passes (sig game) (exactly board side)) Ignore plies games
+command_price len sig games plies (SearchPosition op query) = searched_len len (λ game. position.passes (sig game) query) op plies games
+command_price len sig games plies (SearchMaterial op query) = searched_len len (λ game. material.passes (sig game) query) op plies games
 command_price len sig games plies (Show game) = len_in len (slice_get games game)
 command_price len sig games plies (Tag game edit) = len_in len (slice_get games game)
 command_price len sig games plies Export = filtered_len len plies games

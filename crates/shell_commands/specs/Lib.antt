@@ -1,6 +1,5 @@
 pub mod SavedFilters
 pub mod Lines
-pub mod FirstPly
 pub mod State
 pub mod Passing
 pub mod Searching

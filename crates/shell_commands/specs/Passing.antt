@@ -1,8 +1,5 @@
 -- Which games the searches read, by their signatures, and the bytes of their records. This project's own.
 use Rattle.std.specs.Prelude.{ℕ, ◌+◌, min, ◌&&◌, Bool, if◌then◌else◌, List, [], ◌∷◌, Option}
-use Rattle.base_files.specs.declared.extent.Extent.{Extent}
-use Rattle.cell_core.specs.Board.{Men}
-use Rattle.chess_laws.specs.Counts.{counts_of}
 use Rattle.game_filter.specs.Search.{looks_at}
 use Rattle.game_filter.specs.declared.op.Op.{Op}
 use Rattle.game_tree.specs.Counts.{variations_of, comments_of, nags_of}
@@ -10,10 +7,8 @@ use Rattle.game_tree.specs.Game.{GameTree, has_own_start}
 use Rattle.game_tree.specs.Promotions.{has_promotion, has_underpromotion}
 use Rattle.game_tree.specs.Replay.{plies_of, position_at}
 use Rattle.index_entry.specs.Counts.{count_code}
-use Rattle.sig_index.specs.declared.mat_query.MatRange.{MatRange}
 use Rattle.sig_index.specs.declared.signature.Sig.{Sig}
 use Rattle.sig_index.specs.Signature.{material_of, left_of, home_list}
-use Rattle.sig_index.specs.Skipping.{can_stand}
 
 -- The signature of a game; a game has no other.
 unfoldable pub sig_of : GameTree → Sig
@@ -29,14 +24,6 @@ sig_of game = record {
   nags = count_code (nags_of game);
 }
 
--- The range of exactly the counts of a board.
-abbrev pub exactly : Men → MatRange
-exactly men = record { lo = counts_of men; hi = counts_of men }
-
--- The counts of this board can have stood in a game with this signature.
-abbrev pub can_have : Men → Sig → Bool
-can_have men sig = can_stand sig (exactly men)
-
 -- The length of the record of a game that is read.
 abbrev pub len_if : Bool → ℕ → ℕ
 len_if reads len = if reads then len else 0
@@ -46,9 +33,3 @@ abbrev pub searched_len : {A : Type 0} → (A → ℕ) → (A → Bool) → Op �
 searched_len len test op [] games = 0
 searched_len len test op (old ∷ plies) [] = 0
 searched_len len test op (old ∷ plies) (game ∷ games) = len_if (looks_at op old && test game) (len game) + searched_len len test op plies games
-
--- The lengths of the records whose signatures pass a test.
-abbrev pub passing_len : (Sig → Bool) → List Sig → List Extent → ℕ
-passing_len test [] extents = 0
-passing_len test (sig ∷ sigs) [] = 0
-passing_len test (sig ∷ sigs) (extent ∷ extents) = len_if (test sig) extent.len + passing_len test sigs extents

@@ -1,28 +1,38 @@
 -- The commands that search. This project's own.
 use Rattle.std.specs.Prelude.{ℕ, min, List, Option, map}
 use Rattle.base_core.specs.Base.{Held}
+use Rattle.cell_core.specs.Board.{Men}
+use Rattle.cell_core.specs.declared.man.Colour.{Colour}
 use Rattle.game_filter.specs.Search.{searched}
 use Rattle.game_filter.specs.declared.op.Op.{Op}
-use Rattle.game_tree.specs.Game.{GameTree}
+use Rattle.game_filter.specs.declared.op.Op.TheVariants.{Ignore}
 use Rattle.game_tree.specs.Replay.{plies_of}
 use Rattle.head_search.specs.Matching as head
 use Rattle.mat_search.specs.Matching as material
+use Rattle.pos_search.specs.Matching as position
 use Rattle.sig_index.specs.declared.head_query.HeadQuery.{HeadQuery}
 use Rattle.sig_index.specs.declared.mat_query.MatQuery.{MatQuery}
-use Rattle.shell_commands.specs.FirstPly.{Sought, first_of}
+use Rattle.sig_index.specs.declared.pos_query.Mode.TheVariants.{Exact}
+use Rattle.sig_index.specs.declared.pos_query.PosQuery.{PosQuery}
 use Rattle.shell_commands.specs.Lines.{filter_line, hits_text}
 use Rattle.shell_commands.specs.State.{State, games_of}
 
--- The filter of a search through all games: each game that has what is sought is in at its first ply.
-abbrev pub found : Sought → List GameTree → List (Option ℕ)
-found what games = map (first_of what) games
+-- search OP position MODE BOARD SIDE
+abbrev pub search_position_after : State → Op → PosQuery → State
+search_position_after s op query = record s { filter = searched op (position.firsts_of query (games_of s)) s.filter }
 
--- find BOARD SIDE
-abbrev pub find_after : State → Sought → State
-find_after s what = record s { filter = found what (games_of s) }
+abbrev pub search_position_text : State → Op → PosQuery → List ℕ
+search_position_text s op query = filter_line (search_position_after s op query).filter
 
-abbrev pub find_text : State → Sought → List ℕ
-find_text s what = hits_text (found what (games_of s))
+-- find BOARD SIDE: a search of all games for the board on all squares.
+abbrev pub exactly : Men → Colour → PosQuery
+exactly board side = record { mode = Exact; board = board; side = side }
+
+abbrev pub find_after : State → Men → Colour → State
+find_after s board side = search_position_after s Ignore (exactly board side)
+
+abbrev pub find_text : State → Men → Colour → List ℕ
+find_text s board side = hits_text (find_after s board side).filter
 
 -- The first ply at which the head of a game is one that is asked for: 0, or none where it is not. More than 1,023 plies count as 1,023.
 abbrev pub first_by_head : HeadQuery → Held → Option ℕ

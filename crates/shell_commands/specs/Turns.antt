@@ -2,7 +2,7 @@
 use Rattle.std.specs.Prelude.{◌≡◌, ◌<◌, Bool, true, false, Ok, Err, length}
 use Rattle.script_text.specs.declared.command.Command.TheVariants as command
 use Rattle.shell_commands.specs.declared.serving.Turn.{Turn}
-use Rattle.shell_commands.specs.declared.serving.Turn.TheVariants.{Line, Find, Material, Hits, List, Show, Export, Tag, Save}
+use Rattle.shell_commands.specs.declared.serving.Turn.TheVariants.{Line, Find, Position, Material, Hits, List, Show, Export, Tag, Save}
 use Rattle.shell_commands.specs.Do.{Order}
 use Rattle.shell_commands.specs.Stands.{Holding, Quiet}
 
@@ -16,6 +16,7 @@ is_export (Err fault) = false
 abbrev pub IsTurn : Holding → Order → Holding → Turn → Type 0
 IsTurn old order new (Line line) = Quiet old order new line.items × (is_export order ≡ false)
 IsTurn old order new (Find board side) = (order ≡ Ok (command.Find board.now side)) × (new ≡ old)
+IsTurn old order new (Position op query) = (order ≡ Ok (command.SearchPosition op query.now)) × (new ≡ old)
 IsTurn old order new (Material op query) = (order ≡ Ok (command.SearchMaterial op query.now)) × (new ≡ old)
 IsTurn old order new Hits = (order ≡ Ok command.Hits) × (new ≡ old)
 IsTurn old order new List = (order ≡ Ok command.List) × (new ≡ old)

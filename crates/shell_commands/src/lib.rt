@@ -1,20 +1,17 @@
 //! The commands of a script over an open base: what each makes of the state, and the text that it writes.
 #![tactic(auto)]
 
-mod counting;
 mod editing;
 mod filters;
-mod find;
-mod finding;
 mod game_texts;
 mod halt;
 mod heads;
 mod hits;
-mod laws;
 mod lines;
 mod listing;
 mod machine;
 mod material;
+mod positions;
 mod saved;
 mod saving;
 mod serving;
@@ -22,7 +19,6 @@ mod showing;
 mod tagging;
 
 pub use halt::Halt;
-pub use laws::first_plies_are_first;
 pub use machine::Machine;
 pub use saved::SavedFilter;
 pub use serving::{Order, serve};

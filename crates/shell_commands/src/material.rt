@@ -79,7 +79,7 @@ fn search_games<G: Games, F: Files>(
 }
 
 // Writes `filter N of M`.
-fn write_filter<K: Sink>(alloc: Global, filter: &Filter, out: &mut K) -> Result<(), Halt>
+pub(crate) fn write_filter<K: Sink>(alloc: Global, filter: &Filter, out: &mut K) -> Result<(), Halt>
     ensures written { OnOk result (K.taken out.new ≡ adds (K.taken out.old) (filter_line filter.now)) }
     ensures halted { Halted [] (filter_line filter.now) (K.taken out.old) (K.taken out.new) }
     ensures output { IfErr result IsOutput }

@@ -14,7 +14,6 @@ ghost use Rattle.shell_commands.specs.Turns.{IsTurn};
 
 use crate::editing::{delete, mark, undelete};
 use crate::filters::{and, clear, drop_filter, keep_filter, negate, or, reset, restrict, take};
-use crate::finding::find;
 use crate::game_texts::{export, show, show_turn};
 use crate::halt::Halt;
 use crate::heads::search_header;
@@ -23,6 +22,7 @@ use crate::lines::{fault_line, unknown};
 use crate::listing::list;
 use crate::machine::Machine;
 use crate::material::search_material;
+use crate::positions::{find, search_position};
 use crate::saving::save;
 use crate::showing::{info, quit};
 use crate::tagging::{tag, tag_turn};
@@ -32,7 +32,7 @@ use command_runs::write_text;
 use game_filter::Op;
 use game_tree::TagEdit;
 use script_text::{Command, ScriptFault};
-use sig_index::MatQuery;
+use sig_index::{MatQuery, PosQuery};
 use std::alloc::{AllocError, Global};
 
 /// A line of a script: the command that it says, or its first fault.
@@ -43,6 +43,7 @@ pub type Order = Result<Command, ScriptFault>;
 pub(crate) enum Turn<'a> {
     Line(Vec<u8>),
     Find(&'a Board, Colour),
+    Position(Op, &'a PosQuery),
     Material(Op, &'a MatQuery),
     Hits,
     List,
@@ -84,6 +85,7 @@ pub fn serve<F: Files, K: Sink>(
     match take_turn(alloc, machine, order) {
         Err(AllocError) => Err(Halt::Device(Stop::Memory)),
         Ok(Turn::Find(board, side)) => find(machine, files, out, board, side),
+        Ok(Turn::Position(op, query)) => search_position(alloc, machine, files, out, op, query),
         Ok(Turn::Material(op, query)) => search_material(alloc, machine, files, out, op, query),
         Ok(Turn::Hits) => hits(machine, out),
         Ok(Turn::List) => list(alloc, machine, out),
@@ -140,10 +142,7 @@ fn take_turn<'a>(
         Command::Drop(name) => Ok(Turn::Line(drop_filter(alloc, machine, name)?)),
         Command::Info => Ok(Turn::Line(info(alloc, machine)?)),
         Command::Quit => Ok(Turn::Line(quit(alloc, machine)?)),
-        Command::SearchPosition(_, _) => Ok(Turn::Line(fault_line(
-            alloc,
-            ScriptFault::Argument(2),
-        )?)),
+        Command::SearchPosition(op, query) => Ok(Turn::Position(*op, query)),
         Command::SearchMaterial(op, query) => Ok(Turn::Material(*op, query)),
         Command::SearchHeader(op, query) => {
             Ok(Turn::Line(search_header(alloc, machine, *op, query)?))

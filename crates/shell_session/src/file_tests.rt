@@ -1,4 +1,4 @@
-//! Files that fail at each call of a script of edits or in the middle of an export, and files that change between two reads.
+//! Files that fail at each call of a script of edits or in the middle of an export, files that change between two reads, and the bytes that a search asks.
 
 use crate::run::session;
 use crate::status::Status;
@@ -22,6 +22,18 @@ const FIND: &[u8] = b"find rnbqkbnr/pppppppp/8/8/4P3/8/PPPP1PPP/RNBQKBNR b\n";
 
 const FIND_TWICE: &[u8] =
     b"find rnbqkbnr/pppppppp/8/8/4P3/8/PPPP1PPP/RNBQKBNR b\nfind rnbqkbnr/pppppppp/8/8/4P3/8/PPPP1PPP/RNBQKBNR b\n";
+
+/// The records of 1. e4 d5 2. d4 and of 1. d4 d5 2. e4.
+const ORDERS: &[u8; 12] = b"\0\0\xcf\xbf\xbf\x0f\0\0\xbf\xbf\xcf\x0f";
+
+/// The position after 1. e4 d5, and the one after 1. e4 d5 2. d4.
+const FIND_ONE: &[u8] = b"find rnbqkbnr/ppp1pppp/8/3p4/4P3/8/PPPP1PPP/RNBQKBNR w\n";
+
+const FIND_BOTH: &[u8] = b"find rnbqkbnr/ppp1pppp/8/3p4/3PP3/8/PPP2PPP/RNBQKBNR b\n";
+
+const FOUND_ONE: &[u8] = b"base 2 games 2 mended\n0 2\nfilter 1 of 2\n";
+
+const FOUND_BOTH: &[u8] = b"base 2 games 2 mended\n0 3\n1 3\nfilter 2 of 2\n";
 
 const OPENING: &[u8] = b"base 1 games 0 mended\n";
 
@@ -82,6 +94,27 @@ fn changing(alloc: Global, before: u64, byte: u8) -> Result<MemFiles, AllocError
         Vec::from_slice(alloc, NAMES)?,
         Vec::from_slice(alloc, RECORD)?,
         Vec::from_slice(alloc, &[swap])?,
+    ))
+}
+
+/// Puts a byte into an index.
+fn put(index: &mut Vec<u8>, place: usize, byte: u8) {
+    if let Some(old) = index.get_mut(place) {
+        *old = byte;
+    }
+}
+
+/// The files of the two games in which the pawns leave in two orders; their entries have the places of the records alone right.
+fn orders(alloc: Global) -> Result<MemFiles, AllocError> {
+    let mut index = index_of_two(alloc)?;
+    put(&mut index, 187, 6);
+    put(&mut index, 232, 6);
+    put(&mut index, 234, 6);
+    Ok(MemFiles::new(
+        index,
+        Vec::from_slice(alloc, NAMES)?,
+        Vec::from_slice(alloc, ORDERS)?,
+        Vec::new(alloc),
     ))
 }
 
@@ -172,5 +205,20 @@ fn exports_the_games_before_a_fault(rt: HostRuntime) -> Result<(), Fail> {
     let (status, written) = run_over(rt.alloc(), &mut files, false, b"export\n")?;
     assert!(rt; status == Status::FilesFault);
     assert!(rt; written.as_slice() == ONE_OF_TWO);
+    Ok(())
+}
+
+#[test]
+fn asks_for_no_game_that_its_home_pawns_rule_out(rt: HostRuntime) -> Result<(), Fail> {
+    let mut files = orders(rt.alloc())?;
+    let (status, written) = run_over(rt.alloc(), &mut files, false, FIND_ONE)?;
+    assert!(rt; status == Status::Done);
+    assert!(rt; written.as_slice() == FOUND_ONE);
+    assert_eq!(rt; files.asked(), 18, "12 bytes to open, and 6");
+    let mut files = orders(rt.alloc())?;
+    let (status, written) = run_over(rt.alloc(), &mut files, false, FIND_BOTH)?;
+    assert!(rt; status == Status::Done);
+    assert!(rt; written.as_slice() == FOUND_BOTH);
+    assert_eq!(rt; files.asked(), 24, "12 bytes to open, and 12");
     Ok(())
 }

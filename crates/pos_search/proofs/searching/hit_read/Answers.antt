@@ -1,4 +1,4 @@
-use Rattle.pos_search.proofs.ReadLemmas.{front_is, game_read}
+use Rattle.sig_index.proofs.ReadLemmas.{front_is, game_read}
 use Rattle.pos_search.proofs.searching.hit_read.Goals as goal
 
 pub returns-in-Ok-first_sought-clause-found : goal.returns-in-Ok-first_sought-clause-found

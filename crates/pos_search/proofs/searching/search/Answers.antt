@@ -4,7 +4,7 @@ use Rattle.base_files.specs.Seen.{Seen}
 use Rattle.game_filter.specs.Search.{searched}
 use Rattle.sig_index.specs.Games.{extent_in}
 use Rattle.sig_index.specs.declared.pos_query.PosQuery.{PosQuery}
-use Rattle.pos_search.proofs.ReadLemmas.{some_at}
+use Rattle.sig_index.proofs.ReadLemmas.{some_at}
 use Rattle.sig_index.specs.Costs.{price_by}
 use Rattle.sig_index.proofs.CostLemmas.{asked_all, asked_more, price_front, price_more, untouched_more}
 use Rattle.pos_search.specs.Matching.{firsts_of}

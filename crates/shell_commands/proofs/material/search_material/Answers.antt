@@ -5,8 +5,9 @@ use Rattle.shell_commands.specs.Searching.{search_material_after, search_materia
 use Rattle.shell_commands.specs.Lines.{filter_line}
 use Rattle.shell_commands.specs.Stands.{Holding, Stands, Sound, cost}
 use Rattle.shell_commands.specs.State.{games_of}
-use Rattle.shell_commands.proofs.FindingLaws.{search_cuts, found_sound, on_ok}
-use Rattle.shell_commands.proofs.MaterialLaws.{price_is, searched_stands}
+use Rattle.shell_commands.proofs.FindingLaws.{search_cuts, searched_stands, found_sound, on_ok}
+use Rattle.shell_commands.proofs.MaterialLaws.{price_is}
+use Rattle.mat_search.specs.Matching.{firsts_of}
 use Rattle.shell_commands.proofs.Served.{line_serves}
 use Rattle.shell_commands.proofs.material.search_material.Goals as goal
 
@@ -28,7 +29,7 @@ returns-clause-serves g c = λ s st.
     let query = c.args.query.now in
     let filtered = c.in-Ok.ensures.found st'.games (games_of s) st'.told (holds c.machine.inside.base st'.games s.base st'.base) in
     let here = searched_stands c.machine.inside.base c.machine.inside.filter c.search_games.new.filter c.machine.inside.saved.items (g.F.Files.seen c.args.files.now)
-    (g.F.Files.seen c.search_games.new.files) s op query st' c.search_games.ensures.unchanged filtered in
+    (g.F.Files.seen c.search_games.new.files) s op (firsts_of query (games_of s)) st' c.search_games.ensures.unchanged filtered in
     line_serves c.write_filter.result _ (Ok (SearchMaterial op query)) (filter_line c.search_games.new.filter) (g.F.Files.seen c.search_games.new.files) s _ _
     here (ap filter_line here.filter) c.write_filter.ensures.written c.write_filter.ensures.halted c.write_filter.ensures.output
 

@@ -24,6 +24,11 @@ pub returns-in-Ok-Find-clause-carries : goal.returns-in-Ok-Find-clause-carries
 returns-in-Ok-Find-clause-carries g c = λ s st.
     if_err c.find.result _ (carry_same c.args.machine.now (g.F.Files.seen c.args.files.now) (g.F.Files.seen c.find.new.files) s c.args.order.now c.find.ensures.unchanged st)
 
+pub returns-in-Ok-Position-clause-carries : goal.returns-in-Ok-Position-clause-carries
+returns-in-Ok-Position-clause-carries g c = λ s st.
+    if_err c.search_position.result _
+    (carry_same c.args.machine.now (g.F.Files.seen c.args.files.now) (g.F.Files.seen c.search_position.new.files) s c.args.order.now c.search_position.ensures.unchanged st)
+
 pub returns-in-Ok-Material-clause-carries : goal.returns-in-Ok-Material-clause-carries
 returns-in-Ok-Material-clause-carries g c = λ s st.
     if_err c.search_material.result _
