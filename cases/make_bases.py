@@ -135,6 +135,34 @@ MEN = [
 MEN_NAMES = names_file([("A", 5), ("B", 5)], [("?", 5)], [("?", 5)], [("?", 5)])
 
 
+# Games whose boards an opening tree counts together: castling with both rights, with one and with none, and a game that ends there; a pawn
+# that can be captured en passant, and one that cannot; and the start of a game, which comes again at its end. Some have no year and no
+# rating, and a rating is of another kind.
+ROOKS = "4k3/8/8/8/8/8/8/R3K2R w %s - 0 1"
+EN_PASSANT = "4k3/8/8/3pP3/8/8/8/4K3 w - %s 0 1"
+
+
+def rooks(moves, rights, **says):
+    return game(moves, start=(ROOKS % rights).encode()), dict(flags=1, final=((0, 2, 0, 0, 0), (0, 0, 0, 0, 0)), plies=len(moves), **says)
+
+
+def en_passant(move, square, pawns):
+    return game(move, start=(EN_PASSANT % square).encode()), dict(flags=1, final=((0, 0, 0, 0, 1), (0, 0, 0, 0, pawns)), plies=1)
+
+
+TREES = [
+    rooks(b"\x0a", "KQ", result=1, dates=2000 * 512, ratings=(2500, 0)),
+    rooks(b"\x06", "-", result=3, dates=1999 * 512, ratings=(2501, 2300)),
+    rooks(b"", "-", result=2, dates=1998 * 512),
+    rooks(b"\x09", "KQ"),
+    rooks(b"\x0a", "K", result=2, ratings=(0, 5 << 12 | 2400)),
+    en_passant(b"\x11", "-", 1),
+    en_passant(b"\x10", "d6", 0),
+    (game(b"\x67\x61\x62\x68"), dict(plies=4)),
+]
+TREE_NAMES = names_file([("A", 8), ("B", 8)], [("?", 8)], [("?", 8)], [("?", 8)])
+
+
 def all_of(games):
     """The entries and the records of games, one behind the other; each has the names of Vienna but where it says others."""
     entries, records = [], b""
@@ -229,7 +257,7 @@ def edits():
 def main():
     edits()
     for case in ("filters_by_number", "find_in_both_orders", "search_header_among_filters", "search_material_by_signatures",
-                 "search_position", "search_position_in_each_mode"):
+                 "search_position", "search_position_in_each_mode", "tree_in_both_orders"):
         write(case, "pawns", index(PAWNS), PAWNS_NAMES, PAWNS_RECORDS)
     # One change a case.
     write("index_of_another_length", "vienna", index([VIENNA])[:-1], VIENNA_NAMES, VIENNA_RECORD)
@@ -255,6 +283,8 @@ def main():
         write(case, "games", index(entries), SHOWN_NAMES, records)
     entries, records = all_of(MEN)
     write("search_material", "games", index(entries), MEN_NAMES, records)
+    entries, records = all_of(TREES)
+    write("tree_of_shared_boards", "boards", index(entries), TREE_NAMES, records)
     entries, records = all_of([SHOWN[0], MEN[2]])
     names = names_file([("Reti, Richard", 2), ("Tartakower, Savielly", 2)], [("Vienna", 2)], [("Vienna AUT", 2)], [("?", 2)])
     write("find_the_start", "starts", index(entries), names, records)

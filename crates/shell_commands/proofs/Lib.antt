@@ -18,3 +18,4 @@ pub mod CarryLaws
 pub mod EditLaws
 pub mod TagLaws
 pub mod SaveLaws
+pub mod TreeLaws

@@ -6,11 +6,11 @@ use Rattle.base_core.specs.Entries.{sig_in}
 use Rattle.index_entry.specs.declared.entry.Entry.{Entry}
 use Rattle.game_filter.specs.Search.{looks_at}
 use Rattle.game_filter.specs.declared.op.Op.{Op}
-use Rattle.game_filter.specs.declared.op.Op.TheVariants.{Ignore}
+use Rattle.game_filter.specs.declared.op.Op.TheVariants.{Ignore, And}
 use Rattle.mat_search.specs.Passing as material
 use Rattle.pos_search.specs.Passing as position
 use Rattle.script_text.specs.declared.command.Command.{Command}
-use Rattle.script_text.specs.declared.command.Command.TheVariants.{Find, SearchPosition, SearchMaterial, Show, Export, Tag}
+use Rattle.script_text.specs.declared.command.Command.TheVariants.{Find, SearchPosition, SearchMaterial, Show, Export, Tag, Tree}
 use Rattle.sig_index.specs.declared.signature.Sig.{Sig}
 use Rattle.shell_commands.specs.Do.{Order, command_price, filtered_len, len_if_in, len_in, price}
 use Rattle.shell_commands.specs.Passing.{len_if, searched_len, sig_of}
@@ -74,6 +74,8 @@ same_price (SearchMaterial op query) plies es all count each = same_searched (λ
 same_price (Show game) plies es all count each = same_shown game es all count (λ i e held there here. (each i e held there here).len)
 same_price (Tag game edit) plies es all count each = same_shown game es all count (λ i e held there here. (each i e held there here).len)
 same_price Export plies es all count each = same_filtered plies es all count (λ i e held there here. (each i e held there here).len)
+same_price (Tree board side) plies es all count each =
+    same_searched (λ (s : Sig). position.passes s (exactly board side)) And plies es all count each
 same_price _ plies es all count each = refl
 
 pub cost_price : (holding : Holding) (seen : Seen) (s : State) (order : Order) → Stands holding seen s → cost holding order ≡ price s order

@@ -1,11 +1,11 @@
 -- What each line of a script does to a state, and the text that it writes: the plain machine. This project's own.
 use Rattle.std.specs.Prelude.{ℕ, ◌+◌, Bool, true, false, codes, List, [], ◌∷◌, slice_get, Option, Some, None, Result, Ok, Err}
 use Rattle.game_filter.specs.Filter.{intersection, union}
-use Rattle.game_filter.specs.declared.op.Op.TheVariants.{Ignore}
+use Rattle.game_filter.specs.declared.op.Op.TheVariants.{Ignore, And as Among}
 use Rattle.mat_search.specs.Passing as material
 use Rattle.pos_search.specs.Passing as position
 use Rattle.script_text.specs.declared.command.Command.{Command}
-use Rattle.script_text.specs.declared.command.Command.TheVariants.{Nothing, Find, SearchPosition, SearchMaterial, SearchHeader, Reset, Clear, Negate, Restrict, Keep, Take, And, Or, Drop, Hits, List as Listing, Show, Export, Tag, Delete, Undelete, Mark, Save, Info, Quit}
+use Rattle.script_text.specs.declared.command.Command.TheVariants.{Nothing, Find, SearchPosition, SearchMaterial, SearchHeader, Reset, Clear, Negate, Restrict, Keep, Take, And, Or, Drop, Hits, List as Listing, Show, Export, Tag, Delete, Undelete, Mark, Tree, Save, Info, Quit}
 use Rattle.script_text.specs.declared.fault.ScriptFault.{ScriptFault}
 use Rattle.script_text.specs.declared.fault.ScriptFault.TheVariants.{Unknown}
 use Rattle.command_runs.specs.Plain.{Plain}
@@ -21,6 +21,7 @@ use Rattle.shell_commands.specs.GameTexts.{show_text, export_text}
 use Rattle.shell_commands.specs.Showing.{info_text, quit_text}
 use Rattle.shell_commands.specs.Editing.{delete_after, undelete_after, mark_after, edit_text, tag_after, tag_text}
 use Rattle.shell_commands.specs.Saving.{save_after, save_text}
+use Rattle.shell_commands.specs.Trees.{tree_said}
 
 -- A line of a script: the command that it says, or its first fault.
 abbrev pub Order : Type 0
@@ -72,6 +73,7 @@ said_by s (Tag game edit) = tag_text s game edit
 said_by s (Delete game) = edit_text (codes "deleted ") s game
 said_by s (Undelete game) = edit_text (codes "undeleted ") s game
 said_by s (Mark game bit on) = edit_text (codes "marked ") s game
+said_by s (Tree board side) = tree_said s board side
 said_by s Save = save_text s
 said_by s Info = info_text s
 said_by s Quit = quit_text s
@@ -98,6 +100,7 @@ command_asks (SearchMaterial op query) = true
 command_asks (Show game) = true
 command_asks Export = true
 command_asks (Tag game edit) = true
+command_asks (Tree board side) = true
 command_asks Save = true
 command_asks _ = false
 
@@ -140,6 +143,7 @@ command_price len sig games plies (SearchMaterial op query) = searched_len len (
 command_price len sig games plies (Show game) = len_in len (slice_get games game)
 command_price len sig games plies (Tag game edit) = len_in len (slice_get games game)
 command_price len sig games plies Export = filtered_len len plies games
+command_price len sig games plies (Tree board side) = searched_len len (λ game. position.passes (sig game) (exactly board side)) Among plies games
 command_price len sig games plies _ = 0
 
 -- How many bytes of the games file a line asks at most.

@@ -7,6 +7,7 @@ pub mod Filters
 pub mod Showing
 pub mod Listing
 pub mod GameTexts
+pub mod Trees
 pub mod Do
 pub mod Stands
 pub mod Turns

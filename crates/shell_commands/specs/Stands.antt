@@ -1,5 +1,5 @@
 -- How the machine stands for a plain state, beside the files of its base. This project's own.
-use Rattle.std.specs.Prelude.{◌≡◌, ◌⊎◌, ℕ, Bool, false, IsTrue, ⊤, List, All, length, slice_get, Option, Some, None, Ok, Err}
+use Rattle.std.specs.Prelude.{◌≡◌, ◌⊎◌, ℕ, Bool, false, IsTrue, ⊤, ◌&&◌, List, All, length, slice_get, Option, Some, None, Ok, Err}
 use Rattle.std.specs.Bool.{MatchBool}
 use Rattle.base_files.specs.Seen.{Seen}
 use Rattle.base_files.specs.declared.faults.Stop.TheVariants as stop
@@ -9,12 +9,17 @@ use Rattle.base_core.specs.Represents.{Kept, Represents, IsSound}
 use Rattle.base_core.specs.Means.{Means}
 use Rattle.block_store.specs.Placing.{IsEnd}
 use Rattle.command_runs.specs.Counts.{Counts, Why}
+use Rattle.game_filter.specs.Search.{looks_at}
+use Rattle.game_filter.specs.declared.op.Op.TheVariants.{And}
 use Rattle.index_entry.specs.declared.entry.Entry.{Entry}
+use Rattle.pos_search.specs.Passing.{passes}
 use Rattle.script_text.specs.declared.command.Command.TheVariants.{Save}
+use Rattle.sig_index.specs.declared.pos_query.PosQuery.{PosQuery}
 use Rattle.shell_commands.specs.declared.halt.Halt.{Halt}
 use Rattle.shell_commands.specs.declared.halt.Halt.TheVariants as halt
 use Rattle.shell_commands.specs.declared.saved.SavedFilter.{SavedFilter}
 use Rattle.shell_commands.specs.Do.{Order, order_asks, after_order, text_of_order, command_price, filtered_len, len_in}
+use Rattle.shell_commands.specs.Passing.{len_if, searched_len}
 use Rattle.shell_commands.specs.Saving.{AreBeside, AreEmpty, CarryIt, Contents}
 use Rattle.shell_commands.specs.State.{State, begin}
 
@@ -83,6 +88,13 @@ len_at entries game = len_in (λ e. e.len) (slice_get entries game)
 -- The bytes of the records of the games that are in.
 abbrev pub exported_len : List (Option ℕ) → List Entry → ℕ
 exported_len plies entries = filtered_len (λ e. e.len) plies entries
+
+-- The bytes of the record of a game that a tree counts, which is read where it can meet the position, and of all such games.
+abbrev pub hit_len : PosQuery → Option ℕ → Entry → ℕ
+hit_len query ply e = len_if (looks_at And ply && passes (sig_in e) query) e.len
+
+abbrev pub tree_len : PosQuery → List (Option ℕ) → List Entry → ℕ
+tree_len query plies entries = searched_len (λ e. e.len) (λ e. passes (sig_in e) query) And plies entries
 
 -- How many bytes of the games file a line asks at most.
 abbrev pub cost : Holding → Order → ℕ

@@ -2,7 +2,7 @@
 use Rattle.std.specs.Prelude.{◌≡◌, ◌<◌, Bool, true, false, Ok, Err, length}
 use Rattle.script_text.specs.declared.command.Command.TheVariants as command
 use Rattle.shell_commands.specs.declared.serving.Turn.{Turn}
-use Rattle.shell_commands.specs.declared.serving.Turn.TheVariants.{Line, Find, Position, Material, Hits, List, Show, Export, Tag, Save}
+use Rattle.shell_commands.specs.declared.serving.Turn.TheVariants.{Line, Find, Position, Material, Hits, List, Show, Export, Tag, Tree, Save}
 use Rattle.shell_commands.specs.Do.{Order}
 use Rattle.shell_commands.specs.Stands.{Holding, Quiet}
 
@@ -23,4 +23,5 @@ IsTurn old order new List = (order ≡ Ok command.List) × (new ≡ old)
 IsTurn old order new (Show game) = (order ≡ Ok (command.Show game)) × ((game < length old.kept.entries) × (new ≡ old))
 IsTurn old order new Export = (order ≡ Ok command.Export) × (new ≡ old)
 IsTurn old order new (Tag game edit) = (order ≡ Ok (command.Tag game edit.now)) × ((game < length old.kept.entries) × (new ≡ old))
+IsTurn old order new (Tree board side) = (order ≡ Ok (command.Tree board.now side)) × (new ≡ old)
 IsTurn old order new Save = (order ≡ Ok command.Save) × (new ≡ old)

@@ -17,6 +17,7 @@ mod saving;
 mod serving;
 mod showing;
 mod tagging;
+mod trees;
 
 pub use halt::Halt;
 pub use machine::Machine;

@@ -26,6 +26,7 @@ use crate::positions::{find, search_position};
 use crate::saving::save;
 use crate::showing::{info, quit};
 use crate::tagging::{tag, tag_turn};
+use crate::trees::tree;
 use base_files::{Files, Sink, Stop};
 use cell_core::{Board, Colour};
 use command_runs::write_text;
@@ -50,6 +51,7 @@ pub(crate) enum Turn<'a> {
     Show(u32),
     Export,
     Tag(u32, &'a TagEdit),
+    Tree(&'a Board, Colour),
     Save,
 }
 
@@ -92,6 +94,7 @@ pub fn serve<F: Files, K: Sink>(
         Ok(Turn::Show(i)) => show(alloc, machine, files, out, i),
         Ok(Turn::Export) => export(alloc, machine, files, out),
         Ok(Turn::Tag(i, edit)) => tag(alloc, machine, files, out, i, edit),
+        Ok(Turn::Tree(board, side)) => tree(alloc, machine, files, out, board, side),
         Ok(Turn::Save) => save(alloc, machine, files, out),
         Ok(Turn::Line(line)) => write_line(out, line.as_slice()),
     }
@@ -155,7 +158,7 @@ fn take_turn<'a>(
         Command::Mark(number, bit, on) => {
             Ok(Turn::Line(mark(alloc, machine, *number, *bit, *on)?))
         }
-        Command::Tree(_, _) => Ok(Turn::Line(unknown(alloc)?)),
+        Command::Tree(board, side) => Ok(Turn::Tree(board, *side)),
         Command::Save => Ok(Turn::Save),
         Command::Demo(_, _) => Ok(Turn::Line(unknown(alloc)?)),
     }

@@ -20,6 +20,8 @@ const SECOND: &[u8] = b"base 1 games 0 mended\n0 0 1-0 1910.??.?? B15 B - ?\nfil
 
 const FIND: &[u8] = b"find rnbqkbnr/pppppppp/8/8/4P3/8/PPPP1PPP/RNBQKBNR b\n";
 
+const TREE: &[u8] = b"tree rnbqkbnr/pppppppp/8/8/4P3/8/PPPP1PPP/RNBQKBNR b\n";
+
 const FIND_TWICE: &[u8] =
     b"find rnbqkbnr/pppppppp/8/8/4P3/8/PPPP1PPP/RNBQKBNR b\nfind rnbqkbnr/pppppppp/8/8/4P3/8/PPPP1PPP/RNBQKBNR b\n";
 
@@ -185,6 +187,15 @@ fn ends_where_a_shown_record_has_changed(rt: HostRuntime) -> Result<(), Fail> {
 fn ends_where_a_searched_record_has_changed(rt: HostRuntime) -> Result<(), Fail> {
     let mut files = changing(rt.alloc(), 5, 0xce)?;
     let (status, written) = run_over(rt.alloc(), &mut files, false, FIND)?;
+    assert!(rt; is_changed(&status));
+    assert!(rt; written.as_slice() == OPENING);
+    Ok(())
+}
+
+#[test]
+fn ends_where_a_counted_record_has_changed(rt: HostRuntime) -> Result<(), Fail> {
+    let mut files = changing(rt.alloc(), 5, 0xce)?;
+    let (status, written) = run_over(rt.alloc(), &mut files, false, TREE)?;
     assert!(rt; is_changed(&status));
     assert!(rt; written.as_slice() == OPENING);
     Ok(())

@@ -27,7 +27,7 @@ all-mapped : (P Q : Option Move → Type 0) (keys : List (Option Move)) → ((k 
 all-mapped P Q [] f h = tt
 all-mapped P Q (k ∷ keys) f h = (f k h.0, all-mapped P Q keys f h.1)
 
-all-with : (P : Option Move → Type 0) (keys : List (Option Move)) (key : Option Move) → AllByRecursion P keys → P key → AllByRecursion P (with_key keys key)
+pub all-with : (P : Option Move → Type 0) (keys : List (Option Move)) (key : Option Move) → AllByRecursion P keys → P key → AllByRecursion P (with_key keys key)
 all-with P [] key h p = (p, tt)
 all-with P (k ∷ keys) key h p = by (key_cmp k key) refl (all-with P keys key h.1 p)
   where

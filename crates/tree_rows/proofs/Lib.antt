@@ -2,6 +2,7 @@ mod KeyLaws
 mod RowLaws
 mod Placing
 mod Adding
+pub mod HitKeys
 mod Dropping
 mod Totals
 mod SameBoard
