@@ -29,8 +29,8 @@ use Rattle.pgn_read.specs.declared.step.End.TheVariants as end
 use Rattle.pgn_read.specs.declared.step.Step.{Step as Does}
 use Rattle.pgn_read.specs.declared.step.Step.TheVariants as does
 use Rattle.pgn_read.specs.declared.turn.Turn.{Turn}
-use Rattle.pgn_read.specs.SanAnswer.{only_of, candidates, fits_now, shape_answer, san_answer}
-use Rattle.pgn_read.specs.FenAnswer.{fen_answer}
+use Rattle.chess_text.specs.SanAnswer.{only_of, candidates, fits_now, shape_answer, san_answer}
+use Rattle.chess_text.specs.FenAnswer.{fen_answer}
 use Rattle.pgn_read.specs.Token.{Token}
 use Rattle.pgn_read.specs.Token as token
 use Rattle.pgn_read.specs.Reading.{Reading, Effect, has_tag, goes_on, ends_behind, ends_before, is_faulty, unread, turn_at, turn_behind, is_inside, has_move, with_tag, starting, fen_effect, tag_effect, moving, played, move_effect, opened, closed_to, commented, nag_effect, effect, game_of}

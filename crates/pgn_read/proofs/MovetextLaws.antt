@@ -19,7 +19,7 @@ use Rattle.pgn_write.specs.Token as written
 use Rattle.pgn_write.specs.Tokens.{Turn as WrittenTurn, turn_behind, number_due, tokens_from}
 use Rattle.pgn_read.specs.declared.turn.Turn.{Turn}
 use Rattle.pgn_read.specs.Bytes.{is_white, has_zero}
-use Rattle.pgn_read.specs.SanAnswer.{san_answer}
+use Rattle.chess_text.specs.SanAnswer.{san_answer}
 use Rattle.pgn_read.specs.Token.{Token}
 use Rattle.pgn_read.specs.Token as token
 use Rattle.pgn_read.specs.Text.{At, skipped, behind_token, next_at}

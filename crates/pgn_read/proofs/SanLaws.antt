@@ -30,8 +30,8 @@ use Rattle.chess_text.proofs.SearchLaws.{one-move, no-move}
 use Rattle.chess_text.proofs.TextLaws.{computed}
 use Rattle.chess_text.proofs.WrittenSan.{san-reads}
 use Rattle.pgn_read.specs.Bytes.{is_move_byte}
-use Rattle.pgn_read.specs.SanAnswer.{san_answer}
-use Rattle.pgn_read.proofs.AnswerLaws.{san_is}
+use Rattle.chess_text.specs.SanAnswer.{san_answer}
+use Rattle.chess_text.proofs.AnswerLaws.{san_is}
 use Rattle.pgn_read.proofs.RunLaws.{small_letter, digit_byte, digit_moving}
 use Rattle.pgn_read.proofs.TokenLaws.{IsSanText}
 

@@ -11,7 +11,7 @@ use Rattle.game_tree.specs.Head.{IsName}
 use Rattle.game_tree.specs.TagList.{is_named}
 use Rattle.game_tree.specs.TagName.{is_tag_byte, IsTagByte, IsTagName, is_tag_name, is_among, roster_names}
 use Rattle.pgn_write.specs.TagPairs.{escaped, tag_text, tags_text}
-use Rattle.pgn_read.specs.FenAnswer.{fen_answer}
+use Rattle.chess_text.specs.FenAnswer.{fen_answer}
 use Rattle.pgn_read.specs.declared.item.GameWhat.TheVariants.{TagTooLong}
 use Rattle.pgn_read.specs.declared.turn.Turn.{Turn}
 use Rattle.pgn_read.specs.Token.{lexed_as}

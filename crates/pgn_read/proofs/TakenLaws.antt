@@ -35,10 +35,10 @@ use Rattle.game_tree.specs.TagName.{IsTagName, is_tag_name, is_among, roster_nam
 use Rattle.game_tree.proofs.DateLemmas.{date_text-IsName}
 use Rattle.game_tree.proofs.NameLemmas.{zero_free-from_test}
 use Rattle.pgn_write.specs.TagPairs.{pair, roster, rating_pairs, eco_pairs, event_date_pairs, letters_set, flags_text, flags_pairs, start_pairs, tag_text, tags_text, tags_of}
-use Rattle.pgn_read.specs.FenAnswer.{fen_answer}
+use Rattle.chess_text.specs.FenAnswer.{fen_answer}
 use Rattle.pgn_read.specs.Reading.{Reading, has_tag, unread}
 use Rattle.pgn_read.specs.Text.{At}
-use Rattle.pgn_read.proofs.AnswerLaws.{fen_is}
+use Rattle.chess_text.proofs.AnswerLaws.{fen_is}
 use Rattle.pgn_read.proofs.DecimalLaws.{decimal_number}
 use Rattle.pgn_read.proofs.HeadsAgainLaws.{IsRatingName, rating_name, IsFreeName, free_name, no_fen_name}
 use Rattle.pgn_read.proofs.RunLaws.{apart}

@@ -5,8 +5,6 @@ pub mod TagText
 pub mod Lexing
 pub mod Said
 pub mod Text
-pub mod SanAnswer
-pub mod FenAnswer
 pub mod Heads
 pub mod Reading
 pub mod ReadingCode

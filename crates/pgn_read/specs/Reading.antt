@@ -18,8 +18,8 @@ use Rattle.game_tree.specs.TagName.{is_among, roster_names}
 use Rattle.pgn_read.specs.declared.item.GameWhat.{GameWhat}
 use Rattle.pgn_read.specs.declared.item.GameWhat.TheVariants as what
 use Rattle.pgn_read.specs.declared.turn.Turn.{Turn}
-use Rattle.pgn_read.specs.SanAnswer.{san_answer}
-use Rattle.pgn_read.specs.FenAnswer.{fen_answer}
+use Rattle.chess_text.specs.SanAnswer.{san_answer}
+use Rattle.chess_text.specs.FenAnswer.{fen_answer}
 use Rattle.pgn_read.specs.Token.{Token}
 use Rattle.pgn_read.specs.Token as token
 

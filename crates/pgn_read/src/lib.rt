@@ -1,7 +1,6 @@
 //! Games as text in Portable Game Notation (PGN), as they are read.
 #![tactic(auto)]
 
-mod answers;
 mod error;
 mod heads;
 mod item;

@@ -9,21 +9,22 @@ ghost use Rattle.pgn_read.specs.Fit.{IsFit};
 ghost use Rattle.pgn_read.specs.Said.{said, said_step, StepsWell, IsBalanced, IsSound};
 ghost use Rattle.pgn_read.specs.TagText.{unescaped};
 ghost use Rattle.pgn_read.specs.Token as token;
-ghost use Rattle.pgn_read.specs.SanAnswer.{san_answer};
-ghost use Rattle.pgn_read.specs.FenAnswer.{fen_answer};
+ghost use Rattle.chess_laws.specs.Step.{Legal};
+ghost use Rattle.chess_text.specs.SanAnswer.{san_answer};
+ghost use Rattle.chess_text.specs.FenAnswer.{fen_answer};
 ghost use Rattle.pgn_read.specs.declared.item.GameWhat.TheVariants as what;
 ghost use Rattle.pgn_read.specs.Heads.{head_from, IsReadTag};
 ghost use Rattle.pgn_read.specs.Reading.{unread, is_inside, has_move, has_tag, with_tag, starting, fen_effect, tag_effect, at_tag, goes_on, is_faulty, commented, nag_effect, opens_effect, opened, closed_to, ending_effect, move_effect, end_effect, effect, is_next_game, is_game, game_of};
 
-use crate::answers::{fen_answer, san_answer};
 use crate::heads::{head_from, text_of};
 use crate::item::{GameWhat, Item};
 use crate::step::{End, Step};
 use crate::tag_text::unescaped;
 use crate::token::Token;
 use crate::turn::Turn;
-use cell_core::Text;
+use cell_core::{Move, Text};
 use chess_laws::Position;
+use chess_text::{SanFault, read_fen, read_san};
 use game_tree::{Branch, Builder, Game, Outcome, Tag};
 use std::alloc::{AllocError, Global};
 use std::marker::Model;
@@ -185,7 +186,7 @@ impl Reading {
         ensures well { IfOk result (λ step. StepsWell step self.old self.new) }
         ensures balanced { OnOk result (IsBalanced self.new) }
     {
-        match fen_answer(value.as_slice()) {
+        match read_fen(value.as_slice()) {
             Ok(position) => {
                 self.start_at(&position);
                 self.push_tag(alloc, name, value)?;
@@ -310,7 +311,7 @@ impl Reading {
         ensures well { IfOk result (λ step. StepsWell step self.old self.new) }
         ensures balanced { OnOk result (IsBalanced self.new) }
     {
-        match san_answer(&self.turn.now_at, text) {
+        match move_of(&self.turn.now_at, text) {
             Ok(m) => {
                 self.turn.play(&m);
                 self.in_moves = true;
@@ -352,6 +353,14 @@ impl Reading {
         let Branch { lead, line } = moves.finish(alloc)?;
         Ok(Item::Good(head, Game { start, lead, line }))
     }
+}
+
+// The legal move that a text is, or why it is none.
+fn move_of(p: &Position, text: &[u8]) -> Result<Move, SanFault>
+    ensures answer { result ≡ san_answer p.now text.now }
+    ensures legal { IfOk result (λ m. Legal p.now m) }
+{
+    read_san(p, text)
 }
 
 // Adds a read tag behind the others.
