@@ -15,16 +15,26 @@ pub record InputMeter : Type 0 where
 pub record OutputMeter : Type 0 where
   pub faults : ℕ
 
--- The files of a base: the names that were chosen, the known length of the games file, the bytes asked of it, and the faults.
+-- The files of a base: the names that were chosen, the known length of the games file, the bytes added to the new games file, the
+-- bytes asked of the games file, and the faults.
 pub record DiskMeter : Type 0 where
   pub choices : List Choice
   pub known : ℕ
+  pub added : ℕ
   pub asked : ℕ
   pub faults : ℕ
 
 -- What files on a disk show: nothing of their contents.
 abbrev pub seen_of : DiskMeter → Seen
-seen_of meter = record { index = None; names = None; games = None; choices = meter.choices; known = meter.known }
+seen_of meter = record {
+  index = None;
+  names = None;
+  games = None;
+  fresh = None;
+  choices = meter.choices;
+  known = meter.known;
+  added = meter.added;
+}
 
 -- A count of faults after an error: a fault is counted, want of memory is not.
 abbrev pub after_error : DeviceError → ℕ → ℕ

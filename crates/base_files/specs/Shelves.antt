@@ -1,5 +1,5 @@
 -- The files of a base in memory (this project's own).
-use Rattle.std.specs.Prelude.{ℕ, List, [], Option, None, Some}
+use Rattle.std.specs.Prelude.{ℕ, List, [], length, Option, None, Some}
 use Rattle.base_files.specs.Planned.{Calls}
 use Rattle.base_files.specs.Chosen.{Choice}
 use Rattle.base_files.specs.Seen.{Seen}
@@ -8,12 +8,13 @@ use Rattle.base_files.specs.declared.swap.Swap.{Swap}
 use Rattle.base_files.specs.declared.part.Part.{Part}
 use Rattle.base_files.specs.declared.part.Part.TheVariants.{Index, Names}
 
--- The three contents, the names that were chosen, the known length of the games file, the bytes asked of it, the calls,
--- and the bytes of the games file that change by themselves, if any may.
+-- The three contents and the new games file, the names that were chosen, the known length of the games file, the bytes asked of it,
+-- the calls, and the bytes of the games file that change by themselves, if any may.
 pub record Shelf : Type 0 where
   pub index : List ℕ
   pub names : List ℕ
   pub games : List ℕ
+  pub fresh : List ℕ
   pub choices : List Choice
   pub known : ℕ
   pub asked : ℕ
@@ -26,6 +27,7 @@ new_shelf index names games fails = record {
   index = index;
   names = names;
   games = games;
+  fresh = [];
   choices = [];
   known = 0;
   asked = 0;
@@ -47,11 +49,23 @@ seen_of shelf = record {
   index = told_of shelf.swaps shelf.index;
   names = told_of shelf.swaps shelf.names;
   games = told_of shelf.swaps shelf.games;
+  fresh = told_of shelf.swaps shelf.fresh;
   choices = shelf.choices;
   known = shelf.known;
+  added = length shelf.fresh;
 }
 
 -- After the whole of a part was replaced.
 abbrev pub put_on : Part → List ℕ → Shelf → Shelf
 put_on Index bytes shelf = record shelf { index = bytes }
 put_on Names bytes shelf = record shelf { names = bytes }
+
+-- After the new games file and the two given parts became the current ones.
+abbrev pub committed_on : List ℕ → List ℕ → Shelf → Shelf
+committed_on names index shelf = record shelf {
+  index = index;
+  names = names;
+  games = shelf.fresh;
+  fresh = [];
+  known = length shelf.fresh;
+}

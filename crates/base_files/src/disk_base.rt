@@ -1,6 +1,7 @@
 //! The three files of one base on a disk: two that are read and replaced whole, and the games file, which is read by blocks.
 ghost use Rattle.std.specs.Prelude.{◌≡◌, ◌≤◌, length};
 
+use crate::new_games::{Beside, NewGames, write_padded};
 use crate::part::Part;
 use std::alloc::{AllocError, Global};
 use std::fs::{OpenFile, OpenOptions};
@@ -9,27 +10,26 @@ use std::rt::Files as FileSystem;
 use std::{fs, io};
 
 /// The bytes that are read ahead at once. No record of a games file crosses a multiple of it.
-const BLOCK: usize = 131_072;
-
-/// How many zero bytes are written at once.
-const PIECE: u32 = 4096;
+pub const BLOCK: usize = 131_072;
 
 /// The paths of the three files of a base.
 #[derive(Drop)]
 pub struct Paths {
-    index: String,
-    names: String,
-    games: String,
+    pub index: String,
+    pub names: String,
+    pub games: String,
 }
 
 /// The base that was chosen, with its games file open.
 #[derive(Drop)]
-pub struct DiskBase<F> {
+pub struct DiskBase<F: Write + Drop> {
     paths: Paths,
     games: F,
     // Opened at the first addition, so that a base that nobody may write is read all the same.
     adder: Option<F>,
     ahead: Ahead,
+    // The new games file, where one was begun.
+    fresh: Option<NewGames<F>>,
 }
 
 /// A block of the games file that was read ahead: its first `filled` bytes are those of the file from `start` on.
@@ -65,6 +65,7 @@ impl Paths {
             games,
             adder: None,
             ahead,
+            fresh: None,
         })
     }
 
@@ -77,7 +78,7 @@ impl Paths {
     }
 }
 
-impl<F: Read + Write + Seek + OpenFile> DiskBase<F> {
+impl<F: Read + Write + Seek + OpenFile + Drop> DiskBase<F> {
     /// The whole of a part.
     pub fn load<R: FileSystem>(
         &self,
@@ -132,8 +133,7 @@ impl<F: Read + Write + Seek + OpenFile> DiskBase<F> {
         if adder.metadata()?.len() != known {
             return Err(io::Error::from(ErrorKind::InvalidData));
         }
-        write_zeros(adder, pad)?;
-        adder.write_all(bytes)
+        write_padded(adder, pad, bytes)
     }
 
     /// Makes `bytes` the whole of a part: they are written into a new file beside it, which then takes its place, so that
@@ -154,6 +154,68 @@ impl<F: Read + Write + Seek + OpenFile> DiskBase<F> {
             let _ = fs::remove_file(system, &beside);
         }
         outcome
+    }
+
+    /// Makes the new games file empty, beside the current one.
+    pub fn begin_new<R: FileSystem<File = F>>(
+        &mut self,
+        alloc: Global,
+        system: &R,
+    ) -> io::Result<()> {
+        let path = format!(in alloc; "{}.new", self.paths.games)?;
+        let fresh = NewGames::open(alloc, system, &path)?;
+        // What an older one still holds is written as it is dropped, so it goes before the file is made empty.
+        self.fresh = None;
+        fresh.empty()?;
+        self.fresh = Some(fresh);
+        Ok(())
+    }
+
+    /// Adds `pad` zero bytes and then `bytes` at the end of the new games file. After a fault there is no new games file.
+    pub fn append_new(&mut self, pad: u32, bytes: &[u8]) -> io::Result<()> {
+        let Some(fresh) = &mut self.fresh else {
+            return Err(io::Error::from(ErrorKind::NotFound));
+        };
+        let outcome = fresh.add(pad, bytes);
+        if outcome.is_err() {
+            self.fresh = None;
+        }
+        outcome
+    }
+
+    /// Puts the new games file, to which `added` bytes were added, and new files of the two parts in the place of the current
+    /// three, of which each is as it was wherever that fails. There is no new games file afterwards.
+    pub fn commit_new<R: FileSystem<File = F>>(
+        &mut self,
+        alloc: Global,
+        system: &R,
+        added: u64,
+        names: &[u8],
+        index: &[u8],
+    ) -> io::Result<()> {
+        let beside = Beside::new(alloc, &self.paths)?;
+        let Some(fresh) = self.fresh.take() else {
+            return Err(io::Error::from(ErrorKind::NotFound));
+        };
+        let outcome = match fresh.finish(added) {
+            Ok(games) => beside
+                .put(system, &self.paths, names, index)
+                .map(|()| games),
+            Err(error) => Err(error),
+        };
+        match outcome {
+            Ok(games) => {
+                beside.remove_old(system);
+                self.games = games;
+                self.adder = None;
+                self.ahead.filled = 0;
+                Ok(())
+            }
+            Err(error) => {
+                beside.remove_new(system);
+                Err(error)
+            }
+        }
     }
 }
 
@@ -210,17 +272,8 @@ fn read_up_to<F: Read>(file: &mut F, into: &mut [u8]) -> io::Result<usize> {
     Ok(filled)
 }
 
-// Writes so many zero bytes.
-fn write_zeros<F: Write>(file: &mut F, count: u32) -> io::Result<()> {
-    let zeros = [0u8; PIECE as usize];
-    for _ in 0..count / PIECE {
-        file.write_all(&zeros)?;
-    }
-    file.write_all(&zeros[..(count % PIECE) as usize])
-}
-
-// Makes a new file of these bytes, or puts them into an old one, and hands them on to the disk.
-fn write_whole<R: FileSystem>(system: &R, path: &str, bytes: &[u8]) -> io::Result<()> {
+/// Makes a new file of these bytes, or puts them into an old one, and hands them on to the disk.
+pub fn write_whole<R: FileSystem>(system: &R, path: &str, bytes: &[u8]) -> io::Result<()> {
     let mut file = fs::create(system, path)?;
     file.write_all(bytes)?;
     file.sync_all()

@@ -2,7 +2,7 @@
 ghost use Rattle.std.specs.Prelude.{◌≡◌, ◌+◌, ◌≤◌, [], ◌++◌, length, replicate, IfOk, IfErr, OnOk, OnErr, IsErrOf, MatchResult};
 ghost use Rattle.base_files.specs.Counters.{Rose, raised};
 ghost use Rattle.base_files.specs.Causes.{HasCause};
-ghost use Rattle.base_files.specs.Seen.{chose, measured, appended, replaced, AppendedInPart};
+ghost use Rattle.base_files.specs.Seen.{chose, measured, appended, replaced, AppendedInPart, begun, lengthened, LengthenedInPart, committed, FreshAlone};
 ghost use Rattle.base_files.specs.Meters.{after_error, seen_of};
 
 use crate::chosen::Choices;
@@ -24,6 +24,8 @@ pub struct DiskFiles<'r, R: FileSystem> {
     base: Option<DiskBase<R::File>>,
     choices: Choices,
     known: u64,
+    // How many bytes were added to the new games file since it was begun.
+    added: u64,
     asked: u64,
     faults: FaultCount,
 }
@@ -33,13 +35,13 @@ impl<'r, R: FileSystem> Model for DiskFiles<'r, R> {
 
     ghost Value = { DiskMeter };
 
-    ghost view = { λ files. record { choices = files.choices; known = files.known; asked = files.asked; faults = files.faults } };
+    ghost view = { λ files. record { choices = files.choices; known = files.known; added = files.added; asked = files.asked; faults = files.faults } };
 }
 
 impl<'r, R: FileSystem> DiskFiles<'r, R> {
     /// Files of this file system, of which no base was chosen yet.
     pub fn new(alloc: Global, system: &'r R) -> DiskFiles<'r, R>
-        ensures { result ≡ record { choices = []; known = 0; asked = 0; faults = 0 } }
+        ensures { result ≡ record { choices = []; known = 0; added = 0; asked = 0; faults = 0 } }
     {
         DiskFiles {
             system,
@@ -47,6 +49,7 @@ impl<'r, R: FileSystem> DiskFiles<'r, R> {
             base: None,
             choices: Choices::new(alloc),
             known: 0,
+            added: 0,
             asked: 0,
             faults: FaultCount::new(),
         }
@@ -201,6 +204,83 @@ impl<'r, R: FileSystem> Files for DiskFiles<'r, R> {
         };
         match base.replace(self.alloc, self.system, part, bytes) {
             Ok(()) => Ok(()),
+            Err(error) => Err(self.faults.error(error.kind())),
+        }
+    }
+
+    fn begin_new(&mut self) -> Result<(), DeviceError>
+        ensures begun { OnOk result (seen_of self.new ≡ begun (seen_of self.old)) }
+        ensures fresh_alone { IsErrOf result DeviceError.Failed → FreshAlone (seen_of self.old) (seen_of self.new) }
+        ensures none_begun { IsErrOf result DeviceError.Memory → seen_of self.new ≡ seen_of self.old }
+        ensures counts { self.old.faults ≤ self.new.faults }
+        ensures cause { IfErr result (λ e. HasCause e self.old.faults self.new.faults) }
+        ensures memory { IsErrOf result DeviceError.Memory → self.new.faults ≡ self.old.faults }
+
+        // More than all files promise: a fault is counted once, and nothing else changes.
+        ensures counted { MatchResult result (λ _. self.new.faults ≡ self.old.faults) (λ e. self.new.faults ≡ after_error e self.old.faults) }
+        ensures rest { self.new ≡ record self.old { added = self.new.added; faults = self.new.faults } }
+    {
+        let Some(base) = &mut self.base else {
+            return Err(DeviceError::from(self.faults.fault()));
+        };
+        match base.begin_new(self.alloc, self.system) {
+            Ok(()) => {
+                self.added = 0;
+                Ok(())
+            }
+            Err(error) => Err(self.faults.error(error.kind())),
+        }
+    }
+
+    fn append_new(&mut self, pad: u32, bytes: &[u8]) -> Result<(), DeviceError>
+        ensures added { OnOk result (seen_of self.new ≡ lengthened (replicate pad 0 ++ bytes.now) (seen_of self.old)) }
+        ensures in_part { IsErrOf result DeviceError.Failed → LengthenedInPart (seen_of self.old) (seen_of self.new) }
+        ensures none_added { IsErrOf result DeviceError.Memory → seen_of self.new ≡ seen_of self.old }
+        ensures counts { self.old.faults ≤ self.new.faults }
+        ensures cause { IfErr result (λ e. HasCause e self.old.faults self.new.faults) }
+        ensures memory { IsErrOf result DeviceError.Memory → self.new.faults ≡ self.old.faults }
+
+        // More than all files promise: a fault is counted once, and nothing else changes.
+        ensures counted { MatchResult result (λ _. self.new.faults ≡ self.old.faults) (λ e. self.new.faults ≡ after_error e self.old.faults) }
+        ensures rest { self.new ≡ record self.old { added = self.new.added; faults = self.new.faults } }
+    {
+        let more = pad as u64 + bytes.len() as u64;
+        let Some(added) = self.added.checked_add(more) else {
+            return Err(DeviceError::from(self.faults.fault()));
+        };
+        let Some(base) = &mut self.base else {
+            return Err(DeviceError::from(self.faults.fault()));
+        };
+        match base.append_new(pad, bytes) {
+            Ok(()) => {
+                self.added = added;
+                Ok(())
+            }
+            Err(_) => Err(DeviceError::from(self.faults.fault())),
+        }
+    }
+
+    fn commit_new(&mut self, names: &[u8], index: &[u8]) -> Result<(), DeviceError>
+        ensures committed { OnOk result (seen_of self.new ≡ committed names.now index.now (seen_of self.old)) }
+        ensures fresh_alone { IsErrOf result DeviceError.Failed → FreshAlone (seen_of self.old) (seen_of self.new) }
+        ensures none_committed { IsErrOf result DeviceError.Memory → seen_of self.new ≡ seen_of self.old }
+        ensures counts { self.old.faults ≤ self.new.faults }
+        ensures cause { IfErr result (λ e. HasCause e self.old.faults self.new.faults) }
+        ensures memory { IsErrOf result DeviceError.Memory → self.new.faults ≡ self.old.faults }
+
+        // More than all files promise: a fault is counted once, and nothing else changes.
+        ensures counted { MatchResult result (λ _. self.new.faults ≡ self.old.faults) (λ e. self.new.faults ≡ after_error e self.old.faults) }
+        ensures rest { self.new ≡ record self.old { known = self.new.known; added = self.new.added; faults = self.new.faults } }
+    {
+        let Some(base) = &mut self.base else {
+            return Err(DeviceError::from(self.faults.fault()));
+        };
+        match base.commit_new(self.alloc, self.system, self.added, names, index) {
+            Ok(()) => {
+                self.known = self.added;
+                self.added = 0;
+                Ok(())
+            }
             Err(error) => Err(self.faults.error(error.kind())),
         }
     }

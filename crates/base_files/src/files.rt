@@ -3,7 +3,7 @@ ghost use Rattle.std.specs.Prelude.{◌≡◌, ℕ, ◌+◌, ◌≤◌, ◌++◌
 ghost use Rattle.base_files.specs.Counters.{Rose, raised};
 ghost use Rattle.base_files.specs.Told.{Tells, TellsLength, part_told};
 ghost use Rattle.base_files.specs.Parts.{of_part};
-ghost use Rattle.base_files.specs.Seen.{Seen, chose, measured, replaced, appended, AppendedInPart};
+ghost use Rattle.base_files.specs.Seen.{Seen, chose, measured, replaced, appended, AppendedInPart, begun, lengthened, LengthenedInPart, committed, FreshAlone};
 ghost use Rattle.base_files.specs.Causes.{HasCause};
 
 use crate::faults::{DeviceError, Failed};
@@ -77,6 +77,39 @@ pub trait Files {
     fn replace(&mut self, part: Part, bytes: &[u8]) -> Result<(), DeviceError>
         ensures put { OnOk result (seen self.new ≡ replaced part bytes.now (seen self.old)) }
         ensures unchanged { OnErr result (seen self.new ≡ seen self.old) }
+        ensures none_asked { asked self.new ≡ asked self.old }
+        ensures counts { faults self.old ≤ faults self.new }
+        ensures cause { IfErr result (λ e. HasCause e (faults self.old) (faults self.new)) }
+        ensures memory { IsErrOf result DeviceError.Memory → faults self.new ≡ faults self.old };
+
+    /// Makes a new games file beside the current one, or the one that is there empty. The current files stay as they are.
+    fn begin_new(&mut self) -> Result<(), DeviceError>
+        ensures begun { OnOk result (seen self.new ≡ begun (seen self.old)) }
+        ensures fresh_alone { IsErrOf result DeviceError.Failed → FreshAlone (seen self.old) (seen self.new) }
+        ensures none_begun { IsErrOf result DeviceError.Memory → seen self.new ≡ seen self.old }
+        ensures none_asked { asked self.new ≡ asked self.old }
+        ensures counts { faults self.old ≤ faults self.new }
+        ensures cause { IfErr result (λ e. HasCause e (faults self.old) (faults self.new)) }
+        ensures memory { IsErrOf result DeviceError.Memory → faults self.new ≡ faults self.old };
+
+    /// Adds `pad` zero bytes and then `bytes` at the end of the new games file.
+    ///
+    /// After a fault the new games file begins with what it was, and any bytes may follow. Want of memory changes nothing.
+    fn append_new(&mut self, pad: u32, bytes: &[u8]) -> Result<(), DeviceError>
+        ensures added { OnOk result (seen self.new ≡ lengthened (replicate pad 0 ++ bytes.now) (seen self.old)) }
+        ensures in_part { IsErrOf result DeviceError.Failed → LengthenedInPart (seen self.old) (seen self.new) }
+        ensures none_added { IsErrOf result DeviceError.Memory → seen self.new ≡ seen self.old }
+        ensures none_asked { asked self.new ≡ asked self.old }
+        ensures counts { faults self.old ≤ faults self.new }
+        ensures cause { IfErr result (λ e. HasCause e (faults self.old) (faults self.new)) }
+        ensures memory { IsErrOf result DeviceError.Memory → faults self.new ≡ faults self.old };
+
+    /// Makes the new games file and the two given parts the current ones, all three. The length of the games file that is known is
+    /// then the number of bytes that were added. After an error all three current files are as they were.
+    fn commit_new(&mut self, names: &[u8], index: &[u8]) -> Result<(), DeviceError>
+        ensures committed { OnOk result (seen self.new ≡ committed names.now index.now (seen self.old)) }
+        ensures fresh_alone { IsErrOf result DeviceError.Failed → FreshAlone (seen self.old) (seen self.new) }
+        ensures none_committed { IsErrOf result DeviceError.Memory → seen self.new ≡ seen self.old }
         ensures none_asked { asked self.new ≡ asked self.old }
         ensures counts { faults self.old ≤ faults self.new }
         ensures cause { IfErr result (λ e. HasCause e (faults self.old) (faults self.new)) }

@@ -11,6 +11,7 @@ mod files;
 mod mem_files;
 mod mem_sink;
 mod mem_source;
+mod new_games;
 mod part;
 mod plan;
 mod reading;
@@ -25,6 +26,7 @@ mod writing;
 
 pub use disk_files::DiskFiles;
 pub use extent::Extent;
+pub use fault_count::FaultCount;
 pub use faults::{DeviceError, Failed, Stop};
 pub use files::Files;
 pub use mem_files::MemFiles;

@@ -5,7 +5,7 @@ ghost use Rattle.base_files.specs.Chosen.{choice};
 ghost use Rattle.base_files.specs.Parts.{of_part};
 ghost use Rattle.base_files.specs.Causes.{HasCause};
 ghost use Rattle.base_files.specs.Planned.{Served, FailedAsPlanned, Refused};
-ghost use Rattle.base_files.specs.Shelves.{Shelf, new_shelf, changing_shelf, changed, seen_of, put_on};
+ghost use Rattle.base_files.specs.Shelves.{Shelf, new_shelf, changing_shelf, changed, seen_of, put_on, committed_on};
 
 use crate::chosen::Choices;
 use crate::faults::{DeviceError, Failed};
@@ -15,13 +15,15 @@ use crate::plan::Plan;
 use crate::swap::{Swap, put_swaps};
 use std::alloc::{AllocError, Global};
 use std::marker::Model;
+use std::mem;
 
-/// Three contents in memory, which are always there. The games file may change by itself: then nothing is told of them.
+/// Three contents in memory, which are always there, and the new games file. The games file may change by itself: then nothing is told of them.
 #[derive(Drop)]
 pub struct MemFiles {
     index: Vec<u8>,
     names: Vec<u8>,
     games: Vec<u8>,
+    fresh: Vec<u8>,
     choices: Choices,
     known: u64,
     asked: u64,
@@ -40,6 +42,7 @@ impl Model for MemFiles {
       index = files.index.items;
       names = files.names.items;
       games = files.games.items;
+      fresh = files.fresh.items;
       choices = files.choices;
       known = files.known;
       asked = files.asked;
@@ -57,6 +60,7 @@ impl MemFiles {
     {
         MemFiles {
             choices: Choices::new(*index.allocator()),
+            fresh: Vec::new(*index.allocator()),
             index,
             names,
             games,
@@ -74,6 +78,7 @@ impl MemFiles {
     {
         MemFiles {
             choices: Choices::new(*index.allocator()),
+            fresh: Vec::new(*index.allocator()),
             plan: Plan::new(Vec::new(*index.allocator())),
             index,
             names,
@@ -244,6 +249,62 @@ impl Files for MemFiles {
             Part::Index => self.index = bytes,
             Part::Names => self.names = bytes,
         }
+        Ok(())
+    }
+
+    fn begin_new(&mut self) -> Result<(), DeviceError>
+        ensures begun { OnOk result (self.new.fresh ≡ []) }
+        ensures none_begun { OnErr result (self.new.fresh ≡ self.old.fresh) }
+        ensures counts { self.old.calls.faults ≤ self.new.calls.faults }
+        ensures cause { IfErr result (λ e. HasCause e self.old.calls.faults self.new.calls.faults) }
+        ensures memory { IsErrOf result DeviceError.Memory → self.new.calls.faults ≡ self.old.calls.faults }
+
+        // More than all files promise: which calls fail, and that nothing else changes.
+        ensures planned { MatchResult result (λ _. Served self.old.calls self.new.calls) (λ e. Refused e self.old.calls self.new.calls) }
+        ensures rest { self.new ≡ record (changed self.old) { fresh = self.new.fresh; calls = self.new.calls } }
+    {
+        self.change();
+        self.plan.begin()?;
+        self.fresh.clear();
+        Ok(())
+    }
+
+    fn append_new(&mut self, pad: u32, bytes: &[u8]) -> Result<(), DeviceError>
+        ensures added { OnOk result (self.new.fresh ≡ self.old.fresh ++ (replicate pad 0 ++ bytes.now)) }
+        ensures none_added { OnErr result (self.new.fresh ≡ self.old.fresh) }
+        ensures counts { self.old.calls.faults ≤ self.new.calls.faults }
+        ensures cause { IfErr result (λ e. HasCause e self.old.calls.faults self.new.calls.faults) }
+        ensures memory { IsErrOf result DeviceError.Memory → self.new.calls.faults ≡ self.old.calls.faults }
+
+        // More than all files promise: which calls fail, and that nothing else changes.
+        ensures planned { MatchResult result (λ _. Served self.old.calls self.new.calls) (λ e. Refused e self.old.calls self.new.calls) }
+        ensures rest { self.new ≡ record (changed self.old) { fresh = self.new.fresh; calls = self.new.calls } }
+    {
+        self.change();
+        self.plan.begin()?;
+        add_padded(&mut self.fresh, pad, bytes)?;
+        Ok(())
+    }
+
+    fn commit_new(&mut self, names: &[u8], index: &[u8]) -> Result<(), DeviceError>
+        ensures committed { OnOk result (self.new ≡ committed_on names.now index.now (record (changed self.old) { calls = self.new.calls })) }
+        ensures none_committed { OnErr result (self.new ≡ record (changed self.old) { calls = self.new.calls }) }
+        ensures counts { self.old.calls.faults ≤ self.new.calls.faults }
+        ensures cause { IfErr result (λ e. HasCause e self.old.calls.faults self.new.calls.faults) }
+        ensures memory { IsErrOf result DeviceError.Memory → self.new.calls.faults ≡ self.old.calls.faults }
+
+        // More than all files promise: which calls fail.
+        ensures planned { MatchResult result (λ _. Served self.old.calls self.new.calls) (λ e. Refused e self.old.calls self.new.calls) }
+    {
+        self.change();
+        self.plan.begin()?;
+        let alloc = *self.games.allocator();
+        let names = Vec::from_slice(alloc, names)?;
+        let index = Vec::from_slice(alloc, index)?;
+        self.names = names;
+        self.index = index;
+        self.games = mem::replace(&mut self.fresh, Vec::new(alloc));
+        self.known = self.games.len() as u64;
         Ok(())
     }
 }

@@ -83,6 +83,8 @@ impl Source for MemSource {
 
     ghost faults = { λ source. source.calls.faults };
 
+    ghost origin = { λ _. [] };
+
     fn read(&mut self, into: &mut [u8]) -> Result<usize, Failed>
         requires { 0 < length into.old }
         ensures fits { IfOk result (λ n. n ≤ length into.old) }

@@ -16,6 +16,9 @@ pub trait Source {
     // How many faults it has counted.
     ghost faults: { Self → ℕ };
 
+    // What it reads from, which no call changes: the ghost names of what it borrows, and nothing where it has its bytes itself.
+    ghost origin: { Self → List ℕ };
+
     /// Reads the next bytes into the front of `into`, which is not empty, and says how many: none only at the end of the input.
     /// A fault takes no byte, and is counted.
     fn read(&mut self, into: &mut [u8]) -> Result<usize, Failed>
@@ -27,5 +30,6 @@ pub trait Source {
         ensures none_lost { OnErr result (left self.new ≡ left self.old) }
         ensures none_spent { OnErr result (budget self.new ≡ budget self.old) }
         ensures counts { faults self.old ≤ faults self.new }
-        ensures cause { OnErr result (Rose (faults self.old) (faults self.new)) };
+        ensures cause { OnErr result (Rose (faults self.old) (faults self.new)) }
+        ensures same { origin self.new ≡ origin self.old };
 }

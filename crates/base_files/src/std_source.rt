@@ -1,5 +1,5 @@
 //! A source over a reader of the standard library.
-ghost use Rattle.std.specs.Prelude.{◌≡◌, ◌+◌, ◌<◌, ◌≤◌, length, None, IfOk, IsErr, OnErr, MatchResult};
+ghost use Rattle.std.specs.Prelude.{◌≡◌, ◌+◌, ◌<◌, ◌≤◌, [], length, None, IfOk, IsErr, OnErr, MatchResult};
 ghost use Rattle.base_files.specs.Counters.{LAST, Rose, raised};
 ghost use Rattle.base_files.specs.Meters.{InputMeter};
 
@@ -46,6 +46,8 @@ impl<R: Read> Source for StdSource<R> {
     ghost budget = { λ source. source.budget };
 
     ghost faults = { λ source. source.faults };
+
+    ghost origin = { λ _. [] };
 
     fn read(&mut self, into: &mut [u8]) -> Result<usize, Failed>
         requires { 0 < length into.old }

@@ -160,6 +160,46 @@ fn parts_on_a_disk_are_replaced(rt: HostRuntime) -> Result<(), Fail> {
 }
 
 #[test]
+fn new_files_on_a_disk_take_the_place_of_the_old_ones(rt: HostRuntime) -> Result<(), Fail> {
+    let paths = ["moved.si4", "moved.sn4", "moved.sg4"];
+    write_base(&rt, "abcdefgh", paths)?;
+    let mut files = DiskFiles::new(rt.alloc(), &rt);
+    files.choose("moved", false)?;
+    files.begin_new()?;
+    files.append_new(1, b"xyz")?;
+    files.commit_new(b"N", b"I")?;
+    assert!(rt; has(rt.alloc(), &mut files, Part::Index, b"I")?);
+    assert_eq!(rt; files.games_len(), Ok(4));
+    let mut into = [0u8; 4];
+    files.read_games(0, 4, &mut into)?;
+    assert_eq!(rt; into, *b"\0xyz");
+    files.append_games(0, b"w")?;
+    remove_base(&rt, paths)?;
+    Ok(())
+}
+
+#[test]
+fn files_that_cannot_take_their_places_leave_the_old_ones(rt: HostRuntime) -> Result<(), Fail> {
+    let paths = ["left.si4", "left.sn4", "left.sg4"];
+    write_base(&rt, "abcdefgh", paths)?;
+    fs::create_dir(&rt, "left.sg4.old")?;
+    let mut files = DiskFiles::new(rt.alloc(), &rt);
+    files.choose("left", false)?;
+    files.begin_new()?;
+    files.append_new(0, b"xyz")?;
+    assert_eq!(rt;
+        files.commit_new(b"N", b"I"),
+        Err(DeviceError::Failed),
+        "a folder is in the way"
+    );
+    assert!(rt; has(rt.alloc(), &mut files, Part::Index, b"INDEX")?);
+    assert!(rt; has(rt.alloc(), &mut files, Part::Names, b"NAMES")?);
+    fs::remove_dir(&rt, "left.sg4.old")?;
+    remove_base(&rt, paths)?;
+    Ok(())
+}
+
+#[test]
 fn an_absent_base_is_made_on_demand(rt: HostRuntime) -> Result<(), Fail> {
     let mut files = DiskFiles::new(rt.alloc(), &rt);
     assert_eq!(rt; files.choose("absent", false), Err(DeviceError::Failed));
@@ -182,6 +222,10 @@ fn files_in_memory(rt: HostRuntime) -> Result<(), Fail> {
     assert_eq!(rt; files.games(), b"abc\0de".as_slice());
     files.replace(Part::Names, b"new")?;
     assert_eq!(rt; files.names(), b"new".as_slice());
+    files.begin_new()?;
+    files.append_new(1, b"f")?;
+    files.commit_new(b"N", b"I")?;
+    assert_eq!(rt; files.games(), b"\0f".as_slice());
     Ok(())
 }
 

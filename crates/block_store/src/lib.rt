@@ -7,4 +7,4 @@ mod store;
 mod tests;
 
 pub use fault::StoreError;
-pub use store::Store;
+pub use store::{Store, padding};

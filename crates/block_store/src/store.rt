@@ -93,7 +93,7 @@ impl Store {
         ensures memory { IsErrOf result StoreError.Memory → F.faults files.new ≡ F.faults files.old }
     {
         let len = bytes.len() as u64;
-        let pad = padding_of(self.end, len);
+        let pad = padding(self.end, len);
         let end = self.end.saturating_add(u64::from(pad) + len);
         if end > LONGEST_FILE {
             return Err(StoreError::Full);
@@ -108,9 +108,9 @@ impl Store {
     }
 }
 
-// How many zero bytes come before a record of so many bytes.
+/// How many zero bytes come before a record of so many bytes, at most 131,071.
 #[tactic(auto, unfolding(crate::specs::Placing::padding))]
-fn padding_of(end: u64, len: u64) -> u32
+pub fn padding(end: u64, len: u64) -> u32
     requires { len ≤ 131071 }
     ensures padding { result ≡ padding end len }
     ensures short { result ≤ 131072 }

@@ -1,3 +1,4 @@
 pub mod Counts
 pub mod Passes
+pub mod Renumberings
 pub mod Searches

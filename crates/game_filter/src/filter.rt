@@ -1,5 +1,6 @@
 //! The filter of a base.
 use crate::plies;
+use crate::renumbering::Renumbering;
 use std::alloc::{AllocError, Global};
 use std::marker::Model;
 
@@ -25,8 +26,9 @@ impl Model for Filter {
 }
 
 impl Filter {
-    ghost use Rattle.std.specs.Prelude.{◌≡◌, ◌^◌, ◌<◌, [], ◌∷◌, ◌++◌, Some, length, map, slice_get, slice_set, IfOk, OnOk, OnErr};
+    ghost use Rattle.std.specs.Prelude.{◌≡◌, ◌^◌, ◌<◌, ℕ, [], ◌∷◌, ◌++◌, Some, length, map, slice_get, slice_set, IfOk, OnOk, OnErr};
     ghost use Rattle.game_filter.specs.Filter.{all_in, all_out, count_in, negated, intersection, union, restricted};
+    ghost use Rattle.game_filter.specs.Renumbering.{renumbered};
 
     /// The filter of `n` games that has every one of them in, at ply 0.
     pub fn new(alloc: Global, n: u32) -> Result<Filter, AllocError>
@@ -147,5 +149,16 @@ impl Filter {
         ensures restricted { self.new ≡ restricted first last self.old }
     {
         self.count = plies::restrict(self.plies.as_mut_slice(), first, last);
+    }
+
+    /// The entries of the games that stay get their new numbers, and those of the games that go are left out.
+    pub fn renumber(&mut self, renumbering: &Renumbering)
+        requires same_games { length renumbering.now.to ≡ length self.old }
+        ensures moved { self.new ≡ renumbered renumbering.now.to self.old }
+        ensures kept { length self.new ≡ renumbering.now.kept }
+        ensures entries { (i number : ℕ) → slice_get renumbering.now.to i ≡ Some (Some number) → slice_get self.new number ≡ slice_get self.old i }
+    {
+        self.count = plies::renumber(self.plies.as_mut_slice(), renumbering.to());
+        self.plies.truncate(renumbering.kept() as usize);
     }
 }

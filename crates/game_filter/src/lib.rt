@@ -7,8 +7,10 @@
 mod filter;
 mod op;
 mod plies;
+mod renumbering;
 #[cfg(test)]
 mod tests;
 
 pub use filter::Filter;
 pub use op::Op;
+pub use renumbering::Renumbering;

@@ -1,5 +1,5 @@
 //! Filters of a few games, beside lists that were worked out by hand.
-use crate::{Filter, Op};
+use crate::{Filter, Op, Renumbering};
 use std::alloc::{AllocError, Global};
 use std::process::Abort;
 use std::test::Fail;
@@ -108,4 +108,20 @@ fn each_way_of_searching_joins_the_match(rt: HostRuntime) {
             "{op:?} at {old:?} and {first:?}"
         );
     }
+}
+
+#[test]
+fn games_that_stay_keep_their_plies(rt: HostRuntime) -> Result<(), Fail> {
+    let mut filter = filter_of(&rt, rt.alloc(), &OWN)?;
+    let mut renumbering = Renumbering::new(rt.alloc());
+    renumbering.remove()?;
+    renumbering.keep()?;
+    renumbering.keep()?;
+    renumbering.remove()?;
+    assert_eq!(rt; renumbering.to(), [None, Some(0), Some(1), None].as_slice());
+    assert_eq!(rt; filter.plies().len(), renumbering.to().len());
+    filter.renumber(&renumbering);
+    assert_eq!(rt; filter.plies(), [Some(5), None].as_slice());
+    assert_eq!(rt; filter.count(), 1);
+    Ok(())
 }

@@ -8,4 +8,4 @@ returns-clause-in_block g c =
 
 pub returns-clause-there : goal.returns-clause-there
 returns-clause-there g c =
-    added_there _ _ c.args.self.now c.padding_of-pad.result _ c.args.bytes.now c.in_ok-append_games.ensures.added c.requires.at_end.told (search rules)
+    added_there _ _ c.args.self.now c.padding-pad.result _ c.args.bytes.now c.in_ok-append_games.ensures.added c.requires.at_end.told (search rules)

@@ -1,0 +1,20 @@
+-- How the games of a base are numbered anew where some of them go (this project's own).
+use Rattle.std.specs.Prelude.{◌≡◌, ℕ, ◌+◌, List, [], ◌∷◌, Option, Some, None}
+
+-- For each game its new number, or none where it goes; and how many games stay.
+pub record Numbering : Type 0 where
+  pub to : List (Option ℕ)
+  pub kept : ℕ
+
+-- The new numbers are those from `next` on up to `kept`, each once, in rising order.
+abbrev pub Rises : ℕ → List (Option ℕ) → ℕ → Type 0
+Rises next [] kept = kept ≡ next
+Rises next (None ∷ to) kept = Rises next to kept
+Rises next (Some number ∷ to) kept = (number ≡ next) × Rises (next + 1) to kept
+
+-- What is listed for each game, of the games that stay, in their order.
+abbrev pub renumbered : {T : Type 0} → List (Option ℕ) → List T → List T
+renumbered [] xs = []
+renumbered (number ∷ to) [] = []
+renumbered (None ∷ to) (x ∷ xs) = renumbered to xs
+renumbered (Some number ∷ to) (x ∷ xs) = x ∷ renumbered to xs
