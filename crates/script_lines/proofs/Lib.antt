@@ -1,2 +1,6 @@
 pub mod ScriptLaws
 pub mod ReadingLaws
+pub mod BodyLaws
+pub mod StandingLaws
+pub mod PlaceLaws
+pub mod TaskLaws

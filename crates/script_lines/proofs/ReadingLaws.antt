@@ -1,12 +1,16 @@
 -- Laws of what a reader of lines has taken.
 use Rattle.std.proofs.Common.{Result, Ok, Bool, ◌⊎◌, ◌-◌, ◌==◌, ◌∷◌, zero, not, true, inl, inr, min, ◌≡◌, ◌≤◌, ◌<◌, ◌+◌, ℕ, suc, List, [], ◌++◌, length, take, drop, Option, Some, None, refl, sym, ap, ◌∙◌, arith, append_assoc}
-use Rattle.std.proofs.Math.Seq.{take-append-add}
-use Rattle.std.proofs.lemmas.List.{take-take, take_all, take-append-drop, drop-drop, length-take, length-take-le, length-append}
+use Rattle.std.specs.List.{copy_within}
+use Rattle.std.proofs.Math.Seq.{take-add, take-append-add}
+use Rattle.std.proofs.lemmas.List.Edits.{take-paste}
+use Rattle.std.proofs.lemmas.List.{take-append-le, take-take, take_all, take-append-drop, drop-append-le, drop-drop, drop-take, drop_all, length-drop, length-take, length-take-le, length-append}
+use borrow.Rule.Slice.PartMut.{post_of, put_mid}
 use Rattle.base_files.specs.Told.{before}
 use Rattle.base_files.proofs.Telling.{before-nil, before-append}
 use Rattle.script_text.specs.Reading.{reading}
-use Rattle.script_lines.specs.Script.{Order, Script, script, script_from, led_by}
-use Rattle.script_lines.specs.Reading.{Reader, TookLine, TookPart, feed_at, grown, most_kept}
+use Rattle.script_lines.specs.Script.{Order, Script, script, script_from}
+use Rattle.script_lines.specs.Bodies.{feed_at}
+use Rattle.script_lines.specs.Reading.{Reader, TookLine, TookPart, grown, led_on, most_kept}
 use Rattle.script_lines.proofs.ScriptLaws.{feed_at_position, feed_room, first_feed, grown_none, line_read, part_read, reading_kept, script_kept}
 
 -- What is ahead is a front part of the unread bytes, and what is ahead then.
@@ -29,8 +33,8 @@ took_line old new within place l at unread line used =
       used = omega (arith, used, n);
       ends = λ last more.
           line_read last old.line old.unread more place there.0
-          ∙ ap (λ order. grown (suc place) (led_by order (script_from last [] more))) same
-          ∙ ap (λ k. grown k (led_by (reading new.line) (script_from last [] more))) (sym n);
+          ∙ ap (λ order. grown (suc place) (led_on last order more)) same
+          ∙ ap (λ k. grown k (led_on last (reading new.line) more)) (sym n);
     }
 
 -- Bytes without a line feed were taken.
@@ -46,7 +50,7 @@ took_part old new within l none fits unread line used =
       feeds = λ last more.
           part_read last old.line (take within old.unread) more (sym (feed_at_position (take within old.unread)) ∙ none)
           ∙ ap (grown (length (take within old.unread)))
-          (sym (script_kept last (old.line ++ take within old.unread) more) ∙ ap (λ k. script_from last k more) (sym line));
+          (sym (script_kept last (old.line ++ take within old.unread) more) ∙ ap (λ k. script_from last 0 k more) (sym line));
     }
 
 -- Nothing was taken yet.
@@ -55,7 +59,7 @@ took_none reader l fresh = record {
   front = [];
   ahead = sym (before-nil (before reader.unread l));
   used = omega arith;
-  feeds = λ last more. ap (λ k. script_from last k more) (sym fresh) ∙ sym (grown_none (script_from last reader.line more));
+  feeds = λ last more. ap (λ k. script_from last 0 k more) (sym fresh) ∙ sym (grown_none (script_from last 0 reader.line more));
 }
 
 -- More was read.
@@ -65,11 +69,11 @@ took_filled line old mid new l l' l'' took given same_line same_used = record {
   front = took.front;
   ahead = took.ahead ∙ ap (before took.front) given;
   used = same_used ∙ took.used;
-  feeds = λ last more. took.feeds last more ∙ ap (λ k. grown (length took.front) (script_from last k more)) (sym same_line);
+  feeds = λ last more. took.feeds last more ∙ ap (λ k. grown (length took.front) (script_from last 0 k more)) (sym same_line);
 }
 
 grown_twice : (m n : ℕ) (s : Script) → grown m (grown n s) ≡ grown (m + n) s
-grown_twice m n s = ap (script s.orders) (omega arith)
+grown_twice m n s = ap (script s.tasks) (omega arith)
 
 behind : (front more : List ℕ) (a b c : Option (List ℕ)) → a ≡ before front b → b ≡ before more c → a ≡ before (front ++ more) c
 behind front more a b c first second = first ∙ ap (before front) second ∙ sym (before-append front more c)
@@ -84,11 +88,11 @@ took_twice line old mid new l l' l'' first second =
       ahead = behind first.front second.front _ _ _ first.ahead second.ahead;
       used = omega (arith, first.used, second.used, n);
       feeds = λ last more.
-          ap (script_from last line) (append_assoc first.front second.front more)
+          ap (script_from last 0 line) (append_assoc first.front second.front more)
           ∙ first.feeds last (second.front ++ more)
           ∙ ap (grown (length first.front)) (second.feeds last more)
-          ∙ grown_twice (length first.front) (length second.front) (script_from last new.line more)
-          ∙ ap (λ k. grown k (script_from last new.line more)) (sym n);
+          ∙ grown_twice (length first.front) (length second.front) (script_from last 0 new.line more)
+          ∙ ap (λ k. grown k (script_from last 0 new.line more)) (sym n);
     }
 
 -- A part of a line, and then its rest.
@@ -101,11 +105,11 @@ took_rest line old mid new order l l' l'' first second =
       ahead = behind first.front second.front _ _ _ first.ahead second.ahead;
       used = omega (arith, first.used, second.used, n);
       ends = λ last more.
-          ap (script_from last line) (append_assoc first.front second.front more)
+          ap (script_from last 0 line) (append_assoc first.front second.front more)
           ∙ first.feeds last (second.front ++ more)
           ∙ ap (grown (length first.front)) (second.ends last more)
-          ∙ grown_twice (length first.front) (length second.front) (led_by order (script_from last [] more))
-          ∙ ap (λ k. grown k (led_by order (script_from last [] more))) (sym n);
+          ∙ grown_twice (length first.front) (length second.front) (led_on last order more)
+          ∙ ap (λ k. grown k (led_on last order more)) (sym n);
     }
 
 -- ---- what is kept of a line
@@ -144,3 +148,34 @@ some_more (suc n) more = omega arith
 
 pub ok_is : {E : Type 0} {a b : Bool} → ◌≡◌ {A = Result Bool E} (Ok a) (Ok b) → a ≡ b
 ok_is {E} {a} {b} same = cc
+
+-- ---- bytes that are moved to the front, and others behind them
+
+pub moved_front : (from to : ℕ) (bytes : List ℕ) → from ≤ to → to ≤ length bytes → take (to - from) (copy_within bytes from to 0) ≡ drop from (take to bytes)
+moved_front from to bytes order inside =
+    let rest : length (drop from bytes) ≡ length bytes - from = length-drop from bytes in
+    let all : from + (to - from) ≡ to = omega (arith, order) in
+    let none : 0 + (to - from) ≡ to - from = omega arith in
+    ap (λ n. take n (copy_within bytes from to 0)) (sym none)
+    ∙ take-paste bytes 0 (drop from bytes) (to - from) (omega arith) (omega (arith, rest, order, inside))
+    ∙ sym (drop-take from (to - from) bytes) ∙ ap (λ n. drop from (take n bytes)) all
+
+-- What was read behind the first bytes.
+pub tail_read : (kept n k : ℕ) (xs ys : List ℕ) → kept ≤ length xs → n ≤ length ys → drop kept (take (kept + n) (put_mid kept k xs ys)) ≡ take n ys
+tail_read kept n k xs ys fits few =
+    let size : length (take kept xs) ≡ kept = length-take-le kept xs fits in
+    let none : drop kept (take kept xs) ≡ [] = drop_all kept (take kept xs) (omega (arith, size)) in
+    drop-take kept n (put_mid kept k xs ys)
+    ∙ ap (take n) (drop-append-le kept (take kept xs) (ys ++ post_of kept k xs) (omega (arith, size)) ∙ ap (λ l. l ++ (ys ++ post_of kept k xs)) none)
+    ∙ take-append-le n ys (post_of kept k xs) few
+
+pub filled_behind : (u n : ℕ) (new unread : List ℕ) (l l' : Option (List ℕ)) → take u new ≡ unread → l ≡ before (drop u (take (u + n) new)) l'
+    → before unread l ≡ before (take (u + n) new) l'
+filled_behind u n new unread l l' front given =
+    let all : unread ++ drop u (take (u + n) new) ≡ take (u + n) new =
+    ap (λ b. b ++ drop u (take (u + n) new)) (sym front) ∙ ap (λ b. take u new ++ b) (drop-take u n new) ∙ sym (take-add u n new) in
+    ap (before unread) given ∙ sym (before-append unread (drop u (take (u + n) new)) l') ∙ ap (λ b. before b l') all
+
+-- All of a vector was lent as a slice.
+pub all_lent : (n : ℕ) (new old : List ℕ) → length new ≡ n → take n (new ++ drop (length new) old) ≡ new
+all_lent n new old size = take-append-le n new (drop (length new) old) (omega (arith, size)) ∙ take_all n new (omega (arith, size))

@@ -6,8 +6,10 @@ use Prim.Native.Nat.compare
 use Rattle.script_text.specs.declared.command.Command.TheVariants.{Nothing}
 use Rattle.script_text.specs.declared.fault.ScriptFault.TheVariants.{TooLong}
 use Rattle.script_text.specs.Reading.{reading, shorn, is_remark}
-use Rattle.script_lines.specs.Script.{Order, Script, script, script_from, led_by, with_byte}
-use Rattle.script_lines.specs.Reading.{feed_at, grown, most_kept}
+use Rattle.script_lines.specs.Script.{Script, script, script_from, with_byte}
+use Rattle.script_text.specs.Tasks.{Task, task}
+use Rattle.script_lines.specs.Bodies.{feed_at}
+use Rattle.script_lines.specs.Reading.{grown, led_on, most_kept}
 
 -- ---- lines that are too long
 
@@ -15,7 +17,7 @@ shorn_long : (test : Bool) (line : List ℕ) → length line ≤ length (cond te
 shorn_long true line = let h : length (take (length line - 1) line) ≡ length line - 1 = length-take-le (length line - 1) line (omega arith) in omega (arith, h)
 shorn_long false line = omega arith
 
-shorn_length : (line : List ℕ) → length line ≤ length (shorn line) + 1
+pub shorn_length : (line : List ℕ) → length line ≤ length (shorn line) + 1
 unfolding shorn
 shorn_length line = shorn_long (slice_index_or line (length line - 1) 0 == 13) line
 
@@ -53,48 +55,48 @@ first_feed [] = None
 first_feed (byte ∷ bytes) = if byte == 10 then Some 0 else option_map suc (first_feed bytes)
 
 -- A byte that is no line feed goes behind the line so far.
-byte_read : (last : Order → List Order) (line : List ℕ) (byte : ℕ) (bytes : List ℕ) → (byte == 10) ≡ false
-    → script_from last line (byte ∷ bytes) ≡ with_byte (script_from last (line ++ byte ∷ []) bytes)
+byte_read : (last : Task → List Task) (line : List ℕ) (byte : ℕ) (bytes : List ℕ) → (byte == 10) ≡ false
+    → script_from last 0 line (byte ∷ bytes) ≡ with_byte (script_from last 0 (line ++ byte ∷ []) bytes)
 unfolding script_from
 byte_read last line byte bytes other = rw other refl
 
 -- A line feed ends the line.
-feed_read : (last : Order → List Order) (line : List ℕ) (byte : ℕ) (bytes : List ℕ) → (byte == 10) ≡ true
-    → script_from last line (byte ∷ bytes) ≡ with_byte (led_by (reading line) (script_from last [] bytes))
+feed_read : (last : Task → List Task) (line : List ℕ) (byte : ℕ) (bytes : List ℕ) → (byte == 10) ≡ true
+    → script_from last 0 line (byte ∷ bytes) ≡ with_byte (led_on last (reading line) bytes)
 unfolding script_from
 feed_read last line byte bytes feed = rw feed refl
 
-no_feed : (test : Bool) (rest : Option ℕ) → cond test (Some 0) (option_map suc rest) ≡ None → (test ≡ false) × (rest ≡ None)
+pub no_feed : (test : Bool) (rest : Option ℕ) → cond test (Some 0) (option_map suc rest) ≡ None → (test ≡ false) × (rest ≡ None)
 no_feed true rest none = cc
 no_feed false None none = (refl, refl)
 no_feed false (Some place) none = cc
 
 pub grown_none : (s : Script) → grown 0 s ≡ s
-grown_none s = ap (script s.orders) (omega arith)
+grown_none s = ap (script s.tasks) (omega arith)
 
-grown_byte : (n : ℕ) (s : Script) → with_byte (grown n s) ≡ grown (suc n) s
-grown_byte n s = ap (script s.orders) (omega arith)
+pub grown_byte : (n : ℕ) (s : Script) → with_byte (grown n s) ≡ grown (suc n) s
+grown_byte n s = ap (script s.tasks) (omega arith)
 
 -- Bytes without a line feed go behind the line so far.
-pub part_read : (last : Order → List Order) (line part more : List ℕ) → first_feed part ≡ None
-    → script_from last line (part ++ more) ≡ grown (length part) (script_from last (line ++ part) more)
+pub part_read : (last : Task → List Task) (line part more : List ℕ) → first_feed part ≡ None
+    → script_from last 0 line (part ++ more) ≡ grown (length part) (script_from last 0 (line ++ part) more)
 part_read last line [] more none =
-    sym (grown_none (script_from last line more)) ∙ ap (λ l. grown 0 (script_from last l more)) (sym (append-nil line))
+    sym (grown_none (script_from last 0 line more)) ∙ ap (λ l. grown 0 (script_from last 0 l more)) (sym (append-nil line))
 part_read last line (byte ∷ part) more none =
     let none' : ((byte == 10) ≡ false) × (first_feed part ≡ None) = no_feed (byte == 10) (first_feed part) none in
     byte_read last line byte (part ++ more) none'.0
     ∙ ap with_byte (part_read last (line ++ byte ∷ []) part more none'.1)
-    ∙ grown_byte (length part) (script_from last ((line ++ byte ∷ []) ++ part) more)
-    ∙ ap (λ l. grown (suc (length part)) (script_from last l more)) (append_assoc line (byte ∷ []) part)
+    ∙ grown_byte (length part) (script_from last 0 ((line ++ byte ∷ []) ++ part) more)
+    ∙ ap (λ l. grown (suc (length part)) (script_from last 0 l more)) (append_assoc line (byte ∷ []) part)
 
 -- The first line feed ends the line.
 grown_line : (byte : ℕ) (s : Script) → with_byte s ≡ grown 1 s
-grown_line byte s = ap (script s.orders) (omega arith)
+grown_line byte s = ap (script s.tasks) (omega arith)
 
-line_read_behind : (last : Order → List Order) (line : List ℕ) (byte : ℕ) (bytes more : List ℕ) (place : ℕ) (rest : Option ℕ) → (byte == 10) ≡ false
-    → ((p : ℕ) → first_feed bytes ≡ Some p → script_from last (line ++ byte ∷ []) (take (suc p) bytes ++ more) ≡ grown (suc p) (led_by (reading ((line ++ byte ∷ []) ++ take p bytes)) (script_from last [] more)))
+line_read_behind : (last : Task → List Task) (line : List ℕ) (byte : ℕ) (bytes more : List ℕ) (place : ℕ) (rest : Option ℕ) → (byte == 10) ≡ false
+    → ((p : ℕ) → first_feed bytes ≡ Some p → script_from last 0 (line ++ byte ∷ []) (take (suc p) bytes ++ more) ≡ grown (suc p) (led_on last (reading ((line ++ byte ∷ []) ++ take p bytes)) more))
     → first_feed bytes ≡ rest → option_map suc rest ≡ Some place
-    → script_from last line (take (suc place) (byte ∷ bytes) ++ more) ≡ grown (suc place) (led_by (reading (line ++ take place (byte ∷ bytes))) (script_from last [] more))
+    → script_from last 0 line (take (suc place) (byte ∷ bytes) ++ more) ≡ grown (suc place) (led_on last (reading (line ++ take place (byte ∷ bytes))) more)
 line_read_behind last line byte bytes more place None other rest there at = cc
 line_read_behind last line byte bytes more zero (Some p) other rest there at = cc
 line_read_behind last line byte bytes more (suc place) (Some p) other rest there at =
@@ -102,22 +104,22 @@ line_read_behind last line byte bytes more (suc place) (Some p) other rest there
     let there' : first_feed bytes ≡ Some place = there ∙ ap Some e in
     byte_read last line byte (take (suc place) bytes ++ more) other
     ∙ ap with_byte (rest place there')
-    ∙ grown_byte (suc place) (led_by (reading ((line ++ byte ∷ []) ++ take place bytes)) (script_from last [] more))
-    ∙ ap (λ l. grown (suc (suc place)) (led_by (reading l) (script_from last [] more))) (append_assoc line (byte ∷ []) (take place bytes))
+    ∙ grown_byte (suc place) (led_on last (reading ((line ++ byte ∷ []) ++ take place bytes)) more)
+    ∙ ap (λ l. grown (suc (suc place)) (led_on last (reading l) more)) (append_assoc line (byte ∷ []) (take place bytes))
 
-line_read_by : (last : Order → List Order) (line : List ℕ) (byte : ℕ) (bytes more : List ℕ) (place : ℕ) (test : Bool) → (byte == 10) ≡ test
-    → ((p : ℕ) → first_feed bytes ≡ Some p → script_from last (line ++ byte ∷ []) (take (suc p) bytes ++ more) ≡ grown (suc p) (led_by (reading ((line ++ byte ∷ []) ++ take p bytes)) (script_from last [] more)))
+line_read_by : (last : Task → List Task) (line : List ℕ) (byte : ℕ) (bytes more : List ℕ) (place : ℕ) (test : Bool) → (byte == 10) ≡ test
+    → ((p : ℕ) → first_feed bytes ≡ Some p → script_from last 0 (line ++ byte ∷ []) (take (suc p) bytes ++ more) ≡ grown (suc p) (led_on last (reading ((line ++ byte ∷ []) ++ take p bytes)) more))
     → cond test (Some 0) (option_map suc (first_feed bytes)) ≡ Some place
-    → script_from last line (take (suc place) (byte ∷ bytes) ++ more) ≡ grown (suc place) (led_by (reading (line ++ take place (byte ∷ bytes))) (script_from last [] more))
+    → script_from last 0 line (take (suc place) (byte ∷ bytes) ++ more) ≡ grown (suc place) (led_on last (reading (line ++ take place (byte ∷ bytes))) more)
 line_read_by last line byte bytes more zero true is rest at =
     feed_read last line byte more is
-    ∙ grown_line byte (led_by (reading line) (script_from last [] more))
-    ∙ ap (λ l. grown 1 (led_by (reading l) (script_from last [] more))) (sym (append-nil line))
+    ∙ grown_line byte (led_on last (reading line) more)
+    ∙ ap (λ l. grown 1 (led_on last (reading l) more)) (sym (append-nil line))
 line_read_by last line byte bytes more (suc place) true is rest at = cc
 line_read_by last line byte bytes more place false is rest at = line_read_behind last line byte bytes more place (first_feed bytes) is rest refl at
 
-pub line_read : (last : Order → List Order) (line bytes more : List ℕ) (place : ℕ) → first_feed bytes ≡ Some place
-    → script_from last line (take (suc place) bytes ++ more) ≡ grown (suc place) (led_by (reading (line ++ take place bytes)) (script_from last [] more))
+pub line_read : (last : Task → List Task) (line bytes more : List ℕ) (place : ℕ) → first_feed bytes ≡ Some place
+    → script_from last 0 line (take (suc place) bytes ++ more) ≡ grown (suc place) (led_on last (reading (line ++ take place bytes)) more)
 line_read last line [] more place at = cc
 line_read last line (byte ∷ bytes) more place at =
     line_read_by last line byte bytes more place (byte == 10) refl (λ p there. line_read last (line ++ byte ∷ []) bytes more p there) at
@@ -130,13 +132,13 @@ take_twice (suc n) [] b = refl
 take_twice (suc n) (x ∷ a) b = ap (λ l. x ∷ l) (take_twice n a b)
 
 -- What is kept of a line says what the whole line does, whatever follows.
-pub script_kept : (last : Order → List Order) (line bytes : List ℕ) → script_from last (take most_kept line) bytes ≡ script_from last line bytes
+pub script_kept : (last : Task → List Task) (line bytes : List ℕ) → script_from last 0 (take most_kept line) bytes ≡ script_from last 0 line bytes
 unfolding script_from
-script_kept last line [] = ap (λ order. script (last order) 0) (reading_kept line)
+script_kept last line [] = ap (λ order. script (last (task order [])) 0) (reading_kept line)
 script_kept last line (byte ∷ bytes) =
-    let longer : script_from last (take most_kept line ++ byte ∷ []) bytes ≡ script_from last (line ++ byte ∷ []) bytes =
+    let longer : script_from last 0 (take most_kept line ++ byte ∷ []) bytes ≡ script_from last 0 (line ++ byte ∷ []) bytes =
     sym (script_kept last (take most_kept line ++ byte ∷ []) bytes)
-    ∙ ap (λ l. script_from last l bytes) (take_twice most_kept line (byte ∷ []))
+    ∙ ap (λ l. script_from last 0 l bytes) (take_twice most_kept line (byte ∷ []))
     ∙ script_kept last (line ++ byte ∷ []) bytes in
     rw (reading_kept line, longer) refl
 

@@ -1,2 +1,5 @@
+pub mod Bodies
 pub mod Script
 pub mod Reading
+pub mod Standing
+pub mod Fronts

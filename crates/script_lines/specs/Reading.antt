@@ -1,9 +1,9 @@
 -- What a reader of lines has taken of its input. This project's own.
-use Rattle.std.specs.Prelude.{◌≡◌, ◌<◌, ℕ, ⊤, ◌+◌, ◌==◌, List, [], ◌++◌, length, Option}
-use Rattle.std.specs.List.{position}
+use Rattle.std.specs.Prelude.{◌≡◌, ◌<◌, ℕ, ⊤, ◌+◌, List, [], ◌++◌, length, Option}
 use Rattle.base_files.specs.Told.{before, Tells}
 use Rattle.script_text.specs.Reading.{reading}
-use Rattle.script_lines.specs.Script.{Order, Script, script, script_from, led_by, longest_script}
+use Rattle.script_text.specs.Tasks.{Task}
+use Rattle.script_lines.specs.Script.{Order, Script, script, script_from, behind_line, longest_script}
 use Rattle.script_lines.specs.declared.reader.ReadError.{ReadError}
 use Rattle.script_lines.specs.declared.reader.ReadError.TheVariants.{Failed, TooLong, Memory}
 
@@ -21,21 +21,21 @@ most_kept = 65538
 abbrev pub piece_len : ℕ
 piece_len = 32768
 
--- The place of the first line feed.
-abbrev pub feed_at : List ℕ → Option ℕ
-feed_at bytes = position (λ byte. byte == 10) bytes
-
 -- So many bytes more.
 abbrev pub grown : ℕ → Script → Script
-grown count s = script s.orders (count + s.size)
+grown count s = script s.tasks (count + s.size)
+
+-- A line that a line feed ends, and these bytes behind it.
+abbrev pub led_on : (Task → List Task) → Order → List ℕ → Script
+led_on last order more = behind_line last order more (λ n. script_from last n [] more)
 
 -- Whatever follows, these bytes behind the one line say what their number and the other line say.
 abbrev pub Feeds : List ℕ → List ℕ → List ℕ → Type 0
-Feeds line front later = (last : Order → List Order) (more : List ℕ) → script_from last line (front ++ more) ≡ grown (length front) (script_from last later more)
+Feeds line front later = (last : Task → List Task) (more : List ℕ) → script_from last 0 line (front ++ more) ≡ grown (length front) (script_from last 0 later more)
 
 -- Whatever follows, these bytes end the line with a line feed, which is this order.
 abbrev pub Ends : List ℕ → List ℕ → Order → Type 0
-Ends line front order = (last : Order → List Order) (more : List ℕ) → script_from last line (front ++ more) ≡ grown (length front) (led_by order (script_from last [] more))
+Ends line front order = (last : Task → List Task) (more : List ℕ) → script_from last 0 line (front ++ more) ≡ grown (length front) (led_on last order more)
 
 -- Of what was ahead of the reader, a part of a line was taken.
 pub record TookPart (line : List ℕ) (old : Reader) (left : Option (List ℕ)) (new : Reader) (later : Option (List ℕ)) : Type 0 where

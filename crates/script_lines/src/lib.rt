@@ -1,8 +1,14 @@
-//! The lines of a script, read from a source one after the other.
+//! The lines of a script and the bodies behind them, read from a source one after the other.
 #![tactic(auto)]
 
+mod body;
+mod laws;
+mod place;
 mod reader;
 #[cfg(test)]
 mod tests;
 
-pub use reader::{LineReader, Order, ReadError, Taken, is_quit};
+pub use body::{Begins, Body};
+pub use laws::tasks_are_lines_with_their_bodies;
+pub use place::{At, Place};
+pub use reader::{LineReader, Order, ReadError, Taken, body_word, is_quit};

@@ -1,13 +1,16 @@
 //! The lines of the input, one after the other. No more than one line is held.
-ghost use Rattle.std.specs.Prelude.{◌≡◌, ◌≤◌, ◌<◌, ◌+◌, ◌-◌, ℕ, List, [], ◌++◌, length, take, drop, true, false, Option, Some, None, Ok, OnOk, OnErr, IfOk, IfErr};
+ghost use Rattle.std.specs.Prelude.{◌≡◌, ◌≤◌, ◌<◌, ◌+◌, ◌-◌, ℕ, List, [], ◌++◌, length, take, drop, true, false, Option, Some, None, Ok, OnOk, OnErr, IfOk, IfErr, option_map};
 ghost use Rattle.base_files.specs.Counters.{Rose};
 ghost use Rattle.base_files.specs.Told.{before, Tells};
 ghost use Rattle.script_text.specs.Reading.{reading};
 ghost use Rattle.script_text.specs.Sound.{IsSoundLine};
-ghost use Rattle.script_lines.specs.Reading.{TookPart, TookLine, TookLast, SaysLast, IsFull, Stuck, feed_at, most_kept, piece_len};
+ghost use Rattle.script_text.specs.Tasks.{body_word};
+ghost use Rattle.script_lines.specs.Bodies.{feed_at};
+ghost use Rattle.script_lines.specs.Reading.{TookPart, TookLine, TookLast, SaysLast, IsFull, Stuck, most_kept, piece_len};
 ghost use Rattle.script_lines.specs.Script.{Order as PlainOrder, is_quit, longest_script};
 
 use base_files::{Failed, Source};
+use cell_core::Text;
 use script_text::{Command, CommandError, ScriptFault, read_command};
 use std::alloc::{AllocError, Global};
 use std::marker::Model;
@@ -93,7 +96,7 @@ impl LineReader {
     }
 
     // The bytes that were read and not yet taken.
-    fn unread(&self) -> &[u8]
+    pub(crate) fn unread(&self) -> &[u8]
         ensures unread { result.now ≡ self.now.unread }
     {
         &self.piece[self.from..self.to]
@@ -111,6 +114,7 @@ impl LineReader {
         ensures line { self.new.line ≡ self.old.line }
         ensures used { self.new.used ≡ self.old.used }
         ensures counts { S.faults input.old ≤ S.faults input.new }
+        ensures same { S.origin input.new ≡ S.origin input.old }
         ensures cause { OnErr result (Rose (S.faults input.old) (S.faults input.new)) }
     {
         self.from = 0;
@@ -131,6 +135,7 @@ impl LineReader {
         ensures sum { S.budget input.new + length self.new.unread ≡ S.budget input.old + length self.old.unread }
         ensures falls { S.budget input.new ≤ S.budget input.old }
         ensures counts { S.faults input.old ≤ S.faults input.new }
+        ensures same { S.origin input.new ≡ S.origin input.old }
         ensures cause { OnErr result (Rose (S.faults input.old) (S.faults input.new)) }
     {
         if !self.unread().is_empty() {
@@ -138,6 +143,31 @@ impl LineReader {
         }
         self.fill(input)?;
         Ok(!self.unread().is_empty())
+    }
+
+    // Reads the next bytes of the input behind the unread ones, which are fewer than a piece; whether there are any.
+    pub(crate) fn fill_behind<S: Source>(&mut self, input: &mut S) -> Result<bool, Failed>
+        requires room { length self.old.unread < piece_len }
+        ensures kept { before self.old.unread (S.left input.old) ≡ before self.new.unread (S.left input.new) }
+        ensures line { self.new.line ≡ self.old.line }
+        ensures used { self.new.used ≡ self.old.used }
+        ensures some { result ≡ Ok true → length self.old.unread < length self.new.unread }
+        ensures none { result ≡ Ok false → self.new.unread ≡ self.old.unread }
+        ensures end { result ≡ Ok false → Tells (S.left input.new) [] }
+        ensures failed { OnErr result (self.new.unread ≡ self.old.unread) }
+        ensures sum { S.budget input.new + length self.new.unread ≡ S.budget input.old + length self.old.unread }
+        ensures falls { S.budget input.new ≤ S.budget input.old }
+        ensures counts { S.faults input.old ≤ S.faults input.new }
+        ensures same { S.origin input.new ≡ S.origin input.old }
+        ensures cause { OnErr result (Rose (S.faults input.old) (S.faults input.new)) }
+    {
+        shift(&mut self.piece, self.from, self.to);
+        let unread = self.to - self.from;
+        self.from = 0;
+        self.to = unread;
+        let count = read_behind(self.piece.as_mut_slice(), unread, input)?;
+        self.to = unread + count;
+        Ok(count > 0)
     }
 
     // Takes so many of the unread bytes into the line.
@@ -161,7 +191,7 @@ impl LineReader {
     }
 
     // The unread bytes within the greatest length of a script.
-    fn within(&self) -> &[u8]
+    pub(crate) fn within(&self) -> &[u8]
         ensures within { result.now ≡ take (longest_script - self.now.used) self.now.unread }
         ensures used { self.now.used ≤ longest_script }
     {
@@ -179,20 +209,20 @@ impl LineReader {
         ensures shorter { OnOk result (length self.new.unread < length self.old.unread) }
     {
         self.take(place)?;
-        self.pass();
+        self.pass(1);
         Ok(())
     }
 
-    // Passes over one unread byte, which counts.
-    fn pass(&mut self)
-        requires there { 0 < length self.old.unread }
-        requires within { self.old.used < longest_script }
-        ensures unread { self.new.unread ≡ drop 1 self.old.unread }
+    // Passes over so many unread bytes, which count.
+    pub(crate) fn pass(&mut self, count: usize)
+        requires there { count ≤ length self.old.unread }
+        requires within { self.old.used + count ≤ longest_script }
+        ensures unread { self.new.unread ≡ drop count self.old.unread }
         ensures line { self.new.line ≡ self.old.line }
-        ensures used { self.new.used ≡ self.old.used + 1 }
+        ensures used { self.new.used ≡ self.old.used + count }
     {
-        self.from += 1;
-        self.used += 1;
+        self.from += count;
+        self.used += count as u64;
     }
 
     // Takes the unread bytes within the greatest length of a script, of which none is a line feed; whether there are more.
@@ -241,6 +271,7 @@ impl LineReader {
         ensures falls { S.budget input.new ≤ S.budget input.old }
         ensures ahead { result ≡ Ok true → S.budget input.new + length self.new.unread < S.budget input.old + length self.old.unread }
         ensures counts { S.faults input.old ≤ S.faults input.new }
+        ensures same { S.origin input.new ≡ S.origin input.old }
         ensures cause { IfErr result (λ e. e ≡ ReadError.Failed → Rose (S.faults input.old) (S.faults input.new)) }
     {
         'parts: loop {
@@ -273,6 +304,7 @@ impl LineReader {
         ensures falls { S.budget input.new ≤ S.budget input.old }
         ensures ahead { (order : PlainOrder) → result ≡ Ok (Taken.Line order) → S.budget input.new + length self.new.unread < S.budget input.old + length self.old.unread }
         ensures counts { S.faults input.old ≤ S.faults input.new }
+        ensures same { S.origin input.new ≡ S.origin input.old }
         ensures cause { IfErr result (λ e. e ≡ ReadError.Failed → Rose (S.faults input.old) (S.faults input.new)) }
     {
         self.line.clear();
@@ -299,11 +331,53 @@ impl LineReader {
     }
 }
 
+// Moves the bytes from one place to another to the front.
+fn shift(piece: &mut Vec<u8>, from: usize, to: usize)
+    requires order { from ≤ to }
+    requires inside { to ≤ length piece.old.items }
+    ensures moved { take (to - from) piece.new.items ≡ drop from (take to piece.old.items) }
+    ensures size { length piece.new.items ≡ length piece.old.items }
+{
+    piece.copy_within(from..to, 0);
+}
+
+// Reads the next bytes of the input behind the first ones, which stay, and says how many.
+fn read_behind<S: Source>(piece: &mut [u8], kept: usize, input: &mut S) -> Result<usize, Failed>
+    requires room { kept < length piece.old }
+    ensures kept { take kept piece.new ≡ take kept piece.old }
+    ensures size { length piece.new ≡ length piece.old }
+    ensures fits { IfOk result (λ n. kept + n ≤ length piece.old) }
+    ensures given { IfOk result (λ n. S.left input.old ≡ before (drop kept (take (kept + n) piece.new)) (S.left input.new)) }
+    ensures end { IfOk result (λ n. n ≡ 0 → Tells (S.left input.new) []) }
+    ensures spent { IfOk result (λ n. S.budget input.new + n ≡ S.budget input.old) }
+    ensures none_lost { OnErr result (S.left input.new ≡ S.left input.old) }
+    ensures none_spent { OnErr result (S.budget input.new ≡ S.budget input.old) }
+    ensures counts { S.faults input.old ≤ S.faults input.new }
+    ensures same { S.origin input.new ≡ S.origin input.old }
+    ensures cause { OnErr result (Rose (S.faults input.old) (S.faults input.new)) }
+{
+    match input.read(&mut piece[kept..]) {
+        Ok(count) => Ok(count),
+        Err(Failed) => Err(Failed),
+    }
+}
+
 // The place of the first line feed.
-fn feed_at(bytes: &[u8]) -> Option<usize>
+pub(crate) fn feed_at(bytes: &[u8]) -> Option<usize>
     ensures place { result ≡ feed_at bytes.now }
 {
     bytes.iter().position(|byte| *byte == b'\n')
+}
+
+/// The word that ends the body of a line's command, where it has one.
+pub fn body_word(order: &Order) -> Option<&Text>
+    ensures word { option_map (λ word. word.now) result ≡ body_word order.now }
+{
+    match order {
+        Ok(Command::Import(word)) => Some(word),
+        Ok(Command::Replace(_, word)) => Some(word),
+        _ => None,
+    }
 }
 
 /// Whether a line is `quit`.

@@ -12,3 +12,4 @@ pub mod Tagging
 pub mod Reading
 pub mod Spelling
 pub mod Sound
+pub mod Tasks

@@ -6,7 +6,7 @@ use Rattle.chess_text.specs.Filling.{board_named}
 use Rattle.game_filter.specs.declared.op.Op.{Op}
 use Rattle.sig_index.specs.Queries.{any_head, any_material}
 use Rattle.script_text.specs.declared.command.Command.{Command}
-use Rattle.script_text.specs.declared.command.Command.TheVariants.{Nothing, Find, SearchPosition, SearchMaterial, SearchHeader, Reset, Clear, Negate, Restrict, Keep, Take, And, Or, Drop, Hits, List as Listing, Show, Export, Import, Replace, Tag, Delete, Undelete, Mark, Tree, Save, Info, Demo, Quit}
+use Rattle.script_text.specs.declared.command.Command.TheVariants.{Nothing, Find, SearchPosition, SearchMaterial, SearchHeader, Reset, Clear, Negate, Restrict, Keep, Take, And, Or, Drop, Hits, List as Listing, Show, Export, Import, Replace, Tag, Delete, Undelete, Mark, Tree, Save, Compact, Info, Demo, Quit}
 use Rattle.script_text.specs.declared.fault.ScriptFault.{ScriptFault}
 use Rattle.script_text.specs.declared.fault.ScriptFault.TheVariants.{TooLong, Unknown}
 use Rattle.script_text.specs.declared.forms.SearchKind.{SearchKind}
@@ -61,6 +61,7 @@ tag words = do
 unfoldable pub ending : List ℕ → List Word → Result Command ScriptFault
 ending name words =
     if bytes_eq name (codes "save") then made (λ _. Save) (no_more 0 words)
+    else if bytes_eq name (codes "compact") then made (λ _. Compact) (no_more 0 words)
     else if bytes_eq name (codes "demo") then made (λ given. Demo given.0 given.1) (two number demo_games words)
     else if bytes_eq name (codes "quit") then made (λ _. Quit) (no_more 0 words)
     else Err Unknown

@@ -1,11 +1,11 @@
 -- The bounds of what a command holds (this project's own).
-use Rattle.std.specs.Prelude.{◌<◌, ◌≤◌, IfSome, Result, IfOk}
+use Rattle.std.specs.Prelude.{◌<◌, ◌≤◌, length, IfSome, Result, IfOk}
 use Rattle.game_tree.specs.TagEdit.{IsEdit}
 use Rattle.sig_index.specs.declared.head_query.HeadQuery.{HeadQuery}
 use Rattle.sig_index.specs.declared.mat_query.MatQuery.{MatQuery}
 use Rattle.script_text.specs.declared.command.Command.{Command}
 use Rattle.script_text.specs.declared.fault.ScriptFault.{ScriptFault}
-use Rattle.script_text.specs.declared.command.Command.TheVariants.{Nothing, Find, SearchPosition, SearchMaterial, SearchHeader, Reset, Clear, Negate, Restrict, Keep, Take, And, Or, Drop, Hits, List as Listing, Show, Export, Import, Replace, Tag, Delete, Undelete, Mark, Tree, Save, Info, Demo, Quit}
+use Rattle.script_text.specs.declared.command.Command.TheVariants.{Nothing, Find, SearchPosition, SearchMaterial, SearchHeader, Reset, Clear, Negate, Restrict, Keep, Take, And, Or, Drop, Hits, List as Listing, Show, Export, Import, Replace, Tag, Delete, Undelete, Mark, Tree, Save, Compact, Info, Demo, Quit}
 
 -- A mark that is asked for is one of the 18 bits.
 abbrev pub IsHeadQuery : HeadQuery → Type 0
@@ -15,12 +15,14 @@ IsHeadQuery query = IfSome query.mark (λ bit. bit < 18)
 abbrev pub IsMatQuery : MatQuery → Type 0
 IsMatQuery query = 1 ≤ query.streak
 
--- An edit is within the bounds of heads, a mark is one of the 18 bits, and a streak has a ply.
+-- An edit is within the bounds of heads, a mark is one of the 18 bits, a streak has a ply, and the word that ends a body is short.
 abbrev pub IsSound : Command → Type 0
 IsSound (Tag game edit) = IsEdit edit
 IsSound (Mark game bit on) = bit < 18
 IsSound (SearchHeader op query) = IsHeadQuery query
 IsSound (SearchMaterial op query) = IsMatQuery query
+IsSound (Import end) = length end ≤ 32
+IsSound (Replace game end) = length end ≤ 32
 IsSound Nothing = Unit {0}
 IsSound (Find board side) = Unit {0}
 IsSound (SearchPosition op query) = Unit {0}
@@ -37,12 +39,11 @@ IsSound Hits = Unit {0}
 IsSound Listing = Unit {0}
 IsSound (Show game) = Unit {0}
 IsSound Export = Unit {0}
-IsSound (Import end) = Unit {0}
-IsSound (Replace game end) = Unit {0}
 IsSound (Delete game) = Unit {0}
 IsSound (Undelete game) = Unit {0}
 IsSound (Tree board side) = Unit {0}
 IsSound Save = Unit {0}
+IsSound Compact = Unit {0}
 IsSound Info = Unit {0}
 IsSound (Demo seed games) = Unit {0}
 IsSound Quit = Unit {0}

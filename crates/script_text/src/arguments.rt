@@ -1,5 +1,5 @@
 //! The arguments of a command.
-ghost use Rattle.std.specs.Prelude.{◌≡◌, ◌≤◌, ◌<◌, None, Some, IfOk, IfErr, MatchResult};
+ghost use Rattle.std.specs.Prelude.{◌≡◌, ◌≤◌, ◌<◌, length, None, Some, IfOk, IfErr, MatchResult};
 ghost use Rattle.std.specs.Option.{option_map};
 ghost use Rattle.cell_core.specs.Text.{IsZeroFree};
 ghost use Rattle.chess_text.specs.Filling.{board_named};
@@ -90,6 +90,7 @@ pub(crate) fn one_name(words: &[Word]) -> Result<&[u8], ScriptFault>
 pub(crate) fn one_body(words: &[Word]) -> Result<&[u8], ScriptFault>
     ensures ends { MatchResult result (λ end. one body_end words.now ≡ Ok end.now) (λ fault. one body_end words.now ≡ Err fault) }
     ensures free { IfOk result (λ end. IsZeroFree end.now) }
+    ensures short { IfOk result (λ end. length end.now ≤ 32) }
 {
     let end = body_end(text_at(words, 1)?).ok_or(ScriptFault::Argument(1))?;
     no_more(words, 1)?;
@@ -101,6 +102,7 @@ pub(crate) fn one_body(words: &[Word]) -> Result<&[u8], ScriptFault>
 pub(crate) fn number_and_body(words: &[Word]) -> Result<(u64, &[u8]), ScriptFault>
     ensures ends { MatchResult result (λ given. two number body_end words.now ≡ Ok (given.0, given.1.now)) (λ fault. two number body_end words.now ≡ Err fault) }
     ensures free { IfOk result (λ given. IsZeroFree given.1.now) }
+    ensures short { IfOk result (λ given. length given.1.now ≤ 32) }
 {
     let number = number(text_at(words, 1)?).ok_or(ScriptFault::Argument(1))?;
     let end = body_end(text_at(words, 2)?).ok_or(ScriptFault::Argument(2))?;

@@ -59,6 +59,8 @@ pub enum Command {
     Tree(Board, Colour),
     /// `save`
     Save,
+    /// `compact`
+    Compact,
     /// `info`
     Info,
     /// `demo SEED GAMES`

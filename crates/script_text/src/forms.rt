@@ -177,6 +177,7 @@ fn has_name_bytes_alone(word: &[u8]) -> bool
 pub(crate) fn body_end(word: &[u8]) -> Option<&[u8]>
     ensures ends { option_map (λ name. name.now) result ≡ body_end word.now }
     ensures free { IfSome result (λ name. IsZeroFree name.now) }
+    ensures short { IfSome result (λ name. length name.now ≤ 32) }
 {
     match word {
         [b'<', b'<', name @ ..] => end_word(name),
@@ -187,6 +188,7 @@ pub(crate) fn body_end(word: &[u8]) -> Option<&[u8]>
 fn end_word(word: &[u8]) -> Option<&[u8]>
     ensures ends { option_map (λ name. name.now) result ≡ end_word word.now }
     ensures free { IfSome result (λ name. IsZeroFree name.now) }
+    ensures short { IfSome result (λ name. length name.now ≤ 32) }
 {
     if 1 <= word.len() && word.len() <= 32 && is_alphanumeric(word) {
         Some(word)

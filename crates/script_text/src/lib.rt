@@ -18,7 +18,7 @@ mod words;
 pub use command::Command;
 pub use fault::{CommandError, ScriptFault};
 pub use grammar::lines_have_one_reading;
-pub use reading::read_command;
+pub use reading::{read_command, shorn};
 pub use spelling::quoted_words_are_read;
 
 #[cfg(test)]

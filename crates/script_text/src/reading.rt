@@ -197,6 +197,10 @@ fn ending(name: &[u8], words: &[Word]) -> Result<Command, ScriptFault>
         no_more(words, 0)?;
         return Ok(Command::Save);
     }
+    if name == b"compact".as_slice() {
+        no_more(words, 0)?;
+        return Ok(Command::Compact);
+    }
     if name == b"demo".as_slice() {
         let (seed, games) = demo_arguments(words)?;
         return Ok(Command::Demo(seed, games));
@@ -223,9 +227,9 @@ fn command_of(alloc: Global, words: &[Word]) -> Result<Command, CommandError>
     }
 }
 
-// The line without its last carriage return.
+/// A line without its last carriage return.
 #[tactic(auto, unfolding(crate::specs::Reading::shorn))]
-fn shorn(line: &[u8]) -> &[u8]
+pub fn shorn(line: &[u8]) -> &[u8]
     ensures { result.now ≡ shorn line.now }
 {
     match line {

@@ -34,7 +34,7 @@ pub(crate) fn misread(
 }
 
 // The commands that have no arguments, and words that are no command.
-const ALONE: [Row; 23] = [
+const ALONE: [Row; 25] = [
     ("reset", None),
     ("reset now", Some(Extra)),
     ("clear", None),
@@ -51,6 +51,8 @@ const ALONE: [Row; 23] = [
     ("info now", Some(Extra)),
     ("save", None),
     ("save now", Some(Extra)),
+    ("compact", None),
+    ("compact now", Some(Extra)),
     ("quit", None),
     ("quit now", Some(Extra)),
     ("quit \"", Some(Extra)),

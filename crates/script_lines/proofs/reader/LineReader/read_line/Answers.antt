@@ -1,4 +1,4 @@
-use Rattle.std.proofs.Common.{arith, ap, length, []}
+use Rattle.std.proofs.Common.{arith, ap, length, [], ◌∙◌}
 use Rattle.script_lines.proofs.ReadingLaws.{took_filled, took_rest, took_twice}
 use Rattle.script_lines.proofs.reader.LineReader.read_line.Goals as goal
 
@@ -17,6 +17,7 @@ parts-preserved g c = record {
   sum = omega (arith, c.parts.invariant.sum, c.refill.ensures.sum, c.refill.ensures.used, c.take_part.ensures.sum);
   falls = omega (arith, c.parts.invariant.falls, c.refill.ensures.falls);
   faults = omega (arith, c.parts.invariant.faults, c.refill.ensures.counts);
+  same = c.refill.ensures.same ∙ c.parts.invariant.same;
 }
 
 pub returns-in-Ok-Limit-clause-stuck : goal.returns-in-Ok-Limit-clause-stuck

@@ -9,6 +9,7 @@ invariant-parts g l = record {
   sum : g.S.Source.budget l.input + (l.self.used + length l.self.unread) ≡ g.S.Source.budget l.fn.input + (l.fn.self.used + length l.fn.self.unread);
   falls : g.S.Source.budget l.input ≤ g.S.Source.budget l.fn.input;
   faults : g.S.Source.faults l.fn.input ≤ g.S.Source.faults l.input;
+  same : g.S.Source.origin l.input ≡ g.S.Source.origin l.fn.input;
 }
 
 -- Each piece is paid from the budget.

@@ -1,6 +1,6 @@
 use Rattle.std.proofs.Common.{arith, not, ◌≡◌, ◌-◌, length, take, ap, sym, ◌∙◌}
 use Rattle.std.proofs.lemmas.List.{length-drop, length-take}
-use Rattle.script_lines.specs.Reading.{feed_at}
+use Rattle.script_lines.specs.Bodies.{feed_at}
 use Rattle.script_lines.specs.Script.{longest_script}
 use Rattle.script_lines.proofs.ReadingLaws.{front_part, ok_is, some_more, took_part}
 use Rattle.script_lines.proofs.reader.LineReader.take_open.Goals as goal
