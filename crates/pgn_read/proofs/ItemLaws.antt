@@ -26,17 +26,17 @@ use Rattle.pgn_read.proofs.LexingLaws.{Goes, token_goes, token_shorter}
 
 -- ---- progress
 
-at_short : (c : Bool) (n : ℕ) (x y : At) → length x.bytes ≤ n → length y.bytes ≤ n → length (cond c x y).bytes ≤ n
+pub at_short : (c : Bool) (n : ℕ) (x y : At) → length x.bytes ≤ n → length y.bytes ≤ n → length (cond c x y).bytes ≤ n
 at_short true n x y p q = p
 at_short false n x y p q = q
 
-gap_short : (inside : Bool) (place : Place) (room : ℕ) (w : List ℕ) → length (behind_gap inside place room w).bytes ≤ length w
+pub gap_short : (inside : Bool) (place : Place) (room : ℕ) (w : List ℕ) → length (behind_gap inside place room w).bytes ≤ length w
 gap_short inside place room [] = omega arith
 gap_short inside place room (b ∷ w) =
     at_short (on_remark inside place b || is_white b) (suc (length w)) _ _
     (omega (arith, gap_short (on_remark inside place b && not (b == 10)) (next_place place b) (room - 1) w)) (omega arith)
 
-next_short : (place : Place) (room b : ℕ) (w : List ℕ) → length (next_at (here place room (b ∷ w))).bytes ≤ length w
+pub next_short : (place : Place) (room b : ℕ) (w : List ℕ) → length (next_at (here place room (b ∷ w))).bytes ≤ length w
 next_short place room b w =
     let behind = behind_token (here place room (b ∷ w)) in
     omega (arith, gap_short false behind.place behind.room behind.bytes, length-drop (size (b ∷ w)) (b ∷ w), token_shorter b w)
@@ -60,7 +60,7 @@ later_same r (ends_behind outcome) a f g same = refl
 later_same r ends_before a f g same = refl
 later_same r (is_faulty w) a f g same = refl
 
-and_false : (a b : Bool) → (a && (b && false)) ≡ false
+pub and_false : (a b : Bool) → (a && (b && false)) ≡ false
 and_false true true = refl
 and_false true false = refl
 and_false false b = refl
@@ -91,7 +91,7 @@ pub token_taken : (r : Reading) (a : At) → item_at r a ≡ by_effect r a (λ s
 token_taken r a = taken r a.place a.room a.bytes
 
 -- A token with which reading goes on has a byte.
-not_end : (c : Bool) (s : Reading) → cond c (is_faulty what.Paren) ends_before ≡ goes_on s → ⊥
+pub not_end : (c : Bool) (s : Reading) → cond c (is_faulty what.Paren) ends_before ≡ goes_on s → ⊥
 not_end true s is = cc
 not_end false s is = cc
 

@@ -19,3 +19,4 @@ pub mod MarksLaws
 pub mod HeadsAgainLaws
 pub mod TakenLaws
 pub mod RoundTripLaws
+pub mod CountLaws

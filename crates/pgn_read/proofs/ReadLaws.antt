@@ -5,7 +5,7 @@ use Rattle.pgn_read.specs.Text.{At}
 use Rattle.pgn_read.specs.Items.{Next, next, next_item, AreItems, PgnReads}
 use Rattle.pgn_read.specs.Readers.{fresh_reader, told, Follows, ItemsAhead, AreRead}
 
-same_next : (a b : Next) → ◌≡◌ {A = Option Next} (Some a) (Some b) → a ≡ b
+pub same_next : (a b : Next) → ◌≡◌ {A = Option Next} (Some a) (Some b) → a ≡ b
 same_next a b is = cc
 
 pub more_ahead : (old new : Option At) (item : Item) (items : List Item) → Follows old (Some item) new → ItemsAhead new items → ItemsAhead old (item ∷ items)

@@ -1,6 +1,6 @@
 -- The items of a text: its games, and the first fault of each that is none (PGN standard, 8; the faults and where reading goes on
 -- are this project's own).
-use Rattle.std.specs.Prelude.{◌≡◌, ℕ, suc, ◌-◌, ◌==◌, nat_lt, Bool, not, ◌&&◌, if◌then◌else◌, List, [], ◌∷◌, length, Option, Some, None, codes}
+use Rattle.std.specs.Prelude.{◌≡◌, ℕ, zero, suc, ◌-◌, ◌==◌, nat_lt, Bool, not, ◌&&◌, if◌then◌else◌, List, [], ◌∷◌, length, Option, Some, None, codes}
 use Rattle.game_tree.specs.declared.head.Outcome.{Outcome}
 use Rattle.pgn_read.specs.declared.place.Place.{Place}
 use Rattle.pgn_read.specs.declared.item.GameWhat.{GameWhat}
@@ -97,6 +97,14 @@ abbrev pub AreItems : At → List Item → Type 0
 AreItems a [] = (next_item a).item ≡ None
 AreItems a (item ∷ items) = ((next_item a).item ≡ Some item) × AreItems (next_item a).at items
 
+-- The items from here on, where there are at most so many.
+abbrev pub items_at : ℕ → At → List Item
+items_at zero a = []
+items_at (suc most) a = elim (next_item a).item [
+  | Some item ↦ item ∷ items_at most (next_item a).at
+  | None ↦ []
+]
+
 -- The beginning of a text.
 abbrev pub text_start : List ℕ → At
 text_start text = here first_place longest text
@@ -104,3 +112,7 @@ text_start text = here first_place longest text
 -- The text has these items.
 abbrev pub PgnReads : List ℕ → List Item → Type 0
 PgnReads text items = AreItems (text_start text) items
+
+-- These items: each has a byte at least.
+abbrev pub items_of : List ℕ → List Item
+items_of text = items_at (length text) (text_start text)

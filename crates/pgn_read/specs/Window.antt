@@ -1,13 +1,15 @@
 -- The bytes of a source that were read and not yet taken, with where they stand. No public contract cites these words.
-use Rattle.std.specs.Prelude.{◌≡◌, ◌≤◌, ◌⊎◌, ℕ, ◌+◌, ◌-◌, Bool, true, false, List, ◌++◌, length, take, drop, Option, Some, option_map, IsTrue}
+use Rattle.std.specs.Prelude.{◌≡◌, ◌≤◌, ◌<◌, ◌⊎◌, ⊤, ℕ, ◌+◌, ◌-◌, if◌then◌else◌, Bool, true, false, List, ◌++◌, length, take, drop, Option, Some, option_map, IsTrue}
 use Rattle.pgn_read.specs.declared.place.Place.{Place}
 use Rattle.pgn_read.specs.declared.step.End.{End}
 use Rattle.pgn_read.specs.declared.step.End.TheVariants as end
 use Rattle.pgn_read.specs.declared.step.Step.{Step}
 use Rattle.pgn_read.specs.declared.step.Step.TheVariants as step
+use Rattle.pgn_read.specs.declared.step.Untaken.{Untaken}
+use Rattle.pgn_read.specs.declared.step.Untaken.TheVariants as untaken
 use Rattle.pgn_read.specs.Place.{place_behind}
 use Rattle.pgn_read.specs.Lexing.{lexed, size}
-use Rattle.pgn_read.specs.Text.{At, here, behind_token}
+use Rattle.pgn_read.specs.Text.{At, here, behind_token, longest}
 use Rattle.pgn_read.specs.Reading.{Reading}
 use Rattle.pgn_read.specs.Items.{Next, ended, ended_before, faulty}
 
@@ -28,6 +30,10 @@ ahead w left = option_map (with_more w) left
 -- What the window has tells the token at its front, or that it is too long.
 abbrev pub Decides : Window → Type 0
 Decides w = IsTrue w.ended ⊎ ((8 ≤ length (lexed w.unread).rest) ⊎ (w.room + 8 ≤ length w.unread))
+
+-- One until the source's end is known, then none.
+abbrev pub waiting : Window → ℕ
+waiting w = if w.ended then 0 else 1
 
 -- The window alone, as if nothing came behind it.
 abbrev pub front : Window → At
@@ -56,6 +62,11 @@ Moved step.GoesOn old new = option_map behind_token old ≡ new
 Moved (step.Ends (end.Behind outcome)) old new = option_map behind_token old ≡ new
 Moved (step.Ends end.Before) old new = old ≡ new
 Moved (step.Ends (end.Faulty what)) old new = old ≡ new
+
+-- Why the token at the front was not taken: the window does not tell it, and all is as before; or memory ran out.
+abbrev pub WhyUntaken : Untaken → Window → Window → Reading → Reading → Type 0
+WhyUntaken untaken.Untold old new before after = (new ≡ old) × ((after ≡ before) × ((old.ended ≡ false) × (length old.unread < longest + 8)))
+WhyUntaken untaken.Memory old new before after = ⊤
 
 -- The item of a game that ends so, from behind its end mark on, and else from the token on that ends it.
 abbrev pub by_end : Reading → End → At → Next

@@ -2,13 +2,15 @@
 ghost use Rattle.std.specs.Prelude.{◌≡◌, ◌∷◌, ℕ, [], List, Option, None, Some, All, map};
 ghost use Rattle.pgn_read.specs.declared.item.Item.{Item as PlainItem};
 ghost use Rattle.pgn_read.specs.Text.{At};
-ghost use Rattle.pgn_read.specs.Items.{PgnReads};
+ghost use Rattle.pgn_read.specs.Items.{PgnReads, items_of};
 ghost use Rattle.pgn_read.specs.Readers.{fresh_reader, told, Follows, ItemsAhead, AreRead};
 ghost use Rattle.pgn_read.specs.RoundTrip.{Headed, IsReadAgain, texts_of, again};
 
-/// A law: a text has one list of items.
-#[tactic(auto, using(crate::proofs::ItemLaws::one_list))]
+/// A law: a text has one list of items, which is the one that is computed.
+#[tactic(auto, using(crate::proofs::ItemLaws::one_list, crate::proofs::CountLaws::listed, crate::proofs::CountLaws::listed_alone))]
 pub fn texts_have_one_list_of_items()
+    ensures listed { (text : List ℕ) → PgnReads text (items_of text) }
+    ensures alone { (text : List ℕ) (items : List PlainItem) → PgnReads text items → items ≡ items_of text }
     ensures one { (text : List ℕ) (items others : List PlainItem) → PgnReads text items → PgnReads text others → items ≡ others }
 {}
 

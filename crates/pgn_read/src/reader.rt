@@ -7,13 +7,13 @@ ghost use Rattle.pgn_read.specs.Fit.{IsFit};
 ghost use Rattle.pgn_read.specs.Legality.{IsLegal, EndsLegally, StepsLegally};
 ghost use Rattle.pgn_read.specs.Readers.{fresh_reader, told, Follows, IsStuck};
 ghost use Rattle.pgn_read.specs.Said.{said_step, StepsWell, EndsWell, IsBalanced};
-ghost use Rattle.pgn_read.specs.Window.{ahead, front, by_end, Moved, FrontMoved, passes};
+ghost use Rattle.pgn_read.specs.Window.{ahead, front, by_end, Decides, Moved, FrontMoved, WhyUntaken, passes};
 
 use crate::error::PgnError;
 use crate::item::{GameFault, GameWhat, Item};
 use crate::lexing::lexed;
 use crate::reading::Reading;
-use crate::step::{End, Step};
+use crate::step::{End, Step, Untaken};
 use crate::window::Window;
 use base_files::Source;
 use std::alloc::{AllocError, Global};
@@ -63,6 +63,7 @@ impl Reader {
         ensures cause { IfErr result (λ error. IsStuck error self.old (S.faults source.old) (S.faults source.new)) }
         ensures spends { S.budget source.new ≤ S.budget source.old }
         ensures counts { S.faults source.old ≤ S.faults source.new }
+        ensures same { S.origin source.new ≡ S.origin source.old }
     {
         if let Some(error) = self.stuck {
             return Err(error);
@@ -88,6 +89,7 @@ fn read_item<S: Source>(
     ensures item { IfOk result (λ item. Follows (ahead window.old (S.left source.old)) item (ahead window.new (S.left source.new))) }
     ensures spends { S.budget source.new ≤ S.budget source.old }
     ensures counts { S.faults source.old ≤ S.faults source.new }
+    ensures same { S.origin source.new ≡ S.origin source.old }
     ensures cause { IfErr result (λ e. HasCause e (S.faults source.old) (S.faults source.new)) }
 {
     window.begin();
@@ -105,6 +107,7 @@ fn to_first_token<S: Source>(window: &mut Window, source: &mut S) -> Result<(), 
     ensures told { OnOk result (IsTrue window.new.ended → Tells (S.left source.new) []) }
     ensures spends { S.budget source.new ≤ S.budget source.old }
     ensures counts { S.faults source.old ≤ S.faults source.new }
+    ensures same { S.origin source.new ≡ S.origin source.old }
     ensures cause { IfErr result (λ e. HasCause e (S.faults source.old) (S.faults source.new)) }
 {
     if let Err(error) = window.skip_mark(source) {
@@ -132,6 +135,7 @@ fn read_game<S: Source>(
     ensures item { IfOk result (λ item. option_map (item_at game) (ahead window.old (S.left source.old)) ≡ option_map (next item) (ahead window.new (S.left source.new))) }
     ensures spends { S.budget source.new ≤ S.budget source.old }
     ensures counts { S.faults source.old ≤ S.faults source.new }
+    ensures same { S.origin source.new ≡ S.origin source.old }
     ensures cause { IfErr result (λ e. HasCause e (S.faults source.old) (S.faults source.new)) }
 {
     let mut game = game;
@@ -151,7 +155,7 @@ fn read_game<S: Source>(
     }
 }
 
-// Takes the next token into the game.
+// Takes the next token into the game. The bytes are read on only where those that are there do not tell it.
 #[tactic(auto, using(crate::proofs::ItemLaws::told_effect, crate::proofs::ItemLaws::told_moved))]
 fn take_token<S: Source>(
     alloc: Global,
@@ -171,22 +175,29 @@ fn take_token<S: Source>(
     ensures shorter { result ≡ Ok Step.GoesOn → S.budget source.new + length window.new.unread < S.budget source.old + length window.old.unread }
     ensures spends { S.budget source.new ≤ S.budget source.old }
     ensures counts { S.faults source.old ≤ S.faults source.new }
+    ensures same { S.origin source.new ≡ S.origin source.old }
     ensures cause { IfErr result (λ e. HasCause e (S.faults source.old) (S.faults source.new)) }
 {
-    if let Err(error) = window.prepare(source) {
-        return Err(error);
-    }
-    match take_front(alloc, window, game) {
-        Ok(step) => Ok(step),
-        Err(_) => Err(PgnError::Memory),
+    'looks: loop {
+        match take_front(alloc, window, game) {
+            Ok(step) => return Ok(step),
+            Err(Untaken::Untold) => {
+                if let Err(error) = window.read_on(source) {
+                    return Err(error);
+                }
+            }
+            Err(Untaken::Memory) => return Err(PgnError::Memory),
+        }
     }
 }
 
-// Takes the token at the front of the window into the game, and passes over it where reading goes on behind it.
+// Takes the token at the front of the window into the game, if the window tells it, and passes over it where reading goes on behind it.
 #[tactic(auto, using(crate::proofs::SoundLaws::token_sound, crate::proofs::LegalLaws::steps_legally))]
-fn take_front(alloc: Global, window: &mut Window, game: &mut Reading) -> Result<Step, AllocError>
+fn take_front(alloc: Global, window: &mut Window, game: &mut Reading) -> Result<Step, Untaken>
     requires balanced { IsBalanced game.old }
     requires legal { IsLegal game.old }
+    ensures decides { OnOk result (Decides window.old) }
+    ensures why { IfErr result (λ why. WhyUntaken why window.old window.new game.old game.new) }
     ensures effect { IfOk result (λ step. effect_at game.old (front window.old) ≡ said_step step game.new) }
     ensures moved { IfOk result (λ step. FrontMoved step window.old window.new) }
     ensures well { IfOk result (λ step. StepsWell step game.old game.new) }
@@ -196,10 +207,13 @@ fn take_front(alloc: Global, window: &mut Window, game: &mut Reading) -> Result<
     ensures shorter { result ≡ Ok Step.GoesOn → length window.new.unread < length window.old.unread }
 {
     let unread = window.unread();
+    let found = lexed(unread);
+    if !window.tells(found.rest.len()) {
+        return Err(Untaken::Untold);
+    }
     if game.is_next_game(unread) {
         return Ok(Step::Ends(End::Before));
     }
-    let found = lexed(unread);
     let size = unread.len() - found.rest.len();
     if size > window.room() {
         return Ok(Step::Ends(End::Faulty(GameWhat::TooLong)));
@@ -240,6 +254,7 @@ fn end_item<S: Source>(
     ensures item { IfOk result (λ item. option_map (by_end game end) (ahead window.old (S.left source.old)) ≡ option_map (next item) (ahead window.new (S.left source.new))) }
     ensures spends { S.budget source.new ≤ S.budget source.old }
     ensures counts { S.faults source.old ≤ S.faults source.new }
+    ensures same { S.origin source.new ≡ S.origin source.old }
     ensures cause { IfErr result (λ e. HasCause e (S.faults source.old) (S.faults source.new)) }
 {
     match end {

@@ -5,12 +5,12 @@ ghost use Rattle.std.specs.Bool.{OnTrue, OnFalse};
 ghost use Rattle.pgn_read.specs.Bytes.{begins};
 ghost use Rattle.pgn_read.specs.Causes.{HasCause};
 ghost use Rattle.pgn_read.specs.Items.{begins_game, resumed_at};
+ghost use Rattle.pgn_read.specs.Lexing.{lexed};
 ghost use Rattle.pgn_read.specs.Place.{next_place, place_behind, first_place};
 ghost use Rattle.pgn_read.specs.Text.{longest, gap_behind, skipped, is_first, byte_order_mark, behind_mark, on_remark};
-ghost use Rattle.pgn_read.specs.Window.{with_more, ahead, Decides};
+ghost use Rattle.pgn_read.specs.Window.{with_more, ahead, waiting, Decides};
 
 use crate::error::PgnError;
-use crate::lexing::lexed;
 use crate::place::Place;
 use crate::run::{begins, is_white};
 use base_files::{Failed, Source};
@@ -159,6 +159,7 @@ impl Window {
         ensures sum { OnOk result (S.budget source.new + length self.new.unread ≡ S.budget source.old + length self.old.unread) }
         ensures spends { S.budget source.new ≤ S.budget source.old }
         ensures counts { S.faults source.old ≤ S.faults source.new }
+        ensures same { S.origin source.new ≡ S.origin source.old }
         ensures cause { IfErr result (λ e. HasCause e (S.faults source.old) (S.faults source.new)) }
     {
         let mut piece = [0; PIECE];
@@ -181,6 +182,7 @@ impl Window {
         ensures sum { OnOk result (S.budget source.new + length self.new.unread ≡ S.budget source.old + length self.old.unread) }
         ensures spends { S.budget source.new ≤ S.budget source.old }
         ensures counts { S.faults source.old ≤ S.faults source.new }
+        ensures same { S.origin source.new ≡ S.origin source.old }
         ensures cause { IfErr result (λ e. HasCause e (S.faults source.old) (S.faults source.new)) }
     {
         self.shift();
@@ -208,6 +210,7 @@ impl Window {
         ensures sum { OnOk result (S.budget source.new + length self.new.unread ≡ S.budget source.old + length self.old.unread) }
         ensures spends { S.budget source.new ≤ S.budget source.old }
         ensures counts { S.faults source.old ≤ S.faults source.new }
+        ensures same { S.origin source.new ≡ S.origin source.old }
         ensures cause { IfErr result (λ e. HasCause e (S.faults source.old) (S.faults source.new)) }
     {
         if self.unread().len() >= count {
@@ -242,6 +245,7 @@ impl Window {
         ensures sum { OnOk result (S.budget source.new + length self.new.unread ≤ S.budget source.old + length self.old.unread) }
         ensures spends { S.budget source.new ≤ S.budget source.old }
         ensures counts { S.faults source.old ≤ S.faults source.new }
+        ensures same { S.origin source.new ≡ S.origin source.old }
         ensures cause { IfErr result (λ e. HasCause e (S.faults source.old) (S.faults source.new)) }
     {
         let mut inside = false;
@@ -271,6 +275,7 @@ impl Window {
         ensures sum { OnOk result (S.budget source.new + length self.new.unread ≤ S.budget source.old + length self.old.unread) }
         ensures spends { S.budget source.new ≤ S.budget source.old }
         ensures counts { S.faults source.old ≤ S.faults source.new }
+        ensures same { S.origin source.new ≡ S.origin source.old }
         ensures cause { IfErr result (λ e. HasCause e (S.faults source.old) (S.faults source.new)) }
     {
         if let Err(error) = self.look(source, 3) {
@@ -282,39 +287,32 @@ impl Window {
         Ok(())
     }
 
-    // Whether the unread bytes tell the token at their front, or that it is too long.
-    fn decides(&self) -> bool
+    /// Whether the unread bytes tell the token at their front, which has so many bytes behind it, or that it is too long.
+    pub(crate) fn tells(&self, behind: usize) -> bool
+        requires behind { behind ≡ length (lexed self.now.unread).rest }
         ensures decides { OnTrue result (Decides self.now) }
         ensures not_ended { OnFalse result (self.now.ended ≡ false) }
         ensures short { OnFalse result (length self.now.unread < longest + 8) }
     {
-        let unread = self.unread();
-        self.ended || lexed(unread).rest.len() >= 8 || unread.len() >= self.room + 8
+        self.ended || behind >= 8 || self.unread().len() >= self.room + 8
     }
 
-    /// Reads so far that the unread bytes tell the token at their front, or that it is too long.
-    pub(crate) fn prepare<S: Source>(&mut self, source: &mut S) -> Result<(), PgnError>
+    /// Reads on, or to the source's end.
+    #[tactic(auto, using(crate::proofs::WindowLaws::paid))]
+    pub(crate) fn read_on<S: Source>(&mut self, source: &mut S) -> Result<(), PgnError>
         requires told { IsTrue self.old.ended → Tells (S.left source.old) [] }
+        requires not_ended { self.old.ended ≡ false }
+        requires short { length self.old.unread < longest + 8 }
         ensures kept { OnOk result (ahead self.old (S.left source.old) ≡ ahead self.new (S.left source.new)) }
-        ensures decides { OnOk result (Decides self.new) }
         ensures told { OnOk result (IsTrue self.new.ended → Tells (S.left source.new) []) }
-        ensures place { self.new.place ≡ self.old.place }
-        ensures room { self.new.room ≡ self.old.room }
         ensures sum { OnOk result (S.budget source.new + length self.new.unread ≡ S.budget source.old + length self.old.unread) }
+        ensures further { OnOk result (S.budget source.new + waiting self.new < S.budget source.old + waiting self.old) }
         ensures spends { S.budget source.new ≤ S.budget source.old }
         ensures counts { S.faults source.old ≤ S.faults source.new }
+        ensures same { S.origin source.new ≡ S.origin source.old }
         ensures cause { IfErr result (λ e. HasCause e (S.faults source.old) (S.faults source.new)) }
     {
-        'looks: while !self.decides() {
-            let wanted = 2 * self.unread().len() + PIECE;
-            if let Err(error) = self.fill(source, wanted) {
-                return Err(error);
-            }
-            if self.ended {
-                return Ok(());
-            }
-        }
-        Ok(())
+        self.fill(source, 2 * self.unread().len() + PIECE)
     }
 
     // Whether a line begins here on which reading goes on behind a fault.
@@ -351,6 +349,7 @@ impl Window {
         ensures resumed { OnOk result (option_map resumed_at (ahead self.old (S.left source.old)) ≡ ahead self.new (S.left source.new)) }
         ensures spends { S.budget source.new ≤ S.budget source.old }
         ensures counts { S.faults source.old ≤ S.faults source.new }
+        ensures same { S.origin source.new ≡ S.origin source.old }
         ensures cause { IfErr result (λ e. HasCause e (S.faults source.old) (S.faults source.new)) }
     {
         'lines: loop {

@@ -13,6 +13,7 @@ tokens-preserved g c = record {
   legal = rw c.in-GoesOn.is at c.in-Ok.ensures.legal;
   spends = omega (arith, c.tokens.invariant.spends, c.take_token.ensures.spends, c.skip_gap.ensures.spends);
   faults = omega (arith, c.tokens.invariant.faults, c.take_token.ensures.counts, c.skip_gap.ensures.counts);
+  same = c.skip_gap.ensures.same ∙ c.take_token.ensures.same ∙ c.tokens.invariant.same;
 }
 
 pub returns-in-Ends-clause-item : goal.returns-in-Ends-clause-item

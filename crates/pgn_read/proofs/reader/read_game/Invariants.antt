@@ -15,6 +15,7 @@ invariant-tokens g l = record {
   legal : IsLegal l.game;
   spends : g.S.Source.budget l.source ≤ g.S.Source.budget l.fn.source;
   faults : g.S.Source.faults l.fn.source ≤ g.S.Source.faults l.source;
+  same : g.S.Source.origin l.source ≡ g.S.Source.origin l.fn.source;
 }
 
 -- Each token is paid from the budget.

@@ -1,13 +1,13 @@
 use Rattle.std.proofs.Common.{◌≡◌, ◌-◌, Ok, Result, ap, length, arith, length-drop}
-use Rattle.std.specs.declared.alloc.AllocError.{AllocError}
 use Rattle.pgn_read.specs.Said.{said}
 use Rattle.pgn_read.specs.declared.step.Step.{Step}
 use Rattle.pgn_read.specs.declared.step.Step.TheVariants as step
+use Rattle.pgn_read.specs.declared.step.Untaken.{Untaken}
 use Rattle.pgn_read.proofs.ItemLaws.{token_some, rest_fits}
 use Rattle.pgn_read.proofs.LegalLaws.{steps_legally}
 use Rattle.pgn_read.proofs.reader.take_front.Goals as goal
 
-step_of : (a b : Step) → ◌≡◌ {A = Result Step AllocError} (Ok a) (Ok b) → a ≡ b
+step_of : (a b : Step) → ◌≡◌ {A = Result Step Untaken} (Ok a) (Ok b) → a ≡ b
 step_of a b is = cc
 
 pub overflow_sub-size : goal.overflow_sub-size

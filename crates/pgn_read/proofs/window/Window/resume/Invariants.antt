@@ -11,6 +11,7 @@ invariant-lines g l = record {
   told : IsTrue l.self.ended → Tells (g.S.Source.left l.source) [];
   spends : g.S.Source.budget l.source ≤ g.S.Source.budget l.fn.source;
   faults : g.S.Source.faults l.fn.source ≤ g.S.Source.faults l.source;
+  same : g.S.Source.origin l.source ≡ g.S.Source.origin l.fn.source;
 }
 
 abbrev pub decreases-lines : goal.decreases-lines

@@ -12,6 +12,7 @@ invariant-gap g l = record {
   sum : g.S.Source.budget l.source + length l.self.unread ≤ g.S.Source.budget l.fn.source + length l.fn.self.unread;
   spends : g.S.Source.budget l.source ≤ g.S.Source.budget l.fn.source;
   faults : g.S.Source.faults l.fn.source ≤ g.S.Source.faults l.source;
+  same : g.S.Source.origin l.source ≡ g.S.Source.origin l.fn.source;
 }
 
 abbrev pub decreases-gap : goal.decreases-gap
