@@ -10,7 +10,7 @@ mod tests;
 mod walking;
 
 pub use laws::{first_plies_are_first, tests_are_sound};
-pub use matching::passes;
-pub use searching::{hit, search};
+pub use matching::{Sought, passes};
+pub use searching::{hit, hit_sought, search};
 pub use sig_index::{Mode, PosQuery};
 pub use walking::first_match;

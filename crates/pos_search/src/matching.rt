@@ -7,7 +7,7 @@ ghost use Rattle.pos_search.specs.Passing.{fixes_pawns, passes};
 ghost use Rattle.pos_search.specs.Sought.{alike_beside, can_follow, has_homes};
 
 use crate::boards::{counts, home_set, same_files, same_pawns};
-use cell_core::Board;
+use cell_core::{Board, Colour};
 use chess_laws::Position;
 use sig_index::{MatRange, Mode, PosQuery, Sig, can_come, can_stand, home_allows};
 use std::marker::Model;
@@ -21,9 +21,11 @@ pub fn passes(s: &Sig, q: &PosQuery) -> bool
     Sought::new(q).passes(s)
 }
 
-// What is sought, with what is counted on its board once.
+/// What a search of a position seeks, with what is counted on its board once: for a caller that asks of many games, each by itself.
+///
+/// Contracts see the query.
 #[derive(Drop)]
-pub(crate) struct Sought<'a> {
+pub struct Sought<'a> {
     query: &'a PosQuery,
     // The ten counts as the only ones.
     range: MatRange,
@@ -43,8 +45,8 @@ impl<'a> Model for Sought<'a> {
 }
 
 impl<'a> Sought<'a> {
-    // What a query seeks.
-    pub(crate) fn new(query: &'a PosQuery) -> Sought<'a>
+    /// What a query seeks.
+    pub fn new(query: &'a PosQuery) -> Sought<'a>
         ensures query { result ≡ query.now }
     {
         let counts = counts(&query.board);
@@ -56,6 +58,13 @@ impl<'a> Sought<'a> {
             },
             homes: home_set(&query.board),
         }
+    }
+
+    /// The side that is to move.
+    pub fn side(&self) -> Colour
+        ensures side { result ≡ self.now.side }
+    {
+        self.query.side
     }
 
     // Whether a game with this signature can match.

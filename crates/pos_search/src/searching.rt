@@ -38,7 +38,7 @@ pub fn hit<G: Games, F: Files>(
     ensures cause { IfErr result (λ e. HasFetchCause e (G.sigs games.now) (G.extents games.now) (F.seen files.old).games buf.new (F.faults files.old) (F.faults files.new)) }
     ensures own { IfErr result (λ e. Names e i) }
 {
-    hit_in(games, i, &Sought::new(q), files, buf)
+    hit_sought(games, i, &Sought::new(q), files, buf)
 }
 
 /// Leaves in the filter what its entries become by a search of a position. The filter has one entry per game, and `buf` has 131,072 bytes.
@@ -105,7 +105,7 @@ fn search_game<G: Games, F: Files>(
     if !op.looks_at(old) {
         return Ok(());
     }
-    match hit_in(games, i, q, files, buf) {
+    match hit_sought(games, i, q, files, buf) {
         Ok(hit) => {
             filter.set(i, op.entry(old, ply_of(hit)));
             Ok(())
@@ -124,8 +124,8 @@ fn ply_of(hit: Option<(u32, Option<Move>)>) -> Option<u32>
     }
 }
 
-// The hit of one game. Its record is read if the game can match.
-fn hit_in<G: Games, F: Files>(
+/// The same as `hit`, of what is sought.
+pub fn hit_sought<G: Games, F: Files>(
     games: &G,
     i: u32,
     q: &Sought<'_>,

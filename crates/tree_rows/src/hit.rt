@@ -1,10 +1,9 @@
 //! What a tree counts of a game.
-ghost use Rattle.std.specs.Prelude.{◌≡◌, []};
-ghost use Rattle.game_tree.specs.Head.{head_of};
-ghost use Rattle.tree_rows.specs.Hits.{hit_of, rating_of};
+ghost use Rattle.std.specs.Prelude.{◌≡◌};
+ghost use Rattle.tree_rows.specs.Hits.{hit_from, rating_from};
 
 use cell_core::{Colour, Move};
-use game_tree::{HeadRef, Outcome};
+use game_tree::Outcome;
 
 /// A game that meets a position: the move after its first match, or none where the game ends there, its result, the ratings of the side to
 /// move and of the other side, and its year. Ratings and years are 0 where they are not known.
@@ -18,26 +17,34 @@ pub struct GameHit {
 }
 
 impl GameHit {
-    /// What is counted of a game with this head, which meets the position with this side to move and goes on with this move, if with any.
-    pub fn of(next: Option<Move>, side: Colour, head: &HeadRef<'_>) -> GameHit
-        ensures hit { result ≡ hit_of next side (head_of head.now []) }
+    /// What is counted of a game with this outcome, with these ratings of White and of Black and of this year, which meets the position
+    /// with this side to move and goes on with this move, if with any.
+    pub fn of(
+        next: Option<Move>,
+        side: Colour,
+        outcome: Outcome,
+        white: u16,
+        black: u16,
+        year: u16,
+    ) -> GameHit
+        ensures hit { result ≡ hit_from next side outcome white black year }
     {
         GameHit {
             next,
-            result: head.result,
-            mover: rating_of(side, head),
-            other: rating_of(side.other(), head),
-            year: head.date.year,
+            result: outcome,
+            mover: rating_from(side, white, black),
+            other: rating_from(side.other(), white, black),
+            year,
         }
     }
 }
 
 // The rating of a side.
-fn rating_of(side: Colour, head: &HeadRef<'_>) -> u16
-    ensures { result ≡ rating_of side (head_of head.now []) }
+fn rating_from(side: Colour, white: u16, black: u16) -> u16
+    ensures { result ≡ rating_from side white black }
 {
     match side {
-        Colour::White => head.white_rating.value,
-        Colour::Black => head.black_rating.value,
+        Colour::White => white,
+        Colour::Black => black,
     }
 }

@@ -24,13 +24,13 @@ returns-in-Ok-clause-joined g c = λ told list game same holds there.
 pub returns-in-Ok-clause-asks : goal.returns-in-Ok-clause-asks
 returns-in-Ok-clause-asks g c = λ sig kept.
     let yes : c.looks_at.result ≡ true = search (rules, not-false c.looks_at.result) in
-    subst (λ (n : ℕ). g.F.Files.asked c.hit_in.new.files ≤ g.F.Files.asked c.args.files.now + n)
+    subst (λ (n : ℕ). g.F.Files.asked c.hit_sought.new.files ≤ g.F.Files.asked c.args.files.now + n)
     (looked_cost c.args.op c.args.q.now sig (extent_in (g.G.Games.extents c.args.games.now) c.args.i) c.args.filter.now c.args.i c.get-old.result c.get-old.ensures.entry
-    (sym c.looks_at.ensures.looks ∙ yes)) (c.hit_in.ensures.asks sig kept)
+    (sym c.looks_at.ensures.looks ∙ yes)) (c.hit_sought.ensures.asks sig kept)
 
 pub returns-in-Err-clause-asks : goal.returns-in-Err-clause-asks
 returns-in-Err-clause-asks g c = λ sig kept.
     let yes : c.looks_at.result ≡ true = search (rules, not-false c.looks_at.result) in
-    subst (λ (n : ℕ). g.F.Files.asked c.hit_in.new.files ≤ g.F.Files.asked c.args.files.now + n)
+    subst (λ (n : ℕ). g.F.Files.asked c.hit_sought.new.files ≤ g.F.Files.asked c.args.files.now + n)
     (looked_cost c.args.op c.args.q.now sig (extent_in (g.G.Games.extents c.args.games.now) c.args.i) c.args.filter.now c.args.i c.get-old.result c.get-old.ensures.entry
-    (sym c.looks_at.ensures.looks ∙ yes)) (c.hit_in.ensures.asks sig kept)
+    (sym c.looks_at.ensures.looks ∙ yes)) (c.hit_sought.ensures.asks sig kept)

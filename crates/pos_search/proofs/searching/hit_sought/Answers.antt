@@ -1,6 +1,6 @@
 use Rattle.std.proofs.Common.{sym, ◌∙◌}
 use Rattle.pos_search.proofs.SearchLemmas.{unread}
-use Rattle.pos_search.proofs.searching.hit_in.Goals as goal
+use Rattle.pos_search.proofs.searching.hit_sought.Goals as goal
 
 pub returns-else-passes-clause-found : goal.returns-else-passes-clause-found
 returns-else-passes-clause-found g c = λ told list game same holds there.
