@@ -17,4 +17,6 @@ pub mod SaveLaws
 pub mod GrowLaws
 pub mod NamingLaws
 pub mod PlaceLaws
+pub mod AmongLaws
+pub mod TakeLaws
 pub mod TagLaws

@@ -29,14 +29,14 @@ use Rattle.base_core.specs.declared.fault.PlaceWhat.TheVariants as place
 use Rattle.base_core.specs.declared.fault.What.{What}
 use Rattle.base_core.specs.declared.fault.What.TheVariants as what
 use Rattle.base_core.specs.declared.naming.NameIds.{NameIds}
-use Rattle.base_core.specs.Base.{Held}
+use Rattle.base_core.specs.Base.{Base, Held}
 use Rattle.base_core.specs.Edited.{Places, WhyNotPlaced, WhyNotReplaced, first_full, full_names, most_games, or_file}
 use Rattle.base_core.specs.Edits.{added, changed_at, end_with, game_replaced, held_of, names_with}
 use Rattle.base_core.specs.Entries.{HasNames, head_of, name_at}
 use Rattle.base_core.specs.FirstFault.{place_fault}
 use Rattle.base_core.specs.Means.{HoldsNames}
 use Rattle.base_core.specs.Placing.{AreIds, IfFull, entry_with}
-use Rattle.base_core.specs.Represents.{IsKept, IsSound, Keeps, Kept}
+use Rattle.base_core.specs.Represents.{IsKept, IsSound, Keeps, Kept, Represents}
 use Rattle.base_core.proofs.CheckLaws.{ends_within}
 use Rattle.base_core.proofs.GamesLaws.{at-all}
 use Rattle.base_core.proofs.GrowLaws.{says-stays}
@@ -60,7 +60,7 @@ entry-named names head ids s len offset are = record {
 rule-kept : (head : Head) → IsSettled head → IsTrue (keeps_rule head.event_date head.date)
 rule-kept head is = let R : Head → Type 0 = λ h. IsTrue (keeps_rule h.event_date h.date) in subst R is (settled-keeps_rule head)
 
-below : (id count limit : ℕ) → id < count → count ≤ limit → id < limit
+pub below : (id count limit : ℕ) → id < count → count ≤ limit → id < limit
 below id count limit less within = omega (arith, less, within)
 
 pub entry-fields : (names : NameLists) (head : Head) (ids : NameIds) (s : Sig) (len offset : ℕ) → AreIds names head ids → AreSound names → IsBounded head → IsSettled head → IsSigBounded s → len ≤ 131071 →
@@ -90,7 +90,7 @@ entry-fields names head ids s len offset are sound is settled small short = reco
 }
 
 -- A record that is placed has no fault of its place.
-placed-well : (end : ℕ) (e : Entry) → IsPlaced end (record { offset = e.offset; len = e.len }) → place_fault end e ≡ None
+pub placed-well : (end : ℕ) (e : Entry) → IsPlaced end (record { offset = e.offset; len = e.len }) → place_fault end e ≡ None
 unfolding place_fault
 placed-well end e is = rw (le-ltb block_len (e.offset % block_len + e.len) is.in_block, le-ltb end (e.offset + e.len) is.in_file) refl
 
@@ -171,12 +171,12 @@ keeps-on all names games more e held holds has is =
 -- ---- the game that was placed.
 
 -- Its record stands in its place.
-record-there : (games bytes : List ℕ) (end : ℕ) → length games ≡ end → record_in (games ++ padded end bytes) (placed_at end (length bytes)) ≡ bytes
+pub record-there : (games bytes : List ℕ) (end : ℕ) → length games ≡ end → record_in (games ++ padded end bytes) (placed_at end (length bytes)) ≡ bytes
 record-there games bytes end long =
-    let before : Seen = record { index = None; names = None; games = Some games; choices = []; known = 0 } in
+    let before : Seen = record { index = None; names = None; games = Some games; fresh = None; choices = []; known = 0; added = 0 } in
     sym (added_there before (appended (padded end bytes) before) end (padding end (length bytes)) (end + padding end (length bytes)) bytes refl (sym long) refl)
 
-within-placed : (games bytes : List ℕ) (end : ℕ) → length games ≡ end → end + padding end (length bytes) + length bytes ≤ length (games ++ padded end bytes)
+pub within-placed : (games bytes : List ℕ) (end : ℕ) → length games ≡ end → end + padding end (length bytes) + length bytes ≤ length (games ++ padded end bytes)
 within-placed games bytes end long =
     let nil : ℕ = 0 in
     let zeros : length (replicate (padding end (length bytes)) nil) ≡ padding end (length bytes) = length-replicate (padding end (length bytes)) nil in
@@ -222,6 +222,26 @@ last-sound old names e end is sound holds longer few kept = record {
   entries = All-push (IsKept names end) old.entries e (All-weaker (IsKept old.names old.end) (IsKept names end) (kept-on names old.names old.end end holds longer) old.entries is.entries) kept;
 }
 
+-- The entries with the last one, and the games with the last one.
+pub last-each : (old : Kept) (names : NameLists) (e : Entry) (games more : List ℕ) (base : Base) (last : Held) → IsSound old → HoldsNames names old.names → Represents old games base → Keeps names (games ++ more) e last →
+    (i : ℕ) (x : Entry) (held : Held) → slice_get (old.entries ++ e ∷ []) i ≡ Some x → slice_get (base.games ++ last ∷ []) i ≡ Some held → Keeps names (games ++ more) x held
+last-each old names e games more base last sound holds is here i x held at_x at_held =
+    let file = games ++ more in
+    let within : i ≤ length old.entries = omega (arith, slice_get_within (old.entries ++ e ∷ []) i x at_x, length_push old.entries e) in
+    elim (eq-or-lt_of_le within) [
+      | inl same ↦
+          let entry : e ≡ x = same_Some e x (sym (get_push_new old.entries e) ∙ subst (λ (k : ℕ). slice_get (old.entries ++ e ∷ []) k ≡ Some x) same at_x) in
+          let placed : last ≡ held = same_Some last held (sym (get_push_new base.games last) ∙ subst (λ (k : ℕ). slice_get (base.games ++ last ∷ []) k ≡ Some held) (same ∙ is.count) at_held) in
+          let E : Entry → Type 0 = λ y. Keeps names file y last in
+          let H : Held → Type 0 = λ y. Keeps names file x y in
+          subst H placed (subst E entry here)
+      | inr less ↦
+          let there : slice_get old.entries i ≡ Some x = sym (get_push_old old.entries e i less) ∙ at_x in
+          let kept = at-all (IsKept old.names old.end) old.entries i x sound.entries there in
+          keeps-on names old.names games more x held holds kept.named
+          (is.each i x held there (sym (get_push_old base.games last i (subst (λ (n : ℕ). i < n) is.count less)) ∙ at_held))
+    ]
+
 pub adds : (old : Kept) (head : Head) (game : GameTree) (ids : NameIds) (s : Sig) → IsSound old → HoldsNames (names_with head old.names) old.names → AreIds (names_with head old.names) head ids → IsSettled head → IsSig game s →
     IsRecord (written_record head.tags game) head.tags game →
     Places (written_record head.tags game) (added head game) old
@@ -231,30 +251,13 @@ adds old head game ids s sound holds are settles signed read = λ games base lon
     let bytes = written_record head.tags game in
     let e = entry_with ids head s (length bytes) (old.end + padding old.end (length bytes)) in
     let all = names_with head old.names in
-    let file = games ++ padded old.end bytes in
     let here = keeps-placed all games old.end head game ids s long are settles signed read in
     record {
       header = ap (λ (h : IndexHead). record h { games = h.games + 1 }) is.header;
       names = ap (λ (n : NameLists). names_with head n) is.names;
       end = ap (λ (n : ℕ). end_with head game n) is.end;
       count = length_push old.entries e ∙ (ap (λ (n : ℕ). n + 1) is.count ∙ sym (length_push base.games (held_of head game)));
-      each = λ i x held at_x at_held.
-          let last : i ≤ length old.entries = omega (arith, slice_get_within (old.entries ++ e ∷ []) i x at_x, length_push old.entries e) in
-          elim (eq-or-lt_of_le last) [
-            | inl same ↦
-                let entry : e ≡ x = same_Some e x (sym (get_push_new old.entries e) ∙ subst (λ (k : ℕ). slice_get (old.entries ++ e ∷ []) k ≡ Some x) same at_x) in
-                let placed : held_of head game ≡ held =
-                same_Some (held_of head game) held (sym (get_push_new base.games (held_of head game)) ∙ subst (λ (k : ℕ). slice_get (base.games ++ held_of head game ∷ []) k ≡ Some held) (same ∙ is.count) at_held)
-                in
-                let E : Entry → Type 0 = λ y. Keeps all file y (held_of head game) in
-                let H : Held → Type 0 = λ y. Keeps all file x y in
-                subst H placed (subst E entry here)
-            | inr less ↦
-                let there : slice_get old.entries i ≡ Some x = sym (get_push_old old.entries e i less) ∙ at_x in
-                let kept = at-all (IsKept old.names old.end) old.entries i x sound.entries there in
-                keeps-on all old.names games (padded old.end bytes) x held holds kept.named
-                (is.each i x held there (sym (get_push_old base.games (held_of head game) i (subst (λ (n : ℕ). i < n) is.count less)) ∙ at_held))
-          ];
+      each = last-each old all e games (padded old.end bytes) base (held_of head game) sound holds is here;
     }
 
 -- ---- a game that was put in the place of another.

@@ -51,14 +51,18 @@ names_with head names = record {
 abbrev pub end_with : Head → GameTree → ℕ → ℕ
 end_with head game end = end_after end (length (written_record head.tags game))
 
--- Adding a game: it comes last, with its names, and its record is placed at the end of the games file.
-unfoldable pub added : Head → GameTree → Base → Base
-added head game base = record {
+-- The base with one game more: it comes last, with its names, and its record is placed at the end of the games file.
+abbrev pub with_game : Held → Base → Base
+with_game held base = record {
   header = record base.header { games = base.header.games + 1 };
-  names = names_with head base.names;
-  games = base.games ++ held_of head game ∷ [];
-  end = end_with head game base.end;
+  names = names_with held.head base.names;
+  games = base.games ++ held ∷ [];
+  end = end_after base.end held.len;
 }
+
+-- Adding a game.
+unfoldable pub added : Head → GameTree → Base → Base
+added head game base = with_game (held_of head game) base
 
 -- Putting a game in the place of another one. The record of the old one stays in the games file, with nothing that points to it.
 unfoldable pub game_replaced : ℕ → Head → GameTree → Base → Base

@@ -19,6 +19,11 @@ abbrev pub IsGameAt : Kept → List ℕ → ℕ → Head → GameTree → Type 0
 IsGameAt kept games i head game =
     (base : Base) (held : Held) → Represents kept games base → slice_get base.games i ≡ Some held → (head ≡ held.head) × (game ≡ held.game)
 
+-- The first bytes of the buffer are the record of game i, which has so many.
+abbrev pub IsRecordOf : Kept → Option (List ℕ) → ℕ → ℕ → List ℕ → Type 0
+IsRecordOf kept told i len buf =
+    (e : Entry) → slice_get kept.entries i ≡ Some e → (len ≡ e.len) × Tells (part_told told e.offset e.len) (take e.len buf)
+
 -- Bytes that show another game than the one of this signature: they are no record, or one of a game with another signature.
 abbrev pub ShowChange : List ℕ → Sig → Option Sig → Type 0
 ShowChange bytes kept None = IsSomeRecord bytes → ⊥

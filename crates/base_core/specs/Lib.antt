@@ -13,5 +13,7 @@ pub mod Edited
 pub mod Uses
 pub mod Counting
 pub mod Saved
+pub mod Compacted
+pub mod Drafts
 pub mod Placing
 pub mod Tagged

@@ -4,6 +4,7 @@ ghost use Rattle.base_core.specs.Errors.{names_error, open_error, packed_error, 
 ghost use Rattle.base_core.specs.declared.fault.OpenError.TheVariants as opening;
 ghost use Rattle.base_core.specs.declared.fault.EditError.TheVariants as edit;
 ghost use Rattle.base_core.specs.declared.fault.SaveError.TheVariants as saving;
+ghost use Rattle.base_core.specs.declared.fault.DraftError.TheVariants as drafting;
 
 use base_files::DeviceError;
 use block_store::StoreError;
@@ -155,6 +156,17 @@ pub enum EditError {
     Memory,
 }
 
+/// Why a draft does not take over a game.
+#[derive(Clone, Copy, Debug, Drop, PartialEq, Eq, Error)]
+pub enum DraftError {
+    /// The games file would pass its limit.
+    #[error("full file")]
+    Full,
+    /// Memory ran out.
+    #[error("out of memory")]
+    Memory,
+}
+
 /// Why a base is not saved.
 #[derive(Clone, Copy, Debug, Drop, PartialEq, Eq, Error)]
 pub enum SaveError {
@@ -182,6 +194,14 @@ impl From<DeviceError> for SaveError {
             DeviceError::Failed => SaveError::Failed,
             DeviceError::Memory => SaveError::Memory,
         }
+    }
+}
+
+impl From<AllocError> for DraftError {
+    ghost from_gives = { λ _ e. e ≡ drafting.Memory };
+
+    fn from(_refused: AllocError) -> DraftError {
+        DraftError::Memory
     }
 }
 

@@ -12,7 +12,7 @@ ghost use Rattle.name_base.specs.NameLists.{AreSound, of_kind};
 ghost use Rattle.sig_index.specs.Signature.{IsSig};
 ghost use Rattle.base_core.specs.Base.{Base as PlainBase};
 ghost use Rattle.base_core.specs.Entries.{HasNames, extent_of, head_of, name_at, sig_in};
-ghost use Rattle.base_core.specs.GameAt.{IfChanged, IsGameAt, SaysWhy, TellsChange};
+ghost use Rattle.base_core.specs.GameAt.{IfChanged, IsGameAt, IsRecordOf, SaysWhy, TellsChange};
 ghost use Rattle.base_core.specs.Represents.{Represents};
 
 use crate::base::Base;
@@ -71,6 +71,42 @@ impl Base {
         };
         let head = settled_head(alloc, &self.names, &entry, tags)?;
         Ok((head, game))
+    }
+
+    /// Reads the record of game `i` into the front of `buf`, and gives its length.
+    ///
+    /// # Errors
+    ///
+    /// `Changed` where the record has changed since the base was opened, `Failed` where the files fail, and `Memory`.
+    pub fn read_record<F: Files>(
+        &self,
+        alloc: Global,
+        i: u32,
+        files: &mut F,
+        buf: &mut [u8],
+    ) -> Result<u32, EditError>
+        requires there { i < length self.now.entries }
+        requires room { 131072 ≤ length buf.old }
+        requires within { self.now.end ≤ (F.seen files.old).known }
+        ensures read { IfOk result (λ len. IsRecordOf self.now (F.seen files.old).games i len buf.new) }
+        ensures short { IfOk result (λ len. len ≤ 131071) }
+        ensures why { IfErr result (SaysWhy self.now (F.seen files.old).games i buf.new) }
+
+        // Where the files tell the records of a base, no game has changed.
+        ensures unchanged { IfErr result (λ error. IfChanged error (IfSome (F.seen files.old).games (λ games. (base : PlainBase) → Represents self.now games base → ⊥))) }
+        ensures cause { IfErr result (λ error. error ≡ EditError.Failed → Rose (F.faults files.old) (F.faults files.new)) }
+        ensures counts { F.faults files.old ≤ F.faults files.new }
+        ensures asks { (e : EntryValue) → slice_get self.now.entries i ≡ Some e → F.asked files.new ≤ F.asked files.old + e.len }
+        ensures same_files { F.seen files.new ≡ F.seen files.old }
+    {
+        let entry = self.entry(i);
+        if self.store.fetch(extent_of(&entry), files, buf).is_err() {
+            return Err(EditError::Failed);
+        }
+        if let Err(error) = read_unchanged(alloc, i, &entry, &buf[..entry.len as usize]) {
+            return Err(error);
+        }
+        Ok(entry.len)
     }
 }
 

@@ -3,6 +3,7 @@
 
 mod base;
 mod checking;
+mod draft;
 mod entries;
 mod fault;
 mod game;
@@ -14,11 +15,14 @@ mod opening;
 mod placing;
 mod reading;
 mod saving;
+mod taking;
 mod uses;
 
 pub use base::Base;
+pub use draft::Draft;
 pub use fault::{
-    BaseFault, DerivedField, EditError, IdField, NoGame, OpenError, PlaceWhat, SaveError, What,
+    BaseFault, DerivedField, DraftError, EditError, IdField, NoGame, OpenError, PlaceWhat,
+    SaveError, What,
 };
 pub use laws::{
     carried_bases_stay, files_have_one_meaning, open_bases_have_one_meaning, searches_see_the_games,

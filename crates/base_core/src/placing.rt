@@ -56,6 +56,7 @@ impl Base {
         requires at_end { IsEnd self.old.end (F.seen files.old) }
         ensures added { OnOk result (Places (written_record head.now.tags g.now) (added head.now g.now) self.old self.new) }
         ensures number { IfOk result (λ i. i ≡ length self.old.entries) }
+        ensures count { OnOk result (length self.new.entries ≡ length self.old.entries + 1) }
         ensures unsaved { OnOk result (self.new.unsaved ≡ true) }
         ensures appended { OnOk result (F.seen files.new ≡ appended (padded self.old.end (written_record head.now.tags g.now)) (F.seen files.old)) }
         ensures room { OnOk result (CanPlace (length (written_record head.now.tags g.now)) (first_full (length self.old.entries + 1) (names_with head.now self.old.names) (end_with head.now g.now self.old.end))) }

@@ -47,7 +47,7 @@ impl Base {
     }
 
     // The names file.
-    fn names_text(&self, alloc: Global) -> Result<Vec<u8>, AllocError>
+    pub(crate) fn names_text(&self, alloc: Global) -> Result<Vec<u8>, AllocError>
         ensures names { IfOk result (λ text. IsNamesText self.now.names (frequencies_of self.now.names self.now.entries) text.items) }
     {
         let uses = uses_of(alloc, &self.names, &self.entries)?;
@@ -62,7 +62,7 @@ impl Base {
     }
 
     // The index.
-    fn index_text(&self, alloc: Global) -> Result<Vec<u8>, AllocError>
+    pub(crate) fn index_text(&self, alloc: Global) -> Result<Vec<u8>, AllocError>
         ensures index { IfOk result (λ text. IsIndexOf self.now text.items) }
         ensures read_again { IfOk result (λ text. index_read text.items ≡ Ok self.now.header) }
     {

@@ -1,4 +1,5 @@
 use Rattle.std.proofs.Common.{◌≡◌, ◌<◌, ◌≤◌, ◌+◌, ◌++◌, ◌∷◌, [], ℕ, true, List, length, Option, None, Some, refl, sym, ap, ◌∙◌, subst, arith, rules}
+use Rattle.std.proofs.lemmas.List.{length_push}
 use Rattle.block_store.specs.Placing.{end_after, padding}
 use Rattle.game_codec.specs.Record.{IsRecord}
 use Rattle.game_codec.specs.Written.{longest, written_record}
@@ -121,6 +122,10 @@ returns-clause-added g c =
     let P : Kept → Type 0 = λ k. Places bytes (added head game) old k in
     let Q : Kept → Type 0 = λ k. Places bytes (added head game) k (N c.add_names.new.names c.add_entry.new.entries c.add_entry.new.store) in
     subst Q c.self.view_is (subst P (sym new) done)
+
+pub returns-clause-count : goal.returns-clause-count
+returns-clause-count g c =
+    ap (λ (es : List Entry). length es) c.in_default.ensures.added ∙ (length_push c.self.inside.entries _ ∙ ap (λ (k : Kept). length k.entries + 1) c.self.view_is)
 
 pub returns-clause-room : goal.returns-clause-room
 returns-clause-room g c =

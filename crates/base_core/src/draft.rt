@@ -1,0 +1,142 @@
+//! A base that is made of games of another one, without a byte of its files.
+ghost use Rattle.std.specs.Prelude.{◌≡◌, ◌≤◌, ◌<◌, ◌↔◌, ◌+◌, List, ℕ, length, IfOk, OnOk, OnErr, IsErrOf};
+ghost use Rattle.block_store.specs.Placing.{end_after, longest_file, padding};
+ghost use Rattle.base_core.specs.Base.{Base as PlainBase};
+ghost use Rattle.base_core.specs.Drafts.{AreNamesOf, Grows, TakesOver, emptied, length_at, placed_entry};
+ghost use Rattle.base_core.specs.Represents.{Represents};
+ghost use Rattle.base_core.specs.Saved.{OpensAgain, Writes};
+
+use crate::base::Base;
+use crate::entries::Entries;
+use crate::fault::DraftError;
+use crate::naming::{NameIds, counts_of, cut_names};
+use crate::taking::take_names;
+use block_store::{Store, padding};
+use index_entry::{Entry, IndexHead};
+use name_base::Names;
+use std::alloc::{AllocError, Global};
+use std::marker::Model;
+
+/// The greatest length of a games file.
+const LONGEST_FILE: u64 = 4_294_967_295;
+
+/// A base that takes over games of an open base one by one: their heads, the names that they use, and the places that their records are
+/// to have in a new games file.
+#[derive(Drop)]
+pub struct Draft {
+    base: Base,
+}
+
+impl Model for Draft {
+    ghost use Rattle.base_core.specs.Represents.{Kept};
+
+    ghost Value = { Kept };
+
+    ghost view = { λ draft. draft.base };
+}
+
+impl Draft {
+    /// A draft of no games, with what the index of the base says of the whole base.
+    pub fn new(alloc: Global, base: &Base) -> Draft
+        ensures empty { result ≡ emptied base.now }
+    {
+        let header = IndexHead {
+            games: 0,
+            ..*base.header()
+        };
+        Draft {
+            base: Base::of(header, Names::new(alloc), Entries::new(alloc), 0),
+        }
+    }
+
+    /// Takes over game `i` of the base, and gives the number of zero bytes before its record.
+    ///
+    /// # Errors
+    ///
+    /// `Full` exactly where its record would end behind 4,294,967,295 bytes, and `Memory`. The draft is then as it was.
+    pub fn push(&mut self, alloc: Global, base: &Base, i: u32) -> Result<u32, DraftError>
+        requires there { i < length base.now.entries }
+        requires few { length self.old.entries ≤ i }
+        requires names { AreNamesOf self.old.names base.now.names }
+        ensures taken { OnOk result (TakesOver i base.now self.old self.new) }
+        ensures grown { OnOk result (Grows (length_at i base.now) self.old self.new) }
+        ensures pad { IfOk result (λ pad. pad ≡ padding self.old.end (length_at i base.now)) }
+        ensures names { AreNamesOf self.new.names base.now.names }
+        ensures full { IsErrOf result DraftError.Full ↔ (longest_file < end_after self.old.end (length_at i base.now)) }
+        ensures unchanged { OnErr result (self.new ≡ self.old) }
+    {
+        self.base.take_over(alloc, base, i)
+    }
+
+    /// The bytes of the names file and of the index.
+    pub fn write(&self, alloc: Global) -> Result<(Vec<u8>, Vec<u8>), AllocError>
+        ensures written { IfOk result (λ texts. Writes self.now texts.1.items texts.0.items) }
+        // With a games file beside which the draft stands for a base they mean it, and open again as it.
+        ensures means { IfOk result (λ texts. (games : List ℕ) (base : PlainBase) → self.now.end ≡ length games → Represents self.now games base
+            → OpensAgain texts.1.items texts.0.items games base) }
+    {
+        // Reading the header makes the bounds of the draft known.
+        let _header = self.base.header();
+        let names = self.base.names_text(alloc)?;
+        let index = self.base.index_text(alloc)?;
+        Ok((names, index))
+    }
+}
+
+impl Base {
+    /// The draft takes the place of the base: nothing is unsaved then.
+    pub fn adopt(&mut self, draft: Draft)
+        ensures adopted { self.new ≡ draft }
+    {
+        *self = draft.base;
+    }
+
+    // Takes over a game of another base, as `Draft::push` says.
+    fn take_over(&mut self, alloc: Global, of: &Base, i: u32) -> Result<u32, DraftError>
+        requires there { i < length of.now.entries }
+        requires few { length self.old.entries ≤ i }
+        requires names { AreNamesOf self.old.names of.now.names }
+        ensures taken { OnOk result (TakesOver i of.now self.old self.new) }
+        ensures grown { OnOk result (Grows (length_at i of.now) self.old self.new) }
+        ensures pad { IfOk result (λ pad. pad ≡ padding self.old.end (length_at i of.now)) }
+        ensures names { AreNamesOf self.new.names of.now.names }
+        ensures full { IsErrOf result DraftError.Full ↔ (longest_file < end_after self.old.end (length_at i of.now)) }
+        ensures unchanged { OnErr result (self.new ≡ self.old) }
+    {
+        // Reading the header makes the bounds of the other base known.
+        let _header = of.header();
+        let entry = of.entry(i);
+        let len = u64::from(entry.len);
+        let pad = padding(self.store.end(), len);
+        let end = self.store.end().saturating_add(u64::from(pad) + len);
+        if end > LONGEST_FILE {
+            return Err(DraftError::Full);
+        }
+        let counts = counts_of(&self.names);
+        let ids = take_names(alloc, &mut self.names, of.names(), &entry)?;
+        let placed = placed_entry(&entry, &ids, (end - len) as u32);
+        if let Err(refused) = self.entries.push(&placed) {
+            cut_names(&mut self.names, &counts);
+            return Err(DraftError::from(refused));
+        }
+        self.header.games += 1;
+        self.store = Store::new(end);
+        Ok(pad)
+    }
+}
+
+// The entry with these ids, and its record beginning there.
+#[tactic(auto, unfolding(crate::specs::Drafts::placed_entry))]
+fn placed_entry(e: &Entry, ids: &NameIds, offset: u32) -> Entry
+    ensures entry { result ≡ placed_entry e.now ids.now offset }
+{
+    Entry {
+        offset,
+        white: ids.white,
+        black: ids.black,
+        event: ids.event,
+        site: ids.site,
+        round: ids.round,
+        ..*e
+    }
+}

@@ -1,0 +1,4 @@
+pub mod ListLaws
+pub mod FirstLaws
+pub mod CopyLaws
+pub mod CommitLaws

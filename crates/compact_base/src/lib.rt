@@ -1,0 +1,14 @@
+//! Compaction: a base is left with its undeleted games, and its three files with these alone.
+#![tactic(auto)]
+
+mod compacting;
+mod copying;
+mod devices;
+mod drafting;
+mod fault;
+
+pub use compacting::compact;
+pub use fault::CompactError;
+
+#[cfg(test)]
+mod tests;
