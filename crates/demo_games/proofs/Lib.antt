@@ -1,0 +1,3 @@
+pub mod LegalList
+pub mod Drawing
+pub mod Settling

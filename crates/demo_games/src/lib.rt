@@ -1,0 +1,10 @@
+//! Games that are made of draws from a seed, to try a base with.
+#![tactic(auto)]
+
+mod generator;
+mod heads;
+
+pub use generator::Generator;
+
+#[cfg(test)]
+mod tests;
