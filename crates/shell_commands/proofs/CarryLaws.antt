@@ -78,6 +78,11 @@ beside_grown old new seen seen' more unsaved (Some base) is names b =
     }
 beside_grown old new seen seen' more unsaved None is names b = (ap (λ (s : Seen). s.index) is ∙ b.0, ap (λ (s : Seen). s.names) is ∙ b.1)
 
+-- What is carried then, whatever order broke off.
+pub carry_appended : (holding : Holding) (seen seen' : Seen) (more : List ℕ) (s : State) (order : Order) → seen' ≡ appended more seen → Stands holding seen s → StillCarry seen' s order
+carry_appended holding seen seen' more s order is st =
+    may_carry holding.kept seen' true s.carried order s.base (beside_grown holding.kept holding.kept seen seen' more s.unsaved s.carried is (holds-own holding.kept.names) st.carried)
+
 -- The base was edited, and no file was changed.
 pub beside_edited : (old new : Kept) (seen : Seen) (unsaved : Bool) (carried : Option Base) → new.names ≡ old.names → AreBeside old seen unsaved carried → AreBeside new seen true carried
 beside_edited old new seen unsaved (Some base) names b = record {

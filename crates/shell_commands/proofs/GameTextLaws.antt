@@ -41,14 +41,14 @@ quiet_no_game old number line past written fits = record {
 }
 
 -- What breaks off a part of a game's text.
-fault_of_output : (e : Halt) → IsOutput e → IsFault e
+pub fault_of_output : (e : Halt) → IsOutput e → IsFault e
 fault_of_output (halt.Device stop.Write) output = tt
 fault_of_output (halt.Device stop.Memory) output = tt
 fault_of_output (halt.Device stop.Read) output = absurd output
 fault_of_output (halt.Device stop.Files) output = absurd output
 fault_of_output (halt.Changed game kept found) output = absurd output
 
-fault_of_device : (e : Halt) → IsDevice e → IsFault e
+pub fault_of_device : (e : Halt) → IsDevice e → IsFault e
 fault_of_device (halt.Device stop.Files) device = tt
 fault_of_device (halt.Device stop.Memory) device = tt
 fault_of_device (halt.Device stop.Write) device = absurd device

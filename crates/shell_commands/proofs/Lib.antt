@@ -19,3 +19,10 @@ pub mod EditLaws
 pub mod TagLaws
 pub mod SaveLaws
 pub mod TreeLaws
+pub mod SavedLaws
+pub mod AddLaws
+pub mod IntakeLaws
+pub mod OneGameLaws
+pub mod BodyLaws
+pub mod TaskLaws
+pub mod DemoLaws

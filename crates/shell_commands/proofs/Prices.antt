@@ -1,5 +1,5 @@
 -- What a line costs over what a machine holds is its price in the state that the machine stands for.
-use Rattle.std.proofs.Common.{◌≡◌, ◌+◌, ◌&&◌, ℕ, zero, suc, Bool, true, List, [], ◌∷◌, length, sum_by, slice_get, Option, Some, Ok, Err, refl, sym, ap, ap₂, ◌∙◌, arith}
+use Rattle.std.proofs.Common.{◌≡◌, ◌≤◌, ◌+◌, ◌&&◌, ℕ, zero, suc, Bool, true, false, List, [], ◌∷◌, length, sum_by, slice_get, Option, Some, Ok, Err, refl, sym, ap, ap₂, ◌∙◌, arith}
 use Rattle.base_files.specs.Seen.{Seen}
 use Rattle.base_core.specs.Base.{Held}
 use Rattle.base_core.specs.Entries.{sig_in}
@@ -10,9 +10,9 @@ use Rattle.game_filter.specs.declared.op.Op.TheVariants.{Ignore, And}
 use Rattle.mat_search.specs.Passing as material
 use Rattle.pos_search.specs.Passing as position
 use Rattle.script_text.specs.declared.command.Command.{Command}
-use Rattle.script_text.specs.declared.command.Command.TheVariants.{Find, SearchPosition, SearchMaterial, Show, Export, Tag, Tree}
+use Rattle.script_text.specs.declared.command.Command.TheVariants.{Find, SearchPosition, SearchMaterial, Show, Export, Tag, Tree, Demo}
 use Rattle.sig_index.specs.declared.signature.Sig.{Sig}
-use Rattle.shell_commands.specs.Do.{Order, command_price, filtered_len, len_if_in, len_in, price}
+use Rattle.shell_commands.specs.Do.{Order, command_price, filtered_len, is_demo, len_if_in, len_in, price, price_by, priced}
 use Rattle.shell_commands.specs.Passing.{len_if, searched_len, sig_of}
 use Rattle.shell_commands.specs.Searching.{exactly}
 use Rattle.shell_commands.specs.Stands.{Holding, Stands, cost}
@@ -78,11 +78,28 @@ same_price (Tree board side) plies es all count each =
     same_searched (λ (s : Sig). position.passes s (exactly board side)) And plies es all count each
 same_price _ plies es all count each = refl
 
-pub cost_price : (holding : Holding) (seen : Seen) (s : State) (order : Order) → Stands holding seen s → cost holding order ≡ price s order
-cost_price holding seen s (Ok command) stands =
+price-other : (s : State) (command : Command) → is_demo (Ok command) ≡ false → price_by s command ≡ priced s command
+price-other s (Demo seed games) other = absurd (cc)
+price-other s _ other = refl
+
+pub cost_price : (holding : Holding) (seen : Seen) (s : State) (order : Order) → Stands holding seen s → is_demo order ≡ false → cost holding order ≡ price s order
+cost_price holding seen s (Ok command) stands other =
     ap (λ (plies : List (Option ℕ)). command_price (λ (x : Entry). x.len) sig_in holding.kept.entries plies command) stands.filter
     ∙ same_price command s.filter holding.kept.entries s.base.games stands.base.count
     (λ i e held there here.
     let keeps = stands.base.each i e held there here in
     record { len = keeps.says.len; sig = sig_is held.game (sig_in e) keeps.signed })
-cost_price holding seen s (Err fault) stands = refl
+    ∙ sym (price-other s command other)
+cost_price holding seen s (Err fault) stands other = refl
+
+-- A line asks no more than its price: one that is not `demo` no more than it costs over what the machine holds.
+pub asked_by : (holding : Holding) (seen : Seen) (s : State) (order : Order) (a a' : ℕ) → Stands holding seen s → (is_demo order ≡ false → a' ≤ a + cost holding order)
+    → ((seed games : ℕ) → order ≡ Ok (Demo seed games) → a' ≤ a + price s order) → a' ≤ a + price s order
+asked_by holding seen s (Ok (Demo seed games)) a a' stands others demo = demo seed games refl
+asked_by holding seen s (Ok command) a a' stands others demo =
+    let asked = others refl in
+    let same : cost holding (Ok command) ≡ price s (Ok command) = cost_price holding seen s (Ok command) stands refl in
+    omega (arith, asked, same)
+asked_by holding seen s (Err fault) a a' stands others demo =
+    let asked = others refl in
+    omega arith

@@ -4,9 +4,9 @@ use Rattle.std.specs.Prelude.{IfErr}
 use Rattle.base_files.specs.Seen.{Seen}
 use Rattle.base_files.specs.Told.{adds}
 use Rattle.command_runs.specs.Endings.{Halted, Serves}
-use Rattle.script_text.specs.declared.command.Command.TheVariants.{Export}
+use Rattle.script_text.specs.declared.command.Command.TheVariants.{Demo, Export}
 use Rattle.shell_commands.specs.declared.halt.Halt.{Halt}
-use Rattle.shell_commands.specs.Do.{Order, after_order, plain, text_of_order}
+use Rattle.shell_commands.specs.Do.{Order, after_order, is_demo, plain, text_of_order}
 use Rattle.shell_commands.specs.Ends.{IsOutput}
 use Rattle.shell_commands.specs.Stands.{Holding, Stands, Quiet, Broken}
 use Rattle.shell_commands.specs.State.{State}
@@ -35,4 +35,11 @@ pub no_export : (order : Order) → order ≡ Ok Export → is_export order ≡ 
 no_export order exports other =
     let P : Order → Type 0 = λ o. is_export o ≡ false in
     let same : is_export (Ok Export) ≡ false = subst P exports other in
+    absurd cc
+
+-- Nor is it `demo`.
+pub no_demo : (order : Order) (seed games : ℕ) → order ≡ Ok (Demo seed games) → is_demo order ≡ false → ⊥
+no_demo order seed games demo other =
+    let P : Order → Type 0 = λ o. is_demo o ≡ false in
+    let same : is_demo (Ok (Demo seed games)) ≡ false = subst P demo other in
     absurd cc

@@ -38,7 +38,7 @@ use Rattle.shell_commands.proofs.FindingLaws.{held_by}
 abbrev pub kept_refusal : Kept → Head → GameTree → Option (List ℕ)
 kept_refusal kept head game = refusal (length (written_record head.tags game)) (first_full (length kept.entries) (names_with head kept.names) (end_with head game kept.end))
 
-kept-refusal : (kept : Kept) (games : List ℕ) (base : Base) (head : Head) (game : GameTree) → Represents kept games base → kept_refusal kept head game ≡ refusal_of base head game
+pub kept-refusal : (kept : Kept) (games : List ℕ) (base : Base) (head : Head) (game : GameTree) → Represents kept games base → kept_refusal kept head game ≡ refusal_of base head game
 kept-refusal kept games base head game is =
     let len : ℕ = length (written_record head.tags game) in
     ap (λ (n : ℕ). refusal len (first_full n (names_with head kept.names) (end_with head game kept.end))) is.count
@@ -46,13 +46,13 @@ kept-refusal kept games base head game is =
     ∙ ap (λ (end : ℕ). refusal len (first_full (length base.games) (names_with head base.names) (end_with head game end))) is.end
 
 -- Nothing is refused where there is room.
-none_refused : (len : ℕ) (full : Option What) → CanPlace len full → refusal len full ≡ None
+pub none_refused : (len : ℕ) (full : Option What) → CanPlace len full → refusal len full ≡ None
 none_refused len full can =
     let short : nat_lt longest len ≡ false = le-ltb longest len can.short in
     rw (short, can.room) refl
 
 -- What is refused, by the error.
-refused_so : (e : EditError) (len : ℕ) (full : Option What) (line : List ℕ) → WhyNotPlaced len full e → refused_edit e ≡ Ok line → refusal len full ≡ Some line
+pub refused_so : (e : EditError) (len : ℕ) (full : Option What) (line : List ℕ) → WhyNotPlaced len full e → refused_edit e ≡ Ok line → refusal len full ≡ Some line
 refused_so (edit.TooLong n) len full line why ends =
     let longer : longest < len = omega (arith, why.0, why.1) in
     let test : nat_lt longest len ≡ true = lt-ltb longest len longer in

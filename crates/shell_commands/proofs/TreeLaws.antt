@@ -3,7 +3,7 @@ use Rattle.std.proofs.Common.{◌≡◌, ◌≤◌, ℕ, zero, suc, ◌+◌, Boo
 use Rattle.std.specs.Prelude.{slice_get}
 use Rattle.std.proofs.lemmas.List.{take_all}
 use Rattle.std.proofs.lemmas.List.Elements.{All-push, All-same}
-use Rattle.std.proofs.lemmas.Option.{same_Some, slice_get-map}
+use Rattle.std.proofs.lemmas.Option.{get_or_from_slice_get, same_Some, slice_get-map}
 use Rattle.base_core.specs.Base.{Base, Held}
 use Rattle.base_core.specs.Entries.{extent_of, sig_in}
 use Rattle.base_core.specs.Represents.{Kept, Represents, extents_of, heads_of, sigs_of}
@@ -17,7 +17,7 @@ use Rattle.game_tree.specs.declared.head.Head.{Head}
 use Rattle.index_entry.specs.declared.entry.Entry.{Entry}
 use Rattle.pos_search.specs.Matching.{IsLegalFrom, hit_of as found_of}
 use Rattle.pos_search.specs.Passing.{passes}
-use Rattle.sig_index.specs.Games.{extent_in}
+use Rattle.sig_index.specs.Games.{extent_in, head_in}
 use Rattle.sig_index.specs.declared.pos_query.Mode.TheVariants.{Exact}
 use Rattle.sig_index.specs.declared.pos_query.PosQuery.{PosQuery}
 use Rattle.sig_index.specs.declared.signature.Sig.{Sig}
@@ -53,14 +53,14 @@ pub game-at : (games : List Held) (i : ℕ) (held : Held) → slice_get games i 
 game-at games i held at = slice_get-map (λ (h : Held). h.game) games i ∙ ap (option_map (λ (h : Held). h.game)) at
 
 -- The hit of a game, by the head that the base keeps and by what the search found.
-pub hit-read : (kept : Kept) (games : List ℕ) (base : Base) (held : Held) (i : ℕ) (query : PosQuery) (ply : ℕ) (next : Option Move) (head : Head) (hit : GameHit)
-    → Represents kept games base → slice_get base.games i ≡ Some held → slice_get (heads_of kept) i ≡ Some head → Some (ply, next) ≡ found_of query held.game
-    → hit ≡ hit_of next query.side head → Some hit ≡ hit_of_game query held
-hit-read kept games base held i query ply next head hit is at at_head found counted =
+pub hit-read : (kept : Kept) (games : List ℕ) (base : Base) (held : Held) (i : ℕ) (query : PosQuery) (ply : ℕ) (next : Option Move) (hit : GameHit)
+    → Represents kept games base → slice_get base.games i ≡ Some held → Some (ply, next) ≡ found_of query held.game
+    → hit ≡ hit_of next query.side (head_in (heads_of kept) i) → Some hit ≡ hit_of_game query held
+hit-read kept games base held i query ply next hit is at found counted =
     let bare : Held → Head = λ h. without_tags h.head in
     let there : slice_get (heads_of kept) i ≡ Some (bare held) =
     ap (λ (heads : List Head). slice_get heads i) (heads-are kept games base is) ∙ (slice_get-map bare base.games i ∙ ap (option_map bare) at) in
-    let same : head ≡ bare held = same_Some head (bare held) (sym at_head ∙ there) in
+    let same : head_in (heads_of kept) i ≡ bare held = get_or_from_slice_get (heads_of kept) i (bare held) _ there in
     ap (λ (h : GameHit). Some h) (counted ∙ (ap (hit_of next query.side) same ∙ untagged next query.side held.head))
     ∙ ap (λ (f : Option (ℕ × Option Move)). option_map (λ (x : ℕ × Option Move). hit_of x.1 query.side held.head) f) found
 

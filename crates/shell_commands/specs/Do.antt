@@ -1,11 +1,13 @@
 -- What each line of a script does to a state, and the text that it writes: the plain machine. This project's own.
 use Rattle.std.specs.Prelude.{ℕ, ◌+◌, Bool, true, false, codes, List, [], ◌∷◌, slice_get, Option, Some, None, Result, Ok, Err}
+use Rattle.cell_core.specs.declared.man.Colour.TheVariants.{White}
+use Rattle.chess_laws.specs.Position.{start_men}
 use Rattle.game_filter.specs.Filter.{intersection, union}
 use Rattle.game_filter.specs.declared.op.Op.TheVariants.{Ignore, And as Among}
 use Rattle.mat_search.specs.Passing as material
 use Rattle.pos_search.specs.Passing as position
 use Rattle.script_text.specs.declared.command.Command.{Command}
-use Rattle.script_text.specs.declared.command.Command.TheVariants.{Nothing, Find, SearchPosition, SearchMaterial, SearchHeader, Reset, Clear, Negate, Restrict, Keep, Take, And, Or, Drop, Hits, List as Listing, Show, Export, Tag, Delete, Undelete, Mark, Tree, Save, Info, Quit}
+use Rattle.script_text.specs.declared.command.Command.TheVariants.{Nothing, Find, SearchPosition, SearchMaterial, SearchHeader, Reset, Clear, Negate, Restrict, Keep, Take, And, Or, Drop, Hits, List as Listing, Show, Export, Import, Replace, Tag, Delete, Undelete, Mark, Tree, Save, Info, Demo, Quit}
 use Rattle.script_text.specs.declared.fault.ScriptFault.{ScriptFault}
 use Rattle.script_text.specs.declared.fault.ScriptFault.TheVariants.{Unknown}
 use Rattle.command_runs.specs.Plain.{Plain}
@@ -22,6 +24,7 @@ use Rattle.shell_commands.specs.Showing.{info_text, quit_text}
 use Rattle.shell_commands.specs.Editing.{delete_after, undelete_after, mark_after, edit_text, tag_after, tag_text}
 use Rattle.shell_commands.specs.Saving.{save_after, save_text}
 use Rattle.shell_commands.specs.Trees.{tree_said}
+use Rattle.shell_commands.specs.Demo.{adding, at_start, demo_after, demo_text, shown_after}
 
 -- A line of a script: the command that it says, or its first fault.
 abbrev pub Order : Type 0
@@ -47,6 +50,7 @@ done_by s (Delete game) = delete_after s game
 done_by s (Undelete game) = undelete_after s game
 done_by s (Mark game bit on) = mark_after s game bit on
 done_by s Save = save_after s
+done_by s (Demo seed games) = demo_after s seed games
 done_by s _ = s
 
 -- The text of a command. One that is not there yet is an unknown command.
@@ -75,6 +79,7 @@ said_by s (Undelete game) = edit_text (codes "undeleted ") s game
 said_by s (Mark game bit on) = edit_text (codes "marked ") s game
 said_by s (Tree board side) = tree_said s board side
 said_by s Save = save_text s
+said_by s (Demo seed games) = demo_text s seed games
 said_by s Info = info_text s
 said_by s Quit = quit_text s
 said_by s _ = fault_line Unknown
@@ -99,19 +104,25 @@ command_asks (SearchPosition op query) = true
 command_asks (SearchMaterial op query) = true
 command_asks (Show game) = true
 command_asks Export = true
+command_asks (Import word) = true
+command_asks (Replace game word) = true
 command_asks (Tag game edit) = true
 command_asks (Tree board side) = true
 command_asks Save = true
+command_asks (Demo seed games) = true
 command_asks _ = false
 
 abbrev pub order_asks : Order → Bool
 order_asks (Ok command) = command_asks command
 order_asks (Err fault) = false
 
--- Whether a line may change the files: `tag` adds to the games file, and `save` replaces the other two.
+-- Whether a line may change the files: games and tags add to the games file, and `save` replaces the other two.
 abbrev pub command_writes : Command → Bool
+command_writes (Import word) = true
+command_writes (Replace game word) = true
 command_writes (Tag game edit) = true
 command_writes Save = true
+command_writes (Demo seed games) = true
 command_writes _ = false
 
 abbrev pub order_writes : Order → Bool
@@ -146,7 +157,30 @@ command_price len sig games plies Export = filtered_len len plies games
 command_price len sig games plies (Tree board side) = searched_len len (λ game. position.passes (sig game) (exactly board side)) Among plies games
 command_price len sig games plies _ = 0
 
+-- Whether a line is `demo`, which searches what it added.
+abbrev pub is_demo : Order → Bool
+is_demo (Ok (Demo seed games)) = true
+is_demo (Ok _) = false
+is_demo (Err fault) = false
+
+-- What a command costs in a state.
+abbrev pub priced : State → Command → ℕ
+priced s command = command_price (λ held. held.len) (λ held. sig_of held.game) s.base.games s.filter command
+
+-- The initial position is searched among all games, and its tree is that of the games that it leaves in.
+abbrev pub shown_price : State → ℕ
+shown_price s = priced s (SearchPosition Ignore at_start) + priced (shown_after s) (Tree start_men White)
+
+-- Where a game of `demo` is refused, nothing is searched.
+abbrev pub unless_priced : Option (List ℕ) → State → ℕ
+unless_priced (Some line) s = 0
+unless_priced None s = shown_price s
+
+abbrev pub price_by : State → Command → ℕ
+price_by s (Demo seed games) = unless_priced (adding s seed games).refused (adding s seed games).state
+price_by s command = priced s command
+
 -- How many bytes of the games file a line asks at most.
 abbrev pub price : State → Order → ℕ
-price s (Ok command) = command_price (λ held. held.len) (λ held. sig_of held.game) s.base.games s.filter command
+price s (Ok command) = price_by s command
 price s (Err fault) = 0

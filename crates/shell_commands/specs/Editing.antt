@@ -47,20 +47,27 @@ mark_after s game bit on = edited_there (marked game bit on) s (slice_get s.base
 abbrev pub edit_text : List ℕ → State → ℕ → List ℕ
 edit_text words s game = line_there words game (slice_get s.base.games game)
 
--- The error lines of a game whose record is not placed: it is too long, or this would be full.
-abbrev pub too_long_line : List ℕ
-too_long_line = line_of (codes "error: record too long")
+-- Why the record of a game is not placed: it is too long, or this would be full.
+abbrev pub too_long_words : List ℕ
+too_long_words = codes "record too long"
 
 abbrev pub full_words : What → List ℕ
-full_words Games = codes "error: full games"
-full_words Players = codes "error: full players"
-full_words Events = codes "error: full events"
-full_words Sites = codes "error: full sites"
-full_words Rounds = codes "error: full rounds"
-full_words File = codes "error: full file"
+full_words Games = codes "full games"
+full_words Players = codes "full players"
+full_words Events = codes "full events"
+full_words Sites = codes "full sites"
+full_words Rounds = codes "full rounds"
+full_words File = codes "full file"
+
+-- The error lines of such a game.
+abbrev pub error_line : List ℕ → List ℕ
+error_line words = line_of (codes "error: " ++ words)
+
+abbrev pub too_long_line : List ℕ
+too_long_line = error_line too_long_words
 
 abbrev pub full_line : What → List ℕ
-full_line what = line_of (full_words what)
+full_line what = error_line (full_words what)
 
 -- The first of them for a record of so many bytes, if there is one.
 abbrev pub refusal : ℕ → Option What → Option (List ℕ)

@@ -1,5 +1,5 @@
 -- Why a part of a command ends early. Only private functions cite this.
-use Rattle.std.specs.Prelude.{◌≡◌, ◌⊎◌, ⊤, ℕ, List, [], Option, Result, Ok, Err}
+use Rattle.std.specs.Prelude.{◌≡◌, ◌⊎◌, ⊤, ℕ, codes, List, [], ◌++◌, Option, Result, Ok, Err}
 use Rattle.base_core.specs.Base.{Held}
 use Rattle.base_core.specs.declared.fault.EditError.{EditError}
 use Rattle.base_core.specs.declared.fault.EditError.TheVariants as edit
@@ -8,8 +8,11 @@ use Rattle.base_files.specs.declared.faults.Stop.TheVariants as stop
 use Rattle.command_runs.specs.Endings.{Halted}
 use Rattle.base_core.specs.declared.fault.SaveError.{SaveError}
 use Rattle.base_core.specs.declared.fault.SaveError.TheVariants as saving
-use Rattle.shell_commands.specs.Editing.{full_line, too_long_line}
+use Rattle.pgn_read.specs.declared.error.PgnError.{PgnError}
+use Rattle.pgn_read.specs.declared.error.PgnError.TheVariants as pgn
+use Rattle.shell_commands.specs.Editing.{full_line, full_words, too_long_line, too_long_words}
 use Rattle.shell_commands.specs.GameTexts.{ExportCut, exported}
+use Rattle.shell_commands.specs.Importing.{item_line}
 use Rattle.sig_index.specs.declared.games.FetchError.{FetchError}
 use Rattle.sig_index.specs.declared.games.FetchError.TheVariants as fetch
 use Rattle.shell_commands.specs.declared.halt.Halt.{Halt}
@@ -89,3 +92,14 @@ EndsAs ends e = (e ≡ halt.Device stop.Memory) ⊎ (ends ≡ Err e)
 abbrev pub unsaved_halt : SaveError → Halt
 unsaved_halt saving.Failed = halt.Device stop.Files
 unsaved_halt saving.Memory = halt.Device stop.Memory
+
+-- How a command ends whose item of this number is refused: with its line, or early.
+abbrev pub refused_item : ℕ → EditError → Result (List ℕ) Halt
+refused_item number (edit.TooLong size) = Ok (item_line number (codes ": " ++ too_long_words))
+refused_item number (edit.Full what) = Ok (item_line number (codes ": " ++ full_words what))
+refused_item number error = Err (halt_of error)
+
+-- How a command ends whose body is not read.
+abbrev pub unread_halt : PgnError → Halt
+unread_halt pgn.Failed = halt.Device stop.Read
+unread_halt pgn.Memory = halt.Device stop.Memory

@@ -8,9 +8,14 @@ pub mod Showing
 pub mod Listing
 pub mod GameTexts
 pub mod Trees
+pub mod Demo
 pub mod Do
 pub mod Stands
 pub mod Turns
 pub mod Ends
 pub mod Editing
 pub mod Saving
+pub mod Importing
+pub mod Tasks
+pub mod Intakes
+pub mod Demoing

@@ -1,10 +1,11 @@
 //! The lines that commands write.
 ghost use Rattle.std.specs.Prelude.{◌≡◌, ◌++◌, ◌∷◌, [], IfOk};
 ghost use Rattle.script_text.specs.declared.fault.ScriptFault.TheVariants.{Unknown};
-ghost use Rattle.shell_commands.specs.Editing.{game_line};
+ghost use Rattle.shell_commands.specs.Editing.{error_line, full_words, game_line};
 ghost use Rattle.shell_commands.specs.GameTexts.{no_game_line};
 ghost use Rattle.shell_commands.specs.Lines.{filter_line, name_line, line_of, fault_line, argument_line};
 
+use base_core::What;
 use cell_core::Text;
 use game_filter::Filter;
 use script_text::ScriptFault;
@@ -37,6 +38,30 @@ pub(crate) fn name_line(alloc: Global, words: &[u8], name: &Text) -> Result<Vec<
     line.extend_from_slice(name.as_bytes())?;
     line.push(b'\n')?;
     Ok(line)
+}
+
+// An error line of these words.
+pub(crate) fn error_line(alloc: Global, words: &[u8]) -> Result<Vec<u8>, AllocError>
+    ensures { IfOk result (λ line. line.items ≡ error_line words.now) }
+{
+    let mut line = Vec::from_slice(alloc, b"error: ")?;
+    line.extend_from_slice(words)?;
+    line.push(b'\n')?;
+    Ok(line)
+}
+
+// What would be full.
+pub(crate) fn full_words(what: What) -> &'static [u8]
+    ensures { result.now ≡ full_words what }
+{
+    match what {
+        What::Games => b"full games",
+        What::Players => b"full players",
+        What::Events => b"full events",
+        What::Sites => b"full sites",
+        What::Rounds => b"full rounds",
+        What::File => b"full file",
+    }
 }
 
 // The error line of a line that is no command.

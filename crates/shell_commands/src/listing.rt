@@ -107,7 +107,7 @@ fn put_game<K: Sink>(
 }
 
 // The head of a game of an open base.
-pub(crate) fn head_at(base: &Base, i: u32) -> HeadRef<'_>
+fn head_at(base: &Base, i: u32) -> HeadRef<'_>
     requires there { i < length base.now.entries }
     requires sound { IsSound base.now }
     ensures head { slice_get (heads_of base.now) i ≡ Some (head_of result []) }

@@ -1,5 +1,6 @@
 //! Filters that are kept by name.
-ghost use Rattle.std.specs.Prelude.{◌≡◌, ◌<◌, ℕ, All, length, IfSome, IfOk, OnOk};
+ghost use Rattle.std.specs.Prelude.{◌≡◌, ◌<◌, ℕ, All, length, map, IfSome, IfOk, OnOk};
+ghost use Rattle.shell_commands.specs.Importing.{kept_to_start, to_start, without_last};
 ghost use Rattle.game_filter.specs.Filter.{intersection, union};
 ghost use Rattle.shell_commands.specs.SavedFilters.{place_of, is_kept, kept_in, can_keep, dropped_in, joined_with, saved_named, taken};
 
@@ -49,6 +50,58 @@ pub(crate) fn keep(
         None => saved.push(new)?,
     }
     Ok(true)
+}
+
+// Leaves a game that was added out of every filter that is kept.
+pub(crate) fn leave_out(alloc: Global, saved: &mut [SavedFilter]) -> Result<(), AllocError>
+    requires room { All (λ kept. length kept.plies < u32.MAX) saved.old }
+    ensures left_out { OnOk result (saved.new ≡ map without_last saved.old) }
+{
+    for kept in saved.iter_mut() {
+        leave_one_out(alloc, kept)?;
+    }
+    Ok(())
+}
+
+// Leaves it out of one of them.
+fn leave_one_out(alloc: Global, kept: &mut SavedFilter) -> Result<(), AllocError>
+    requires room { length kept.old.plies < u32.MAX }
+    ensures left_out { OnOk result (kept.new ≡ without_last kept.old) }
+{
+    kept.plies.push(alloc, None)?;
+    Ok(())
+}
+
+// Puts a game that was replaced at its start in each filter that has it.
+pub(crate) fn put_at_start(filter: &mut Filter, saved: &mut [SavedFilter], i: u32)
+    requires there { i < length filter.old }
+    requires same_games { All (λ kept. length kept.plies ≡ length filter.old) saved.old }
+    ensures filter { filter.new ≡ to_start i filter.old }
+    ensures saved { saved.new ≡ map (kept_to_start i) saved.old }
+{
+    to_start(filter, i);
+    for kept in saved.iter_mut() {
+        put_one_at_start(kept, i);
+    }
+}
+
+// Puts it at its start in one of them.
+fn put_one_at_start(kept: &mut SavedFilter, i: u32)
+    requires there { i < length kept.old.plies }
+    ensures put { kept.new ≡ kept_to_start i kept.old }
+{
+    to_start(&mut kept.plies, i);
+}
+
+// Puts a game at its start where the filter has it.
+fn to_start(filter: &mut Filter, i: u32)
+    requires there { i < length filter.old }
+    ensures put { filter.new ≡ to_start i filter.old }
+{
+    let ply = filter.get(i);
+    if ply.is_some() {
+        filter.set(i, Some(0));
+    }
 }
 
 // Forgets the filter of a name; `false` where there is none.

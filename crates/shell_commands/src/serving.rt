@@ -1,33 +1,38 @@
 //! What one line of a script does.
-ghost use Rattle.std.specs.Prelude.{◌≡◌, ◌≤◌, ◌+◌, [], false, Ok, OnOk, IfOk, IfErr};
+ghost use Rattle.std.specs.Prelude.{◌≡◌, ◌≤◌, ◌+◌, ℕ, List, [], false, Some, Ok, OnOk, IfOk, IfErr};
 ghost use Rattle.base_files.specs.Told.{adds};
 ghost use Rattle.command_runs.specs.Endings.{Halted, Serves};
 ghost use Rattle.command_runs.specs.Counts.{Causes, Why, counts};
 ghost use Rattle.script_text.specs.Sound.{IsSoundLine};
+ghost use Rattle.script_text.specs.Tasks.{task};
 ghost use Rattle.script_text.specs.declared.command.Command.TheVariants as command;
-ghost use Rattle.shell_commands.specs.Do.{order_writes, plain};
+ghost use Rattle.shell_commands.specs.Do.{is_demo, order_writes, plain, price};
 ghost use Rattle.shell_commands.specs.Ends.{IsOutput};
 ghost use Rattle.shell_commands.specs.GameTexts.{ExportCut};
 ghost use Rattle.shell_commands.specs.Stands.{Stands, Sound, Fits, Quiet, Broken, StillCarry, WhyHalt, cost};
 ghost use Rattle.shell_commands.specs.State.{State};
+ghost use Rattle.shell_commands.specs.Tasks.{BrokenTask, tasks};
 ghost use Rattle.shell_commands.specs.Turns.{IsTurn};
 
+use crate::demoing::demo;
 use crate::editing::{delete, mark, undelete};
 use crate::filters::{and, clear, drop_filter, keep_filter, negate, or, reset, restrict, take};
 use crate::game_texts::{export, show, show_turn};
 use crate::halt::Halt;
 use crate::heads::search_header;
 use crate::hits::hits;
+use crate::importing::import;
 use crate::lines::{fault_line, unknown};
 use crate::listing::list;
 use crate::machine::Machine;
 use crate::material::search_material;
 use crate::positions::{find, search_position};
+use crate::replacing::replace;
 use crate::saving::save;
 use crate::showing::{info, quit};
 use crate::tagging::{tag, tag_turn};
 use crate::trees::tree;
-use base_files::{Files, Sink, Stop};
+use base_files::{Files, Sink, Source, Stop};
 use cell_core::{Board, Colour};
 use command_runs::write_text;
 use game_filter::Op;
@@ -53,6 +58,7 @@ pub(crate) enum Turn<'a> {
     Tag(u32, &'a TagEdit),
     Tree(&'a Board, Colour),
     Save,
+    Demo(u64, u32),
 }
 
 /// Does what a line of a script says, and writes its text.
@@ -81,7 +87,10 @@ pub fn serve<F: Files, K: Sink>(
     // Whatever the files tell, they change by a line alone that may change them, and no base is chosen.
     ensures unchanged { order_writes order.now ≡ false → F.seen files.new ≡ F.seen files.old }
     ensures choices { (F.seen files.new).choices ≡ (F.seen files.old).choices }
-    ensures asks { F.asked files.new ≤ F.asked files.old + cost machine.old order.now }
+
+    // It asks no more than it costs, and `demo` no more than what it shows costs in the state behind the games that it adds.
+    ensures asks { is_demo order.now ≡ false → F.asked files.new ≤ F.asked files.old + cost machine.old order.now }
+    ensures asks_demo { (s : State) (seed games : ℕ) → Stands machine.old (F.seen files.old) s → order.now ≡ Ok (command.Demo seed games) → F.asked files.new ≤ F.asked files.old + price s order.now }
     ensures causes { Causes WhyHalt result (counts (F.faults files.old) 0 (K.faults out.old)) (counts (F.faults files.new) 0 (K.faults out.new)) }
 {
     match take_turn(alloc, machine, order) {
@@ -96,7 +105,44 @@ pub fn serve<F: Files, K: Sink>(
         Ok(Turn::Tag(i, edit)) => tag(alloc, machine, files, out, i, edit),
         Ok(Turn::Tree(board, side)) => tree(alloc, machine, files, out, board, side),
         Ok(Turn::Save) => save(alloc, machine, files, out),
+        Ok(Turn::Demo(seed, games)) => demo(alloc, machine, files, out, seed, games),
         Ok(Turn::Line(line)) => write_line(out, line.as_slice()),
+    }
+}
+
+/// Does what a line of a script says that has a body, and writes its text. Of a line without one nothing of the body is read.
+pub fn serve_body<F: Files, B: Source, K: Sink>(
+    alloc: Global,
+    machine: &mut Machine,
+    files: &mut F,
+    body: &mut B,
+    out: &mut K,
+    order: &Order,
+) -> Result<(), Halt>
+    requires sound { Sound machine.old (F.seen files.old) }
+    requires order { IsSoundLine order.now }
+
+    // Where the files and the body are told, the machine stands for the state after the task and its text is written, or a front part of it.
+    ensures serves { (s : State) (text : List ℕ) → Stands machine.old (F.seen files.old) s → B.left body.old ≡ Some text → Serves tasks (Stands machine.new (F.seen files.new)) BrokenTask s (task order.now text) (K.taken out.old) (K.taken out.new) result }
+    ensures sound { OnOk result (Sound machine.new (F.seen files.new)) }
+
+    // Where it is broken off the files carry what they carried, or perhaps what `save` saves.
+    ensures carries { (s : State) → Stands machine.old (F.seen files.old) s → IfErr result (λ _. StillCarry (F.seen files.new) s order.now) }
+    ensures unchanged { order_writes order.now ≡ false → F.seen files.new ≡ F.seen files.old }
+    ensures choices { (F.seen files.new).choices ≡ (F.seen files.old).choices }
+
+    // It asks no more than it costs, and `demo` no more than what it shows costs in the state behind the games that it adds.
+    ensures asks { is_demo order.now ≡ false → F.asked files.new ≤ F.asked files.old + cost machine.old order.now }
+    ensures asks_demo { (s : State) (seed games : ℕ) → Stands machine.old (F.seen files.old) s → order.now ≡ Ok (command.Demo seed games) → F.asked files.new ≤ F.asked files.old + price s order.now }
+
+    // The body goes on reading from where it read.
+    ensures same { B.origin body.new ≡ B.origin body.old }
+    ensures causes { Causes WhyHalt result (counts (F.faults files.old) (B.faults body.old) (K.faults out.old)) (counts (F.faults files.new) (B.faults body.new) (K.faults out.new)) }
+{
+    match order {
+        Ok(Command::Import(_)) => import(alloc, machine, files, body, out),
+        Ok(Command::Replace(number, _)) => replace(alloc, machine, files, body, out, *number),
+        _ => serve(alloc, machine, files, out, order),
     }
 }
 
@@ -160,6 +206,7 @@ fn take_turn<'a>(
         }
         Command::Tree(board, side) => Ok(Turn::Tree(board, *side)),
         Command::Save => Ok(Turn::Save),
-        Command::Demo(_, _) => Ok(Turn::Line(unknown(alloc)?)),
+        Command::Compact => Ok(Turn::Line(unknown(alloc)?)),
+        Command::Demo(seed, games) => Ok(Turn::Demo(*seed, *games)),
     }
 }

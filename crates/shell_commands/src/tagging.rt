@@ -6,7 +6,7 @@ ghost use Rattle.command_runs.specs.Endings.{Serves};
 ghost use Rattle.game_tree.specs.TagEdit.{IsEdit};
 ghost use Rattle.script_text.specs.declared.command.Command.TheVariants as command;
 ghost use Rattle.shell_commands.specs.Do.{plain};
-ghost use Rattle.shell_commands.specs.Editing.{full_line, tag_after, tag_text};
+ghost use Rattle.shell_commands.specs.Editing.{tag_after, tag_text};
 ghost use Rattle.shell_commands.specs.Ends.{EndsAs, IsDevice, IsThere, refused_edit};
 ghost use Rattle.shell_commands.specs.Stands.{Stands, Sound, Fits, Broken, StillCarry, WhyHalt, len_at};
 ghost use Rattle.shell_commands.specs.State.{State};
@@ -14,10 +14,10 @@ ghost use Rattle.shell_commands.specs.Turns.{IsTurn};
 
 use crate::game_texts::halt_of;
 use crate::halt::Halt;
-use crate::lines::{game_line, line_of, no_game_line};
+use crate::lines::{error_line, full_words, game_line, no_game_line};
 use crate::machine::Machine;
 use crate::serving::{Turn, write_line};
-use base_core::{EditError, What};
+use base_core::EditError;
 use base_files::{Files, Sink};
 use game_tree::TagEdit;
 use std::alloc::{AllocError, Global};
@@ -93,28 +93,14 @@ fn set_tag<F: Files>(
 }
 
 // The error line of a game whose record is not placed, or how the command ends.
-fn refused_line(alloc: Global, error: EditError) -> Result<Vec<u8>, Halt>
+pub(crate) fn refused_line(alloc: Global, error: EditError) -> Result<Vec<u8>, Halt>
     requires there { IsThere error }
     ensures line { IfOk result (λ line. refused_edit error ≡ Ok line.items) }
     ensures halt { IfErr result (EndsAs (refused_edit error)) }
 {
     match error {
-        EditError::TooLong(_) => Ok(line_of(alloc, b"error: record too long")?),
-        EditError::Full(what) => Ok(full_line(alloc, what)?),
+        EditError::TooLong(_) => Ok(error_line(alloc, b"record too long")?),
+        EditError::Full(what) => Ok(error_line(alloc, full_words(what))?),
         other => Err(halt_of(other)),
-    }
-}
-
-// The error line of what is full.
-fn full_line(alloc: Global, what: What) -> Result<Vec<u8>, AllocError>
-    ensures line { IfOk result (λ line. line.items ≡ full_line what) }
-{
-    match what {
-        What::Games => line_of(alloc, b"error: full games"),
-        What::Players => line_of(alloc, b"error: full players"),
-        What::Events => line_of(alloc, b"error: full events"),
-        What::Sites => line_of(alloc, b"error: full sites"),
-        What::Rounds => line_of(alloc, b"error: full rounds"),
-        What::File => line_of(alloc, b"error: full file"),
     }
 }

@@ -2,14 +2,16 @@
 ghost use Rattle.std.specs.Prelude.{◌≡◌, ◌≤◌, ◌<◌, ◌+◌, ◌++◌, ℕ, List, Some, Ok, All, length, slice_get, IfOk, IfErr, IfSome, OnOk};
 ghost use Rattle.base_core.specs.Base.{Base as PlainBase, Held};
 ghost use Rattle.base_core.specs.Entries.{sig_in};
-ghost use Rattle.base_core.specs.Represents.{IsSound, Represents};
+ghost use Rattle.base_core.specs.Represents.{IsSound, Represents, heads_of};
 ghost use Rattle.base_files.specs.Seen.{Seen};
 ghost use Rattle.command_runs.specs.Counts.{Causes, counts};
 ghost use Rattle.command_runs.specs.Endings.{Serves};
 ghost use Rattle.index_entry.specs.declared.entry.Entry.{Entry};
 ghost use Rattle.script_text.specs.declared.command.Command.TheVariants as command;
 ghost use Rattle.pos_search.specs.Passing.{passes};
+ghost use Rattle.sig_index.specs.Games.{head_in};
 ghost use Rattle.sig_index.specs.declared.pos_query.Mode.TheVariants.{Exact};
+ghost use Rattle.tree_rows.specs.Hits.{hit_of};
 ghost use Rattle.tree_rows.specs.MoveText.{IsKey};
 ghost use Rattle.shell_commands.specs.Do.{plain};
 ghost use Rattle.shell_commands.specs.Ends.{IsDevice};
@@ -19,15 +21,14 @@ ghost use Rattle.shell_commands.specs.State.{State};
 ghost use Rattle.shell_commands.specs.Trees.{hit_if_in, hit_of_game, hits_tree, listed_hit, tree_hits, tree_of};
 
 use crate::halt::Halt;
-use crate::listing::head_at;
 use crate::machine::Machine;
 use crate::serving::write_line;
 use base_core::Base;
 use base_files::{Files, Sink, Stop};
-use cell_core::{Board, Colour};
+use cell_core::{Board, Colour, Move};
 use game_filter::Filter;
-use pos_search::hit;
-use sig_index::{Mode, PosQuery};
+use pos_search::{Sought, hit_sought};
+use sig_index::{Games, Mode, PosQuery};
 use std::alloc::{AllocError, Global};
 use tree_rows::{GameHit, Rows, lines};
 
@@ -80,7 +81,7 @@ fn read_tree<F: Files>(
     ensures asks { F.asked files.new ≤ F.asked files.old + tree_len query.now filter.now base.now.entries }
     ensures causes { Causes WhyHalt result (counts (F.faults files.old) 0 0) (counts (F.faults files.new) 0 0) }
 {
-    let hits = match read_hits(alloc, base, filter, query, files, block) {
+    let hits = match read_hits(alloc, base, filter, &Sought::new(query), files, block) {
         Ok(hits) => hits,
         Err(halt) => return Err(halt),
     };
@@ -107,7 +108,7 @@ fn read_hits<F: Files>(
     alloc: Global,
     base: &Base,
     filter: &Filter,
-    query: &PosQuery,
+    query: &Sought<'_>,
     files: &mut F,
     block: &mut [u8],
 ) -> Result<Vec<GameHit>, Halt>
@@ -141,7 +142,7 @@ fn add_hit<F: Files>(
     base: &Base,
     i: u32,
     ply: Option<u32>,
-    query: &PosQuery,
+    query: &Sought<'_>,
     files: &mut F,
     block: &mut [u8],
 ) -> Result<(), Halt>
@@ -177,7 +178,7 @@ fn add_hit<F: Files>(
 fn read_hit<F: Files>(
     base: &Base,
     i: u32,
-    query: &PosQuery,
+    query: &Sought<'_>,
     files: &mut F,
     block: &mut [u8],
 ) -> Result<Option<GameHit>, Halt>
@@ -194,9 +195,24 @@ fn read_hit<F: Files>(
     ensures asks { (e : Entry) → slice_get base.now.entries i ≡ Some e → F.asked files.new ≤ F.asked files.old + len_if (passes (sig_in e) query.now) e.len }
     ensures causes { Causes WhyHalt result (counts (F.faults files.old) 0 0) (counts (F.faults files.new) 0 0) }
 {
-    match hit(base, i, query, files, block) {
-        Ok(Some((_, next))) => Ok(Some(GameHit::of(next, query.side, &head_at(base, i)))),
+    match hit_sought(base, i, query, files, block) {
+        Ok(Some((_, next))) => Ok(Some(counted(base, i, next, query.side()))),
         Ok(None) => Ok(None),
         Err(error) => Err(Halt::from(error)),
     }
+}
+
+// What is counted of a game that goes on with this move behind the match, if with any. Of its head only that is read.
+fn counted(base: &Base, i: u32, next: Option<Move>, side: Colour) -> GameHit
+    requires there { i < length base.now.entries }
+    ensures counted { result ≡ hit_of next side (head_in (heads_of base.now) i) }
+{
+    GameHit::of(
+        next,
+        side,
+        base.outcome(i),
+        base.white_rating(i).value,
+        base.black_rating(i).value,
+        base.date(i).year,
+    )
 }

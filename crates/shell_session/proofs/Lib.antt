@@ -1,4 +1,5 @@
 mod RunningLaws
+mod BodyLaws
 mod AnswerLaws
 mod OpeningLaws
 mod PriceLaws

@@ -1,131 +1,374 @@
--- Laws of the run of a script: a line more, its end, and what stops it.
-use Rattle.std.proofs.Common.{Result, OnOk, IfErr, inl, inr, ◌≡◌, ◌≤◌, ◌<◌, ◌+◌, ◌==◌, ℕ, Bool, true, false, cond, List, [], ◌∷◌, ◌++◌, length, take, Option, Some, None, Ok, Err, refl, sym, ap, ◌∙◌, subst, arith, append_assoc, append-nil}
+-- Laws of the run of a script: a task more, its end, and what stops it.
+use Rattle.std.proofs.Common.{Result, OnOk, IfOk, IfErr, inl, inr, ◌≡◌, ◌≤◌, ◌<◌, ◌+◌, ◌-◌, ◌==◌, ℕ, zero, suc, Bool, true, false, cond, is_some, IsTrue, List, [], ◌∷◌, ◌++◌, length, take, Option, Some, None, Ok, Err, refl, sym, ap, ◌∙◌, subst, arith, append_assoc, append-nil}
 use Rattle.std.proofs.Math.Seq.{take-append_seam}
 use Rattle.std.proofs.lemmas.List.{length-append}
+use Rattle.base_files.specs.Counters.{Rose}
 use Rattle.base_files.specs.Seen.{Seen}
 use Rattle.base_files.specs.Told.{Tells, adds, before}
+use Rattle.base_files.specs.declared.faults.Stop.TheVariants as stop
 use Rattle.base_files.proofs.Telling.{adds-nil, before-append, before-nil}
+use Rattle.command_runs.specs.Counts.{counts}
 use Rattle.command_runs.specs.Endings.{Cut, Done, Halted}
 use Rattle.command_runs.specs.Plain.{after_all, run}
-use Rattle.command_runs.proofs.Joining.{halted_after, halted_none, written_after}
 use Rattle.command_runs.specs.Runs.{Stopped}
+use Rattle.command_runs.proofs.Joining.{halted_after, halted_none, written_after}
 use Rattle.command_runs.proofs.Running.{after_all-append, cut_stops, did_one, did_stops, run-append}
 use Rattle.script_lines.specs.declared.reader.ReadError.{ReadError}
 use Rattle.script_lines.specs.declared.reader.ReadError.TheVariants as error
-use Rattle.script_lines.specs.Reading.{Ends, Feeds, IsFull, Reader, Stuck, TookLast, TookLine, TookPart, grown, piece_len}
-use Rattle.script_lines.specs.Script.{Script, is_quit, led_by, longest_script, script, script_from, script_len, script_of, then_quit, whole_lines}
+use Rattle.script_lines.specs.Reading.{Feeds, IsFull, Reader, Stuck, TookLast, TookLine, TookPart, grown, led_on}
+use Rattle.script_lines.specs.Script.{Script, behind_line, is_quit, led_by, longest_script, script, script_from, script_len, script_of, then_quit, whole_lines, with_body, with_word}
+use Rattle.script_lines.specs.Bodies.{Body, body_of}
 use Rattle.script_text.specs.Reading.{reading, shorn}
+use Rattle.script_text.specs.Tasks.{Task, body_word, task}
 use Rattle.script_text.specs.Words.{cut}
 use Rattle.script_text.specs.declared.command.Command.TheVariants.{Quit}
-use Rattle.shell_commands.specs.Do.{Order, order_writes, plain}
-use Rattle.base_files.specs.Counters.{Rose}
-use Rattle.base_files.specs.declared.faults.Stop.TheVariants as stop
-use Rattle.command_runs.specs.Counts.{counts}
+use Rattle.shell_commands.specs.Do.{Order, order_writes}
+use Rattle.shell_commands.specs.Stands.{Holding, Stands, StillCarry, WhyHalt}
+use Rattle.shell_commands.specs.State.{State}
+use Rattle.shell_commands.specs.Tasks.{BrokenTask, tasks}
 use Rattle.shell_commands.specs.declared.halt.Halt.{Halt}
 use Rattle.shell_commands.specs.declared.halt.Halt.TheVariants as halt
-use Rattle.shell_commands.specs.Stands.{Broken, Holding, Stands, StillCarry, WhyHalt}
-use Rattle.shell_commands.specs.State.{State}
-use Rattle.shell_session.specs.Running.{Interrupted, Interrupts, Ran, Stops, joined}
-use Rattle.shell_session.specs.Stops.{status_of_halt, status_of_reading}
 use Rattle.shell_commands.proofs.CarryLaws.{carry_of, left_of}
-use Rattle.shell_session.specs.Session.{Breaks, LinesDone, RanAll, RanPart, WhyStatus}
+use Rattle.shell_session.specs.Running.{BehindDone, Finished, Halts, InLine, Interrupted, Interrupts, LastDid, LastDone, LastHalts, Ran, Stops, WentOn, joined}
+use Rattle.shell_session.specs.Session.{Breaks, LinesDone, RanAll, RanPart, WhyStatus, price_all}
+use Rattle.shell_session.specs.Stops.{status_of_halt, status_of_reading}
 use Rattle.shell_session.specs.declared.status.Status.{Status}
 use Rattle.shell_session.specs.declared.status.Status.TheVariants.{InputTooLong, Memory, ReadFault}
+use Rattle.shell_session.proofs.PriceLaws.{paid_all, paid_one}
 
 -- Nothing was run yet.
-pub ran_none : (s : State) (l t : Option (List ℕ)) (holding : Holding) (seen : Seen) (reader : Reader) → reader ≡ record { unread = []; line = []; used = 0 } → Stands holding seen s
-    → Ran s l t holding seen reader l t
-ran_none s l t holding seen reader fresh stands = record {
+pub ran_none : (s : State) (bytes : List ℕ) (l t : Option (List ℕ)) (holding : Holding) (seen : Seen) (reader : Reader) (a : ℕ) → l ≡ Some bytes → reader ≡ record { unread = []; line = []; used = 0 }
+    → Stands holding seen s → Ran s bytes t holding seen reader l t a a
+ran_none s bytes l t holding seen reader a told fresh stands = record {
   done = [];
   front = [];
   stands = stands;
   written = sym (adds-nil t);
-  left = sym (before-nil l) ∙ sym (before-nil (before [] l)) ∙ ap (λ (r : Reader). before [] (before r.unread l)) (sym fresh);
+  left = sym told ∙ sym (before-nil l) ∙ sym (before-nil (before [] l)) ∙ ap (λ (r : Reader). before [] (before r.unread l)) (sym fresh);
   used = ap (λ (r : Reader). r.used) fresh;
-  says = λ last more. ap (script (script_from last [] more).orders) (omega arith);
+  says = λ last more. ap (script (script_from last 0 [] more).tasks) (omega arith);
+  paid = omega arith;
 }
-
--- The bytes of a line in front, and what was taken before.
-pub joined_led : (done : List Order) (m n : ℕ) (order : Order) (s : Script) → is_quit order ≡ false
-    → joined done m (grown n (led_by order s)) ≡ joined (done ++ order ∷ []) (m + n) s
-joined_led done m n order s other =
-    rw other (ap (λ os. script os (m + (n + s.size))) (sym (append_assoc done (order ∷ []) s.orders)) ∙ ap (script ((done ++ order ∷ []) ++ s.orders)) (omega arith))
-
-joined_quit : (done : List Order) (m n : ℕ) (order : Order) (s : Script) → is_quit order ≡ true
-    → joined done m (grown n (led_by order s)) ≡ script (done ++ order ∷ []) (m + n)
-joined_quit done m n order s quit = rw quit (ap (script (done ++ order ∷ [])) (omega arith))
-
--- What is said with a line more.
-pub says_line : (done : List Order) (front more_front : List ℕ) (order : Order) (last : Order → List Order) (more : List ℕ)
-    → ((last : Order → List Order) (more : List ℕ) → script_from last [] (front ++ more) ≡ joined done (length front) (script_from last [] more))
-    → Ends [] more_front order
-    → script_from last [] ((front ++ more_front) ++ more) ≡ joined done (length front) (grown (length more_front) (led_by order (script_from last [] more)))
-says_line done front more_front order last more says ends =
-    ap (script_from last []) (append_assoc front more_front more) ∙ says last (more_front ++ more) ∙ ap (joined done (length front)) (ends last more)
-
--- A line more, which is not `quit`.
-unfoldable pub ran_more : (s : State) (l₀ t₀ : Option (List ℕ)) (holding holding' : Holding) (seen seen' : Seen) (reader reader' : Reader) (l l' t t' : Option (List ℕ)) (order : Order)
-    → (ran : Ran s l₀ t₀ holding seen reader l t) → TookLine [] reader l order reader' l'
-    → Done (Stands holding' seen') (plain.after (after_all plain s ran.done) order) (plain.text (after_all plain s ran.done) order) t t'
-    → is_quit order ≡ false
-    → Ran s l₀ t₀ holding' seen' reader' l' t'
-ran_more s l₀ t₀ holding holding' seen seen' reader reader' l l' t t' order ran took did other =
-    let n : length (ran.front ++ took.front) ≡ length ran.front + length took.front = length-append ran.front took.front in
-    let state : plain.after (after_all plain s ran.done) order ≡ after_all plain s (ran.done ++ order ∷ []) = sym (after_all-append plain s ran.done (order ∷ [])) in
-    let text : run plain s ran.done ++ plain.text (after_all plain s ran.done) order ≡ run plain s (ran.done ++ order ∷ []) =
-    ap (λ x. run plain s ran.done ++ x) (sym (append-nil (plain.text (after_all plain s ran.done) order))) ∙ sym (run-append plain s ran.done (order ∷ [])) in
-    record {
-      done = ran.done ++ order ∷ [];
-      front = ran.front ++ took.front;
-      stands = subst (Stands holding' seen') state did.stands;
-      written = written_after (run plain s ran.done) (plain.text (after_all plain s ran.done) order) t₀ t t' ran.written did.written ∙ ap (adds t₀) text;
-      left = ran.left ∙ ap (before ran.front) took.ahead ∙ sym (before-append ran.front took.front (before reader'.unread l'));
-      used = omega (arith, ran.used, took.used, n);
-      says = λ last more.
-          says_line ran.done ran.front took.front order last more ran.says took.ends
-          ∙ joined_led ran.done (length ran.front) (length took.front) order (script_from last [] more) other
-          ∙ ap (λ k. joined (ran.done ++ order ∷ []) k (script_from last [] more)) (sym n);
-    }
-
--- ---- what is told of a script
 
 -- What is told is the bytes in front, and what is told behind them.
 told_parts : (bytes front : List ℕ) (l : Option (List ℕ)) → Some bytes ≡ before front l → (more : List ℕ) × (l ≡ Some more) × (bytes ≡ front ++ more)
 told_parts bytes front None told = cc
 told_parts bytes front (Some more) told = (more, refl, cc)
 
+-- ---- behind a line that was taken
+
+-- The tasks so far are done, and a line was taken, behind which these bytes are ahead.
+pub record AtLine (s : State) (bytes : List ℕ) (t₀ : Option (List ℕ)) (holding : Holding) (seen : Seen) (order : Order) (ahead : List ℕ) (used : ℕ) (t : Option (List ℕ)) (a₀ a : ℕ) : Type 0 where
+  pub done : List Task
+  pub front : List ℕ
+  pub stands : Stands holding seen (after_all tasks s done)
+  pub written : t ≡ adds t₀ (run tasks s done)
+  pub all : bytes ≡ front ++ ahead
+  pub size : used ≡ length front
+  pub says : (last : Task → List Task) (more : List ℕ) → script_from last 0 [] (front ++ more) ≡ joined done (length front) (led_on last order more)
+  pub paid : a ≤ a₀ + price_all s done
+
+-- The bytes of a line in front, and what was taken before.
+joined_grown : (done : List Task) (m n : ℕ) (s : Script) → joined done m (grown n s) ≡ joined done (m + n) s
+joined_grown done m n s = ap (script (done ++ s.tasks)) (omega arith)
+
+pub at_line : (s : State) (bytes : List ℕ) (t₀ : Option (List ℕ)) (holding : Holding) (seen : Seen) (reader reader' : Reader) (l l' t : Option (List ℕ)) (a₀ a : ℕ) (order : Order)
+    → Ran s bytes t₀ holding seen reader l t a₀ a → TookLine [] reader l order reader' l'
+    → (ahead : List ℕ) × (before reader'.unread l' ≡ Some ahead) × AtLine s bytes t₀ holding seen order ahead reader'.used t a₀ a
+at_line s bytes t₀ holding seen reader reader' l l' t a₀ a order ran took =
+    let n : length (ran.front ++ took.front) ≡ length ran.front + length took.front = length-append ran.front took.front in
+    let read : Some bytes ≡ before (ran.front ++ took.front) (before reader'.unread l') =
+    ran.left ∙ ap (before ran.front) took.ahead ∙ sym (before-append ran.front took.front (before reader'.unread l')) in
+    let parts : (more : List ℕ) × (before reader'.unread l' ≡ Some more) × (bytes ≡ (ran.front ++ took.front) ++ more) = told_parts bytes (ran.front ++ took.front) (before reader'.unread l') read in (
+      parts.0,
+      parts.1,
+      record {
+        done = ran.done;
+        front = ran.front ++ took.front;
+        stands = ran.stands;
+        written = ran.written;
+        all = parts.2;
+        size = omega (arith, ran.used, took.used, n);
+        says = λ last more.
+            ap (script_from last 0 []) (append_assoc ran.front took.front more) ∙ ran.says last (took.front ++ more) ∙ ap (joined ran.done (length ran.front)) (took.ends last more)
+            ∙ joined_grown ran.done (length ran.front) (length took.front) (led_on last order more)
+            ∙ ap (λ k. joined ran.done k (led_on last order more)) (sym n);
+        paid = ran.paid;
+      },
+    )
+
+-- The task of the line is done, and the script goes on.
+joined_led : (done : List Task) (m n : ℕ) (next : Task) (s : Script) → joined done m (grown n (led_by next s)) ≡ joined (done ++ next ∷ []) (m + n) s
+joined_led done m n next s =
+    ap (λ ts. script ts (m + (n + s.size))) (sym (append_assoc done (next ∷ []) s.tasks)) ∙ ap (script ((done ++ next ∷ []) ++ s.tasks)) (omega arith)
+
+pub ran_more : (s : State) (bytes : List ℕ) (t₀ : Option (List ℕ)) (holding holding' : Holding) (seen seen' : Seen) (order : Order) (ahead : List ℕ) (used : ℕ) (reader' : Reader) (l' t t' : Option (List ℕ)) (a₀ a a' : ℕ)
+    → (at : AtLine s bytes t₀ holding seen order ahead used t a₀ a) → WentOn order (after_all tasks s at.done) ahead used holding' seen' reader' l' t t' a a'
+    → Ran s bytes t₀ holding' seen' reader' l' t' a₀ a'
+ran_more s bytes t₀ holding holding' seen seen' order ahead used reader' l' t t' a₀ a a' at on =
+    let next : Task = task order on.body in
+    let n : length (at.front ++ on.front) ≡ length at.front + length on.front = length-append at.front on.front in
+    let state : tasks.after (after_all tasks s at.done) next ≡ after_all tasks s (at.done ++ next ∷ []) = sym (after_all-append tasks s at.done (next ∷ [])) in
+    let text : run tasks s at.done ++ tasks.text (after_all tasks s at.done) next ≡ run tasks s (at.done ++ next ∷ []) =
+    ap (λ x. run tasks s at.done ++ x) (sym (append-nil (tasks.text (after_all tasks s at.done) next))) ∙ sym (run-append tasks s at.done (next ∷ [])) in
+    record {
+      done = at.done ++ next ∷ [];
+      front = at.front ++ on.front;
+      stands = subst (Stands holding' seen') state on.did.stands;
+      written = written_after (run tasks s at.done) (tasks.text (after_all tasks s at.done) next) t₀ t t' at.written on.did.written ∙ ap (adds t₀) text;
+      left = ap (λ (b : List ℕ). Some b) at.all ∙ ap (before at.front) on.left ∙ sym (before-append at.front on.front (before reader'.unread l'));
+      used = omega (arith, at.size, on.taken, n);
+      says = λ last more.
+          ap (script_from last 0 []) (append_assoc at.front on.front more) ∙ at.says last (on.front ++ more) ∙ ap (joined at.done (length at.front)) (on.says last more)
+          ∙ joined_led at.done (length at.front) (length on.front) next (script_from last 0 [] more)
+          ∙ ap (λ k. joined (at.done ++ next ∷ []) k (script_from last 0 [] more)) (sym n);
+      paid = paid_one s at.done next a₀ a a' at.paid on.asks;
+    }
+
+-- The script is at its end.
+finished_says : (s : State) (bytes : List ℕ) (t₀ : Option (List ℕ)) (holding : Holding) (seen : Seen) (order : Order) (ahead : List ℕ) (used : ℕ) (t : Option (List ℕ)) (a₀ a : ℕ)
+    → (at : AtLine s bytes t₀ holding seen order ahead used t a₀ a) → script_from then_quit 0 [] bytes ≡ joined at.done (length at.front) (led_on then_quit order ahead)
+finished_says s bytes t₀ holding seen order ahead used t a₀ a at = ap (script_from then_quit 0 []) at.all ∙ at.says then_quit ahead
+
+pub ran_finished : (s : State) (bytes : List ℕ) (t₀ : Option (List ℕ)) (holding holding' : Holding) (seen seen' : Seen) (order : Order) (ahead : List ℕ) (used : ℕ) (l' t t' : Option (List ℕ)) (a₀ a a' : ℕ)
+    → (at : AtLine s bytes t₀ holding seen order ahead used t a₀ a) → Finished order (after_all tasks s at.done) ahead used holding' seen' l' t t' a a'
+    → RanAll s bytes t₀ t' l' seen' × (a' ≤ a₀ + price_all s (script_of bytes))
+ran_finished s bytes t₀ holding holding' seen seen' order ahead used l' t t' a₀ a a' at end =
+    let says : script_from then_quit 0 [] bytes ≡ script (at.done ++ end.lasts) (length at.front + end.size) =
+    finished_says s bytes t₀ holding seen order ahead used t a₀ a at ∙ ap (joined at.done (length at.front)) end.says in
+    let all : script_of bytes ≡ at.done ++ end.lasts = ap (λ (x : Script). x.tasks) says in
+    let size : script_len bytes ≡ length at.front + end.size = ap (λ (x : Script). x.size) says in
+    let n : length (at.front ++ end.front) ≡ length at.front + length end.front = length-append at.front end.front in (
+      record {
+        written =
+            written_after (run tasks s at.done) (run tasks (after_all tasks s at.done) end.lasts) t₀ t t' at.written end.did.written
+            ∙ ap (adds t₀) (sym (run-append tasks s at.done end.lasts) ∙ ap (run tasks s) (sym all));
+        within = omega (arith, size, at.size, end.within);
+        front = at.front ++ end.front;
+        read = ap (λ (b : List ℕ). Some b) at.all ∙ ap (before at.front) end.left ∙ sym (before-append at.front end.front l');
+        enough = omega (arith, size, n, end.enough);
+        no_further = omega (arith, size, n, end.no_further);
+        files =
+            left_of holding' seen' (after_all tasks s (script_of bytes))
+            (subst (Stands holding' seen') (sym (after_all-append tasks s at.done end.lasts) ∙ ap (after_all tasks s) (sym all)) end.did.stands);
+      },
+      paid_all s (script_of bytes) at.done end.lasts a₀ a a' all at.paid end.asks,
+    )
+
+-- ---- what stops it
+
+-- The tasks that are done, and those that are left with one that was broken off.
+ran_stopped : (s : State) (bytes : List ℕ) (t₀ t t' : Option (List ℕ)) (l' : Option (List ℕ)) (seen' : Seen) (status : Status) (done left : List Task) → t ≡ adds t₀ (run tasks s done)
+    → script_of bytes ≡ done ++ left → (stopped : Stopped tasks (Breaks status seen') (after_all tasks s done) left t t') → LinesDone status bytes l' (done ++ stopped.done)
+    → RanPart status s bytes t₀ t' l' seen'
+ran_stopped s bytes t₀ t t' l' seen' status done left written all q lines =
+    let state : after_all tasks (after_all tasks s done) q.done ≡ after_all tasks s (done ++ q.done) = sym (after_all-append tasks s done q.done) in
+    let text : run tasks s done ++ run tasks (after_all tasks s done) q.done ≡ run tasks s (done ++ q.done) = sym (run-append tasks s done q.done) in
+    let broken_text : List ℕ = tasks.text (after_all tasks (after_all tasks s done) q.done) q.next in
+    let wrote : Halted (run tasks s done ++ run tasks (after_all tasks s done) q.done) (run tasks s done ++ (run tasks (after_all tasks s done) q.done ++ broken_text)) t₀ t' =
+    halted_after (run tasks s done) (run tasks (after_all tasks s done) q.done) (run tasks (after_all tasks s done) q.done ++ broken_text) t₀ t t' written q.wrote in
+    let most : run tasks s done ++ (run tasks (after_all tasks s done) q.done ++ broken_text) ≡ run tasks s (done ++ q.done) ++ tasks.text (after_all tasks s (done ++ q.done)) q.next =
+    sym (append_assoc (run tasks s done) (run tasks (after_all tasks s done) q.done) broken_text)
+    ∙ ap (λ x. x ++ broken_text) text
+    ∙ ap (λ z. run tasks s (done ++ q.done) ++ tasks.text z q.next) state in
+    let P : List ℕ → Type 0 = λ x. Halted x (run tasks s (done ++ q.done) ++ tasks.text (after_all tasks s (done ++ q.done)) q.next) t₀ t' in
+    let Q : List ℕ → Type 0 = λ x. Halted (run tasks s done ++ run tasks (after_all tasks s done) q.done) x t₀ t' in
+    let B : State → Type 0 = λ z. Breaks status seen' z q.next in
+    record {
+      done = done ++ q.done;
+      next = q.next;
+      left = q.left;
+      all = all ∙ ap (λ x. done ++ x) q.all ∙ sym (append_assoc done q.done (q.next ∷ q.left));
+      wrote = subst P text (subst Q most wrote);
+      broken = subst B state q.broken;
+      lines = lines;
+    }
+
+-- A front part that is longer than these bytes.
+take_past : (xs ys : List ℕ) (n : ℕ) → length xs ≤ n → take n (xs ++ ys) ≡ xs ++ take (n - length xs) ys
+take_past [] ys n fits = ap (λ k. take k ys) (omega arith)
+take_past (x ∷ xs) ys zero fits = absurd (omega (arith, fits))
+take_past (x ∷ xs) ys (suc n) fits = ap (λ (l : List ℕ). x ∷ l) (take_past xs ys n (omega (arith, fits)) ∙ ap (λ k. xs ++ take k ys) (omega arith))
+
+-- The whole lines of what was read, up to the line and behind it.
+lines_behind : (status : Status) (s : State) (bytes : List ℕ) (t₀ : Option (List ℕ)) (holding : Holding) (seen : Seen) (order : Order) (ahead : List ℕ) (used : ℕ) (l' t : Option (List ℕ)) (a₀ a : ℕ) (done : List Task)
+    → (at : AtLine s bytes t₀ holding seen order ahead used t a₀ a) → used ≤ longest_script → BehindDone status order ahead used l' done → LinesDone status bytes l' (at.done ++ done)
+lines_behind ReadFault s bytes t₀ holding seen order ahead used l' t a₀ a done at few (front, told, whole) = (
+  at.front ++ front,
+  ap (λ (b : List ℕ). Some b) at.all ∙ ap (before at.front) told ∙ sym (before-append at.front front l'),
+  ap (λ x. at.done ++ x) whole ∙ sym (ap (λ (x : Script). x.tasks) (at.says (λ _. []) front)),
+)
+lines_behind InputTooLong s bytes t₀ holding seen order ahead used l' t a₀ a done at few (long, whole) =
+    let size : script_len bytes ≡ length at.front + (led_on then_quit order ahead).size = ap (λ (x : Script). x.size) (finished_says s bytes t₀ holding seen order ahead used t a₀ a at) in
+    let front : take longest_script bytes ≡ at.front ++ take (longest_script - used) ahead =
+    ap (take longest_script) at.all ∙ take_past at.front ahead longest_script (omega (arith, few, at.size)) ∙ ap (λ k. at.front ++ take (longest_script - k) ahead) (sym at.size) in (
+      omega (arith, size, long, at.size),
+      ap (λ x. at.done ++ x) whole ∙ sym (ap (λ (x : Script). x.tasks) (at.says (λ _. []) (take (longest_script - used) ahead))) ∙ ap whole_lines (sym front),
+    )
+lines_behind _ s bytes t₀ holding seen order ahead used l' t a₀ a done at few lines = tt
+
+-- A task was broken off.
+pub ran_halted : (s : State) (bytes : List ℕ) (t₀ : Option (List ℕ)) (holding : Holding) (seen seen' : Seen) (order : Order) (ahead : List ℕ) (used : ℕ) (l' t t' : Option (List ℕ)) (a₀ a a' : ℕ) (status : Status)
+    → (at : AtLine s bytes t₀ holding seen order ahead used t a₀ a) → used ≤ longest_script → Halts status seen' order (after_all tasks s at.done) ahead used l' t t' a a'
+    → RanPart status s bytes t₀ t' l' seen' × (a' ≤ a₀ + price_all s (script_of bytes))
+ran_halted s bytes t₀ holding seen seen' order ahead used l' t t' a₀ a a' status at few end =
+    let all : script_of bytes ≡ at.done ++ (led_on then_quit order ahead).tasks = ap (λ (x : Script). x.tasks) (finished_says s bytes t₀ holding seen order ahead used t a₀ a at) in (
+      ran_stopped s bytes t₀ t t' l' seen' status at.done (led_on then_quit order ahead).tasks at.written all end.stopped
+          (lines_behind status s bytes t₀ holding seen order ahead used l' t a₀ a end.stopped.done at few end.lines),
+      paid_all s (script_of bytes) at.done (led_on then_quit order ahead).tasks a₀ a a' all at.paid end.asks,
+    )
+
+-- ---- the last line
+
 -- What is said in front of a line so far.
-says_part : (done : List Order) (front part line : List ℕ) (last : Order → List Order) (more : List ℕ)
-    → ((last : Order → List Order) (more : List ℕ) → script_from last [] (front ++ more) ≡ joined done (length front) (script_from last [] more))
+says_part : (done : List Task) (front part line : List ℕ) (last : Task → List Task) (more : List ℕ)
+    → ((last : Task → List Task) (more : List ℕ) → script_from last 0 [] (front ++ more) ≡ joined done (length front) (script_from last 0 [] more))
     → Feeds [] part line
-    → script_from last [] ((front ++ part) ++ more) ≡ joined done (length front + length part) (script_from last line more)
+    → script_from last 0 [] ((front ++ part) ++ more) ≡ joined done (length front + length part) (script_from last 0 line more)
 says_part done front part line last more says feeds =
-    ap (script_from last []) (append_assoc front part more) ∙ says last (part ++ more) ∙ ap (joined done (length front)) (feeds last more)
-    ∙ ap (script (done ++ (script_from last line more).orders)) (omega arith)
+    ap (script_from last 0 []) (append_assoc front part more) ∙ says last (part ++ more) ∙ ap (joined done (length front)) (feeds last more)
+    ∙ joined_grown done (length front) (length part) (script_from last 0 line more)
 
--- A script has an order.
-some_led : (test : Bool) (order : Order) (behind : Script) → (next : Order) × (left : List Order) × ((cond test (script (order ∷ []) 0) (script (order ∷ behind.orders) behind.size)).orders ≡ next ∷ left)
-some_led true order behind = (order, [], refl)
-some_led false order behind = (order, behind.orders, refl)
+-- The end of the input ends it: these are the tasks that are left, and nothing is left of the script.
+last_says : (bytes : List ℕ) (done : List Task) (front part line : List ℕ) (order : Order)
+    → ((last : Task → List Task) (more : List ℕ) → script_from last 0 [] (front ++ more) ≡ joined done (length front) (script_from last 0 [] more))
+    → Feeds [] part line → order ≡ reading line → bytes ≡ front ++ part
+    → script_from then_quit 0 [] bytes ≡ script (done ++ then_quit (task order [])) (length front + length part)
+unfolding script_from
+last_says bytes done front part line order says feeds is all =
+    ap (script_from then_quit 0 []) (all ∙ sym (append-nil (front ++ part)))
+    ∙ says_part done front part line then_quit [] says feeds
+    ∙ ap (λ o. script (done ++ then_quit (task o [])) (length front + length part + 0)) (sym is)
+    ∙ ap (script (done ++ then_quit (task order []))) (omega arith)
 
-some_last : (test : Bool) (order quit : Order) → (next : Order) × (left : List Order) × (cond test (order ∷ []) (order ∷ quit ∷ []) ≡ next ∷ left)
-some_last true order quit = (order, [], refl)
-some_last false order quit = (order, quit ∷ [], refl)
+-- The bytes that were read to the end of the input.
+to_the_end : (bytes front unread : List ℕ) (l : Option (List ℕ)) → Some bytes ≡ before front (before unread l) → unread ≡ [] → Tells l [] → bytes ≡ front
+to_the_end bytes front unread None told none end = cc
+to_the_end bytes front unread (Some more) told none end =
+    let P : List ℕ → Type 0 = λ u. Some bytes ≡ Some (front ++ (u ++ more)) in
+    let e : Some bytes ≡ Some (front ++ more) = subst P none told in
+    let f : bytes ≡ front ++ more = cc in
+    f ∙ ap (λ m. front ++ m) (sym end) ∙ append-nil front
 
-some_either : (test : Bool) (a b : Script) → ((next : Order) × (left : List Order) × (a.orders ≡ next ∷ left)) → ((next : Order) × (left : List Order) × (b.orders ≡ next ∷ left))
-    → (next : Order) × (left : List Order) × ((cond test a b).orders ≡ next ∷ left)
+-- Nothing is ahead then.
+none_told : (bytes front unread : List ℕ) (l : Option (List ℕ)) → Some bytes ≡ before front (before unread l) → unread ≡ [] → Tells l [] → before unread l ≡ Some []
+none_told bytes front unread None told none end = cc
+none_told bytes front unread (Some more) told none end = ap (λ (b : List ℕ). Some b) (ap (λ u. u ++ more) none ∙ sym end)
+
+-- The tasks so far are done, and the last line was taken.
+pub record AtLast (s : State) (bytes : List ℕ) (t₀ : Option (List ℕ)) (holding : Holding) (seen : Seen) (order : Order) (used : ℕ) (t : Option (List ℕ)) (a₀ a : ℕ) : Type 0 where
+  pub done : List Task
+  pub stands : Stands holding seen (after_all tasks s done)
+  pub written : t ≡ adds t₀ (run tasks s done)
+  pub size : used ≡ length bytes
+  pub says : script_from then_quit 0 [] bytes ≡ script (done ++ then_quit (task order [])) (length bytes)
+  pub whole : whole_lines bytes ≡ done
+  pub paid : a ≤ a₀ + price_all s done
+
+-- The whole lines of what was taken are done.
+lines_taken : (done : List Task) (front part line : List ℕ)
+    → ((last : Task → List Task) (more : List ℕ) → script_from last 0 [] (front ++ more) ≡ joined done (length front) (script_from last 0 [] more))
+    → Feeds [] part line → whole_lines (front ++ part) ≡ done
+unfolding script_from
+lines_taken done front part line says feeds =
+    ap (λ b. whole_lines b) (sym (append-nil (front ++ part)))
+    ∙ ap (λ (x : Script). x.tasks) (says_part done front part line (λ _. []) [] says feeds)
+    ∙ append-nil done
+
+pub at_last : (s : State) (bytes : List ℕ) (t₀ : Option (List ℕ)) (holding : Holding) (seen : Seen) (reader reader' : Reader) (l l' t : Option (List ℕ)) (a₀ a : ℕ) (order : Order)
+    → Ran s bytes t₀ holding seen reader l t a₀ a → TookLast reader l reader' l' → order ≡ reading reader'.line
+    → (before reader'.unread l' ≡ Some []) × AtLast s bytes t₀ holding seen order reader'.used t a₀ a
+at_last s bytes t₀ holding seen reader reader' l l' t a₀ a order ran took is =
+    let n : length (ran.front ++ took.part.front) ≡ length ran.front + length took.part.front = length-append ran.front took.part.front in
+    let read : Some bytes ≡ before (ran.front ++ took.part.front) (before reader'.unread l') =
+    ran.left ∙ ap (before ran.front) took.part.ahead ∙ sym (before-append ran.front took.part.front (before reader'.unread l')) in
+    let all : bytes ≡ ran.front ++ took.part.front = to_the_end bytes (ran.front ++ took.part.front) reader'.unread l' read took.all took.end in
+    let m : length bytes ≡ length (ran.front ++ took.part.front) = ap length all in
+    let size : length ran.front + length took.part.front ≡ length bytes = omega (arith, n, m) in (
+      none_told bytes (ran.front ++ took.part.front) reader'.unread l' read took.all took.end,
+      record {
+        done = ran.done;
+        stands = ran.stands;
+        written = ran.written;
+        size = omega (arith, ran.used, took.part.used, size);
+        says =
+            last_says bytes ran.done ran.front took.part.front reader'.line order ran.says took.part.feeds is all
+            ∙ ap (script (ran.done ++ then_quit (task order []))) size;
+        whole = ap whole_lines all ∙ lines_taken ran.done ran.front took.part.front reader'.line ran.says took.part.feeds;
+        paid = ran.paid;
+      },
+    )
+
+pub ran_last : (s : State) (bytes : List ℕ) (t₀ : Option (List ℕ)) (holding holding' : Holding) (seen seen' : Seen) (order : Order) (used : ℕ) (l' t t' : Option (List ℕ)) (a₀ a : ℕ)
+    → (at : AtLast s bytes t₀ holding seen order used t a₀ a) → used ≤ longest_script → LastDid order (after_all tasks s at.done) holding' seen' l' t t' → RanAll s bytes t₀ t' l' seen'
+ran_last s bytes t₀ holding holding' seen seen' order used l' t t' a₀ a at few end =
+    let lasts : List Task = then_quit (task order []) in
+    let all : script_of bytes ≡ at.done ++ lasts = ap (λ (x : Script). x.tasks) at.says in
+    let size : script_len bytes ≡ length bytes = ap (λ (x : Script). x.size) at.says in
+    record {
+      written =
+          written_after (run tasks s at.done) (run tasks (after_all tasks s at.done) lasts) t₀ t t' at.written end.did.written
+          ∙ ap (adds t₀) (sym (run-append tasks s at.done lasts) ∙ ap (run tasks s) (sym all));
+      within = omega (arith, size, at.size, few);
+      front = bytes;
+      read = ap (λ (b : List ℕ). Some b) (sym (append-nil bytes)) ∙ ap (before bytes) (sym end.left);
+      enough = omega (arith, size);
+      no_further = omega (arith, size);
+      files =
+          left_of holding' seen' (after_all tasks s (script_of bytes))
+          (subst (Stands holding' seen') (sym (after_all-append tasks s at.done lasts) ∙ ap (after_all tasks s) (sym all)) end.did.stands);
+    }
+
+lines_last : (status : Status) (bytes : List ℕ) (l' : Option (List ℕ)) (whole done : List Task) → whole_lines bytes ≡ whole → LastDone status l' done → LinesDone status bytes l' (whole ++ done)
+lines_last ReadFault bytes l' whole done is (left, none) =
+    (bytes, ap (λ (b : List ℕ). Some b) (sym (append-nil bytes)) ∙ ap (before bytes) (sym left), ap (λ x. whole ++ x) none ∙ append-nil whole ∙ sym is)
+lines_last InputTooLong bytes l' whole done is last = absurd last
+lines_last _ bytes l' whole done is last = tt
+
+pub ran_last_halted : (s : State) (bytes : List ℕ) (t₀ : Option (List ℕ)) (holding : Holding) (seen seen' : Seen) (order : Order) (used : ℕ) (l' t t' : Option (List ℕ)) (a₀ a : ℕ) (status : Status)
+    → (at : AtLast s bytes t₀ holding seen order used t a₀ a) → LastHalts status seen' order (after_all tasks s at.done) l' t t' → RanPart status s bytes t₀ t' l' seen'
+ran_last_halted s bytes t₀ holding seen seen' order used l' t t' a₀ a status at end =
+    ran_stopped s bytes t₀ t t' l' seen' status at.done (then_quit (task order [])) at.written (ap (λ (x : Script). x.tasks) at.says) end.stopped
+    (lines_last status bytes l' at.done end.stopped.done at.whole end.lines)
+
+pub paid_last : (s : State) (bytes : List ℕ) (t₀ : Option (List ℕ)) (holding : Holding) (seen : Seen) (order : Order) (used : ℕ) (t : Option (List ℕ)) (a₀ a a' : ℕ)
+    → (at : AtLast s bytes t₀ holding seen order used t a₀ a) → a' ≤ a + price_all (after_all tasks s at.done) (then_quit (task order [])) → a' ≤ a₀ + price_all s (script_of bytes)
+paid_last s bytes t₀ holding seen order used t a₀ a a' at asked =
+    paid_all s (script_of bytes) at.done (then_quit (task order [])) a₀ a a' (ap (λ (x : Script). x.tasks) at.says) at.paid asked
+
+-- ---- where no line was read
+
+-- A script has a task.
+some_last : (test : Bool) (last quit : Task) → (next : Task) × (left : List Task) × (cond test (last ∷ []) (last ∷ quit ∷ []) ≡ next ∷ left)
+some_last true last quit = (last, [], refl)
+some_last false last quit = (last, quit ∷ [], refl)
+
+some_either : (test : Bool) (a b : Script) → ((next : Task) × (left : List Task) × (a.tasks ≡ next ∷ left)) → ((next : Task) × (left : List Task) × (b.tasks ≡ next ∷ left))
+    → (next : Task) × (left : List Task) × ((cond test a b).tasks ≡ next ∷ left)
 some_either true a b p q = p
 some_either false a b p q = q
 
-some_order : (line bytes : List ℕ) → (next : Order) × (left : List Order) × ((script_from then_quit line bytes).orders ≡ next ∷ left)
+some_body : (order : Order) (b : Body) (size : ℕ) (later : ℕ → Script) (end : Option ℕ) → b.end ≡ end → (next : Task) × (left : List Task) × ((with_body then_quit order b size later).tasks ≡ next ∷ left)
+some_body order b size later None is = rw is (some_last (is_quit order) (task order b.bytes) (task (Ok Quit) []))
+some_body order b size later (Some line) is = rw is (task order b.bytes, (later (length b.bytes + line)).tasks, refl)
+
+some_word : (order : Order) (word : Option (List ℕ)) (bytes : List ℕ) (later : ℕ → Script) → (next : Task) × (left : List Task) × ((with_word then_quit order word bytes later).tasks ≡ next ∷ left)
+some_word order None bytes later = (task order [], (later 0).tasks, refl)
+some_word order (Some word) bytes later = some_body order (body_of word true bytes) (length bytes) later (body_of word true bytes).end refl
+
+some_line : (order : Order) (bytes : List ℕ) (later : ℕ → Script) → (next : Task) × (left : List Task) × ((behind_line then_quit order bytes later).tasks ≡ next ∷ left)
+some_line order bytes later =
+    some_either (is_quit order) (script (task order [] ∷ []) 0) (with_word then_quit order (body_word order) bytes later) (task order [], [], refl) (some_word order (body_word order) bytes later)
+
+some_task : (line bytes : List ℕ) → (next : Task) × (left : List Task) × ((script_from then_quit 0 line bytes).tasks ≡ next ∷ left)
 unfolding script_from
-some_order line [] = some_last (is_quit (reading line)) (reading line) (Ok Quit)
-some_order line (byte ∷ bytes) =
-    some_either (byte == 10) (led_by (reading line) (script_from then_quit [] bytes)) (script_from then_quit (line ++ byte ∷ []) bytes)
-    (some_led (is_quit (reading line)) (reading line) (script_from then_quit [] bytes)) (some_order (line ++ byte ∷ []) bytes)
+some_task line [] = some_last (is_quit (reading line)) (task (reading line) []) (task (Ok Quit) [])
+some_task line (byte ∷ bytes) =
+    some_either (byte == 10) (behind_line then_quit (reading line) bytes (λ n. script_from then_quit n [] bytes)) (script_from then_quit 0 (line ++ byte ∷ []) bytes)
+    (some_line (reading line) bytes (λ n. script_from then_quit n [] bytes)) (some_task (line ++ byte ∷ []) bytes)
 
 -- Where there are bytes, a script has some.
-some_size : (last : Order → List Order) (line bytes : List ℕ) → 0 < length bytes → 0 < (script_from last line bytes).size
+some_size : (last : Task → List Task) (line bytes : List ℕ) → 0 < length bytes → 0 < (script_from last 0 line bytes).size
 unfolding script_from
 some_size last line [] some = absurd (omega (arith, some))
 some_size last line (byte ∷ bytes) some = omega arith
@@ -139,144 +382,30 @@ more_ahead unread (Some rest) more told some =
     let m : length (unread ++ rest) ≡ length more = ap length e in
     omega (arith, some, n, m)
 
--- ---- the end of a run
-
--- The line of `quit` ends it.
-pub ran_quit : (s : State) (bytes : List ℕ) (t₀ : Option (List ℕ)) (holding holding' : Holding) (seen seen' : Seen) (reader reader' : Reader) (l l' t t' : Option (List ℕ)) (order : Order)
-    → (ran : Ran s (Some bytes) t₀ holding seen reader l t) → TookLine [] reader l order reader' l'
-    → Done (Stands holding' seen') (plain.after (after_all plain s ran.done) order) (plain.text (after_all plain s ran.done) order) t t'
-    → is_quit order ≡ true → reader'.used ≤ longest_script → length reader'.unread ≤ piece_len
-    → RanAll s bytes t₀ t' l' seen'
-ran_quit s bytes t₀ holding holding' seen seen' reader reader' l l' t t' order ran took did quit few small =
-    let n : length (ran.front ++ took.front) ≡ length ran.front + length took.front = length-append ran.front took.front in
-    let read : Some bytes ≡ before (ran.front ++ took.front) (before reader'.unread l') =
-    ran.left ∙ ap (before ran.front) took.ahead ∙ sym (before-append ran.front took.front (before reader'.unread l')) in
-    let parts : (more : List ℕ) × (before reader'.unread l' ≡ Some more) × (bytes ≡ (ran.front ++ took.front) ++ more) = told_parts bytes (ran.front ++ took.front) (before reader'.unread l') read in
-    let says : script_from then_quit [] bytes ≡ script (ran.done ++ order ∷ []) (length ran.front + length took.front) =
-    ap (script_from then_quit []) parts.2 ∙ says_line ran.done ran.front took.front order then_quit parts.0 ran.says took.ends
-    ∙ joined_quit ran.done (length ran.front) (length took.front) order (script_from then_quit [] parts.0) quit in
-    let orders : script_of bytes ≡ ran.done ++ order ∷ [] = ap (λ (x : Script). x.orders) says in
-    let size : script_len bytes ≡ length ran.front + length took.front = ap (λ (x : Script). x.size) says in
-    let text : run plain s ran.done ++ plain.text (after_all plain s ran.done) order ≡ run plain s (script_of bytes) =
-    ap (λ x. run plain s ran.done ++ x) (sym (append-nil (plain.text (after_all plain s ran.done) order))) ∙ sym (run-append plain s ran.done (order ∷ [])) ∙ ap (run plain s) (sym orders) in
-    let whole : length ((ran.front ++ took.front) ++ reader'.unread) ≡ length (ran.front ++ took.front) + length reader'.unread = length-append (ran.front ++ took.front) reader'.unread in
-    record {
-      written = written_after (run plain s ran.done) (plain.text (after_all plain s ran.done) order) t₀ t t' ran.written did.written ∙ ap (adds t₀) text;
-      within = omega (arith, size, ran.used, took.used, few);
-      front = (ran.front ++ took.front) ++ reader'.unread;
-      read = read ∙ sym (before-append (ran.front ++ took.front) reader'.unread l');
-      enough = omega (arith, size, n, whole);
-      no_further = omega (arith, size, n, whole, small);
-      files =
-          left_of holding' seen' (after_all plain s (script_of bytes))
-          (subst (Stands holding' seen') (sym (after_all-append plain s ran.done (order ∷ [])) ∙ ap (after_all plain s) (sym orders)) did.stands);
-    }
-
--- The end of the input ends it: these are the orders that are left, and nothing is left of the script.
-last_says : (bytes : List ℕ) (done : List Order) (front part line : List ℕ) (order : Order)
-    → ((last : Order → List Order) (more : List ℕ) → script_from last [] (front ++ more) ≡ joined done (length front) (script_from last [] more))
-    → Feeds [] part line → order ≡ reading line → bytes ≡ front ++ part
-    → script_from then_quit [] bytes ≡ script (done ++ then_quit order) (length front + length part)
-unfolding script_from
-last_says bytes done front part line order says feeds is all =
-    ap (script_from then_quit []) (all ∙ sym (append-nil (front ++ part)))
-    ∙ says_part done front part line then_quit [] says feeds
-    ∙ ap (λ o. script (done ++ then_quit o) (length front + length part + 0)) (sym is)
-    ∙ ap (script (done ++ then_quit order)) (omega arith)
-
--- The bytes that were read to the end of the input.
-to_the_end : (bytes front unread : List ℕ) (l : Option (List ℕ)) → Some bytes ≡ before front (before unread l) → unread ≡ [] → Tells l [] → bytes ≡ front
-to_the_end bytes front unread None told none end = cc
-to_the_end bytes front unread (Some more) told none end =
-    let P : List ℕ → Type 0 = λ u. Some bytes ≡ Some (front ++ (u ++ more)) in
-    let e : Some bytes ≡ Some (front ++ more) = subst P none told in
-    let f : bytes ≡ front ++ more = cc in
-    f ∙ ap (λ m. front ++ m) (sym end) ∙ append-nil front
-
-pub ran_last : (s : State) (bytes : List ℕ) (t₀ : Option (List ℕ)) (holding holding' : Holding) (seen seen' : Seen) (reader reader' : Reader) (l l' t t' : Option (List ℕ)) (order : Order)
-    → (ran : Ran s (Some bytes) t₀ holding seen reader l t) → TookLast reader l reader' l' → order ≡ reading reader'.line
-    → Done (Stands holding' seen') (after_all plain (after_all plain s ran.done) (then_quit order)) (run plain (after_all plain s ran.done) (then_quit order)) t t'
-    → reader'.used ≤ longest_script
-    → RanAll s bytes t₀ t' l' seen'
-ran_last s bytes t₀ holding holding' seen seen' reader reader' l l' t t' order ran took is did few =
-    let n : length (ran.front ++ took.part.front) ≡ length ran.front + length took.part.front = length-append ran.front took.part.front in
-    let read : Some bytes ≡ before (ran.front ++ took.part.front) (before reader'.unread l') =
-    ran.left ∙ ap (before ran.front) took.part.ahead ∙ sym (before-append ran.front took.part.front (before reader'.unread l')) in
-    let all : bytes ≡ ran.front ++ took.part.front = to_the_end bytes (ran.front ++ took.part.front) reader'.unread l' read took.all took.end in
-    let says : script_from then_quit [] bytes ≡ script (ran.done ++ then_quit order) (length ran.front + length took.part.front) =
-    last_says bytes ran.done ran.front took.part.front reader'.line order ran.says took.part.feeds is all in
-    let orders : script_of bytes ≡ ran.done ++ then_quit order = ap (λ (x : Script). x.orders) says in
-    let size : script_len bytes ≡ length ran.front + length took.part.front = ap (λ (x : Script). x.size) says in
-    record {
-      written =
-          written_after (run plain s ran.done) (run plain (after_all plain s ran.done) (then_quit order)) t₀ t t' ran.written did.written
-          ∙ ap (adds t₀) (sym (run-append plain s ran.done (then_quit order)) ∙ ap (run plain s) (sym orders));
-      within = omega (arith, size, ran.used, took.part.used, few);
-      front = ran.front ++ took.part.front;
-      read = read ∙ ap (λ u. before (ran.front ++ took.part.front) (before u l')) took.all ∙ ap (before (ran.front ++ took.part.front)) (before-nil l');
-      enough = omega (arith, size, n);
-      no_further = omega (arith, size, n);
-      files =
-          left_of holding' seen' (after_all plain s (script_of bytes))
-          (subst (Stands holding' seen') (sym (after_all-append plain s ran.done (then_quit order)) ∙ ap (after_all plain s) (sym orders)) did.stands);
-    }
-
--- ---- what stops a run
-
--- A command of those that are left stopped it.
-pub ran_stopped : (s : State) (bytes : List ℕ) (t₀ : Option (List ℕ)) (holding : Holding) (seen seen' : Seen) (reader : Reader) (l l' t t' : Option (List ℕ)) (status : Status) (orders : List Order)
-    → (ran : Ran s (Some bytes) t₀ holding seen reader l t) → script_of bytes ≡ ran.done ++ orders
-    → (stopped : Stopped plain (Breaks status seen') (after_all plain s ran.done) orders t t')
-    → ((done : List Order) → LinesDone status bytes l' done)
-    → RanPart status s bytes t₀ t' l' seen'
-ran_stopped s bytes t₀ holding seen seen' reader l l' t t' status orders ran all stopped lines =
-    let whole : Stopped plain (Breaks status seen') s (ran.done ++ orders) t₀ t' =
-    did_stops plain (Breaks status seen') s (after_all plain s ran.done) (ran.done ++ orders) orders t₀ t t'
-    (record { done = ran.done; all = refl; state = refl; written = ran.written }) stopped in
-    record {
-      done = whole.done;
-      next = whole.next;
-      left = whole.left;
-      all = all ∙ whole.all;
-      wrote = whole.wrote;
-      broken = whole.broken;
-      lines = lines whole.done;
-    }
-
 -- No command wrote anything when it stopped.
-unwritten : (s : State) (done : List Order) (next : Order) (t₀ t : Option (List ℕ)) → t ≡ adds t₀ (run plain s done) → Halted (run plain s done) (run plain s done ++ plain.text (after_all plain s done) next) t₀ t
+unwritten : (s : State) (done : List Task) (next : Task) (t₀ t : Option (List ℕ)) → t ≡ adds t₀ (run tasks s done) → Halted (run tasks s done) (run tasks s done ++ tasks.text (after_all tasks s done) next) t₀ t
 unwritten s done next t₀ t written =
-    let P : List ℕ → Type 0 = λ x. Halted x (run plain s done ++ plain.text (after_all plain s done) next) t₀ t in
-    subst P (append-nil (run plain s done)) (halted_after (run plain s done) [] (plain.text (after_all plain s done) next) t₀ t t written (halted_none (plain.text (after_all plain s done) next) t))
-
--- The whole lines of what was taken are done.
-lines_taken : (done : List Order) (front part line : List ℕ)
-    → ((last : Order → List Order) (more : List ℕ) → script_from last [] (front ++ more) ≡ joined done (length front) (script_from last [] more))
-    → Feeds [] part line → whole_lines (front ++ part) ≡ done
-unfolding script_from
-lines_taken done front part line says feeds =
-    ap (λ b. whole_lines b) (sym (append-nil (front ++ part)))
-    ∙ ap (λ (x : Script). x.orders) (says_part done front part line (λ order. []) [] says feeds)
-    ∙ append-nil done
+    let P : List ℕ → Type 0 = λ x. Halted x (run tasks s done ++ tasks.text (after_all tasks s done) next) t₀ t in
+    subst P (append-nil (run tasks s done)) (halted_after (run tasks s done) [] (tasks.text (after_all tasks s done) next) t₀ t t written (halted_none (tasks.text (after_all tasks s done) next) t))
 
 -- The input failed.
-pub ran_failed : (s : State) (bytes : List ℕ) (t₀ : Option (List ℕ)) (holding : Holding) (seen : Seen) (reader reader' : Reader) (l l' t : Option (List ℕ))
-    → (ran : Ran s (Some bytes) t₀ holding seen reader l t) → TookPart [] reader l reader' l' → reader'.unread ≡ []
+pub ran_failed : (s : State) (bytes : List ℕ) (t₀ : Option (List ℕ)) (holding : Holding) (seen : Seen) (reader reader' : Reader) (l l' t : Option (List ℕ)) (a₀ a : ℕ)
+    → (ran : Ran s bytes t₀ holding seen reader l t a₀ a) → TookPart [] reader l reader' l' → reader'.unread ≡ []
     → RanPart ReadFault s bytes t₀ t l' seen
-ran_failed s bytes t₀ holding seen reader reader' l l' t ran took none =
+ran_failed s bytes t₀ holding seen reader reader' l l' t a₀ a ran took none =
     let read : Some bytes ≡ before (ran.front ++ took.front) (before reader'.unread l') =
     ran.left ∙ ap (before ran.front) took.ahead ∙ sym (before-append ran.front took.front (before reader'.unread l')) in
     let parts : (more : List ℕ) × (before reader'.unread l' ≡ Some more) × (bytes ≡ (ran.front ++ took.front) ++ more) = told_parts bytes (ran.front ++ took.front) (before reader'.unread l') read in
-    let says : script_from then_quit [] bytes ≡ joined ran.done (length ran.front + length took.front) (script_from then_quit reader'.line parts.0) =
-    ap (script_from then_quit []) parts.2 ∙ says_part ran.done ran.front took.front reader'.line then_quit parts.0 ran.says took.feeds in
-    let some : (next : Order) × (left : List Order) × ((script_from then_quit reader'.line parts.0).orders ≡ next ∷ left) = some_order reader'.line parts.0 in
+    let says : script_from then_quit 0 [] bytes ≡ joined ran.done (length ran.front + length took.front) (script_from then_quit 0 reader'.line parts.0) =
+    ap (script_from then_quit 0 []) parts.2 ∙ says_part ran.done ran.front took.front reader'.line then_quit parts.0 ran.says took.feeds in
+    let some : (next : Task) × (left : List Task) × ((script_from then_quit 0 reader'.line parts.0).tasks ≡ next ∷ left) = some_task reader'.line parts.0 in
     record {
       done = ran.done;
       next = some.0;
       left = some.1;
-      all = ap (λ (x : Script). x.orders) says ∙ ap (λ os. ran.done ++ os) some.2;
+      all = ap (λ (x : Script). x.tasks) says ∙ ap (λ ts. ran.done ++ ts) some.2;
       wrote = unwritten s ran.done some.0 t₀ t ran.written;
-      broken = record { broken = tt; carries = carry_of holding seen (after_all plain s ran.done) some.0 ran.stands };
+      broken = record { broken = tt; carries = carry_of holding seen (after_all tasks s ran.done) some.0.order ran.stands };
       lines = (
         ran.front ++ took.front,
         read ∙ ap (λ u. before (ran.front ++ took.front) (before u l')) none ∙ ap (before (ran.front ++ took.front)) (before-nil l'),
@@ -285,20 +414,20 @@ ran_failed s bytes t₀ holding seen reader reader' l l' t ran took none =
     }
 
 -- The script is too long.
-pub ran_too_long : (s : State) (bytes : List ℕ) (t₀ : Option (List ℕ)) (holding : Holding) (seen : Seen) (reader reader' : Reader) (l l' t : Option (List ℕ))
-    → (ran : Ran s (Some bytes) t₀ holding seen reader l t) → TookPart [] reader l reader' l' → IsFull reader'
+pub ran_too_long : (s : State) (bytes : List ℕ) (t₀ : Option (List ℕ)) (holding : Holding) (seen : Seen) (reader reader' : Reader) (l l' t : Option (List ℕ)) (a₀ a : ℕ)
+    → (ran : Ran s bytes t₀ holding seen reader l t a₀ a) → TookPart [] reader l reader' l' → IsFull reader'
     → RanPart InputTooLong s bytes t₀ t l' seen
-ran_too_long s bytes t₀ holding seen reader reader' l l' t ran took full =
+ran_too_long s bytes t₀ holding seen reader reader' l l' t a₀ a ran took full =
     let n : length (ran.front ++ took.front) ≡ length ran.front + length took.front = length-append ran.front took.front in
     let read : Some bytes ≡ before (ran.front ++ took.front) (before reader'.unread l') =
     ran.left ∙ ap (before ran.front) took.ahead ∙ sym (before-append ran.front took.front (before reader'.unread l')) in
     let parts : (more : List ℕ) × (before reader'.unread l' ≡ Some more) × (bytes ≡ (ran.front ++ took.front) ++ more) = told_parts bytes (ran.front ++ took.front) (before reader'.unread l') read in
-    let says : script_from then_quit [] bytes ≡ joined ran.done (length ran.front + length took.front) (script_from then_quit reader'.line parts.0) =
-    ap (script_from then_quit []) parts.2 ∙ says_part ran.done ran.front took.front reader'.line then_quit parts.0 ran.says took.feeds in
-    let some : (next : Order) × (left : List Order) × ((script_from then_quit reader'.line parts.0).orders ≡ next ∷ left) = some_order reader'.line parts.0 in
-    let size : script_len bytes ≡ length ran.front + length took.front + (script_from then_quit reader'.line parts.0).size = ap (λ (x : Script). x.size) says in
+    let says : script_from then_quit 0 [] bytes ≡ joined ran.done (length ran.front + length took.front) (script_from then_quit 0 reader'.line parts.0) =
+    ap (script_from then_quit 0 []) parts.2 ∙ says_part ran.done ran.front took.front reader'.line then_quit parts.0 ran.says took.feeds in
+    let some : (next : Task) × (left : List Task) × ((script_from then_quit 0 reader'.line parts.0).tasks ≡ next ∷ left) = some_task reader'.line parts.0 in
+    let size : script_len bytes ≡ length ran.front + length took.front + (script_from then_quit 0 reader'.line parts.0).size = ap (λ (x : Script). x.size) says in
     let more : 0 < length parts.0 = more_ahead reader'.unread l' parts.0 parts.1 full.more in
-    let bigger : 0 < (script_from then_quit reader'.line parts.0).size = some_size then_quit reader'.line parts.0 more in
+    let bigger : 0 < (script_from then_quit 0 reader'.line parts.0).size = some_size then_quit reader'.line parts.0 more in
     let exact : length (ran.front ++ took.front) ≡ longest_script = omega (arith, n, ran.used, took.used, full.full) in
     let within : take longest_script bytes ≡ ran.front ++ took.front =
     ap (λ k. take k bytes) (sym exact) ∙ ap (take (length (ran.front ++ took.front))) parts.2 ∙ take-append_seam (ran.front ++ took.front) parts.0 in
@@ -306,9 +435,9 @@ ran_too_long s bytes t₀ holding seen reader reader' l l' t ran took full =
       done = ran.done;
       next = some.0;
       left = some.1;
-      all = ap (λ (x : Script). x.orders) says ∙ ap (λ os. ran.done ++ os) some.2;
+      all = ap (λ (x : Script). x.tasks) says ∙ ap (λ ts. ran.done ++ ts) some.2;
       wrote = unwritten s ran.done some.0 t₀ t ran.written;
-      broken = record { broken = tt; carries = carry_of holding seen (after_all plain s ran.done) some.0 ran.stands };
+      broken = record { broken = tt; carries = carry_of holding seen (after_all tasks s ran.done) some.0.order ran.stands };
       lines = (
         omega (arith, size, bigger, n, exact),
         sym (lines_taken ran.done ran.front took.front reader'.line ran.says took.feeds) ∙ ap whole_lines (sym within),
@@ -316,32 +445,47 @@ ran_too_long s bytes t₀ holding seen reader reader' l l' t ran took full =
     }
 
 -- Memory ran out before a line was read.
-pub ran_short : (s : State) (bytes : List ℕ) (t₀ : Option (List ℕ)) (holding : Holding) (seen : Seen) (reader : Reader) (l l' t : Option (List ℕ))
-    → (ran : Ran s (Some bytes) t₀ holding seen reader l t) → RanPart Memory s bytes t₀ t l' seen
-ran_short s bytes t₀ holding seen reader l l' t ran =
+pub ran_short : (s : State) (bytes : List ℕ) (t₀ : Option (List ℕ)) (holding : Holding) (seen : Seen) (reader : Reader) (l l' t : Option (List ℕ)) (a₀ a : ℕ)
+    → (ran : Ran s bytes t₀ holding seen reader l t a₀ a) → RanPart Memory s bytes t₀ t l' seen
+ran_short s bytes t₀ holding seen reader l l' t a₀ a ran =
     let parts : (more : List ℕ) × (before reader.unread l ≡ Some more) × (bytes ≡ ran.front ++ more) = told_parts bytes ran.front (before reader.unread l) ran.left in
-    let says : script_from then_quit [] bytes ≡ joined ran.done (length ran.front) (script_from then_quit [] parts.0) = ap (script_from then_quit []) parts.2 ∙ ran.says then_quit parts.0 in
-    let some : (next : Order) × (left : List Order) × ((script_from then_quit [] parts.0).orders ≡ next ∷ left) = some_order [] parts.0 in
+    let says : script_from then_quit 0 [] bytes ≡ joined ran.done (length ran.front) (script_from then_quit 0 [] parts.0) = ap (script_from then_quit 0 []) parts.2 ∙ ran.says then_quit parts.0 in
+    let some : (next : Task) × (left : List Task) × ((script_from then_quit 0 [] parts.0).tasks ≡ next ∷ left) = some_task [] parts.0 in
     record {
       done = ran.done;
       next = some.0;
       left = some.1;
-      all = ap (λ (x : Script). x.orders) says ∙ ap (λ os. ran.done ++ os) some.2;
+      all = ap (λ (x : Script). x.tasks) says ∙ ap (λ ts. ran.done ++ ts) some.2;
       wrote = unwritten s ran.done some.0 t₀ t ran.written;
-      broken = record { broken = tt; carries = carry_of holding seen (after_all plain s ran.done) some.0 ran.stands };
+      broken = record { broken = tt; carries = carry_of holding seen (after_all tasks s ran.done) some.0.order ran.stands };
       lines = tt;
     }
 
+-- No line was read.
+pub ran_stuck : (e : ReadError) (s : State) (bytes : List ℕ) (t₀ : Option (List ℕ)) (holding : Holding) (seen : Seen) (reader reader' : Reader) (l l' t : Option (List ℕ)) (a₀ a : ℕ)
+    → Ran s bytes t₀ holding seen reader l t a₀ a → Stuck e reader l reader' l' → RanPart (status_of_reading e) s bytes t₀ t l' seen
+ran_stuck error.Failed s bytes t₀ holding seen reader reader' l l' t a₀ a ran stuck = ran_failed s bytes t₀ holding seen reader reader' l l' t a₀ a ran stuck.0 stuck.1
+ran_stuck error.TooLong s bytes t₀ holding seen reader reader' l l' t a₀ a ran stuck = ran_too_long s bytes t₀ holding seen reader reader' l l' t a₀ a ran stuck.0 stuck.1
+ran_stuck error.Memory s bytes t₀ holding seen reader reader' l l' t a₀ a ran stuck = ran_short s bytes t₀ holding seen reader l l' t a₀ a ran
+
+-- The tasks that are done are the first of the script's.
+pub paid_done : (s : State) (bytes : List ℕ) (t₀ : Option (List ℕ)) (holding : Holding) (seen : Seen) (reader : Reader) (l t : Option (List ℕ)) (a₀ a : ℕ)
+    → Ran s bytes t₀ holding seen reader l t a₀ a → a ≤ a₀ + price_all s (script_of bytes)
+paid_done s bytes t₀ holding seen reader l t a₀ a ran =
+    let parts : (more : List ℕ) × (before reader.unread l ≡ Some more) × (bytes ≡ ran.front ++ more) = told_parts bytes ran.front (before reader.unread l) ran.left in
+    let says : script_from then_quit 0 [] bytes ≡ joined ran.done (length ran.front) (script_from then_quit 0 [] parts.0) = ap (script_from then_quit 0 []) parts.2 ∙ ran.says then_quit parts.0 in
+    paid_all s (script_of bytes) ran.done (script_from then_quit 0 [] parts.0).tasks a₀ a a (ap (λ (x : Script). x.tasks) says) ran.paid (omega arith)
+
 -- ---- one line
 
--- A command that was broken off.
-pub interrupted : (halt : Halt) (seen' : Seen) (s : State) (order : Order) (t t' : Option (List ℕ)) → Cut (Broken s order halt) (plain.text s order) t t' → StillCarry seen' s order
-    → Interrupted (status_of_halt halt) seen' s order t t'
-interrupted (halt.Device stop.Files) seen' s order t t' cut carries = record { cut = record { wrote = cut.wrote; broken = record { broken = cut.broken; carries = carries } }; lines = λ bytes l done. tt }
-interrupted (halt.Device stop.Write) seen' s order t t' cut carries = record { cut = record { wrote = cut.wrote; broken = record { broken = tt; carries = carries } }; lines = λ bytes l done. tt }
-interrupted (halt.Device stop.Memory) seen' s order t t' cut carries = record { cut = record { wrote = cut.wrote; broken = record { broken = tt; carries = carries } }; lines = λ bytes l done. tt }
-interrupted (halt.Device stop.Read) seen' s order t t' cut carries = absurd cut.broken
-interrupted (halt.Changed game kept found) seen' s order t t' cut carries = absurd cut.broken
+-- A command without a body that was broken off.
+pub interrupted : (halt : Halt) (seen' : Seen) (s : State) (next : Task) (t t' : Option (List ℕ)) → body_word next.order ≡ None → Cut (BrokenTask s next halt) (tasks.text s next) t t' → StillCarry seen' s next.order
+    → Interrupted (status_of_halt halt) seen' s next t t'
+interrupted (halt.Device stop.Files) seen' s next t t' none broken_off carries = record { cut = record { wrote = broken_off.wrote; broken = record { broken = broken_off.broken; carries = carries } }; line = tt }
+interrupted (halt.Device stop.Write) seen' s next t t' none broken_off carries = record { cut = record { wrote = broken_off.wrote; broken = record { broken = tt; carries = carries } }; line = tt }
+interrupted (halt.Device stop.Memory) seen' s next t t' none broken_off carries = record { cut = record { wrote = broken_off.wrote; broken = record { broken = tt; carries = carries } }; line = tt }
+interrupted (halt.Device stop.Read) seen' s next t t' none broken_off carries = let e : false ≡ true = subst (λ (w : Option (List ℕ)). IsTrue (is_some w)) none broken_off.broken in cc
+interrupted (halt.Changed game kept found) seen' s next t t' none broken_off carries = absurd broken_off.broken
 
 none_rose : Rose 0 0 → ⊥
 none_rose (inl rose) = absurd (omega (arith, rose))
@@ -362,106 +506,59 @@ no_input (halt.Device stop.Memory) is = cc
 no_input (halt.Device stop.Read) is = cc
 no_input (halt.Changed game kept found) is = cc
 
--- ---- the last line
+-- ---- a last task, and `quit`
 
-then_orders : (test : Bool) (order quit : Order) → (left : List Order) × (cond test (order ∷ []) (order ∷ quit ∷ []) ≡ order ∷ left)
-then_orders true order quit = ([], refl)
-then_orders false order quit = (quit ∷ [], refl)
+pub then_tasks : (test : Bool) (last quit : Task) → (left : List Task) × (cond test (last ∷ []) (last ∷ quit ∷ []) ≡ last ∷ left)
+then_tasks true last quit = ([], refl)
+then_tasks false last quit = (quit ∷ [], refl)
 
-pub last_done : (Stands' : State → Type 0) (s : State) (order : Order) (t t' : Option (List ℕ)) → is_quit order ≡ true → Done Stands' (plain.after s order) (plain.text s order) t t'
-    → Done Stands' (after_all plain s (then_quit order)) (run plain s (then_quit order)) t t'
-last_done Stands' s order t t' quit did = rw quit (record { stands = did.stands; written = did.written ∙ ap (adds t) (sym (append-nil (plain.text s order))) })
+pub last_done : (Stands' : State → Type 0) (s : State) (last : Task) (t t' : Option (List ℕ)) → is_quit last.order ≡ true → Done Stands' (tasks.after s last) (tasks.text s last) t t'
+    → Done Stands' (after_all tasks s (then_quit last)) (run tasks s (then_quit last)) t t'
+last_done Stands' s last t t' quit did = rw quit (record { stands = did.stands; written = did.written ∙ ap (adds t) (sym (append-nil (tasks.text s last))) })
 
-pub last_then_quit : (Stands' Stands'' : State → Type 0) (s : State) (order : Order) (t t' t'' : Option (List ℕ)) → is_quit order ≡ false → Done Stands' (plain.after s order) (plain.text s order) t t'
-    → Done Stands'' (plain.after (plain.after s order) (Ok Quit)) (plain.text (plain.after s order) (Ok Quit)) t' t''
-    → Done Stands'' (after_all plain s (then_quit order)) (run plain s (then_quit order)) t t''
-last_then_quit Stands' Stands'' s order t t' t'' other first second =
+pub last_then_quit : (Stands' Stands'' : State → Type 0) (s : State) (last : Task) (t t' t'' : Option (List ℕ)) → is_quit last.order ≡ false → Done Stands' (tasks.after s last) (tasks.text s last) t t'
+    → Done Stands'' (tasks.after (tasks.after s last) (task (Ok Quit) [])) (tasks.text (tasks.after s last) (task (Ok Quit) [])) t' t''
+    → Done Stands'' (after_all tasks s (then_quit last)) (run tasks s (then_quit last)) t t''
+last_then_quit Stands' Stands'' s last t t' t'' other first second =
     rw other (record {
       stands = second.stands;
       written =
-          written_after (plain.text s order) (plain.text (plain.after s order) (Ok Quit)) t t' t'' first.written second.written
-          ∙ ap (λ x. adds t (plain.text s order ++ x)) (sym (append-nil (plain.text (plain.after s order) (Ok Quit))));
+          written_after (tasks.text s last) (tasks.text (tasks.after s last) (task (Ok Quit) [])) t t' t'' first.written second.written
+          ∙ ap (λ x. adds t (tasks.text s last ++ x)) (sym (append-nil (tasks.text (tasks.after s last) (task (Ok Quit) []))));
     })
 
-pub last_stops : (seen' : Seen) (s : State) (order : Order) (t t' : Option (List ℕ)) (status : Status) → Interrupted status seen' s order t t' → Stops status seen' s (then_quit order) t t'
-last_stops seen' s order t t' status cut =
-    let orders : (left : List Order) × (then_quit order ≡ order ∷ left) = then_orders (is_quit order) order (Ok Quit) in
-    let P : List Order → Type 0 = λ os. Stopped plain (Breaks status seen') s os t t' in
-    record { stopped = subst P (sym orders.1) (cut_stops plain (Breaks status seen') s order orders.0 t t' cut.cut); lines = cut.lines }
+-- The first of some tasks was broken off.
+pub front_stops : (seen' : Seen) (s : State) (next : Task) (all left : List Task) (t t' : Option (List ℕ)) (status : Status) → all ≡ next ∷ left → Cut (Breaks status seen' s next) (tasks.text s next) t t'
+    → (q : Stopped tasks (Breaks status seen') s all t t') × (q.done ≡ [])
+front_stops seen' s next all left t t' status is cut = (record { done = []; next = next; left = left; all = is; wrote = cut.wrote; broken = cut.broken }, refl)
 
-pub quit_stops : (Stands' : State → Type 0) (seen' : Seen) (s : State) (order : Order) (t t' t'' : Option (List ℕ)) (status : Status) → is_quit order ≡ false
-    → Done Stands' (plain.after s order) (plain.text s order) t t' → Interrupted status seen' (plain.after s order) (Ok Quit) t' t'' → Stops status seen' s (then_quit order) t t''
-quit_stops Stands' seen' s order t t' t'' status other did cut = record {
+pub last_stops : (seen' : Seen) (s : State) (last : Task) (t t' : Option (List ℕ)) (status : Status) → Interrupted status seen' s last t t' → Stops status seen' s (then_quit last) t t'
+last_stops seen' s last t t' status cut =
+    let all : (left : List Task) × (then_quit last ≡ last ∷ left) = then_tasks (is_quit last.order) last (task (Ok Quit) []) in
+    record { stopped = (front_stops seen' s last (then_quit last) all.0 t t' status all.1 cut.cut).0; line = cut.line }
+
+pub quit_stops : (Stands' : State → Type 0) (seen' : Seen) (s : State) (last : Task) (t t' t'' : Option (List ℕ)) (status : Status) → is_quit last.order ≡ false
+    → Done Stands' (tasks.after s last) (tasks.text s last) t t' → Interrupted status seen' (tasks.after s last) (task (Ok Quit) []) t' t'' → Stops status seen' s (then_quit last) t t''
+quit_stops Stands' seen' s last t t' t'' status other did cut = record {
   stopped =
-      rw other (did_stops plain (Breaks status seen') s (plain.after s order) (order ∷ Ok Quit ∷ []) (Ok Quit ∷ []) t t' t''
-      (did_one plain Stands' s order (Ok Quit ∷ []) t t' did)
-      (cut_stops plain (Breaks status seen') (plain.after s order) (Ok Quit) [] t' t'' cut.cut));
-  lines = cut.lines;
+      rw other (did_stops tasks (Breaks status seen') s (tasks.after s last) (last ∷ task (Ok Quit) [] ∷ []) (task (Ok Quit) [] ∷ []) t t' t''
+      (did_one tasks Stands' s last (task (Ok Quit) [] ∷ []) t t' did)
+      (cut_stops tasks (Breaks status seen') (tasks.after s last) (task (Ok Quit) []) [] t' t'' cut.cut));
+  line = cut.line;
 }
 
+-- A status that says nothing of the bytes that were read.
+pub line_behind : (status : Status) (order : Order) (ahead : List ℕ) (used : ℕ) (l' : Option (List ℕ)) (done : List Task) → InLine status → BehindDone status order ahead used l' done
+line_behind ReadFault order ahead used l' done line = absurd line
+line_behind InputTooLong order ahead used l' done line = absurd line
+line_behind _ order ahead used l' done line = tt
+
+pub line_last : (status : Status) (l' : Option (List ℕ)) (done : List Task) → InLine status → LastDone status l' done
+line_last ReadFault l' done line = absurd line
+line_last InputTooLong l' done line = absurd line
+line_last _ l' done line = tt
+
 -- ---- what ends the loop
-
-pub told_ran : (s : State) (bytes : List ℕ) (l₀ t₀ : Option (List ℕ)) (holding : Holding) (seen : Seen) (reader : Reader) (l t : Option (List ℕ))
-    → l₀ ≡ Some bytes → Ran s l₀ t₀ holding seen reader l t → Ran s (Some bytes) t₀ holding seen reader l t
-told_ran s bytes l₀ t₀ holding seen reader l t told ran = let P : Option (List ℕ) → Type 0 = λ o. Ran s o t₀ holding seen reader l t in subst P told ran
-
-led_orders : (test : Bool) (order : Order) (behind : Script) → (left : List Order) × ((cond test (script (order ∷ []) 0) (script (order ∷ behind.orders) behind.size)).orders ≡ order ∷ left)
-led_orders true order behind = ([], refl)
-led_orders false order behind = (behind.orders, refl)
-
--- The lines that are done are the first of the script's.
-pub says_done : (s : State) (bytes : List ℕ) (t₀ : Option (List ℕ)) (holding : Holding) (seen : Seen) (reader : Reader) (l t : Option (List ℕ))
-    → (ran : Ran s (Some bytes) t₀ holding seen reader l t) → (left : List Order) × (script_of bytes ≡ ran.done ++ left)
-says_done s bytes t₀ holding seen reader l t ran =
-    let parts : (more : List ℕ) × (before reader.unread l ≡ Some more) × (bytes ≡ ran.front ++ more) = told_parts bytes ran.front (before reader.unread l) ran.left in
-    let says : script_from then_quit [] bytes ≡ joined ran.done (length ran.front) (script_from then_quit [] parts.0) = ap (script_from then_quit []) parts.2 ∙ ran.says then_quit parts.0 in
-    ((script_from then_quit [] parts.0).orders, ap (λ (x : Script). x.orders) says)
-
--- The line that was read is the next one.
-pub says_next : (s : State) (bytes : List ℕ) (t₀ : Option (List ℕ)) (holding : Holding) (seen : Seen) (reader reader' : Reader) (l l' t : Option (List ℕ)) (order : Order)
-    → (ran : Ran s (Some bytes) t₀ holding seen reader l t) → TookLine [] reader l order reader' l' → (left : List Order) × (script_of bytes ≡ ran.done ++ order ∷ left)
-says_next s bytes t₀ holding seen reader reader' l l' t order ran took =
-    let read : Some bytes ≡ before (ran.front ++ took.front) (before reader'.unread l') =
-    ran.left ∙ ap (before ran.front) took.ahead ∙ sym (before-append ran.front took.front (before reader'.unread l')) in
-    let parts : (more : List ℕ) × (before reader'.unread l' ≡ Some more) × (bytes ≡ (ran.front ++ took.front) ++ more) = told_parts bytes (ran.front ++ took.front) (before reader'.unread l') read in
-    let says : script_from then_quit [] bytes ≡ joined ran.done (length ran.front) (grown (length took.front) (led_by order (script_from then_quit [] parts.0))) =
-    ap (script_from then_quit []) parts.2 ∙ says_line ran.done ran.front took.front order then_quit parts.0 ran.says took.ends in
-    let led : (left : List Order) × ((led_by order (script_from then_quit [] parts.0)).orders ≡ order ∷ left) = led_orders (is_quit order) order (script_from then_quit [] parts.0) in
-    (led.0, ap (λ (x : Script). x.orders) says ∙ ap (λ os. ran.done ++ os) led.1)
-
--- The last line is, and `quit` where it is not that.
-pub says_last : (s : State) (bytes : List ℕ) (t₀ : Option (List ℕ)) (holding : Holding) (seen : Seen) (reader reader' : Reader) (l l' t : Option (List ℕ)) (order : Order)
-    → (ran : Ran s (Some bytes) t₀ holding seen reader l t) → TookLast reader l reader' l' → order ≡ reading reader'.line → script_of bytes ≡ ran.done ++ then_quit order
-says_last s bytes t₀ holding seen reader reader' l l' t order ran took is =
-    let read : Some bytes ≡ before (ran.front ++ took.part.front) (before reader'.unread l') =
-    ran.left ∙ ap (before ran.front) took.part.ahead ∙ sym (before-append ran.front took.part.front (before reader'.unread l')) in
-    let all : bytes ≡ ran.front ++ took.part.front = to_the_end bytes (ran.front ++ took.part.front) reader'.unread l' read took.all took.end in
-    ap (λ (x : Script). x.orders) (last_says bytes ran.done ran.front took.part.front reader'.line order ran.says took.part.feeds is all)
-
--- The command of a line was broken off.
-pub ran_interrupted : (s : State) (bytes : List ℕ) (t₀ : Option (List ℕ)) (holding : Holding) (seen seen' : Seen) (reader reader' : Reader) (l l' t t' : Option (List ℕ)) (order : Order) (status : Status)
-    → (ran : Ran s (Some bytes) t₀ holding seen reader l t) → TookLine [] reader l order reader' l'
-    → Interrupted status seen' (after_all plain s ran.done) order t t' → RanPart status s bytes t₀ t' l' seen'
-ran_interrupted s bytes t₀ holding seen seen' reader reader' l l' t t' order status ran took cut =
-    let says : (left : List Order) × (script_of bytes ≡ ran.done ++ order ∷ left) = says_next s bytes t₀ holding seen reader reader' l l' t order ran took in
-    ran_stopped s bytes t₀ holding seen seen' reader l l' t t' status (order ∷ says.0) ran says.1
-    (cut_stops plain (Breaks status seen') (after_all plain s ran.done) order says.0 t t' cut.cut)
-    (λ done. cut.lines bytes l' done)
-
--- The last line stopped it.
-pub ran_last_stopped : (s : State) (bytes : List ℕ) (t₀ : Option (List ℕ)) (holding : Holding) (seen seen' : Seen) (reader reader' : Reader) (l l' t t' : Option (List ℕ)) (order : Order) (status : Status)
-    → (ran : Ran s (Some bytes) t₀ holding seen reader l t) → TookLast reader l reader' l' → order ≡ reading reader'.line
-    → Stops status seen' (after_all plain s ran.done) (then_quit order) t t' → RanPart status s bytes t₀ t' l' seen'
-ran_last_stopped s bytes t₀ holding seen seen' reader reader' l l' t t' order status ran took is stops =
-    ran_stopped s bytes t₀ holding seen seen' reader l l' t t' status (then_quit order) ran (says_last s bytes t₀ holding seen reader reader' l l' t order ran took is) stops.stopped
-    (λ done. stops.lines bytes l' done)
-
--- No line was read.
-pub ran_stuck : (e : ReadError) (s : State) (bytes : List ℕ) (t₀ : Option (List ℕ)) (holding : Holding) (seen : Seen) (reader reader' : Reader) (l l' t : Option (List ℕ))
-    → Ran s (Some bytes) t₀ holding seen reader l t → Stuck e reader l reader' l' → RanPart (status_of_reading e) s bytes t₀ t l' seen
-ran_stuck error.Failed s bytes t₀ holding seen reader reader' l l' t ran stuck = ran_failed s bytes t₀ holding seen reader reader' l l' t ran stuck.0 stuck.1
-ran_stuck error.TooLong s bytes t₀ holding seen reader reader' l l' t ran stuck = ran_too_long s bytes t₀ holding seen reader reader' l l' t ran stuck.0 stuck.1
-ran_stuck error.Memory s bytes t₀ holding seen reader reader' l l' t ran stuck = ran_short s bytes t₀ holding seen reader l l' t ran
 
 not_too_long : InputTooLong ≡ ReadFault → ⊥
 not_too_long is = cc
@@ -483,6 +580,11 @@ why_stuck error.TooLong f f' i i' k k' rose = tt
 why_stuck error.Memory f f' i i' k k' rose = tt
 
 -- ---- answers of a call that hands on another's
+
+-- A call that gives no reader back.
+pub none_back : {A E : Type 0} (r : Result (Option A) E) (P : Option A → Type 0) (Y : Type 0) → (Y → P None) → IfOk r (λ back. back ≡ None) → OnOk r Y → IfOk r P
+none_back (Ok back) P Y f none y = subst P (sym none) (f y)
+none_back (Err e) P Y f none y = tt
 
 pub on_ok : {A E : Type 0} (r : Result A E) (X Y : Type 0) → (Y → X) → OnOk r Y → OnOk r X
 on_ok (Ok a) X Y f y = f y
@@ -513,8 +615,9 @@ said_nothing : (front line : List ℕ) → Feeds [] front line → length front 
 unfolding script_from
 said_nothing (byte ∷ front) line feeds none = cc
 said_nothing [] line feeds none =
-    let one : reading [] ∷ [] ≡ reading line ∷ [] = ap (λ (x : Script). x.orders) (feeds (λ order. order ∷ []) []) in
-    cc
+    let one : task (reading []) [] ∷ [] ≡ task (reading line) [] ∷ [] = ap (λ (x : Script). x.tasks) (feeds (λ last. last ∷ []) []) in
+    let first : task (reading []) [] ≡ task (reading line) [] = cc in
+    ap (λ (x : Task). x.order) first
 
 nothing_writes : order_writes (reading []) ≡ false
 unfolding reading shorn cut

@@ -12,10 +12,12 @@ use Rattle.base_core.specs.declared.fault.BaseFault.{BaseFault}
 use Rattle.command_runs.specs.Counts.{Counts}
 use Rattle.command_runs.specs.Endings.{Halted}
 use Rattle.command_runs.specs.Plain.{after_all, run}
-use Rattle.shell_commands.specs.Do.{Order, order_asks, plain, price}
+use Rattle.script_text.specs.Tasks.{Task}
+use Rattle.shell_commands.specs.Do.{order_asks, price}
 use Rattle.shell_commands.specs.Saving.{AreLeft}
 use Rattle.shell_commands.specs.Stands.{StillCarry}
 use Rattle.shell_commands.specs.State.{State, begin}
+use Rattle.shell_commands.specs.Tasks.{tasks}
 use Rattle.script_lines.specs.Script.{longest_script, script_len, script_of, whole_lines}
 use Rattle.shell_session.specs.Words.{Wanted, words_read}
 use Rattle.shell_session.specs.declared.status.Status.{Status}
@@ -82,43 +84,43 @@ opening_line base mended = opening_text (length base.games) mended
 -- The whole script was run: its text is written, and the input was read to its end or to the line of `quit`, and at most so many bytes further.
 -- The files carry the base that was saved last, or the opened one, and mean it where no edit came after.
 pub record RanAll (s : State) (script : List ℕ) (told : Option (List ℕ)) (told' : Option (List ℕ)) (later : Option (List ℕ)) (seen' : Seen) : Type 0 where
-  pub written : told' ≡ adds told (run plain s (script_of script))
+  pub written : told' ≡ adds told (run tasks s (script_of script))
   pub within : script_len script ≤ longest_script
   pub front : List ℕ
   pub read : Some script ≡ before front later
   pub enough : script_len script ≤ length front
   pub no_further : length front ≤ script_len script + 32768
-  pub files : AreLeft seen' (after_all plain s (script_of script)).carried (after_all plain s (script_of script)).unsaved
+  pub files : AreLeft seen' (after_all tasks s (script_of script)).carried (after_all tasks s (script_of script)).unsaved
 
 -- What is known of the command that a status breaks off: the files fail only at one that uses them, and told files never change.
-abbrev pub BrokenBy : Status → Order → Type 0
-BrokenBy ReadFault order = ⊤
-BrokenBy WriteFault order = ⊤
-BrokenBy FilesFault order = IsTrue (order_asks order)
-BrokenBy InputTooLong order = ⊤
-BrokenBy Memory order = ⊤
-BrokenBy _ order = ⊥
+abbrev pub BrokenBy : Status → Task → Type 0
+BrokenBy ReadFault next = ⊤
+BrokenBy WriteFault next = ⊤
+BrokenBy FilesFault next = IsTrue (order_asks next.order)
+BrokenBy InputTooLong next = ⊤
+BrokenBy Memory next = ⊤
+BrokenBy _ next = ⊥
 
 -- The same, with what the files carry then.
-pub record Breaks (status : Status) (seen' : Seen) (s : State) (order : Order) : Type 0 where
-  pub broken : BrokenBy status order
-  pub carries : StillCarry seen' s order
+pub record Breaks (status : Status) (seen' : Seen) (s : State) (next : Task) : Type 0 where
+  pub broken : BrokenBy status next
+  pub carries : StillCarry seen' s next.order
 
 -- The commands that are done at a fault of the input are those whose lines were read with their line feed; at a script that is too long
 -- those whose lines end within the limit.
-abbrev pub LinesDone : Status → List ℕ → Option (List ℕ) → List Order → Type 0
+abbrev pub LinesDone : Status → List ℕ → Option (List ℕ) → List Task → Type 0
 LinesDone ReadFault script later done = (front : List ℕ) × (Some script ≡ before front later) × (done ≡ whole_lines front)
 LinesDone InputTooLong script later done = (longest_script < script_len script) × (done ≡ whole_lines (take longest_script script))
 LinesDone _ script later done = ⊤
 
 -- The run stopped in the command `next`: the texts of those before it are written, and of its own a front part, which may be empty.
 pub record RanPart (status : Status) (s : State) (script : List ℕ) (told : Option (List ℕ)) (told' : Option (List ℕ)) (later : Option (List ℕ)) (seen' : Seen) : Type 0 where
-  pub done : List Order
-  pub next : Order
-  pub left : List Order
+  pub done : List Task
+  pub next : Task
+  pub left : List Task
   pub all : script_of script ≡ done ++ next ∷ left
-  pub wrote : Halted (run plain s done) (run plain s done ++ plain.text (after_all plain s done) next) told told'
-  pub broken : Breaks status seen' (after_all plain s done) next
+  pub wrote : Halted (run tasks s done) (run tasks s done ++ tasks.text (after_all tasks s done) next) told told'
+  pub broken : Breaks status seen' (after_all tasks s done) next
   pub lines : LinesDone status script later done
 
 -- ---- the answers
@@ -181,9 +183,9 @@ Due given _ = ⊥
 -- ---- bytes asked of the games file
 
 -- What some lines ask at most, one after the other.
-abbrev pub price_all : State → List Order → ℕ
+abbrev pub price_all : State → List Task → ℕ
 price_all s [] = 0
-price_all s (order ∷ orders) = price s order + price_all (plain.after s order) orders
+price_all s (next ∷ later) = price s next.order + price_all (tasks.after s next) later
 
 -- A session asks at most the records of all games, to open the base, and where it is open what the lines of its script ask.
 abbrev pub Asks : Given → ℕ → ℕ → Type 0

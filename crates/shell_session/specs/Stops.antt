@@ -1,4 +1,5 @@
 -- The status of what ends a session early. This project's own.
+use Rattle.std.specs.Prelude.{Option, Some}
 use Rattle.base_files.specs.declared.faults.Stop.{Stop}
 use Rattle.base_files.specs.declared.faults.Stop.TheVariants as stop
 use Rattle.base_core.specs.declared.fault.OpenError.{OpenError}
@@ -33,3 +34,8 @@ abbrev pub status_of_reading : ReadError → Status
 status_of_reading reading.Failed = status.ReadFault
 status_of_reading reading.TooLong = status.InputTooLong
 status_of_reading reading.Memory = status.Memory
+
+-- A command was broken off over its body: where a read of the body failed, by why the body is read no further.
+abbrev pub status_in_body : Halt → Option ReadError → Status
+status_in_body (halt.Device stop.Read) (Some error) = status_of_reading error
+status_in_body halt _ = status_of_halt halt

@@ -1,4 +1,4 @@
-//! Files that fail at each call of a script of edits or in the middle of an export, files that change between two reads, and the bytes that a search asks.
+//! Files that fail at each call of a script of edits or of an import, or in the middle of an export, files that change between two reads, and the bytes that a search asks.
 
 use crate::run::session;
 use crate::status::Status;
@@ -11,6 +11,14 @@ const EDITS: &[u8] = b"tag 0 White A\nsave\ntag 0 White B\nsave\n";
 
 const EDITS_TEXT: &[u8] =
     b"base 1 games 0 mended\ntagged 0\nsaved 1 games\ntagged 0\nsaved 1 games\n";
+
+/// Two games that come in, and are saved.
+const IMPORTS: &[u8] = b"import <<X\n1. e4 *\n\n1. d4 *\nX\nsave\n";
+
+const IMPORTS_TEXT: &[u8] =
+    b"base 1 games 0 mended\nadded 1\nadded 2\nimported 2 refused 0\nsaved 3 games\n";
+
+const THREE: &[u8] = b"base 3 games 0 mended\n";
 
 const OPENED: &[u8] = b"base 1 games 0 mended\n0 0 1-0 1910.??.?? B15 ? - ?\nfilter 1 of 1\n";
 
@@ -137,6 +145,20 @@ fn written_before(call: u64) -> usize {
     if call < 13 { 54 } else { 68 }
 }
 
+/// How much is written of the imports' text where this call fails: each game that is added takes one call, and `save` two.
+fn imported_before(call: u64) -> usize {
+    if call < 5 {
+        return 0;
+    }
+    if call < 6 {
+        return 22;
+    }
+    if call < 7 {
+        return 30;
+    }
+    if call < 9 { 59 } else { 73 }
+}
+
 /// What the files then list: the index is replaced last, so that a `save` has happened or not.
 fn listed_after(call: u64) -> &'static [u8] {
     if call < 9 {
@@ -170,6 +192,27 @@ fn carries_what_was_saved_at_each_fault(rt: HostRuntime) -> Result<(), Fail> {
         let (status, listed) = run_over(rt.alloc(), &mut files, true, b"list\n")?;
         assert!(rt; status == Status::Done);
         assert!(rt; listed.as_slice() == listed_after(call));
+    }
+    Ok(())
+}
+
+#[test]
+fn carries_what_was_imported_and_saved_at_each_fault(rt: HostRuntime) -> Result<(), Fail> {
+    for call in 0..10u64 {
+        let mut files = failing(rt.alloc(), index(rt.alloc())?, &[call])?;
+        let (status, written) = run_over(rt.alloc(), &mut files, false, IMPORTS)?;
+        assert!(rt; (status == Status::FilesFault) == (call < 9));
+        assert!(rt; (status == Status::Done) == (call == 9));
+        assert!(rt;
+            written.as_slice()
+                == IMPORTS_TEXT
+                    .split_at(imported_before(call).min(IMPORTS_TEXT.len()))
+                    .0
+        );
+        let mut files = again(rt.alloc(), &files)?;
+        let (status, opened) = run_over(rt.alloc(), &mut files, true, b"")?;
+        assert!(rt; status == Status::Done);
+        assert!(rt; opened.as_slice() == if call < 9 { OPENING } else { THREE });
     }
     Ok(())
 }

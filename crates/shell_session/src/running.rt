@@ -1,23 +1,32 @@
 //! The run of a script.
-ghost use Rattle.std.specs.Prelude.{◌≡◌, ◌≤◌, ◌+◌, ◌<◌, ℕ, false, List, Some, OnOk, IfOk, IfErr};
+ghost use Rattle.std.specs.Prelude.{◌≡◌, ◌≤◌, ◌+◌, ◌<◌, ℕ, false, List, [], length, None, Some, Ok, OnOk, IfOk, IfErr, IfSome};
 ghost use Rattle.base_files.specs.Seen.{Seen};
-ghost use Rattle.command_runs.specs.Counts.{NoneFell, counts};
-ghost use Rattle.command_runs.specs.Endings.{Done};
+ghost use Rattle.base_files.specs.Told.{before};
+ghost use Rattle.command_runs.specs.Counts.{Causes, NoneFell, counts};
+ghost use Rattle.command_runs.specs.Endings.{Done, Serves};
 ghost use Rattle.command_runs.specs.Plain.{after_all, run};
+ghost use Rattle.script_lines.specs.Reading.{piece_len};
+ghost use Rattle.script_lines.specs.Standing.{Standing, left_of};
 ghost use Rattle.script_lines.specs.Script.{is_quit, longest_script, script_of, then_quit};
 ghost use Rattle.script_text.specs.Sound.{IsSoundLine};
-ghost use Rattle.shell_commands.specs.Do.{order_writes, plain, price};
-ghost use Rattle.shell_commands.specs.Stands.{Sound, Stands};
+ghost use Rattle.script_text.specs.Tasks.{body_word, task};
+ghost use Rattle.script_text.specs.declared.command.Command.TheVariants as command;
+ghost use Rattle.shell_commands.specs.Do.{is_demo, order_writes, price};
+ghost use Rattle.shell_commands.specs.Stands.{Sound, Stands, StillCarry, WhyHalt, cost};
 ghost use Rattle.shell_commands.specs.State.{State};
-ghost use Rattle.shell_session.specs.Running.{Interrupted, Interrupts, Stops};
+ghost use Rattle.shell_commands.specs.Tasks.{BrokenTask, tasks};
+ghost use Rattle.shell_session.specs.Running.{BodyDone, GoneOn, Halts, Interrupted, Interrupts, LastDid, LastHalts, Stops, TaskDone, behind_at};
 ghost use Rattle.shell_session.specs.Session.{RanAll, RanPart, WhyStatus, price_all};
+ghost use Rattle.shell_session.specs.Stops.{status_in_body};
 
 use crate::status::Status;
-use base_files::{Files, Sink, Source};
-use script_lines::{LineReader, Order, ReadError, Taken, is_quit};
+use base_files::{Failed, Files, Sink, Source, Stop};
+use cell_core::Text;
+use script_lines::{At, Begins, Body, LineReader, Order, Place, Taken, body_word, is_quit};
 use script_text::Command;
-use shell_commands::{Machine, serve};
+use shell_commands::{Halt, Machine, serve, serve_body};
 use std::alloc::Global;
+use std::marker::Brand;
 
 /// Runs the script of the input, line by line, to `quit` or its end.
 #[tactic(auto, using(crate::proofs::RunningLaws::ends_stuck))]
@@ -45,14 +54,209 @@ pub(crate) fn run_script<F: Files, S: Source, K: Sink>(
     };
     'lines: loop {
         match reader.next(alloc, input) {
-            Ok(Taken::Line(order)) => match run_line(alloc, machine, files, out, order) {
-                Ok(true) => return Ok(()),
-                Ok(false) => {}
-                Err(status) => return Err(status),
-            },
-            Ok(Taken::Last(order)) => return run_last(alloc, machine, files, out, order),
+            Ok(Taken::Line(order)) => {
+                match run_task(alloc, machine, files, input, out, reader, order) {
+                    Ok(Some(back)) => reader = back,
+                    Ok(None) => return Ok(()),
+                    Err(status) => return Err(status),
+                }
+            }
+            Ok(Taken::Last(order)) => {
+                return run_last_task(alloc, machine, files, input, out, reader, order);
+            }
             Err(error) => return Err(Status::from(error)),
         }
+    }
+}
+
+// Runs a line with its body, and gives the reader back where the script goes on behind it.
+fn run_task<F: Files, S: Source, K: Sink>(
+    alloc: Global,
+    machine: &mut Machine,
+    files: &mut F,
+    input: &mut S,
+    out: &mut K,
+    reader: LineReader,
+    order: Order,
+) -> Result<Option<LineReader>, Status>
+    requires sound { Sound machine.old (F.seen files.old) }
+    requires order { IsSoundLine order }
+    requires within { reader.used ≤ longest_script }
+    requires few { length reader.unread ≤ piece_len }
+    ensures done { IfOk result (λ back. (s : State) (ahead : List ℕ) → Stands machine.old (F.seen files.old) s → before reader.unread (S.left input.old) ≡ Some ahead → TaskDone order s ahead reader.used machine.new (F.seen files.new) back (S.left input.new) (K.taken out.old) (K.taken out.new) (F.asked files.old) (F.asked files.new)) }
+    ensures halts { IfErr result (λ status. (s : State) (ahead : List ℕ) → Stands machine.old (F.seen files.old) s → before reader.unread (S.left input.old) ≡ Some ahead → Halts status (F.seen files.new) order s ahead reader.used (S.left input.new) (K.taken out.old) (K.taken out.new) (F.asked files.old) (F.asked files.new)) }
+    ensures sound { OnOk result (Sound machine.new (F.seen files.new)) }
+    ensures choices { (F.seen files.new).choices ≡ (F.seen files.old).choices }
+    ensures counts { NoneFell (counts (F.faults files.old) (S.faults input.old) (K.faults out.old)) (counts (F.faults files.new) (S.faults input.new) (K.faults out.new)) }
+    ensures ends { IfErr result Interrupts }
+    ensures why { IfErr result (λ status. WhyStatus status (counts (F.faults files.old) (S.faults input.old) (K.faults out.old)) (counts (F.faults files.new) (S.faults input.new) (K.faults out.new))) }
+    ensures goes_on { IfOk result (λ back. IfSome back (λ later. GoneOn reader (S.budget input.old) later (S.budget input.new))) }
+    ensures falls { S.budget input.new ≤ S.budget input.old }
+    ensures too_long { IfErr result (λ status. status ≡ Status.InputTooLong → S.budget input.new + longest_script < S.budget input.old + (reader.used + length reader.unread)) }
+{
+    if let Some(word) = body_word(&order) {
+        match run_body(alloc, machine, files, input, out, reader, &order, word) {
+            Ok(Some(later)) => return Ok(Some(later)),
+            Ok(None) => {}
+            Err(status) => return Err(status),
+        }
+        return run_quit(alloc, machine, files, out);
+    }
+    match run_line(alloc, machine, files, out, order) {
+        Ok(true) => Ok(None),
+        Ok(false) => Ok(Some(reader)),
+        Err(status) => Err(status),
+    }
+}
+
+// The end of the input stands for `quit`.
+fn run_quit<F: Files, K: Sink>(
+    alloc: Global,
+    machine: &mut Machine,
+    files: &mut F,
+    out: &mut K,
+) -> Result<Option<LineReader>, Status>
+    requires sound { Sound machine.old (F.seen files.old) }
+    ensures done { OnOk result ((s : State) → Stands machine.old (F.seen files.old) s → Done (Stands machine.new (F.seen files.new)) (tasks.after s (task (Ok command.Quit) [])) (tasks.text s (task (Ok command.Quit) [])) (K.taken out.old) (K.taken out.new)) }
+    ensures none { IfOk result (λ back. back ≡ None) }
+    ensures interrupted { IfErr result (λ status. (s : State) → Stands machine.old (F.seen files.old) s → Interrupted status (F.seen files.new) s (task (Ok command.Quit) []) (K.taken out.old) (K.taken out.new)) }
+    ensures asks { (s : State) → Stands machine.old (F.seen files.old) s → F.asked files.new ≤ F.asked files.old + price s (Ok command.Quit) }
+    ensures sound { OnOk result (Sound machine.new (F.seen files.new)) }
+    ensures choices { (F.seen files.new).choices ≡ (F.seen files.old).choices }
+    ensures counts { NoneFell (counts (F.faults files.old) 0 (K.faults out.old)) (counts (F.faults files.new) 0 (K.faults out.new)) }
+    ensures ends { IfErr result Interrupts }
+    ensures why { IfErr result (λ status. (i : ℕ) (i' : ℕ) → WhyStatus status (counts (F.faults files.old) i (K.faults out.old)) (counts (F.faults files.new) i' (K.faults out.new))) }
+    ensures no_input { IfErr result (λ status. status ≡ Status.InputTooLong → ⊥) }
+{
+    match run_line(alloc, machine, files, out, Ok(Command::Quit)) {
+        Ok(_) => Ok(None),
+        Err(status) => Err(status),
+    }
+}
+
+// Runs the last line of a script, which no line feed ends, with its body, in which there is nothing.
+fn run_last_task<F: Files, S: Source, K: Sink>(
+    alloc: Global,
+    machine: &mut Machine,
+    files: &mut F,
+    input: &mut S,
+    out: &mut K,
+    reader: LineReader,
+    order: Order,
+) -> Result<(), Status>
+    requires sound { Sound machine.old (F.seen files.old) }
+    requires order { IsSoundLine order }
+    requires within { reader.used ≤ longest_script }
+    requires few { length reader.unread ≤ piece_len }
+    ensures done { OnOk result ((s : State) → Stands machine.old (F.seen files.old) s → before reader.unread (S.left input.old) ≡ Some [] → LastDid order s machine.new (F.seen files.new) (S.left input.new) (K.taken out.old) (K.taken out.new)) }
+    ensures halts { IfErr result (λ status. (s : State) → Stands machine.old (F.seen files.old) s → before reader.unread (S.left input.old) ≡ Some [] → LastHalts status (F.seen files.new) order s (S.left input.new) (K.taken out.old) (K.taken out.new)) }
+    ensures asks { (s : State) → Stands machine.old (F.seen files.old) s → before reader.unread (S.left input.old) ≡ Some [] → F.asked files.new ≤ F.asked files.old + price_all s (then_quit (task order [])) }
+    ensures unchanged { order_writes order ≡ false → F.seen files.new ≡ F.seen files.old }
+    ensures choices { (F.seen files.new).choices ≡ (F.seen files.old).choices }
+    ensures counts { NoneFell (counts (F.faults files.old) (S.faults input.old) (K.faults out.old)) (counts (F.faults files.new) (S.faults input.new) (K.faults out.new)) }
+    ensures ends { IfErr result Interrupts }
+    ensures why { IfErr result (λ status. WhyStatus status (counts (F.faults files.old) (S.faults input.old) (K.faults out.old)) (counts (F.faults files.new) (S.faults input.new) (K.faults out.new))) }
+    ensures falls { S.budget input.new ≤ S.budget input.old }
+    ensures too_long { IfErr result (λ status. status ≡ Status.InputTooLong → S.budget input.new + longest_script < S.budget input.old + (reader.used + length reader.unread)) }
+{
+    if body_word(&order).is_none() {
+        return run_last(alloc, machine, files, out, order);
+    }
+    match run_task(alloc, machine, files, input, out, reader, order) {
+        Ok(None) => return Ok(()),
+        Ok(Some(_)) => {}
+        Err(status) => return Err(status),
+    }
+    if let Err(status) = run_quit(alloc, machine, files, out) {
+        return Err(status);
+    }
+    Ok(())
+}
+
+// Runs a command that has a body, which ends at the line of this word, and gives the reader back where such a line ended it; else the
+// input did.
+fn run_body<F: Files, S: Source, K: Sink>(
+    alloc: Global,
+    machine: &mut Machine,
+    files: &mut F,
+    input: &mut S,
+    out: &mut K,
+    reader: LineReader,
+    order: &Order,
+    word: &Text,
+) -> Result<Option<LineReader>, Status>
+    requires sound { Sound machine.old (F.seen files.old) }
+    requires order { IsSoundLine order.now }
+    requires word { body_word order.now ≡ Some word.now }
+    requires within { reader.used ≤ longest_script }
+    ensures done { IfOk result (λ back. (s : State) (ahead : List ℕ) → Stands machine.old (F.seen files.old) s → before reader.unread (S.left input.old) ≡ Some ahead → BodyDone order.now s ahead reader.used machine.new (F.seen files.new) back (S.left input.new) (K.taken out.old) (K.taken out.new) (F.asked files.old) (F.asked files.new)) }
+    ensures halts { IfErr result (λ status. (s : State) (ahead : List ℕ) → Stands machine.old (F.seen files.old) s → before reader.unread (S.left input.old) ≡ Some ahead → Halts status (F.seen files.new) order.now s ahead reader.used (S.left input.new) (K.taken out.old) (K.taken out.new) (F.asked files.old) (F.asked files.new)) }
+    ensures sound { OnOk result (Sound machine.new (F.seen files.new)) }
+    ensures choices { (F.seen files.new).choices ≡ (F.seen files.old).choices }
+    ensures counts { NoneFell (counts (F.faults files.old) (S.faults input.old) (K.faults out.old)) (counts (F.faults files.new) (S.faults input.new) (K.faults out.new)) }
+    ensures ends { IfErr result Interrupts }
+    ensures why { IfErr result (λ status. WhyStatus status (counts (F.faults files.old) (S.faults input.old) (K.faults out.old)) (counts (F.faults files.new) (S.faults input.new) (K.faults out.new))) }
+    ensures goes_on { IfOk result (λ back. IfSome back (λ later. GoneOn reader (S.budget input.old) later (S.budget input.new))) }
+    ensures falls { S.budget input.new ≤ S.budget input.old }
+    ensures too_long { IfErr result (λ status. status ≡ Status.InputTooLong → S.budget input.new + longest_script < S.budget input.old + (reader.used + length reader.unread)) }
+{
+    let Ok(mut place) = Place::new(alloc, reader, word.as_bytes()) else {
+        return Err(Status::Memory);
+    };
+    if let Err(halt) = serve_in::<Brand, F, S, K>(
+        alloc, machine, files, input, out, &mut place, order,
+    ) {
+        return Err(broken(&place, halt));
+    }
+    if let Err(Failed) = place.drain(input) {
+        return Err(broken(&place, Halt::Device(Stop::Read)));
+    }
+    Ok(reader_behind(place))
+}
+
+// The reader behind a body that a line ended; none where the input did.
+fn reader_behind(place: Place) -> Option<LineReader>
+    ensures behind { result ≡ behind_at place.at place.reader }
+{
+    match place.at() {
+        At::Behind(_) => Some(place.into_reader()),
+        _ => None,
+    }
+}
+
+// Runs a command over its body.
+fn serve_in<B: Begins, F: Files, S: Source, K: Sink>(
+    alloc: Global,
+    machine: &mut Machine,
+    files: &mut F,
+    input: &mut S,
+    out: &mut K,
+    place: &mut Place,
+    order: &Order,
+) -> Result<(), Halt>
+    requires sound { Sound machine.old (F.seen files.old) }
+    requires order { IsSoundLine order.now }
+    requires begins { Standing B.start place.old (S.left input.old) (S.budget input.old) (S.faults input.old) }
+    ensures serves { (s : State) (text : List ℕ) → Stands machine.old (F.seen files.old) s → left_of place.old (S.left input.old) ≡ Some text → Serves tasks (Stands machine.new (F.seen files.new)) BrokenTask s (task order.now text) (K.taken out.old) (K.taken out.new) result }
+    ensures stands { Standing B.start place.new (S.left input.new) (S.budget input.new) (S.faults input.new) }
+    ensures sound { OnOk result (Sound machine.new (F.seen files.new)) }
+    ensures carries { (s : State) → Stands machine.old (F.seen files.old) s → IfErr result (λ _. StillCarry (F.seen files.new) s order.now) }
+    ensures choices { (F.seen files.new).choices ≡ (F.seen files.old).choices }
+    ensures asks { is_demo order.now ≡ false → F.asked files.new ≤ F.asked files.old + cost machine.old order.now }
+    ensures asks_demo { (s : State) (seed games : ℕ) → Stands machine.old (F.seen files.old) s → order.now ≡ Ok (command.Demo seed games) → F.asked files.new ≤ F.asked files.old + price s order.now }
+    ensures causes { Causes WhyHalt result (counts (F.faults files.old) place.old.refused (K.faults out.old)) (counts (F.faults files.new) place.new.refused (K.faults out.new)) }
+{
+    let mut body: Body<'_, S, B> = Body::new(input, place);
+    serve_body(alloc, machine, files, &mut body, out, order)
+}
+
+// How a command ends that was broken off with its body at this place.
+fn broken(place: &Place, halt: Halt) -> Status
+    ensures status { result ≡ status_in_body halt place.now.stuck }
+{
+    match place.stuck() {
+        Some(error) if halt == Halt::Device(Stop::Read) => Status::from(error),
+        _ => Status::from(halt),
     }
 }
 
@@ -66,9 +270,10 @@ fn run_last<F: Files, K: Sink>(
 ) -> Result<(), Status>
     requires sound { Sound machine.old (F.seen files.old) }
     requires order { IsSoundLine order }
-    ensures done { OnOk result ((s : State) → Stands machine.old (F.seen files.old) s → Done (Stands machine.new (F.seen files.new)) (after_all plain s (then_quit order)) (run plain s (then_quit order)) (K.taken out.old) (K.taken out.new)) }
-    ensures stops { IfErr result (λ status. (s : State) → Stands machine.old (F.seen files.old) s → Stops status (F.seen files.new) s (then_quit order) (K.taken out.old) (K.taken out.new)) }
-    ensures asks { (s : State) → Stands machine.old (F.seen files.old) s → F.asked files.new ≤ F.asked files.old + price_all s (then_quit order) }
+    requires alone { body_word order ≡ None }
+    ensures done { OnOk result ((s : State) → Stands machine.old (F.seen files.old) s → Done (Stands machine.new (F.seen files.new)) (after_all tasks s (then_quit (task order []))) (run tasks s (then_quit (task order []))) (K.taken out.old) (K.taken out.new)) }
+    ensures stops { IfErr result (λ status. (s : State) → Stands machine.old (F.seen files.old) s → Stops status (F.seen files.new) s (then_quit (task order [])) (K.taken out.old) (K.taken out.new)) }
+    ensures asks { (s : State) → Stands machine.old (F.seen files.old) s → F.asked files.new ≤ F.asked files.old + price_all s (then_quit (task order [])) }
     ensures choices { (F.seen files.new).choices ≡ (F.seen files.old).choices }
     ensures unchanged { order_writes order ≡ false → F.seen files.new ≡ F.seen files.old }
     ensures counts { NoneFell (counts (F.faults files.old) 0 (K.faults out.old)) (counts (F.faults files.new) 0 (K.faults out.new)) }
@@ -97,9 +302,10 @@ fn run_line<F: Files, K: Sink>(
 ) -> Result<bool, Status>
     requires sound { Sound machine.old (F.seen files.old) }
     requires order { IsSoundLine order }
-    ensures done { OnOk result ((s : State) → Stands machine.old (F.seen files.old) s → Done (Stands machine.new (F.seen files.new)) (plain.after s order) (plain.text s order) (K.taken out.old) (K.taken out.new)) }
+    requires alone { body_word order ≡ None }
+    ensures done { OnOk result ((s : State) → Stands machine.old (F.seen files.old) s → Done (Stands machine.new (F.seen files.new)) (tasks.after s (task order [])) (tasks.text s (task order [])) (K.taken out.old) (K.taken out.new)) }
     ensures quit { IfOk result (λ quit. quit ≡ is_quit order) }
-    ensures interrupted { IfErr result (λ status. (s : State) → Stands machine.old (F.seen files.old) s → Interrupted status (F.seen files.new) s order (K.taken out.old) (K.taken out.new)) }
+    ensures interrupted { IfErr result (λ status. (s : State) → Stands machine.old (F.seen files.old) s → Interrupted status (F.seen files.new) s (task order []) (K.taken out.old) (K.taken out.new)) }
     ensures asks { (s : State) → Stands machine.old (F.seen files.old) s → F.asked files.new ≤ F.asked files.old + price s order }
     ensures sound { OnOk result (Sound machine.new (F.seen files.new)) }
     ensures choices { (F.seen files.new).choices ≡ (F.seen files.old).choices }
@@ -128,8 +334,9 @@ fn run_order<F: Files, K: Sink>(
 ) -> Result<(), Status>
     requires sound { Sound machine.old (F.seen files.old) }
     requires order { IsSoundLine order.now }
-    ensures done { OnOk result ((s : State) → Stands machine.old (F.seen files.old) s → Done (Stands machine.new (F.seen files.new)) (plain.after s order.now) (plain.text s order.now) (K.taken out.old) (K.taken out.new)) }
-    ensures interrupted { IfErr result (λ status. (s : State) → Stands machine.old (F.seen files.old) s → Interrupted status (F.seen files.new) s order.now (K.taken out.old) (K.taken out.new)) }
+    requires alone { body_word order.now ≡ None }
+    ensures done { OnOk result ((s : State) → Stands machine.old (F.seen files.old) s → Done (Stands machine.new (F.seen files.new)) (tasks.after s (task order.now [])) (tasks.text s (task order.now [])) (K.taken out.old) (K.taken out.new)) }
+    ensures interrupted { IfErr result (λ status. (s : State) → Stands machine.old (F.seen files.old) s → Interrupted status (F.seen files.new) s (task order.now []) (K.taken out.old) (K.taken out.new)) }
     ensures asks { (s : State) → Stands machine.old (F.seen files.old) s → F.asked files.new ≤ F.asked files.old + price s order.now }
     ensures sound { OnOk result (Sound machine.new (F.seen files.new)) }
     ensures choices { (F.seen files.new).choices ≡ (F.seen files.old).choices }

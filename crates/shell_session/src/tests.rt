@@ -28,15 +28,28 @@ const OPENING: &[u8] = b"base 1 games 0 mended\n";
 
 const TEXT: &[u8] = b"base 1 games 0 mended\n0 0\nfilter 1 of 1\n";
 
-/// Which calls of each device fail.
+/// Two games that come in.
+const IMPORT: &[u8] = b"import <<X\n1. e4 *\n\n1. d4 *\nX\ninfo\n";
+
+const IMPORTED: &[u8] =
+    b"base 1 games 0 mended\nadded 1\nadded 2\nimported 2 refused 0\ngames 3 deleted 0 players 1 events 1 sites 1 rounds 1 unsaved yes index off\nunsaved\n";
+
+/// How many bytes of that script its first command has, and of that text are written once it is done.
+const IMPORT_SIZE: u64 = 30;
+
+const IMPORTED_SIZE: usize = 59;
+
+/// A script, and which calls of each device fail.
 #[derive(Clone, Copy)]
 struct Fails<'a> {
+    script: &'a [u8],
     files: &'a [u64],
     input: &'a [u64],
     out: &'a [u64],
 }
 
 const NONE: Fails<'static> = Fails {
+    script: SCRIPT,
     files: &[],
     input: &[],
     out: &[],
@@ -71,7 +84,7 @@ fn run(alloc: Global, fails: &Fails) -> Result<(Status, Vec<u8>), AllocError> {
         Vec::from_slice(alloc, fails.files)?,
     );
     let source_fails = Vec::from_slice(alloc, fails.input)?;
-    let mut input = MemSource::new(Vec::from_slice(alloc, SCRIPT)?, 1, source_fails);
+    let mut input = MemSource::new(Vec::from_slice(alloc, fails.script)?, 1, source_fails);
     let mut out = MemSink::new(Vec::new(alloc), 1, Vec::from_slice(alloc, fails.out)?);
     let status = session(alloc, words.as_slice(), &mut files, &mut input, &mut out);
     Ok((status, Vec::from_slice(alloc, out.taken())?))
@@ -119,5 +132,38 @@ fn ends_at_faults_of_the_streams(rt: HostRuntime) -> Result<(), Fail> {
         assert!(rt; status == Status::WriteFault);
         assert!(rt; written.as_slice() == &TEXT[..call]);
     }
+    Ok(())
+}
+
+#[test]
+fn ends_at_faults_of_the_streams_in_a_body(rt: HostRuntime) -> Result<(), Fail> {
+    for call in 0..IMPORT.len() as u64 {
+        let fails = Fails {
+            script: IMPORT,
+            input: &[call],
+            ..NONE
+        };
+        let (status, written) = run(rt.alloc(), &fails)?;
+        assert!(rt; status == Status::ReadFault);
+        assert!(rt; IMPORTED.starts_with(written.as_slice()));
+        assert!(rt; call < IMPORT_SIZE || written.len() >= IMPORTED_SIZE);
+    }
+    for call in 0..IMPORTED.len() {
+        let fails = Fails {
+            script: IMPORT,
+            out: &[call as u64],
+            ..NONE
+        };
+        let (status, written) = run(rt.alloc(), &fails)?;
+        assert!(rt; status == Status::WriteFault);
+        assert!(rt; written.as_slice() == &IMPORTED[..call]);
+    }
+    let fails = Fails {
+        script: IMPORT,
+        ..NONE
+    };
+    let (status, written) = run(rt.alloc(), &fails)?;
+    assert!(rt; status == Status::Done);
+    assert!(rt; written.as_slice() == IMPORTED);
     Ok(())
 }

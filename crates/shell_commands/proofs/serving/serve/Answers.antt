@@ -1,7 +1,7 @@
 use Rattle.std.proofs.Common.{ℕ, List, sym, subst}
-use Rattle.shell_commands.specs.Stands.{Quiet}
+use Rattle.shell_commands.specs.Stands.{Holding, Quiet, Stands}
 use Rattle.shell_commands.proofs.CarryLaws.{carry_of, carry_same, if_err}
-use Rattle.shell_commands.proofs.Served.{no_export, quiet_serves}
+use Rattle.shell_commands.proofs.Served.{no_demo, no_export, quiet_serves}
 use Rattle.shell_commands.proofs.serving.serve.Goals as goal
 
 pub returns-in-Ok-Line-clause-serves : goal.returns-in-Ok-Line-clause-serves
@@ -14,7 +14,7 @@ returns-in-Ok-Line-clause-serves g c = λ s st.
 pub returns-in-Ok-Line-clause-whole : goal.returns-in-Ok-Line-clause-whole
 returns-in-Ok-Line-clause-whole g c = λ s st exports.
     let turned = rw c.in-Ok-Line.field-0-is at c.in-Ok-Line.ensures.turn in
-    absurd (no_export c.args.order.now exports turned.1)
+    absurd (no_export c.args.order.now exports turned.1.0)
 
 pub returns-in-Ok-Line-clause-carries : goal.returns-in-Ok-Line-clause-carries
 returns-in-Ok-Line-clause-carries g c = λ s st.
@@ -56,3 +56,14 @@ returns-in-Ok-Tree-clause-carries g c = λ s st.
 
 pub returns-in-Err-clause-carries : goal.returns-in-Err-clause-carries
 returns-in-Err-clause-carries g c = λ s st. carry_of c.args.machine.now (g.F.Files.seen c.args.files.now) s c.args.order.now st
+
+pub returns-in-Ok-Line-clause-asks_demo : goal.returns-in-Ok-Line-clause-asks_demo
+returns-in-Ok-Line-clause-asks_demo g c = λ s seed games st demo.
+    let turned = rw c.in-Ok-Line.field-0-is at c.in-Ok-Line.ensures.turn in
+    absurd (no_demo c.args.order.now seed games demo turned.1.1)
+
+pub returns-in-Ok-Demo-clause-carries : goal.returns-in-Ok-Demo-clause-carries
+returns-in-Ok-Demo-clause-carries g c = λ s st.
+    let turned = rw c.in-Ok-Demo.field-0-is at c.in-Ok-Demo.ensures.turn in
+    let st' = subst (λ (h : Holding). Stands h (g.F.Files.seen c.args.files.now) s) (sym turned.1) st in
+    c.demo.ensures.carries s c.args.order.now st'

@@ -1,14 +1,15 @@
-use Rattle.std.proofs.Common.{◌≡◌, ◌+◌, length}
+use Rattle.std.proofs.Common.{◌≡◌, ◌+◌, ℕ, List, Some, length}
 use Rattle.command_runs.specs.Counts.{NoneFell, counts}
 use Rattle.shell_commands.specs.Stands.{Sound, Stands}
 use Rattle.shell_commands.specs.State.{State}
-use Rattle.shell_session.proofs.PriceLaws.{Paid}
+use Rattle.shell_session.specs.Running.{Ran}
 use Rattle.shell_session.proofs.running.run_script.Given as goal
 
 -- The lines so far were run, and what was asked for them is paid; each byte that was read is counted or unread; no fault is forgotten.
 abbrev pub invariant-lines : goal.invariant-lines
 invariant-lines g l = record {
-  ran : (s : State) → Stands l.fn.machine (g.F.Files.seen l.fn.files) s → Paid s (g.S.Source.left l.fn.input) (g.K.Sink.taken l.fn.out) l.machine (g.F.Files.seen l.files) l.reader (g.S.Source.left l.input) (g.K.Sink.taken l.out) (g.F.Files.asked l.fn.files) (g.F.Files.asked l.files);
+  ran : (s : State) (script : List ℕ) → Stands l.fn.machine (g.F.Files.seen l.fn.files) s → g.S.Source.left l.fn.input ≡ Some script
+      → Ran s script (g.K.Sink.taken l.fn.out) l.machine (g.F.Files.seen l.files) l.reader (g.S.Source.left l.input) (g.K.Sink.taken l.out) (g.F.Files.asked l.fn.files) (g.F.Files.asked l.files);
   untaken : l.reader.used ≡ 0 → g.F.Files.seen l.files ≡ g.F.Files.seen l.fn.files;
   sound : Sound l.machine (g.F.Files.seen l.files);
   choices : (g.F.Files.seen l.files).choices ≡ (g.F.Files.seen l.fn.files).choices;
