@@ -4,7 +4,7 @@
 usage: cases/full_bases.py [PROGRAM]
 
 The bases are too large to be kept as cases: each is the Vienna game (make_bases.py) beside as many names of one kind as leave room for one
-more, or in a games file that has room for one more record.
+more, or in a games file that has room for one more record; or one game without moves as often as leaves room for one more game.
 """
 import os
 import pathlib
@@ -12,9 +12,10 @@ import subprocess
 import sys
 import tempfile
 
-from make_bases import HERE, VIENNA, VIENNA_RECORD, index
+from make_bases import HERE, VIENNA, VIENNA_RECORD, entry, game, index
 
 LONGEST_FILE = 4_294_967_295
+MOST_GAMES = 16_777_214
 LIMITS = {"players": 1_048_576, "events": 524_288, "sites": 524_288, "rounds": 262_144}
 TAGS = {"players": "White", "events": "Event", "sites": "Site", "rounds": "Round"}
 
@@ -37,12 +38,16 @@ def names_file(counts):
     return bytes(head + body)
 
 
-def run(program, parts, games_len, script):
-    """What the program writes behind its opening line."""
+def run(program, parts, games_len, script, copies=0):
+    """What the program writes behind its opening line. The index is written with so many more of its last entry."""
     with tempfile.TemporaryDirectory() as room:
         base = pathlib.Path(room, "base")
         for part, content in parts.items():
             base.with_suffix(part).write_bytes(content)
+        with base.with_suffix(".si4").open("ab") as entries:
+            for _ in range(copies // 1000):
+                entries.write(parts[".si4"][-47:] * 1000)
+            entries.write(parts[".si4"][-47:] * (copies % 1000))
         os.truncate(base.with_suffix(".sg4"), games_len)
         done = subprocess.run([program, base], input=script, capture_output=True, text=True, check=True)
         return done.stdout.split("\n", 1)[1]
@@ -61,6 +66,14 @@ def full_file(program):
     return run(program, parts, LONGEST_FILE - len(VIENNA_RECORD), script + "quit\n")
 
 
+def full_games(program):
+    record = game(b"")
+    header = index([])[:14] + (MOST_GAMES - 1).to_bytes(3, "big") + index([])[17:]
+    parts = {".si4": header + entry(0, len(record)), ".sn4": names_file([1, 1, 1, 1]), ".sg4": record}
+    script = "import <<END\n*\n\n*\nEND\n"
+    return run(program, parts, len(record), script + "quit\n", MOST_GAMES - 2)
+
+
 def main():
     program = os.path.realpath(sys.argv[1] if len(sys.argv) > 1 else HERE / "../crates/scid_shell/out/scid_shell")
     failed = 0
@@ -71,6 +84,9 @@ def main():
     wanted = "tagged 0\nerror: full file\nunsaved\n"
     failed += (text := full_file(program)) != wanted
     print(f"full file: {text!r}" if text != wanted else "full file: as it should be")
+    wanted = f"added {MOST_GAMES - 1}\nerror: game 2: full games\nimported 1 refused 1\nunsaved\n"
+    failed += (text := full_games(program)) != wanted
+    print(f"full games: {text!r}" if text != wanted else "full games: as it should be")
     sys.exit(failed != 0)
 
 

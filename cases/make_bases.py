@@ -79,6 +79,9 @@ PAWNS_NAMES = names_file([("A", 2), ("B", 2)], [("?", 2)], [("?", 2)], [("?", 2)
 E4 = b"\xcf"
 E5 = b"\xcf"
 D4 = b"\xbf"
+C4 = b"\xaf"
+D5 = b"\xbf"
+G3 = b"\xe1"
 DATE = 2000 * 512 + 5 * 32 + 10
 
 
@@ -254,8 +257,35 @@ def edits():
     write("created_and_saved", "base", index([]), b"Scid.sn\0" + bytes(28), b"", "after")
 
 
+def imports():
+    """The bases of the cases of games that come in."""
+    write("import_vienna", "vienna", index([VIENNA]), VIENNA_NAMES, VIENNA_RECORD, "after")
+    write("import_two_games", "pawns", index(PAWNS), PAWNS_NAMES, PAWNS_RECORDS, "after")
+    # Comments, NAGs, variations and a null move; an event date near the game's, and one that is a tag of the record
+    dates = [(DATED_RECORD, dict(dates=EVENT_DATE | DATE, plies=1, home=(11,))), (EVENT_TAGGED_RECORD, dict(dates=DATE, plies=1, home=(11,)))]
+    entries, records = all_of([(record, {**says, "ids": (0, 0, 0, 0, 0)}) for record, says in SHOWN[1:3] + dates])
+    names = names_file([("?", 8)], [("?", 4)], [("?", 4)], [("?", 4)])
+    write("import_marks_and_dates", "marks", index(entries), names, records, "after")
+    # A base that was created and not saved has its games file alone.
+    clock = b"\n[%clk 0:01:00]"
+    unsaved = {
+        "import_faulty_games": game(E4 + b"\x0c" + E5, (clock,)) + game(D4) * 2,
+        "bodies": game(E4) + game(D4 + b"\x0c" + D5, (b"a comment with\nEND of it",)) + game(D4 + b"\x0c", (b"END\nE2 \n E2\n\tE2\nE2\r\r\n",)) + game(E4)
+        + game(C4) + game(G3),
+        "body_ended_by_the_input": game(G3),
+    }
+    for case, records in unsaved.items():
+        write(case, "base", b"", b"", records, "after")
+    longest = game(b"\x0c", (b"x" * 131_066,))
+    write("import_record_too_long", "base", b"", b"", longest + b"\0" + game(E4), "after")
+    write("replace_games", "vienna", index([VIENNA]), VIENNA_NAMES, VIENNA_RECORD)
+    # The records of the games that take the place of the Vienna one stand behind it.
+    write("replace_games", "vienna", index([VIENNA]), VIENNA_NAMES, VIENNA_RECORD + game(D4) + game(C4), "after")
+
+
 def main():
     edits()
+    imports()
     for case in ("filters_by_number", "find_in_both_orders", "search_header_among_filters", "search_material_by_signatures",
                  "search_position", "search_position_in_each_mode", "tree_in_both_orders"):
         write(case, "pawns", index(PAWNS), PAWNS_NAMES, PAWNS_RECORDS)
