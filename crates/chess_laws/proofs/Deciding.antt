@@ -53,7 +53,7 @@ any-Decides p P each xs = (
   (λ h. let (k, x, less, at, e) = h in list_any-from_Any p xs (k, x, less, at, (each x).1 e)),
 )
 
-all-Decides : {X : Type 0} (p : X → Bool) (P : X → Type 0) → ((x : X) → Decides (p x) (P x)) → (xs : List X) → Decides (list_all p xs) (All P xs)
+pub all-Decides : {X : Type 0} (p : X → Bool) (P : X → Type 0) → ((x : X) → Decides (p x) (P x)) → (xs : List X) → Decides (list_all p xs) (All P xs)
 all-Decides p P each xs = Decides-by_and p P (list_all p) each refl (λ x ys. refl) xs
 
 some_below-Decides : (p : ℕ → Bool) (P : ℕ → Type 0) → ((k : ℕ) → Decides (p k) (P k)) → (n : ℕ) → Decides (some_below p n) ((k : ℕ) × (k < n) × P k)

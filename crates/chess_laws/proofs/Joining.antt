@@ -1,27 +1,39 @@
--- A move that is known to be allowed joins the list, or is none.
-use Rattle.std.proofs.Common.{◌≡◌, ℕ, ◌+◌, ◌*◌, ◌<◌, List, [], ◌∷◌, ◌++◌, length, subst, arith}
+-- A legal move joins the list where there is room for it, and where there is none, there are more moves than it holds.
+use Rattle.std.proofs.Common.{◌≡◌, ℕ, ◌+◌, ◌*◌, ◌<◌, Bool, true, false, List, [], ◌∷◌, ◌++◌, length, subst, arith}
+use Rattle.std.specs.Bool.{OnTrue, OnFalse}
 use Rattle.cell_core.specs.declared.step.Move.{Move}
 use Rattle.chess_laws.specs.declared.setup.Setup.{Setup}
 use Rattle.chess_laws.specs.declared.effect.Effect.{Effect}
 use Rattle.chess_laws.specs.Position.{Sound}
-use Rattle.chess_laws.specs.Moves.{IsMove, place_of}
+use Rattle.chess_laws.specs.Moves.{HasMoreMoves, IsMove, place_of}
 use Rattle.chess_laws.specs.Targets.{Known, ListsBelow, goes}
-use Rattle.chess_laws.proofs.Listing.{lists-plain, lists-push, lists-skip}
+use Rattle.chess_laws.proofs.Listing.{lists-many, lists-plain, lists-push, lists-skip}
 
--- the move is none, or joins the list, and no other goes from the one square to the other
-pub known-skip : (p : Setup) (room a b : ℕ) (e : Effect) (ms : List Move) → Sound p → b < 64 → Known p a b e → (IsMove p (goes a b) → ⊥) →
+pub joins : (p : Setup) (room n : ℕ) (ms new : List Move) (m : Move) (done : Bool) → n ≡ place_of m → Sound p → ListsBelow p room n ms → IsMove p m →
+    OnTrue done (new ≡ ms ++ m ∷ []) → OnTrue done (length ms < room) → OnTrue done (ListsBelow p room (place_of m + 1) new)
+joins p room n ms new m true at sound h is added less =
+    rw added (lists-push p room ms m sound (subst (λ k. ListsBelow p room k ms) at h) less is)
+joins p room n ms new m false at sound h is added less = tt
+
+pub overflows : (p : Setup) (room n : ℕ) (ms : List Move) (m : Move) (done : Bool) → n ≡ place_of m → ListsBelow p room n ms → IsMove p m →
+    OnFalse done (length ms ≡ room) → OnFalse done (HasMoreMoves p room)
+overflows p room n ms m true at h is full = tt
+overflows p room n ms m false at h is full = lists-many p room ms m (subst (λ k. ListsBelow p room k ms) at h) is full
+
+-- no other move goes from the one square to the other, where this one is known
+past : (p : Setup) (room a b : ℕ) (e : Effect) (ms : List Move) → Sound p → b < 64 → Known p a b e → ListsBelow p room (place_of (goes a b) + 1) ms →
+    ListsBelow p room (512 * a + 8 * (b + 1)) ms
+past p room a b e ms sound less known h =
+    let next : place_of (goes a b) + 1 ≡ 512 * a + (8 * b + 1) = omega arith in
+    lists-plain p room a b ms sound less known.plain (subst (λ n. ListsBelow p room n ms) next h)
+
+pub known-skips : (p : Setup) (room a b : ℕ) (e : Effect) (ms : List Move) → Sound p → b < 64 → Known p a b e → (IsMove p (goes a b) → ⊥) →
     ListsBelow p room (512 * a + 8 * b) ms → ListsBelow p room (512 * a + 8 * (b + 1)) ms
-known-skip p room a b e ms sound less known none h =
+known-skips p room a b e ms sound less known none h =
     let here : 512 * a + 8 * b ≡ place_of (goes a b) = omega arith in
-    let next : place_of (goes a b) + 1 ≡ 512 * a + (8 * b + 1) = omega arith in
-    lists-plain p room a b ms sound less known.plain
-    (subst (λ n. ListsBelow p room n ms) next (lists-skip p room ms (goes a b) sound less (subst (λ n. ListsBelow p room n ms) here h) none))
+    past p room a b e ms sound less known (lists-skip p room ms (goes a b) sound less (subst (λ n. ListsBelow p room n ms) here h) none)
 
-pub known-push : (p : Setup) (room a b : ℕ) (e : Effect) (ms : List Move) → Sound p → b < 64 → Known p a b e → length ms < room → IsMove p (goes a b) →
-    ListsBelow p room (512 * a + 8 * b) ms → ListsBelow p room (512 * a + 8 * (b + 1)) (ms ++ goes a b ∷ [])
-known-push p room a b e ms sound less known fits is h =
-    let here : 512 * a + 8 * b ≡ place_of (goes a b) = omega arith in
-    let next : place_of (goes a b) + 1 ≡ 512 * a + (8 * b + 1) = omega arith in
-    lists-plain p room a b (ms ++ goes a b ∷ []) sound less known.plain
-    (subst (λ n. ListsBelow p room n (ms ++ goes a b ∷ [])) next
-    (lists-push p room ms (goes a b) sound (subst (λ n. ListsBelow p room n ms) here h) fits is))
+pub known-joins : (p : Setup) (room a b : ℕ) (e : Effect) (new : List Move) (done : Bool) → Sound p → b < 64 → Known p a b e →
+    OnTrue done (ListsBelow p room (place_of (goes a b) + 1) new) → OnTrue done (ListsBelow p room (512 * a + 8 * (b + 1)) new)
+known-joins p room a b e new true sound less known h = past p room a b e new sound less known h
+known-joins p room a b e new false sound less known h = tt

@@ -10,7 +10,6 @@ pub mod Kings
 pub mod Walks
 pub mod Rows
 pub mod Lines
-pub mod Checks
 pub mod Counting
 pub mod Untouched
 pub mod Opening
@@ -25,7 +24,7 @@ pub mod Climbing
 pub mod Stepping
 pub mod Initial
 pub mod Deciding
-pub mod Officers
+pub mod Knowing
 pub mod Ways
 pub mod Joining
 pub mod PawnMoves

@@ -14,12 +14,13 @@ use Rattle.chess_laws.specs.declared.setup.Setup.{Setup}
 use Rattle.chess_laws.specs.declared.targets.SquareSet.{SquareSet}
 use Rattle.chess_laws.specs.declared.effect.Effect.{Effect}
 use Rattle.chess_laws.specs.declared.effect.Effect.TheVariants.{Plain, Double, Passing, Castle, Null}
+use Rattle.chess_laws.specs.Castling.{king_target}
 use Rattle.chess_laws.specs.Geometry.{rank_of}
 use Rattle.chess_laws.specs.Position.{Sound}
-use Rattle.chess_laws.specs.Step.{effect_of, Case, GoesPlainly, may_become, last_rank, promotes_rightly}
+use Rattle.chess_laws.specs.Step.{effect_of, Case, CastleCase, GoesPlainly, may_become, last_rank, promotes_rightly}
 use Rattle.chess_laws.specs.Moves.{IsMove, promotion_number, place_of, Ascends, ListsMoves, HasMoreMoves}
-use Rattle.chess_laws.specs.Targets.{Comes, Has, ListsBelow, MayPromote, MayTake}
-use Rattle.chess_laws.proofs.Boards.{on_board, same_kind-true}
+use Rattle.chess_laws.specs.Targets.{Comes, Has, ListsBelow, MayPromote, MayTake, goes}
+use Rattle.chess_laws.proofs.Boards.{man-kind, on_board, same_kind-true}
 use Rattle.chess_laws.proofs.Following.{case-on_board}
 use Rattle.chess_laws.proofs.Keeping.{castle-squares}
 
@@ -74,7 +75,9 @@ case-fits p m Double is h leaves = record { kind = Pawn; stands = h.stands; come
 case-fits p m Passing is h leaves = record { kind = Pawn; stands = h.stands; comes = inr (inr (h.goes, inr h.target)); promotes = inl h.promo }
 case-fits p m (Castle wing) is h leaves =
     let at = castle-squares p m wing h.stands is in
-    record { kind = King; stands = h.stands; comes = inr (at.from, (wing, at.to)); promotes = inl h.promo }
+    let castles : CastleCase p (goes m.from (king_target p.side wing)) wing =
+    record { stands = h.stands; right = h.right; empty = h.empty; safe = h.safe; promo = refl } in
+    record { kind = King; stands = h.stands; comes = inr (at.from, (wing, (at.to, castles))); promotes = inl h.promo }
 case-fits p m Null is h leaves = absurd (leaves h.stays)
 
 pub move-fits : (p : Setup) (m : Move) → IsMove p m → Fits p m
@@ -254,19 +257,31 @@ lists-no_pawn p room f t ms sound less h =
     elim (number-cases p m is) [ inl none ↦ omega arith | inr some ↦ omega arith ])
 
 -- no move goes to a square that is not among the targets
-pub lists-targets : (p : Setup) (room f at t : ℕ) (ms : List Move) (set : SquareSet) → Sound p → at ≤ t → t ≤ 64 →
-    ((k : Kind) (b : ℕ) → man_at p.board f ≡ Some (man p.side k) → Comes p k f b → Has set b) →
-    ((b : ℕ) → at ≤ b → b < t → Has set b → ⊥) →
+pub lists-targets : (p : Setup) (room f at t : ℕ) (k : Kind) (ms : List Move) (set : SquareSet) → Sound p → at ≤ t → t ≤ 64 →
+    man_at p.board f ≡ Some (man p.side k) → ((b : ℕ) → Comes p k f b → Has set b) → ((b : ℕ) → at ≤ b → b < t → Has set b → ⊥) →
     ListsBelow p room (512 * f + 8 * at) ms → ListsBelow p room (512 * f + 8 * t) ms
-lists-targets p room f at t ms set sound more less has none h =
+lists-targets p room f at t k ms set sound more less stands has none h =
     lists-gap p room (512 * f + 8 * at) (512 * f + 8 * t) ms h (omega arith)
     (λ m is low high.
     let tm = move-to p m sound is in
     let pm = promo-less m.promo in
     let from : m.from ≡ f = omega arith in
     let fits = move-fits p m is in
+    let kind : fits.kind ≡ k = man-kind p.side p.side fits.kind k (sym fits.stands ∙ ap (man_at p.board) from ∙ stands) in
     none m.to (omega arith) (omega arith)
-    (has fits.kind m.to (ap (man_at p.board) (sym from) ∙ fits.stands) (subst (λ a. Comes p fits.kind a m.to) from fits.comes)))
+    (has m.to (subst (λ a. Comes p k a m.to) from (subst (λ j. Comes p j m.from m.to) kind fits.comes))))
+
+-- and none from a square on which no man of the mover's stands
+pub lists-no_man : (p : Setup) (room f : ℕ) (ms : List Move) → Sound p → ((k : Kind) → man_at p.board f ≡ Some (man p.side k) → ⊥) →
+    ListsBelow p room (512 * f) ms → ListsBelow p room (512 * (f + 1)) ms
+lists-no_man p room f ms sound none h =
+    lists-gap p room (512 * f) (512 * (f + 1)) ms h (omega arith)
+    (λ m is low high.
+    let tm = move-to p m sound is in
+    let pm = promo-less m.promo in
+    let from : m.from ≡ f = omega arith in
+    let fits = move-fits p m is in
+    none fits.kind (ap (man_at p.board) (sym from) ∙ fits.stands))
 
 -- some move shows that there are more than none
 pub more-one : (p : Setup) (m : Move) → IsMove p m → HasMoreMoves p 0

@@ -15,9 +15,9 @@ use Rattle.chess_laws.specs.declared.effect.Effect.TheVariants.{Plain, Double, P
 use Rattle.chess_laws.specs.Geometry.{rank_of}
 use Rattle.chess_laws.specs.Attacks.{IsInCheck}
 use Rattle.chess_laws.specs.Castling.{rook_home, rook_target}
-use Rattle.chess_laws.specs.Checks.{in_check}
 use Rattle.chess_laws.specs.Counts.{counts_of}
-use Rattle.chess_laws.specs.Position.{Sound, Keeps, king_square}
+use Rattle.chess_laws.specs.Keeps.{Keeps, in_check}
+use Rattle.chess_laws.specs.Position.{Sound, king_square}
 use Rattle.chess_laws.specs.Step.{effect_of, last_rank, PlainCase, PassingCase, CastleCase, Case, arriving, moved, passed_square, board_after, after, Legal}
 use Rattle.chess_laws.specs.LegalTests.{IsOnlyKing, king_after}
 use Rattle.chess_laws.proofs.Kings.{king-only, king-stands}

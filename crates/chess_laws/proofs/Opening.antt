@@ -2,7 +2,8 @@
 use Rattle.std.proofs.Common.{◌≡◌, ℕ, zero, suc, ◌<◌, ◌⊎◌, inl, inr, ◌↔◌, IsTrue, Bool, true, false, ltb, Some, None, length, refl, sym, ◌∙◌, ap, arith}
 use Rattle.std.specs.Prelude.{Any}
 use Rattle.std.proofs.lemmas.Bool.{cases_Bool, cases_eq, false≢true}
-use Rattle.std.proofs.lemmas.Bool.Decides.{nat_tests}
+use Rattle.std.specs.Bool.{Decides}
+use Rattle.std.proofs.lemmas.Bool.Decides.{nat_tests, same_from_decides}
 use Rattle.cell_core.specs.declared.man.Colour.{Colour}
 use Rattle.cell_core.specs.declared.man.Kind.{Kind}
 use Rattle.cell_core.specs.declared.man.Kind.TheVariants.{King, Queen, Rook, Bishop, Knight, Pawn}
@@ -16,17 +17,19 @@ use Rattle.chess_laws.specs.declared.effect.Effect.TheVariants.{Plain, Double, P
 use Rattle.chess_laws.specs.Geometry.{Offset, Walk, Runs}
 use Rattle.chess_laws.specs.Attacks.{Attacks, Reaches, IsInCheck}
 use Rattle.chess_laws.specs.LegalTests.{IsOnlyKing, is_calm, glides, slides}
-use Rattle.chess_laws.specs.Checks.{Hits, in_check}
+use Rattle.chess_laws.specs.Keeps.{in_check}
 use Rattle.chess_laws.specs.Position.{Sound, king_square}
-use Rattle.chess_laws.specs.Rays.{Opens, Covers, glider, offset_at}
+use Rattle.chess_laws.specs.Rays.{Opens, Covers, Hits, glider, offset_at}
 use Rattle.chess_laws.specs.Step.{effect_of, arriving, moved, board_after, after, Case, Legal}
 use Rattle.chess_laws.proofs.Boards.{man-colour, on_board, other-other, put-same, put-other, length-put}
 use Rattle.chess_laws.proofs.Keeping.{arriving-lands, lands_as, moved-other, other-apart}
 use Rattle.chess_laws.proofs.Following.{case-on_board}
 use Rattle.chess_laws.proofs.MovedKings.{only-king-after, king-stays, resting-king, legal-allowed, Sound-after}
 use Rattle.chess_laws.proofs.Kings.{king-stands, king-only}
-use Rattle.chess_laws.proofs.Checks.{in_check-is, same-told}
+use Rattle.chess_laws.proofs.Deciding.{in_check-Decides}
 use Rattle.chess_laws.proofs.Lines.{any-slide, slide-any, line-walk}
+use Rattle.chess_laws.proofs.Running.{walk-ends}
+use Rattle.chess_laws.proofs.Walks.{reversed, walk-back}
 
 -- a walk after the move was one before it, or runs over the square that was left
 record Over (men new : Men) (o : Offset) (f a s : ℕ) : Type 0 where
@@ -66,6 +69,41 @@ slider men c Bishop row f is stands =
 slider men c Knight row f is stands = absurd (false≢true is)
 slider men c Pawn row f is stands = absurd (false≢true is)
 
+-- the step back of a row has a row, by which the same men slide
+record Turn (row : ℕ) : Type 0 where
+  back : ℕ
+  less : back < 8
+  is : offset_at back ≡ reversed (offset_at row)
+  glides : glider back ≡ glider row
+
+turn : (row : ℕ) → row < 8 → Turn row
+turn zero less = record { back = 1; less = omega arith; is = refl; glides = refl }
+turn (suc zero) less = record { back = 0; less = omega arith; is = refl; glides = refl }
+turn (suc (suc zero)) less = record { back = 3; less = omega arith; is = refl; glides = refl }
+turn (suc (suc (suc zero))) less = record { back = 2; less = omega arith; is = refl; glides = refl }
+turn (suc (suc (suc (suc zero)))) less = record { back = 7; less = omega arith; is = refl; glides = refl }
+turn (suc (suc (suc (suc (suc zero))))) less = record { back = 6; less = omega arith; is = refl; glides = refl }
+turn (suc (suc (suc (suc (suc (suc zero)))))) less = record { back = 5; less = omega arith; is = refl; glides = refl }
+turn (suc (suc (suc (suc (suc (suc (suc zero))))))) less = record { back = 4; less = omega arith; is = refl; glides = refl }
+turn (suc (suc (suc (suc (suc (suc (suc (suc row)))))))) less = absurd (omega arith)
+
+-- so a walk over the square that was left opens the line, seen from its end
+opens-over : (men new : Men) (c : Colour) (k : Kind) (row a f s : ℕ) → row < 8 → glides k row ≡ true → f < 64 → man_at men f ≡ Some (man c k) →
+    Over men new (offset_at row) f a s → Opens men c a s
+opens-over men new c k row a f s less is on_board stands over =
+    let o = offset_at row in
+    let t = turn row less in
+    let a_less : a < 64 = walk-ends men o over.before f a over.first in
+    let last : Walk new (offset_at t.back) over.behind s a = rw t.is (walk-back new o over.behind a s a_less over.last) in
+    let first : Walk men (offset_at t.back) over.before a f = rw t.is (walk-back men o over.before f a on_board over.first) in
+    let stood : (man_at men f ≡ Some (man c (glider t.back))) ⊎ (man_at men f ≡ Some (man c Queen)) = rw t.glides (slider men c k row f is stands) in
+    record {
+      row = t.back;
+      less = t.less;
+      on_line = line-walk new t.back over.behind s a t.less last;
+      slides = record { from = f; on_board = on_board; stands = stood; target = a_less; runs = (over.before, first) };
+    }
+
 slide-over : (men new : Men) (c : Colour) (k : Kind) (a f s : ℕ) → Empties men new a → f < 64 → man_at men f ≡ Some (man c k) →
     Any (Runs new f s) (slides k) → Any (Runs men f s) (slides k) ⊎ Opens men c a s
 slide-over men new c k a f s empties less stands any =
@@ -73,13 +111,7 @@ slide-over men new c k a f s empties less stands any =
     let o = offset_at slide.row in
     elim (walk-over men new o a slide.holds.0 f s empties slide.holds.1) [
       | inl was ↦ inl (slide-any k (Runs men f s) slide.row slide.less slide.glides (slide.holds.0, was))
-      | inr over ↦
-          inr (record {
-            row = slide.row;
-            less = slide.less;
-            on_line = line-walk new slide.row over.behind a s slide.less over.last;
-            slides = record { from = f; on_board = less; stands = slider men c k slide.row f slide.glides stands; runs = (over.before, over.first) };
-          })
+      | inr over ↦ inr (opens-over men new c k slide.row a f s slide.less slide.glides less stands over)
     ]
 
 -- a man that reached nothing before the move and stands where it stood reaches it over the square that was left
@@ -209,7 +241,7 @@ check-told p m s opened test sound legal is shut told =
     let stood : man_at p.board s ≡ Some (man (other p.side) King) = rw is (king-stands p.board (other p.side) (sound.kings (other p.side))) in
     let stands = resting-king p m e s sound stood refl case in
     let only = king-only men (other p.side) s (next.kings (other p.side)) stands in
-    same-told (IsInCheck men (other p.side)) test (in_check (after p m e)) (
+    let decides : Decides test (IsInCheck men (other p.side)) = (
       λ h. elim (told.0 h) [
         | inl hits ↦ (s, stands, rw (other-other p.side) (hits-attack men p.side m.to s next.squares hits))
         | inr full ↦ (s, stands, rw (other-other p.side) full.1)
@@ -231,4 +263,5 @@ check-told p m s opened test sound legal is shut told =
                   absurd (sound.not_in_check (s, stood, rw (other-other p.side) before))
             ]
           ],
-    ) (in_check-is (after p m e) next.kings)
+    ) in
+    same_from_decides test (in_check (after p m e)) decides (in_check-Decides men (other p.side))

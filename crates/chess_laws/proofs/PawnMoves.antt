@@ -1,5 +1,5 @@
 -- A pawn that goes neither in passing nor to be promoted makes a plain move or a double step to each of its targets.
-use Rattle.std.proofs.Common.{◌≡◌, ℕ, zero, suc, ◌+◌, inl, inr, Bool, true, false, ◌&&◌, not, is_none, refl, sym, ◌∙◌, ap, subst, arith}
+use Rattle.std.proofs.Common.{◌≡◌, ℕ, zero, suc, ◌+◌, inl, inr, Bool, true, false, ◌&&◌, not, is_none, Some, refl, sym, ◌∙◌, ap, subst, arith}
 use Rattle.std.specs.Prelude.{Any}
 use Rattle.std.proofs.lemmas.Bool.{ne_eqb, eq-eqb}
 use Rattle.cell_core.specs.declared.man.Colour.{Colour}
@@ -7,7 +7,7 @@ use Rattle.cell_core.specs.declared.man.Colour.TheVariants.{White, Black}
 use Rattle.cell_core.specs.declared.man.Kind.TheVariants.{Pawn}
 use Rattle.cell_core.specs.declared.step.Move.{Move}
 use Rattle.cell_core.specs.Board.{Men, man_at}
-use Rattle.cell_core.specs.Man.{other}
+use Rattle.cell_core.specs.Man.{man, other}
 use Rattle.chess_laws.specs.declared.setup.Setup.{Setup}
 use Rattle.chess_laws.specs.declared.effect.Effect.{Effect}
 use Rattle.chess_laws.specs.declared.effect.Effect.TheVariants.{Plain, Double}
@@ -15,6 +15,7 @@ use Rattle.chess_laws.specs.Geometry.{by, file_of, rank_of, forward, pawn_captur
 use Rattle.chess_laws.specs.Step.{changes_file, effect_as, effect_on, goes_two, last_rank, promotes_rightly, Case}
 use Rattle.chess_laws.specs.Targets.{Known, MayTake, PawnComes, PawnGoes, goes}
 use Rattle.chess_laws.proofs.Boards.{man-colour}
+use Rattle.chess_laws.proofs.Keeping.{other-apart}
 use Rattle.chess_laws.proofs.Shifts.{shift-Some}
 
 -- how many ranks forward a pawn goes
@@ -71,38 +72,34 @@ no-promotion p a b inside = rw (ne_eqb (rank_of b) (last_rank p.side) inside) re
 allowed-as : (p : Setup) (m : Move) (e : Effect) → effect_as Pawn p m ≡ e → Case p m e → Case p m (effect_as Pawn p m)
 allowed-as p m e is case = subst (Case p m) (sym is) case
 
-pawn-allowed : (p : Setup) (a b : ℕ) → PawnGoes p a b → PawnComes p a b → Case p (goes a b) (effect_as Pawn p (goes a b))
+pawn-allowed : (p : Setup) (a b : ℕ) → man_at p.board a ≡ Some (man p.side Pawn) → PawnGoes p b → PawnComes p a b → Case p (goes a b) (effect_as Pawn p (goes a b))
 unfolding MayTake
-pawn-allowed p a b h (inl step) =
+pawn-allowed p a b stands h (inl step) =
     allowed-as p (goes a b) Plain
     (plain-effect p (goes a b) (step-two p.side a b step.0) (and-first (changes_file (goes a b)) (is_none (man_at p.board b)) (step-file p.side a b step.0)))
-    (record { kind = Pawn; stands = h.stands; goes = inl step; promotes = no-promotion p a b h.inside })
-pawn-allowed p a b h (inr (inl double)) =
+    (record { kind = Pawn; stands = stands; goes = inl step; promotes = no-promotion p a b h.inside })
+pawn-allowed p a b stands h (inr (inl double)) =
     allowed-as p (goes a b) Double (double-effect p (goes a b) (double-two p.side p.board a b double.1.0))
-    (record { stands = h.stands; own_rank = double.0; walks = double.1.0; target = double.1.1; promo = refl })
-pawn-allowed p a b h (inr (inr (capture, inl enemy))) =
+    (record { stands = stands; own_rank = double.0; walks = double.1.0; target = double.1.1; promo = refl })
+pawn-allowed p a b stands h (inr (inr (capture, inl enemy))) =
     allowed-as p (goes a b) Plain
     (plain-effect p (goes a b) (capture-two p.side a b capture) (and-second (changes_file (goes a b)) (is_none (man_at p.board b)) (ap is_none enemy.1)))
-    (record { kind = Pawn; stands = h.stands; goes = inr (capture, enemy); promotes = no-promotion p a b h.inside })
-pawn-allowed p a b h (inr (inr (capture, inr passing))) = absurd (h.apart passing)
+    (record { kind = Pawn; stands = stands; goes = inr (capture, enemy); promotes = no-promotion p a b h.inside })
+pawn-allowed p a b stands h (inr (inr (capture, inr passing))) = absurd (h.apart passing)
 
-other-apart : (c : Colour) → other c ≡ c → ⊥
-other-apart White e = absurd (cc)
-other-apart Black e = absurd (cc)
-
-pawn-leaves : (p : Setup) (a b : ℕ) → PawnGoes p a b → PawnComes p a b → b ≡ a → ⊥
+pawn-leaves : (p : Setup) (a b : ℕ) → man_at p.board a ≡ Some (man p.side Pawn) → PawnGoes p b → PawnComes p a b → b ≡ a → ⊥
 unfolding MayTake
-pawn-leaves p a b h (inl step) same = let e = sym step.1 ∙ ap (man_at p.board) same ∙ h.stands in absurd (cc)
-pawn-leaves p a b h (inr (inl double)) same = let e = sym double.1.1 ∙ ap (man_at p.board) same ∙ h.stands in absurd (cc)
-pawn-leaves p a b h (inr (inr (capture, inl enemy))) same =
-    let e = sym enemy.1 ∙ ap (man_at p.board) same ∙ h.stands in
+pawn-leaves p a b stands h (inl step) same = let e = sym step.1 ∙ ap (man_at p.board) same ∙ stands in absurd (cc)
+pawn-leaves p a b stands h (inr (inl double)) same = let e = sym double.1.1 ∙ ap (man_at p.board) same ∙ stands in absurd (cc)
+pawn-leaves p a b stands h (inr (inr (capture, inl enemy))) same =
+    let e = sym enemy.1 ∙ ap (man_at p.board) same ∙ stands in
     other-apart p.side (sym (man-colour (other p.side) p.side enemy.0 Pawn e))
-pawn-leaves p a b h (inr (inr (capture, inr passing))) same = h.apart passing
+pawn-leaves p a b stands h (inr (inr (capture, inr passing))) same = h.apart passing
 
-pub pawn-known : (p : Setup) (a b : ℕ) → PawnGoes p a b → PawnComes p a b → Known p a b (effect_as Pawn p (goes a b))
-pawn-known p a b h comes = record {
-  effect = sym (ap (λ o. effect_on o p (goes a b)) h.stands);
-  allowed = pawn-allowed p a b h comes;
-  leaves = pawn-leaves p a b h comes;
+pub pawn-known : (p : Setup) (a b : ℕ) → man_at p.board a ≡ Some (man p.side Pawn) → PawnGoes p b → PawnComes p a b → Known p a b (effect_as Pawn p (goes a b))
+pawn-known p a b stands h comes = record {
+  effect = sym (ap (λ o. effect_on o p (goes a b)) stands);
+  allowed = pawn-allowed p a b stands h comes;
+  leaves = pawn-leaves p a b stands h comes;
   plain = λ may. h.inside may.last;
 }

@@ -3,7 +3,7 @@ use Rattle.std.proofs.Common.{◌≡◌, ℕ, ◌<◌, true, List, Option, Some,
 use Rattle.std.specs.Prelude.{SomeIff}
 use Rattle.std.proofs.lemmas.Bool.{agree_below, agree_below_at, eqb-true, leb-true}
 use Rattle.chess_laws.specs.Geometry.{shift}
-use Rattle.chess_laws.specs.Rays.{offset_at, reversed, entry, is_named, names_all, target_by, origin_by}
+use Rattle.chess_laws.specs.Rays.{offset_at, entry, is_named, names_all, target_by}
 use Rattle.chess_laws.proofs.Walks.{shift-on_board}
 
 named : (x y : Option ℕ) (t : ℕ) → ((z : ℕ) → y ≡ Some z → z < 64) → is_named y t ≡ true → SomeIff x (t < 64) t → x ≡ y
@@ -13,18 +13,10 @@ named None (Some a) t board h iff = absurd (iff (rw (eqb-true t a h) (board a re
 named (Some x) (Some a) t board h iff = ap Some (iff.1 ∙ eqb-true t a h)
 
 -- so a square that is read from the table is the one that is meant
-named_by : (f : ℕ → ℕ → Option ℕ) (table : List (List ℕ)) (row s : ℕ) (x : Option ℕ) → SomeIff x (entry table row s < 64) (entry table row s) →
-    names_all f table ≡ true → ((z : ℕ) → f row s ≡ Some z → z < 64) → row < 16 → s < 64 → x ≡ f row s
-unfolding names_all
-named_by f table row s x iff all board row_less s_less =
-    let rows = agree_below_at (λ row. agree_below (λ s. is_named (f row s) (entry table row s)) (λ s. true) 64) (λ row. true) 16 row all row_less in
-    let here = agree_below_at (λ s. is_named (f row s) (entry table row s)) (λ s. true) 64 s rows s_less in
-    named x (f row s) (entry table row s) board here iff
-
 pub target-named : (table : List (List ℕ)) (row s : ℕ) (x : Option ℕ) → SomeIff x (entry table row s < 64) (entry table row s) →
-    names_all target_by table ≡ true → row < 16 → s < 64 → x ≡ shift (offset_at row) s
-target-named table row s x iff all row_less s_less = named_by target_by table row s x iff all (shift-on_board (offset_at row) s) row_less s_less
-
-pub origin-named : (table : List (List ℕ)) (row s : ℕ) (x : Option ℕ) → SomeIff x (entry table row s < 64) (entry table row s) →
-    names_all origin_by table ≡ true → row < 16 → s < 64 → x ≡ shift (reversed (offset_at row)) s
-origin-named table row s x iff all row_less s_less = named_by origin_by table row s x iff all (shift-on_board (reversed (offset_at row)) s) row_less s_less
+    names_all table ≡ true → row < 16 → s < 64 → x ≡ shift (offset_at row) s
+unfolding names_all
+target-named table row s x iff all row_less s_less =
+    let rows = agree_below_at (λ row. agree_below (λ s. is_named (target_by row s) (entry table row s)) (λ s. true) 64) (λ row. true) 16 row all row_less in
+    let here = agree_below_at (λ s. is_named (target_by row s) (entry table row s)) (λ s. true) 64 s rows s_less in
+    named x (target_by row s) (entry table row s) (shift-on_board (offset_at row) s) here iff

@@ -38,6 +38,11 @@ run-blocked men o i a b c answer less step other full before =
     let left : 8 - i ≡ suc (8 - (i + 1)) = omega arith in
     rw (left, run-one men o (8 - (i + 1)) a b, ← step, other, not_none (man_at men c) full) at before
 
+pub run-ended : (men : Men) (o : Offset) (i a b : ℕ) (answer : Bool) → i < 8 → shift o a ≡ None → run men o (8 - i) b a ≡ answer → false ≡ answer
+run-ended men o i a b answer less edge before =
+    let left : 8 - i ≡ suc (8 - (i + 1)) = omega arith in
+    rw (left, run-one men o (8 - (i + 1)) a b, edge) at before
+
 and-none : (x : Option Man) (further : Bool) → (is_none x && further) ≡ true → (x ≡ None) × (further ≡ true)
 and-none None true h = (refl, refl)
 and-none None false h = absurd (cc)

@@ -9,5 +9,5 @@ pub mod LegalTests
 pub mod Moves
 pub mod Targets
 pub mod LegalNow
-pub mod Checks
+pub mod Keeps
 pub mod Ways

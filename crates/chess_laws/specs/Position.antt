@@ -1,7 +1,6 @@
 -- What a position is, and the rules that every position keeps.
 use Rattle.std.specs.Prelude.{◌≡◌, ℕ, ◌+◌, ◌/◌, ◌%◌, ◌^◌, ◌<◌, ◌≤◌, ◌==◌, ◌&&◌, ◌++◌, List, Bool, true, if◌then◌else◌, IsTrue, [], ◌∷◌, Option, Some, None, is_none, length, replicate, count_by}
 use Rattle.std.specs.List.{position_or_len}
-use Rattle.std.proofs.Common.{sym}
 use Rattle.cell_core.specs.declared.man.Colour.{Colour}
 use Rattle.cell_core.specs.declared.man.Colour.TheVariants.{White, Black}
 use Rattle.cell_core.specs.declared.man.Kind.TheVariants.{King, Queen, Rook, Bishop, Knight, Pawn}
@@ -15,8 +14,6 @@ use Rattle.chess_laws.specs.declared.fault.PlaceFault.{PlaceFault}
 use Rattle.chess_laws.specs.declared.fault.PlaceFault.TheVariants.{Kings, Pawns, TooMany, InCheck, EnPassant}
 use Rattle.chess_laws.specs.Geometry.{rank_of}
 use Rattle.chess_laws.specs.Attacks.{IsInCheck}
-use Rattle.chess_laws.specs.Checks.{in_check}
-use Rattle.chess_laws.specs.Counts.{counts_of}
 use Rattle.chess_laws.specs.Castling.{StandAtHome, has_right, king_home, rook_home}
 
 -- The first square with the king of this colour.
@@ -124,17 +121,3 @@ has_all_rights r = r.white_king_side && (r.white_queen_side && (r.black_king_sid
 -- Whether it is the initial position: its men, White to move, all four rights and no en passant square.
 unfoldable pub is_start : Setup → Bool
 is_start p = same_men p.board start_men && (same_colour p.side White && (has_all_rights p.rights && is_none p.en_passant))
-
--- What is kept beside a position: it keeps the rules, these are the kings' squares and the ten counts, and the side to move
--- is in check or not.
-pub record Keeps (p : Setup) (white black : ℕ) (checked : Bool) (counts : List ℕ) : Type 0 where
-  pub sound : Sound p
-  pub white_king : white ≡ king_square p.board White
-  pub black_king : black ≡ king_square p.board Black
-  pub check : checked ≡ in_check p
-  pub census : counts ≡ counts_of p.board
-
--- All of it follows from the setup, so a position is its setup.
-pub inverse_Keeps : (p : Setup) (white black : ℕ) (checked : Bool) (counts : List ℕ) → Keeps p white black checked counts →
-    (king_square p.board White ≡ white) × ((king_square p.board Black ≡ black) × ((in_check p ≡ checked) × (counts_of p.board ≡ counts)))
-inverse_Keeps p white black checked counts h = (sym h.white_king, (sym h.black_king, (sym h.check, sym h.census)))

@@ -1,4 +1,4 @@
--- What the code walks: from the target of an attack back to the attacker. No public contract cites these words.
+-- What the code walks: from the square that is attacked to the attacker. No public contract cites these words.
 use Rattle.std.specs.Prelude.{◌≡◌, ℕ, zero, suc, ◌<◌, ◌⊎◌, Bool, ◌&&◌, ◌==◌, nat_le, nat_lt, if◌then◌else◌, List, [], ◌++◌, slice_index_or, Option, Some, None}
 use Rattle.std.specs.List.{position_or_len}
 use Rattle.std.proofs.Common.{true, eqb, refl}
@@ -10,7 +10,7 @@ use Rattle.cell_core.specs.declared.man.Man.{Man}
 use Rattle.cell_core.specs.Board.{Men, man_at}
 use Rattle.cell_core.specs.Man.{man, other}
 use Rattle.chess_laws.specs.declared.setup.Setup.{Setup}
-use Rattle.chess_laws.specs.Attacks.{IsInCheck}
+use Rattle.chess_laws.specs.Attacks.{IsInCheck, Reaches}
 use Rattle.chess_laws.specs.LegalTests.{line}
 use Rattle.chess_laws.specs.Geometry.{Offset, by, king_steps, knight_steps, shift, Leaps, Runs}
 
@@ -32,11 +32,7 @@ row_of o = position_or_len (same_offset o) offsets
 pub row_back : (row : ℕ) → row < 16 → row_of (offset_at row) ≡ row
 row_back row less = eqb-true (row_of (offset_at row)) row (agree_below_at (λ n. eqb (row_of (offset_at n)) n) (λ n. true) 16 row refl less)
 
--- The step back.
-abbrev pub reversed : Offset → Offset
-reversed o = record { right = o.left; left = o.right; up = o.down; down = o.up }
-
--- The first man that is met from s on, at most so many equal steps back.
+-- The first man that is met from s on, at most so many equal steps away.
 abbrev pub met_on : Option Man → Option Man → Option Man
 met_on None further = further
 met_on (Some m) further = Some m
@@ -47,28 +43,27 @@ met_at men (Some a) further = met_on (man_at men a) (further a)
 
 unfoldable pub met : Men → Offset → ℕ → ℕ → Option Man
 met men o zero s = None
-met men o (suc n) s = met_at men (shift (reversed o) s) (met men o n)
+met men o (suc n) s = met_at men (shift o s) (met men o n)
 
--- This man stands where the step leads to s.
+-- This man stands where the step leads from s.
 pub record LeapsFrom (men : Men) (m : Man) (s : ℕ) (o : Offset) : Type 0 where
   pub from : ℕ
   pub on_board : from < 64
   pub stands : man_at men from ≡ Some m
-  pub leaps : Leaps from s o
+  pub target : s < 64
+  pub leaps : Leaps s from o
 
--- Such a man, or a queen, stands where equal steps lead to s over empty squares.
+-- Such a man, or a queen, stands where equal steps lead from s over empty squares.
 pub record SlidesFrom (men : Men) (c : Colour) (k : Kind) (s : ℕ) (o : Offset) : Type 0 where
   pub from : ℕ
   pub on_board : from < 64
   pub stands : (man_at men from ≡ Some (man c k)) ⊎ (man_at men from ≡ Some (man c Queen))
-  pub runs : Runs men from s o
+  pub target : s < 64
+  pub runs : Runs men s from o
 
--- Where the step of a row leads, and where it comes from.
+-- Where the step of a row leads.
 abbrev pub target_by : ℕ → ℕ → Option ℕ
 target_by row s = shift (offset_at row) s
-
-abbrev pub origin_by : ℕ → ℕ → Option ℕ
-origin_by row s = shift (reversed (offset_at row)) s
 
 -- What a table says of a row and a square.
 abbrev pub entry : List (List ℕ) → ℕ → ℕ → ℕ
@@ -80,8 +75,8 @@ is_named None t = nat_le 64 t
 is_named (Some a) t = t == a
 
 -- Whether a table says so of each row and square.
-unfoldable pub names_all : (ℕ → ℕ → Option ℕ) → List (List ℕ) → Bool
-names_all f table = agree_below (λ row. agree_below (λ s. is_named (f row s) (entry table row s)) (λ s. true) 64) (λ row. true) 16
+unfoldable pub names_all : List (List ℕ) → Bool
+names_all table = agree_below (λ row. agree_below (λ s. is_named (target_by row s) (entry table row s)) (λ s. true) 64) (λ row. true) 16
 
 -- What slides by the step of a row besides a queen.
 abbrev pub glider : ℕ → Kind
@@ -91,7 +86,7 @@ glider row = if nat_lt row 4 then Rook else Bishop
 pub record Opens (men : Men) (c : Colour) (a s : ℕ) : Type 0 where
   pub row : ℕ
   pub less : row < 8
-  pub on_line : line a s ≡ Some row
+  pub on_line : line s a ≡ Some row
   pub slides : SlidesFrom men c (glider row) a (offset_at row)
 
 -- Another man than the mover's king stands on the square, and opens no line to it.
@@ -103,3 +98,9 @@ pub record Covers (p : Setup) (king a : ℕ) : Type 0 where
 pub record Shut (p : Setup) (king a : ℕ) : Type 0 where
   pub unchecked : IsInCheck p.board p.side → ⊥
   pub covers : Covers p king a
+
+-- A man of this colour stands on a and reaches b.
+pub record Hits (men : Men) (c : Colour) (a b : ℕ) : Type 0 where
+  pub kind : Kind
+  pub stands : man_at men a ≡ Some (man c kind)
+  pub reaches : Reaches men c kind a b

@@ -12,7 +12,7 @@ use Rattle.cell_core.specs.Board.{man_at}
 use Rattle.cell_core.specs.Man.{man}
 use Rattle.chess_laws.specs.LegalTests.{IsEnemyOn}
 use Rattle.chess_laws.specs.declared.effect.Effect.{Effect}
-use Rattle.chess_laws.specs.Step.{effect_of, last_rank, pawn_rank, Case, HasNoOwn}
+use Rattle.chess_laws.specs.Step.{effect_of, last_rank, pawn_rank, Case, CastleCase, HasNoOwn}
 use Rattle.chess_laws.specs.Castling.{king_home, king_target}
 use Rattle.chess_laws.specs.Moves.{IsMove, place_of, Ascends}
 
@@ -20,9 +20,13 @@ use Rattle.chess_laws.specs.Moves.{IsMove, place_of, Ascends}
 abbrev pub Has : SquareSet → ℕ → Type 0
 Has set s = bit_at set.bits s ≡ 1
 
+-- The move from a to b that names no promotion.
+abbrev pub goes : ℕ → ℕ → Move
+goes a b = record { from = a; to = b; promo = None }
+
 -- A king castles from a to b.
 abbrev pub CastlesTo : Setup → ℕ → ℕ → Type 0
-CastlesTo p a b = (a ≡ king_home p.side) × ((wing : Wing) × (b ≡ king_target p.side wing))
+CastlesTo p a b = (a ≡ king_home p.side) × ((wing : Wing) × ((b ≡ king_target p.side wing) × CastleCase p (goes a (king_target p.side wing)) wing))
 
 -- A pawn comes from a to b: one square forward, or two from its own rank, to an empty one, or diagonally to an enemy or in
 -- passing.
@@ -37,7 +41,7 @@ PawnComes p a b =
     (Leaps a b (forward p.side) × (man_at p.board b ≡ None))
     ⊎ (DoublesTo p a b ⊎ (Any (Leaps a b) (pawn_captures p.side) × MayTake p b))
 
--- A man of the side to move and of this kind comes from a to b by some legal move, whatever else that needs.
+-- A man of the side to move and of this kind comes from a to b, whatever becomes of its king.
 abbrev pub Comes : Setup → Kind → ℕ → ℕ → Type 0
 Comes p King a b = (Any (Leaps a b) king_steps × HasNoOwn p.board p.side b) ⊎ CastlesTo p a b
 Comes p Queen a b = Any (Runs p.board a b) (rook_steps ++ bishop_steps) × HasNoOwn p.board p.side b
@@ -45,28 +49,6 @@ Comes p Rook a b = Any (Runs p.board a b) rook_steps × HasNoOwn p.board p.side 
 Comes p Bishop a b = Any (Runs p.board a b) bishop_steps × HasNoOwn p.board p.side b
 Comes p Knight a b = Any (Leaps a b) knight_steps × HasNoOwn p.board p.side b
 Comes p Pawn a b = PawnComes p a b
-
--- Whether it is a queen, a rook, a bishop or a knight.
-abbrev pub is_officer : Kind → Bool
-is_officer King = false
-is_officer Queen = true
-is_officer Rook = true
-is_officer Bishop = true
-is_officer Knight = true
-is_officer Pawn = false
-
--- A queen, a rook, a bishop or a knight of the side to move stands on a.
-pub record HasOfficer (p : Setup) (a : ℕ) : Type 0 where
-  pub kind : Kind
-  pub officer : is_officer kind ≡ true
-  pub stands : man_at p.board a ≡ Some (man p.side kind)
-
--- Such a man comes from a to b.
-pub record OfficerComes (p : Setup) (a b : ℕ) : Type 0 where
-  pub kind : Kind
-  pub officer : is_officer kind ≡ true
-  pub stands : man_at p.board a ≡ Some (man p.side kind)
-  pub comes : Comes p kind a b
 
 -- The list has the moves whose place is below n, each once and in order, and nothing else, and at most so many fit.
 pub record ListsBelow (p : Setup) (room n : ℕ) (ms : List Move) : Type 0 where
@@ -85,15 +67,19 @@ pub record MayPromote (p : Setup) (a b : ℕ) : Type 0 where
   pub stands : man_at p.board a ≡ Some (man p.side Pawn)
   pub last : rank_of b ≡ last_rank p.side
 
--- A pawn of the side to move stands on a, and goes to b neither in passing nor to be promoted.
-pub record PawnGoes (p : Setup) (a b : ℕ) : Type 0 where
-  pub stands : man_at p.board a ≡ Some (man p.side Pawn)
+-- A pawn that comes to b is not promoted, and captures nothing in passing.
+pub record PawnGoes (p : Setup) (b : ℕ) : Type 0 where
   pub apart : p.en_passant ≡ Some b → ⊥
   pub inside : rank_of b ≡ last_rank p.side → ⊥
 
--- The move from a to b that names no promotion.
-abbrev pub goes : ℕ → ℕ → Move
-goes a b = record { from = a; to = b; promo = None }
+-- A man of this kind that comes to b makes one move, of which its rule is known.
+abbrev pub IsKnown : Setup → Kind → ℕ → Type 0
+IsKnown p King b = Unit {0}
+IsKnown p Queen b = Unit {0}
+IsKnown p Rook b = Unit {0}
+IsKnown p Bishop b = Unit {0}
+IsKnown p Knight b = Unit {0}
+IsKnown p Pawn b = PawnGoes p b
 
 -- This move is of this kind and allowed by its rules, it leaves its square, and no other leads from a to b.
 pub record Known (p : Setup) (a b : ℕ) (e : Effect) : Type 0 where

@@ -13,7 +13,7 @@ spread s = s + 8 * (s / 8)
 
 -- What a table says of the way from a to b.
 abbrev pub way : List ℕ → ℕ → ℕ → ℕ
-way table a b = slice_index_or table (119 + spread b - spread a) 0
+way table a b = slice_index_or table (119 - spread a + spread b) 0
 
 -- Whether a number is the row of a queen's step, or none of them where there is no such step.
 abbrev pub is_row : Option ℕ → ℕ → Bool

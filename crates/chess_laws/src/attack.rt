@@ -4,7 +4,7 @@ ghost use Rattle.chess_laws.specs.Attacks.{Attacks};
 ghost use Rattle.chess_laws.specs.Geometry.{pawn_captures};
 ghost use Rattle.chess_laws.specs.Rays.{glider, met, offset_at, LeapsFrom, Opens, SlidesFrom};
 ghost use Rattle.cell_core.specs.Board.{man_at};
-ghost use Rattle.cell_core.specs.Man.{man};
+ghost use Rattle.cell_core.specs.Man.{man, other};
 ghost use Rattle.cell_core.specs.declared.man.Kind.TheVariants.{Pawn, Queen};
 
 use super::offset::{
@@ -32,28 +32,28 @@ pub fn attacks(board: &Board, by: Colour, s: Square) -> bool
     leaps(board, by, Kind::King, &KING_STEPS, s)
 }
 
-/// Whether a pawn of the colour attacks the square.
+/// Whether a pawn of the colour attacks the square: it stands where a pawn of the other colour would capture from there.
 fn pawn_attacks(board: &Board, by: Colour, s: Square) -> bool
-    ensures { IsTrue result ↔ Any (LeapsFrom board.now (man by Pawn) s) (pawn_captures by) }
+    ensures { IsTrue result ↔ Any (LeapsFrom board.now (man by Pawn) s) (pawn_captures (other by)) }
 {
     match by {
-        Colour::White => leaps(board, by, Kind::Pawn, &WHITE_CAPTURES, s),
-        Colour::Black => leaps(board, by, Kind::Pawn, &BLACK_CAPTURES, s),
+        Colour::White => leaps(board, by, Kind::Pawn, &BLACK_CAPTURES, s),
+        Colour::Black => leaps(board, by, Kind::Pawn, &WHITE_CAPTURES, s),
     }
 }
 
-/// Whether such a man stands where one of the steps leads to `s`.
+/// Whether such a man stands where one of the steps leads from `s`.
 fn leaps(board: &Board, by: Colour, kind: Kind, steps: &[Offset], s: Square) -> bool
     ensures { IsTrue result ↔ Any (LeapsFrom board.now (man by kind) s) steps.now }
 {
     steps.iter().any(|step| leaps_by(board, by, kind, step, s))
 }
 
-/// Whether such a man stands where this step leads to `s`.
+/// Whether such a man stands where this step leads from `s`.
 fn leaps_by(board: &Board, by: Colour, kind: Kind, step: &Offset, s: Square) -> bool
     ensures { IsTrue result ↔ LeapsFrom board.now (man by kind) s step.now }
 {
-    match step.origin(s) {
+    match step.target(s) {
         Some(from) => stands(board, from, by, kind),
         None => false,
     }
@@ -66,14 +66,14 @@ pub(crate) fn stands(board: &Board, from: Square, colour: Colour, kind: Kind) ->
     board.at(from) == Some(Man { colour, kind })
 }
 
-/// Whether such a man, or a queen, stands where equal steps lead to `s` over empty squares.
+/// Whether such a man, or a queen, stands where equal steps lead from `s` over empty squares.
 fn slides(board: &Board, by: Colour, kind: Kind, steps: &[Offset], s: Square) -> bool
     ensures { IsTrue result ↔ Any (SlidesFrom board.now by kind s) steps.now }
 {
     steps.iter().any(|step| slides_by(board, by, kind, step, s))
 }
 
-/// Whether such a man, or a queen, stands where equal steps of this one lead to `s` over empty squares.
+/// Whether such a man, or a queen, stands where equal steps of this one lead from `s` over empty squares.
 fn slides_by(board: &Board, by: Colour, kind: Kind, step: &Offset, s: Square) -> bool
     ensures { IsTrue result ↔ SlidesFrom board.now by kind s step.now }
 {
@@ -90,17 +90,17 @@ fn is_slider(standing: Man, by: Colour, kind: Kind) -> bool
     standing.colour == by && (standing.kind == kind || standing.kind == Kind::Queen)
 }
 
-/// The first man that is met from `s` on, going back by equal steps. At most six squares lie between two others.
+/// The first man that is met from `s` on, going by equal steps.
 fn first_met(board: &Board, step: &Offset, s: Square) -> Option<Man>
-    ensures met { result ≡ met board.now step.now 7 s }
+    ensures met { result ≡ met board.now step.now 8 s }
     ensures on_board { s < 64 }
 {
-    let mut at = step.origin(s)?;
-    for _i in 0..6u8 {
+    let mut at = step.target(s)?;
+    for _i in 0..7u8 {
         if let Some(standing) = board.at(at) {
             return Some(standing);
         }
-        at = step.origin(at)?;
+        at = step.target(at)?;
     }
     board.at(at)
 }
@@ -109,13 +109,13 @@ fn first_met(board: &Board, step: &Offset, s: Square) -> Option<Man>
 pub fn opens(board: &Board, by: Colour, from: Square, s: Square) -> bool
     ensures { IsTrue result ↔ Opens board.now by from s }
 {
-    match line(from, s) {
+    match line(s, from) {
         None => false,
         Some(row) => slides_along(board, by, row, from),
     }
 }
 
-// Whether a man of this colour slides to the square by the step of this row.
+// Whether a man of this colour slides to the square from where the step of this row leads.
 fn slides_along(board: &Board, by: Colour, row: u8, s: Square) -> bool
     requires row { row < 8 }
     ensures { IsTrue result ↔ SlidesFrom board.now by (glider row) s (offset_at row) }

@@ -2,7 +2,6 @@
 ghost use Rattle.std.specs.Prelude.{◌≡◌, ◌↔◌, ◌<◌, IsTrue, Any, Some, None, true};
 ghost use Rattle.cell_core.specs.Board.{man_at};
 ghost use Rattle.cell_core.specs.Man.{man, other};
-ghost use Rattle.cell_core.specs.declared.man.Kind.TheVariants.{Pawn};
 ghost use Rattle.chess_laws.specs.Geometry.{forward, king_steps, pawn_captures, rank_of, Leaps, Runs, Walk};
 ghost use Rattle.chess_laws.specs.Attacks.{Reaches, IsInCheck};
 ghost use Rattle.chess_laws.specs.LegalTests.{IsOnlyKing, MayCastle, glides, run, slides, IsEnemyOn};
@@ -124,7 +123,7 @@ fn may_become(promo: Option<Kind>) -> bool
 fn is_double(p: &Setup, m: &Move) -> bool
     ensures { IsTrue result ↔ DoubleCase p.now m.now }
 {
-    has_own(p, Kind::Pawn, m.from)
+    stands(&p.board, m.from, p.side, Kind::Pawn)
         && is_on_own_rank(p.side, m.from)
         && walks_two(&p.board, p.side, m.from, m.to)
         && p.board.at(m.to).is_none()
@@ -160,7 +159,7 @@ fn is_passing(p: &Setup, m: &Move) -> bool
         colour: p.side.other(),
         kind: Kind::Pawn,
     };
-    has_own(p, Kind::Pawn, m.from)
+    stands(&p.board, m.from, p.side, Kind::Pawn)
         && pawn_takes(p.side, m.from, m.to)
         && p.en_passant == Some(m.to)
         && p.board.at(m.to).is_none()
@@ -169,7 +168,7 @@ fn is_passing(p: &Setup, m: &Move) -> bool
 }
 
 /// Whether it is castling on this wing.
-fn is_castling(p: &Setup, m: &Move, wing: Wing) -> bool
+pub fn is_castling(p: &Setup, m: &Move, wing: Wing) -> bool
     ensures { IsTrue result ↔ CastleCase p.now m.now wing }
 {
     may_castle(p, m, wing) && is_path_safe(&p.board, p.side, wing)
@@ -179,7 +178,7 @@ fn is_castling(p: &Setup, m: &Move, wing: Wing) -> bool
 fn may_castle(p: &Setup, m: &Move, wing: Wing) -> bool
     ensures { IsTrue result ↔ MayCastle p.now m.now wing }
 {
-    has_own(p, Kind::King, m.from)
+    stands(&p.board, m.from, p.side, Kind::King)
         && has_right(&p.rights, p.side, wing)
         && m.promo.is_none()
         && is_way_free(&p.board, p.side, wing)
@@ -190,7 +189,7 @@ fn is_null(p: &Setup, king: Square, m: &Move) -> bool
     requires king { IsOnlyKing p.now.board p.now.side king }
     ensures { IsTrue result ↔ NullCase p.now m.now }
 {
-    has_own(p, Kind::King, m.from)
+    stands(&p.board, m.from, p.side, Kind::King)
         && m.to == m.from
         && m.promo.is_none()
         && !is_in_check(&p.board, p.side, king)
@@ -202,13 +201,6 @@ pub fn is_in_check(board: &Board, colour: Colour, king: Square) -> bool
     ensures { IsTrue result ↔ IsInCheck board.now colour }
 {
     attacks(board, colour.other(), king)
-}
-
-/// Whether one of the mover's men of this kind stands on the square.
-pub fn has_own(p: &Setup, kind: Kind, s: Square) -> bool
-    ensures { IsTrue result ↔ (man_at p.now.board s ≡ Some (man p.now.side kind)) }
-{
-    stands(&p.board, s, p.side, kind)
 }
 
 /// A pawn's way.
@@ -226,8 +218,8 @@ fn pawn_takes(colour: Colour, from: Square, to: Square) -> bool
     ensures { IsTrue result ↔ Any (Leaps from to) (pawn_captures colour) }
 {
     match colour {
-        Colour::White => leaps(&WHITE_CAPTURES, from, to),
-        Colour::Black => leaps(&BLACK_CAPTURES, from, to),
+        Colour::White => leads(&WHITE_CAPTURES, from, to),
+        Colour::Black => leads(&BLACK_CAPTURES, from, to),
     }
 }
 
@@ -249,19 +241,19 @@ fn adjoins(from: Square, to: Square) -> bool
 {
     match line(from, to) {
         None => false,
-        Some(row) => leaps_by(&Offset::of_row(row), from, to),
+        Some(row) => leads_by(&Offset::of_row(row), from, to),
     }
 }
 
 /// Whether one of the steps leads from one square to the other.
-fn leaps(steps: &[Offset], from: Square, to: Square) -> bool
+fn leads(steps: &[Offset], from: Square, to: Square) -> bool
     ensures { IsTrue result ↔ Any (Leaps from to) steps.now }
 {
-    steps.iter().any(|step| leaps_by(step, from, to))
+    steps.iter().any(|step| leads_by(step, from, to))
 }
 
 /// Whether this step leads from one square to the other.
-fn leaps_by(step: &Offset, from: Square, to: Square) -> bool
+fn leads_by(step: &Offset, from: Square, to: Square) -> bool
     ensures { IsTrue result ↔ Leaps from to step.now }
 {
     step.target(from) == Some(to)

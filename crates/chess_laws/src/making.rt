@@ -3,11 +3,11 @@ ghost use Rattle.std.specs.Prelude.{◌≡◌, ◌↔◌, ◌⊎◌, ◌&&◌, I
 ghost use Rattle.std.specs.Bool.{OnFalse, OnTrue};
 ghost use Rattle.cell_core.specs.Man.{other};
 ghost use Rattle.chess_laws.specs.Attacks.{Attacks, IsInCheck};
-ghost use Rattle.chess_laws.specs.Checks.{Hits, in_check};
 ghost use Rattle.chess_laws.specs.Counts.{counts_of, fewer};
+ghost use Rattle.chess_laws.specs.Keeps.{in_check};
 ghost use Rattle.chess_laws.specs.LegalTests.{is_calm, takes_target};
 ghost use Rattle.chess_laws.specs.Position.{Sound, king_square};
-ghost use Rattle.chess_laws.specs.Rays.{Opens};
+ghost use Rattle.chess_laws.specs.Rays.{Hits, Opens};
 ghost use Rattle.chess_laws.specs.Step.{after, effect_of, Legal};
 
 use super::attack::{attacks, opens};

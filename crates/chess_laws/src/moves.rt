@@ -1,5 +1,5 @@
 //! Every legal move of a position, in order.
-ghost use Rattle.std.specs.Prelude.{◌≡◌, ◌↔◌, ◌+◌, ◌*◌, ◌<◌, ◌≤◌, IsTrue, Some, []};
+ghost use Rattle.std.specs.Prelude.{◌≡◌, ◌↔◌, ◌+◌, ◌*◌, ◌<◌, ◌≤◌, ◌++◌, ◌∷◌, IsTrue, MatchOption, Some, [], length};
 ghost use Rattle.cell_core.specs.Board.{man_at};
 ghost use Rattle.cell_core.specs.Man.{man};
 ghost use Rattle.std.specs.Bool.{OnTrue, OnFalse};
@@ -9,12 +9,12 @@ ghost use Rattle.chess_laws.specs.LegalTests.{IsOnlyKing};
 ghost use Rattle.chess_laws.specs.Position.{Sound};
 ghost use Rattle.chess_laws.specs.Rays.{Shut};
 ghost use Rattle.chess_laws.specs.Moves.{HasMoreMoves, IsMove, ListsMoves, place_of, promotion_number};
-ghost use Rattle.chess_laws.specs.Targets.{Comes, HasOfficer, Known, ListsBelow, ListsBefore, MayPromote, OfficerComes, PawnGoes, is_officer};
+ghost use Rattle.chess_laws.specs.Targets.{Comes, IsKnown, ListsBelow, ListsBefore, MayPromote};
 
-use super::cases::{has_own, last_rank};
-use super::effect::Effect;
+use super::attack::stands;
+use super::cases::last_rank;
 use super::legal::{is_legal_allowed, is_legal_from, is_shut};
-use super::next::{effect_of, pawn_effect};
+use super::next::{effect_as, effect_of};
 use super::position::Position;
 use super::setup::Setup;
 use super::targets::targets;
@@ -123,15 +123,17 @@ fn list_from<const N: usize>(
     ensures listed { OnTrue result (ListsBelow p.now N (512 * (from + 1)) into.new.items) }
     ensures many { OnFalse result (HasMoreMoves p.now N) }
 {
-    let targets = targets(p, from);
+    let Some(kind) = own_kind(p, from) else {
+        return true;
+    };
+    let targets = targets(p, kind, from);
     if targets.is_empty() {
         return true;
     }
     let shut = is_shut(p, king, checked, from);
-    let officer = has_officer(p, from);
     let mut at = 0u8;
     while let Some(to) = targets.next(at) {
-        if !list_to(p, king, shut, officer, from, to, into) {
+        if !list_to(p, king, shut, kind, from, to, into) {
             return false;
         }
         at = to.index() + 1;
@@ -139,13 +141,23 @@ fn list_from<const N: usize>(
     true
 }
 
-/// Lists the moves from one square to another behind those before them, where what stands on the first is known to come to
-/// the other.
+/// The kind of the mover's man on this square.
+fn own_kind(p: &Setup, from: Square) -> Option<Kind>
+    ensures { MatchOption result ((k : Kind) → man_at p.now.board from ≡ Some (man p.now.side k) → ⊥) (λ k. man_at p.now.board from ≡ Some (man p.now.side k)) }
+{
+    match p.board.at(from) {
+        Some(standing) if standing.colour == p.side => Some(standing.kind),
+        _ => None,
+    }
+}
+
+/// Lists the moves from one square to another behind those before them, where a man of this kind stands on the first and is
+/// known to come to the other.
 fn list_to<const N: usize>(
     p: &Setup,
     king: Square,
     shut: bool,
-    officer: bool,
+    kind: Kind,
     from: Square,
     to: Square,
     into: &mut ArrayVec<Move, N>,
@@ -153,27 +165,56 @@ fn list_to<const N: usize>(
     requires sound { Sound p.now }
     requires king { IsOnlyKing p.now.board p.now.side king }
     requires shut { OnTrue shut (Shut p.now king from) }
-    requires officer { OnTrue officer (OfficerComes p.now from to) }
-    requires comes { (k : Kind) → man_at p.now.board from ≡ Some (man p.now.side k) → Comes p.now k from to }
+    requires stands { man_at p.now.board from ≡ Some (man p.now.side kind) }
+    requires comes { Comes p.now kind from to }
     requires on_board { to < 64 }
     requires before { ListsBelow p.now N (512 * from + 8 * to) into.old.items }
     ensures listed { OnTrue result (ListsBelow p.now N (512 * from + 8 * (to + 1)) into.new.items) }
     ensures many { OnFalse result (HasMoreMoves p.now N) }
 {
-    if officer {
-        return add_known(p, king, shut, from, to, Effect::Plain, into);
+    if !is_known(p, kind, to) {
+        return list_tested(p, king, shut, from, to, into);
     }
-    if pawn_goes(p, from, to) {
-        let effect = pawn_effect(
-            p,
-            &Move {
-                from,
-                to,
-                promo: None,
-            },
-        );
-        return add_known(p, king, shut, from, to, effect, into);
+    let m = Move {
+        from,
+        to,
+        promo: None,
+    };
+    let effect = effect_as(p, kind, &m);
+    if !is_legal_allowed(p, king, shut, &m, effect) {
+        return true;
     }
+    push(m, into)
+}
+
+/// Whether a man of this kind that comes to the square makes just one move, whose rule allows it: no pawn that is promoted or
+/// may capture in passing.
+fn is_known(p: &Setup, kind: Kind, to: Square) -> bool
+    ensures { OnTrue result (IsKnown p.now kind to) }
+{
+    match kind {
+        Kind::Pawn => p.en_passant != Some(to) && to.index() / 8 != last_rank(p.side),
+        Kind::King | Kind::Queen | Kind::Rook | Kind::Bishop | Kind::Knight => true,
+    }
+}
+
+/// Lists the moves from one square to another behind those before them, each tested by its rule.
+fn list_tested<const N: usize>(
+    p: &Setup,
+    king: Square,
+    shut: bool,
+    from: Square,
+    to: Square,
+    into: &mut ArrayVec<Move, N>,
+) -> bool
+    requires sound { Sound p.now }
+    requires king { IsOnlyKing p.now.board p.now.side king }
+    requires shut { OnTrue shut (Shut p.now king from) }
+    requires on_board { to < 64 }
+    requires before { ListsBelow p.now N (512 * from + 8 * to) into.old.items }
+    ensures listed { OnTrue result (ListsBelow p.now N (512 * from + 8 * (to + 1)) into.new.items) }
+    ensures many { OnFalse result (HasMoreMoves p.now N) }
+{
     if !add(p, king, shut, from, to, None, into) {
         return false;
     }
@@ -216,69 +257,7 @@ fn list_promotions<const N: usize>(
 fn may_promote(p: &Setup, from: Square, to: Square) -> bool
     ensures { IsTrue result ↔ MayPromote p.now from to }
 {
-    to.index() / 8 == last_rank(p.side) && has_own(p, Kind::Pawn, from)
-}
-
-/// Whether a pawn of the side to move stands on `from`, and goes to `to` neither in passing nor to be promoted.
-fn pawn_goes(p: &Setup, from: Square, to: Square) -> bool
-    ensures { OnTrue result (PawnGoes p.now from to) }
-{
-    has_own(p, Kind::Pawn, from) && p.en_passant != Some(to) && to.index() / 8 != last_rank(p.side)
-}
-
-/// Whether a queen, a rook, a bishop or a knight of the side to move stands on the square.
-fn has_officer(p: &Setup, from: Square) -> bool
-    ensures { OnTrue result (HasOfficer p.now from) }
-{
-    match p.board.at(from) {
-        Some(standing) => standing.colour == p.side && is_officer(standing.kind),
-        None => false,
-    }
-}
-
-/// Whether it is a queen, a rook, a bishop or a knight.
-fn is_officer(kind: Kind) -> bool
-    ensures { result ≡ is_officer kind }
-{
-    match kind {
-        Kind::Queen | Kind::Rook | Kind::Bishop | Kind::Knight => true,
-        Kind::King | Kind::Pawn => false,
-    }
-}
-
-/// Adds the one move from one square to another, which is of this kind and allowed by its rules, if it is legal, or answers
-/// false where there is no room for it.
-fn add_known<const N: usize>(
-    p: &Setup,
-    king: Square,
-    shut: bool,
-    from: Square,
-    to: Square,
-    effect: Effect,
-    into: &mut ArrayVec<Move, N>,
-) -> bool
-    requires sound { Sound p.now }
-    requires king { IsOnlyKing p.now.board p.now.side king }
-    requires shut { OnTrue shut (Shut p.now king from) }
-    requires on_board { to < 64 }
-    requires known { Known p.now from to effect }
-    requires before { ListsBelow p.now N (512 * from + 8 * to) into.old.items }
-    ensures listed { OnTrue result (ListsBelow p.now N (512 * from + 8 * (to + 1)) into.new.items) }
-    ensures many { OnFalse result (HasMoreMoves p.now N) }
-{
-    let m = Move {
-        from,
-        to,
-        promo: None,
-    };
-    if !is_legal_allowed(p, king, shut, &m, effect) {
-        return true;
-    }
-    if into.is_full() {
-        return false;
-    }
-    into.push(m);
-    true
+    to.index() / 8 == last_rank(p.side) && stands(&p.board, from, p.side, Kind::Pawn)
 }
 
 /// Adds the move if it is a legal one besides the null move, or answers false where there is no room for it.
@@ -303,6 +282,15 @@ fn add<const N: usize>(
     if !is_move(p, king, shut, &m) {
         return true;
     }
+    push(m, into)
+}
+
+/// Adds the move where there is room for it, and answers whether there is.
+fn push<const N: usize>(m: Move, into: &mut ArrayVec<Move, N>) -> bool
+    ensures added { OnTrue result (into.new.items ≡ into.old.items ++ m ∷ []) }
+    ensures room { OnTrue result (length into.old.items < N) }
+    ensures full { OnFalse result (length into.old.items ≡ N) }
+{
     if into.is_full() {
         return false;
     }

@@ -13,10 +13,17 @@ use cell_core::{Board, Colour, Kind, Man, Move, Square};
 pub fn effect_of(p: &Setup, m: &Move) -> Effect
     ensures { result ≡ effect_of p.now m.now }
 {
-    let Some(standing) = p.board.at(m.from) else {
-        return Effect::Plain;
-    };
-    match standing.kind {
+    match p.board.at(m.from) {
+        Some(standing) => effect_as(p, standing.kind, m),
+        None => Effect::Plain,
+    }
+}
+
+/// What kind of half-move the move of a man of this kind is.
+pub fn effect_as(p: &Setup, kind: Kind, m: &Move) -> Effect
+    ensures { result ≡ effect_as kind p.now m.now }
+{
+    match kind {
         Kind::King => king_effect(p, m),
         Kind::Pawn => pawn_effect(p, m),
         Kind::Queen | Kind::Rook | Kind::Bishop | Kind::Knight => Effect::Plain,
@@ -40,7 +47,7 @@ fn king_effect(p: &Setup, m: &Move) -> Effect
 }
 
 /// What kind of half-move a pawn's move is.
-pub fn pawn_effect(p: &Setup, m: &Move) -> Effect
+fn pawn_effect(p: &Setup, m: &Move) -> Effect
     ensures { result ≡ effect_as Pawn p.now m.now }
 {
     if goes_two(p.side, m) {

@@ -8,6 +8,7 @@ ghost use Rattle.chess_laws.specs.Counts.{counts_of, is_home};
 ghost use Rattle.chess_laws.specs.Position.{Sound, Breaks, setup_of};
 
 use super::attack::attacks;
+use super::castling::king_home;
 use super::census::{counts, home_set, only_king};
 use super::effect::Effect;
 use super::fault::PlaceFault;
@@ -36,9 +37,9 @@ pub struct Position {
 impl Model for Position {
     ghost use Rattle.cell_core.specs.declared.man.Colour.TheVariants.{White, Black};
     ghost use Rattle.chess_laws.specs.declared.setup.Setup.{Setup};
-    ghost use Rattle.chess_laws.specs.Checks.{in_check};
     ghost use Rattle.chess_laws.specs.Counts.{counts_of};
-    ghost use Rattle.chess_laws.specs.Position.{Keeps, king_square, inverse_Keeps};
+    ghost use Rattle.chess_laws.specs.Keeps.{Keeps, in_check, inverse_Keeps};
+    ghost use Rattle.chess_laws.specs.Position.{king_square};
 
     ghost Value = { Setup };
 
@@ -70,8 +71,8 @@ impl Position {
                 },
                 en_passant: None,
             },
-            white_king: Square::at(4),
-            black_king: Square::at(60),
+            white_king: king_home(Colour::White),
+            black_king: king_home(Colour::Black),
             checked: false,
             counts: [1, 2, 2, 2, 8, 1, 2, 2, 2, 8],
         }

@@ -4,18 +4,19 @@ ghost use Rattle.std.specs.Bool.{OnTrue};
 ghost use Rattle.std.specs.Int.{bit_at};
 ghost use Rattle.cell_core.specs.Board.{man_at};
 ghost use Rattle.cell_core.specs.Man.{man};
+ghost use Rattle.chess_laws.specs.Castling.{king_target};
 ghost use Rattle.chess_laws.specs.Geometry.{Leaps, Runs, forward, pawn_captures};
 ghost use Rattle.chess_laws.specs.LegalTests.{run};
-ghost use Rattle.chess_laws.specs.Targets.{CastlesTo, Comes, DoublesTo, Has, MayTake};
-ghost use Rattle.chess_laws.specs.Step.{HasNoOwn};
+ghost use Rattle.chess_laws.specs.Targets.{CastlesTo, Comes, DoublesTo, Has, MayTake, goes};
+ghost use Rattle.chess_laws.specs.Step.{CastleCase, HasNoOwn};
 
-use super::cases::{forward, has_enemy, has_no_own, is_on_own_rank};
+use super::cases::{forward, has_enemy, has_no_own, is_castling, is_on_own_rank};
 use super::castling::{king_home, king_target};
 use super::offset::{
     BISHOP_STEPS, BLACK_CAPTURES, KING_STEPS, KNIGHT_STEPS, Offset, ROOK_STEPS, WHITE_CAPTURES,
 };
 use super::setup::{Setup, Wing};
-use cell_core::{Colour, Kind, Square};
+use cell_core::{Colour, Kind, Move, Square};
 
 /// A set of squares.
 #[derive(Clone, Copy, Debug, PartialEq, Eq)]
@@ -87,20 +88,8 @@ fn first_bit(word: u64) -> Option<u8>
     }
 }
 
-/// Where a man of the side to move comes from this square, as far as its rules are told by the squares alone: among
-/// others to every target of a legal move.
-pub fn targets(p: &Setup, from: Square) -> SquareSet
-    ensures only { (k : Kind) (b : ℕ) → man_at p.now.board from ≡ Some (man p.now.side k) → Has result b → Comes p.now k from b }
-    ensures all { (k : Kind) (b : ℕ) → man_at p.now.board from ≡ Some (man p.now.side k) → Comes p.now k from b → Has result b }
-{
-    match p.board.at(from) {
-        Some(standing) if standing.colour == p.side => targets_of(p, standing.kind, from),
-        _ => SquareSet::empty(),
-    }
-}
-
-/// Where a man of this kind may come from this square.
-fn targets_of(p: &Setup, kind: Kind, from: Square) -> SquareSet
+/// Where a man of the mover's of this kind comes from this square, whatever becomes of its king.
+pub fn targets(p: &Setup, kind: Kind, from: Square) -> SquareSet
     ensures only { (b : ℕ) → Has result b → Comes p.now kind from b }
     ensures all { (b : ℕ) → Comes p.now kind from b → Has result b }
 {
@@ -114,7 +103,7 @@ fn targets_of(p: &Setup, kind: Kind, from: Square) -> SquareSet
     }
 }
 
-/// The set, and where castling may lead a king from this square.
+/// The set, and where the king castles from this square.
 fn castling_targets(p: &Setup, from: Square, set: SquareSet) -> SquareSet
     ensures castles { (b : ℕ) → CastlesTo p.now from b → Has result b }
     ensures kept { (b : ℕ) → Has set b → Has result b }
@@ -123,8 +112,26 @@ fn castling_targets(p: &Setup, from: Square, set: SquareSet) -> SquareSet
     if from != king_home(p.side) {
         return set;
     }
-    set.with(king_target(p.side, Wing::KingSide))
-        .with(king_target(p.side, Wing::QueenSide))
+    let set = with_castling(p, from, Wing::KingSide, set);
+    with_castling(p, from, Wing::QueenSide, set)
+}
+
+/// The set, and where the king castles on this wing.
+fn with_castling(p: &Setup, from: Square, wing: Wing, set: SquareSet) -> SquareSet
+    ensures castles { CastleCase p.now (goes from (king_target p.now.side wing)) wing → Has result (king_target p.now.side wing) }
+    ensures kept { (b : ℕ) → Has set b → Has result b }
+    ensures only { (b : ℕ) → Has result b → (Has set b ⊎ ((b ≡ king_target p.now.side wing) × CastleCase p.now (goes from (king_target p.now.side wing)) wing)) }
+{
+    let m = Move {
+        from,
+        to: king_target(p.side, wing),
+        promo: None,
+    };
+    if is_castling(p, &m, wing) {
+        set.with(m.to)
+    } else {
+        set
+    }
 }
 
 /// The set, and where one step forward leads a pawn from this square and two from its own rank, over and to empty ones.

@@ -12,9 +12,9 @@ use Rattle.chess_laws.specs.declared.setup.Setup.{Setup}
 use Rattle.chess_laws.specs.declared.effect.Effect.{Effect}
 use Rattle.chess_laws.specs.declared.effect.Effect.TheVariants.{Plain, Double, Passing, Castle, Null}
 use Rattle.chess_laws.specs.Castling.{rook_home, rook_target}
-use Rattle.chess_laws.specs.Checks.{in_check}
 use Rattle.chess_laws.specs.Counts.{counts_of}
-use Rattle.chess_laws.specs.Position.{Sound, HasKings, Keeps, king_square}
+use Rattle.chess_laws.specs.Keeps.{Keeps, in_check}
+use Rattle.chess_laws.specs.Position.{Sound, HasKings, king_square}
 use Rattle.chess_laws.specs.LegalTests.{king_after}
 use Rattle.chess_laws.specs.Step.{Case, Legal, after, board_after, effect_of}
 use Rattle.chess_laws.proofs.Kings.{is_man-Some, is_man-true, king-only, king-stands}

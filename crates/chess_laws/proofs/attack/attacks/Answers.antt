@@ -1,5 +1,5 @@
 use Rattle.std.proofs.Common.{IsTrue, false, refl}
-use Rattle.chess_laws.proofs.Attackers.{rook-attacks, bishop-attacks, king-attacks, attack-from, last-of}
+use Rattle.chess_laws.proofs.Attackers.{rook-attacks, bishop-attacks, knight-attacks, pawn-attacks, king-attacks, attack-from, last-of}
 use Rattle.chess_laws.proofs.attack.attacks.Goals as goal
 
 pub returns-then-slides : goal.returns-then-slides
@@ -7,6 +7,12 @@ returns-then-slides c = ((λ h. rook-attacks c.args.board.now c.args.by c.args.s
 
 pub returns-then-slides-2 : goal.returns-then-slides-2
 returns-then-slides-2 c = ((λ h. bishop-attacks c.args.board.now c.args.by c.args.s (c.if-slides-2.ensures.0 refl)), (λ h. refl))
+
+pub returns-then-leaps : goal.returns-then-leaps
+returns-then-leaps c = ((λ h. knight-attacks c.args.board.now c.args.by c.args.s (c.if-leaps.ensures.0 refl)), (λ h. refl))
+
+pub returns-then-pawn_attacks : goal.returns-then-pawn_attacks
+returns-then-pawn_attacks c = ((λ h. pawn-attacks c.args.board.now c.args.by c.args.s (c.if-pawn_attacks.ensures.0 refl)), (λ h. refl))
 
 pub returns : goal.returns
 returns c = (

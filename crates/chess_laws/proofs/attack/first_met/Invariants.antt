@@ -5,4 +5,4 @@ use Rattle.chess_laws.specs.Rays.{met, met_on}
 use Rattle.chess_laws.proofs.attack.first_met.Given as goal
 
 abbrev pub invariant-loop-i : goal.invariant-loop-i
-invariant-loop-i l = met_on (man_at l.board l.at) (met l.board l.step (6 - l._i) l.at) ≡ met l.board l.step 7 l.fn.s
+invariant-loop-i l = met_on (man_at l.board l.at) (met l.board l.step (7 - l._i) l.at) ≡ met l.board l.step 8 l.fn.s

@@ -7,5 +7,5 @@ returns-in-None c = ((λ h. absurd (cc)), (λ any. absurd (leaps_none c.args.fro
 
 pub returns-in-Some : goal.returns-in-Some
 returns-in-Some c =
-    leaps_row c.in-Some.row c.args.from c.args.to c.leaps_by.result c.in-Some.ensures.row c.in-Some.ensures.queen
-    (rw (c.of_row.ensures.step) at c.leaps_by.ensures)
+    leaps_row c.in-Some.row c.args.from c.args.to c.leads_by.result c.in-Some.ensures.row c.in-Some.ensures.queen
+    (rw (c.of_row.ensures.step) at c.leads_by.ensures)

@@ -2,7 +2,8 @@
 use Rattle.std.proofs.Common.{◌≡◌, ◌↔◌, ◌⊎◌, IsTrue, true, sym, ◌∙◌, ap, subst}
 use Rattle.std.proofs.lemmas.Bool.{OnFalse_at}
 use Rattle.chess_laws.specs.Attacks.{Attacks}
-use Rattle.chess_laws.specs.Checks.{Hits, in_check}
+use Rattle.chess_laws.specs.Keeps.{in_check}
+use Rattle.chess_laws.specs.Rays.{Hits}
 use Rattle.chess_laws.specs.Step.{after, effect_of}
 use Rattle.std.specs.Bool.{OnFalse}
 use Rattle.chess_laws.specs.Counts.{counts_of}

@@ -1,21 +1,44 @@
--- What is known to come there has one move to make; and where no pawn promotes, no move stands behind the plain one.
-use Rattle.std.proofs.Common.{rules, sym, ◌∙◌}
+-- What is known to come there has one move to make, which joins the list or is none.
+use Rattle.std.proofs.Common.{◌≡◌, ◌+◌, ◌*◌, sym, ◌∙◌, arith}
 use Rattle.std.proofs.lemmas.Bool.{false≢true}
-use Rattle.cell_core.specs.declared.man.Kind.TheVariants.{Pawn}
-use Rattle.chess_laws.specs.Targets.{Known}
-use Rattle.chess_laws.proofs.Listing.{lists-plain}
-use Rattle.chess_laws.proofs.PawnMoves.{pawn-known}
+use Rattle.chess_laws.specs.Moves.{place_of}
+use Rattle.chess_laws.specs.Targets.{Known, goes}
+use Rattle.chess_laws.proofs.Joining.{joins, known-joins, known-skips, overflows}
+use Rattle.chess_laws.proofs.Knowing.{known}
 use Rattle.chess_laws.proofs.moves.list_to.Goals as goal
+
+pub is_legal_allowed-requires : goal.is_legal_allowed-requires
+is_legal_allowed-requires g c =
+    let is = known c.args.p.now c.args.from c.args.to c.args.kind c.requires.stands c.requires.comes c.if-not-is_known.ensures in
+    let is' : Known c.args.p.now c.args.from c.args.to c.effect_as-effect.result = rw c.effect_as-effect.ensures is in
+    record {
+      sound = c.requires.sound;
+      king = c.requires.king;
+      shut = c.requires.shut;
+      effect = is'.effect;
+      allowed = is'.allowed;
+    }
+
+pub returns-then-not-is_legal_allowed-clause-listed : goal.returns-then-not-is_legal_allowed-clause-listed
+returns-then-not-is_legal_allowed-clause-listed g c =
+    let is = known c.args.p.now c.args.from c.args.to c.args.kind c.requires.stands c.requires.comes c.if-not-is_known.ensures in
+    known-skips c.args.p.now g.row.N c.args.from c.args.to _ c.args.into.now.items c.requires.sound c.requires.on_board is
+    (λ is. false≢true (sym c.if-not-is_legal_allowed.true ∙ c.is_legal_allowed.ensures.1 is.legal))
+    c.requires.before
 
 pub returns-clause-listed : goal.returns-clause-listed
 returns-clause-listed g c =
-    lists-plain c.args.p.now g.row.N c.args.from c.args.to c.add.new.into.items c.requires.sound c.requires.on_board
-    (λ may. false≢true (sym c.if-may_promote.false ∙ c.may_promote.ensures.1 may))
-    c.if-not-add.ensures.listed
+    let is = known c.args.p.now c.args.from c.args.to c.args.kind c.requires.stands c.requires.comes c.if-not-is_known.ensures in
+    let here : 512 * c.args.from + 8 * c.args.to ≡ place_of (goes c.args.from c.args.to) = omega arith in
+    known-joins c.args.p.now g.row.N c.args.from c.args.to _ c.push.new.into.items c.push.result c.requires.sound c.requires.on_board is
+    (joins c.args.p.now g.row.N (512 * c.args.from + 8 * c.args.to) c.args.into.now.items c.push.new.into.items (goes c.args.from c.args.to) c.push.result here
+    c.requires.sound c.requires.before (record { legal = c.is_legal_allowed.ensures.0 c.if-not-is_legal_allowed.false; leaves = is.leaves })
+    c.push.ensures.added c.push.ensures.room)
 
-pub add_known-requires-then-pawn_goes : goal.add_known-requires-then-pawn_goes
-add_known-requires-then-pawn_goes g c =
-    let known : Known c.args.p.now c.args.from c.args.to c.pawn_effect-effect.result =
-    rw c.pawn_effect-effect.ensures
-    (pawn-known c.args.p.now c.args.from c.args.to c.if-pawn_goes.ensures (c.requires.comes Pawn c.if-pawn_goes.ensures.stands)) in
-    search rules
+pub returns-clause-many : goal.returns-clause-many
+returns-clause-many g c =
+    let is = known c.args.p.now c.args.from c.args.to c.args.kind c.requires.stands c.requires.comes c.if-not-is_known.ensures in
+    let here : 512 * c.args.from + 8 * c.args.to ≡ place_of (goes c.args.from c.args.to) = omega arith in
+    overflows c.args.p.now g.row.N (512 * c.args.from + 8 * c.args.to) c.args.into.now.items (goes c.args.from c.args.to) c.push.result here
+    c.requires.before (record { legal = c.is_legal_allowed.ensures.0 c.if-not-is_legal_allowed.false; leaves = is.leaves })
+    c.push.ensures.full

@@ -1,10 +1,12 @@
 use Rattle.std.proofs.Common.{refl}
+use Rattle.std.specs.Bool.{Decides}
 use Rattle.std.proofs.lemmas.Bool.{false≢true}
+use Rattle.std.proofs.lemmas.Bool.Decides.{same_from_decides}
 use Rattle.chess_laws.specs.Attacks.{IsInCheck}
-use Rattle.chess_laws.specs.Checks.{in_check}
+use Rattle.chess_laws.specs.Keeps.{in_check}
 use Rattle.chess_laws.specs.declared.setup.Setup.{Setup}
 use Rattle.chess_laws.proofs.Boards.{other-other}
-use Rattle.chess_laws.proofs.Checks.{in_check-is, same-told}
+use Rattle.chess_laws.proofs.Deciding.{in_check-Decides}
 use Rattle.chess_laws.proofs.Soundness.{both_kings, sound_of}
 use Rattle.chess_laws.proofs.position.place.Goals as goal
 
@@ -44,12 +46,13 @@ invariant_of-result c =
     c.standing_rights-rights.ensures
     (c.if-not-has_fit_en_passant.ensures.0 refl) in
     let p : Setup = record { board = c.args.board.now; side = c.args.side; rights = c.standing_rights-rights.result; en_passant = c.args.en_passant } in
+    let decides : Decides c.rests_in_check-checked.result (IsInCheck p.board p.side) =
+    rw (c.other.ensures.side, other-other c.args.side) at c.rests_in_check-checked.ensures.check in
     record {
       sound = sound;
       white_king = c.in-Some.ensures.1;
       black_king = c.in-Some-only_king.ensures.1;
-      check = same-told (IsInCheck p.board p.side) c.rests_in_check-checked.result (in_check p)
-          (rw (c.other.ensures.side, other-other c.args.side) at c.rests_in_check-checked.ensures.check) (in_check-is p sound.kings);
+      check = same_from_decides c.rests_in_check-checked.result (in_check p) decides (in_check-Decides p.board p.side);
       census = c.counts.ensures;
     }
 

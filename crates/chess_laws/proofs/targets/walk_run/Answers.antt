@@ -12,7 +12,7 @@ pub returns-in_default-clause-runs : goal.returns-in_default-clause-runs
 returns-in_default-clause-runs c = λ b found free.
     elim (c.loop-i.invariant.ahead b found) [
       | inl here ↦ here
-      | inr ahead ↦ absurd (run-at_edge c.args.p.now.board c.args.step.now c.loop-i._i c.loop-i.at b (omega arith) (sym c.target.ensures ∙ c.in_default.is) ahead)
+      | inr ahead ↦ absurd (run-at_edge c.args.p.now.board c.args.step.now c.loop-i._i c.loop-i.at b (omega arith) (sym c.target.ensures.target ∙ c.in_default.is) ahead)
     ]
 
 pub returns-then-is_some-clause-runs : goal.returns-then-is_some-clause-runs
@@ -20,7 +20,7 @@ returns-then-is_some-clause-runs c = λ b found free.
     elim (c.loop-i.invariant.ahead b found) [
       | inl here ↦ c.with_free.ensures.kept b here
       | inr ahead ↦
-          elim (run-next c.args.p.now.board c.args.step.now c.loop-i._i c.loop-i.at b c.in-Some.next (omega arith) (sym c.target.ensures ∙ c.in-Some.is) ahead) [
+          elim (run-next c.args.p.now.board c.args.step.now c.loop-i._i c.loop-i.at b c.in-Some.next (omega arith) (sym c.target.ensures.target ∙ c.in-Some.is) ahead) [
             | inl same ↦ subst (λ s. Has c.with_free.result s) same (c.with_free.ensures.added (subst (λ s. HasNoOwn c.args.p.now.board c.args.p.now.side s) (sym same) free))
             | inr further ↦ absurd (some≢none c.at.result (sym c.is_some.ensures ∙ c.if-is_some.true) (c.at.ensures.man ∙ further.0))
           ]
@@ -36,7 +36,7 @@ loop-i-preserved c = record {
       elim (c.with-set.ensures.only b has) [
         | inl here ↦ c.loop-i.invariant.fresh b here
         | inr came ↦
-            let found = run-reach men o c.loop-i._i c.loop-i.at c.in-Some.next (omega arith) (sym c.target.ensures ∙ c.in-Some.is) in
+            let found = run-reach men o c.loop-i._i c.loop-i.at c.in-Some.next (omega arith) (sym c.target.ensures.target ∙ c.in-Some.is) in
             inr (
               subst (λ s. run men o 8 s c.args.from ≡ true) (sym came) (c.loop-i.invariant.onward c.in-Some.next found),
               empty-free men c.args.p.now.side b (ap (man_at men) came ∙ empty),
@@ -47,12 +47,12 @@ loop-i-preserved c = record {
       let o = c.args.step.now in
       let empty : man_at men c.in-Some.next ≡ None = sym c.at.ensures.man ∙ none_from c.at.result (sym c.is_some.ensures ∙ c.if-is_some.false) in
       c.loop-i.invariant.onward b
-      (run-pass men o c.loop-i._i c.loop-i.at b c.in-Some.next (omega arith) (sym c.target.ensures ∙ c.in-Some.is) empty further);
+      (run-pass men o c.loop-i._i c.loop-i.at b c.in-Some.next (omega arith) (sym c.target.ensures.target ∙ c.in-Some.is) empty further);
   ahead = λ b found.
       elim (c.loop-i.invariant.ahead b found) [
         | inl here ↦ inl (c.with-set.ensures.kept b here)
         | inr ahead ↦
-            elim (run-next c.args.p.now.board c.args.step.now c.loop-i._i c.loop-i.at b c.in-Some.next (omega arith) (sym c.target.ensures ∙ c.in-Some.is) ahead) [
+            elim (run-next c.args.p.now.board c.args.step.now c.loop-i._i c.loop-i.at b c.in-Some.next (omega arith) (sym c.target.ensures.target ∙ c.in-Some.is) ahead) [
               | inl same ↦ inl (subst (λ s. Has c.with-set.result s) same c.with-set.ensures.added)
               | inr further ↦ inr further.1
             ]
@@ -73,6 +73,6 @@ returns-then-is_some-clause-only c = λ b has.
     elim (c.with_free.ensures.only b has) [
       | inl here ↦ c.loop-i.invariant.fresh b here
       | inr came ↦
-          let found = run-reach men o c.loop-i._i c.loop-i.at c.in-Some.next (omega arith) (sym c.target.ensures ∙ c.in-Some.is) in
+          let found = run-reach men o c.loop-i._i c.loop-i.at c.in-Some.next (omega arith) (sym c.target.ensures.target ∙ c.in-Some.is) in
           inr (subst (λ s. run men o 8 s c.args.from ≡ true) (sym came.0) (c.loop-i.invariant.onward c.in-Some.next found), came.1)
     ]

@@ -1,6 +1,6 @@
 -- A legal move keeps the rules, and what is kept beside the position follows it.
 use Rattle.std.proofs.Common.{◌≡◌, sym, ◌∙◌, ap, subst}
-use Rattle.chess_laws.specs.Checks.{in_check}
+use Rattle.chess_laws.specs.Keeps.{in_check}
 use Rattle.chess_laws.specs.Counts.{counts_of}
 use Rattle.chess_laws.specs.Step.{after, effect_of, Legal}
 use Rattle.chess_laws.proofs.MovedKings.{Keeps-white, Keeps-black}

@@ -1,0 +1,88 @@
+-- What comes to a square makes one move, whose rule allows it.
+use Rattle.std.proofs.Common.{◌≡◌, ℕ, inl, inr, true, false, ◌&&◌, eqb, Some, refl, sym, ◌∙◌, ap, subst}
+use Rattle.std.specs.Prelude.{Any}
+use Rattle.std.proofs.lemmas.Bool.{and_parts, cases_Bool, eqb-true, false≢true, ne_eqb}
+use Rattle.cell_core.specs.declared.man.Colour.{Colour}
+use Rattle.cell_core.specs.declared.man.Colour.TheVariants.{White, Black}
+use Rattle.cell_core.specs.declared.man.Kind.{Kind}
+use Rattle.cell_core.specs.declared.man.Kind.TheVariants.{King, Queen, Rook, Bishop, Knight, Pawn}
+use Rattle.cell_core.specs.Board.{man_at}
+use Rattle.cell_core.specs.Man.{man}
+use Rattle.chess_laws.specs.declared.setup.Setup.{Setup}
+use Rattle.chess_laws.specs.declared.setup.Wing.{Wing}
+use Rattle.chess_laws.specs.declared.setup.Wing.TheVariants.{KingSide, QueenSide}
+use Rattle.chess_laws.specs.declared.effect.Effect.TheVariants.{Plain, Castle}
+use Rattle.chess_laws.specs.Geometry.{king_steps, shift, Leaps}
+use Rattle.chess_laws.specs.Castling.{king_home, king_target}
+use Rattle.chess_laws.specs.LegalNow.{leaps_now}
+use Rattle.chess_laws.specs.Step.{effect_as, effect_on, promotes_rightly, Case, CastleCase, GoesPlainly, HasNoOwn}
+use Rattle.chess_laws.specs.Targets.{Comes, IsKnown, Known, goes}
+use Rattle.chess_laws.proofs.Boards.{man-kind}
+use Rattle.chess_laws.proofs.Deciding.{any-Decides, leaps-Decides}
+use Rattle.chess_laws.proofs.Keeping.{castle-apart}
+use Rattle.chess_laws.proofs.PawnMoves.{pawn-known}
+
+-- a man other than a pawn, whose move is a plain one
+plainly : (p : Setup) (a b : ℕ) (k : Kind) → man_at p.board a ≡ Some (man p.side k) → effect_as k p (goes a b) ≡ Plain →
+    GoesPlainly p k (goes a b) → promotes_rightly p.side k (goes a b) ≡ true → HasNoOwn p.board p.side b → (k ≡ Pawn → ⊥) →
+    Known p a b (effect_as k p (goes a b))
+plainly p a b k stands plain go promotes free other = record {
+  effect = sym (ap (λ o. effect_on o p (goes a b)) stands);
+  allowed = subst (Case p (goes a b)) (sym plain) (record { kind = k; stands = stands; goes = go; promotes = promotes });
+  leaves = λ same. free k (ap (man_at p.board) same ∙ stands);
+  plain = λ may. other (man-kind p.side p.side k Pawn (sym stands ∙ may.stands));
+}
+
+-- no king's step is as long as castling
+no-leap : (c : Colour) (wing : Wing) → Any (Leaps (king_home c) (king_target c wing)) king_steps → ⊥
+unfolding leaps_now shift
+no-leap White KingSide any = false≢true ((any-Decides (leaps_now 4 6) (Leaps 4 6) (leaps-Decides 4 6) king_steps).1 any)
+no-leap White QueenSide any = false≢true ((any-Decides (leaps_now 4 2) (Leaps 4 2) (leaps-Decides 4 2) king_steps).1 any)
+no-leap Black KingSide any = false≢true ((any-Decides (leaps_now 60 62) (Leaps 60 62) (leaps-Decides 60 62) king_steps).1 any)
+no-leap Black QueenSide any = false≢true ((any-Decides (leaps_now 60 58) (Leaps 60 58) (leaps-Decides 60 58) king_steps).1 any)
+
+no-castle : (c : Colour) (wing : Wing) (a b : ℕ) → Any (Leaps a b) king_steps → (eqb a (king_home c) && eqb b (king_target c wing)) ≡ false
+no-castle c wing a b any = elim (cases_Bool (eqb a (king_home c) && eqb b (king_target c wing))) [
+  | inl castles ↦
+      let both = and_parts (eqb a (king_home c)) (eqb b (king_target c wing)) castles in
+      let from = eqb-true a (king_home c) both.0 in
+      let to = eqb-true b (king_target c wing) both.1 in
+      absurd (no-leap c wing (subst (λ t. Any (Leaps (king_home c) t) king_steps) to (subst (λ f. Any (Leaps f b) king_steps) from any)))
+  | inr other ↦ other
+]
+
+steps-effect : (p : Setup) (a b : ℕ) → (b ≡ a → ⊥) → Any (Leaps a b) king_steps → effect_as King p (goes a b) ≡ Plain
+steps-effect p a b leaves any =
+    rw (ne_eqb b a leaves, no-castle p.side KingSide a b any, no-castle p.side QueenSide a b any) refl
+
+castles-effect : (p : Setup) (c : Colour) (wing : Wing) (a b : ℕ) → p.side ≡ c → a ≡ king_home c → b ≡ king_target c wing →
+    effect_as King p (goes a b) ≡ Castle wing
+castles-effect p White KingSide a b side from to = rw (side, from, to) refl
+castles-effect p White QueenSide a b side from to = rw (side, from, to) refl
+castles-effect p Black KingSide a b side from to = rw (side, from, to) refl
+castles-effect p Black QueenSide a b side from to = rw (side, from, to) refl
+
+-- a king steps, or castles
+king-known : (p : Setup) (a b : ℕ) → man_at p.board a ≡ Some (man p.side King) → Comes p King a b → Known p a b (effect_as King p (goes a b))
+king-known p a b stands (inl step) =
+    plainly p a b King stands (steps-effect p a b (λ same. step.1 King (ap (man_at p.board) same ∙ stands)) step.0) step refl step.1 (λ e. absurd (cc))
+king-known p a b stands (inr (from, (wing, (to, castles)))) =
+    let case : CastleCase p (goes a b) wing =
+    record { stands = stands; right = castles.right; empty = castles.empty; safe = castles.safe; promo = refl } in
+    let free = (castle-apart p.board p.side wing castles.empty).king_to in
+    record {
+      effect = sym (ap (λ o. effect_on o p (goes a b)) stands);
+      allowed = subst (Case p (goes a b)) (sym (castles-effect p p.side wing a b refl from to)) case;
+      leaves = λ same. let e = sym (ap (man_at p.board) to ∙ free) ∙ ap (man_at p.board) same ∙ stands in absurd (cc);
+      plain = λ may. let e = man-kind p.side p.side King Pawn (sym stands ∙ may.stands) in absurd (cc);
+    }
+
+-- so that move is known
+pub known : (p : Setup) (a b : ℕ) (k : Kind) → man_at p.board a ≡ Some (man p.side k) → Comes p k a b → IsKnown p k b →
+    Known p a b (effect_as k p (goes a b))
+known p a b King stands comes is = king-known p a b stands comes
+known p a b Queen stands comes is = plainly p a b Queen stands refl comes refl comes.1 (λ e. absurd (cc))
+known p a b Rook stands comes is = plainly p a b Rook stands refl comes refl comes.1 (λ e. absurd (cc))
+known p a b Bishop stands comes is = plainly p a b Bishop stands refl comes refl comes.1 (λ e. absurd (cc))
+known p a b Knight stands comes is = plainly p a b Knight stands refl comes refl comes.1 (λ e. absurd (cc))
+known p a b Pawn stands comes is = pawn-known p a b stands is comes
