@@ -6,6 +6,7 @@ pub mod WritingLaws
 pub mod DigitLaws
 pub mod ShapeLaws
 pub mod SearchLaws
+pub mod CameLaws
 pub mod PawnLaws
 pub mod WrittenSan
 pub mod RivalLaws

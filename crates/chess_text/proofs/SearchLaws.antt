@@ -1,5 +1,5 @@
 -- The search for a move of a shape finds the one that there is.
-use Rattle.std.proofs.Common.{◌≡◌, ◌↔◌, ℕ, ◌+◌, ◌<◌, ◌≤◌, inl, inr, Bool, true, false, IsTrue, List, is_some, MatchOption, Option, Some, None, Result, Ok, Err, IfOk, IfErr, ok_or, refl, sym, ◌∙◌, ap, subst, arith}
+use Rattle.std.proofs.Common.{◌≡◌, ◌↔◌, ℕ, ◌+◌, ◌<◌, ◌≤◌, inl, inr, arith, Bool, true, false, IsTrue, List, Option, Some, None, Result, Ok, Err, IfOk, IfErr, ok_or, refl, sym, ◌∙◌, ap, subst}
 use Rattle.std.proofs.lemmas.Bool.{cases_lt, eq-eqb, false≢true}
 use Rattle.cell_core.specs.declared.man.Kind.TheVariants.{King}
 use Rattle.cell_core.specs.declared.step.Move.{Move}
@@ -22,7 +22,7 @@ use Rattle.chess_text.specs.declared.fault.SanFault.TheVariants as fault
 use Rattle.chess_text.specs.SanShape.{HasShape}
 use Rattle.chess_text.specs.SanReads.{Fits, SanReads, SanFaultOf}
 use Rattle.chess_text.specs.SanReading.{shape_named}
-use Rattle.chess_text.specs.SanSearch.{AreTwo, AnswersShape, FitsFrom, FoundBelow}
+use Rattle.chess_text.specs.SanSearch.{AreTwo, AnswersShape, FitsFrom, FoundBelow, FoundAll}
 use Rattle.chess_text.proofs.ShapeLaws.{shape-only, shape-found, one-shape}
 
 -- ---- square by square
@@ -78,7 +78,7 @@ found-two p g n m first here h = record {
       omega (arith, e, below, from);
 }
 
-starts-below : (p : Setup) (g : Going) (m : Move) → Sound p → Fits p (Goes g) m → m.from < 64
+pub starts-below : (p : Setup) (g : Going) (m : Move) → Sound p → Fits p (Goes g) m → m.from < 64
 starts-below p g m sound h = on_board p.board m.from (man p.side g.kind) sound.squares h.of_shape.stands
 
 pub found-all : (p : Setup) (g : Going) (n : ℕ) (found : Option Move) → Sound p → 64 ≤ n → FoundBelow p g n found
@@ -90,6 +90,10 @@ found-all p g n (Some m) sound more h = record {
   only = λ other fits. let less : other.from < 64 = starts-below p g other sound fits in h.only other fits (omega (arith, more, less));
 }
 
+pub found_every : (p : Setup) (g : Going) (found : Option Move) → FoundAll p g found → AnswersShape p (Goes g) (ok_or found fault.NoMove)
+found_every p g None h = h.all
+found_every p g (Some m) h = record { fits = h.fits; only = h.all }
+
 -- the one move of the shape from a square
 pub only-from : (p : Setup) (g : Going) (s : ℕ) (m : Move) → Fits p (Goes g) m → m.from ≡ s
     → m ≡ record { from = s; to = g.target; promo = g.promo }
@@ -100,33 +104,6 @@ pub none-from : (p : Setup) (g : Going) (s : ℕ) (b : Bool) → IsTrue b ↔ Le
 none-from p g s b h never m fits from =
     let l : Legal p (record { from = s; to = g.target; promo = g.promo }) = subst (Legal p) (only-from p g s m fits from) fits.legal in
     false≢true (sym never ∙ h.1 l)
-
--- one more square
-pub next-none : (p : Setup) (g : Going) (n s : ℕ) (next found : Option Move)
-    → MatchOption next ((m : Move) → Fits p (Goes g) m → m.from ≡ s → ⊥) (FitsFrom p g s) → s ≡ n → next ≡ None
-    → FoundBelow p g n found → FoundBelow p g (n + 1) found
-next-none p g n s None found h same e below =
-    found-none p g n found (λ m fits from. h m fits (from ∙ sym same)) below
-next-none p g n s (Some m) found h same e below = absurd (cc)
-
-pub next-some : (p : Setup) (g : Going) (n s : ℕ) (next found : Option Move) (m : Move)
-    → MatchOption next ((m : Move) → Fits p (Goes g) m → m.from ≡ s → ⊥) (FitsFrom p g s) → s ≡ n → next ≡ Some m
-    → is_some found ≡ false → FoundBelow p g n found → FoundBelow p g (n + 1) (Some m)
-next-some p g n s None found m h same e none below = absurd (cc)
-next-some p g n s (Some m) (Some first) other h same e none below = absurd (false≢true (sym none))
-next-some p g n s (Some m) None other h same e none below =
-    let here : FitsFrom p g n m = rw same at h in
-    let e' : m ≡ other = cc in
-    rw e' at (found-some p g n m here below)
-
-pub next-two : (p : Setup) (g : Going) (n s : ℕ) (next found : Option Move) (m : Move)
-    → MatchOption next ((m : Move) → Fits p (Goes g) m → m.from ≡ s → ⊥) (FitsFrom p g s) → s ≡ n → next ≡ Some m
-    → is_some found ≡ true → FoundBelow p g n found → AreTwo p (Goes g)
-next-two p g n s None found m h same e some below = absurd (cc)
-next-two p g n s (Some m) None other h same e some below = absurd (false≢true some)
-next-two p g n s (Some m) (Some first) other h same e some below =
-    let here : FitsFrom p g n m = rw same at h in
-    found-two p g n m first here below
 
 -- ---- castling and the null move
 

@@ -1,5 +1,5 @@
 //! Moves read from Standard Algebraic Notation.
-ghost use Rattle.std.specs.Prelude.{◌≡◌, ◌↔◌, IsTrue, IfOk, IfErr, IfSome, MatchOption, MatchResult, Some};
+ghost use Rattle.std.specs.Prelude.{◌≡◌, ◌↔◌, ◌<◌, IsTrue, IfOk, IfErr, IfSome, MatchOption, MatchResult, None, Some, length};
 ghost use Rattle.cell_core.specs.declared.step.Move.{Move};
 ghost use Rattle.chess_laws.specs.Position.{Sound};
 ghost use Rattle.chess_laws.specs.Step.{effect_of, Legal};
@@ -7,13 +7,33 @@ ghost use Rattle.chess_text.specs.declared.fault.SanFault.{SanFault};
 ghost use Rattle.chess_text.specs.declared.shape.Shape.TheVariants.{Castle, Goes, Null};
 ghost use Rattle.chess_text.specs.SanAnswer.{san_answer};
 ghost use Rattle.chess_text.specs.SanReads.{SanReads, SanFaultOf, Fits, has_own_form};
-ghost use Rattle.chess_text.specs.SanSearch.{AnswersShape, StandsSo, FitsFrom};
+ghost use Rattle.chess_text.specs.declared.san_reading.Way.TheVariants.{File, Rank, Rising, Falling};
+ghost use Rattle.chess_text.specs.SanSearch.{AnswersShape, NotOne, StandsSo, FitsFrom, FoundAll, FoundAlong, FoundBy, FoundOn, FoundWith, is_from_elsewhere, place_on};
 
 use super::fault::SanFault;
 use super::san_shape::shape_of;
+use super::san_writing::KING_STEPS;
 use super::shape::{Going, Shape};
-use cell_core::{Man, Move, Square};
+use cell_core::{Colour, Kind, Man, Move, Square};
 use chess_laws::{Effect, Position, Setup, Wing, king_target};
+
+// A way through a square: its file, its rank, or its diagonal that goes up or down to the right.
+#[derive(Clone, Copy)]
+pub enum Way {
+    File,
+    Rank,
+    Rising,
+    Falling,
+}
+
+// From the target of a knight to the squares from which it may come, counted from a1 over h8 back to a1.
+const KNIGHT_STEPS: [u8; 8] = [47, 54, 6, 15, 49, 58, 10, 17];
+
+// From the target of a white pawn: one square back, two, and back to the left and to the right.
+const WHITE_PAWN_STEPS: [u8; 4] = [56, 48, 55, 57];
+
+// The same of a black pawn.
+const BLACK_PAWN_STEPS: [u8; 4] = [8, 16, 7, 9];
 
 /// Reads a move in Standard Algebraic Notation (PGN standard, 8.2.3): `O-O`, `O-O-O`, `0-0`, `0-0-0`, `--` for the null
 /// move, or an optional letter of `KQRBN`, an optional file, an optional rank, an optional `x` or `:`, the target square and
@@ -95,32 +115,155 @@ fn null_of(p: &Position) -> Result<Move, SanFault>
     }
 }
 
-// The one man that goes so: each square is tried on which such a man stands.
+// The one man that goes so.
+#[tactic(auto, using(crate::proofs::SearchLaws::found_every))]
 fn search(p: &Position, setup: &Setup, g: &Going) -> Result<Move, SanFault>
     requires same { setup.now ≡ p.now }
     requires sound { Sound p.now }
     ensures answers { AnswersShape p.now (Goes g.now) result }
 {
-    let mut found = None;
-    for from in 0..64u8 {
-        if let Some(m) = from_square(p, setup, g, Square::at(from)) {
-            if found.is_some() {
-                return Err(SanFault::Two);
-            }
-            found = Some(m);
-        }
+    match find_from(p, setup, g) {
+        Ok(found) => found.ok_or(SanFault::NoMove),
+        Err(fault) => Err(fault),
     }
-    found.ok_or(SanFault::NoMove)
 }
 
-// The legal move from the square that goes so.
-fn from_square(p: &Position, setup: &Setup, g: &Going, from: Square) -> Option<Move>
+// The legal move that goes so, if there is one: each square is tried from which a man of this kind may come to the target.
+#[tactic(auto, using(crate::proofs::CameLaws::king_all, crate::proofs::CameLaws::knight_all, crate::proofs::CameLaws::white_all, crate::proofs::CameLaws::black_all, crate::proofs::CameLaws::rook_all, crate::proofs::CameLaws::bishop_all, crate::proofs::CameLaws::queen_all))]
+fn find_from(p: &Position, setup: &Setup, g: &Going) -> Result<Option<Move>, SanFault>
     requires same { setup.now ≡ p.now }
-    ensures answers { MatchOption result ((m : Move) → Fits p.now (Goes g.now) m → m.from ≡ from → ⊥) (FitsFrom p.now g.now from) }
+    requires sound { Sound p.now }
+    ensures all { MatchResult result (FoundAll p.now g.now) (NotOne p.now (Goes g.now)) }
+{
+    match g.kind {
+        Kind::King => by_steps(p, setup, g, &KING_STEPS),
+        Kind::Queen => by_diagonals(by_lines(p, setup, g)?, p, setup, g),
+        Kind::Rook => by_lines(p, setup, g),
+        Kind::Bishop => by_diagonals(None, p, setup, g),
+        Kind::Knight => by_steps(p, setup, g, &KNIGHT_STEPS),
+        Kind::Pawn => match setup.side {
+            Colour::White => by_steps(p, setup, g, &WHITE_PAWN_STEPS),
+            Colour::Black => by_steps(p, setup, g, &BLACK_PAWN_STEPS),
+        },
+    }
+}
+
+// The legal move that goes so from a square to which one of these steps leads from the target.
+#[tactic(auto, using(crate::proofs::CameLaws::by_start))]
+fn by_steps(p: &Position, setup: &Setup, g: &Going, steps: &[u8]) -> Result<Option<Move>, SanFault>
+    requires same { setup.now ≡ p.now }
+    ensures tried { MatchResult result (FoundBy p.now g.now steps.now (length steps.now)) (NotOne p.now (Goes g.now)) }
+{
+    let mut found = None;
+    for step in steps {
+        let from = Square::at((g.target.index() + step % 64) % 64);
+        found = with_square(found, p, setup, g, from)?;
+    }
+    Ok(found)
+}
+
+// The legal move that goes so from the target's file or rank.
+fn by_lines(p: &Position, setup: &Setup, g: &Going) -> Result<Option<Move>, SanFault>
+    requires same { setup.now ≡ p.now }
+    ensures tried { MatchResult result (FoundOn p.now g.now File Rank None) (NotOne p.now (Goes g.now)) }
+{
+    let found = along(None, p, setup, g, Way::File)?;
+    along(found, p, setup, g, Way::Rank)
+}
+
+// What was found, and the legal move that goes so from one of the target's diagonals.
+fn by_diagonals(
+    found: Option<Move>,
+    p: &Position,
+    setup: &Setup,
+    g: &Going,
+) -> Result<Option<Move>, SanFault>
+    requires same { setup.now ≡ p.now }
+    requires fits { IfSome found (Fits p.now (Goes g.now)) }
+    ensures tried { MatchResult result (FoundOn p.now g.now Rising Falling found) (NotOne p.now (Goes g.now)) }
+{
+    let found = along(found, p, setup, g, Way::Rising)?;
+    along(found, p, setup, g, Way::Falling)
+}
+
+// What was found, and the legal move that goes so from the squares of this way through the target.
+#[tactic(auto, using(crate::proofs::CameLaws::along_start))]
+fn along(
+    found: Option<Move>,
+    p: &Position,
+    setup: &Setup,
+    g: &Going,
+    way: Way,
+) -> Result<Option<Move>, SanFault>
+    requires same { setup.now ≡ p.now }
+    requires fits { IfSome found (Fits p.now (Goes g.now)) }
+    ensures tried { MatchResult result (FoundAlong p.now g.now way 8 found) (NotOne p.now (Goes g.now)) }
+{
+    let mut found = found;
+    for i in 0..8u8 {
+        found = with_square(found, p, setup, g, place_on(way, g.target, i))?;
+    }
+    Ok(found)
+}
+
+// The square of this rank on the target's file, or of this file on its rank or on a diagonal, which goes on at the other
+// edge of the board.
+fn place_on(way: Way, target: Square, i: u8) -> Square
+    requires line { i < 8 }
+    ensures place { result ≡ place_on way target i }
+{
+    let file = target.index() % 8;
+    let rank = target.index() / 8;
+    match way {
+        Way::File => Square::at(8 * i + file),
+        Way::Rank => Square::at(8 * rank + i),
+        Way::Rising => Square::at(8 * ((rank + 8 + i - file) % 8) + i),
+        Way::Falling => Square::at(8 * ((rank + file + 8 - i) % 8) + i),
+    }
+}
+
+// What was found, and the legal move that goes so from this square. There is but one such move from a square. Most squares have
+// no such man, so the test of that belongs into the loops, and the rest apart.
+#[inline(always)]
+fn with_square(
+    found: Option<Move>,
+    p: &Position,
+    setup: &Setup,
+    g: &Going,
+    from: Square,
+) -> Result<Option<Move>, SanFault>
+    requires same { setup.now ≡ p.now }
+    requires fits { IfSome found (Fits p.now (Goes g.now)) }
+    ensures tried { MatchResult result (FoundWith p.now g.now from found) (NotOne p.now (Goes g.now)) }
 {
     if !stands_so(setup, g, from) {
-        return None;
+        return Ok(found);
     }
+    let Some(m) = from_square(p, g, from) else {
+        return Ok(found);
+    };
+    if is_from_elsewhere(&found, from) {
+        return Err(SanFault::Two);
+    }
+    Ok(Some(m))
+}
+
+// Whether what was found is a move from another square.
+fn is_from_elsewhere(found: &Option<Move>, from: Square) -> bool
+    ensures elsewhere { result ≡ is_from_elsewhere found.now from }
+{
+    match found {
+        Some(first) => first.from != from,
+        None => false,
+    }
+}
+
+// The legal move from the square, on which such a man stands, that goes so.
+#[inline(never)]
+fn from_square(p: &Position, g: &Going, from: Square) -> Option<Move>
+    requires stands { StandsSo p.now g.now from }
+    ensures answers { MatchOption result ((m : Move) → Fits p.now (Goes g.now) m → m.from ≡ from → ⊥) (FitsFrom p.now g.now from) }
+{
     let m = Move {
         from,
         to: g.target,
@@ -136,6 +279,7 @@ fn from_square(p: &Position, setup: &Setup, g: &Going, from: Square) -> Option<M
 }
 
 // Whether such a man stands on the square, as far as the text says where.
+#[inline(always)]
 fn stands_so(p: &Setup, g: &Going, s: Square) -> bool
     ensures answers { IsTrue result ↔ StandsSo p.now g.now s }
 {

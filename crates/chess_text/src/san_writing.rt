@@ -31,7 +31,7 @@ pub struct Rivals {
 }
 
 // From a square to those beside it, counted from a1 over h8 back to a1.
-const KING_STEPS: [u8; 8] = [1, 7, 8, 9, 55, 56, 57, 63];
+pub const KING_STEPS: [u8; 8] = [1, 7, 8, 9, 55, 56, 57, 63];
 
 /// Writes a legal move in Standard Algebraic Notation (PGN standard, 8.2.3): the letter of the man, as much of its origin as
 /// tells it from all others of its kind that can legally go there, `x` for a capture, the target, `=` and the letter of a
