@@ -1,10 +1,12 @@
 #!/usr/bin/env python3
-"""Runs the built program on bases that stand one below a limit: the edit that reaches it is done, the next one is refused by name.
+"""Runs the built program on bases that stand one below a limit: the edit that reaches it is done, the next one is refused by name, as a
+compaction is that would pass it.
 
 usage: cases/full_bases.py [PROGRAM]
 
 The bases are too large to be kept as cases: each is the Vienna game (make_bases.py) beside as many names of one kind as leave room for one
-more, or in a games file that has room for one more record; or one game without moves as often as leaves room for one more game.
+more, or in a games file that has room for one more record; or one game without moves as often as leaves room for one more game. And one is
+a game of the longest record as often as a games file has no room for, all of one record, so that it can't be compacted.
 """
 import os
 import pathlib
@@ -16,6 +18,8 @@ from make_bases import HERE, VIENNA, VIENNA_RECORD, entry, game, index
 
 LONGEST_FILE = 4_294_967_295
 MOST_GAMES = 16_777_214
+BLOCKS = 32_768
+LONGEST_RECORD = 131_071
 LIMITS = {"players": 1_048_576, "events": 524_288, "sites": 524_288, "rounds": 262_144}
 TAGS = {"players": "White", "events": "Event", "sites": "Site", "rounds": "Round"}
 
@@ -74,6 +78,13 @@ def full_games(program):
     return run(program, parts, len(record), script + "quit\n", MOST_GAMES - 2)
 
 
+def full_new_file(program):
+    record = game(b"\x0c", (b"x" * (LONGEST_RECORD - 5),))
+    header = index([])[:14] + (BLOCKS + 1).to_bytes(3, "big") + index([])[17:]
+    parts = {".si4": header + entry(0, len(record), counts=(0, 1, 0)), ".sn4": names_file([1, 1, 1, 1]), ".sg4": record}
+    return run(program, parts, len(record), "compact\nreset\nquit\n", BLOCKS)
+
+
 def main():
     program = os.path.realpath(sys.argv[1] if len(sys.argv) > 1 else HERE / "../crates/scid_shell/out/scid_shell")
     failed = 0
@@ -87,6 +98,9 @@ def main():
     wanted = f"added {MOST_GAMES - 1}\nerror: game 2: full games\nimported 1 refused 1\nunsaved\n"
     failed += (text := full_games(program)) != wanted
     print(f"full games: {text!r}" if text != wanted else "full games: as it should be")
+    wanted = f"error: full file\nfilter {BLOCKS + 1} of {BLOCKS + 1}\n"
+    failed += (text := full_new_file(program)) != wanted
+    print(f"full new file: {text!r}" if text != wanted else "full new file: as it should be")
     sys.exit(failed != 0)
 
 

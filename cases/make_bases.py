@@ -283,9 +283,52 @@ def imports():
     write("replace_games", "vienna", index([VIENNA]), VIENNA_NAMES, VIENNA_RECORD + game(D4) + game(C4), "after")
 
 
+def compactions():
+    """The bases of the cases of compaction. Names get their ids by first use, and records are placed from the beginning."""
+    write("compact", "pawns", index(PAWNS), PAWNS_NAMES, PAWNS_RECORDS)
+    kept = entry(0, 6, ids=(0, 1, 0, 0, 0), result=3, plies=3, home=(12, 4, 11))
+    write("compact", "pawns", index([kept]), names_file([("B", 1), ("A", 1)], [("?", 1)], [("?", 1)], [("?", 1)]), PAWNS_RECORDS[6:], "after")
+    write("compact_to_no_games", "pawns", index(PAWNS), PAWNS_NAMES, PAWNS_RECORDS)
+    write("compact_to_no_games", "pawns", index([]), b"Scid.sn\0" + bytes(28), b"", "after")
+    # Two games of one record get one each, and the names that no game uses go.
+    shared = dict(ids=(0, 1, 0, 0, 0), result=1, final=VIENNA_FINAL, plies=21, home=VIENNA_HOME)
+    names = names_file([("Nobody", 0), ("Tartakower, Savielly", 2), ("Reti, Richard", 2)], [("Vienna", 2)], [("Wien", 0), ("Vienna AUT", 2)], [("?", 2)])
+    old = entry(2, 25, **{**shared, "ids": (2, 1, 0, 1, 0)})
+    write("compact_shared_record", "vienna", index([old, old]), names, b"ab" + VIENNA_RECORD)
+    names = names_file([("Reti, Richard", 2), ("Tartakower, Savielly", 2)], [("Vienna", 2)], [("Vienna AUT", 2)], [("?", 2)])
+    write("compact_shared_record", "vienna", index([entry(0, 25, **shared), entry(25, 25, **shared)]), names, VIENNA_RECORD * 2, "after")
+    # A game that takes the place of another leaves the record and the names of that one behind.
+    write("compact_after_replace", "vienna", index([VIENNA]), VIENNA_NAMES, VIENNA_RECORD)
+    names = names_file([("?", 2)], [("?", 1)], [("?", 1)], [("?", 1)])
+    write("compact_after_replace", "vienna", index([entry(0, 4, plies=1, home=(12,))]), names, game(D4), "after")
+    # Names that one later game uses stay, and those of the deleted games alone go.
+    places = [(0, 6), (6, 6), (0, 6)]
+    ids = [(0, 1, 0, 0, 0), (1, 2, 1, 1, 1), (3, 1, 2, 0, 1)]
+    says = [dict(plies=3, home=(11, 4, 12)), dict(plies=3, home=(12, 4, 11)), dict(plies=3, home=(11, 4, 12))]
+    names = names_file([("A", 1), ("B", 3), ("C", 1), ("D", 1)], [("E", 1), ("F", 1), ("G", 1)], [("H", 2), ("I", 1)], [("J", 1), ("K", 2)])
+    write("compact_names_of_later_games", "names", index([entry(*place, ids=of, **said) for place, of, said in zip(places, ids, says)]), names,
+          PAWNS_RECORDS)
+    names = names_file([("B", 2), ("C", 1), ("D", 1)], [("F", 1), ("G", 1)], [("I", 1), ("H", 1)], [("K", 2)])
+    ids = [(0, 1, 0, 0, 0), (2, 0, 1, 1, 0)]
+    write("compact_names_of_later_games", "names", index([entry(place, 6, ids=of, **said) for place, of, said in zip((0, 6), ids, says[1:])]), names,
+          PAWNS_RECORDS[6:] + PAWNS_RECORDS[:6], "after")
+    # The last record comes to stand where it would cross a block's end.
+    longs = [game(b"\x0c", (b"x" * n,)) for n in (59_995, 59_995, 49_995, 69_995)]
+    says = dict(ids=(0, 1, 0, 0, 0), counts=(0, 1, 0))
+    places = [(0, 60_000), (60_000, 60_000), (131_072, 50_000), (181_072, 70_000)]
+    names = names_file([("A", 4), ("B", 4)], [("?", 4)], [("?", 4)], [("?", 4)])
+    write("compact_across_a_block", "long", index([entry(*place, **says) for place in places]), names,
+          longs[0] + longs[1] + bytes(11_072) + longs[2] + longs[3])
+    places = [(0, 60_000), (60_000, 50_000), (131_072, 70_000)]
+    names = names_file([("A", 3), ("B", 3)], [("?", 3)], [("?", 3)], [("?", 3)])
+    write("compact_across_a_block", "long", index([entry(*place, **says) for place in places]), names,
+          longs[1] + longs[2] + bytes(21_072) + longs[3], "after")
+
+
 def main():
     edits()
     imports()
+    compactions()
     for case in ("filters_by_number", "find_in_both_orders", "search_header_among_filters", "search_material_by_signatures",
                  "search_position", "search_position_in_each_mode", "tree_in_both_orders"):
         write(case, "pawns", index(PAWNS), PAWNS_NAMES, PAWNS_RECORDS)

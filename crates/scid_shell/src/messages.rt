@@ -24,6 +24,12 @@ nothing. Words stand between spaces and tabs; a quoted part keeps its spaces.
   search OP header ITEM ..
                      the games whose head has each item, as `white=Reti` or
                      `year=1900..1910`
+  search OP position MODE BOARD SIDE
+                     the games that reach a position which has in common with
+                     a board what MODE says: `exact`, `pawns`, `files` or
+                     `material`
+  search OP material ITEM ..
+                     the games that have such counts of men, as `wq=1..1`
   reset              all games into the filter
   clear              none
   negate             those that are out, and no others
@@ -37,11 +43,18 @@ nothing. Words stand between spaces and tabs; a quoted part keeps its spaces.
   list               the same with result, date, opening and players
   show G             the game G in PGN
   export             the games of the filter in PGN
+  tree BOARD SIDE    the moves that the games of the filter made from a board
+  import <<WORD      adds the games of the lines of PGN behind this one, up to
+                     a line WORD
+  replace G <<WORD   puts the one game of those lines in the place of game G
   tag G NAME VALUE   sets a tag of the game G
   delete G           marks the game G as deleted
   undelete G         takes that mark away
   mark G LETTER on   sets a mark of the game G; `off` takes it away
+  demo SEED GAMES    adds so many games of draws
   save               makes the files mean the base
+  compact            takes out the deleted games, and makes the files mean what
+                     is left
   info               what is in the base
   quit               ends, as the end of the input does
 

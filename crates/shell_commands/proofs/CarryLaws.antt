@@ -1,5 +1,5 @@
 -- Laws of what the files carry while a script runs.
-use Rattle.std.proofs.Common.{◌≡◌, ℕ, Bool, true, false, inl, true≢false, List, ◌++◌, Option, Some, None, Result, Ok, Err, sym, ap, ◌∙◌, subst}
+use Rattle.std.proofs.Common.{◌≡◌, ℕ, Bool, true, false, inl, inr, true≢false, List, ◌++◌, Option, Some, None, Result, Ok, Err, sym, ap, ◌∙◌, subst}
 use Rattle.std.specs.Prelude.{IfErr}
 use Rattle.base_files.specs.Seen.{Seen, appended}
 use Rattle.base_files.specs.Told.{Grew, adds}
@@ -9,6 +9,7 @@ use Rattle.base_core.specs.Represents.{Kept}
 use Rattle.base_core.proofs.GrowLaws.{carries-longer, holds-own, means-carries}
 use Rattle.base_core.proofs.SaveLaws.{holds-more}
 use Rattle.name_base.specs.NameLists.{NameLists}
+use Rattle.script_text.specs.declared.command.Command.TheVariants.{Quit}
 use Rattle.shell_commands.specs.declared.halt.Halt.{Halt}
 use Rattle.shell_commands.specs.Do.{Order}
 use Rattle.shell_commands.specs.Saving.{AreBeside, AreLeft, Beside, CarryIt, Contents}
@@ -125,3 +126,14 @@ carry_grown holding seen seen' s order is grew st = may_in_part holding.kept see
 pub carry_later : (holding : Holding) (seen : Seen) (s s' : State) (order : Order) → s'.carried ≡ s.carried → Stands holding seen s' → StillCarry seen s order
 carry_later holding seen s s' order same st =
     subst (λ (c : Option Base). MayCarry seen c order s.base) same (may_carry holding.kept seen s'.unsaved s'.carried order s.base st.carried)
+
+-- What is carried where `quit` would break off, which leaves nothing, is carried whatever breaks off.
+carried_always : (seen : Seen) (carried : Option Base) (order : Order) (base base' : Base) → MayCarry seen carried (Ok Quit) base' → MayCarry seen carried order base
+carried_always seen (Some own) order base base' (inl carry) = inl carry
+carried_always seen (Some own) order base base' (inr left) = absurd left
+carried_always seen None order base base' may = tt
+
+pub carry_before : (seen : Seen) (s s' : State) (order : Order) → s'.carried ≡ s.carried → StillCarry seen s' (Ok Quit) → StillCarry seen s order
+carry_before seen s s' order same carry =
+    let P : Option Base → Type 0 = λ c. MayCarry seen c (Ok Quit) s'.base in
+    carried_always seen s.carried order s.base s'.base (subst P same carry)

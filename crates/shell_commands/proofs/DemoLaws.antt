@@ -1,5 +1,5 @@
 -- Laws of games that are made of draws and added one by one, and of showing them.
-use Rattle.std.proofs.Common.{◌≡◌, ◌+◌, ◌-◌, true, ◌≤◌, ◌<◌, ℕ, zero, suc, inl, inr, List, [], ◌∷◌, ◌++◌, length, map, Option, Some, None, Result, Ok, Err, refl, sym, ap, ◌∙◌, subst, arith, OnOk}
+use Rattle.std.proofs.Common.{◌≡◌, ◌+◌, ◌-◌, true, ◌≤◌, ◌<◌, ℕ, zero, suc, List, [], ◌∷◌, ◌++◌, length, map, Option, Some, None, Result, Ok, Err, refl, sym, ap, ◌∙◌, subst, arith, OnOk}
 use Rattle.std.specs.Global.{Vec}
 use Rattle.std.specs.Prelude.{IfErr}
 use Rattle.base_files.specs.Seen.{Seen, appended}
@@ -24,9 +24,8 @@ use Rattle.base_core.specs.Means.{HoldsNames}
 use Rattle.base_core.specs.Represents.{Kept, Represents}
 use Rattle.base_core.specs.declared.fault.EditError.{EditError}
 use Rattle.base_core.specs.declared.fault.EditError.TheVariants as edit
-use Rattle.pgn_read.specs.declared.item.Item.TheVariants.{Good}
 use Rattle.sig_index.specs.declared.pos_query.PosQuery.{PosQuery}
-use Rattle.script_text.specs.declared.command.Command.TheVariants.{Demo, Nothing, SearchPosition, Tree}
+use Rattle.script_text.specs.declared.command.Command.TheVariants.{Demo, Quit, SearchPosition, Tree}
 use Rattle.shell_commands.specs.declared.halt.Halt.{Halt}
 use Rattle.shell_commands.specs.declared.halt.Halt.TheVariants as halt
 use Rattle.shell_commands.specs.declared.saved.SavedFilter.{SavedFilter}
@@ -37,10 +36,11 @@ use Rattle.shell_commands.specs.Editing.{refusal}
 use Rattle.shell_commands.specs.Ends.{IsFault, IsOutput, refused_edit}
 use Rattle.shell_commands.specs.Importing.{none_taken, unless_not_added, with_game, without_last}
 use Rattle.shell_commands.specs.Searching.{search_position_after, search_position_text}
-use Rattle.shell_commands.specs.Stands.{Broken, Holding, MayCarry, Stands, StillCarry, cost}
+use Rattle.shell_commands.specs.Stands.{Broken, Holding, Stands, StillCarry, cost}
 use Rattle.shell_commands.specs.State.{State}
 use Rattle.shell_commands.specs.Trees.{tree_said}
 use Rattle.shell_commands.proofs.AddLaws.{add_stands, game_fits}
+use Rattle.shell_commands.proofs.CarryLaws.{carry_before}
 use Rattle.shell_commands.proofs.Causing.{broken_by_fault}
 use Rattle.shell_commands.proofs.FindingLaws.{held_by}
 use Rattle.shell_commands.proofs.Prices.{cost_price}
@@ -165,18 +165,8 @@ adding_carried s seed zero = refl
 adding_carried s seed (suc games) =
     ended-carried (adding s seed games).refused (adding s seed games) (demo_game (adding s seed games).number games) ∙ adding_carried s seed games
 
-may-behind : (seen : Seen) (carried : Option Base) (order : Order) (base base' : Base) → MayCarry seen carried (Ok Nothing) base → MayCarry seen carried order base'
-may-behind seen (Some own) order base base' (inl h) = inl h
-may-behind seen (Some own) order base base' (inr h) = let saves = h.0 in absurd (cc)
-may-behind seen None order base base' h = tt
-
--- What is carried behind another state of the same script is carried here.
-pub carry_behind : (seen : Seen) (s s' : State) (order : Order) → s'.carried ≡ s.carried → StillCarry seen s' (Ok Nothing) → StillCarry seen s order
-carry_behind seen s s' order same h =
-    may-behind seen s.carried order s'.base s.base (subst (λ (c : Option Base). MayCarry seen c (Ok Nothing) s'.base) same h)
-
-pub carry_adding : (seen : Seen) (s : State) (seed i : ℕ) (order : Order) → StillCarry seen (adding s seed i).state (Ok Nothing) → StillCarry seen s order
-carry_adding seen s seed i order h = carry_behind seen s (adding s seed i).state order (adding_carried s seed i) h
+pub carry_adding : (seen : Seen) (s : State) (seed i : ℕ) (order : Order) → StillCarry seen (adding s seed i).state (Ok Quit) → StillCarry seen s order
+carry_adding seen s seed i order h = carry_before seen s (adding s seed i).state order (adding_carried s seed i) h
 
 -- ---- what is shown
 

@@ -1,8 +1,7 @@
 -- Laws of bodies that are taken in item by item.
-use Rattle.std.proofs.Common.{◌≡◌, ◌≤◌, ◌+◌, ◌-◌, ℕ, Bool, true, false, inl, inr, List, [], ◌∷◌, ◌++◌, length, Option, Some, None, OnOk, Result, Ok, Err, refl, sym, ap, ◌∙◌, subst, arith, append_assoc, append-nil}
+use Rattle.std.proofs.Common.{◌≡◌, ◌≤◌, ◌+◌, ◌-◌, ℕ, Bool, true, false, List, [], ◌∷◌, ◌++◌, length, Option, Some, None, OnOk, Result, Ok, Err, refl, sym, ap, ◌∙◌, subst, arith, append_assoc, append-nil}
 use mir.Val.{bool_byte}
 use Rattle.std.specs.Prelude.{if◌then◌else◌, IfErr, IfOk}
-use Rattle.base_core.specs.Base.{Base}
 use Rattle.base_files.specs.Seen.{Seen}
 use Rattle.base_files.specs.Told.{adds}
 use Rattle.base_files.proofs.Telling.{adds-nil}
@@ -22,12 +21,10 @@ use Rattle.pgn_read.specs.declared.item.Item.{Item}
 use Rattle.pgn_read.specs.declared.item.Item.TheVariants.{Bad, Good}
 use Rattle.pgn_read.proofs.CountLaws.{are_items, listed_alone}
 use Rattle.pgn_read.proofs.ReadLaws.{same_next}
-use Rattle.script_text.specs.declared.command.Command.TheVariants.{Quit}
-use Rattle.shell_commands.specs.Do.{Order}
 use Rattle.shell_commands.specs.Ends.{IsDevice, IsFault, IsOutput, unread_halt}
 use Rattle.shell_commands.specs.Importing.{Intake, intake, item_after, item_text, next_number, none_taken, not_added, one_refused, unless_not_added}
 use Rattle.shell_commands.specs.Intakes.{AreBehind, Counted, IsBodyFault, IsIntake, TakesIn, TookIn, TookNext}
-use Rattle.shell_commands.specs.Stands.{Holding, MayCarry, Stands, StillCarry}
+use Rattle.shell_commands.specs.Stands.{Holding, Stands}
 use Rattle.shell_commands.specs.State.{State}
 use Rattle.shell_commands.specs.declared.halt.Halt.{Halt}
 use Rattle.shell_commands.specs.declared.halt.Halt.TheVariants as halt
@@ -244,14 +241,3 @@ unless_keeps None i head game = refl
 pub item_keeps : (i : Intake) (item : Item) → (item_after i item).state.carried ≡ i.state.carried
 item_keeps i (Good head game) = unless_keeps (not_added i.state.base head game) i head game
 item_keeps i (Bad fault) = refl
-
--- What is carried where another order than `save` breaks off is carried whatever breaks off.
-carried_always : (seen : Seen) (carried : Option Base) (order : Order) (base base' : Base) → MayCarry seen carried (Ok Quit) base' → MayCarry seen carried order base
-carried_always seen (Some own) order base base' (inl carry) = inl carry
-carried_always seen (Some own) order base base' (inr (is, saved)) = absurd (cc)
-carried_always seen None order base base' may = tt
-
-pub carry_before : (seen : Seen) (s s' : State) (order : Order) → s'.carried ≡ s.carried → StillCarry seen s' (Ok Quit) → StillCarry seen s order
-carry_before seen s s' order same carry =
-    let P : Option Base → Type 0 = λ c. MayCarry seen c (Ok Quit) s'.base in
-    carried_always seen s.carried order s.base s'.base (subst P same carry)

@@ -18,6 +18,7 @@ pub mod CarryLaws
 pub mod EditLaws
 pub mod TagLaws
 pub mod SaveLaws
+pub mod CompactLaws
 pub mod TreeLaws
 pub mod SavedLaws
 pub mod AddLaws

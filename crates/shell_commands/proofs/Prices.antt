@@ -1,5 +1,7 @@
 -- What a line costs over what a machine holds is its price in the state that the machine stands for.
-use Rattle.std.proofs.Common.{◌≡◌, ◌≤◌, ◌+◌, ◌&&◌, ℕ, zero, suc, Bool, true, false, List, [], ◌∷◌, length, sum_by, slice_get, Option, Some, Ok, Err, refl, sym, ap, ap₂, ◌∙◌, arith}
+use Rattle.std.proofs.Common.{◌≡◌, ◌≤◌, ◌+◌, ◌&&◌, ℕ, zero, suc, Bool, false, List, [], ◌∷◌, length, sum_by, slice_get, Option, Some, Ok, Err, refl, sym, ap, ap₂, ◌∙◌, arith, not, filter, inl, inr}
+use Rattle.std.proofs.lemmas.Bool.{cases_Bool}
+use Rattle.std.proofs.lemmas.List.Sums.{sum_by-cons}
 use Rattle.base_files.specs.Seen.{Seen}
 use Rattle.base_core.specs.Base.{Held}
 use Rattle.base_core.specs.Entries.{sig_in}
@@ -10,19 +12,21 @@ use Rattle.game_filter.specs.declared.op.Op.TheVariants.{Ignore, And}
 use Rattle.mat_search.specs.Passing as material
 use Rattle.pos_search.specs.Passing as position
 use Rattle.script_text.specs.declared.command.Command.{Command}
-use Rattle.script_text.specs.declared.command.Command.TheVariants.{Find, SearchPosition, SearchMaterial, Show, Export, Tag, Tree, Demo}
+use Rattle.script_text.specs.declared.command.Command.TheVariants.{Find, SearchPosition, SearchMaterial, Show, Export, Tag, Tree, Demo, Compact}
 use Rattle.sig_index.specs.declared.signature.Sig.{Sig}
 use Rattle.shell_commands.specs.Do.{Order, command_price, filtered_len, is_demo, len_if_in, len_in, price, price_by, priced}
 use Rattle.shell_commands.specs.Passing.{len_if, searched_len, sig_of}
 use Rattle.shell_commands.specs.Searching.{exactly}
 use Rattle.shell_commands.specs.Stands.{Holding, Stands, cost}
 use Rattle.shell_commands.specs.State.{State}
+use Rattle.compact_base.proofs.FirstLaws.{held-deleted}
 use Rattle.shell_commands.proofs.PassingLaws.{sig_is}
 
--- What the price of a command looks at: the length of a game's record, and its signature.
+-- What the price of a command looks at: the length of a game's record, its signature, and whether it is deleted.
 record Alike (e : Entry) (held : Held) : Type 0 where
   len : held.len ≡ e.len
   sig : sig_in e ≡ sig_of held.game
+  deleted : held.head.deleted ≡ e.deleted
 
 -- A game that is read by its signature costs the same.
 same_read : (test : Sig → Bool) (looks : Bool) (e : Entry) (held : Held) → Alike e held
@@ -64,9 +68,26 @@ same_shown (suc game) (e ∷ es) (held ∷ all) count each =
     let count' : length es ≡ length all = cc in
     same_shown game es all count' (λ i e' held' there here. each (suc i) e' held' there here)
 
+same_kept : (es : List Entry) (all : List Held) → length es ≡ length all
+    → ((i : ℕ) (e : Entry) (held : Held) → slice_get es i ≡ Some e → slice_get all i ≡ Some held → (held.len ≡ e.len) × (held.head.deleted ≡ e.deleted))
+    → sum_by (λ (x : Entry). x.len) (filter (λ (x : Entry). not x.deleted) es) ≡ sum_by (λ (x : Held). x.len) (filter (λ (x : Held). not x.head.deleted) all)
+same_kept [] [] count each = refl
+same_kept [] (held ∷ all) count each = cc
+same_kept (e ∷ es) [] count each = cc
+same_kept (e ∷ es) (held ∷ all) count each =
+    let count' : length es ≡ length all = cc in
+    let here = each zero e held refl refl in
+    let rest = same_kept es all count' (λ i e' held' there here'. each (suc i) e' held' there here') in
+    elim (cases_Bool e.deleted) [
+      | inl goes ↦ rw (goes, here.1 ∙ goes) rest
+      | inr stays ↦
+          rw (stays, here.1 ∙ stays) (sum_by-cons (λ (x : Entry). x.len) e (filter (λ (x : Entry). not x.deleted) es)
+          ∙ (ap₂ (λ (m n : ℕ). m + n) (sym here.0) rest ∙ sym (sum_by-cons (λ (x : Held). x.len) held (filter (λ (x : Held). not x.head.deleted) all))))
+    ]
+
 same_price : (command : Command) (plies : List (Option ℕ)) (es : List Entry) (all : List Held) → length es ≡ length all
     → ((i : ℕ) (e : Entry) (held : Held) → slice_get es i ≡ Some e → slice_get all i ≡ Some held → Alike e held)
-    → command_price (λ (x : Entry). x.len) sig_in es plies command ≡ command_price (λ (x : Held). x.len) (λ (x : Held). sig_of x.game) all plies command
+    → command_price (λ (x : Entry). x.len) sig_in (λ (x : Entry). x.deleted) es plies command ≡ command_price (λ (x : Held). x.len) (λ (x : Held). sig_of x.game) (λ (x : Held). x.head.deleted) all plies command
 same_price (Find board side) plies es all count each =
     same_searched (λ (s : Sig). position.passes s (exactly board side)) Ignore plies es all count each
 same_price (SearchPosition op query) plies es all count each = same_searched (λ (s : Sig). position.passes s query) op plies es all count each
@@ -76,6 +97,7 @@ same_price (Tag game edit) plies es all count each = same_shown game es all coun
 same_price Export plies es all count each = same_filtered plies es all count (λ i e held there here. (each i e held there here).len)
 same_price (Tree board side) plies es all count each =
     same_searched (λ (s : Sig). position.passes s (exactly board side)) And plies es all count each
+same_price Compact plies es all count each = same_kept es all count (λ i e held there here. let alike = each i e held there here in (alike.len, alike.deleted))
 same_price _ plies es all count each = refl
 
 price-other : (s : State) (command : Command) → is_demo (Ok command) ≡ false → price_by s command ≡ priced s command
@@ -84,11 +106,11 @@ price-other s _ other = refl
 
 pub cost_price : (holding : Holding) (seen : Seen) (s : State) (order : Order) → Stands holding seen s → is_demo order ≡ false → cost holding order ≡ price s order
 cost_price holding seen s (Ok command) stands other =
-    ap (λ (plies : List (Option ℕ)). command_price (λ (x : Entry). x.len) sig_in holding.kept.entries plies command) stands.filter
+    ap (λ (plies : List (Option ℕ)). command_price (λ (x : Entry). x.len) sig_in (λ (x : Entry). x.deleted) holding.kept.entries plies command) stands.filter
     ∙ same_price command s.filter holding.kept.entries s.base.games stands.base.count
     (λ i e held there here.
     let keeps = stands.base.each i e held there here in
-    record { len = keeps.says.len; sig = sig_is held.game (sig_in e) keeps.signed })
+    record { len = keeps.says.len; sig = sig_is held.game (sig_in e) keeps.signed; deleted = held-deleted holding.kept.names stands.games e held keeps })
     ∙ sym (price-other s command other)
 cost_price holding seen s (Err fault) stands other = refl
 

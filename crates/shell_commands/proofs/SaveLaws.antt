@@ -1,9 +1,9 @@
 -- Laws of `save`.
-use Rattle.std.proofs.Common.{◌≡◌, ℕ, Bool, true, false, inl, inr, ◌⊎◌, List, [], length, Option, Some, None, IfSome, Ok, Err, refl, sym, ap, ◌∙◌, subst}
+use Rattle.std.proofs.Common.{◌≡◌, ℕ, Bool, false, inl, inr, List, [], Option, Some, None, IfSome, Ok, refl, ap, ◌∙◌, subst}
 use Rattle.base_files.specs.Seen.{Seen, replaced, told_instead}
 use Rattle.base_files.specs.declared.part.Part.TheVariants as part
 use Rattle.base_core.specs.Base.{Base}
-use Rattle.base_core.specs.Means.{Carries, HoldsNames, Means}
+use Rattle.base_core.specs.Means.{Carries, HoldsNames}
 use Rattle.base_core.specs.Opening.{IfTold}
 use Rattle.base_core.specs.Represents.{IsSound, Kept, Represents}
 use Rattle.base_core.specs.Saved.{IsLeft, IsSaved, MeansIt, OpensAgain, StillCarries}
@@ -11,7 +11,7 @@ use Rattle.block_store.specs.Placing.{IsEnd}
 use Rattle.script_text.specs.declared.command.Command.TheVariants.{Save}
 use Rattle.shell_commands.specs.declared.saved.SavedFilter.{SavedFilter}
 use Rattle.shell_commands.specs.Saving.{AreBeside, Beside, CarryIt, Contents, save_after}
-use Rattle.shell_commands.specs.Stands.{Fits, Holding, MayCarry, Sound, Stands, StillCarry}
+use Rattle.shell_commands.specs.Stands.{Holding, MayCarry, Sound, Stands, StillCarry}
 use Rattle.shell_commands.specs.State.{State}
 use Rattle.shell_commands.proofs.CarryLaws.{beside_meant}
 use Rattle.shell_commands.proofs.FindingLaws.{held_by}
@@ -31,12 +31,12 @@ saved_sound kept filter saved seen seen' is at =
     record { fits = record { filter = is.fits.filter; saved = is.fits.saved }; base = clean_sound kept is.base; at_end = at }
 
 -- The contents that are told beside a state.
-contents_of : (kept : Kept) (seen : Seen) (unsaved : Bool) (carried : Option Base) (games : List ℕ) → AreBeside kept seen unsaved carried → seen.games ≡ Some games → Contents seen
+pub contents_of : (kept : Kept) (seen : Seen) (unsaved : Bool) (carried : Option Base) (games : List ℕ) → AreBeside kept seen unsaved carried → seen.games ≡ Some games → Contents seen
 contents_of kept seen unsaved (Some base) games b told = b.contents
 contents_of kept seen unsaved None games b told = record { index = []; names = []; games = games; index_told = b.0; names_told = b.1; games_told = told }
 
 -- What is known where the three contents are told.
-known_told : (seen : Seen) (F : List ℕ → List ℕ → List ℕ → Type 0) → (c : Contents seen) → IfTold seen F → F c.index c.names c.games
+pub known_told : (seen : Seen) (F : List ℕ → List ℕ → List ℕ → Type 0) → (c : Contents seen) → IfTold seen F → F c.index c.names c.games
 known_told seen F c known =
     let I : Option (List ℕ) → Type 0 = λ o. IfSome o (λ index. IfSome seen.names (λ names. IfSome seen.games (λ games. F index names games))) in
     let N : Option (List ℕ) → Type 0 = λ o. IfSome o (λ names. IfSome seen.games (λ games. F c.index names games)) in
@@ -109,7 +109,7 @@ unsaved_carry kept filter saved seen seen' s st left still = left_may kept seen 
 
 -- It was done, and its text was not written.
 saved_may : (kept : Kept) (seen : Seen) (carried : Option Base) (base : Base) → Beside kept seen false base → MayCarry seen carried (Ok Save) base
-saved_may kept seen (Some own) base b = inr (refl, (b.contents, b.carries))
+saved_may kept seen (Some own) base b = inr (b.contents, b.carries)
 saved_may kept seen None base b = tt
 
 pub saved_carry : (holding : Holding) (seen : Seen) (s : State) → Stands holding seen (save_after s) → StillCarry seen s (Ok Save)

@@ -1,5 +1,5 @@
 -- What each line of a script does to a state, and the text that it writes: the plain machine. This project's own.
-use Rattle.std.specs.Prelude.{ℕ, ◌+◌, Bool, true, false, codes, List, [], ◌∷◌, slice_get, Option, Some, None, Result, Ok, Err}
+use Rattle.std.specs.Prelude.{ℕ, ◌+◌, Bool, true, false, codes, List, [], ◌∷◌, slice_get, Option, Some, None, Result, Ok, Err, sum_by, filter, not}
 use Rattle.cell_core.specs.declared.man.Colour.TheVariants.{White}
 use Rattle.chess_laws.specs.Position.{start_men}
 use Rattle.game_filter.specs.Filter.{intersection, union}
@@ -7,7 +7,7 @@ use Rattle.game_filter.specs.declared.op.Op.TheVariants.{Ignore, And as Among}
 use Rattle.mat_search.specs.Passing as material
 use Rattle.pos_search.specs.Passing as position
 use Rattle.script_text.specs.declared.command.Command.{Command}
-use Rattle.script_text.specs.declared.command.Command.TheVariants.{Nothing, Find, SearchPosition, SearchMaterial, SearchHeader, Reset, Clear, Negate, Restrict, Keep, Take, And, Or, Drop, Hits, List as Listing, Show, Export, Import, Replace, Tag, Delete, Undelete, Mark, Tree, Save, Info, Demo, Quit}
+use Rattle.script_text.specs.declared.command.Command.TheVariants.{Nothing, Find, SearchPosition, SearchMaterial, SearchHeader, Reset, Clear, Negate, Restrict, Keep, Take, And, Or, Drop, Hits, List as Listing, Show, Export, Import, Replace, Tag, Delete, Undelete, Mark, Tree, Save, Info, Demo, Quit, Compact}
 use Rattle.script_text.specs.declared.fault.ScriptFault.{ScriptFault}
 use Rattle.script_text.specs.declared.fault.ScriptFault.TheVariants.{Unknown}
 use Rattle.command_runs.specs.Plain.{Plain}
@@ -23,6 +23,7 @@ use Rattle.shell_commands.specs.GameTexts.{show_text, export_text}
 use Rattle.shell_commands.specs.Showing.{info_text, quit_text}
 use Rattle.shell_commands.specs.Editing.{delete_after, undelete_after, mark_after, edit_text, tag_after, tag_text}
 use Rattle.shell_commands.specs.Saving.{save_after, save_text}
+use Rattle.shell_commands.specs.Compacting.{compact_after, compact_text}
 use Rattle.shell_commands.specs.Trees.{tree_said}
 use Rattle.shell_commands.specs.Demo.{adding, at_start, demo_after, demo_text, shown_after}
 
@@ -30,7 +31,7 @@ use Rattle.shell_commands.specs.Demo.{adding, at_start, demo_after, demo_text, s
 abbrev pub Order : Type 0
 Order = Result Command ScriptFault
 
--- The state after a command. A command that is not there yet does nothing.
+-- The state after a command. Of those that have a body, `Tasks` tells what they change.
 abbrev pub done_by : State → Command → State
 done_by s (Find board side) = find_after s board side
 done_by s (SearchPosition op query) = search_position_after s op query
@@ -51,9 +52,10 @@ done_by s (Undelete game) = undelete_after s game
 done_by s (Mark game bit on) = mark_after s game bit on
 done_by s Save = save_after s
 done_by s (Demo seed games) = demo_after s seed games
+done_by s Compact = compact_after s
 done_by s _ = s
 
--- The text of a command. One that is not there yet is an unknown command.
+-- The text of a command. The texts of those that have a body are in `Tasks`; what stands for them here is never written.
 abbrev pub said_by : State → Command → List ℕ
 said_by s Nothing = []
 said_by s (Find board side) = find_text s board side
@@ -80,6 +82,7 @@ said_by s (Mark game bit on) = edit_text (codes "marked ") s game
 said_by s (Tree board side) = tree_said s board side
 said_by s Save = save_text s
 said_by s (Demo seed games) = demo_text s seed games
+said_by s Compact = compact_text s
 said_by s Info = info_text s
 said_by s Quit = quit_text s
 said_by s _ = fault_line Unknown
@@ -110,19 +113,21 @@ command_asks (Tag game edit) = true
 command_asks (Tree board side) = true
 command_asks Save = true
 command_asks (Demo seed games) = true
+command_asks Compact = true
 command_asks _ = false
 
 abbrev pub order_asks : Order → Bool
 order_asks (Ok command) = command_asks command
 order_asks (Err fault) = false
 
--- Whether a line may change the files: games and tags add to the games file, and `save` replaces the other two.
+-- Whether a line may change the files: games and tags add to the games file, `save` replaces the other two, and `compact` all three.
 abbrev pub command_writes : Command → Bool
 command_writes (Import word) = true
 command_writes (Replace game word) = true
 command_writes (Tag game edit) = true
 command_writes Save = true
 command_writes (Demo seed games) = true
+command_writes Compact = true
 command_writes _ = false
 
 abbrev pub order_writes : Order → Bool
@@ -145,17 +150,19 @@ filtered_len len [] games = 0
 filtered_len len (ply ∷ plies) [] = 0
 filtered_len len (ply ∷ plies) (game ∷ games) = len_if_in ply (len game) + filtered_len len plies games
 
--- How many bytes of the games file a command asks at most, by what has the lengths of the games' records and their signatures: those of the
--- games that are looked at and can match, of the game that is shown or tagged, of the games that are exported.
-abbrev pub command_price : {A : Type 0} → (A → ℕ) → (A → Sig) → List A → List (Option ℕ) → Command → ℕ
-command_price len sig games plies (Find board side) = searched_len len (λ game. position.passes (sig game) (exactly board side)) Ignore plies games
-command_price len sig games plies (SearchPosition op query) = searched_len len (λ game. position.passes (sig game) query) op plies games
-command_price len sig games plies (SearchMaterial op query) = searched_len len (λ game. material.passes (sig game) query) op plies games
-command_price len sig games plies (Show game) = len_in len (slice_get games game)
-command_price len sig games plies (Tag game edit) = len_in len (slice_get games game)
-command_price len sig games plies Export = filtered_len len plies games
-command_price len sig games plies (Tree board side) = searched_len len (λ game. position.passes (sig game) (exactly board side)) Among plies games
-command_price len sig games plies _ = 0
+-- How many bytes of the games file a command asks at most, by what has the lengths of the games' records, their signatures and whether they
+-- are deleted: those of the games that are looked at and can match, of the game that is shown or tagged, of the games that are exported, of
+-- the games that stay.
+abbrev pub command_price : {A : Type 0} → (A → ℕ) → (A → Sig) → (A → Bool) → List A → List (Option ℕ) → Command → ℕ
+command_price len sig gone games plies (Find board side) = searched_len len (λ game. position.passes (sig game) (exactly board side)) Ignore plies games
+command_price len sig gone games plies (SearchPosition op query) = searched_len len (λ game. position.passes (sig game) query) op plies games
+command_price len sig gone games plies (SearchMaterial op query) = searched_len len (λ game. material.passes (sig game) query) op plies games
+command_price len sig gone games plies (Show game) = len_in len (slice_get games game)
+command_price len sig gone games plies (Tag game edit) = len_in len (slice_get games game)
+command_price len sig gone games plies Export = filtered_len len plies games
+command_price len sig gone games plies (Tree board side) = searched_len len (λ game. position.passes (sig game) (exactly board side)) Among plies games
+command_price len sig gone games plies Compact = sum_by len (filter (λ game. not (gone game)) games)
+command_price len sig gone games plies _ = 0
 
 -- Whether a line is `demo`, which searches what it added.
 abbrev pub is_demo : Order → Bool
@@ -165,7 +172,7 @@ is_demo (Err fault) = false
 
 -- What a command costs in a state.
 abbrev pub priced : State → Command → ℕ
-priced s command = command_price (λ held. held.len) (λ held. sig_of held.game) s.base.games s.filter command
+priced s command = command_price (λ held. held.len) (λ held. sig_of held.game) (λ held. held.head.deleted) s.base.games s.filter command
 
 -- The initial position is searched among all games, and its tree is that of the games that it leaves in.
 abbrev pub shown_price : State → ℕ

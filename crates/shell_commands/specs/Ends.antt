@@ -8,6 +8,9 @@ use Rattle.base_files.specs.declared.faults.Stop.TheVariants as stop
 use Rattle.command_runs.specs.Endings.{Halted}
 use Rattle.base_core.specs.declared.fault.SaveError.{SaveError}
 use Rattle.base_core.specs.declared.fault.SaveError.TheVariants as saving
+use Rattle.base_core.specs.declared.fault.What.TheVariants.{File}
+use Rattle.compact_base.specs.declared.fault.CompactError.{CompactError}
+use Rattle.compact_base.specs.declared.fault.CompactError.TheVariants as compacting
 use Rattle.pgn_read.specs.declared.error.PgnError.{PgnError}
 use Rattle.pgn_read.specs.declared.error.PgnError.TheVariants as pgn
 use Rattle.shell_commands.specs.Editing.{full_line, full_words, too_long_line, too_long_words}
@@ -92,6 +95,13 @@ EndsAs ends e = (e ≡ halt.Device stop.Memory) ⊎ (ends ≡ Err e)
 abbrev pub unsaved_halt : SaveError → Halt
 unsaved_halt saving.Failed = halt.Device stop.Files
 unsaved_halt saving.Memory = halt.Device stop.Memory
+
+-- How a command ends whose base is not compacted: with an error line, or early.
+abbrev pub uncompacted : CompactError → Result (List ℕ) Halt
+uncompacted compacting.Full = Ok (full_line File)
+uncompacted compacting.Failed = Err (halt.Device stop.Files)
+uncompacted compacting.Memory = Err (halt.Device stop.Memory)
+uncompacted (compacting.Changed game kept found) = Err (halt.Changed game kept found)
 
 -- How a command ends whose item of this number is refused: with its line, or early.
 abbrev pub refused_item : ℕ → EditError → Result (List ℕ) Halt

@@ -1,11 +1,10 @@
 -- The commands that take games in: `import` and `replace`. This project's own.
-use Rattle.std.specs.Prelude.{ℕ, zero, suc, ◌+◌, true, nat_lt, if◌then◌else◌, List, [], ◌∷◌, ◌++◌, length, map, slice_get, Option, Some, None, option_map, Result, Ok, Err, codes}
+use Rattle.std.specs.Prelude.{ℕ, zero, suc, ◌+◌, nat_lt, if◌then◌else◌, List, [], ◌∷◌, ◌++◌, length, map, slice_get, Option, Some, None, option_map, Result, Ok, Err, codes}
 use Rattle.std.specs.Fmt.{decimal}
 use Rattle.base_core.specs.Base.{Base, Held}
 use Rattle.base_core.specs.Edited.{first_full}
 use Rattle.base_core.specs.Edits.{added, end_with, game_replaced, names_with}
 use Rattle.base_core.specs.declared.fault.What.{What}
-use Rattle.chess_text.specs.declared.fault.SanFault.{SanFault}
 use Rattle.chess_text.specs.declared.fault.SanFault.TheVariants as san
 use Rattle.command_runs.specs.Plain.{Plain, after_all, run}
 use Rattle.game_codec.specs.Written.{longest, written_record}

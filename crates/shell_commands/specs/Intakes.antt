@@ -9,7 +9,7 @@ use Rattle.pgn_read.specs.Fit.{IsFitGame}
 use Rattle.pgn_read.specs.Items.{AreItems, items_of}
 use Rattle.pgn_read.specs.Text.{At}
 use Rattle.pgn_read.specs.declared.item.Item.{Item}
-use Rattle.pgn_read.specs.declared.item.Item.TheVariants.{Good, Bad}
+use Rattle.pgn_read.specs.declared.item.Item.TheVariants.{Good}
 use Rattle.shell_commands.specs.Importing.{Intake, intake, first_faulty, faulty_line, none_taken}
 use Rattle.shell_commands.specs.Stands.{Holding, Stands}
 use Rattle.shell_commands.specs.State.{State}

@@ -15,6 +15,7 @@ pub mod Turns
 pub mod Ends
 pub mod Editing
 pub mod Saving
+pub mod Compacting
 pub mod Importing
 pub mod Tasks
 pub mod Intakes

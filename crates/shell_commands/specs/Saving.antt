@@ -1,5 +1,5 @@
 -- Saving, and what the files carry while a script runs. This project's own.
-use Rattle.std.specs.Prelude.{◌≡◌, ◌⊎◌, ℕ, Bool, false, ⊤, List, [], ◌∷◌, ◌++◌, length, Option, Some, None, Ok, codes}
+use Rattle.std.specs.Prelude.{◌≡◌, ℕ, Bool, false, List, [], ◌++◌, length, Option, Some, None, codes}
 use Rattle.std.specs.Fmt.{decimal}
 use Rattle.base_core.specs.Base.{Base}
 use Rattle.base_core.specs.Means.{Carries, HoldsNames, Means}
@@ -45,13 +45,13 @@ pub record Beside (kept : Kept) (seen : Seen) (unsaved : Bool) (base : Base) : T
 abbrev pub AreEmpty : Seen → Type 0
 AreEmpty seen = (seen.index ≡ Some []) × (seen.names ≡ Some [])
 
--- Where there is a base that they carry; those of a base that was created and never saved are empty.
+-- Where there is a base that they carry; those of a base that was created and neither saved nor compacted are empty.
 abbrev pub AreBeside : Kept → Seen → Bool → Option Base → Type 0
 AreBeside kept seen unsaved (Some base) = Beside kept seen unsaved base
 AreBeside kept seen unsaved None = AreEmpty seen
 
--- The files after the commands of a script: they carry the base that was saved last or opened, and mean it where no edit came after. Those
--- of a base that was created and never saved are empty.
+-- The files after the commands of a script: they carry the base that was opened, or saved or compacted last, and mean it where no edit came
+-- after. Those of a base that was created and neither saved nor compacted are empty.
 abbrev pub AreLeft : Seen → Option Base → Bool → Type 0
 AreLeft seen (Some base) unsaved = CarryIt seen base × (unsaved ≡ false → MeanIt seen base)
 AreLeft seen None unsaved = AreEmpty seen

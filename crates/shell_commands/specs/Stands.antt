@@ -4,6 +4,7 @@ use Rattle.std.specs.Bool.{MatchBool}
 use Rattle.base_files.specs.Seen.{Seen}
 use Rattle.base_files.specs.declared.faults.Stop.TheVariants as stop
 use Rattle.base_core.specs.Base.{Base}
+use Rattle.base_core.specs.Compacted.{compacted}
 use Rattle.base_core.specs.Entries.{sig_in}
 use Rattle.base_core.specs.Represents.{Kept, Represents, IsSound}
 use Rattle.base_core.specs.Means.{Means}
@@ -13,7 +14,7 @@ use Rattle.game_filter.specs.Search.{looks_at}
 use Rattle.game_filter.specs.declared.op.Op.TheVariants.{And}
 use Rattle.index_entry.specs.declared.entry.Entry.{Entry}
 use Rattle.pos_search.specs.Passing.{passes}
-use Rattle.script_text.specs.declared.command.Command.TheVariants.{Save}
+use Rattle.script_text.specs.declared.command.Command.TheVariants.{Compact, Save}
 use Rattle.sig_index.specs.declared.pos_query.PosQuery.{PosQuery}
 use Rattle.shell_commands.specs.declared.halt.Halt.{Halt}
 use Rattle.shell_commands.specs.declared.halt.Halt.TheVariants as halt
@@ -59,11 +60,17 @@ pub record Quiet (old : Holding) (order : Order) (new : Holding) (line : List �
   pub base : IsSound old.kept → IsSound new.kept
   pub end : new.kept.end ≡ old.kept.end
 
--- What the files carry where a command was broken off: what they carried before it, or perhaps, after `save`, the base that it saves. Nothing
--- is said where the base was created and never saved.
+-- The files carry what a command leaves of a base that replaces them.
+abbrev pub CarryLeft : Seen → Order → Base → Type 0
+CarryLeft seen (Ok Save) base = CarryIt seen base
+CarryLeft seen (Ok Compact) base = CarryIt seen (compacted base)
+CarryLeft seen _ base = ⊥
+
+-- What the files carry where a command was broken off: what they carried before it, or perhaps the base that `save` saves or that `compact`
+-- leaves. Nothing is said where the base was created and neither saved nor compacted.
 abbrev pub MayCarry : Seen → Option Base → Order → Base → Type 0
-MayCarry seen (Some base) order saved = CarryIt seen base ⊎ ((order ≡ Ok Save) × CarryIt seen saved)
-MayCarry seen None order saved = ⊤
+MayCarry seen (Some carried) order base = CarryIt seen carried ⊎ CarryLeft seen order base
+MayCarry seen None order base = ⊤
 
 abbrev pub StillCarry : Seen → State → Order → Type 0
 StillCarry seen s order = MayCarry seen s.carried order s.base
@@ -98,7 +105,7 @@ tree_len query plies entries = searched_len (λ e. e.len) (λ e. passes (sig_in 
 
 -- How many bytes of the games file a line asks at most.
 abbrev pub cost : Holding → Order → ℕ
-cost holding (Ok command) = command_price (λ e. e.len) sig_in holding.kept.entries holding.filter command
+cost holding (Ok command) = command_price (λ e. e.len) sig_in (λ e. e.deleted) holding.kept.entries holding.filter command
 cost holding (Err fault) = 0
 
 -- A base was opened or created, beside files that are told: what is kept stands for it, without changes, and the files mean it or are empty.

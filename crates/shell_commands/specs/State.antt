@@ -5,8 +5,8 @@ use Rattle.game_tree.specs.Game.{GameTree}
 use Rattle.base_core.specs.Base.{Base}
 use Rattle.shell_commands.specs.declared.saved.SavedFilter.{SavedFilter}
 
--- The base, the one that the files carry (the one that was saved last, or that was opened; none where it was created and never saved), the
--- filter with an entry for each game, the filters that are kept by name, and whether changes are unsaved.
+-- The base, the one that the files carry (the one that was opened, or saved or compacted last; none where it was created and neither came),
+-- the filter with an entry for each game, the filters that are kept by name, and whether changes are unsaved.
 pub record State : Type 0 where
   pub base : Base
   pub carried : Option Base

@@ -1,5 +1,5 @@
 -- The plain machine over the tasks of a script: its lines with their bodies. This project's own.
-use Rattle.std.specs.Prelude.{◌≡◌, ℕ, List, ⊤, Option, Some, None, Ok, is_some, IsTrue}
+use Rattle.std.specs.Prelude.{ℕ, List, Ok, is_some, IsTrue}
 use Rattle.base_files.specs.declared.faults.Stop.TheVariants as stop
 use Rattle.command_runs.specs.Plain.{Plain}
 use Rattle.script_text.specs.Tasks.{Task, body_word}

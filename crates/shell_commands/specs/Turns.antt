@@ -2,7 +2,7 @@
 use Rattle.std.specs.Prelude.{◌≡◌, ◌<◌, Bool, true, false, Ok, Err, length}
 use Rattle.script_text.specs.declared.command.Command.TheVariants as command
 use Rattle.shell_commands.specs.declared.serving.Turn.{Turn}
-use Rattle.shell_commands.specs.declared.serving.Turn.TheVariants.{Line, Find, Position, Material, Hits, List, Show, Export, Tag, Tree, Save, Demo}
+use Rattle.shell_commands.specs.declared.serving.Turn.TheVariants.{Line, Find, Position, Material, Hits, List, Show, Export, Tag, Tree, Save, Demo, Compact}
 use Rattle.shell_commands.specs.Do.{Order, is_demo}
 use Rattle.shell_commands.specs.Stands.{Holding, Quiet}
 
@@ -26,3 +26,4 @@ IsTurn old order new (Tag game edit) = (order ≡ Ok (command.Tag game edit.now)
 IsTurn old order new (Tree board side) = (order ≡ Ok (command.Tree board.now side)) × (new ≡ old)
 IsTurn old order new Save = (order ≡ Ok command.Save) × (new ≡ old)
 IsTurn old order new (Demo seed games) = (order ≡ Ok (command.Demo seed games)) × (new ≡ old)
+IsTurn old order new Compact = (order ≡ Ok command.Compact) × (new ≡ old)

@@ -1,6 +1,7 @@
 //! The commands of a script over an open base: what each makes of the state, and the text that it writes.
 #![tactic(auto)]
 
+mod compacting;
 mod demoing;
 mod editing;
 mod filters;

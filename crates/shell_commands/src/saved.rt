@@ -1,11 +1,13 @@
 //! Filters that are kept by name.
 ghost use Rattle.std.specs.Prelude.{◌≡◌, ◌<◌, ℕ, All, length, map, IfSome, IfOk, OnOk};
+ghost use Rattle.game_filter.specs.Renumbering.{Rises, renumbered};
+ghost use Rattle.shell_commands.specs.Compacting.{kept_renumbered};
 ghost use Rattle.shell_commands.specs.Importing.{kept_to_start, to_start, without_last};
 ghost use Rattle.game_filter.specs.Filter.{intersection, union};
 ghost use Rattle.shell_commands.specs.SavedFilters.{place_of, is_kept, kept_in, can_keep, dropped_in, joined_with, saved_named, taken};
 
 use cell_core::Text;
-use game_filter::Filter;
+use game_filter::{Filter, Renumbering};
 use std::alloc::{AllocError, Global};
 
 /// How many filters are kept at most.
@@ -102,6 +104,36 @@ fn to_start(filter: &mut Filter, i: u32)
     if ply.is_some() {
         filter.set(i, Some(0));
     }
+}
+
+// Moves the entries of a filter, and of each filter that is kept, with their games.
+pub(crate) fn renumber_all(
+    filter: &mut Filter,
+    saved: &mut [SavedFilter],
+    renumbering: &Renumbering,
+)
+    requires same_games { length renumbering.now.to ≡ length filter.old }
+    requires saved_games { All (λ kept. length kept.plies ≡ length filter.old) saved.old }
+    ensures filter { filter.new ≡ renumbered renumbering.now.to filter.old }
+    ensures saved { saved.new ≡ map (kept_renumbered renumbering.now.to) saved.old }
+    ensures long { length filter.new ≡ renumbering.now.kept }
+    ensures rises { Rises 0 renumbering.now.to renumbering.now.kept }
+{
+    // Reading the numbers makes their order known.
+    let _to = renumbering.to();
+    filter.renumber(renumbering);
+    for kept in saved.iter_mut() {
+        renumber_one(kept, renumbering);
+    }
+}
+
+// Moves the entries of one of them.
+fn renumber_one(kept: &mut SavedFilter, renumbering: &Renumbering)
+    requires same_games { length renumbering.now.to ≡ length kept.old.plies }
+    ensures moved { kept.new ≡ kept_renumbered renumbering.now.to kept.old }
+    ensures long { length kept.new.plies ≡ renumbering.now.kept }
+{
+    kept.plies.renumber(renumbering);
 }
 
 // Forgets the filter of a name; `false` where there is none.

@@ -14,6 +14,7 @@ ghost use Rattle.shell_commands.specs.State.{State};
 ghost use Rattle.shell_commands.specs.Tasks.{BrokenTask, tasks};
 ghost use Rattle.shell_commands.specs.Turns.{IsTurn};
 
+use crate::compacting::compact;
 use crate::demoing::demo;
 use crate::editing::{delete, mark, undelete};
 use crate::filters::{and, clear, drop_filter, keep_filter, negate, or, reset, restrict, take};
@@ -59,6 +60,7 @@ pub(crate) enum Turn<'a> {
     Tree(&'a Board, Colour),
     Save,
     Demo(u64, u32),
+    Compact,
 }
 
 /// Does what a line of a script says, and writes its text.
@@ -81,7 +83,7 @@ pub fn serve<F: Files, K: Sink>(
     // Of an export that is broken off, the games before that one are written whole.
     ensures whole { (s : State) → Stands machine.old (F.seen files.old) s → order.now ≡ Ok command.Export → IfErr result (λ e. ExportCut s.filter s.base.games e (K.taken out.old) (K.taken out.new)) }
 
-    // Where it is broken off the files carry what they carried, or perhaps what `save` saves.
+    // Where it is broken off the files carry what they carried, or perhaps what `save` saves or `compact` leaves.
     ensures carries { (s : State) → Stands machine.old (F.seen files.old) s → IfErr result (λ _. StillCarry (F.seen files.new) s order.now) }
 
     // Whatever the files tell, they change by a line alone that may change them, and no base is chosen.
@@ -106,6 +108,7 @@ pub fn serve<F: Files, K: Sink>(
         Ok(Turn::Tree(board, side)) => tree(alloc, machine, files, out, board, side),
         Ok(Turn::Save) => save(alloc, machine, files, out),
         Ok(Turn::Demo(seed, games)) => demo(alloc, machine, files, out, seed, games),
+        Ok(Turn::Compact) => compact(alloc, machine, files, out),
         Ok(Turn::Line(line)) => write_line(out, line.as_slice()),
     }
 }
@@ -126,7 +129,7 @@ pub fn serve_body<F: Files, B: Source, K: Sink>(
     ensures serves { (s : State) (text : List ℕ) → Stands machine.old (F.seen files.old) s → B.left body.old ≡ Some text → Serves tasks (Stands machine.new (F.seen files.new)) BrokenTask s (task order.now text) (K.taken out.old) (K.taken out.new) result }
     ensures sound { OnOk result (Sound machine.new (F.seen files.new)) }
 
-    // Where it is broken off the files carry what they carried, or perhaps what `save` saves.
+    // Where it is broken off the files carry what they carried, or perhaps what `save` saves or `compact` leaves.
     ensures carries { (s : State) → Stands machine.old (F.seen files.old) s → IfErr result (λ _. StillCarry (F.seen files.new) s order.now) }
     ensures unchanged { order_writes order.now ≡ false → F.seen files.new ≡ F.seen files.old }
     ensures choices { (F.seen files.new).choices ≡ (F.seen files.old).choices }
@@ -206,7 +209,7 @@ fn take_turn<'a>(
         }
         Command::Tree(board, side) => Ok(Turn::Tree(board, *side)),
         Command::Save => Ok(Turn::Save),
-        Command::Compact => Ok(Turn::Line(unknown(alloc)?)),
+        Command::Compact => Ok(Turn::Compact),
         Command::Demo(seed, games) => Ok(Turn::Demo(*seed, *games)),
     }
 }

@@ -82,7 +82,7 @@ opening_line base mended = opening_text (length base.games) mended
 -- ---- the run of the script
 
 -- The whole script was run: its text is written, and the input was read to its end or to the line of `quit`, and at most so many bytes further.
--- The files carry the base that was saved last, or the opened one, and mean it where no edit came after.
+-- The files carry the base that the last `save` or `compact` left, or the opened one, and mean it where no edit came after.
 pub record RanAll (s : State) (script : List ℕ) (told : Option (List ℕ)) (told' : Option (List ℕ)) (later : Option (List ℕ)) (seen' : Seen) : Type 0 where
   pub written : told' ≡ adds told (run tasks s (script_of script))
   pub within : script_len script ≤ longest_script

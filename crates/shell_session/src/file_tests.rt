@@ -1,4 +1,4 @@
-//! Files that fail at each call of a script of edits or of an import, or in the middle of an export, files that change between two reads, and the bytes that a search asks.
+//! Files that fail at each call of a script of edits, or in the middle of an export, files that change between two reads, and the bytes that a search asks.
 
 use crate::run::session;
 use crate::status::Status;
@@ -7,24 +7,38 @@ use base_files::{MemFiles, MemSink, MemSource, Swap};
 use std::alloc::{AllocError, Global};
 use std::test::Fail;
 
-const EDITS: &[u8] = b"tag 0 White A\nsave\ntag 0 White B\nsave\n";
+/// Edits that are saved, games that come in and are saved, a game that goes, and an edit that is not saved.
+const EDITS: &[u8] =
+    b"tag 0 White A\nsave\nimport <<X\n1. e4 *\n\n1. d4 *\nX\nsave\ndelete 0\ncompact\ntag 0 White B\nfind rnbqkbnr/pppppppp/8/8/4P3/8/PPPP1PPP/RNBQKBNR b\n";
 
 const EDITS_TEXT: &[u8] =
-    b"base 1 games 0 mended\ntagged 0\nsaved 1 games\ntagged 0\nsaved 1 games\n";
+    b"base 1 games 0 mended\ntagged 0\nsaved 1 games\nadded 1\nadded 2\nimported 2 refused 0\nsaved 3 games\ndeleted 0\ncompacted 3 to 2\ntagged 0\n0 1\nfilter 1 of 2\nunsaved\n";
 
-/// Two games that come in, and are saved.
-const IMPORTS: &[u8] = b"import <<X\n1. e4 *\n\n1. d4 *\nX\nsave\n";
-
-const IMPORTS_TEXT: &[u8] =
-    b"base 1 games 0 mended\nadded 1\nadded 2\nimported 2 refused 0\nsaved 3 games\n";
-
-const THREE: &[u8] = b"base 3 games 0 mended\n";
+/// A fault at a call from the first number up to the second leaves so much of the text written, and files that then list this. Opening takes
+/// five calls, an edit of a tag and each `save` two, a game that comes in one, `compact` one, two for each game that stays and one, and `find`
+/// one; the last run has no fault. The index is replaced last, so that a `save` has happened or not.
+const STAGES: [(u64, u64, usize, &[u8]); 10] = [
+    (0, 5, 0, OPENED),
+    (5, 7, 22, OPENED),
+    (7, 9, 31, OPENED),
+    (9, 10, 45, TAGGED),
+    (10, 11, 53, TAGGED),
+    (11, 13, 82, TAGGED),
+    (13, 19, 106, IMPORTED),
+    (19, 21, 123, COMPACTED),
+    (21, 22, 132, COMPACTED),
+    (22, 23, 158, COMPACTED),
+];
 
 const OPENED: &[u8] = b"base 1 games 0 mended\n0 0 1-0 1910.??.?? B15 ? - ?\nfilter 1 of 1\n";
 
-const FIRST: &[u8] = b"base 1 games 0 mended\n0 0 1-0 1910.??.?? B15 A - ?\nfilter 1 of 1\n";
+const TAGGED: &[u8] = b"base 1 games 0 mended\n0 0 1-0 1910.??.?? B15 A - ?\nfilter 1 of 1\n";
 
-const SECOND: &[u8] = b"base 1 games 0 mended\n0 0 1-0 1910.??.?? B15 B - ?\nfilter 1 of 1\n";
+const IMPORTED: &[u8] =
+    b"base 3 games 0 mended\n0 0 1-0 1910.??.?? B15 A - ?\n1 0 * ????.??.?? - ? - ?\n2 0 * ????.??.?? - ? - ?\nfilter 3 of 3\n";
+
+const COMPACTED: &[u8] =
+    b"base 2 games 0 mended\n0 0 * ????.??.?? - ? - ?\n1 0 * ????.??.?? - ? - ?\nfilter 2 of 2\n";
 
 const FIND: &[u8] = b"find rnbqkbnr/pppppppp/8/8/4P3/8/PPPP1PPP/RNBQKBNR b\n";
 
@@ -128,43 +142,20 @@ fn orders(alloc: Global) -> Result<MemFiles, AllocError> {
     ))
 }
 
-/// How much is written of the edits' text where this call fails: opening takes five calls, and each edit and each `save` two.
-fn written_before(call: u64) -> usize {
-    if call < 5 {
-        return 0;
-    }
-    if call < 7 {
-        return 22;
-    }
-    if call < 9 {
-        return 31;
-    }
-    if call < 11 {
-        return 45;
-    }
-    if call < 13 { 54 } else { 68 }
-}
-
-/// How much is written of the imports' text where this call fails: each game that is added takes one call, and `save` two.
-fn imported_before(call: u64) -> usize {
-    if call < 5 {
-        return 0;
-    }
-    if call < 6 {
-        return 22;
-    }
-    if call < 7 {
-        return 30;
-    }
-    if call < 9 { 59 } else { 73 }
-}
-
-/// What the files then list: the index is replaced last, so that a `save` has happened or not.
-fn listed_after(call: u64) -> &'static [u8] {
-    if call < 9 {
-        return OPENED;
-    }
-    if call < 13 { FIRST } else { SECOND }
+/// Whether a fault at this call leaves so much written, and files that list this.
+fn leaves(alloc: Global, call: u64, size: usize, listed: &[u8]) -> Result<bool, AllocError> {
+    let mut files = failing(alloc, index(alloc)?, &[call])?;
+    let (ended, written) = run_over(alloc, &mut files, false, EDITS)?;
+    let mut files = again(alloc, &files)?;
+    let (opened, list) = run_over(alloc, &mut files, true, b"list\n")?;
+    let whole = size == EDITS_TEXT.len();
+    Ok(
+        (ended == Status::Done) == whole
+            && (ended == Status::FilesFault) == !whole
+            && written.as_slice() == EDITS_TEXT.split_at(size.min(EDITS_TEXT.len())).0
+            && opened == Status::Done
+            && list.as_slice() == listed,
+    )
 }
 
 /// The first game is no record any more.
@@ -176,43 +167,11 @@ fn is_changed(status: &Status) -> bool {
 }
 
 #[test]
-fn carries_what_was_saved_at_each_fault(rt: HostRuntime) -> Result<(), Fail> {
-    for call in 0..14u64 {
-        let mut files = failing(rt.alloc(), index(rt.alloc())?, &[call])?;
-        let (status, written) = run_over(rt.alloc(), &mut files, false, EDITS)?;
-        assert!(rt; (status == Status::FilesFault) == (call < 13));
-        assert!(rt; (status == Status::Done) == (call == 13));
-        assert!(rt;
-            written.as_slice()
-                == EDITS_TEXT
-                    .split_at(written_before(call).min(EDITS_TEXT.len()))
-                    .0
-        );
-        let mut files = again(rt.alloc(), &files)?;
-        let (status, listed) = run_over(rt.alloc(), &mut files, true, b"list\n")?;
-        assert!(rt; status == Status::Done);
-        assert!(rt; listed.as_slice() == listed_after(call));
-    }
-    Ok(())
-}
-
-#[test]
-fn carries_what_was_imported_and_saved_at_each_fault(rt: HostRuntime) -> Result<(), Fail> {
-    for call in 0..10u64 {
-        let mut files = failing(rt.alloc(), index(rt.alloc())?, &[call])?;
-        let (status, written) = run_over(rt.alloc(), &mut files, false, IMPORTS)?;
-        assert!(rt; (status == Status::FilesFault) == (call < 9));
-        assert!(rt; (status == Status::Done) == (call == 9));
-        assert!(rt;
-            written.as_slice()
-                == IMPORTS_TEXT
-                    .split_at(imported_before(call).min(IMPORTS_TEXT.len()))
-                    .0
-        );
-        let mut files = again(rt.alloc(), &files)?;
-        let (status, opened) = run_over(rt.alloc(), &mut files, true, b"")?;
-        assert!(rt; status == Status::Done);
-        assert!(rt; opened.as_slice() == if call < 9 { OPENING } else { THREE });
+fn carries_what_was_saved_or_compacted_at_each_fault(rt: HostRuntime) -> Result<(), Fail> {
+    for (from, to, size, listed) in STAGES {
+        for call in from..to {
+            assert!(rt; leaves(rt.alloc(), call, size, listed)?, "at call {call}");
+        }
     }
     Ok(())
 }

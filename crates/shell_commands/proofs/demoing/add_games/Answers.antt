@@ -1,5 +1,5 @@
 use Rattle.std.proofs.Common.{◌∙◌, Ok, refl, arith}
-use Rattle.script_text.specs.declared.command.Command.TheVariants.{Nothing}
+use Rattle.script_text.specs.declared.command.Command.TheVariants.{Quit}
 use Rattle.shell_commands.specs.Demo.{adding}
 use Rattle.shell_commands.proofs.CarryLaws.{carry_of}
 use Rattle.shell_commands.proofs.DemoLaws.{adding_ends, adding_first, adding_on, carry_adding, refused_on}
@@ -38,14 +38,14 @@ returns-in-Ok-Refused-clause-adds g c = λ s st.
 pub returns-in-Ok-Refused-clause-carries : goal.returns-in-Ok-Refused-clause-carries
 returns-in-Ok-Refused-clause-carries g c = λ s order st.
     carry_adding (g.F.Files.seen c.add_next.new.files) s c.args.seed c.loop-number.number order
-    (c.add_next.ensures.carries (adding s c.args.seed c.loop-number.number).state (Ok Nothing) (c.loop-number.invariant.adds s st).stands)
+    (c.add_next.ensures.carries (adding s c.args.seed c.loop-number.number).state (Ok Quit) (c.loop-number.invariant.adds s st).stands)
 
 pub returns-in-Err-clause-carries : goal.returns-in-Err-clause-carries
 returns-in-Err-clause-carries g c = λ s order st.
     carry_adding (g.F.Files.seen c.add_next.new.files) s c.args.seed c.loop-number.number order
-    (c.add_next.ensures.carries (adding s c.args.seed c.loop-number.number).state (Ok Nothing) (c.loop-number.invariant.adds s st).stands)
+    (c.add_next.ensures.carries (adding s c.args.seed c.loop-number.number).state (Ok Quit) (c.loop-number.invariant.adds s st).stands)
 
 pub returns-clause-carries : goal.returns-clause-carries
 returns-clause-carries g c = λ s order st.
     carry_adding (g.F.Files.seen c.loop-number.files) s c.args.seed c.loop-number.number order
-    (carry_of c.loop-number.machine (g.F.Files.seen c.loop-number.files) (adding s c.args.seed c.loop-number.number).state (Ok Nothing) (c.loop-number.invariant.adds s st).stands)
+    (carry_of c.loop-number.machine (g.F.Files.seen c.loop-number.files) (adding s c.args.seed c.loop-number.number).state (Ok Quit) (c.loop-number.invariant.adds s st).stands)

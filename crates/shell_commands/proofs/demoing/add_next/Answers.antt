@@ -1,4 +1,4 @@
-use Rattle.std.proofs.Common.{◌∙◌, arith}
+use Rattle.std.proofs.Common.{◌∙◌}
 use Rattle.shell_commands.proofs.CarryLaws.{carry_of}
 use Rattle.shell_commands.proofs.DemoLaws.{adding_more, refused_here}
 use Rattle.shell_commands.proofs.demoing.add_next.Goals as goal

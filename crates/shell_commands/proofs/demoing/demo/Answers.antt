@@ -1,5 +1,5 @@
 use Rattle.std.proofs.Common.{◌∙◌, ℕ, List, Ok, Some, refl, sym, ap, arith}
-use Rattle.script_text.specs.declared.command.Command.TheVariants.{Demo, Nothing}
+use Rattle.script_text.specs.declared.command.Command.TheVariants.{Demo, Quit}
 use Rattle.shell_commands.specs.Demo.{adding, demo_text}
 use Rattle.shell_commands.proofs.CarryLaws.{carry_same, if_err}
 use Rattle.shell_commands.proofs.DemoLaws.{carry_adding, demo_asks, demo_serves, refusal_serves}
@@ -24,7 +24,7 @@ returns-in-Ok-Plies-clause-carries g c = λ s order st.
     let all = adds s st in
     if_err c.show.result _
     (carry_adding (g.F.Files.seen c.show.new.files) s c.args.seed c.args.games order
-    (carry_same c.add_games.new.machine (g.F.Files.seen c.add_games.new.files) (g.F.Files.seen c.show.new.files) (adding s c.args.seed c.args.games).state (Ok Nothing) c.show.ensures.unchanged all.0))
+    (carry_same c.add_games.new.machine (g.F.Files.seen c.add_games.new.files) (g.F.Files.seen c.show.new.files) (adding s c.args.seed c.args.games).state (Ok Quit) c.show.ensures.unchanged all.0))
 
 pub returns-in-Ok-Refused-clause-serves : goal.returns-in-Ok-Refused-clause-serves
 returns-in-Ok-Refused-clause-serves g c = λ s st.

@@ -10,8 +10,8 @@ use Rattle.shell_commands.specs.Intakes.{TakesIn, TookIn}
 use Rattle.shell_commands.specs.declared.halt.Halt.{Halt}
 use Rattle.shell_commands.specs.declared.halt.Halt.TheVariants as halt
 use Rattle.command_runs.proofs.Joining.{halted_none}
-use Rattle.shell_commands.proofs.CarryLaws.{carry_later, carry_of}
-use Rattle.shell_commands.proofs.IntakeLaws.{carry_before, flag_few, flag_number, took_last, took_none, took_on, took_short}
+use Rattle.shell_commands.proofs.CarryLaws.{carry_before, carry_later, carry_of}
+use Rattle.shell_commands.proofs.IntakeLaws.{flag_few, flag_number, took_last, took_none, took_on, took_short}
 use Rattle.shell_commands.proofs.importing.take_in.Goals as goal
 
 pub loop-taken-init : goal.loop-taken-init
