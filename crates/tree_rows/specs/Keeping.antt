@@ -148,6 +148,7 @@ pub record AreWithin (rows : ℕ) (n : Numbers) : Type 0 where
   pub year_sum : n.year_sum ≤ 2 ^ 64 * rows
   pub dated : n.dated ≤ 2 ^ 32 * rows
 
+-- One row more leaves each number below 2 ^ 128 and each count of rows below 2 ^ 64.
 pub record AreFew (n : Numbers) : Type 0 where
   pub rows : ℕ
   pub within : AreWithin rows n
