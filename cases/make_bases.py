@@ -233,7 +233,7 @@ def edits():
     write("edits_not_saved", "pawns", index(PAWNS), PAWNS_NAMES, TAGGED_RECORDS, "after")
     write("filters_after_edits", "pawns", index(PAWNS), PAWNS_NAMES, TAGGED_RECORDS, "after")
     write("names_not_replaced", "pawns", index(PAWNS), PAWNS_NAMES, TAGGED_RECORDS, "after")
-    write("index_not_replaced", "pawns", index(PAWNS), RENAMED_NAMES, TAGGED_RECORDS, "after")
+    write("index_not_replaced", "pawns", index(PAWNS), PAWNS_NAMES, TAGGED_RECORDS, "after")
     write("open_after_a_save_that_failed", "pawns", index(PAWNS), RENAMED_NAMES, TAGGED_RECORDS)
     renamed = entry(18, 6, ids=(2, 1, 0, 0, 0), result=1, dates=PAWNS_DATE, ratings=(2500, 2400), plies=3, home=(11, 4, 12))
     write("open_after_a_save_that_failed", "pawns", index([renamed, PAWNS[1]]), RENAMED_NAMES, TAGGED_RECORDS + PAWNS_RECORDS[:6], "after")

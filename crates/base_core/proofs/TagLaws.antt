@@ -14,7 +14,7 @@ use Rattle.base_core.specs.declared.fault.EditError.TheVariants as error
 use Rattle.base_core.specs.Base.{Base, Held}
 use Rattle.base_core.specs.Edited.{CanPlace, Places, WhyNotReplaced, first_full}
 use Rattle.base_core.specs.Edits.{end_with, game_replaced, names_with, tagged, tagged_at}
-use Rattle.base_core.specs.GameAt.{IsGameAt, SaysWhy}
+use Rattle.base_core.specs.GameAt.{IsGameAt, IsShown, SaysWhy}
 use Rattle.base_core.specs.Represents.{Kept, Represents}
 use Rattle.base_core.specs.Tagged.{IsTagged, Tags, WhyNotTagged}
 use Rattle.base_core.proofs.Lists.{get_some}
@@ -40,8 +40,8 @@ tag-by i edit old new (Some games) now head game long there read places is =
     let N : Option (List ℕ) → Type 0 = λ o. IfSome o (λ after. (base : Base) → Represents old games base → Represents new after (tagged i edit base)) in
     subst N (sym is) (tag-one i edit old new games head game long there read places)
 
-pub tags-told : (i : ℕ) (edit : TagEdit) (old new : Kept) (before after : Seen) → TellsLength before.games old.end → i < length old.entries → IsTagged i edit old new before after → Tags i edit old new before.games after.games
-tags-told i edit old new before after long there is =
+pub tags-told : (i : ℕ) (edit : TagEdit) (old new : Kept) (before after : Seen) (buf : List ℕ) → TellsLength before.games old.end → i < length old.entries → IsTagged i edit old new before after buf → Tags i edit old new before.games after.games
+tags-told i edit old new before after buf long there is =
     tag-by i edit old new before.games after.games is.head is.game long there is.read is.replaced (ap (λ (s : Seen). s.games) is.appended)
 
 -- Why a tag is not set, where the game is not read.
@@ -66,17 +66,18 @@ unplaced-so kept told i edit buf head game error.Memory read why = tt
 
 -- ---- where the edit was done, and where it was refused.
 
-pub sets : {A : Type 0} (r : Result A EditError) (i : ℕ) (edit : TagEdit) (old new : Kept) (before mid after : Seen) (head next : Head) (game : GameTree) → next ≡ edited head edit → mid ≡ before →
+pub sets : {A : Type 0} (r : Result A EditError) (i : ℕ) (edit : TagEdit) (old new : Kept) (before mid after : Seen) (buf : List ℕ) (head next : Head) (game : GameTree) → next ≡ edited head edit → mid ≡ before → IsShown old i buf head game →
     IfSome before.games (λ games. IsGameAt old games i head game) → OnOk r (Places (written_record next.tags game) (game_replaced i next game) old new) →
     OnOk r (CanPlace (length (written_record next.tags game)) (first_full (length old.entries) (names_with next old.names) (end_with next game old.end))) →
-    OnOk r (after ≡ appended (padded old.end (written_record next.tags game)) mid) → OnOk r (IsTagged i edit old new before after)
-sets (Err e) i edit old new before mid after head next game is same read done room more = tt
-sets (Ok x) i edit old new before mid after head next game is same read done room more =
+    OnOk r (after ≡ appended (padded old.end (written_record next.tags game)) mid) → OnOk r (IsTagged i edit old new before after buf)
+sets (Err e) i edit old new before mid after buf head next game is same shown read done room more = tt
+sets (Ok x) i edit old new before mid after buf head next game is same shown read done room more =
     let P : Head → Type 0 = λ h. Places (written_record h.tags game) (game_replaced i h game) old new in
     let R : Head → Type 0 = λ h. CanPlace (length (written_record h.tags game)) (first_full (length old.entries) (names_with h old.names) (end_with h game old.end)) in
     record {
       head = head;
       game = game;
+      shown = shown;
       read = read;
       replaced = subst P is done;
       room = subst R is room;
@@ -84,10 +85,10 @@ sets (Ok x) i edit old new before mid after head next game is same read done roo
           ∙ (ap (λ (s : Seen). appended (padded old.end (written_record next.tags game)) s) same ∙ ap (λ (h : Head). appended (padded old.end (written_record h.tags game)) before) is);
     }
 
-pub sets-told : {A : Type 0} (r : Result A EditError) (i : ℕ) (edit : TagEdit) (old new : Kept) (before after : Seen) → TellsLength before.games old.end → i < length old.entries →
-    OnOk r (IsTagged i edit old new before after) → OnOk r (Tags i edit old new before.games after.games)
-sets-told (Err e) i edit old new before after long there is = tt
-sets-told (Ok x) i edit old new before after long there is = tags-told i edit old new before after long there is
+pub sets-told : {A : Type 0} (r : Result A EditError) (i : ℕ) (edit : TagEdit) (old new : Kept) (before after : Seen) (buf : List ℕ) → TellsLength before.games old.end → i < length old.entries →
+    OnOk r (IsTagged i edit old new before after buf) → OnOk r (Tags i edit old new before.games after.games)
+sets-told (Err e) i edit old new before after buf long there is = tt
+sets-told (Ok x) i edit old new before after buf long there is = tags-told i edit old new before after buf long there is
 
 pub there-is : {A : Type 0} (r : Result A EditError) (x : A) (kept : Kept) (i : ℕ) → r ≡ Ok x → (length kept.entries ≤ i → r ≡ Err (error.NoGame i)) → i < length kept.entries
 there-is r x kept i ok none =

@@ -5,19 +5,35 @@ use Rattle.game_tree.specs.Game.{GameTree}
 use Rattle.game_tree.specs.declared.head.Head.{Head}
 use Rattle.game_tree.specs.declared.head.Tag.{Tag}
 use Rattle.game_codec.specs.Record.{IsRecord, IsSomeRecord}
+use Rattle.game_tree.specs.Settle.{settled}
 use Rattle.index_entry.specs.declared.entry.Entry.{Entry}
 use Rattle.sig_index.specs.Signature.{IsSig}
 use Rattle.sig_index.specs.declared.signature.Sig.{Sig}
 use Rattle.base_core.specs.declared.fault.EditError.{EditError}
 use Rattle.base_core.specs.declared.fault.EditError.TheVariants as error
 use Rattle.base_core.specs.Base.{Base, Held}
-use Rattle.base_core.specs.Entries.{sig_in}
+use Rattle.base_core.specs.Entries.{head_of, sig_in}
 use Rattle.base_core.specs.Represents.{Kept, Represents}
 
 -- The head and the game are those at this place, of every base that what is kept stands for.
 abbrev pub IsGameAt : Kept → List ℕ → ℕ → Head → GameTree → Type 0
 IsGameAt kept games i head game =
     (base : Base) (held : Held) → Represents kept games base → slice_get base.games i ≡ Some held → (head ≡ held.head) × (game ≡ held.game)
+
+-- The first bytes of the buffer are a record of this game with some tags, the game has the signature that is kept of game i, and the head is the
+-- settled head of what is kept with these tags. So it is whatever the files hold.
+abbrev pub IsShown : Kept → ℕ → List ℕ → Head → GameTree → Type 0
+IsShown kept i buf head game =
+    (e : Entry) → slice_get kept.entries i ≡ Some e →
+    (tags : List Tag) × (IsRecord (take e.len buf) tags game × (IsSig game (sig_in e) × (head ≡ settled (head_of kept.names e tags))))
+
+-- The bytes are a record of some game with this signature.
+abbrev pub IsRecordWith : List ℕ → Sig → Type 0
+IsRecordWith bytes sig = (tags : List Tag) × ((game : GameTree) × (IsRecord bytes tags game × IsSig game sig))
+
+-- The first bytes of the buffer are a record of a game with the signature that is kept of game i.
+abbrev pub IsStillOfGame : Kept → ℕ → List ℕ → Type 0
+IsStillOfGame kept i buf = (e : Entry) → slice_get kept.entries i ≡ Some e → IsRecordWith (take e.len buf) (sig_in e)
 
 -- The first bytes of the buffer are the record of game i, which has so many.
 abbrev pub IsRecordOf : Kept → Option (List ℕ) → ℕ → ℕ → List ℕ → Type 0

@@ -12,14 +12,15 @@ use Rattle.base_core.specs.declared.fault.EditError.TheVariants as error
 use Rattle.base_core.specs.Base.{Base}
 use Rattle.base_core.specs.Edited.{CanPlace, Places, WhyNotPlaced, first_full}
 use Rattle.base_core.specs.Edits.{end_with, game_replaced, names_with, tagged}
-use Rattle.base_core.specs.GameAt.{IsChanged, IsGameAt}
+use Rattle.base_core.specs.GameAt.{IsChanged, IsGameAt, IsShown}
 use Rattle.base_core.specs.Represents.{Kept, Represents}
 
--- A game was read and put in the place of game i with its head edited, for which there was room. It is the game there, where the files tell the
--- base.
-pub record IsTagged (i : ℕ) (edit : TagEdit) (old new : Kept) (before after : Seen) : Type 0 where
+-- A game was read into the buffer and put in the place of game i with its head edited, for which there was room. It has the signature that was kept
+-- there, and is the game there, where the files tell the base.
+pub record IsTagged (i : ℕ) (edit : TagEdit) (old new : Kept) (before after : Seen) (buf : List ℕ) : Type 0 where
   pub head : Head
   pub game : GameTree
+  pub shown : IsShown old i buf head game
   pub read : IfSome before.games (λ games. IsGameAt old games i head game)
   pub replaced : Places (written_record (edited head edit).tags game) (game_replaced i (edited head edit) game) old new
   pub room : CanPlace (length (written_record (edited head edit).tags game)) (first_full (length old.entries) (names_with (edited head edit) old.names) (end_with (edited head edit) game old.end))

@@ -1,5 +1,5 @@
 //! Reading a game of an open base.
-ghost use Rattle.std.specs.Prelude.{◌≡◌, ◌≤◌, ◌<◌, ◌+◌, ◌↔◌, ◌^◌, All, List, Some, length, slice_get, IfOk, IfErr, IfSome, IsErrOf};
+ghost use Rattle.std.specs.Prelude.{◌≡◌, ◌≤◌, ◌<◌, ◌+◌, ◌↔◌, ◌^◌, All, List, Some, length, slice_get, IfOk, IfErr, IfSome, IsErrOf, OnOk};
 ghost use Rattle.base_files.specs.Counters.{Rose};
 ghost use Rattle.game_tree.specs.Head.{HasTexts, IsBounded, IsName, IsTag, head_of as fields_with};
 ghost use Rattle.game_tree.specs.Legal.{IsLegalGame};
@@ -12,7 +12,7 @@ ghost use Rattle.name_base.specs.NameLists.{AreSound, of_kind};
 ghost use Rattle.sig_index.specs.Signature.{IsSig};
 ghost use Rattle.base_core.specs.Base.{Base as PlainBase};
 ghost use Rattle.base_core.specs.Entries.{HasNames, extent_of, head_of, name_at, sig_in};
-ghost use Rattle.base_core.specs.GameAt.{IfChanged, IsGameAt, IsRecordOf, SaysWhy, TellsChange};
+ghost use Rattle.base_core.specs.GameAt.{IfChanged, IsGameAt, IsRecordOf, IsShown, IsStillOfGame, SaysWhy, TellsChange};
 ghost use Rattle.base_core.specs.Represents.{Represents};
 
 use crate::base::Base;
@@ -43,6 +43,8 @@ impl Base {
         requires room { 131072 ≤ length buf.old }
         requires within { self.now.end ≤ (F.seen files.old).known }
         ensures found { IfOk result (λ read. IfSome (F.seen files.old).games (λ games. IsGameAt self.now games i read.0 read.1)) }
+        // Whatever the files hold, what was read is a record of this game, which has the signature that is kept.
+        ensures shown { IfOk result (λ read. IsShown self.now i buf.new read.0 read.1) }
         ensures no_game { IsErrOf result (EditError.NoGame i) ↔ (length self.now.entries ≤ i) }
         ensures why { IfErr result (SaysWhy self.now (F.seen files.old).games i buf.new) }
 
@@ -56,6 +58,7 @@ impl Base {
         ensures cause { IfErr result (λ error. error ≡ EditError.Failed → Rose (F.faults files.old) (F.faults files.new)) }
         ensures counts { F.faults files.old ≤ F.faults files.new }
         ensures asks { (e : EntryValue) → slice_get self.now.entries i ≡ Some e → F.asked files.new ≤ F.asked files.old + e.len }
+        ensures none_asked { IsErrOf result (EditError.NoGame i) → F.asked files.new ≡ F.asked files.old }
         ensures same_files { F.seen files.new ≡ F.seen files.old }
     {
         if self.entries.len() <= i {
@@ -89,6 +92,7 @@ impl Base {
         requires room { 131072 ≤ length buf.old }
         requires within { self.now.end ≤ (F.seen files.old).known }
         ensures read { IfOk result (λ len. IsRecordOf self.now (F.seen files.old).games i len buf.new) }
+        ensures still { OnOk result (IsStillOfGame self.now i buf.new) }
         ensures short { IfOk result (λ len. len ≤ 131071) }
         ensures why { IfErr result (SaysWhy self.now (F.seen files.old).games i buf.new) }
 
@@ -103,9 +107,10 @@ impl Base {
         if self.store.fetch(extent_of(&entry), files, buf).is_err() {
             return Err(EditError::Failed);
         }
-        if let Err(error) = read_unchanged(alloc, i, &entry, &buf[..entry.len as usize]) {
-            return Err(error);
-        }
+        let (_game, _tags) = match read_unchanged(alloc, i, &entry, &buf[..entry.len as usize]) {
+            Ok(read) => read,
+            Err(error) => return Err(error),
+        };
         Ok(entry.len)
     }
 }

@@ -27,6 +27,3 @@ pub use fault::{
 pub use laws::{
     carried_bases_stay, files_have_one_meaning, open_bases_have_one_meaning, searches_see_the_games,
 };
-
-#[cfg(test)]
-mod tests;

@@ -1,5 +1,5 @@
 //! The marks of the games of an open base.
-ghost use Rattle.std.specs.Prelude.{◌≡◌, ◌<◌, ◌≤◌, ◌^◌, ◌↔◌, Some, true, length, slice_get, slice_set, IfOk, IfErr, OnOk, OnErr, IsErr};
+ghost use Rattle.std.specs.Prelude.{◌≡◌, ℕ, ◌<◌, ◌≤◌, ◌^◌, ◌↔◌, Some, true, length, slice_get, slice_set, IfOk, IfErr, OnOk, OnErr, IsErr};
 ghost use Rattle.base_core.specs.Edited.{ChangedHeads, Does};
 ghost use Rattle.base_core.specs.Edits.{deleted, marked, undeleted, with_mark};
 ghost use Rattle.base_core.specs.Represents.{IsKept};
@@ -17,6 +17,8 @@ impl Base {
     pub fn delete(&mut self, i: u32) -> Result<(), NoGame>
         ensures deleted { OnOk result (Does (deleted i) self.old self.new) }
         ensures heads { OnOk result (ChangedHeads self.old self.new) }
+        // What is kept of the other games stays.
+        ensures others { (j : ℕ) → (j ≡ i → ⊥) → slice_get self.new.entries j ≡ slice_get self.old.entries j }
         ensures no_game { IsErr result ↔ (length self.old.entries ≤ i) }
         ensures which { IfErr result (λ error. error.game ≡ i) }
         ensures unchanged { OnErr result (self.new ≡ self.old) }
@@ -34,6 +36,8 @@ impl Base {
     pub fn undelete(&mut self, i: u32) -> Result<(), NoGame>
         ensures undeleted { OnOk result (Does (undeleted i) self.old self.new) }
         ensures heads { OnOk result (ChangedHeads self.old self.new) }
+        // What is kept of the other games stays.
+        ensures others { (j : ℕ) → (j ≡ i → ⊥) → slice_get self.new.entries j ≡ slice_get self.old.entries j }
         ensures no_game { IsErr result ↔ (length self.old.entries ≤ i) }
         ensures which { IfErr result (λ error. error.game ≡ i) }
         ensures unchanged { OnErr result (self.new ≡ self.old) }
@@ -52,6 +56,8 @@ impl Base {
         requires mark { bit < 18 }
         ensures marked { OnOk result (Does (marked i bit on) self.old self.new) }
         ensures heads { OnOk result (ChangedHeads self.old self.new) }
+        // What is kept of the other games stays.
+        ensures others { (j : ℕ) → (j ≡ i → ⊥) → slice_get self.new.entries j ≡ slice_get self.old.entries j }
         ensures no_game { IsErr result ↔ (length self.old.entries ≤ i) }
         ensures which { IfErr result (λ error. error.game ≡ i) }
         ensures unchanged { OnErr result (self.new ≡ self.old) }

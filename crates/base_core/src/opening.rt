@@ -1,5 +1,5 @@
 //! Opening a base.
-ghost use Rattle.std.specs.Prelude.{◌≡◌, ◌≤◌, ◌+◌, ◌*◌, ◌&&◌, Bool, false, length, Ok, Err, IfOk, IfErr, IfSome, OnErr};
+ghost use Rattle.std.specs.Prelude.{◌≡◌, ◌≤◌, ◌+◌, ◌*◌, ◌&&◌, Bool, false, length, Ok, Err, IfOk, IfErr, IfSome, OnErr, IsTrue};
 ghost use Rattle.base_files.specs.Causes.{HasCause};
 ghost use Rattle.base_files.specs.Counters.{Rose};
 ghost use Rattle.base_files.specs.Seen.{measured};
@@ -58,6 +58,8 @@ impl Base {
         ensures at_end { IfOk result (λ opened. IsEnd opened.0.end (F.seen files.new)) }
         ensures within { IfOk result (λ opened. AreWithin (F.seen files.new).known (extents_of opened.0)) }
         ensures saved { IfOk result (λ opened. opened.0.unsaved ≡ false) }
+        ensures strictly { IfOk result (λ opened. IsTrue strict → opened.1 ≡ 0) }
+        ensures few { IfOk result (λ opened. opened.1 ≤ length opened.0.entries) }
         ensures cause { IfErr result (λ error. error ≡ OpenError.Failed → Rose (F.faults files.old) (F.faults files.new)) }
         ensures counts { F.faults files.old ≤ F.faults files.new }
         ensures asks { IfSome (F.seen files.old).index (λ index. F.asked files.new ≤ F.asked files.old + open_cost index) }
@@ -124,6 +126,8 @@ fn open_loaded<F: Files>(
     ensures sound { IfOk result (λ opened. IsSound opened.0) }
     ensures end { IfOk result (λ opened. opened.0.end ≡ loaded.now.end) }
     ensures saved { IfOk result (λ opened. opened.0.unsaved ≡ false) }
+    ensures strictly { IfOk result (λ opened. IsTrue strict → opened.1 ≡ 0) }
+    ensures few { IfOk result (λ opened. opened.1 ≤ length opened.0.entries) }
     ensures cause { IfErr result (λ error. error ≡ OpenError.Failed → Rose (F.faults files.old) (F.faults files.new)) }
     ensures counts { F.faults files.old ≤ F.faults files.new }
     ensures asks { F.asked files.new ≤ F.asked files.old + open_cost loaded.now.index.items }

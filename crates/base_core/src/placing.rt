@@ -1,5 +1,5 @@
 //! Edits that place a record: a game is added, put in the place of another, or has a tag set.
-ghost use Rattle.std.specs.Prelude.{◌≡◌, ◌≢◌, ◌≤◌, ◌<◌, ◌+◌, ◌-◌, ◌^◌, ◌↔◌, ◌++◌, [], ◌∷◌, None, Some, true, length, slice_get, slice_set, IfOk, IfErr, OnOk, OnErr, IfSome, IsErrOf};
+ghost use Rattle.std.specs.Prelude.{◌≡◌, ◌≢◌, ℕ, ◌≤◌, ◌<◌, ◌+◌, ◌-◌, ◌^◌, ◌↔◌, ◌++◌, [], ◌∷◌, None, Some, true, length, take, slice_get, slice_set, IfOk, IfErr, OnOk, OnErr, IfSome, IsErrOf};
 ghost use Rattle.base_files.specs.Counters.{Rose};
 ghost use Rattle.base_files.specs.Extents.{IsPlaced};
 ghost use Rattle.base_files.specs.Seen.{appended, AppendedInPart};
@@ -57,6 +57,8 @@ impl Base {
         ensures added { OnOk result (Places (written_record head.now.tags g.now) (added head.now g.now) self.old self.new) }
         ensures number { IfOk result (λ i. i ≡ length self.old.entries) }
         ensures count { OnOk result (length self.new.entries ≡ length self.old.entries + 1) }
+        // What is kept of the other games stays.
+        ensures others { OnOk result (take (length self.old.entries) self.new.entries ≡ self.old.entries) }
         ensures unsaved { OnOk result (self.new.unsaved ≡ true) }
         ensures appended { OnOk result (F.seen files.new ≡ appended (padded self.old.end (written_record head.now.tags g.now)) (F.seen files.old)) }
         ensures room { OnOk result (CanPlace (length (written_record head.now.tags g.now)) (first_full (length self.old.entries + 1) (names_with head.now self.old.names) (end_with head.now g.now self.old.end))) }
@@ -115,6 +117,8 @@ impl Base {
         requires at_end { IsEnd self.old.end (F.seen files.old) }
         ensures replaced { OnOk result (Places (written_record head.now.tags g.now) (game_replaced i head.now g.now) self.old self.new) }
         ensures count { length self.new.entries ≡ length self.old.entries }
+        // What is kept of the other games stays.
+        ensures others { (j : ℕ) → (j ≡ i → ⊥) → slice_get self.new.entries j ≡ slice_get self.old.entries j }
         ensures unsaved { OnOk result (self.new.unsaved ≡ true) }
         ensures appended { OnOk result (F.seen files.new ≡ appended (padded self.old.end (written_record head.now.tags g.now)) (F.seen files.old)) }
         ensures no_game { IsErrOf result (EditError.NoGame i) ↔ (length self.old.entries ≤ i) }
@@ -167,9 +171,11 @@ impl Base {
         requires room { 131072 ≤ length buf.old }
         requires edit { IsEdit edit.now }
         requires at_end { IsEnd self.old.end (F.seen files.old) }
-        ensures edited { OnOk result (IsTagged i edit.now self.old self.new (F.seen files.old) (F.seen files.new)) }
+        ensures edited { OnOk result (IsTagged i edit.now self.old self.new (F.seen files.old) (F.seen files.new) buf.new) }
         ensures tagged { OnOk result (Tags i edit.now self.old self.new (F.seen files.old).games (F.seen files.new).games) }
         ensures count { length self.new.entries ≡ length self.old.entries }
+        // What is kept of the other games stays.
+        ensures others { (j : ℕ) → (j ≡ i → ⊥) → slice_get self.new.entries j ≡ slice_get self.old.entries j }
         ensures unsaved { OnOk result (self.new.unsaved ≡ true) }
         ensures no_game { IsErrOf result (EditError.NoGame i) ↔ (length self.old.entries ≤ i) }
         ensures why { IfErr result (WhyNotTagged self.old (F.seen files.old).games i edit.now buf.new) }
@@ -182,6 +188,7 @@ impl Base {
         ensures none_added { OnErr result (result ≢ Err EditError.Failed → F.seen files.new ≡ F.seen files.old) }
         ensures at_end { result ≢ Err EditError.Failed → IsEnd self.new.end (F.seen files.new) }
         ensures asks { (e : EntryValue) → slice_get self.old.entries i ≡ Some e → F.asked files.new ≤ F.asked files.old + e.len }
+        ensures none_asked { IsErrOf result (EditError.NoGame i) → F.asked files.new ≡ F.asked files.old }
         ensures counts { F.faults files.old ≤ F.faults files.new }
         ensures cause { IfErr result (λ error. error ≡ EditError.Failed → Rose (F.faults files.old) (F.faults files.new)) }
     {

@@ -1,5 +1,5 @@
 //! Reading the games of a base that is opened.
-ghost use Rattle.std.specs.Prelude.{◌≡◌, ◌≤◌, ◌<◌, ◌+◌, ◌*◌, ◌^◌, All, List, length, IfOk, IfErr, IfSome, IsTrue, if◌then◌else◌};
+ghost use Rattle.std.specs.Prelude.{◌≡◌, ◌≤◌, ◌<◌, ◌+◌, ◌*◌, ◌^◌, All, List, length, IfOk, IfErr, IfSome, IsTrue, false, if◌then◌else◌};
 ghost use Rattle.base_files.specs.Counters.{Rose};
 ghost use Rattle.base_files.specs.Told.{TellsLength};
 ghost use Rattle.game_tree.specs.Date.{IsDate, keeps_rule};
@@ -64,6 +64,8 @@ pub(crate) fn read_games<F: Files>(
     requires told { TellsLength (F.seen files.old).games o.now.end }
     ensures read { IfOk result (λ opened. IfSome (F.seen files.old).games (λ games. AreRead o.now.strict o.now.index.now o.now.names.now games opened.0 opened.1)) }
     ensures count { IfOk result (λ opened. length opened.0 ≡ count) }
+    ensures strictly { IfOk result (λ opened. IsTrue o.now.strict → opened.1 ≡ 0) }
+    ensures few { IfOk result (λ opened. opened.1 ≤ count) }
     ensures kept { IfOk result (λ opened. All (IsKept o.now.names.now o.now.end) opened.0) }
     ensures fault { IfErr result (IfBad (λ fault. IfSome (F.seen files.old).games (λ games.
         EntryFails o.now.strict o.now.index.now o.now.names.now games count fault))) }
@@ -97,6 +99,7 @@ fn read_game<F: Files>(
     ensures read { IfOk result (λ read. IfSome (F.seen files.old).games (λ games.
         IsReadSo o.now.strict o.now.names.now games game (entry_bytes o.now.index.now game) read.entry read.mended)) }
     ensures kept { IfOk result (λ read. IsKept o.now.names.now o.now.end read.entry) }
+    ensures strictly { IfOk result (λ read. IsTrue o.now.strict → read.mended ≡ false) }
     ensures fault { IfErr result (IfBad (λ fault. IfSome (F.seen files.old).games (λ games.
         Fails o.now.strict o.now.names.now games game (entry_bytes o.now.index.now game) fault))) }
     ensures asks { F.asked files.new ≤ F.asked files.old + (entry_in (entry_bytes o.now.index.now game)).len }
@@ -131,6 +134,7 @@ fn taken_entry(
     ensures not_taken { IfErr result (IfBad (IsNotTaken strict game bytes.now entry.now)) }
     ensures fields { IfOk result (λ read. IsEntry read.entry) }
     ensures homes { IfOk result (λ read. read.entry.home_count ≤ 16) }
+    ensures strictly { IfOk result (λ read. IsTrue strict → read.mended ≡ false) }
     ensures no_files { IfErr result (λ error. error ≡ OpenError.Failed → ⊥) }
 {
     let signed = match signed_by(alloc, entry, bytes) {

@@ -1,4 +1,3 @@
 pub mod Telling
 pub mod Pieces
 pub mod Rising
-pub mod Untold

@@ -4,12 +4,17 @@ use Rattle.base_files.specs.declared.faults.DeviceError.{DeviceError}
 use Rattle.base_files.specs.declared.faults.DeviceError.TheVariants as device
 use Rattle.base_files.specs.declared.faults.Stop.{Stop}
 use Rattle.base_files.specs.declared.faults.Stop.TheVariants as stop
-use Rattle.base_files.specs.Counters.{Rose}
+use Rattle.base_files.specs.Counters.{Rose, raised}
 
 -- The cause of a device's error, where its count of faults went from `old` to `new`: a fault was counted; want of memory is free.
 abbrev pub HasCause : DeviceError → ℕ → ℕ → Type 0
 HasCause device.Failed old new = Rose old new
 HasCause device.Memory old new = ⊤
+
+-- A count of faults after an error: a fault is counted, want of memory is not.
+abbrev pub after_error : DeviceError → ℕ → ℕ
+after_error device.Failed faults = raised faults 1
+after_error device.Memory faults = faults
 
 -- The early end that an error of the input is.
 abbrev pub input_stop : DeviceError → Stop

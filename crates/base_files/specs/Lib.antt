@@ -12,4 +12,3 @@ pub mod FeedStore
 pub mod Trays
 pub mod Swaps
 pub mod Shelves
-pub mod Meters

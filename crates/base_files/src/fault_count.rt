@@ -1,7 +1,7 @@
 //! The count of faults of an adapter.
 ghost use Rattle.std.specs.Prelude.{◌≡◌, ◌≤◌, ◌↔◌};
 ghost use Rattle.base_files.specs.Counters.{raised};
-ghost use Rattle.base_files.specs.Meters.{after_error};
+ghost use Rattle.base_files.specs.Causes.{after_error};
 
 use crate::faults::{DeviceError, Failed};
 use std::io::ErrorKind;

@@ -2,8 +2,6 @@
 #![tactic(auto)]
 
 mod chosen;
-mod disk_base;
-mod disk_files;
 mod extent;
 mod fault_count;
 mod faults;
@@ -11,20 +9,15 @@ mod files;
 mod mem_files;
 mod mem_sink;
 mod mem_source;
-mod new_games;
 mod part;
 mod plan;
 mod reading;
 mod sink;
 mod source;
-mod std_sink;
-mod std_source;
 mod swap;
-#[cfg(test)]
-mod tests;
 mod writing;
 
-pub use disk_files::DiskFiles;
+pub use chosen::Choices;
 pub use extent::Extent;
 pub use fault_count::FaultCount;
 pub use faults::{DeviceError, Failed, Stop};
@@ -36,7 +29,5 @@ pub use part::Part;
 pub use reading::{Input, read_to_limit};
 pub use sink::Sink;
 pub use source::Source;
-pub use std_sink::StdSink;
-pub use std_source::StdSource;
 pub use swap::Swap;
 pub use writing::write_all;

@@ -1,6 +1,6 @@
 -- Where a record is placed in the games file: at its end, if it fits into the block there, and else at the beginning of the next
 -- block, behind zero bytes (this project's own choice, in Scid's format si4).
-use Rattle.std.specs.Prelude.{ℕ, ◌+◌, ◌-◌, ◌%◌, ◌≤◌, nat_le, if◌then◌else◌, List, ◌++◌, replicate, length}
+use Rattle.std.specs.Prelude.{◌≡◌, ℕ, ◌+◌, ◌-◌, ◌%◌, nat_le, if◌then◌else◌, List, ◌++◌, replicate, length}
 use Rattle.base_files.specs.Extents.{block_len}
 use Rattle.base_files.specs.Told.{TellsLength}
 use Rattle.base_files.specs.Seen.{Seen}
@@ -30,9 +30,9 @@ longest_file = 4294967295
 abbrev pub padded : ℕ → List ℕ → List ℕ
 padded end bytes = replicate (padding end (length bytes)) 0 ++ bytes
 
--- The end of a store is that of the games file: of what is told, and within what is known.
+-- The end of a store is that of the games file: of what is told, and the length that is known.
 pub record IsEnd (end : ℕ) (seen : Seen) : Type 0 where
-  pub known : end ≤ seen.known
+  pub known : end ≡ seen.known
   pub told : TellsLength seen.games end
 
 -- The answer for an error of the files.

@@ -15,6 +15,3 @@ pub use packed::{PackedBoard, pack, unpack};
 pub use square::Square;
 pub use step::Move;
 pub use text::{Text, is_zero_free};
-
-#[cfg(test)]
-mod tests;

@@ -26,12 +26,3 @@ pub use next::passed_square;
 pub use position::Position;
 pub use rules::en_passant_rank;
 pub use setup::{Rights, Setup, Wing};
-
-#[cfg(test)]
-mod moves_tests;
-#[cfg(test)]
-mod play_tests;
-#[cfg(test)]
-mod position_tests;
-#[cfg(test)]
-mod slow_attacks;

@@ -1,4 +1,4 @@
--- What the readers of letters answer. No public contract cites these words.
+-- What the readers of letters answer.
 use Rattle.std.specs.Prelude.{ℕ, ◌-◌, ◌==◌, Option, Some, None, cond, nat_lt}
 use Rattle.cell_core.specs.declared.man.Colour.{Colour}
 use Rattle.cell_core.specs.declared.man.Colour.TheVariants.{White, Black}

@@ -1,4 +1,4 @@
--- What the reader of a move's text answers part by part. No public contract cites these words.
+-- What the reader of a move's text answers part by part.
 use Rattle.std.specs.Prelude.{ℕ, ◌-◌, ◌==◌, ◌&&◌, ◌||◌, nat_le, nat_lt, Bool, true, false, cond, List, [], ◌∷◌, Option, Some, None, is_some, drop}
 use Rattle.std.specs.List.{list_all}
 use Rattle.cell_core.specs.declared.man.Kind.{Kind}

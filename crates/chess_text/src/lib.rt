@@ -22,8 +22,3 @@ pub use san_laws::{moves_have_one_text, texts_have_one_shape};
 pub use san_reading::read_san;
 pub use san_writing::{play_san, write_san};
 pub use writing::write_fen;
-
-#[cfg(test)]
-mod san_tests;
-#[cfg(test)]
-mod tests;

@@ -12,7 +12,7 @@ use Rattle.index_entry.specs.declared.entry.Entry.{Entry}
 use Rattle.base_core.specs.Compacted.{end_of}
 use Rattle.base_core.specs.Entries.{extent_of}
 use Rattle.base_core.specs.Represents.{Kept, Represents}
-use Rattle.base_core.specs.GameAt.{SaysWhy}
+use Rattle.base_core.specs.GameAt.{IsStillOfGame, SaysWhy}
 use Rattle.base_core.specs.GameAt.{IfChanged as IfGameChanged}
 use Rattle.base_core.specs.declared.fault.EditError.{EditError}
 use Rattle.base_core.specs.declared.fault.EditError.TheVariants as edit
@@ -246,8 +246,8 @@ rose-later first old new before (inr last) = inr last
 -- ---- one record.
 
 pub copies-so : (i : ℕ) (kept : Kept) (end after len pad : ℕ) (old mid new : Seen) (buf : List ℕ) → mid ≡ old → len ≤ length buf → ((e : Entry) → slice_get kept.entries i ≡ Some e → (len ≡ e.len) × Tells (part_told old.games e.offset e.len) (take e.len buf))
-    → pad ≡ padding end len → new ≡ lengthened (replicate pad 0 ++ take len buf) mid → after ≡ end + pad + len → Copies i kept end after old new
-copies-so i kept end after len pad old mid new buf same room read is added ends = λ e at.
+    → IsStillOfGame kept i buf → pad ≡ padding end len → new ≡ lengthened (replicate pad 0 ++ take len buf) mid → after ≡ end + pad + len → Copies i kept end after old new
+copies-so i kept end after len pad old mid new buf same room read still is added ends = λ e at.
     let here = read e at in
     let bytes = take e.len buf in
     let fits : e.len ≤ length buf = omega (arith, here.0, room) in
@@ -257,6 +257,7 @@ copies-so i kept end after len pad old mid new buf same room read is added ends 
       bytes = bytes;
       long = length-take-le e.len buf fits;
       read = here.1;
+      still = still e at;
       added = added ∙ (ap (λ (p : ℕ). A p len mid) padded_so ∙ (ap (λ (n : ℕ). A (padding end e.len) n mid) here.0 ∙ ap (λ (s : Seen). A (padding end e.len) e.len s) same));
       ends = ends ∙ (ap (λ (p : ℕ). end + p + len) padded_so ∙ ap (λ (n : ℕ). end + padding end e.len + n) here.0);
     }

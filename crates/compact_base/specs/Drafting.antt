@@ -7,7 +7,8 @@ use Rattle.block_store.specs.Placing.{end_after, longest_file, padding}
 use Rattle.base_core.specs.Base.{Base}
 use Rattle.base_core.specs.Compacted.{only, stays}
 use Rattle.base_core.specs.Drafts.{AreNamesOf}
-use Rattle.base_core.specs.GameAt.{IsChanged}
+use Rattle.base_core.specs.Entries.{sig_in}
+use Rattle.base_core.specs.GameAt.{IsChanged, IsRecordWith}
 use Rattle.base_core.specs.Represents.{Kept, Represents}
 use Rattle.index_entry.specs.declared.entry.Entry.{Entry}
 use Rattle.compact_base.specs.declared.fault.CompactError.{CompactError}
@@ -35,11 +36,13 @@ WhyNotDrafted end error.Full = longest_file < end
 WhyNotDrafted end error.Memory = ⊤
 WhyNotDrafted end _ = ⊥
 
--- The record of an entry was read and added to the new games file, which ended there: it ends behind the record now.
+-- The record of an entry was read, is still one of a game with the signature that is kept, and was added to the new games file, which ended there:
+-- it ends behind the record now.
 pub record IsCopied (e : Entry) (end after : ℕ) (old new : Seen) : Type 0 where
   pub bytes : List ℕ
   pub long : length bytes ≡ e.len
   pub read : Tells (part_told old.games e.offset e.len) bytes
+  pub still : IsRecordWith bytes (sig_in e)
   pub added : new ≡ lengthened (replicate (padding end e.len) 0 ++ bytes) old
   pub ends : after ≡ end_after end e.len
 

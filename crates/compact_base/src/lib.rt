@@ -9,6 +9,3 @@ mod fault;
 
 pub use compacting::compact;
 pub use fault::CompactError;
-
-#[cfg(test)]
-mod tests;

@@ -5,6 +5,3 @@ mod generator;
 mod heads;
 
 pub use generator::Generator;
-
-#[cfg(test)]
-mod tests;

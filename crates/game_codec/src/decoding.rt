@@ -73,6 +73,7 @@ fn read_record(alloc: Global, bytes: &[u8]) -> Result<(Game, Vec<Tag>), Refusal>
 pub(crate) fn place_of(len: usize, left: usize, what: RecordWhat) -> u32
     requires few { len < 2 ^ 32 }
     ensures place { (rest : List ℕ) → length rest ≡ left → result ≡ place_of len rest what }
+    ensures within { result ≤ len }
 {
     match what {
         RecordWhat::Short | RecordWhat::Move(MoveFault::Short) => len as u32,

@@ -28,6 +28,3 @@ pub use fault::{DecodeError, EncodeError, RecordFault, RecordWhat};
 pub use one_reading::bytes_have_one_reading;
 pub use round_trip::written_records_are_read;
 pub use walk::Walk;
-
-#[cfg(test)]
-mod tests;

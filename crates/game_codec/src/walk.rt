@@ -5,6 +5,8 @@ ghost use Rattle.chess_laws.specs.Step.{Step};
 ghost use Rattle.game_tree.specs.Game.{GameTree};
 ghost use Rattle.game_tree.specs.Replay.{next_at, plies_of, position_at};
 ghost use Rattle.game_tree.specs.declared.head.Tag.{Tag as TagValue};
+ghost use Rattle.game_codec.specs.Breach.{Tells};
+ghost use Rattle.game_codec.specs.Fault.{Breaks, IsRecordFault};
 ghost use Rattle.game_codec.specs.Record.{IsRecord, IsSomeRecord};
 ghost use Rattle.game_codec.specs.Walking.{GoesOn, IsBehind};
 
@@ -44,13 +46,15 @@ impl<'a> Model for Walk<'a> {
 }
 
 impl<'a> Walk<'a> {
-    /// The walk at the start of a record's main line. A record has fewer than 2^32 bytes. The fault comes only where the
-    /// bytes are no record.
+    /// The walk at the start of a record's main line. A record has fewer than 2^32 bytes. The fault is the first of bytes that are
+    /// no record.
     pub fn new(bytes: &'a [u8]) -> Result<Walk<'a>, RecordFault>
         requires few { length bytes.now < 2 ^ 32 }
         ensures bytes { IfOk result (λ walk. walk.bytes ≡ bytes.now) }
         ensures start { IfOk result (λ walk. walk.ply ≡ 0) }
         ensures fault { IfErr result (λ _. IsSomeRecord bytes.now → ⊥) }
+        // Nothing was passed unread, so it is the first fault of the bytes.
+        ensures first { IfErr result (IsRecordFault bytes.now) }
     {
         match begin(bytes) {
             Ok(read) => Ok(Walk {
@@ -89,6 +93,7 @@ impl<'a> Walk<'a> {
         ensures played { IfOk result (λ next. MatchOption next (self.new ≡ self.old)
             (λ m. Step self.old.position m self.new.position × ((self.new.ply ≡ self.old.ply + 1) × (self.new.bytes ≡ self.old.bytes)))) }
         ensures fault { IfErr result (λ _. IsSomeRecord self.old.bytes → ⊥) }
+        ensures place { IfErr result (λ fault. fault.place ≤ length self.old.bytes) }
         ensures unchanged { IfErr result (λ _. self.new ≡ self.old) }
     {
         match next_move(&mut self.here, self.ahead) {
@@ -108,6 +113,7 @@ fn begin(bytes: &[u8]) -> Result<StartRead, Breach>
     ensures begun { IfOk result (λ read. (tags : List TagValue) (game : GameTree) → IsRecord bytes.now tags game → IsBehind game read.start 0 (drop read.used bytes.now)) }
     ensures used { IfOk result (λ read. read.used ≤ length bytes.now) }
     ensures fault { IfErr result (λ _. IsSomeRecord bytes.now → ⊥) }
+    ensures first { IfErr result (Tells (Breaks bytes.now)) }
 {
     let used = tags_len(bytes)?;
     let read = read_start(bytes.split_at(used).1)?;
@@ -152,6 +158,8 @@ fn next_move<'a>(here: &mut Numbered, bytes: &'a [u8]) -> Result<Option<NextMove
 // The fault that a part of these bytes has.
 fn fault_at(bytes: &[u8], breach: Breach) -> RecordFault
     requires few { length bytes.now < 2 ^ 32 }
+    ensures first { Tells (Breaks bytes.now) breach → IsRecordFault bytes.now result }
+    ensures within { result.place ≤ length bytes.now }
 {
     RecordFault {
         place: place_of(bytes.len(), breach.left, breach.what),

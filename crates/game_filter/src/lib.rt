@@ -8,8 +8,6 @@ mod filter;
 mod op;
 mod plies;
 mod renumbering;
-#[cfg(test)]
-mod tests;
 
 pub use filter::Filter;
 pub use op::Op;

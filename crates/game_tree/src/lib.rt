@@ -36,8 +36,3 @@ pub use settling::settle;
 pub use tag_edit::{TagEdit, TagEditError, apply};
 pub use tag_name::{is_refused, is_reserved, is_tag_byte, is_tag_name, rating_of, rating_tag};
 pub use tags::Tags;
-
-#[cfg(test)]
-mod edit_tests;
-#[cfg(test)]
-mod tests;

@@ -3,8 +3,6 @@
 
 mod matching;
 mod searching;
-#[cfg(test)]
-mod tests;
 
 pub use matching::matches;
 pub use searching::search;

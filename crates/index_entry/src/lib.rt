@@ -19,6 +19,3 @@ pub use fields::{
 pub use index::{ENTRY_LEN, HEADER_LEN, IndexHead, entry_of, read_index, write_index};
 pub use packing::pack;
 pub use unpacking::{place_of, unpack};
-
-#[cfg(test)]
-mod tests;

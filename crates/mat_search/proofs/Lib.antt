@@ -5,3 +5,4 @@ pub mod PassLemmas
 pub mod WalkLemmas
 pub mod ReadLemmas
 pub mod SearchLemmas
+pub mod FirstLemmas

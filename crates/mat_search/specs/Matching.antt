@@ -1,5 +1,5 @@
 -- At which plies a game matches a search of counts of men (this project's own).
-use Rattle.std.specs.Prelude.{ℕ, ◌+◌, ◌-◌, ◌&&◌, ◌||◌, nat_le, Bool, List, [], ◌∷◌, Option, map, slice_index}
+use Rattle.std.specs.Prelude.{◌≡◌, ◌≤◌, ◌<◌, ℕ, ◌+◌, ◌-◌, ◌&&◌, ◌||◌, nat_le, Bool, true, false, List, [], ◌∷◌, Option, Some, None, map, slice_index}
 use Rattle.std.specs.List.{find, list_all, range_with_len}
 use Rattle.chess_laws.specs.Counts.{counts_of}
 use Rattle.game_tree.specs.Game.{GameTree}
@@ -46,6 +46,12 @@ matches_at query game ply =
 -- The first ply of the main line at which it matches, or none where it never does; ply 0 is the start.
 abbrev pub first_of : MatQuery → GameTree → Option ℕ
 first_of query game = find (matches_at query game) (range_with_len 0 (plies_of game + 1))
+
+-- The same as a relation: the game matches at this ply of its main line and at none before, or at none.
+abbrev pub FirstPly : MatQuery → GameTree → Option ℕ → Type 0
+FirstPly query game (Some ply) =
+    (ply ≤ plies_of game) × ((matches_at query game ply ≡ true) × ((earlier : ℕ) → earlier < ply → matches_at query game earlier ≡ false))
+FirstPly query game None = (ply : ℕ) → ply ≤ plies_of game → matches_at query game ply ≡ false
 
 -- The first matching plies of all games.
 abbrev pub firsts_of : MatQuery → List GameTree → List (Option ℕ)

@@ -6,10 +6,8 @@ mod laws;
 mod matching;
 mod searching;
 mod streaks;
-#[cfg(test)]
-mod tests;
 
-pub use laws::tests_are_sound;
+pub use laws::{first_plies_are_first, tests_are_sound};
 pub use matching::passes;
 pub use searching::search;
 pub use sig_index::{MatQuery, MatRange};

@@ -10,6 +10,3 @@ mod values;
 pub use fault::MoveFault;
 pub use numbered::Numbered;
 pub use numbers::{NumberedMen, Numbers};
-
-#[cfg(test)]
-mod tests;

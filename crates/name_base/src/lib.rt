@@ -20,6 +20,3 @@ pub use name_lists::{AddError, Names};
 pub use reading::read_names;
 pub use round_trip::{written_form_is_one, written_names_are_read};
 pub use writing::write_names;
-
-#[cfg(test)]
-mod tests;

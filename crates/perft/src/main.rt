@@ -2,6 +2,9 @@
 //! answer is a line with the number of different lines of so many half-moves, or with what is wrong.
 #![tactic(auto)]
 
+ghost use Rattle.std.specs.Prelude.{IfSome};
+ghost use Rattle.perft.specs.Count.{IsCount};
+
 use arrayvec::ArrayVec;
 use cell_core::Move;
 use chess_laws::Position;
@@ -28,7 +31,7 @@ fn asked(line: &[u8]) -> Option<(u8, Position)> {
     if !digit.is_ascii_digit() {
         return None;
     }
-    let depth = digit.checked_sub(b'0')?;
+    let depth = digit - b'0';
     let position = read_fen(fen).ok()?;
     Some((depth, position))
 }
@@ -36,7 +39,9 @@ fn asked(line: &[u8]) -> Option<(u8, Position)> {
 /// How many lines of `depth` half-moves there are, the one of no half-move among them, or `None` where a position on the
 /// way has more legal moves than the list holds, or the lines are more than the number holds. The last half-move is
 /// counted, not played.
-fn nodes(position: &Position, depth: u8) -> Option<u64> {
+fn nodes(position: &Position, depth: u8) -> Option<u64>
+    ensures count { IfSome result (IsCount depth position.now) }
+{
     if depth == 0 {
         return Some(1);
     }

@@ -1,12 +1,12 @@
 -- Laws of the number of items: each has a byte, so a text has no more than it has bytes.
-use Rattle.std.proofs.Common.{◌≡◌, ◌≤◌, ◌<◌, ◌+◌, ◌-◌, ◌==◌, ◌&&◌, ℕ, zero, suc, Bool, true, false, not, cond, List, [], ◌∷◌, length, drop, Option, Some, None, refl, sym, ap, ◌∙◌, subst, arith, length-drop}
+use Rattle.std.proofs.Common.{◌≡◌, ◌≤◌, ◌<◌, ◌-◌, ◌==◌, ◌&&◌, ℕ, zero, suc, Bool, true, false, cond, List, [], ◌∷◌, length, drop, Option, Some, None, refl, sym, ap, ◌∙◌, subst, arith, length-drop}
 use Rattle.std.specs.Prelude.{codes}
 use Rattle.pgn_read.specs.declared.item.Item.{Item}
 use Rattle.pgn_read.specs.declared.place.Place.{Place}
 use Rattle.pgn_read.specs.Bytes.{begins}
 use Rattle.pgn_read.specs.Place.{next_place}
 use Rattle.pgn_read.specs.Lexing.{lexed, size}
-use Rattle.pgn_read.specs.Text.{At, behind_mark, behind_token, here, longest, next_at, passed, skipped}
+use Rattle.pgn_read.specs.Text.{At, behind_mark, here, longest, next_at, passed, skipped}
 use Rattle.pgn_read.specs.Reading.{Effect, Reading, ends_before, ends_behind, goes_on, is_faulty, is_game, is_inside, unread}
 use Rattle.pgn_read.specs.Items.{AreItems, Next, PgnReads, begins_game, by_effect, effect_at, ended, first_token, item_at, items_at, items_of, next, next_item, resumed, text_start}
 use Rattle.pgn_read.proofs.ItemLaws.{at_short, end_at, gap_short, next_short, not_end, one_list, token_taken}

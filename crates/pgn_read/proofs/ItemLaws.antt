@@ -21,7 +21,8 @@ use Rattle.pgn_read.specs.Reading.{Reading, Effect, goes_on, ends_behind, ends_b
 use Rattle.pgn_read.specs.Heads.{head_from}
 use Rattle.pgn_read.specs.Items.{Next, next, resumed_at, faulty, ended, ended_before, by_effect, effect_at, item_from, item_at, whole_room, first_token, next_item, AreItems, PgnReads}
 use Rattle.pgn_read.specs.Said.{said_end, EndsWell}
-use Rattle.pgn_read.specs.Window.{Window, with_more, ahead, front, Decides, by_end, Moved, FrontPassed, FrontMoved}
+use Rattle.pgn_read.specs.Readers.{Window, with_more, ahead}
+use Rattle.pgn_read.specs.Window.{front, Decides, by_end, Moved, FrontPassed, FrontMoved}
 use Rattle.pgn_read.proofs.LexingLaws.{Goes, token_goes, token_shorter}
 
 -- ---- progress

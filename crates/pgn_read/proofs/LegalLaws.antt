@@ -1,5 +1,5 @@
 -- What was read of a game stays legal.
-use Rattle.std.proofs.Common.{◌≡◌, ◌≢◌, ◌≤◌, ◌<◌, ◌+◌, ◌&&◌, ◌||◌, ℕ, Bool, true, false, cond, nat_le, nat_lt, codes, List, [], ◌∷◌, ◌++◌, length, filter, Option, Some, None, IsTrue, Result, Ok, Err, refl, sym, ap, ◌∙◌, subst, arith}
+use Rattle.std.proofs.Common.{◌≡◌, ◌≤◌, ◌<◌, ◌+◌, ◌&&◌, ◌||◌, ℕ, Bool, true, false, cond, nat_le, nat_lt, codes, List, [], ◌∷◌, ◌++◌, length, filter, Option, Some, None, Result, Ok, Err, refl, sym, ap, subst, arith}
 use Rattle.std.specs.List.{AllByRecursion}
 use Rattle.std.proofs.lemmas.Bool.{and_parts, leb-false}
 use Rattle.cell_core.specs.declared.step.Move.{Move}
@@ -12,14 +12,13 @@ use Rattle.chess_text.specs.declared.fault.SanFault.{SanFault}
 use Rattle.chess_text.specs.declared.shape.Shape.{Shape}
 use Rattle.chess_text.specs.SanReading.{shape_named}
 use Rattle.game_tree.specs.declared.head.Head.{Head}
-use Rattle.game_tree.specs.declared.head.Outcome.{Outcome}
 use Rattle.game_tree.specs.Game.{GameTree}
 use Rattle.game_tree.specs.Head.{IsBounded}
 use Rattle.game_tree.specs.Settle.{IsSettled}
 use Rattle.game_tree.specs.Item as item
-use Rattle.game_tree.specs.Tree.{Line, Branches, none, more, Played, Variation, line_of, depth_of, depth_within}
+use Rattle.game_tree.specs.Tree.{Branches, none, more, Played, Variation, line_of, depth_of, depth_within}
 use Rattle.game_tree.specs.Movetext.{as_comment, joined}
-use Rattle.game_tree.specs.Building.{Open, Building, closed, and_last, read_line, added, bare, with_move, with_nag_on, with_nag, with_comment_on, with_comment, with_branch, with_variation_on, with_variation, variation_of, more_nags, more_comment, more_variations}
+use Rattle.game_tree.specs.Building.{Open, closed, and_last, added, bare, with_move, with_nag_on, with_nag, with_comment_on, with_comment, with_branch, with_variation_on, with_variation, variation_of, more_comment}
 use Rattle.game_tree.specs.Legal.{IsComment, IsLegalLine, AreLegalBranches, deepest, IsLegalGame}
 use Rattle.game_tree.specs.TagList.{is_named}
 use Rattle.game_tree.specs.TagName.{is_among, roster_names}
@@ -36,7 +35,7 @@ use Rattle.pgn_read.specs.Token as token
 use Rattle.pgn_read.specs.Reading.{Reading, Effect, has_tag, goes_on, ends_behind, ends_before, is_faulty, unread, turn_at, turn_behind, is_inside, has_move, with_tag, starting, fen_effect, tag_effect, moving, played, move_effect, opened, closed_to, commented, nag_effect, effect, game_of}
 use Rattle.pgn_read.specs.Said.{said_step, EndsWell, StepsWell}
 use Rattle.pgn_read.specs.Fit.{IsFitGame}
-use Rattle.pgn_read.specs.Legality.{IsPlayed, Leads, ComesTo, IsLine, AreLines, HasNoMoves, IsLegal, EndsLegally, StepsLegally}
+use Rattle.pgn_read.specs.Legality.{IsPlayed, Leads, ComesTo, IsLine, AreLines, IsLegal, EndsLegally, StepsLegally}
 
 -- ---- the answer to a move's text
 

@@ -1,5 +1,7 @@
 pub mod LexingLaws
 pub mod SoundLaws
+pub mod BufferLaws
+pub mod ClearLaws
 pub mod WindowLaws
 pub mod HeadLaws
 pub mod LegalLaws
@@ -14,6 +16,7 @@ pub mod SanLaws
 pub mod MovetextLaws
 pub mod ReadableLaws
 pub mod TagTextLaws
+pub mod TagSpellingLaws
 pub mod TagsLaws
 pub mod MarksLaws
 pub mod HeadsAgainLaws

@@ -1,5 +1,5 @@
 -- The items of a text are those that a reader gives one behind the other.
-use Rattle.std.proofs.Common.{◌≡◌, ℕ, List, [], ◌∷◌, Option, Some, None, option_map, sym, ap, subst}
+use Rattle.std.proofs.Common.{◌≡◌, ℕ, List, [], ◌∷◌, Option, Some, None, sym, ap, subst}
 use Rattle.pgn_read.specs.declared.item.Item.{Item}
 use Rattle.pgn_read.specs.Text.{At}
 use Rattle.pgn_read.specs.Items.{Next, next, next_item, AreItems, PgnReads}

@@ -77,12 +77,12 @@ first_and : (a b c d : Bool) → (a && b && c && d) ≡ true → a ≡ true
 first_and true b c d is = refl
 first_and false b c d is = is
 
-name_no_white : (b : ℕ) → is_tag_byte b ≡ true → is_white b ≡ false
+pub name_no_white : (b : ℕ) → is_tag_byte b ≡ true → is_white b ≡ false
 name_no_white b tag = above_white b (leb-true 33 b (first_and (nat_le 33 b) (nat_le b 126) (not (b == 34)) (not (b == 93)) tag))
 
 -- ---- the whole tag
 
-closed_so : (name raw rest : List ℕ) → has_zero raw ≡ false → closing name raw (93 ∷ rest) ≡ lexed_as (token.tag name (unescaped raw)) rest
+pub closed_so : (name raw rest : List ℕ) → has_zero raw ≡ false → closing name raw (93 ∷ rest) ≡ lexed_as (token.tag name (unescaped raw)) rest
 closed_so name raw rest free = rw free refl
 
 quoted : (name value rest : List ℕ) → AllByRecursion (λ byte. byte ≢ 0) value

@@ -55,3 +55,4 @@ is_of run.Glyphs = is_glyph
 is_of run.Move = is_move_byte
 is_of run.ToBrace = λ byte. not (byte == 125)
 is_of run.ToFeed = λ byte. not (byte == 10)
+is_of run.ToZero = λ byte. not (byte == 0)

@@ -1,12 +1,26 @@
 -- A reader of the items of a text, as its contracts see it.
-use Rattle.std.specs.Prelude.{◌≡◌, ◌⊎◌, ℕ, false, List, [], ◌∷◌, Option, None, Some, IfSome, option_map}
+use Rattle.std.specs.Prelude.{◌≡◌, ◌⊎◌, ℕ, Bool, false, List, [], ◌∷◌, ◌++◌, Option, None, Some, IfSome, option_map}
 use Rattle.pgn_read.specs.declared.error.PgnError.{PgnError}
 use Rattle.pgn_read.specs.declared.item.Item.{Item}
 use Rattle.pgn_read.specs.Causes.{HasCause}
+use Rattle.pgn_read.specs.declared.place.Place.{Place}
 use Rattle.pgn_read.specs.Place.{first_place}
-use Rattle.pgn_read.specs.Text.{At, longest}
+use Rattle.pgn_read.specs.Text.{At, here, longest}
 use Rattle.pgn_read.specs.Items.{next, next_item, AreItems}
-use Rattle.pgn_read.specs.Window.{Window, ahead}
+
+-- The unread bytes, where they stand, and whether the source has come to its end behind them.
+pub record Window : Type 0 where
+  pub unread : List ℕ
+  pub place : Place
+  pub room : ℕ
+  pub ended : Bool
+
+-- What stands ahead, if these bytes come behind the window, and where the source tells what it has left.
+abbrev pub with_more : Window → List ℕ → At
+with_more w more = here w.place w.room (w.unread ++ more)
+
+abbrev pub ahead : Window → Option (List ℕ) → Option At
+ahead w left = option_map (with_more w) left
 
 -- What was read of the source and not yet used, and the error from which on the reader answers the same.
 pub record Reader : Type 0 where

@@ -1,5 +1,5 @@
 -- A text as a list of tokens, each where it stands (PGN standard, 7).
-use Rattle.std.specs.Prelude.{ℕ, zero, suc, ◌-◌, ◌==◌, Bool, false, not, ◌&&◌, ◌||◌, if◌then◌else◌, List, [], ◌∷◌, take, drop}
+use Rattle.std.specs.Prelude.{ℕ, zero, suc, ◌+◌, ◌-◌, ◌*◌, ◌==◌, Bool, false, not, ◌&&◌, ◌||◌, if◌then◌else◌, List, [], ◌∷◌, take, drop}
 use Rattle.pgn_read.specs.declared.place.Place.{Place}
 use Rattle.pgn_read.specs.Place.{next_place, place_behind}
 use Rattle.pgn_read.specs.Bytes.{is_white, begins}
@@ -18,6 +18,11 @@ here place room bytes = record { place = place; room = room; bytes = bytes }
 -- The greatest length of a game's text (this project's own).
 abbrev pub longest : ℕ
 longest = 1048576
+
+-- The most bytes that a reader has read and not yet used: twice the longest game's text, and two pieces of 4,096 bytes (this
+-- project's own).
+abbrev pub most_ahead : ℕ
+most_ahead = 2 * longest + 8206
 
 -- So many bytes further.
 abbrev pub passed : ℕ → At → At

@@ -1,6 +1,5 @@
--- The bytes of a source that were read and not yet taken, with where they stand. No public contract cites these words.
-use Rattle.std.specs.Prelude.{◌≡◌, ◌≤◌, ◌<◌, ◌⊎◌, ⊤, ℕ, ◌+◌, ◌-◌, if◌then◌else◌, Bool, true, false, List, ◌++◌, length, take, drop, Option, Some, option_map, IsTrue}
-use Rattle.pgn_read.specs.declared.place.Place.{Place}
+-- Steps over the bytes of a source that were read and not yet taken. No public contract cites these words.
+use Rattle.std.specs.Prelude.{◌≡◌, ◌≤◌, ◌<◌, ◌⊎◌, ⊤, ℕ, ◌+◌, ◌-◌, if◌then◌else◌, Bool, true, false, length, take, drop, Option, Some, option_map, IsTrue}
 use Rattle.pgn_read.specs.declared.step.End.{End}
 use Rattle.pgn_read.specs.declared.step.End.TheVariants as end
 use Rattle.pgn_read.specs.declared.step.Step.{Step}
@@ -12,20 +11,7 @@ use Rattle.pgn_read.specs.Lexing.{lexed, size}
 use Rattle.pgn_read.specs.Text.{At, here, behind_token, longest}
 use Rattle.pgn_read.specs.Reading.{Reading}
 use Rattle.pgn_read.specs.Items.{Next, ended, ended_before, faulty}
-
--- The unread bytes, where they stand, and whether the source has come to its end behind them.
-pub record Window : Type 0 where
-  pub unread : List ℕ
-  pub place : Place
-  pub room : ℕ
-  pub ended : Bool
-
--- What stands ahead, if these bytes come behind the window, and where the source tells what it has left.
-abbrev pub with_more : Window → List ℕ → At
-with_more w more = here w.place w.room (w.unread ++ more)
-
-abbrev pub ahead : Window → Option (List ℕ) → Option At
-ahead w left = option_map (with_more w) left
+use Rattle.pgn_read.specs.Readers.{Window}
 
 -- What the window has tells the token at its front, or that it is too long.
 abbrev pub Decides : Window → Type 0

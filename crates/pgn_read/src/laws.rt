@@ -1,7 +1,11 @@
 //! Laws of texts and their items.
 ghost use Rattle.std.specs.Prelude.{◌≡◌, ◌∷◌, ℕ, [], List, Option, None, Some, All, map};
 ghost use Rattle.pgn_read.specs.declared.item.Item.{Item as PlainItem};
+ghost use Rattle.pgn_read.specs.Lexing.{lexed};
+ghost use Rattle.pgn_read.specs.TagSpelling.{TagParts, AreParts, tag_before, said_by};
 ghost use Rattle.pgn_read.specs.Text.{At};
+ghost use Rattle.pgn_read.specs.Token as token;
+ghost use Rattle.pgn_read.specs.Token.{lexed_as};
 ghost use Rattle.pgn_read.specs.Items.{PgnReads, items_of};
 ghost use Rattle.pgn_read.specs.Readers.{fresh_reader, told, Follows, ItemsAhead, AreRead};
 ghost use Rattle.pgn_read.specs.RoundTrip.{Headed, IsReadAgain, texts_of, again};
@@ -23,6 +27,14 @@ pub fn items_are_read_one_by_one()
     ensures more { (old new : Option At) (item : PlainItem) (items : List PlainItem) → Follows old (Some item) new → ItemsAhead new items
         → ItemsAhead old (item ∷ items) }
     ensures last { (old new : Option At) → Follows old None new → ItemsAhead old [] }
+{}
+
+/// A law: a tag is read as its name and its value however it is spelled, with white space between its parts or without, and with
+/// backslashes in its value.
+#[tactic(auto, using(crate::proofs::TagSpellingLaws::tag_spelled))]
+pub fn spelled_tags_are_read()
+    ensures read { (tag : TagParts) (rest : List ℕ) → AreParts tag
+        → lexed (tag_before tag rest) ≡ lexed_as (token.tag tag.name (said_by tag.value)) rest }
 {}
 
 /// A law: the joined texts of legal games with settled heads within their bounds, each of at most 1,048,576 bytes, are read as

@@ -1,16 +1,22 @@
 //! The token at the beginning of a text.
 ghost use Rattle.std.specs.Prelude.{◌≡◌, ◌≤◌, length, drop, IfSome};
+ghost use Rattle.pgn_read.specs.Bytes.{has_zero};
+ghost use Rattle.pgn_read.specs.Clear.{IsClear};
 ghost use Rattle.pgn_read.specs.Said.{said};
 ghost use Rattle.pgn_read.specs.Lexing.{lexed, by_kind, comment_of, braced, brace_from, without_return, line_from, nag_of, nag_from, suffix_of, suffix_from, move_from, number_from, digit_from};
 
-use crate::run::{Run, begins, has_zero, is_glyph, is_move_byte, split_run};
+use crate::clear::Clear;
+use crate::run::{
+    Run, begins, has_zero, has_zero_behind, is_glyph, is_move_byte, split_run, split_run_behind,
+};
 use crate::tag_text::tag_from;
 use crate::token::{Lexed, Token};
 use game_tree::{Outcome, read_decimal};
 
-/// The token at the beginning of the text, and what stands behind it.
+/// The token at the beginning of the text, which was searched so far, and what stands behind it.
 #[tactic(auto, unfolding(crate::specs::Lexing::lexed))]
-pub(crate) fn lexed(text: &[u8]) -> Lexed<'_>
+pub(crate) fn lexed(text: &[u8], clear: Clear) -> Lexed<'_>
+    requires clear { IsClear clear text.now }
     ensures token { said result.token ≡ (lexed text.now).token }
     ensures rest { result.rest.now ≡ (lexed text.now).rest }
 {
@@ -22,7 +28,7 @@ pub(crate) fn lexed(text: &[u8]) -> Lexed<'_>
     };
     match *byte {
         b'[' => tag_from(rest),
-        b'{' => brace_from(rest),
+        b'{' => brace_from(rest, clear.behind(1)),
         b';' => line_from(rest),
         b'$' => nag_from(rest),
         b'(' => Lexed {
@@ -63,25 +69,33 @@ fn lexed_by_kind<'a>(byte: u8, text: &'a [u8], rest: &'a [u8]) -> Lexed<'a>
     }
 }
 
-fn comment_of(text: &[u8]) -> Token<'_>
+fn comment_of(text: &[u8], zeroed: bool) -> Token<'_>
+    requires zero { zeroed ≡ has_zero text.now }
     ensures { said result ≡ comment_of text.now }
 {
-    if has_zero(text) {
+    if zeroed {
         Token::Bad
     } else {
         Token::Comment(text)
     }
 }
 
+fn line_comment(text: &[u8]) -> Token<'_>
+    ensures { said result ≡ comment_of text.now }
+{
+    comment_of(text, has_zero(text))
+}
+
 // A comment in braces, from behind the opening one on.
-fn brace_from(text: &[u8]) -> Lexed<'_>
+fn brace_from(text: &[u8], clear: Clear) -> Lexed<'_>
+    requires clear { IsClear clear text.now }
     ensures token { said result.token ≡ (brace_from text.now).token }
     ensures rest { result.rest.now ≡ (brace_from text.now).rest }
 {
-    let (text, rest) = split_run(Run::ToBrace, text);
+    let (text, rest) = split_run_behind(Run::ToBrace, clear.braces, text);
     match rest {
         [_, rest @ ..] => Lexed {
-            token: comment_of(text),
+            token: comment_of(text, has_zero_behind(clear.zeros.min(text.len()), text)),
             rest,
         },
         [] => Lexed {
@@ -98,7 +112,7 @@ fn line_from(text: &[u8]) -> Lexed<'_>
 {
     let (text, rest) = split_run(Run::ToFeed, text);
     Lexed {
-        token: comment_of(without_return(text)),
+        token: line_comment(without_return(text)),
         rest,
     }
 }

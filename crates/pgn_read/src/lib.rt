@@ -1,6 +1,8 @@
 //! Games as text in Portable Game Notation (PGN), as they are read.
 #![tactic(auto)]
 
+mod buffer;
+mod clear;
 mod error;
 mod heads;
 mod item;
@@ -19,11 +21,7 @@ mod window;
 pub use error::PgnError;
 pub use item::{GameFault, GameWhat, Item};
 pub use laws::{
-    items_are_read_one_by_one, texts_have_one_list_of_items, written_games_are_read_again,
+    items_are_read_one_by_one, spelled_tags_are_read, texts_have_one_list_of_items,
+    written_games_are_read_again,
 };
 pub use reader::Reader;
-
-#[cfg(test)]
-mod round_trip_tests;
-#[cfg(test)]
-mod tests;

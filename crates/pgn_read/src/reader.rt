@@ -5,9 +5,10 @@ ghost use Rattle.pgn_read.specs.Causes.{HasCause};
 ghost use Rattle.pgn_read.specs.Items.{next, item_at, effect_at, first_token};
 ghost use Rattle.pgn_read.specs.Fit.{IsFit};
 ghost use Rattle.pgn_read.specs.Legality.{IsLegal, EndsLegally, StepsLegally};
-ghost use Rattle.pgn_read.specs.Readers.{fresh_reader, told, Follows, IsStuck};
+ghost use Rattle.pgn_read.specs.Readers.{ahead, fresh_reader, told, Follows, IsStuck};
 ghost use Rattle.pgn_read.specs.Said.{said_step, StepsWell, EndsWell, IsBalanced};
-ghost use Rattle.pgn_read.specs.Window.{ahead, front, by_end, Decides, Moved, FrontMoved, WhyUntaken, passes};
+ghost use Rattle.pgn_read.specs.Text.{most_ahead};
+ghost use Rattle.pgn_read.specs.Window.{front, by_end, Decides, Moved, FrontMoved, WhyUntaken, passes};
 
 use crate::error::PgnError;
 use crate::item::{GameFault, GameWhat, Item};
@@ -20,7 +21,8 @@ use std::alloc::{AllocError, Global};
 use std::marker::Model;
 
 /// Reads the items of a text in Portable Game Notation from a source: its games, and the first fault of each item that is no
-/// game. It keeps the bytes that it has read and not yet used, at most a little more than one token may have.
+/// game. It keeps the bytes that it has read and not yet used: about twice as many as the token that comes next, and never more
+/// than 2,105,358.
 #[derive(Drop)]
 pub struct Reader {
     window: Window,
@@ -48,7 +50,8 @@ impl Reader {
         })
     }
 
-    /// Reads the next item, or finds that there is none. After an error the reader answers the same again.
+    /// Reads the next item, or finds that there is none. After an error the reader answers the same again, and asks nothing of
+    /// the source.
     pub fn next<S: Source>(
         &mut self,
         alloc: Global,
@@ -59,17 +62,21 @@ impl Reader {
         ensures good { IfOk result (λ item. IfSome item IsFit) }
         ensures stuck { IfErr result (λ error. self.new.stuck ≡ Some error) }
         ensures free { OnOk result (self.new.stuck ≡ None) }
-        ensures again { IfSome self.old.stuck (λ error. (result ≡ Err error) × (self.new ≡ self.old)) }
+        ensures again { IfSome self.old.stuck (λ error. (result ≡ Err error) × ((self.new ≡ self.old) × (source.new ≡ source.old))) }
         ensures cause { IfErr result (λ error. IsStuck error self.old (S.faults source.old) (S.faults source.new)) }
         ensures spends { S.budget source.new ≤ S.budget source.old }
         ensures counts { S.faults source.old ≤ S.faults source.new }
         ensures same { S.origin source.new ≡ S.origin source.old }
+        ensures ahead { OnOk result (length self.new.window.unread ≤ most_ahead) }
     {
         if let Some(error) = self.stuck {
             return Err(error);
         }
         match read_item(alloc, &mut self.window, source) {
-            Ok(item) => Ok(item),
+            Ok(item) => {
+                self.window.is_bounded();
+                Ok(item)
+            }
             Err(error) => {
                 self.stuck = Some(error);
                 Err(error)
@@ -206,8 +213,9 @@ fn take_front(alloc: Global, window: &mut Window, game: &mut Reading) -> Result<
     ensures ended { window.new.ended ≡ window.old.ended }
     ensures shorter { result ≡ Ok Step.GoesOn → length window.new.unread < length window.old.unread }
 {
+    window.search_comment();
     let unread = window.unread();
-    let found = lexed(unread);
+    let found = lexed(unread, window.clear());
     if !window.tells(found.rest.len()) {
         return Err(Untaken::Untold);
     }

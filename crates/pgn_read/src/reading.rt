@@ -1,5 +1,5 @@
 //! A game while its tokens are read.
-ghost use Rattle.std.specs.Prelude.{◌≡◌, ◌==◌, ◌++◌, ◌∷◌, [], All, IfOk, OnOk, IsTrue, slice_index_or, codes};
+ghost use Rattle.std.specs.Prelude.{◌≡◌, ◌==◌, ◌++◌, ◌∷◌, [], All, IfOk, OnOk, OnErr, IsTrue, slice_index_or, codes};
 ghost use Rattle.std.specs.List.{list_any};
 ghost use Rattle.std.specs.Str.{bytes_eq};
 ghost use Rattle.cell_core.specs.Text.{IsZeroFree};
@@ -38,6 +38,8 @@ const ROSTER_NAMES: [&[u8]; 7] = [
 #[derive(Drop)]
 pub(crate) struct Reading {
     tags: Vec<Tag>,
+    // Whether one of them is a FEN tag.
+    has_start: bool,
     in_moves: bool,
     start: Position,
     moves: Builder,
@@ -46,9 +48,9 @@ pub(crate) struct Reading {
 }
 
 impl Model for Reading {
-    ghost use Rattle.std.specs.Prelude.{reverse, All};
+    ghost use Rattle.std.specs.Prelude.{◌≡◌, reverse, All, codes};
     ghost use Rattle.pgn_read.specs.Heads.{IsReadTag};
-    ghost use Rattle.pgn_read.specs.Reading.{Reading as Read};
+    ghost use Rattle.pgn_read.specs.Reading.{Reading as Read, has_tag};
     ghost use Rattle.pgn_read.specs.ReadingCode.{coded_reading};
 
     ghost Value = { Read };
@@ -57,7 +59,7 @@ impl Model for Reading {
 
     ghost view = { λ r. record { tags = r.tags.items; in_moves = r.in_moves; start = r.start; moves = r.moves; turn = r.turn; outer = reverse r.outer.items } };
 
-    ghost invariant = { λ r. All IsReadTag r.tags.items };
+    ghost invariant = { λ r. All IsReadTag r.tags.items × (r.has_start ≡ has_tag (codes "FEN") r.tags.items) };
 }
 
 impl Reading {
@@ -67,6 +69,7 @@ impl Reading {
     {
         Reading {
             tags: Vec::new(alloc),
+            has_start: false,
             in_moves: false,
             start: Position::start(),
             moves: Builder::new(alloc),
@@ -200,20 +203,24 @@ impl Reading {
     fn start_at(&mut self, position: &Position)
         ensures starting { self.new ≡ starting position.now self.old }
     {
-        if !has_tag(b"FEN", self.tags.as_slice()) {
+        if !self.has_start {
             self.start = *position;
             self.turn = Turn::at(position);
         }
     }
 
     // Adds a tag behind the others.
+    #[tactic(auto, using(crate::proofs::HeadLaws::one_more_start))]
     fn push_tag(&mut self, alloc: Global, name: &[u8], value: Vec<u8>) -> Result<(), AllocError>
         requires read { IsReadTag (record { name = name.now; value = value.items }) }
         ensures tag { OnOk result (self.new ≡ with_tag name.now value.items self.old) }
     {
+        let gives_start = name == b"FEN".as_slice();
         let name = text_of(alloc, name)?;
         let value = Text::from_zero_free(value);
-        push_read(&mut self.tags, Tag { name, value })
+        push_read(&mut self.tags, Tag { name, value })?;
+        self.has_start = self.has_start || gives_start;
+        Ok(())
     }
 
     // A comment.
@@ -343,6 +350,7 @@ impl Reading {
     {
         let Reading {
             tags,
+            has_start: _has_start,
             start,
             moves,
             in_moves: _in_moves,
@@ -370,6 +378,7 @@ fn push_read(tags: &mut Vec<Tag>, tag: Tag) -> Result<(), AllocError>
     requires read { All IsReadTag tags.old.items }
     requires tag_read { IsReadTag tag }
     ensures pushed { OnOk result (tags.new.items ≡ tags.old.items ++ tag ∷ []) }
+    ensures unchanged { OnErr result (tags.new.items ≡ tags.old.items) }
     ensures still_read { All IsReadTag tags.new.items }
 {
     tags.push(tag)?;

@@ -1,6 +1,8 @@
 //! Runs of bytes of one kind.
 ghost use Rattle.std.specs.Prelude.{◌≡◌, ◌==◌, ◌∷◌, false, ℕ, List, MatchOption};
 ghost use Rattle.std.specs.List.{list_any};
+ghost use Rattle.pgn_read.specs.declared.run.Run.TheVariants as run;
+ghost use Rattle.pgn_read.specs.Clear.{BeginsWith};
 ghost use Rattle.pgn_read.specs.Bytes.{is_of, is_white, is_letter, is_move_byte, is_glyph, front, behind, begins, has_zero};
 
 use game_tree::is_tag_byte;
@@ -18,6 +20,8 @@ pub(crate) enum Run {
     ToBrace,
     /// All bytes but a line feed.
     ToFeed,
+    /// All bytes but zero.
+    ToZero,
 }
 
 impl Run {
@@ -33,6 +37,7 @@ impl Run {
             Run::Move => is_move_byte(byte),
             Run::ToBrace => byte != b'}',
             Run::ToFeed => byte != b'\n',
+            Run::ToZero => byte != 0,
         }
     }
 }
@@ -48,6 +53,17 @@ pub(crate) fn split_run(run: Run, bytes: &[u8]) -> (&[u8], &[u8])
         }
     }
     (bytes, &bytes[bytes.len()..])
+}
+
+/// The same where the first bytes are known to be in the run.
+#[tactic(auto, using(crate::proofs::ClearLaws::front_behind, crate::proofs::ClearLaws::rest_behind))]
+pub(crate) fn split_run_behind(run: Run, known: usize, bytes: &[u8]) -> (&[u8], &[u8])
+    requires known { BeginsWith run known bytes.now }
+    ensures front { result.0.now ≡ front (is_of run) bytes.now }
+    ensures behind { result.1.now ≡ behind (is_of run) bytes.now }
+{
+    let (more, _) = split_run(run, bytes.split_at(known).1);
+    bytes.split_at(known + more.len())
 }
 
 /// Whether a byte is white space.
@@ -113,4 +129,13 @@ pub(crate) fn has_zero(text: &[u8]) -> bool
     ensures zero { result ≡ has_zero text.now }
 {
     text.iter().any(|byte| *byte == 0)
+}
+
+/// The same where the first bytes are known to have none.
+#[tactic(auto, using(crate::proofs::ClearLaws::zero_behind))]
+pub(crate) fn has_zero_behind(known: usize, text: &[u8]) -> bool
+    requires known { BeginsWith run.ToZero known text.now }
+    ensures zero { result ≡ has_zero text.now }
+{
+    has_zero(text.split_at(known).1)
 }

@@ -7,43 +7,44 @@ ghost use Rattle.pgn_read.specs.Causes.{HasCause};
 ghost use Rattle.pgn_read.specs.Items.{begins_game, resumed_at};
 ghost use Rattle.pgn_read.specs.Lexing.{lexed};
 ghost use Rattle.pgn_read.specs.Place.{next_place, place_behind, first_place};
-ghost use Rattle.pgn_read.specs.Text.{longest, gap_behind, skipped, is_first, byte_order_mark, behind_mark, on_remark};
-ghost use Rattle.pgn_read.specs.Window.{with_more, ahead, waiting, Decides};
+ghost use Rattle.pgn_read.specs.Text.{longest, most_ahead, gap_behind, skipped, is_first, byte_order_mark, behind_mark, on_remark};
+ghost use Rattle.pgn_read.specs.Clear.{IsClear};
+ghost use Rattle.pgn_read.specs.Readers.{with_more, ahead};
+ghost use Rattle.pgn_read.specs.Window.{waiting, Decides};
 
+use crate::buffer::{Buffer, PIECE};
+use crate::clear::Clear;
 use crate::error::PgnError;
 use crate::place::Place;
 use crate::run::{begins, is_white};
-use base_files::{Failed, Source};
-use std::alloc::{AllocError, Global};
+use base_files::Source;
+use std::alloc::Global;
 use std::marker::Model;
 
 /// The greatest length of a game's text.
 pub(crate) const LONGEST: usize = 1_048_576;
 
-// How many bytes are read at once.
-const PIECE: usize = 4_096;
-
 /// The bytes of a source that were read and not yet taken, with the place of the first of them.
 #[derive(Drop)]
 pub(crate) struct Window {
-    // The bytes from `from` on are unread.
-    bytes: Vec<u8>,
-    from: usize,
+    buffer: Buffer,
+    clear: Clear,
     place: Place,
     room: usize,
     ended: bool,
 }
 
 impl Model for Window {
-    ghost use Rattle.std.specs.Prelude.{◌≤◌, length, drop};
-    ghost use Rattle.pgn_read.specs.Window.{Window as Seen};
+    ghost use Rattle.std.specs.Prelude.{◌≤◌};
+    ghost use Rattle.pgn_read.specs.Clear.{IsClear};
+    ghost use Rattle.pgn_read.specs.Readers.{Window as Seen};
     ghost use Rattle.pgn_read.specs.Text.{longest};
 
     ghost Value = { Seen };
 
-    ghost view = { λ w. record { unread = drop w.from w.bytes.items; place = w.place; room = w.room; ended = w.ended } };
+    ghost view = { λ w. record { unread = w.buffer; place = w.place; room = w.room; ended = w.ended } };
 
-    ghost invariant = { λ w. (w.from ≤ length w.bytes.items) × (w.room ≤ longest) };
+    ghost invariant = { λ w. (w.room ≤ longest) × IsClear w.clear w.buffer };
 }
 
 impl Window {
@@ -52,8 +53,8 @@ impl Window {
         ensures new { result ≡ record { unread = []; place = first_place; room = longest; ended = false } }
     {
         Window {
-            bytes: Vec::new(alloc),
-            from: 0,
+            buffer: Buffer::new(alloc),
+            clear: Clear::nothing(),
             place: Place::first(),
             room: LONGEST,
             ended: false,
@@ -64,7 +65,28 @@ impl Window {
     pub(crate) fn unread(&self) -> &[u8]
         ensures unread { result.now ≡ self.now.unread }
     {
-        self.bytes.as_slice().split_at(self.from).1
+        self.buffer.unread()
+    }
+
+    /// A law: there are never more of them.
+    pub(crate) fn is_bounded(&self)
+        ensures most { length self.now.unread ≤ most_ahead }
+    {
+        let _unread = self.buffer.unread();
+    }
+
+    /// How far the unread bytes were searched.
+    pub(crate) fn clear(&self) -> Clear
+        ensures clear { IsClear result self.now.unread }
+    {
+        self.clear
+    }
+
+    /// Searches a comment in braces that the unread bytes begin with.
+    pub(crate) fn search_comment(&mut self)
+        ensures same { self.new ≡ self.old }
+    {
+        self.clear = self.clear.through(self.buffer.unread());
     }
 
     /// The place of the first unread byte.
@@ -116,7 +138,7 @@ impl Window {
     {
         self.place = self.place.next(byte);
         self.room = self.room.saturating_sub(1);
-        self.from += 1;
+        self.drop_front(1);
     }
 
     // The place behind so many unread bytes.
@@ -137,42 +159,23 @@ impl Window {
     {
         self.place = self.place_behind(count);
         self.room = self.room.saturating_sub(count);
-        self.from += count;
+        self.drop_front(count);
     }
 
-    // Moves the unread bytes to the front.
-    fn shift(&mut self)
-        ensures same { self.new ≡ self.old }
+    // Takes so many unread bytes away, and nothing else.
+    #[tactic(auto, using(crate::proofs::ClearLaws::passed_clear))]
+    fn drop_front(&mut self, count: usize)
+        requires there { count ≤ length self.old.unread }
+        ensures dropped { self.new ≡ record self.old { unread = drop count self.old.unread } }
     {
-        shift(&mut self.bytes, self.from);
-        self.from = 0;
-    }
-
-    // Reads once. No bytes come only at the source's end.
-    fn read<S: Source>(&mut self, source: &mut S) -> Result<usize, PgnError>
-        ensures kept { OnOk result (before self.old.unread (S.left source.old) ≡ before self.new.unread (S.left source.new)) }
-        ensures more { IfOk result (λ n. length self.new.unread ≡ length self.old.unread + n) }
-        ensures end { IfOk result (λ n. n ≡ 0 → Tells (S.left source.new) []) }
-        ensures place { self.new.place ≡ self.old.place }
-        ensures room { self.new.room ≡ self.old.room }
-        ensures ended { self.new.ended ≡ self.old.ended }
-        ensures sum { OnOk result (S.budget source.new + length self.new.unread ≡ S.budget source.old + length self.old.unread) }
-        ensures spends { S.budget source.new ≤ S.budget source.old }
-        ensures counts { S.faults source.old ≤ S.faults source.new }
-        ensures same { S.origin source.new ≡ S.origin source.old }
-        ensures cause { IfErr result (λ e. HasCause e (S.faults source.old) (S.faults source.new)) }
-    {
-        let mut piece = [0; PIECE];
-        let n = match source.read(&mut piece) {
-            Ok(n) => n,
-            Err(fault) => return Err(PgnError::from(fault)),
-        };
-        self.bytes.extend_from_slice(piece.split_at(n).0)?;
-        Ok(n)
+        self.clear = self.clear.behind(count);
+        self.buffer.pass(count);
     }
 
     // Reads until there are so many unread bytes, or to the source's end.
+    #[tactic(auto, using(crate::proofs::ClearLaws::grown_clear))]
     fn fill<S: Source>(&mut self, source: &mut S, wanted: usize) -> Result<(), PgnError>
+        requires room { wanted + 4096 ≤ most_ahead }
         requires told { IsTrue self.old.ended → Tells (S.left source.old) [] }
         ensures kept { OnOk result (before self.old.unread (S.left source.old) ≡ before self.new.unread (S.left source.new)) }
         ensures full { OnOk result (IsTrue self.new.ended ⊎ (wanted ≤ length self.new.unread)) }
@@ -185,22 +188,17 @@ impl Window {
         ensures same { S.origin source.new ≡ S.origin source.old }
         ensures cause { IfErr result (λ e. HasCause e (S.faults source.old) (S.faults source.new)) }
     {
-        self.shift();
-        'reads: while self.unread().len() < wanted {
-            let n = match self.read(source) {
-                Ok(n) => n,
-                Err(error) => return Err(error),
-            };
-            if n == 0 {
-                self.ended = true;
-                return Ok(());
-            }
+        if self.ended {
+            return Ok(());
         }
+        self.buffer.fill(source, wanted)?;
+        self.ended = self.buffer.unread().len() < wanted;
         Ok(())
     }
 
     // Reads until there are so many unread bytes, where there are fewer, or to the source's end.
     fn look<S: Source>(&mut self, source: &mut S, count: usize) -> Result<(), PgnError>
+        requires few { count ≤ 8 }
         requires told { IsTrue self.old.ended → Tells (S.left source.old) [] }
         ensures kept { OnOk result (ahead self.old (S.left source.old) ≡ ahead self.new (S.left source.new)) }
         ensures there { OnOk result (IsTrue self.new.ended ⊎ (count ≤ length self.new.unread)) }
@@ -361,17 +359,6 @@ impl Window {
             }
         }
     }
-}
-
-// Takes so many bytes away from the front.
-#[tactic(auto, using(crate::proofs::WindowLaws::shifted))]
-fn shift(bytes: &mut Vec<u8>, from: usize)
-    requires there { from ≤ length bytes.old.items }
-    ensures rest { bytes.new.items ≡ drop from bytes.old.items }
-{
-    let left = bytes.len() - from;
-    bytes.copy_within(from.., 0);
-    bytes.truncate(left);
 }
 
 // Whether a byte is on a line that is skipped.

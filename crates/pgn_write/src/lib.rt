@@ -7,6 +7,3 @@ mod writer;
 mod writing;
 
 pub use writing::write_game;
-
-#[cfg(test)]
-mod tests;

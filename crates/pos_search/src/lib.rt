@@ -5,8 +5,6 @@ mod boards;
 mod laws;
 mod matching;
 mod searching;
-#[cfg(test)]
-mod tests;
 mod walking;
 
 pub use laws::{first_plies_are_first, tests_are_sound};

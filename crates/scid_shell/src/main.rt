@@ -10,12 +10,13 @@ mod messages;
 #[cfg(test)]
 mod tests;
 
-use base_files::{DeviceError, DiskFiles, StdSink, StdSource};
+use base_files::DeviceError;
 use messages::{HELP, VERSION, message};
 use shell_session::{Status, session};
 use std::io::ErrorKind;
 use std::process::ExitCode;
 use std::{env, io};
+use std_devices::{DiskFiles, StdSink, StdSource};
 
 fn main(rt: HostRuntime) -> ExitCode {
     match words(&rt) {
@@ -58,6 +59,7 @@ fn run(rt: &HostRuntime, words: &[String]) -> Status {
     let mut input = StdSource::new(rt.stdin());
     let mut out = StdSink::new(rt.stdout());
     let status = session(rt.alloc(), words, &mut files, &mut input, &mut out);
+    files.close();
     flushed(status, out.flush())
 }
 

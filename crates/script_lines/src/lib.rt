@@ -5,8 +5,6 @@ mod body;
 mod laws;
 mod place;
 mod reader;
-#[cfg(test)]
-mod tests;
 
 pub use body::{Begins, Body};
 pub use laws::tasks_are_lines_with_their_bodies;

@@ -20,8 +20,3 @@ pub use fault::{CommandError, ScriptFault};
 pub use grammar::lines_have_one_reading;
 pub use reading::{read_command, shorn};
 pub use spelling::quoted_words_are_read;
-
-#[cfg(test)]
-mod tag_tests;
-#[cfg(test)]
-mod tests;

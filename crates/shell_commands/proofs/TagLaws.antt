@@ -90,10 +90,10 @@ base_tagged old new i tag told now games after base tags is then there =
     let Q : Option (List ℕ) → Type 0 = λ n. IfSome n (λ after. (base : Base) → Represents old games base → Represents new after (tagged i tag base)) in
     (subst Q then (subst P is tags)) base there
 
-pub tag_stands : (old new : Kept) (filter : List (Option ℕ)) (saved : List SavedFilter) (seen seen' : Seen) (s : State) (i : ℕ) (tag : TagEdit) → Stands (held_by old filter saved) seen s → i < length old.entries
-    → IsTagged i tag old new seen seen' → Tags i tag old new seen.games seen'.games → new.unsaved ≡ true → HoldsNames new.names old.names
+pub tag_stands : (old new : Kept) (filter : List (Option ℕ)) (saved : List SavedFilter) (seen seen' : Seen) (buf : List ℕ) (s : State) (i : ℕ) (tag : TagEdit) → Stands (held_by old filter saved) seen s → i < length old.entries
+    → IsTagged i tag old new seen seen' buf → Tags i tag old new seen.games seen'.games → new.unsaved ≡ true → HoldsNames new.names old.names
     → Stands (held_by new filter saved) seen' (tag_after s i tag)
-tag_stands old new filter saved seen seen' s i tag st there is tags unsaved names =
+tag_stands old new filter saved seen seen' buf s i tag st there is tags unsaved names =
     let held = get_some s.base.games i (omega (arith, there, st.base.count)) in
     let bytes : List ℕ = padded old.end (written_record (edited is.head tag).tags is.game) in
     let same = read-is old st.games seen.games i is.head is.game s.base held.0 st.told is.read st.base held.1 in
@@ -111,9 +111,9 @@ tag_stands old new filter saved seen seen' s i tag st there is tags unsaved name
     } in
     subst (Stands (held_by new filter saved) seen') (ap (λ (r : Option (List ℕ)). unless_refused r s (tagged i tag s.base)) (sym none) ∙ ap (tagged_there i tag s) (sym held.1)) standing
 
-pub tag_says : (old new : Kept) (filter : List (Option ℕ)) (saved : List SavedFilter) (seen seen' : Seen) (s : State) (i : ℕ) (tag : TagEdit) (line : List ℕ) → Stands (held_by old filter saved) seen s → i < length old.entries
-    → IsTagged i tag old new seen seen' → line ≡ game_line (codes "tagged ") i → line ≡ tag_text s i tag
-tag_says old new filter saved seen seen' s i tag line st there is written =
+pub tag_says : (old new : Kept) (filter : List (Option ℕ)) (saved : List SavedFilter) (seen seen' : Seen) (buf : List ℕ) (s : State) (i : ℕ) (tag : TagEdit) (line : List ℕ) → Stands (held_by old filter saved) seen s → i < length old.entries
+    → IsTagged i tag old new seen seen' buf → line ≡ game_line (codes "tagged ") i → line ≡ tag_text s i tag
+tag_says old new filter saved seen seen' buf s i tag line st there is written =
     let held = get_some s.base.games i (omega (arith, there, st.base.count)) in
     let same = read-is old st.games seen.games i is.head is.game s.base held.0 st.told is.read st.base held.1 in
     let none : refusal_of s.base (edited held.0.head tag) held.0.game ≡ None =

@@ -9,8 +9,3 @@ mod words;
 
 pub use run::session;
 pub use status::Status;
-
-#[cfg(test)]
-mod file_tests;
-#[cfg(test)]
-mod tests;

@@ -24,6 +24,3 @@ pub use pos_query::{Mode, PosQuery};
 pub use signature::{HomeList, Sig, sig_of};
 pub use skipping::{can_stand, material_skipping_is_sound};
 pub use span::Span;
-
-#[cfg(test)]
-mod tests;

@@ -17,6 +17,3 @@ pub use laws::{keys_are_told_apart, texts_of_moves_are_shared};
 pub use row::Row;
 pub use rows::Rows;
 pub use writing::lines;
-
-#[cfg(test)]
-mod tests;

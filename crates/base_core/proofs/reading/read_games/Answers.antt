@@ -1,4 +1,4 @@
-use Rattle.std.proofs.Common.{◌<◌, ◌+◌, All, List, length, IfSome, refl, rules, sym, ap, ◌∙◌, subst, arith}
+use Rattle.std.proofs.Common.{◌<◌, ◌+◌, Bool, All, List, length, IfSome, if◌then◌else◌, refl, rules, sym, ap, ◌∙◌, subst, arith}
 use Rattle.std.proofs.lemmas.List.Elements.{All-nil}
 use Rattle.base_files.specs.Seen.{Seen}
 use Rattle.index_entry.specs.declared.entry.Entry.{Entry}
@@ -18,6 +18,7 @@ loop-game-init g c =
       count = ap (λ (es : List Entry). length es) c.new-entries.ensures.none;
       kept = subst K (sym c.new-entries.ensures.none) (All-nil (IsKept c.args.o.now.names.now c.args.o.now.end));
       few = omega arith;
+      strictly = λ strict. refl;
       asks = omega arith;
       unchanged = refl;
       counts = omega arith;
@@ -47,6 +48,7 @@ loop-game-preserved g c = record {
   count = one_longer c.loop-game.entries c.push.new.self c.in_ok-read.read.entry c.loop-game.game c.loop-game.invariant.count c.in_ok-push.ensures.pushed;
   kept = all_kept c.args.o.now.names.now c.args.o.now.end c.loop-game.entries c.push.new.self c.in_ok-read.read.entry c.in_ok-push.ensures.pushed c.loop-game.invariant.kept c.in_ok-read.ensures.kept;
   few = omega (arith, c.loop-game.invariant.few, at_most_one c.in_ok-read.read.mended c.count-mended.result c.count-mended.ensures.count);
+  strictly = λ strict. omega (arith, c.loop-game.invariant.strictly strict, c.count-mended.ensures.count ∙ ap (λ (b : Bool). (if b then 1 else 0)) (c.in_ok-read.ensures.strictly strict));
   asks = asked-within c.args.o.now.index.now c.loop-game.game (c.loop-game.game + 1) _ _ _ (omega arith) c.loop-game.invariant.asks c.read_game.ensures.asks;
   unchanged = c.read_game.ensures.unchanged ∙ c.loop-game.invariant.unchanged;
   counts = omega (arith, c.loop-game.invariant.counts, c.read_game.ensures.counts);

@@ -1,4 +1,4 @@
-use Rattle.std.proofs.Common.{◌≡◌, ◌≤◌, ◌+◌, All, length, IfSome}
+use Rattle.std.proofs.Common.{◌≡◌, ◌≤◌, ◌+◌, All, length, IfSome, IsTrue}
 use Rattle.base_core.specs.Opening.{records_len}
 use Rattle.base_core.specs.Reading.{AreRead}
 use Rattle.base_core.specs.Represents.{IsKept}
@@ -11,6 +11,7 @@ invariant-loop-game g l = record {
   count : length l.entries ≡ l.game;
   kept : All (IsKept l.fn.o.names.now l.fn.o.end) l.entries;
   few : l.mended ≤ l.game;
+  strictly : IsTrue l.fn.o.strict → l.mended ≡ 0;
   asks : g.F.Files.asked l.files ≤ g.F.Files.asked l.fn.files + records_len l.fn.o.index.now l.game;
   unchanged : g.F.Files.seen l.files ≡ g.F.Files.seen l.fn.files;
   counts : g.F.Files.faults l.fn.files ≤ g.F.Files.faults l.files;

@@ -31,4 +31,4 @@ pub returns-clause-copied : goal.returns-clause-copied
 returns-clause-copied g c =
     let long : c.padding-pad.result ≡ padding c.args.end c.in-Ok.read = c.padding-pad.ensures.padding ∙ ap (λ (n : ℕ). padding c.args.end n) c.from-len.ensures in
     copies-so c.args.i c.args.base.now c.args.end _ c.in-Ok.read c.padding-pad.result (g.F.Files.seen c.args.files.now) (g.F.Files.seen c.read_record.new.files) (g.F.Files.seen c.append.new.files) c.read_record.new.buf
-    c.read_record.ensures.same_files (omega (arith, c.in-Ok.ensures.short, c.requires.room)) c.in-Ok.ensures.read long c.in_ok-append.ensures.added (omega (arith, c.from.ensures, c.from-len.ensures))
+    c.read_record.ensures.same_files (omega (arith, c.in-Ok.ensures.short, c.requires.room)) c.in-Ok.ensures.read c.in-Ok.ensures.still long c.in_ok-append.ensures.added (omega (arith, c.from.ensures, c.from-len.ensures))

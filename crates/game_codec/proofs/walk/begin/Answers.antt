@@ -1,4 +1,8 @@
-use Rattle.std.proofs.Common.{ℕ, List, drop, subst}
+use Rattle.std.proofs.Common.{ℕ, List, drop, rules, sym, subst}
+use Rattle.game_codec.specs.Breach.{Tells}
+use Rattle.game_codec.specs.Fault.{Breaks}
+use Rattle.game_codec.specs.TagSpelling.{BeginsTags}
+use Rattle.game_codec.proofs.CheckLaws.{start_broken, tags_broken}
 use Rattle.game_codec.specs.Start.{BeginsStart, BreaksStart}
 use Rattle.game_codec.proofs.PassLaws.{if_err}
 use Rattle.game_codec.proofs.WalkSteps.{begun, no_start, no_tags}
@@ -24,3 +28,17 @@ returns-clause-begun c =
     let used = c.in_ok-read.read.used in
     let then = subst (λ (l : List ℕ). BeginsStart l start (drop used l)) c.split_at.ensures.back c.in_ok-read.ensures.ok in
     begun c.args.bytes.now tags.0 start c.in_ok-used.used used tags.1 then
+
+pub returns-in_err-used-clause-first : goal.returns-in_err-used-clause-first
+returns-in_err-used-clause-first c =
+    let told : Tells (Breaks c.args.bytes.now) c.in_err-used.field-0.0 = tags_broken c.args.bytes.now c.in_err-used.field-0.0 c.in_err-used.ensures.err in
+    search (rules, told)
+
+pub returns-in_err-read-clause-first : goal.returns-in_err-read-clause-first
+returns-in_err-read-clause-first c =
+    let bytes = c.args.bytes.now in
+    let tags = c.in_ok-used.ensures.ok in
+    let first = subst (BeginsTags bytes tags.0) (sym c.split_at.ensures.back) tags.1 in
+    let told : Tells (Breaks bytes) c.in_err-read.field-0.0 =
+    start_broken bytes c.split_at.result.1.now tags.0 c.in_err-read.field-0.0 first c.in_err-read.ensures.err in
+    search (rules, told)

@@ -3,7 +3,7 @@ use Rattle.base_files.specs.Told.{Tells}
 use Rattle.pgn_read.specs.Items.{item_at}
 use Rattle.pgn_read.specs.Legality.{IsLegal}
 use Rattle.pgn_read.specs.Said.{IsBalanced}
-use Rattle.pgn_read.specs.Window.{ahead}
+use Rattle.pgn_read.specs.Readers.{ahead}
 use Rattle.pgn_read.proofs.reader.read_game.Given as goal
 
 -- What is left is the same item behind what was read of it.

@@ -1,4 +1,5 @@
 use Rattle.std.proofs.Common.{◌≡◌, ◌-◌, Ok, Result, ap, length, arith, length-drop}
+use Rattle.pgn_read.specs.Readers.{Window}
 use Rattle.pgn_read.specs.Said.{said}
 use Rattle.pgn_read.specs.declared.step.Step.{Step}
 use Rattle.pgn_read.specs.declared.step.Step.TheVariants as step
@@ -23,7 +24,8 @@ returns-then-passes-clause-shorter c = λ is.
       ap length c.lexed-found.ensures.rest,
       ap length c.unread-unread.ensures.unread,
       ap length c.pass.ensures.unread,
-      length-drop (length c.unread-unread.result.now - length c.lexed-found.result.rest.now) c.args.window.now.unread,
+      ap (λ (w : Window). length w.unread) c.search_comment.ensures.same,
+      length-drop (length c.unread-unread.result.now - length c.lexed-found.result.rest.now) c.search_comment.new.self.unread,
     )
 
 pub returns-then-passes-clause-legal : goal.returns-then-passes-clause-legal

@@ -1,6 +1,7 @@
 use Rattle.std.proofs.Common.{◌≡◌, ◌≤◌, ◌+◌, length, IsTrue, []}
 use Rattle.base_files.specs.Told.{Tells}
-use Rattle.pgn_read.specs.Window.{ahead, waiting}
+use Rattle.pgn_read.specs.Readers.{ahead}
+use Rattle.pgn_read.specs.Window.{waiting}
 use Rattle.pgn_read.proofs.reader.take_token.Given as goal
 
 -- What is ahead and what was read of the game stay the same, and each byte is paid from the budget.

@@ -14,7 +14,7 @@ use Rattle.shell_commands.proofs.material.search_material.Goals as goal
 pub search_games-requires-clause-within : goal.search_games-requires-clause-within
 search_games-requires-clause-within g c =
     let sound = subst (λ (h : Holding). Sound h (g.F.Files.seen c.args.files.now)) (sym c.machine.view_is) c.requires.sound in
-    are-within c.machine.inside.base (g.F.Files.seen c.args.files.now).known sound.base sound.at_end.known
+    are-within c.machine.inside.base (g.F.Files.seen c.args.files.now).known sound.base (omega (arith, sound.at_end.known))
 
 pub returns-in-Err-clause-serves : goal.returns-in-Err-clause-serves
 returns-in-Err-clause-serves g c = λ s st.

@@ -18,7 +18,7 @@ returns-in_err-game_line-in-Ok-clause-carries g c = λ s st.
     let there = subst (λ (h : Holding). c.args.i < length h.kept.entries) (sym c.machine.view_is) c.requires.there in
     carry_later (held_by c.set_tag-edited.new.self c.machine.inside.filter c.machine.inside.saved.items) (g.F.Files.seen c.set_tag-edited.new.files) s (tag_after s c.args.i c.args.edit.now)
     (Ok (command.Tag c.args.i c.args.edit.now)) (tag_carried s c.args.i c.args.edit.now)
-    (tag_stands c.machine.inside.base c.set_tag-edited.new.self c.machine.inside.filter c.machine.inside.saved.items (g.F.Files.seen c.args.files.now) (g.F.Files.seen c.set_tag-edited.new.files) s c.args.i c.args.edit.now st' there
+    (tag_stands c.machine.inside.base c.set_tag-edited.new.self c.machine.inside.filter c.machine.inside.saved.items (g.F.Files.seen c.args.files.now) (g.F.Files.seen c.set_tag-edited.new.files) c.set_tag-edited.new.buf s c.args.i c.args.edit.now st' there
     c.in-Ok.ensures.edited c.in-Ok.ensures.tagged c.in-Ok.ensures.unsaved c.set_tag-edited.ensures.names)
 
 pub returns-in_err-game_line-in-Ok-clause-asks : goal.returns-in_err-game_line-in-Ok-clause-asks
@@ -31,14 +31,14 @@ pub returns-in_ok-game_line-in-Ok-clause-line : goal.returns-in_ok-game_line-in-
 returns-in_ok-game_line-in-Ok-clause-line g c = λ s st.
     let st' = subst (λ (h : Holding). Stands h (g.F.Files.seen c.args.files.now) s) (sym c.machine.view_is) st in
     let there = subst (λ (h : Holding). c.args.i < length h.kept.entries) (sym c.machine.view_is) c.requires.there in
-    tag_says c.machine.inside.base c.set_tag-edited.new.self c.machine.inside.filter c.machine.inside.saved.items (g.F.Files.seen c.args.files.now) (g.F.Files.seen c.set_tag-edited.new.files) s c.args.i c.args.edit.now _ st' there c.in-Ok.ensures.edited
+    tag_says c.machine.inside.base c.set_tag-edited.new.self c.machine.inside.filter c.machine.inside.saved.items (g.F.Files.seen c.args.files.now) (g.F.Files.seen c.set_tag-edited.new.files) c.set_tag-edited.new.buf s c.args.i c.args.edit.now _ st' there c.in-Ok.ensures.edited
     (c.in_ok-game_line-in-Ok.ensures ∙ ap (game_line (codes "tagged ")) c.from.ensures)
 
 pub returns-in_ok-game_line-in-Ok-clause-stands : goal.returns-in_ok-game_line-in-Ok-clause-stands
 returns-in_ok-game_line-in-Ok-clause-stands g c = λ s st.
     let st' = subst (λ (h : Holding). Stands h (g.F.Files.seen c.args.files.now) s) (sym c.machine.view_is) st in
     let there = subst (λ (h : Holding). c.args.i < length h.kept.entries) (sym c.machine.view_is) c.requires.there in
-    tag_stands c.machine.inside.base c.set_tag-edited.new.self c.machine.inside.filter c.machine.inside.saved.items (g.F.Files.seen c.args.files.now) (g.F.Files.seen c.set_tag-edited.new.files) s c.args.i c.args.edit.now st' there
+    tag_stands c.machine.inside.base c.set_tag-edited.new.self c.machine.inside.filter c.machine.inside.saved.items (g.F.Files.seen c.args.files.now) (g.F.Files.seen c.set_tag-edited.new.files) c.set_tag-edited.new.buf s c.args.i c.args.edit.now st' there
     c.in-Ok.ensures.edited c.in-Ok.ensures.tagged c.in-Ok.ensures.unsaved c.set_tag-edited.ensures.names
 
 pub returns-in_ok-game_line-in-Ok-clause-sound : goal.returns-in_ok-game_line-in-Ok-clause-sound
@@ -56,7 +56,7 @@ returns-in_ok-game_line-in-Ok-clause-carries g c = λ s st.
     let there = subst (λ (h : Holding). c.args.i < length h.kept.entries) (sym c.machine.view_is) c.requires.there in
     carry_later (held_by c.set_tag-edited.new.self c.machine.inside.filter c.machine.inside.saved.items) (g.F.Files.seen c.set_tag-edited.new.files) s (tag_after s c.args.i c.args.edit.now)
     (Ok (command.Tag c.args.i c.args.edit.now)) (tag_carried s c.args.i c.args.edit.now)
-    (tag_stands c.machine.inside.base c.set_tag-edited.new.self c.machine.inside.filter c.machine.inside.saved.items (g.F.Files.seen c.args.files.now) (g.F.Files.seen c.set_tag-edited.new.files) s c.args.i c.args.edit.now st' there
+    (tag_stands c.machine.inside.base c.set_tag-edited.new.self c.machine.inside.filter c.machine.inside.saved.items (g.F.Files.seen c.args.files.now) (g.F.Files.seen c.set_tag-edited.new.files) c.set_tag-edited.new.buf s c.args.i c.args.edit.now st' there
     c.in-Ok.ensures.edited c.in-Ok.ensures.tagged c.in-Ok.ensures.unsaved c.set_tag-edited.ensures.names)
 
 pub returns-in_ok-game_line-in-Ok-clause-asks : goal.returns-in_ok-game_line-in-Ok-clause-asks

@@ -1,8 +1,13 @@
-use Rattle.std.proofs.Common.{◌≡◌, ◌≤◌, ◌+◌, ap, ◌∙◌, sym, subst, take, arith}
+use Rattle.std.proofs.Common.{◌≡◌, ◌≤◌, ◌+◌, List, ap, ◌∙◌, sym, subst, take, arith}
+use Rattle.std.proofs.lemmas.Option.{same_Some}
 use Rattle.base_files.specs.declared.extent.Extent.{Extent}
 use Rattle.base_files.specs.Told.{Tells, part_told}
 use Rattle.game_tree.specs.Settle.{settled}
-use Rattle.base_core.specs.Entries.{head_of}
+use Rattle.game_tree.specs.declared.head.Tag.{Tag}
+use Rattle.game_codec.specs.Record.{IsRecord}
+use Rattle.index_entry.specs.declared.entry.Entry.{Entry}
+use Rattle.sig_index.specs.Signature.{IsSig}
+use Rattle.base_core.specs.Entries.{head_of, sig_in}
 use Rattle.base_core.specs.Represents.{Kept}
 use Rattle.base_core.proofs.CheckLaws.{ends_within}
 use Rattle.base_core.proofs.GameLaws.{game_told, unchanged_told}
@@ -27,3 +32,12 @@ returns-clause-found g c =
     let head : c.in_ok-head.head ≡ settled (head_of c.args.self.now.names c.entry-entry.result c.in-Ok.read.1.items) =
     c.in_ok-head.ensures.head ∙ ap (λ (k : Kept). settled (head_of k.names c.entry-entry.result c.in-Ok.read.1.items)) c.self.view_is in
     game_told (g.F.Files.seen c.args.files.now).games c.args.self.now c.args.i c.entry-entry.result _ c.in-Ok.read.1.items c.in-Ok.read.0 c.in_ok-head.head c.entry-entry.ensures.at tells c.in-Ok.ensures.read head
+
+pub returns-clause-shown : goal.returns-clause-shown
+returns-clause-shown g c = λ e at.
+    let same : c.entry-entry.result ≡ e = same_Some c.entry-entry.result e (sym c.entry-entry.ensures.at ∙ at) in
+    let head : c.in_ok-head.head ≡ settled (head_of c.args.self.now.names c.entry-entry.result c.in-Ok.read.1.items) =
+    c.in_ok-head.ensures.head ∙ ap (λ (k : Kept). settled (head_of k.names c.entry-entry.result c.in-Ok.read.1.items)) c.self.view_is in
+    let S : Entry → Type 0 = λ x.
+    (tags : List Tag) × (IsRecord (take x.len c.fetch.new.buf) tags c.in-Ok.read.0 × (IsSig c.in-Ok.read.0 (sig_in x) × (c.in_ok-head.head ≡ settled (head_of c.args.self.now.names x tags)))) in
+    subst S same (c.in-Ok.read.1.items, (c.in-Ok.ensures.read, (c.in-Ok.ensures.same, head)))

@@ -1,4 +1,4 @@
-use Rattle.std.proofs.Common.{◌≡◌, ◌<◌, ◌≤◌, ◌+◌, ℕ, true, List, length, slice_set, Option, None, Some, refl, sym, ap, ◌∙◌, subst, arith, rules}
+use Rattle.std.proofs.Common.{◌≡◌, ◌<◌, ◌≤◌, ◌+◌, ℕ, true, List, length, slice_get, slice_set, Option, None, Some, refl, sym, ap, ◌∙◌, subst, arith, rules}
 use Rattle.block_store.specs.Placing.{end_after, padding}
 use Rattle.game_codec.specs.Record.{IsRecord}
 use Rattle.game_codec.specs.Written.{longest, written_record}
@@ -13,6 +13,7 @@ use Rattle.base_core.specs.Means.{HoldsNames}
 use Rattle.base_core.specs.Placing.{AreIds, IfFull, entry_with}
 use Rattle.base_core.specs.Represents.{IsSound, Kept}
 use Rattle.base_core.proofs.GrowLaws.{holds-own}
+use Rattle.base_core.proofs.Lists.{get-set_other}
 use Rattle.base_core.proofs.NamingLaws.{cut-back, none-full}
 use Rattle.base_core.proofs.PlaceLaws.{entry-fields, entry-is, entry-kept, entry-sound, few-kept, full-file, not-replaced, replaces, why-names}
 use Rattle.base_core.proofs.base.Base.replace_game.Goals as goal
@@ -145,3 +146,9 @@ returns-clause-room g c =
       short = subst (λ (b : List ℕ). length b ≤ longest) written c.in_ok-record.ensures.fits;
       room = full ∙ subst K c.self.view_is (subst B slice c.in-Ok.ensures.room);
     }
+
+pub returns-clause-others : goal.returns-clause-others
+returns-clause-others g c = λ j other.
+    let at : List Entry → Type 0 = λ es. slice_get c.set.new.self j ≡ slice_get es j in
+    let placed = ap (λ (es : List Entry). slice_get es j) c.set.ensures.set ∙ get-set_other c.self.inside.entries c.args.i j _ other in
+    subst at (ap (λ (k : Kept). k.entries) c.self.view_is) placed

@@ -6,15 +6,15 @@ use Rattle.base_core.proofs.base.Base.set_tag.Goals as goal
 
 pub returns-clause-edited : goal.returns-clause-edited
 returns-clause-edited g c =
-    sets c.replace_game.result c.args.i c.args.edit.now c.args.self.now c.replace_game.new.self (g.F.Files.seen c.args.files.now) (g.F.Files.seen c.game.new.files) (g.F.Files.seen c.replace_game.new.files)
-    c.in_ok-head.head c.apply.new.head c.in_ok-head.game c.in_ok-apply.ensures.ok c.game.ensures.same_files c.in_ok-head.ensures.found c.replace_game.ensures.replaced c.replace_game.ensures.room c.replace_game.ensures.appended
+    sets c.replace_game.result c.args.i c.args.edit.now c.args.self.now c.replace_game.new.self (g.F.Files.seen c.args.files.now) (g.F.Files.seen c.game.new.files) (g.F.Files.seen c.replace_game.new.files) c.game.new.buf
+    c.in_ok-head.head c.apply.new.head c.in_ok-head.game c.in_ok-apply.ensures.ok c.game.ensures.same_files c.in_ok-head.ensures.shown c.in_ok-head.ensures.found c.replace_game.ensures.replaced c.replace_game.ensures.room c.replace_game.ensures.appended
 
 pub returns-clause-tagged : goal.returns-clause-tagged
 returns-clause-tagged g c =
-    let done = sets c.replace_game.result c.args.i c.args.edit.now c.args.self.now c.replace_game.new.self (g.F.Files.seen c.args.files.now) (g.F.Files.seen c.game.new.files) (g.F.Files.seen c.replace_game.new.files)
-    c.in_ok-head.head c.apply.new.head c.in_ok-head.game c.in_ok-apply.ensures.ok c.game.ensures.same_files c.in_ok-head.ensures.found c.replace_game.ensures.replaced c.replace_game.ensures.room c.replace_game.ensures.appended
+    let done = sets c.replace_game.result c.args.i c.args.edit.now c.args.self.now c.replace_game.new.self (g.F.Files.seen c.args.files.now) (g.F.Files.seen c.game.new.files) (g.F.Files.seen c.replace_game.new.files) c.game.new.buf
+    c.in_ok-head.head c.apply.new.head c.in_ok-head.game c.in_ok-apply.ensures.ok c.game.ensures.same_files c.in_ok-head.ensures.shown c.in_ok-head.ensures.found c.replace_game.ensures.replaced c.replace_game.ensures.room c.replace_game.ensures.appended
     in
-    sets-told c.replace_game.result c.args.i c.args.edit.now c.args.self.now c.replace_game.new.self (g.F.Files.seen c.args.files.now) (g.F.Files.seen c.replace_game.new.files) c.requires.at_end.told
+    sets-told c.replace_game.result c.args.i c.args.edit.now c.args.self.now c.replace_game.new.self (g.F.Files.seen c.args.files.now) (g.F.Files.seen c.replace_game.new.files) c.game.new.buf c.requires.at_end.told
     (there-is c.game.result _ c.args.self.now c.args.i c.in_ok-head.was c.game.ensures.no_game.1) done
 
 pub returns-clause-why : goal.returns-clause-why

@@ -1,0 +1,389 @@
+#!/usr/bin/env python3
+"""Runs the built program over real files: beside other programs, beside files of the user's own, and ended at each call of the system.
+
+Usage: cases/real_files.py [PROGRAM]
+"""
+import itertools
+import os
+import re
+import shutil
+import stat
+import subprocess
+import sys
+import tempfile
+from pathlib import Path
+
+TOP = Path(__file__).resolve().parent.parent
+PROGRAM = str(Path(sys.argv[1] if len(sys.argv) > 1 else TOP / "crates/scid_shell/out/scid_shell").resolve())
+ENDINGS = ("si4", "sn4", "sg4")
+FILES_FAULT = 5
+CHANGED = "another program changed it"
+IN_THE_WAY = "it is in the way"
+
+
+def run(base, script, words=(), before=()):
+    """The status, the output and the errors of one session."""
+    ran = subprocess.run([*before, PROGRAM, *words, base], input=script, capture_output=True, text=True, timeout=60)
+    return ran.returncode, ran.stdout, ran.stderr
+
+
+class Session:
+    """A session that stays open between its commands, each of which answers one line."""
+
+    def __init__(self, base):
+        pipes = {"stdin": subprocess.PIPE, "stdout": subprocess.PIPE, "stderr": subprocess.PIPE}
+        self.process = subprocess.Popen([PROGRAM, base], text=True, bufsize=1, **pipes)
+        self.opened = self.process.stdout.readline()
+
+    def ask(self, line):
+        self.process.stdin.write(line + "\n")
+        self.process.stdin.flush()
+        return self.process.stdout.readline()
+
+    def end(self):
+        output, errors = self.process.communicate(timeout=60)
+        return self.process.returncode, errors
+
+
+def make_base(folder, name="mine"):
+    """A base of four games, saved."""
+    games = (TOP / "samples/classics.pgn").read_text()
+    base = os.path.join(folder, name)
+    status, _, errors = run(base, f"import <<END\n{games}END\nsave\n", ["--create"])
+    assert status == 0, errors
+    return base
+
+
+def contents(folder):
+    """What each file of the folder holds."""
+    return {path.name: path.read_bytes() for path in Path(folder).iterdir() if path.is_file()}
+
+
+def heads(base, words=("--strict",)):
+    """The lines that `list` has for a base, which has to open without a word on standard error."""
+    status, output, errors = run(base, "list\n", words)
+    assert (status, errors) == (0, ""), (status, errors)
+    return output.splitlines()[1:]
+
+
+def a_changed_file_is_never_saved_over(folder):
+    """Each of the three files, changed in its place, replaced or removed by another program."""
+    for ending, how, what in itertools.product(ENDINGS, ("write", "replace", "remove"), ("tag 0 White C", "save", "compact")):
+        base = make_base(folder)
+        session = Session(base)
+        session.ask("mark 0 W on")
+        path = Path(f"{base}.{ending}")
+        old = path.read_bytes()
+        if how == "write":
+            path.write_bytes(old[:-1] + b"\7" + b"\7")
+        elif how == "replace":
+            Path(folder, "other").write_bytes(old)
+            os.rename(Path(folder, "other"), path)
+        else:
+            path.unlink()
+        then = contents(folder)
+        assert session.ask(what) == "", (ending, how, what)
+        status, errors = session.end()
+        assert status == FILES_FAULT and f"{path}: {CHANGED}" in errors, (ending, how, what, errors)
+        assert contents(folder) == then, (ending, how, what)
+        clear(folder)
+
+
+def clear(folder):
+    for path in Path(folder).iterdir():
+        path.unlink()
+
+
+def two_programs_in_turn(folder):
+    """Two programs that load, edit, save and compact, in every order: who did not see the last change is refused, and nothing is lost."""
+    ways = list(itertools.permutations(("save", "compact")))
+    orders = sorted(set(itertools.permutations("AAAABBBB")))
+    orders = [order for order in orders if order[0] == "A"]
+    for order, first, second, edit in itertools.product(orders, ways, ways, ("tag", "mark")):
+        one_order(folder, order, {"A": first, "B": second}, edit)
+        clear(folder)
+    return f"{len(orders) * len(ways) ** 2 * 2} orders"
+
+
+def one_order(folder, order, ways, edit):
+    base = make_base(folder)
+    version, saved = 0, "Anderssen, Adolf"
+    sessions, seen, ended, steps = {}, {}, set(), {}
+    for who in order:
+        step = steps[who] = steps.get(who, 0) + 1
+        if who in ended:
+            continue
+        if step == 1:
+            sessions[who], seen[who] = Session(base), version
+            assert sessions[who].opened == "base 4 games 0 mended\n", order
+            continue
+        line = f"tag 0 White {who}" if edit == "tag" else "mark 0 W on"
+        writes = step > 2 or edit == "tag"
+        line = line if step == 2 else ways[who][step - 3]
+        then = contents(folder)
+        answer = sessions[who].ask(line)
+        if not writes or seen[who] == version:
+            assert answer, (order, ways, edit, who, line)
+            if writes:
+                version += 1
+                seen[who] = version
+                saved = who if step > 2 and edit == "tag" else saved
+        else:
+            assert answer == "", (order, ways, edit, who, line, answer)
+            status, errors = sessions[who].end()
+            assert status == FILES_FAULT and CHANGED in errors, (order, errors)
+            assert contents(folder) == then, (order, ways, edit, who, line)
+            ended.add(who)
+    for who, session in sessions.items():
+        if who not in ended:
+            assert session.end() == (0, ""), order
+    found = heads(base)
+    assert len(found) == 5 and f" {saved} - " in found[0], (order, ways, edit, found, saved)
+
+
+def files_of_the_user_stay(folder):
+    """A file that stands where a new one or an old one would have to: who needs its name is refused before anything is done."""
+    for ending, form in itertools.product(ENDINGS, ("new", "old")):
+        base = make_base(folder)
+        own = Path(f"{base}.{ending}.{form}")
+        own.write_text("my own")
+        then = contents(folder)
+        status, output, errors = run(base, "mark 0 W on\ncompact\n")
+        assert status == FILES_FAULT and "compacted" not in output, (own, output)
+        assert errors.splitlines()[0].startswith(f"{own}: of a run that was broken off or is at work, or your own"), errors
+        assert f"{own}: {IN_THE_WAY}" in errors, errors
+        assert contents(folder) == then, own
+        status, output, errors = run(base, "mark 0 W on\nsave\n")
+        if form == "new" and ending != "sg4":
+            assert status == FILES_FAULT and f"{own}: {IN_THE_WAY}" in errors and contents(folder) == then, (own, errors)
+        else:
+            assert status == 0 and "saved 4 games" in output, (own, errors)
+        assert own.read_text() == "my own"
+        clear(folder)
+
+
+def modes_and_links_stay(folder):
+    """The modes of the files are those that they had, and a symbolic link stays one."""
+    for what in ("tag 0 White C\nsave\n", "tag 0 White C\ndelete 1\ncompact\n"):
+        far = Path(folder, "far")
+        far.mkdir()
+        make_base(far, "real")
+        base = str(Path(folder, "near"))
+        for ending in ENDINGS:
+            os.symlink(f"far/real.{ending}", f"{base}.{ending}")
+        for ending, mode in zip(ENDINGS, (0o660, 0o600, 0o640)):
+            os.chmod(far / f"real.{ending}", mode)
+        status, _, errors = run(base, what)
+        assert (status, errors) == (0, ""), errors
+        for ending, mode in zip(ENDINGS, (0o660, 0o600, 0o640)):
+            assert os.readlink(f"{base}.{ending}") == f"far/real.{ending}"
+            assert stat.S_IMODE(os.stat(far / f"real.{ending}").st_mode) == mode, (what, ending)
+        assert sorted(path.name for path in far.iterdir()) == ["real.sg4", "real.si4", "real.sn4"]
+        assert " C - " in heads(str(far / "real"))[0]
+        shutil.rmtree(far)
+        clear(folder)
+
+
+def edits_go_on_after_a_compaction(folder):
+    """What is read and added after a compaction is read of the new files and added to them."""
+    base = make_base(folder)
+    second = re.findall(r'^\[Black "(.*)"\]', (TOP / "samples/classics.pgn").read_text(), flags=re.M)[1]
+    status, output, errors = run(base, "show 0\ndelete 0\ncompact\nshow 0\ntag 0 Black C\nshow 0\nsave\nshow 0\n")
+    assert (status, errors) == (0, ""), errors
+    assert re.findall(r'^\[Black "(.*)"\]', output, flags=re.M)[1:] == [second, "C", "C"], output
+    assert " - C" in heads(base)[0]
+
+
+def traced(base, script, *inject):
+    """Runs a session under strace, and gives its calls."""
+    log = f"{base}.calls"
+    words = ["strace", "-qq", "-f", "-s", "64", "-o", log, *inject]
+    status, output, errors = run(base, script, before=words)
+    calls = Path(log).read_text(errors="replace").splitlines()
+    os.unlink(log)
+    return calls, status, output, errors
+
+
+def calls_within(calls, first, last):
+    """The name and the number of each call from the answer `first` to the answer `last`."""
+    counts, within, found = {}, False, []
+    for line in calls:
+        call = re.match(r"\d+ +(\w+)\(", line)
+        if not call:
+            continue
+        name = call[1]
+        counts[name] = counts.get(name, 0) + 1
+        if within:
+            found.append((name, counts[name]))
+        if f'write(1, "{first}' in line:
+            within = True
+        if f'write(1, "{last}' in line:
+            break
+    return found
+
+
+def an_end_at_each_call(folder, what, answer, edits):
+    """A session that is killed at each call of the system while it saves or compacts: the base is the old one or the new one."""
+    base = make_base(folder)
+    whole = contents(folder)
+    old = heads(base)
+    script = "".join(f"{edit}\n" for edit in edits) + f"{what}\n"
+    calls, status, _, errors = traced(base, script)
+    assert (status, errors) == (0, ""), errors
+    new = heads(base)
+    assert old != new
+    ends = calls_within(calls, "tagged", answer)
+    assert len(ends) > 20, len(ends)
+    put_back = 0
+    for name, number in ends:
+        clear(folder)
+        for file, held in whole.items():
+            Path(folder, file).write_bytes(held)
+        _, status, output, _ = traced(base, script, "-e", f"inject={name}:signal=KILL:when={number}")
+        assert answer not in output or name == "write", (name, number, output)
+        put_back += goes_on(base, old, new, (what, name, number))
+    return f"{len(ends)} calls of {what}, {put_back} put back"
+
+
+def goes_on(base, old, new, where):
+    """Opens a base whose last run was killed, looks that it is one of these two, clears up as it is told, and saves it."""
+    status, output, errors = run(base, "list\n", ["--strict"])
+    assert status == 0, (where, status, errors)
+    assert output.splitlines()[1:] in (old, new), (where, output)
+    put_back = int("its files are back in their places" in errors)
+    told = [line.split(": ")[0] for line in errors.splitlines() if "of a run that was broken off" in line]
+    there = [str(path) for path in Path(base).parent.iterdir() if path.suffix in (".new", ".old")]
+    assert sorted(told) == sorted(there), (where, errors)
+    for path in told:
+        os.unlink(path)
+    status, output, errors = run(base, "mark 0 W on\nsave\ncompact\n")
+    assert (status, errors) == (0, ""), (where, errors)
+    return put_back
+
+
+def an_error_at_each_call(folder, what, answer, edits):
+    """A session whose renames, new files, writes and calls that hand files on fail, one after the other: the base is the old one or the new one."""
+    base = make_base(folder)
+    whole = contents(folder)
+    old = heads(base)
+    script = "".join(f"{edit}\n" for edit in edits) + f"{what}\n"
+    calls, _, _, _ = traced(base, script)
+    new = heads(base)
+    tried = [it for it in calls_within(calls, "tagged", answer) if it[0] in ("rename", "openat", "write", "fsync", "fchmod", "flock", "unlink")]
+    for name, number in tried:
+        clear(folder)
+        for file, held in whole.items():
+            Path(folder, file).write_bytes(held)
+        _, status, output, errors = traced(base, script, "-e", f"inject={name}:error=EIO:when={number}")
+        where = (what, name, number, status, errors)
+        if name == "unlink":
+            # An old file that can't be removed stays, and is told of at the next opening.
+            Path(next(str(path) for path in Path(folder).iterdir() if path.suffix == ".old")).unlink()
+        if status == 0:
+            assert answer in output and errors == "" and heads(base) == new, where
+        else:
+            assert heads(base) in ((old,) if status == FILES_FAULT else (old, new)), where
+            assert sorted(contents(folder)) == sorted(whole), where
+            assert status != FILES_FAULT or "Input/output error" in errors, where
+    return f"{len(tried)} calls of {what}"
+
+
+def files_are_handed_on_in_order(folder):
+    """The games file before the index that names its records, each new file before it takes its place, and then its folder."""
+    base = make_base(folder)
+    calls, status, _, errors = traced(base, "tag 0 White C\nsave\n")
+    assert status == 0, errors
+    opened, order = {}, []
+    for line in calls:
+        if found := re.search(r'openat\(AT_FDCWD, "([^"]*)".* = (\d+)$', line):
+            opened[found[2]] = found[1]
+        elif found := re.search(r"fsync\((\d+)\)", line):
+            order.append(("handed on", opened[found[1]].replace(base, "")))
+        elif found := re.search(r'rename\("[^"]*", "([^"]*)"\)', line):
+            order.append(("in place", found[1].replace(base, "")))
+    wanted = [
+        ("handed on", ".sn4.new"),
+        ("in place", ".sn4"),
+        ("handed on", str(folder)),
+        ("handed on", ".sg4"),
+        ("handed on", ".si4.new"),
+        ("in place", ".si4"),
+        ("handed on", str(folder)),
+    ]
+    assert order == wanted, order
+
+
+def a_broken_off_run_that_was_not_alone(folder):
+    """An index that was set aside beside files that no run leaves so: it is said how to go on, and nothing is touched, with `--create` too."""
+    base = make_base(folder)
+    os.rename(f"{base}.si4", f"{base}.si4.old")
+    then = contents(folder)
+    for words in ([], ["--create"]):
+        status, output, errors = run(base, "info\n", words)
+        assert status == FILES_FAULT and output == "" and f"{base}.si4.old: a compact was broken off; rename" in errors, errors
+        assert contents(folder) == then
+    os.rename(f"{base}.si4.old", f"{base}.si4")
+    heads(base)
+
+
+def the_launcher_of_a_fresh_clone(folder):
+    """Without ./build: what README shows, and a base of one's own that is changed and saved."""
+    clone = Path(folder, "clone")
+    shutil.copytree(TOP, clone, ignore=shutil.ignore_patterns("out", ".git", "__pycache__"))
+    shown = re.search(r"\$ \./scid_shell samples/openings < samples/find\.txt\n((?:    .*\n)+)", (TOP / "README.md").read_text())
+    script = (clone / "samples/find.txt").read_text()
+    status, output, errors = launched(clone, "samples/openings", script)
+    assert status == 0 and output == re.sub("^    ", "", shown[1], flags=re.M), (output, errors)
+    assert "building the program without its proofs, once" in errors and "not proved" in errors, errors
+    base = make_base(folder)
+    status, output, errors = launched(clone, base, "tag 0 White C\nsave\n")
+    assert (status, errors) == (0, "scid_shell: the program is not proved (./build proves it)\n") and "saved 4 games" in output, errors
+    assert " C - " in heads(base)[0]
+    proved = clone / "crates/scid_shell/out/scid_shell"
+    shutil.copy(PROGRAM, proved)
+    os.utime(proved, (0, 0))
+    status, output, errors = launched(clone, base, "tag 0 White D\nsave\n")
+    assert status == 0 and "newer than the proved program" in errors and " D - " in heads(base)[0], errors
+    shutil.rmtree(clone)
+
+
+def launched(clone, base, script):
+    words = [str(clone / "scid_shell"), base]
+    ran = subprocess.run(words, input=script, capture_output=True, text=True, timeout=900, cwd=clone)
+    return ran.returncode, ran.stdout, ran.stderr
+
+
+def main():
+    shows = [
+        (a_changed_file_is_never_saved_over,),
+        (two_programs_in_turn,),
+        (files_of_the_user_stay,),
+        (modes_and_links_stay,),
+        (edits_go_on_after_a_compaction,),
+        (a_broken_off_run_that_was_not_alone,),
+    ]
+    if shutil.which("strace"):
+        shows += [
+            (files_are_handed_on_in_order,),
+            (an_error_at_each_call, "save", "saved", ["tag 0 White C"]),
+            (an_error_at_each_call, "compact", "compacted", ["delete 1", "tag 0 White C"]),
+            (an_end_at_each_call, "save", "saved", ["tag 0 White C"]),
+            (an_end_at_each_call, "compact", "compacted", ["delete 1", "tag 0 White C"]),
+        ]
+    else:
+        print("cases/real_files.py: strace is not there: the order of what is handed on, and an end at each call, are not tried")
+    if shutil.which("rt"):
+        shows.append((the_launcher_of_a_fresh_clone,))
+    else:
+        print("cases/real_files.py: rt is not there: the launcher of a fresh clone is not tried")
+    only = sys.argv[2:]
+    for show, *words in shows:
+        if only and show.__name__ not in only:
+            continue
+        with tempfile.TemporaryDirectory() as folder:
+            said = show(folder, *words)
+            print(f"{show.__name__}: ok" + (f" ({said})" if said else ""), flush=True)
+
+
+if __name__ == "__main__":
+    main()

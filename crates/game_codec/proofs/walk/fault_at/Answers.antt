@@ -1,0 +1,4 @@
+use Rattle.game_codec.proofs.walk.fault_at.Goals as goal
+
+pub returns-clause-first : goal.returns-clause-first
+returns-clause-first c = λ told. record { rest = told.0; breaks = told.2; place = c.place_of.ensures.place told.0 told.1 }

@@ -1,0 +1,48 @@
+//! The new games file of a base on a disk.
+use crate::ahead::BLOCK;
+use crate::held::Held;
+use std::alloc::Global;
+use std::fs::File;
+use std::io;
+use std::io::{BufWriter, Write};
+
+/// How many zero bytes are written at once.
+const PIECE: u32 = 4096;
+
+/// A games file that is being made, written by blocks.
+#[derive(Drop)]
+pub struct NewGames {
+    writer: BufWriter<File>,
+}
+
+impl NewGames {
+    /// A games file of no bytes yet. All the memory that writing wants is taken here.
+    pub fn new(alloc: Global, file: File) -> io::Result<NewGames> {
+        Ok(NewGames {
+            writer: BufWriter::with_capacity(alloc, BLOCK, file)?,
+        })
+    }
+
+    /// Adds `pad` zero bytes and then `bytes` at its end.
+    pub fn add(&mut self, pad: u32, bytes: &[u8]) -> io::Result<()> {
+        write_padded(&mut self.writer, pad, bytes)
+    }
+
+    /// The file, of which all is handed on to the disk.
+    pub fn finish(mut self) -> io::Result<Held> {
+        self.writer.flush()?;
+        let (file, _) = self.writer.into_parts();
+        file.sync_all()?;
+        Held::new(file)
+    }
+}
+
+/// Writes `pad` zero bytes and then `bytes`.
+pub fn write_padded<F: Write>(file: &mut F, pad: u32, bytes: &[u8]) -> io::Result<()> {
+    let zeros = [0u8; PIECE as usize];
+    for _ in 0..pad / PIECE {
+        file.write_all(&zeros)?;
+    }
+    file.write_all(&zeros[..(pad % PIECE) as usize])?;
+    file.write_all(bytes)
+}
