@@ -18,11 +18,11 @@ use std::io::Eprint;
 use std::marker::Model;
 use std::rt::Files as FileSystem;
 
-/// The files `BASE.si4`, `BASE.sn4` and `BASE.sg4` of a file system. It tells nothing of their contents.
+/// The files `BASE.si4`, `BASE.sn4` and `BASE.sg4` on the disks of the host. It tells nothing of their contents.
 /// All three are opened once, by `choose`. Why a file can't be used is said on standard error.
 #[derive(Drop)]
-pub struct DiskFiles<'r, R: FileSystem> {
-    system: &'r R,
+pub struct DiskFiles<'r> {
+    system: &'r HostRuntime,
     alloc: Global,
     base: Option<DiskBase>,
     choices: Choices,
@@ -33,7 +33,7 @@ pub struct DiskFiles<'r, R: FileSystem> {
     faults: FaultCount,
 }
 
-impl<'r, R: FileSystem> Model for DiskFiles<'r, R> {
+impl<'r> Model for DiskFiles<'r> {
     ghost use Rattle.std_devices.specs.Meters.{DiskMeter};
 
     ghost Value = { DiskMeter };
@@ -41,9 +41,9 @@ impl<'r, R: FileSystem> Model for DiskFiles<'r, R> {
     ghost view = { λ files. record { choices = files.choices; known = files.known; added = files.added; asked = files.asked; faults = files.faults } };
 }
 
-impl<'r, R: FileSystem> DiskFiles<'r, R> {
-    /// Files of this file system, of which no base was chosen yet.
-    pub fn new(alloc: Global, system: &'r R) -> DiskFiles<'r, R>
+impl<'r> DiskFiles<'r> {
+    /// Files of the host, of which no base was chosen yet.
+    pub fn new(alloc: Global, system: &'r HostRuntime) -> DiskFiles<'r>
         ensures { result ≡ record { choices = []; known = 0; added = 0; asked = 0; faults = 0 } }
     {
         DiskFiles {
@@ -59,18 +59,16 @@ impl<'r, R: FileSystem> DiskFiles<'r, R> {
     }
 
     /// Ends the work on the base: a new games file that was begun and not committed is removed.
-    pub fn close(self)
-    where
-        R: FileSystem<File = File>,
+    pub fn close(&mut self)
+        ensures same { self.new ≡ self.old }
     {
-        let DiskFiles { system, base, .. } = self;
-        if let Some(mut base) = base {
-            base.end(system);
+        if let Some(mut base) = self.base.take() {
+            base.end(self.system);
         }
     }
 }
 
-impl<'r, R: FileSystem<File = File> + Eprint> Files for DiskFiles<'r, R> {
+impl<'r> Files for DiskFiles<'r> {
     ghost seen = { λ files. seen_of files };
 
     ghost asked = { λ files. files.asked };
