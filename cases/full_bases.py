@@ -6,7 +6,8 @@ usage: cases/full_bases.py [PROGRAM]
 
 The bases are too large to be kept as cases: each is the Vienna game (make_bases.py) beside as many names of one kind as leave room for one
 more, or in a games file that has room for one more record; or one game without moves as often as leaves room for one more game. And one is
-a game of the longest record as often as a games file has no room for, all of one record, so that it can't be compacted.
+a game of the longest record as often as a games file has no room for, all of one record, so that it can't be compacted. Of an event in
+which 200 names play there is a crosstable, of one with 201 there is none.
 """
 import os
 import pathlib
@@ -85,6 +86,25 @@ def full_new_file(program):
     return run(program, parts, len(record), "compact\nreset\nquit\n", BLOCKS)
 
 
+def many_players(program):
+    """Each of the names but the last plays one game as White with the next, and wins."""
+    last, record = 200, game(b"")
+    games = [entry(0, len(record), ids=(name, name + 1, 0, 0, 0), result=1) for name in range(last)]
+    parts = {".si4": index(games), ".sn4": names_file([last + 1, 1, 1, 1]), ".sg4": record}
+    script = f"cross {0:07}\ndelete {last - 1}\ncross {0:07}\nquit\n"
+    return run(program, parts, len(record), script)
+
+
+def crosstable_of_many_players():
+    """All but the last name have one point, the first of one game; the last has none."""
+    lines = []
+    for row in range(200):
+        cells = ["x" if column == row else "1" if column == row + 1 else "0" if column == row - 1 else "." for column in range(200)]
+        games = 1 if row in (0, 199) else 2
+        lines.append(f"{row + 1} {row:07} {0 if row == 199 else 1}.0/{games} {' '.join(cells)}\n")
+    return "".join(lines) + "cross 200 players 199 games\n"
+
+
 def main():
     program = os.path.realpath(sys.argv[1] if len(sys.argv) > 1 else HERE / "../crates/scid_shell/out/scid_shell")
     failed = 0
@@ -101,6 +121,9 @@ def main():
     wanted = f"error: full file\nfilter {BLOCKS + 1} of {BLOCKS + 1}\n"
     failed += (text := full_new_file(program)) != wanted
     print(f"full new file: {text!r}" if text != wanted else "full new file: as it should be")
+    wanted = f"error: too many players\ndeleted 199\n{crosstable_of_many_players()}unsaved\n"
+    failed += (text := many_players(program)) != wanted
+    print(f"many players: {text!r}" if text != wanted else "many players: as it should be")
     sys.exit(failed != 0)
 
 

@@ -82,6 +82,7 @@ D4 = b"\xbf"
 C4 = b"\xaf"
 D5 = b"\xbf"
 G3 = b"\xe1"
+NF3 = b"\x67"
 DATE = 2000 * 512 + 5 * 32 + 10
 
 
@@ -325,10 +326,21 @@ def compactions():
           longs[1] + longs[2] + bytes(21_072) + longs[3], "after")
 
 
+def twins_and_crosstables():
+    """The bases of the cases of `twins` and `cross`. A game whose result is set is placed once more."""
+    write("crosstables", "base", b"", b"", game(b"") * 14, "after")
+    write("twins_of_pawns", "pawns", index(PAWNS), PAWNS_NAMES, PAWNS_RECORDS)
+    write("twins_of_pawns", "pawns", index(PAWNS), PAWNS_NAMES, PAWNS_RECORDS + game(E4 + D5 + NF3), "after")
+    own = game(b"\x1f", start=b"4k3/8/8/8/8/8/4P3/4K3 w - - 0 1")
+    records = game(E4) * 3 + game(E4 + E5) + game(E4 + D5) + game(E4) * 2 + own * 2 + game(D4) + game(E4) * 4
+    write("twins_among_games", "base", b"", b"", records, "after")
+
+
 def main():
     edits()
     imports()
     compactions()
+    twins_and_crosstables()
     for case in ("filters_by_number", "find_in_both_orders", "search_header_among_filters", "search_material_by_signatures",
                  "search_position", "search_position_in_each_mode", "tree_in_both_orders"):
         write(case, "pawns", index(PAWNS), PAWNS_NAMES, PAWNS_RECORDS)

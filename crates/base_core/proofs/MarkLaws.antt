@@ -1,4 +1,4 @@
--- What is kept of a game whose marks were changed.
+-- What is kept of a game whose marks or opening code were changed.
 use Rattle.std.proofs.Common.{◌≡◌, ◌≢◌, ◌<◌, ◌≤◌, ◌+◌, ◌*◌, ◌/◌, ◌%◌, ◌-◌, ◌^◌, ℕ, zero, suc, Bool, true, List, [], ◌∷◌, length, slice_get, slice_set, get_or, option_map, Option, Some, None, refl, sym, ap, ◌∙◌, subst, inl, inr, arith}
 use Rattle.std.proofs.lemmas.Bool.{cases_Bool, cases_eq}
 use Rattle.std.proofs.lemmas.List.{length-set}
@@ -25,50 +25,55 @@ use Rattle.base_core.proofs.GamesLaws.{at-all}
 use Rattle.base_core.proofs.KeptLaws.{settled-rest}
 use Rattle.base_core.proofs.Lists.{get_some, get-set_same, get-set_other}
 
--- A head and an entry with these marks.
-abbrev marked_head : Bool → ℕ → Head → Head
-marked_head d m head = record head { deleted = d; marks = m }
+-- A head and an entry with these marks and this opening code.
+abbrev marked_head : Bool → ℕ → ℕ → Head → Head
+marked_head d m c head = record head { deleted = d; marks = m; eco = c }
 
-abbrev pub marked_entry : Bool → ℕ → Entry → Entry
-marked_entry d m e = record e { deleted = d; marks = m }
+abbrev pub marked_entry : Bool → ℕ → ℕ → Entry → Entry
+marked_entry d m c e = record e { deleted = d; marks = m; eco = c }
 
--- Settling does not look at marks.
-taken_up-marked : (head : Head) (found : Option Date) (d : Bool) (m : ℕ) → taken_up (marked_head d m head) found ≡ marked_head d m (taken_up head found)
-taken_up-marked head None d m = refl
-taken_up-marked head (Some date) d m = refl
+-- Settling does not look at marks or at the code.
+taken_up-marked : (head : Head) (found : Option Date) (d : Bool) (m c : ℕ) → taken_up (marked_head d m c head) found ≡ marked_head d m c (taken_up head found)
+taken_up-marked head None d m c = refl
+taken_up-marked head (Some date) d m c = refl
 
-settled-marked : (head : Head) (d : Bool) (m : ℕ) → settled (marked_head d m head) ≡ marked_head d m (settled head)
-settled-marked head d m =
+settled-marked : (head : Head) (d : Bool) (m c : ℕ) → settled (marked_head d m c head) ≡ marked_head d m c (settled head)
+settled-marked head d m c =
     elim (cases_Bool (is_near head.event_date head.date)) [
-      | inl near ↦ settled-near (marked_head d m head) near ∙ sym (ap (marked_head d m) (settled-near head near))
+      | inl near ↦ settled-near (marked_head d m c head) near ∙ sym (ap (marked_head d m c) (settled-near head near))
       | inr far ↦ elim (cases_Bool (is_unknown head.event_date)) [
         | inl unknown ↦
-            settled-unknown (marked_head d m head) far unknown
-            ∙ (taken_up-marked head (first_near_date head.date head.tags) d m ∙ sym (ap (marked_head d m) (settled-unknown head far unknown)))
-        | inr known ↦ settled-far (marked_head d m head) far known ∙ sym (ap (marked_head d m) (settled-far head far known))
+            settled-unknown (marked_head d m c head) far unknown
+            ∙ (taken_up-marked head (first_near_date head.date head.tags) d m c ∙ sym (ap (marked_head d m c) (settled-unknown head far unknown)))
+        | inr known ↦ settled-far (marked_head d m c head) far known ∙ sym (ap (marked_head d m c) (settled-far head far known))
       ]
     ]
 
-keeps-marked : (names : NameLists) (games : List ℕ) (e : Entry) (held : Held) (d : Bool) (m : ℕ) → Keeps names games e held →
-    Keeps names games (marked_entry d m e) (record held { head = marked_head d m held.head })
+keeps-marked : (names : NameLists) (games : List ℕ) (e : Entry) (held : Held) (d : Bool) (m c : ℕ) → Keeps names games e held →
+    Keeps names games (marked_entry d m c e) (record held { head = marked_head d m c held.head })
 unfolding head_of
-keeps-marked names games e held d m is = record {
+keeps-marked names games e held d m c is = record {
   says = record {
     tags = is.says.tags;
     within = is.says.within;
     read = is.says.read;
-    head = ap (marked_head d m) is.says.head ∙ sym (settled-marked (head_of names e is.says.tags) d m);
+    head = ap (marked_head d m c) is.says.head ∙ sym (settled-marked (head_of names e is.says.tags) d m c);
     len = is.says.len;
   };
   event_date = is.event_date;
   signed = is.signed;
 }
 
--- The marks of a game are those of its entry.
+-- The marks and the code of a game are those of its entry.
 keeps-marks : (names : NameLists) (games : List ℕ) (e : Entry) (held : Held) → Keeps names games e held → held.head.marks ≡ e.marks
 unfolding head_of
 keeps-marks names games e held is =
     ap (λ (h : Head). h.marks) is.says.head ∙ ap (λ (h : Head). h.marks) (settled-rest (head_of names e is.says.tags))
+
+keeps-eco : (names : NameLists) (games : List ℕ) (e : Entry) (held : Held) → Keeps names games e held → held.head.eco ≡ e.eco
+unfolding head_of
+keeps-eco names games e held is =
+    ap (λ (h : Head). h.eco) is.says.head ∙ ap (λ (h : Head). h.eco) (settled-rest (head_of names e is.says.tags))
 
 keeps-deleted : (names : NameLists) (games : List ℕ) (e : Entry) (held : Held) → Keeps names games e held → held.head.deleted ≡ e.deleted
 unfolding head_of
@@ -127,39 +132,53 @@ put-does old i e f change at keeps = λ games base is.
           ];
     }
 
--- Both marks, where the change of the head sets them so.
-pub marks-do : (old : Kept) (i : ℕ) (e : Entry) (d : Bool) (m : ℕ) (change : Head → Head) → slice_get old.entries i ≡ Some e →
-    ((head : Head) → head.deleted ≡ e.deleted → head.marks ≡ e.marks → marked_head d m head ≡ change head) → Does (with_head change i) old (put old i (marked_entry d m e))
-marks-do old i e d m change at so =
-    put-does old i e (marked_entry d m e) change at
+-- A head that has the marks and the code of its entry.
+pub record AreOf (e : Entry) (head : Head) : Type 0 where
+  pub deleted : head.deleted ≡ e.deleted
+  pub marks : head.marks ≡ e.marks
+  pub eco : head.eco ≡ e.eco
+
+-- The marks and the code, where the change of the head sets them so.
+pub marks-do : (old : Kept) (i : ℕ) (e : Entry) (d : Bool) (m c : ℕ) (change : Head → Head) → slice_get old.entries i ≡ Some e →
+    ((head : Head) → AreOf e head → marked_head d m c head ≡ change head) → Does (with_head change i) old (put old i (marked_entry d m c e))
+marks-do old i e d m c change at so =
+    put-does old i e (marked_entry d m c e) change at
     (λ games held is.
-    let K : Head → Type 0 = λ h. Keeps old.names games (marked_entry d m e) (record held { head = h }) in
-    subst K (so held.head (keeps-deleted old.names games e held is) (keeps-marks old.names games e held is)) (keeps-marked old.names games e held d m is))
+    let K : Head → Type 0 = λ h. Keeps old.names games (marked_entry d m c e) (record held { head = h }) in
+    let are : AreOf e held.head = record { deleted = keeps-deleted old.names games e held is; marks = keeps-marks old.names games e held is; eco = keeps-eco old.names games e held is } in
+    subst K (so held.head are) (keeps-marked old.names games e held d m c is))
 
-pub deletes : (e : Entry) (d : Bool) (head : Head) → head.deleted ≡ e.deleted → head.marks ≡ e.marks → marked_head d e.marks head ≡ record head { deleted = d }
-deletes e d head deleted marks = ap (λ (m : ℕ). marked_head d m head) (sym marks)
+pub deletes : (e : Entry) (d : Bool) (head : Head) → AreOf e head → marked_head d e.marks e.eco head ≡ record head { deleted = d }
+deletes e d head are =
+    ap (λ (m : ℕ). marked_head d m e.eco head) (sym are.marks) ∙ ap (λ (c : ℕ). marked_head d head.marks c head) (sym are.eco)
 
-pub marks : (e : Entry) (bit : ℕ) (on : Bool) (m : ℕ) → m ≡ with_mark e.marks bit on → (head : Head) → head.deleted ≡ e.deleted → head.marks ≡ e.marks →
-    marked_head e.deleted m head ≡ record head { marks = with_mark head.marks bit on }
-marks e bit on m is head deleted same =
-    ap (λ (d : Bool). marked_head d m head) (sym deleted) ∙ ap (λ (n : ℕ). marked_head head.deleted n head) (is ∙ ap (λ (n : ℕ). with_mark n bit on) (sym same))
+pub marks : (e : Entry) (bit : ℕ) (on : Bool) (m : ℕ) → m ≡ with_mark e.marks bit on → (head : Head) → AreOf e head →
+    marked_head e.deleted m e.eco head ≡ record head { marks = with_mark head.marks bit on }
+marks e bit on m is head are =
+    ap (λ (d : Bool). marked_head d m e.eco head) (sym are.deleted)
+    ∙ (ap (λ (n : ℕ). marked_head head.deleted n e.eco head) (is ∙ ap (λ (n : ℕ). with_mark n bit on) (sym are.marks))
+    ∙ ap (λ (c : ℕ). marked_head head.deleted (with_mark head.marks bit on) c head) (sym are.eco))
+
+pub classifies : (e : Entry) (c : ℕ) (head : Head) → AreOf e head → marked_head e.deleted e.marks c head ≡ record head { eco = c }
+classifies e c head are =
+    ap (λ (d : Bool). marked_head d e.marks c head) (sym are.deleted) ∙ ap (λ (m : ℕ). marked_head head.deleted m c head) (sym are.marks)
 
 -- Only the head of the game was changed.
-pub put-heads : (old : Kept) (i : ℕ) (e : Entry) (d : Bool) (m : ℕ) → slice_get old.entries i ≡ Some e → ChangedHeads old (put old i (marked_entry d m e))
-put-heads old i e d m at =
+pub put-heads : (old : Kept) (i : ℕ) (e : Entry) (d : Bool) (m c : ℕ) → slice_get old.entries i ≡ Some e → ChangedHeads old (put old i (marked_entry d m c e))
+put-heads old i e d m c at =
     let is : get_or old.entries i e ≡ e = get_or_from_slice_get old.entries i e e at in
     record {
       header = refl;
       names = refl;
-      extents = map-set_same extent_of old.entries i (marked_entry d m e) e (ap extent_of (sym is));
-      sigs = map-set_same sig_in old.entries i (marked_entry d m e) e (ap sig_in (sym is));
+      extents = map-set_same extent_of old.entries i (marked_entry d m c e) e (ap extent_of (sym is));
+      sigs = map-set_same sig_in old.entries i (marked_entry d m c e) e (ap sig_in (sym is));
       end = refl;
       unsaved = refl;
     }
 
--- An entry with other marks is kept as the old one was.
-pub marked-entry : (e : Entry) (d : Bool) (m : ℕ) → IsEntry e → m < 2 ^ 18 → IsEntry (marked_entry d m e)
-marked-entry e d m is few = record {
+-- An entry with other marks and another code is kept as the old one was.
+pub marked-entry : (e : Entry) (d : Bool) (m c : ℕ) → IsEntry e → m < 2 ^ 18 → c ≤ 65500 → IsEntry (marked_entry d m c e)
+marked-entry e d m c is few low = record {
   len = is.len;
   marks = few;
   white = is.white;
@@ -170,7 +189,7 @@ marked-entry e d m is few = record {
   vars = is.vars;
   comments = is.comments;
   nags = is.nags;
-  eco = is.eco;
+  eco = low;
   date = is.date;
   event_date = is.event_date;
   event_rule = is.event_rule;
@@ -182,21 +201,21 @@ marked-entry e d m is few = record {
   home = is.home;
 }
 
-marked-kept : (names : NameLists) (end : ℕ) (e : Entry) (d : Bool) (m : ℕ) → IsKept names end e → m < 2 ^ 18 → IsKept names end (marked_entry d m e)
+marked-kept : (names : NameLists) (end : ℕ) (e : Entry) (d : Bool) (m c : ℕ) → IsKept names end e → m < 2 ^ 18 → c ≤ 65500 → IsKept names end (marked_entry d m c e)
 unfolding place_fault
-marked-kept names end e d m is few = record {
-  fields = marked-entry e d m is.fields few;
+marked-kept names end e d m c is few low = record {
+  fields = marked-entry e d m c is.fields few low;
   named = record { white = is.named.white; black = is.named.black; event = is.named.event; site = is.named.site; round = is.named.round };
   placed = is.placed;
   homes = is.homes;
 }
 
-pub marked-sound : (old : Kept) (i : ℕ) (e : Entry) (d : Bool) (m : ℕ) → slice_get old.entries i ≡ Some e → IsSound old → m < 2 ^ 18 → IsSound (put old i (marked_entry d m e))
-marked-sound old i e d m at is few = record {
+pub marked-sound : (old : Kept) (i : ℕ) (e : Entry) (d : Bool) (m c : ℕ) → slice_get old.entries i ≡ Some e → IsSound old → m < 2 ^ 18 → c ≤ 65500 → IsSound (put old i (marked_entry d m c e))
+marked-sound old i e d m c at is few low = record {
   header = is.header;
-  count = length-set old.entries i (marked_entry d m e) ∙ is.count;
+  count = length-set old.entries i (marked_entry d m c e) ∙ is.count;
   names = is.names;
-  entries = All-set (IsKept old.names old.end) old.entries i (marked_entry d m e) (marked-kept old.names old.end e d m (at-all (IsKept old.names old.end) old.entries i e is.entries at) few) is.entries;
+  entries = All-set (IsKept old.names old.end) old.entries i (marked_entry d m c e) (marked-kept old.names old.end e d m c (at-all (IsKept old.names old.end) old.entries i e is.entries at) few low) is.entries;
 }
 
 -- ---- one mark.

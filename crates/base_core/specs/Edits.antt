@@ -34,6 +34,10 @@ with_mark marks bit on = marks / 2 ^ (bit + 1) * 2 ^ (bit + 1) + (if on then 2 ^
 unfoldable pub marked : ℕ → ℕ → Bool → Base → Base
 marked i bit on base = with_head (λ head. record head { marks = with_mark head.marks bit on }) i base
 
+-- Giving a game an opening code.
+unfoldable pub classified : ℕ → ℕ → Base → Base
+classified i eco base = with_head (λ head. record head { eco = eco }) i base
+
 -- A game of a base whose record is the written one.
 abbrev pub held_of : Head → GameTree → Held
 held_of head game = record { head = head; game = game; len = length (written_record head.tags game) }

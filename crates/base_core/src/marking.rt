@@ -1,7 +1,7 @@
-//! The marks of the games of an open base.
+//! The marks and the opening codes of the games of an open base.
 ghost use Rattle.std.specs.Prelude.{◌≡◌, ℕ, ◌<◌, ◌≤◌, ◌^◌, ◌↔◌, Some, true, length, slice_get, slice_set, IfOk, IfErr, OnOk, OnErr, IsErr};
 ghost use Rattle.base_core.specs.Edited.{ChangedHeads, Does};
-ghost use Rattle.base_core.specs.Edits.{deleted, marked, undeleted, with_mark};
+ghost use Rattle.base_core.specs.Edits.{classified, deleted, marked, undeleted, with_mark};
 ghost use Rattle.base_core.specs.Represents.{IsKept};
 
 use crate::base::Base;
@@ -24,7 +24,7 @@ impl Base {
         ensures unchanged { OnErr result (self.new ≡ self.old) }
     {
         let entry = self.entry_there(i)?;
-        self.put_marks(i, &entry, true, entry.marks);
+        self.put_facts(i, &entry, true, entry.marks, entry.eco);
         Ok(())
     }
 
@@ -43,7 +43,7 @@ impl Base {
         ensures unchanged { OnErr result (self.new ≡ self.old) }
     {
         let entry = self.entry_there(i)?;
-        self.put_marks(i, &entry, false, entry.marks);
+        self.put_facts(i, &entry, false, entry.marks, entry.eco);
         Ok(())
     }
 
@@ -63,7 +63,28 @@ impl Base {
         ensures unchanged { OnErr result (self.new ≡ self.old) }
     {
         let entry = self.entry_there(i)?;
-        self.put_marks(i, &entry, entry.deleted, with_mark(entry.marks, bit, on));
+        let marks = with_mark(entry.marks, bit, on);
+        self.put_facts(i, &entry, entry.deleted, marks, entry.eco);
+        Ok(())
+    }
+
+    /// Gives game `i` this opening code, at most 65,500; 0 is none.
+    ///
+    /// # Errors
+    ///
+    /// `NoGame` exactly where there is no game of this number.
+    pub fn set_eco(&mut self, i: u32, eco: u16) -> Result<(), NoGame>
+        requires eco { eco ≤ 65500 }
+        ensures classified { OnOk result (Does (classified i eco) self.old self.new) }
+        ensures heads { OnOk result (ChangedHeads self.old self.new) }
+        // What is kept of the other games stays.
+        ensures others { (j : ℕ) → (j ≡ i → ⊥) → slice_get self.new.entries j ≡ slice_get self.old.entries j }
+        ensures no_game { IsErr result ↔ (length self.old.entries ≤ i) }
+        ensures which { IfErr result (λ error. error.game ≡ i) }
+        ensures unchanged { OnErr result (self.new ≡ self.old) }
+    {
+        let entry = self.entry_there(i)?;
+        self.put_facts(i, &entry, entry.deleted, entry.marks, eco);
         Ok(())
     }
 
@@ -80,18 +101,20 @@ impl Base {
         Ok(self.entry(i))
     }
 
-    // Puts these marks into the entry of game `i`.
-    fn put_marks(&mut self, i: u32, entry: &Entry, deleted: bool, marks: u32)
+    // Puts these marks and this opening code into the entry of game `i`.
+    fn put_facts(&mut self, i: u32, entry: &Entry, deleted: bool, marks: u32, eco: u16)
         requires at { slice_get self.old.entries i ≡ Some entry.now }
         requires few { marks < 2 ^ 18 }
-        ensures put { self.new ≡ record self.old { entries = slice_set self.old.entries i (record entry.now { deleted = deleted; marks = marks }); unsaved = true } }
+        requires low { eco ≤ 65500 }
+        ensures put { self.new ≡ record self.old { entries = slice_set self.old.entries i (record entry.now { deleted = deleted; marks = marks; eco = eco }); unsaved = true } }
     {
-        let marked = Entry {
+        let changed = Entry {
             deleted,
             marks,
+            eco,
             ..*entry
         };
-        self.entries.set(i, &marked);
+        self.entries.set(i, &changed);
         self.unsaved = true;
     }
 }

@@ -1,5 +1,5 @@
 -- The forms of arguments: what a word stands for, or none (this project's own).
-use Rattle.std.specs.Prelude.{ℕ, ◌==◌, nat_le, Bool, true, false, ◌&&◌, ◌||◌, if◌then◌else◌, List, [], ◌∷◌, length, Option, Some, None, codes}
+use Rattle.std.specs.Prelude.{ℕ, ◌==◌, nat_le, Bool, true, false, not, ◌&&◌, ◌||◌, if◌then◌else◌, List, [], ◌∷◌, length, Option, Some, None, codes}
 use Rattle.std.specs.List.{list_all, position_from}
 use Rattle.std.specs.Str.{bytes_eq}
 use Rattle.std.specs.Char.{is_ascii_alphanumeric}
@@ -74,6 +74,10 @@ is_name_byte byte = is_ascii_alphanumeric byte || byte == 95
 unfoldable pub filter_name : List ℕ → Option (List ℕ)
 filter_name word =
     if nat_le 1 (length word) && nat_le (length word) 32 && list_all is_name_byte word then Some word else None
+
+-- A name of the base, or the beginning of one: any bytes but zero.
+abbrev pub name_text : List ℕ → Option (List ℕ)
+name_text word = if list_all (λ byte. not (byte == 0)) word then Some word else None
 
 -- <<WORD, where WORD has 1 to 32 letters and digits: the word that ends a body.
 abbrev pub end_word : List ℕ → Option (List ℕ)

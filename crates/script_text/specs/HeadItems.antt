@@ -1,16 +1,11 @@
 -- The items of a search of heads (this project's own).
-use Rattle.std.specs.Prelude.{ℕ, ◌==◌, not, if◌then◌else◌, List, Option, Some, None, option_map, codes}
-use Rattle.std.specs.List.{list_all}
+use Rattle.std.specs.Prelude.{ℕ, if◌then◌else◌, List, Option, Some, None, option_map, codes}
 use Rattle.std.specs.Str.{bytes_eq}
 use Rattle.game_tree.specs.Outcome.{outcome_read}
 use Rattle.sig_index.specs.declared.span.Span.{Span}
 use Rattle.sig_index.specs.declared.head_query.HeadQuery.{HeadQuery}
-use Rattle.script_text.specs.Forms.{answer, mark_bit}
+use Rattle.script_text.specs.Forms.{answer, mark_bit, name_text}
 use Rattle.script_text.specs.Numbers.{span_within, eco_span}
-
--- The beginning of a name: any bytes but zero.
-abbrev pub name_text : List ℕ → Option (List ℕ)
-name_text value = if list_all (λ byte. not (byte == 0)) value then Some value else None
 
 -- A span of numbers below 2^64.
 abbrev pub number_span : List ℕ → Option Span

@@ -12,6 +12,10 @@ number word = decimal_read 18446744073709551615 word
 abbrev pub demo_games : List ℕ → Option ℕ
 demo_games word = decimal_read 100000 word
 
+-- D of twins: how many plies are compared, at most 131,071.
+abbrev pub twin_depth : List ℕ → Option ℕ
+twin_depth word = decimal_read 131071 word
+
 -- What stands before the first such byte, and what stands behind it.
 abbrev pub with_byte : ℕ → List ℕ × List ℕ → List ℕ × List ℕ
 with_byte byte parts = (byte ∷ parts.0, parts.1)

@@ -3,14 +3,14 @@ ghost use Rattle.std.specs.Prelude.{◌≡◌, ◌≤◌, ◌<◌, length, None,
 ghost use Rattle.std.specs.Option.{option_map};
 ghost use Rattle.cell_core.specs.Text.{IsZeroFree};
 ghost use Rattle.chess_text.specs.Filling.{board_named};
-ghost use Rattle.script_text.specs.Forms.{side, switch, mark_bit, filter_name, body_end};
-ghost use Rattle.script_text.specs.Numbers.{number, demo_games};
+ghost use Rattle.script_text.specs.Forms.{side, switch, mark_bit, filter_name, name_text, body_end};
+ghost use Rattle.script_text.specs.Numbers.{number, demo_games, twin_depth};
 ghost use Rattle.script_text.specs.Arguments.{text_at, no_more, one, two, three};
 ghost use Rattle.script_text.specs.declared.fault.ScriptFault.TheVariants.{Argument};
 
 use crate::fault::ScriptFault;
-use crate::forms::{board, body_end, filter_name, mark_bit, side, switch};
-use crate::numbers::{demo_games, number};
+use crate::forms::{board, body_end, filter_name, mark_bit, name_text, side, switch};
+use crate::numbers::{demo_games, number, twin_depth};
 use crate::words::Word;
 use cell_core::{Board, Colour};
 
@@ -83,6 +83,27 @@ pub(crate) fn one_name(words: &[Word]) -> Result<&[u8], ScriptFault>
     let name = filter_name(text_at(words, 1)?).ok_or(ScriptFault::Argument(1))?;
     no_more(words, 1)?;
     Ok(name)
+}
+
+/// A name of the base.
+#[tactic(auto, unfolding(crate::specs::Arguments::one))]
+pub(crate) fn one_text(words: &[Word]) -> Result<&[u8], ScriptFault>
+    ensures named { MatchResult result (λ name. one name_text words.now ≡ Ok name.now) (λ fault. one name_text words.now ≡ Err fault) }
+    ensures free { IfOk result (λ name. IsZeroFree name.now) }
+{
+    let name = name_text(text_at(words, 1)?).ok_or(ScriptFault::Argument(1))?;
+    no_more(words, 1)?;
+    Ok(name)
+}
+
+/// How many plies are compared.
+#[tactic(auto, unfolding(crate::specs::Arguments::one))]
+pub(crate) fn one_depth(words: &[Word]) -> Result<u32, ScriptFault>
+    ensures { result ≡ one twin_depth words.now }
+{
+    let depth = twin_depth(text_at(words, 1)?).ok_or(ScriptFault::Argument(1))?;
+    no_more(words, 1)?;
+    Ok(depth)
 }
 
 /// `<<WORD`

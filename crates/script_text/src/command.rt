@@ -57,6 +57,10 @@ pub enum Command {
     Mark(u64, u8, bool),
     /// `tree BOARD SIDE`
     Tree(Board, Colour),
+    /// `cross EVENT`
+    Cross(Text),
+    /// `twins D`, D at most 131,071.
+    Twins(u32),
     /// `save`
     Save,
     /// `compact`

@@ -1,12 +1,12 @@
 //! The forms of arguments: what a word stands for.
-ghost use Rattle.std.specs.Prelude.{◌≡◌, ◌≤◌, ◌<◌, IfSome, ◌==◌, length};
+ghost use Rattle.std.specs.Prelude.{◌≡◌, ◌≤◌, ◌<◌, IfSome, ◌==◌, length, not};
 ghost use Rattle.std.specs.List.{list_all, position_from};
 ghost use Rattle.std.specs.Option.{option_map};
 ghost use Rattle.std.specs.Bool.{OnTrue};
 ghost use Rattle.std.specs.Char.{is_ascii_alphanumeric};
 ghost use Rattle.chess_text.specs.Filling.{board_named};
 ghost use Rattle.cell_core.specs.Text.{IsZeroFree};
-ghost use Rattle.script_text.specs.Forms.{side, op, search_kind, mode, switch, answer, mark_bit, is_name_byte, filter_name, end_word, body_end};
+ghost use Rattle.script_text.specs.Forms.{side, op, search_kind, mode, switch, answer, mark_bit, is_name_byte, filter_name, name_text, end_word, body_end};
 
 use cell_core::{Board, Colour};
 use chess_text::read_board;
@@ -170,6 +170,22 @@ fn has_name_bytes_alone(word: &[u8]) -> bool
 {
     word.iter()
         .all(|byte| byte.is_ascii_alphanumeric() || *byte == b'_')
+}
+
+/// A name of the base, or the beginning of one: any bytes but zero.
+pub(crate) fn name_text(word: &[u8]) -> Option<&[u8]>
+    ensures named { option_map (λ name. name.now) result ≡ name_text word.now }
+    ensures free { IfSome result (λ name. IsZeroFree name.now) }
+{
+    if has_no_zero(word) { Some(word) } else { None }
+}
+
+// Whether no byte is zero.
+fn has_no_zero(bytes: &[u8]) -> bool
+    ensures same { result ≡ list_all (λ byte. not (byte == 0)) bytes.now }
+    ensures free { OnTrue result (IsZeroFree bytes.now) }
+{
+    bytes.iter().all(|byte| *byte != 0)
 }
 
 /// The word that ends a body, behind `<<`: 1 to 32 letters and digits.

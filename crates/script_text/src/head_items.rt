@@ -1,14 +1,12 @@
 //! The items of a search of heads.
-ghost use Rattle.std.specs.Prelude.{◌≡◌, ◌==◌, not, IfOk, IfErr, IfSome};
-ghost use Rattle.std.specs.List.{list_all};
-ghost use Rattle.std.specs.Bool.{OnTrue};
-ghost use Rattle.cell_core.specs.Text.{IsZeroFree};
-ghost use Rattle.script_text.specs.HeadItems.{name_text, number_span, name_item, span_item, head_item};
+ghost use Rattle.std.specs.Prelude.{◌≡◌, IfOk, IfErr, IfSome};
+ghost use Rattle.script_text.specs.Forms.{name_text};
+ghost use Rattle.script_text.specs.HeadItems.{number_span, name_item, span_item, head_item};
 ghost use Rattle.script_text.specs.Sound.{IsHeadQuery};
 ghost use Rattle.script_text.specs.declared.fault.CommandError.TheVariants.{Memory};
 
 use crate::fault::CommandError;
-use crate::forms::{answer, mark_bit};
+use crate::forms::{answer, mark_bit, name_text};
 use crate::numbers::{eco_span, span_within};
 use cell_core::Text;
 use game_tree::Outcome;
@@ -113,7 +111,7 @@ fn name_item(
     ensures bounds { IfOk result (λ longer. IsHeadQuery query → IfSome longer IsHeadQuery) }
     ensures memory { IfErr result (λ error. error ≡ Memory) }
 {
-    let Some(text) = name_text(alloc, value)? else {
+    let Some(text) = name_prefix(alloc, value)? else {
         return Ok(None);
     };
     if key == b"white".as_slice() {
@@ -143,23 +141,15 @@ fn name_item(
     Ok(None)
 }
 
-// The beginning of a name: any bytes but zero.
-fn name_text(alloc: Global, value: &[u8]) -> Result<Option<Text>, CommandError>
+// The beginning of a name, as a text.
+fn name_prefix(alloc: Global, value: &[u8]) -> Result<Option<Text>, CommandError>
     ensures text { IfOk result (λ text. text ≡ name_text value.now) }
     ensures memory { IfErr result (λ error. error ≡ Memory) }
 {
-    if !has_no_zero(value) {
-        return Ok(None);
+    match name_text(value) {
+        Some(name) => Ok(Some(Text::from_zero_free(Vec::from_slice(alloc, name)?))),
+        None => Ok(None),
     }
-    Ok(Some(Text::from_zero_free(Vec::from_slice(alloc, value)?)))
-}
-
-// Whether no byte is zero.
-fn has_no_zero(bytes: &[u8]) -> bool
-    ensures same { result ≡ list_all (λ byte. not (byte == 0)) bytes.now }
-    ensures free { OnTrue result (IsZeroFree bytes.now) }
-{
-    bytes.iter().all(|byte| *byte != 0)
 }
 
 // A span of numbers below 2^64.

@@ -1,6 +1,6 @@
 //! Numbers and spans of numbers.
 ghost use Rattle.std.specs.Prelude.{◌≡◌, ◌≤◌, Some, IfSome, option_map};
-ghost use Rattle.script_text.specs.Numbers.{number, demo_games, split_once, ends, span_within, eco_span, between};
+ghost use Rattle.script_text.specs.Numbers.{number, demo_games, twin_depth, split_once, ends, span_within, eco_span, between};
 
 use game_tree::{read_decimal, read_eco};
 use sig_index::Span;
@@ -18,6 +18,14 @@ pub(crate) fn demo_games(word: &[u8]) -> Option<u32>
 {
     let games = read_decimal(word, 100_000)?;
     Some(games as u32)
+}
+
+/// How many plies of two games `twins` compares, at most 131,071.
+pub(crate) fn twin_depth(word: &[u8]) -> Option<u32>
+    ensures { result ≡ twin_depth word.now }
+{
+    let depth = read_decimal(word, 131_071)?;
+    Some(depth as u32)
 }
 
 /// What stands before the first byte `at`, and what stands behind it.

@@ -8,8 +8,8 @@ ghost use Rattle.script_text.specs.Sound.{IsSound};
 ghost use Rattle.script_text.specs.declared.fault.CommandError.TheVariants.{Memory};
 
 use crate::arguments::{
-    board_and_side, demo_arguments, mark_arguments, no_more, number_and_body, one_body, one_name,
-    one_number, text_at, two_numbers,
+    board_and_side, demo_arguments, mark_arguments, no_more, number_and_body, one_body, one_depth,
+    one_name, one_number, one_text, text_at, two_numbers,
 };
 use crate::command::Command;
 use crate::fault::{CommandError, ScriptFault};
@@ -151,6 +151,9 @@ fn showing(alloc: Global, name: &[u8], words: &[Word]) -> Result<Command, Comman
         no_more(words, 0)?;
         return Ok(Command::Export);
     }
+    if name == b"cross".as_slice() {
+        return Ok(Command::Cross(text(alloc, one_text(words)?)?));
+    }
     if name == b"info".as_slice() {
         no_more(words, 0)?;
         return Ok(Command::Info);
@@ -193,6 +196,9 @@ fn ending(name: &[u8], words: &[Word]) -> Result<Command, ScriptFault>
     ensures exact { result ≡ ending name.now words.now }
     ensures bounds { IfOk result IsSound }
 {
+    if name == b"twins".as_slice() {
+        return Ok(Command::Twins(one_depth(words)?));
+    }
     if name == b"save".as_slice() {
         no_more(words, 0)?;
         return Ok(Command::Save);

@@ -25,7 +25,7 @@ fits_count old new filter saved count fits =
     record { filter = fits.filter ∙ sym count; saved = subst (λ (n : ℕ). All (λ (f : SavedFilter). length f.plies ≡ n) saved) (sym count) fits.saved }
 
 -- As many entries as places.
-same_count : (old new : Kept) → ChangedHeads old new → length new.entries ≡ length old.entries
+pub same_count : (old new : Kept) → ChangedHeads old new → length new.entries ≡ length old.entries
 same_count old new is = sym (length-map new.entries extent_of) ∙ ap (λ (x : List Extent). length x) is.extents ∙ length-map old.entries extent_of
 
 -- An edit of a game that is there.

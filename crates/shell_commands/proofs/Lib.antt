@@ -20,6 +20,9 @@ pub mod TagLaws
 pub mod SaveLaws
 pub mod CompactLaws
 pub mod TreeLaws
+pub mod CrossLaws
+pub mod UntaggedLaws
+pub mod TwinLaws
 pub mod SavedLaws
 pub mod AddLaws
 pub mod IntakeLaws

@@ -1,10 +1,14 @@
 -- What a line costs over what a machine holds is its price in the state that the machine stands for.
-use Rattle.std.proofs.Common.{◌≡◌, ◌≤◌, ◌+◌, ◌&&◌, ℕ, zero, suc, Bool, false, List, [], ◌∷◌, length, sum_by, slice_get, Option, Some, Ok, Err, refl, sym, ap, ap₂, ◌∙◌, arith, not, filter, inl, inr}
+use Rattle.std.proofs.Common.{◌≡◌, ◌≤◌, ◌+◌, ◌&&◌, ℕ, zero, suc, Bool, false, List, [], ◌∷◌, length, map, sum_by, slice_get, Option, Some, Ok, Err, refl, sym, ap, ap₂, ◌∙◌, arith, not, filter, inl, inr}
 use Rattle.std.proofs.lemmas.Bool.{cases_Bool}
 use Rattle.std.proofs.lemmas.List.Sums.{sum_by-cons}
 use Rattle.base_files.specs.Seen.{Seen}
 use Rattle.base_core.specs.Base.{Held}
-use Rattle.base_core.specs.Entries.{sig_in}
+use Rattle.base_core.specs.Entries.{head_of, sig_in}
+use Rattle.base_core.proofs.GamesLaws.{heads-are}
+use Rattle.game_tree.specs.Head.{without_tags}
+use Rattle.game_tree.specs.declared.head.Head.{Head}
+use Rattle.name_base.specs.NameLists.{NameLists}
 use Rattle.index_entry.specs.declared.entry.Entry.{Entry}
 use Rattle.game_filter.specs.Search.{looks_at}
 use Rattle.game_filter.specs.declared.op.Op.{Op}
@@ -12,15 +16,17 @@ use Rattle.game_filter.specs.declared.op.Op.TheVariants.{Ignore, And}
 use Rattle.mat_search.specs.Passing as material
 use Rattle.pos_search.specs.Passing as position
 use Rattle.script_text.specs.declared.command.Command.{Command}
-use Rattle.script_text.specs.declared.command.Command.TheVariants.{Find, SearchPosition, SearchMaterial, Show, Export, Tag, Tree, Demo, Compact}
+use Rattle.script_text.specs.declared.command.Command.TheVariants.{Find, SearchPosition, SearchMaterial, Show, Export, Tag, Tree, Twins, Demo, Compact}
 use Rattle.sig_index.specs.declared.signature.Sig.{Sig}
 use Rattle.shell_commands.specs.Do.{Order, command_price, filtered_len, is_demo, len_if_in, len_in, price, price_by, priced}
 use Rattle.shell_commands.specs.Passing.{len_if, searched_len, sig_of}
 use Rattle.shell_commands.specs.Searching.{exactly}
 use Rattle.shell_commands.specs.Stands.{Holding, Stands, cost}
 use Rattle.shell_commands.specs.State.{State}
+use Rattle.shell_commands.specs.Twins.{shared_len}
 use Rattle.compact_base.proofs.FirstLaws.{held-deleted}
 use Rattle.shell_commands.proofs.PassingLaws.{sig_is}
+use Rattle.shell_commands.proofs.UntaggedLaws.{shared_untagged}
 
 -- What the price of a command looks at: the length of a game's record, its signature, and whether it is deleted.
 record Alike (e : Entry) (held : Held) : Type 0 where
@@ -85,20 +91,41 @@ same_kept (e ∷ es) (held ∷ all) count each =
           ∙ (ap₂ (λ (m n : ℕ). m + n) (sym here.0) rest ∙ sym (sum_by-cons (λ (x : Held). x.len) held (filter (λ (x : Held). not x.head.deleted) all))))
     ]
 
-same_price : (command : Command) (plies : List (Option ℕ)) (es : List Entry) (all : List Held) → length es ≡ length all
+same_lens : (es : List Entry) (all : List Held) → length es ≡ length all
+    → ((i : ℕ) (e : Entry) (held : Held) → slice_get es i ≡ Some e → slice_get all i ≡ Some held → held.len ≡ e.len)
+    → map (λ (x : Entry). x.len) es ≡ map (λ (x : Held). x.len) all
+same_lens [] [] count each = refl
+same_lens [] (held ∷ all) count each = cc
+same_lens (e ∷ es) [] count each = cc
+same_lens (e ∷ es) (held ∷ all) count each =
+    let count' : length es ≡ length all = cc in
+    ap₂ (λ (n : ℕ) (ns : List ℕ). n ∷ ns) (sym (each zero e held refl refl)) (same_lens es all count' (λ i e' held' there here. each (suc i) e' held' there here))
+
+same_shared : (names : NameLists) (es : List Entry) (all : List Held) → length es ≡ length all
+    → ((i : ℕ) (e : Entry) (held : Held) → slice_get es i ≡ Some e → slice_get all i ≡ Some held → held.len ≡ e.len)
+    → map (λ (x : Entry). head_of names x []) es ≡ map (λ (x : Held). without_tags x.head) all
+    → shared_len (map (λ (x : Entry). head_of names x []) es) (map (λ (x : Entry). head_of names x []) es) (map (λ (x : Entry). x.len) es)
+    ≡ shared_len (map (λ (x : Held). x.head) all) (map (λ (x : Held). x.head) all) (map (λ (x : Held). x.len) all)
+same_shared names es all count each heads =
+    ap₂ (λ (hs : List Head) (lens : List ℕ). shared_len hs hs lens) heads (same_lens es all count each) ∙ shared_untagged all all (map (λ (x : Held). x.len) all)
+
+same_price : (names : NameLists) (command : Command) (plies : List (Option ℕ)) (es : List Entry) (all : List Held) → length es ≡ length all
     → ((i : ℕ) (e : Entry) (held : Held) → slice_get es i ≡ Some e → slice_get all i ≡ Some held → Alike e held)
-    → command_price (λ (x : Entry). x.len) sig_in (λ (x : Entry). x.deleted) es plies command ≡ command_price (λ (x : Held). x.len) (λ (x : Held). sig_of x.game) (λ (x : Held). x.head.deleted) all plies command
-same_price (Find board side) plies es all count each =
+    → map (λ (x : Entry). head_of names x []) es ≡ map (λ (x : Held). without_tags x.head) all
+    → command_price (λ (x : Entry). x.len) sig_in (λ (x : Entry). x.deleted) (λ (x : Entry). head_of names x []) es plies command
+    ≡ command_price (λ (x : Held). x.len) (λ (x : Held). sig_of x.game) (λ (x : Held). x.head.deleted) (λ (x : Held). x.head) all plies command
+same_price names (Find board side) plies es all count each heads =
     same_searched (λ (s : Sig). position.passes s (exactly board side)) Ignore plies es all count each
-same_price (SearchPosition op query) plies es all count each = same_searched (λ (s : Sig). position.passes s query) op plies es all count each
-same_price (SearchMaterial op query) plies es all count each = same_searched (λ (s : Sig). material.passes s query) op plies es all count each
-same_price (Show game) plies es all count each = same_shown game es all count (λ i e held there here. (each i e held there here).len)
-same_price (Tag game edit) plies es all count each = same_shown game es all count (λ i e held there here. (each i e held there here).len)
-same_price Export plies es all count each = same_filtered plies es all count (λ i e held there here. (each i e held there here).len)
-same_price (Tree board side) plies es all count each =
+same_price names (SearchPosition op query) plies es all count each heads = same_searched (λ (s : Sig). position.passes s query) op plies es all count each
+same_price names (SearchMaterial op query) plies es all count each heads = same_searched (λ (s : Sig). material.passes s query) op plies es all count each
+same_price names (Show game) plies es all count each heads = same_shown game es all count (λ i e held there here. (each i e held there here).len)
+same_price names (Tag game edit) plies es all count each heads = same_shown game es all count (λ i e held there here. (each i e held there here).len)
+same_price names Export plies es all count each heads = same_filtered plies es all count (λ i e held there here. (each i e held there here).len)
+same_price names (Tree board side) plies es all count each heads =
     same_searched (λ (s : Sig). position.passes s (exactly board side)) And plies es all count each
-same_price Compact plies es all count each = same_kept es all count (λ i e held there here. let alike = each i e held there here in (alike.len, alike.deleted))
-same_price _ plies es all count each = refl
+same_price names (Twins depth) plies es all count each heads = same_shared names es all count (λ i e held there here. (each i e held there here).len) heads
+same_price names Compact plies es all count each heads = same_kept es all count (λ i e held there here. let alike = each i e held there here in (alike.len, alike.deleted))
+same_price names _ plies es all count each heads = refl
 
 price-other : (s : State) (command : Command) → is_demo (Ok command) ≡ false → price_by s command ≡ priced s command
 price-other s (Demo seed games) other = absurd (cc)
@@ -106,11 +133,12 @@ price-other s _ other = refl
 
 pub cost_price : (holding : Holding) (seen : Seen) (s : State) (order : Order) → Stands holding seen s → is_demo order ≡ false → cost holding order ≡ price s order
 cost_price holding seen s (Ok command) stands other =
-    ap (λ (plies : List (Option ℕ)). command_price (λ (x : Entry). x.len) sig_in (λ (x : Entry). x.deleted) holding.kept.entries plies command) stands.filter
-    ∙ same_price command s.filter holding.kept.entries s.base.games stands.base.count
+    ap (λ (plies : List (Option ℕ)). command_price (λ (x : Entry). x.len) sig_in (λ (x : Entry). x.deleted) (λ (x : Entry). head_of holding.kept.names x []) holding.kept.entries plies command) stands.filter
+    ∙ same_price holding.kept.names command s.filter holding.kept.entries s.base.games stands.base.count
     (λ i e held there here.
     let keeps = stands.base.each i e held there here in
     record { len = keeps.says.len; sig = sig_is held.game (sig_in e) keeps.signed; deleted = held-deleted holding.kept.names stands.games e held keeps })
+    (heads-are holding.kept stands.games s.base stands.base)
     ∙ sym (price-other s command other)
 cost_price holding seen s (Err fault) stands other = refl
 

@@ -1,13 +1,14 @@
 -- What each line of a script does to a state, and the text that it writes: the plain machine. This project's own.
-use Rattle.std.specs.Prelude.{ℕ, ◌+◌, Bool, true, false, codes, List, [], ◌∷◌, slice_get, Option, Some, None, Result, Ok, Err, sum_by, filter, not}
+use Rattle.std.specs.Prelude.{ℕ, ◌+◌, Bool, true, false, codes, List, [], ◌∷◌, map, slice_get, Option, Some, None, Result, Ok, Err, sum_by, filter, not}
 use Rattle.cell_core.specs.declared.man.Colour.TheVariants.{White}
 use Rattle.chess_laws.specs.Position.{start_men}
 use Rattle.game_filter.specs.Filter.{intersection, union}
 use Rattle.game_filter.specs.declared.op.Op.TheVariants.{Ignore, And as Among}
+use Rattle.game_tree.specs.declared.head.Head.{Head}
 use Rattle.mat_search.specs.Passing as material
 use Rattle.pos_search.specs.Passing as position
 use Rattle.script_text.specs.declared.command.Command.{Command}
-use Rattle.script_text.specs.declared.command.Command.TheVariants.{Nothing, Find, SearchPosition, SearchMaterial, SearchHeader, Reset, Clear, Negate, Restrict, Keep, Take, And, Or, Drop, Hits, List as Listing, Show, Export, Import, Replace, Tag, Delete, Undelete, Mark, Tree, Save, Info, Demo, Quit, Compact}
+use Rattle.script_text.specs.declared.command.Command.TheVariants.{Nothing, Find, SearchPosition, SearchMaterial, SearchHeader, Reset, Clear, Negate, Restrict, Keep, Take, And, Or, Drop, Hits, List as Listing, Show, Export, Import, Replace, Tag, Delete, Undelete, Mark, Tree, Cross, Twins, Save, Info, Demo, Quit, Compact}
 use Rattle.script_text.specs.declared.fault.ScriptFault.{ScriptFault}
 use Rattle.script_text.specs.declared.fault.ScriptFault.TheVariants.{Unknown}
 use Rattle.command_runs.specs.Plain.{Plain}
@@ -25,6 +26,8 @@ use Rattle.shell_commands.specs.Editing.{delete_after, undelete_after, mark_afte
 use Rattle.shell_commands.specs.Saving.{save_after, save_text}
 use Rattle.shell_commands.specs.Compacting.{compact_after, compact_text}
 use Rattle.shell_commands.specs.Trees.{tree_said}
+use Rattle.shell_commands.specs.Crosstables.{cross_text}
+use Rattle.shell_commands.specs.Twins.{shared_len, twins_after, twins_text}
 use Rattle.shell_commands.specs.Demo.{adding, at_start, demo_after, demo_text, shown_after}
 
 -- A line of a script: the command that it says, or its first fault.
@@ -50,6 +53,7 @@ done_by s (Tag game edit) = tag_after s game edit
 done_by s (Delete game) = delete_after s game
 done_by s (Undelete game) = undelete_after s game
 done_by s (Mark game bit on) = mark_after s game bit on
+done_by s (Twins depth) = twins_after s depth
 done_by s Save = save_after s
 done_by s (Demo seed games) = demo_after s seed games
 done_by s Compact = compact_after s
@@ -80,6 +84,8 @@ said_by s (Delete game) = edit_text (codes "deleted ") s game
 said_by s (Undelete game) = edit_text (codes "undeleted ") s game
 said_by s (Mark game bit on) = edit_text (codes "marked ") s game
 said_by s (Tree board side) = tree_said s board side
+said_by s (Cross event) = cross_text s event
+said_by s (Twins depth) = twins_text s depth
 said_by s Save = save_text s
 said_by s (Demo seed games) = demo_text s seed games
 said_by s Compact = compact_text s
@@ -111,6 +117,7 @@ command_asks (Import word) = true
 command_asks (Replace game word) = true
 command_asks (Tag game edit) = true
 command_asks (Tree board side) = true
+command_asks (Twins depth) = true
 command_asks Save = true
 command_asks (Demo seed games) = true
 command_asks Compact = true
@@ -150,19 +157,20 @@ filtered_len len [] games = 0
 filtered_len len (ply ∷ plies) [] = 0
 filtered_len len (ply ∷ plies) (game ∷ games) = len_if_in ply (len game) + filtered_len len plies games
 
--- How many bytes of the games file a command asks at most, by what has the lengths of the games' records, their signatures and whether they
--- are deleted: those of the games that are looked at and can match, of the game that is shown or tagged, of the games that are exported, of
--- the games that stay.
-abbrev pub command_price : {A : Type 0} → (A → ℕ) → (A → Sig) → (A → Bool) → List A → List (Option ℕ) → Command → ℕ
-command_price len sig gone games plies (Find board side) = searched_len len (λ game. position.passes (sig game) (exactly board side)) Ignore plies games
-command_price len sig gone games plies (SearchPosition op query) = searched_len len (λ game. position.passes (sig game) query) op plies games
-command_price len sig gone games plies (SearchMaterial op query) = searched_len len (λ game. material.passes (sig game) query) op plies games
-command_price len sig gone games plies (Show game) = len_in len (slice_get games game)
-command_price len sig gone games plies (Tag game edit) = len_in len (slice_get games game)
-command_price len sig gone games plies Export = filtered_len len plies games
-command_price len sig gone games plies (Tree board side) = searched_len len (λ game. position.passes (sig game) (exactly board side)) Among plies games
-command_price len sig gone games plies Compact = sum_by len (filter (λ game. not (gone game)) games)
-command_price len sig gone games plies _ = 0
+-- How many bytes of the games file a command asks at most, by what has the lengths of the games' records, their signatures, whether they are
+-- deleted, and their heads: those of the games that are looked at and can match, of the game that is shown or tagged, of the games that are
+-- exported, of those that may be twins, of the games that stay.
+abbrev pub command_price : {A : Type 0} → (A → ℕ) → (A → Sig) → (A → Bool) → (A → Head) → List A → List (Option ℕ) → Command → ℕ
+command_price len sig gone head games plies (Find board side) = searched_len len (λ game. position.passes (sig game) (exactly board side)) Ignore plies games
+command_price len sig gone head games plies (SearchPosition op query) = searched_len len (λ game. position.passes (sig game) query) op plies games
+command_price len sig gone head games plies (SearchMaterial op query) = searched_len len (λ game. material.passes (sig game) query) op plies games
+command_price len sig gone head games plies (Show game) = len_in len (slice_get games game)
+command_price len sig gone head games plies (Tag game edit) = len_in len (slice_get games game)
+command_price len sig gone head games plies Export = filtered_len len plies games
+command_price len sig gone head games plies (Tree board side) = searched_len len (λ game. position.passes (sig game) (exactly board side)) Among plies games
+command_price len sig gone head games plies (Twins depth) = shared_len (map head games) (map head games) (map len games)
+command_price len sig gone head games plies Compact = sum_by len (filter (λ game. not (gone game)) games)
+command_price len sig gone head games plies _ = 0
 
 -- Whether a line is `demo`, which searches what it added.
 abbrev pub is_demo : Order → Bool
@@ -172,7 +180,7 @@ is_demo (Err fault) = false
 
 -- What a command costs in a state.
 abbrev pub priced : State → Command → ℕ
-priced s command = command_price (λ held. held.len) (λ held. sig_of held.game) (λ held. held.head.deleted) s.base.games s.filter command
+priced s command = command_price (λ held. held.len) (λ held. sig_of held.game) (λ held. held.head.deleted) (λ held. held.head) s.base.games s.filter command
 
 -- The initial position is searched among all games, and its tree is that of the games that it leaves in.
 abbrev pub shown_price : State → ℕ

@@ -1,6 +1,8 @@
 -- Why a part of a command ends early. Only private functions cite this.
-use Rattle.std.specs.Prelude.{◌≡◌, ◌⊎◌, ⊤, ℕ, codes, List, [], ◌++◌, Option, Result, Ok, Err}
+use Rattle.std.specs.Prelude.{◌≡◌, ◌⊎◌, ⊤, ℕ, codes, List, [], ◌∷◌, ◌++◌, Option, Result, Ok, Err}
 use Rattle.base_core.specs.Base.{Held}
+use Rattle.base_core.specs.Edited.{ChangedHeads, Does}
+use Rattle.base_core.specs.Represents.{Kept}
 use Rattle.base_core.specs.declared.fault.EditError.{EditError}
 use Rattle.base_core.specs.declared.fault.EditError.TheVariants as edit
 use Rattle.base_files.specs.Told.{adds}
@@ -16,8 +18,11 @@ use Rattle.pgn_read.specs.declared.error.PgnError.TheVariants as pgn
 use Rattle.shell_commands.specs.Editing.{full_line, full_words, too_long_line, too_long_words}
 use Rattle.shell_commands.specs.GameTexts.{ExportCut, exported}
 use Rattle.shell_commands.specs.Importing.{item_line}
+use Rattle.shell_commands.specs.Twins.{all_deleted}
 use Rattle.sig_index.specs.declared.games.FetchError.{FetchError}
 use Rattle.sig_index.specs.declared.games.FetchError.TheVariants as fetch
+use Rattle.twin_games.specs.declared.fault.TwinError.{TwinError}
+use Rattle.twin_games.specs.declared.fault.TwinError.TheVariants as twins
 use Rattle.shell_commands.specs.declared.halt.Halt.{Halt}
 use Rattle.shell_commands.specs.declared.halt.Halt.TheVariants as halt
 
@@ -113,3 +118,13 @@ refused_item number error = Err (halt_of error)
 abbrev pub unread_halt : PgnError → Halt
 unread_halt pgn.Failed = halt.Device stop.Read
 unread_halt pgn.Memory = halt.Device stop.Memory
+
+-- How a command ends whose twins are not known.
+abbrev pub halt_of_twins : TwinError → Halt
+halt_of_twins (twins.Fetch error) = halt_of_fetch error
+halt_of_twins twins.Memory = halt.Device stop.Memory
+
+-- All these games were marked as deleted, if there are any.
+abbrev pub Marked : List ℕ → Kept → Kept → Type 0
+Marked [] old new = new ≡ old
+Marked (game ∷ games) old new = Does (all_deleted (game ∷ games)) old new × ChangedHeads old new

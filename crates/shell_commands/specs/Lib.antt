@@ -8,6 +8,8 @@ pub mod Showing
 pub mod Listing
 pub mod GameTexts
 pub mod Trees
+pub mod Crosstables
+pub mod Twins
 pub mod Demo
 pub mod Do
 pub mod Stands

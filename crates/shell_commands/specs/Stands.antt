@@ -1,11 +1,11 @@
 -- How the machine stands for a plain state, beside the files of its base. This project's own.
-use Rattle.std.specs.Prelude.{◌≡◌, ◌⊎◌, ℕ, Bool, false, IsTrue, ⊤, ◌&&◌, List, All, length, slice_get, Option, Some, None, Ok, Err}
+use Rattle.std.specs.Prelude.{◌≡◌, ◌⊎◌, ℕ, Bool, false, IsTrue, ⊤, ◌&&◌, List, [], All, length, slice_get, Option, Some, None, Ok, Err}
 use Rattle.std.specs.Bool.{MatchBool}
 use Rattle.base_files.specs.Seen.{Seen}
 use Rattle.base_files.specs.declared.faults.Stop.TheVariants as stop
 use Rattle.base_core.specs.Base.{Base}
 use Rattle.base_core.specs.Compacted.{compacted}
-use Rattle.base_core.specs.Entries.{sig_in}
+use Rattle.base_core.specs.Entries.{head_of, sig_in}
 use Rattle.base_core.specs.Represents.{Kept, Represents, IsSound}
 use Rattle.base_core.specs.Means.{Means}
 use Rattle.block_store.specs.Placing.{IsEnd}
@@ -105,7 +105,7 @@ tree_len query plies entries = searched_len (λ e. e.len) (λ e. passes (sig_in 
 
 -- How many bytes of the games file a line asks at most.
 abbrev pub cost : Holding → Order → ℕ
-cost holding (Ok command) = command_price (λ e. e.len) sig_in (λ e. e.deleted) holding.kept.entries holding.filter command
+cost holding (Ok command) = command_price (λ e. e.len) sig_in (λ e. e.deleted) (λ e. head_of holding.kept.names e []) holding.kept.entries holding.filter command
 cost holding (Err fault) = 0
 
 -- A base was opened or created, beside files that are told: what is kept stands for it, without changes, and the files mean it or are empty.

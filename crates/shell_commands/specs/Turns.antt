@@ -2,7 +2,7 @@
 use Rattle.std.specs.Prelude.{◌≡◌, ◌<◌, Bool, true, false, Ok, Err, length}
 use Rattle.script_text.specs.declared.command.Command.TheVariants as command
 use Rattle.shell_commands.specs.declared.serving.Turn.{Turn}
-use Rattle.shell_commands.specs.declared.serving.Turn.TheVariants.{Line, Find, Position, Material, Hits, List, Show, Export, Tag, Tree, Save, Demo, Compact}
+use Rattle.shell_commands.specs.declared.serving.Turn.TheVariants.{Line, Find, Position, Material, Hits, List, Show, Export, Tag, Tree, Twins, Save, Demo, Compact}
 use Rattle.shell_commands.specs.Do.{Order, is_demo}
 use Rattle.shell_commands.specs.Stands.{Holding, Quiet}
 
@@ -24,6 +24,7 @@ IsTurn old order new (Show game) = (order ≡ Ok (command.Show game)) × ((game 
 IsTurn old order new Export = (order ≡ Ok command.Export) × (new ≡ old)
 IsTurn old order new (Tag game edit) = (order ≡ Ok (command.Tag game edit.now)) × ((game < length old.kept.entries) × (new ≡ old))
 IsTurn old order new (Tree board side) = (order ≡ Ok (command.Tree board.now side)) × (new ≡ old)
+IsTurn old order new (Twins depth) = (order ≡ Ok (command.Twins depth)) × (new ≡ old)
 IsTurn old order new Save = (order ≡ Ok command.Save) × (new ≡ old)
 IsTurn old order new (Demo seed games) = (order ≡ Ok (command.Demo seed games)) × (new ≡ old)
 IsTurn old order new Compact = (order ≡ Ok command.Compact) × (new ≡ old)

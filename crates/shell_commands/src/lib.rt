@@ -2,6 +2,7 @@
 #![tactic(auto)]
 
 mod compacting;
+mod crosstables;
 mod demoing;
 mod editing;
 mod filters;
@@ -23,6 +24,7 @@ mod serving;
 mod showing;
 mod tagging;
 mod trees;
+mod twins;
 
 pub use halt::Halt;
 pub use machine::Machine;

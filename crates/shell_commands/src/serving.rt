@@ -15,6 +15,7 @@ ghost use Rattle.shell_commands.specs.Tasks.{BrokenTask, tasks};
 ghost use Rattle.shell_commands.specs.Turns.{IsTurn};
 
 use crate::compacting::compact;
+use crate::crosstables::cross;
 use crate::demoing::demo;
 use crate::editing::{delete, mark, undelete};
 use crate::filters::{and, clear, drop_filter, keep_filter, negate, or, reset, restrict, take};
@@ -33,6 +34,7 @@ use crate::saving::save;
 use crate::showing::{info, quit};
 use crate::tagging::{tag, tag_turn};
 use crate::trees::tree;
+use crate::twins::twins;
 use base_files::{Files, Sink, Source, Stop};
 use cell_core::{Board, Colour};
 use command_runs::write_text;
@@ -58,6 +60,7 @@ pub(crate) enum Turn<'a> {
     Export,
     Tag(u32, &'a TagEdit),
     Tree(&'a Board, Colour),
+    Twins(u32),
     Save,
     Demo(u64, u32),
     Compact,
@@ -106,6 +109,7 @@ pub fn serve<F: Files, K: Sink>(
         Ok(Turn::Export) => export(alloc, machine, files, out),
         Ok(Turn::Tag(i, edit)) => tag(alloc, machine, files, out, i, edit),
         Ok(Turn::Tree(board, side)) => tree(alloc, machine, files, out, board, side),
+        Ok(Turn::Twins(depth)) => twins(alloc, machine, files, out, depth),
         Ok(Turn::Save) => save(alloc, machine, files, out),
         Ok(Turn::Demo(seed, games)) => demo(alloc, machine, files, out, seed, games),
         Ok(Turn::Compact) => compact(alloc, machine, files, out),
@@ -208,6 +212,8 @@ fn take_turn<'a>(
             Ok(Turn::Line(mark(alloc, machine, *number, *bit, *on)?))
         }
         Command::Tree(board, side) => Ok(Turn::Tree(board, *side)),
+        Command::Cross(event) => Ok(Turn::Line(cross(alloc, machine, event)?)),
+        Command::Twins(depth) => Ok(Turn::Twins(*depth)),
         Command::Save => Ok(Turn::Save),
         Command::Compact => Ok(Turn::Compact),
         Command::Demo(seed, games) => Ok(Turn::Demo(*seed, *games)),

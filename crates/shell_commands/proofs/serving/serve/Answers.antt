@@ -54,6 +54,10 @@ pub returns-in-Ok-Tree-clause-carries : goal.returns-in-Ok-Tree-clause-carries
 returns-in-Ok-Tree-clause-carries g c = λ s st.
     if_err c.tree.result _ (carry_same c.args.machine.now (g.F.Files.seen c.args.files.now) (g.F.Files.seen c.tree.new.files) s c.args.order.now c.tree.ensures.unchanged st)
 
+pub returns-in-Ok-Twins-clause-carries : goal.returns-in-Ok-Twins-clause-carries
+returns-in-Ok-Twins-clause-carries g c = λ s st.
+    if_err c.twins.result _ (carry_same c.args.machine.now (g.F.Files.seen c.args.files.now) (g.F.Files.seen c.twins.new.files) s c.args.order.now c.twins.ensures.unchanged st)
+
 pub returns-in-Err-clause-carries : goal.returns-in-Err-clause-carries
 returns-in-Err-clause-carries g c = λ s st. carry_of c.args.machine.now (g.F.Files.seen c.args.files.now) s c.args.order.now st
 

@@ -1,0 +1,3 @@
+pub mod Crosstable
+pub mod Causes
+pub mod Keeping

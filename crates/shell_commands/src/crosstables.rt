@@ -1,0 +1,35 @@
+//! The command that writes the crosstable of an event.
+ghost use Rattle.std.specs.Prelude.{◌≡◌, IfOk, Ok};
+ghost use Rattle.script_text.specs.declared.command.Command.TheVariants as command;
+ghost use Rattle.shell_commands.specs.Crosstables.{cross_of};
+ghost use Rattle.shell_commands.specs.Stands.{Fits, Quiet};
+
+use crate::lines::error_line;
+use crate::machine::Machine;
+use cell_core::Text;
+use cross_table::CrossError;
+use sig_index::Games;
+use std::alloc::{AllocError, Global};
+
+// cross EVENT
+pub(crate) fn cross(alloc: Global, machine: &Machine, event: &Text) -> Result<Vec<u8>, AllocError>
+    requires fits { Fits machine.now }
+    ensures quiet { IfOk result (λ text. Quiet machine.now (Ok (command.Cross event.now)) machine.now text.items) }
+{
+    text_of(alloc, &machine.base, event.as_bytes())
+}
+
+// The text of the crosstable of an event.
+fn text_of<G: Games>(alloc: Global, games: &G, event: &[u8]) -> Result<Vec<u8>, AllocError>
+    ensures text { IfOk result (λ text. text.items ≡ cross_of event.now (G.heads games.now)) }
+{
+    match cross_table::cross(alloc, games, event) {
+        Ok(table) => {
+            let mut text = Vec::new(alloc);
+            table.write(&mut text)?;
+            Ok(text)
+        }
+        Err(CrossError::TooMany(_)) => error_line(alloc, b"too many players"),
+        Err(CrossError::Memory) => Err(AllocError),
+    }
+}

@@ -1,0 +1,7 @@
+mod RangeLemmas
+pub mod TestLemmas
+mod KeyLemmas
+pub mod CountLemmas
+mod MeetLemmas
+mod LineLemmas
+mod ListLemmas

@@ -1,0 +1,4 @@
+pub mod Twins
+pub mod Asking
+pub mod Causes
+pub mod Keys
