@@ -1,0 +1,4 @@
+pub mod Table
+pub mod Cutting
+pub mod Reading
+pub mod Kept

@@ -1,0 +1,63 @@
+-- What table a text is, or its first fault in the order of lines and then of words (this project's own).
+use Rattle.std.specs.Prelude.{ℕ, ◌+◌, nat_le, if◌then◌else◌, List, [], ◌∷◌, ◌++◌, length, Option, Some, None, Result, Ok, Err}
+use Rattle.chess_laws.specs.Position.{start_setup}
+use Rattle.chess_laws.specs.Step.{stepped}
+use Rattle.chess_laws.specs.declared.setup.Setup.{Setup}
+use Rattle.chess_text.specs.SanAnswer.{san_answer}
+use Rattle.chess_text.specs.declared.fault.SanFault.{SanFault}
+use Rattle.game_tree.specs.Eco.{eco_read}
+use Rattle.eco_class.specs.Cutting.{is_comment, lines_of, without_return, words_of}
+use Rattle.eco_class.specs.Table.{Opening, line_at}
+use Rattle.eco_class.specs.declared.fault.EcoFault.{EcoFault}
+use Rattle.eco_class.specs.declared.fault.EcoWhat.{EcoWhat}
+use Rattle.eco_class.specs.declared.fault.EcoWhat.TheVariants.{Code, Lines, San, Twice}
+
+-- What follows an answer, where it is no fault.
+abbrev pub and_then : {A B E : Type 0} → Result A E → (A → Result B E) → Result B E
+and_then (Ok value) next = next value
+and_then (Err fault) next = Err fault
+
+-- The position after the moves that these words are in Standard Algebraic Notation, or the fault of the first word that is none.
+unfoldable pub played : Setup → List (List ℕ) → Result Setup SanFault
+played p [] = Ok p
+played p (word ∷ words) = and_then (san_answer p word) (λ m. played (stepped p m) words)
+
+-- The fault of a line, and the line that ends at a position.
+abbrev pub fault_in : ℕ → EcoWhat → Result (List Opening) EcoFault
+fault_in number what = Err (record { line = number; what = what })
+
+abbrev pub opening : ℕ → ℕ → Setup → Opening
+opening number code p = record { line = number; code = code; board = p.board; side = p.side }
+
+-- The table with one more line, unless an earlier one, with this number, ends on the same board with the same side to move.
+abbrev pub joined : List Opening → Opening → Option ℕ → Result (List Opening) EcoFault
+joined table opening None = Ok (table ++ opening ∷ [])
+joined table opening (Some earlier) = fault_in opening.line (Twice earlier)
+
+abbrev pub with_place : List Opening → ℕ → ℕ → Result Setup SanFault → Result (List Opening) EcoFault
+with_place table number code (Err fault) = fault_in number (San fault)
+with_place table number code (Ok p) = joined table (opening number code p) (line_at table p.board p.side)
+
+-- The table with the line of this number, which is this code, if it is one, and then the words of these moves. A table has at most 65,536
+-- lines with a code.
+abbrev pub with_code : List Opening → ℕ → List (List ℕ) → Option ℕ → Result (List Opening) EcoFault
+with_code table number moves None = fault_in number Code
+with_code table number moves (Some code) =
+    if nat_le 65536 (length table) then fault_in number Lines else with_place table number code (played start_setup moves)
+
+abbrev pub with_words : List Opening → ℕ → List (List ℕ) → Result (List Opening) EcoFault
+with_words table number [] = Ok table
+with_words table number (first ∷ moves) = with_code table number moves (eco_read first)
+
+-- The table with one more line: a comment and a line without words add nothing.
+unfoldable pub with_line : List Opening → ℕ → List ℕ → Result (List Opening) EcoFault
+with_line table number line = if is_comment line then Ok table else with_words table number (words_of (without_return line))
+
+-- The table with these lines, the first of which has this number.
+unfoldable pub with_lines : List Opening → ℕ → List (List ℕ) → Result (List Opening) EcoFault
+with_lines table number [] = Ok table
+with_lines table number (line ∷ lines) = and_then (with_line table number line) (λ next. with_lines next (number + 1) lines)
+
+-- The table of a text. Lines count from 1, all lines included.
+abbrev pub table_of : List ℕ → Result (List Opening) EcoFault
+table_of text = with_lines [] 1 (lines_of text)
