@@ -59,7 +59,7 @@ each_in range counts all (suc (suc (suc (suc (suc (suc (suc (suc zero)))))))) le
 each_in range counts all (suc (suc (suc (suc (suc (suc (suc (suc (suc zero))))))))) less = (counts_ten range counts all).t9
 each_in range counts all (suc (suc (suc (suc (suc (suc (suc (suc (suc (suc place)))))))))) less = absurd (omega (arith, less))
 
-at_least : (range : MatRange) (counts : List ℕ) → in_range range counts ≡ true → (place : ℕ) → place < 10 → slice_index range.lo place ≤ slice_index counts place
+pub at_least : (range : MatRange) (counts : List ℕ) → in_range range counts ≡ true → (place : ℕ) → place < 10 → slice_index range.lo place ≤ slice_index counts place
 at_least range counts all place less =
     leb-true (slice_index range.lo place) (slice_index counts place)
     (and_parts (leb (slice_index range.lo place) (slice_index counts place)) (leb (slice_index counts place) (slice_index range.hi place)) (each_in range counts all place less)).0

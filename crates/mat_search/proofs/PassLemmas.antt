@@ -10,11 +10,13 @@ use Rattle.sig_index.specs.declared.mat_query.MatQuery.{MatQuery}
 use Rattle.sig_index.specs.declared.mat_query.MatRange.{MatRange}
 use Rattle.sig_index.specs.declared.signature.Sig.{Sig}
 use Rattle.sig_index.specs.Signature.{IsSig}
+use Rattle.sig_index.specs.Having.{can_have}
 use Rattle.sig_index.specs.Skipping.{can_stand}
+use Rattle.sig_index.proofs.HavingLemmas as having
 use Rattle.sig_index.proofs.SkippingLemmas.{skipping_sound}
 use Rattle.mat_search.specs.Matching.{counts_at, exchanged, in_range, is_streak, matches_at}
-use Rattle.mat_search.specs.Passing.{can_match, is_long, passes}
-use Rattle.mat_search.proofs.ComingLemmas.{at_most}
+use Rattle.mat_search.specs.Passing.{can_be_in, can_match, is_long, passes}
+use Rattle.mat_search.proofs.ComingLemmas.{at_least, at_most}
 
 -- ---- what a match is
 
@@ -56,9 +58,11 @@ long lo plies ply all sig from within is = elim (cases_lt all 1023) [
 ]
 
 stands : (range : MatRange) (game : GameTree) (sig : Sig) (ply plies : ℕ) → 1 ≤ plies → Sound game.start → IsLegalGame game → IsSig game sig
-    → Begins range game ply plies → can_stand sig range ≡ true
+    → Begins range game ply plies → can_be_in sig range ≡ true
 stands range game sig ply plies some sound legal is streak =
-    skipping_sound game sig range ply sound legal is (omega (arith, streak.within, some)) (at_most range (counts_at game ply) streak.here)
+    and_from (can_stand sig range) (can_have sig range)
+    (skipping_sound game sig range ply sound legal is (omega (arith, streak.within, some)) (at_most range (counts_at game ply) streak.here))
+    (having.skipping_sound game sig range ply sound legal is (at_least range (counts_at game ply) streak.here))
 
 passed : (query : MatQuery) (game : GameTree) (sig : Sig) (ply : ℕ) → query.ply_lo ≤ ply → ply + query.streak - 1 ≤ plies_of game → IsSig game sig
     → can_match sig query ≡ true → passes sig query ≡ true
@@ -74,14 +78,14 @@ match_passes query game sig ply some sound legal is holds =
       | inl own ↦
           let streak = begins query.range game ply query.streak some own in
           passed query game sig ply m.lo streak.within is
-          (or_left (can_stand sig query.range) (query.swap && can_stand sig (exchanged query.range))
+          (or_left (can_be_in sig query.range) (query.swap && can_be_in sig (exchanged query.range))
           (stands query.range game sig ply query.streak some sound legal is streak))
       | inr both ↦
           let parts = and_parts query.swap (is_streak (exchanged query.range) game ply query.streak) both in
           let streak = begins (exchanged query.range) game ply query.streak some parts.1 in
           passed query game sig ply m.lo streak.within is
-          (or_right (can_stand sig query.range) (query.swap && can_stand sig (exchanged query.range))
-          (and_from query.swap (can_stand sig (exchanged query.range)) parts.0
+          (or_right (can_be_in sig query.range) (query.swap && can_be_in sig (exchanged query.range))
+          (and_from query.swap (can_be_in sig (exchanged query.range)) parts.0
           (stands (exchanged query.range) game sig ply query.streak some sound legal is streak)))
     ]
 

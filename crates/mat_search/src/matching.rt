@@ -1,9 +1,9 @@
 //! What a search of counts of men asks of one position, and of a signature.
 ghost use Rattle.std.specs.Prelude.{◌≡◌, ◌<◌, ◌≤◌};
 ghost use Rattle.mat_search.specs.Matching.{count_in, exchanged, in_range, other_bounds};
-ghost use Rattle.mat_search.specs.Passing.{can_match, is_long, passes};
+ghost use Rattle.mat_search.specs.Passing.{can_be_in, can_match, is_long, passes};
 
-use sig_index::{MatQuery, MatRange, Sig, can_stand};
+use sig_index::{MatQuery, MatRange, Sig, can_have, can_stand};
 
 /// Whether a game with this signature can match: where it cannot, no ply of its main line matches. A streak has at least one ply.
 #[tactic(auto, unfolding(crate::specs::Passing::passes))]
@@ -22,11 +22,18 @@ fn is_long(s: &Sig, q: &MatQuery) -> bool
     u64::from(q.ply_lo) + u64::from(q.streak) - 1 <= u64::from(s.plies) || s.plies == 1023
 }
 
-// Whether the counts can have stood in the range, or with `swap` in the exchanged one.
+// Whether the counts can have stood in the query's range, or with `swap` in the exchanged one.
 fn can_match(s: &Sig, q: &MatQuery) -> bool
     ensures { result ≡ can_match s.now q.now }
 {
-    can_stand(s, &q.range) || q.swap && can_stand(s, &exchanged(&q.range))
+    can_be_in(s, &q.range) || q.swap && can_be_in(s, &exchanged(&q.range))
+}
+
+// Whether the counts can have stood in the range.
+fn can_be_in(s: &Sig, range: &MatRange) -> bool
+    ensures { result ≡ can_be_in s.now range.now }
+{
+    can_stand(s, range) && can_have(s, range)
 }
 
 // The range with the colours exchanged.

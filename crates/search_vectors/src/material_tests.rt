@@ -37,16 +37,22 @@ fn signatures_that_rule_a_game_out(rt: HostRuntime) {
         plies: 1023,
         ..OPENING
     };
+    let other_start = Sig {
+        own_start: true,
+        ..OPENING
+    };
     assert!(rt; !can_have(&OPENING, 0, (0, 0), 0), "a queen from nowhere");
     assert!(rt; can_have(&promoted, 0, (0, 0), 0));
     assert!(rt;
         !can_have(&promoted, 1, (0, 1), 0),
         "a rook of an underpromotion"
     );
-    assert!(rt;
-        can_have(&OPENING, 4, (9, 16), 0),
-        "the last counts have no least"
-    );
+    assert!(rt; !can_have(&promoted, 4, (9, 16), 0), "nine pawns");
+    assert!(rt; !can_have(&OPENING, 0, (2, 16), 0), "a second queen");
+    assert!(rt; can_have(&promoted, 0, (9, 16), 0), "eight queens more");
+    assert!(rt; !can_have(&promoted, 0, (10, 16), 0), "nine queens more");
+    assert!(rt; !can_have(&promoted, 8, (3, 16), 0), "a third knight");
+    assert!(rt; can_have(&other_start, 8, (3, 16), 0));
     assert!(rt; can_have(&OPENING, 4, (0, 16), 3));
     assert!(rt; !can_have(&OPENING, 4, (0, 16), 4), "three plies");
     assert!(rt; can_have(&long, 4, (0, 16), 2000));

@@ -15,7 +15,7 @@ use Rattle.sig_index.specs.Coming.{AreAtLeast, can_come, colour_can_come, lack}
 use Rattle.sig_index.proofs.Paying.{Pays, rose}
 use Rattle.sig_index.proofs.SkippingLemmas.{game-pays}
 
-lacked : (lo old new : ℕ) → lo ≤ new → lo - old ≤ new - old
+pub lacked : (lo old new : ℕ) → lo ≤ new → lo - old ≤ new - old
 lacked lo old new h = omega arith
 
 sums : (q r b n q' r' b' n' w w' p : ℕ) → q ≤ q' → r ≤ r' → b ≤ b' → n ≤ n' → w ≤ w' → q' + (r' + b' + n') + w' ≤ p → q + (r + b + n) + w ≤ p

@@ -12,6 +12,7 @@ pub mod AllowLemmas
 pub mod PrefixLemmas
 pub mod OneLeaves
 pub mod ComingLemmas
+pub mod HavingLemmas
 pub mod RecordLemmas
 pub mod CostLemmas
 pub mod LookingLemmas

@@ -29,7 +29,7 @@ game-pays game i j sound legal h = line-pays game.start game.line i j sound lega
 cut_rise : (old new bound : ℕ) → old ≤ bound → min new 3 - bound ≤ new - old
 cut_rise old new bound h = omega arith
 
-or_zero : (t : Bool) (n : ℕ) → (t ≡ false → n ≡ 0) → (t || eqb n 0) ≡ true
+pub or_zero : (t : Bool) (n : ℕ) → (t ≡ false → n ≡ 0) → (t || eqb n 0) ≡ true
 or_zero true n h = refl
 or_zero false n h = ap (λ k. eqb k 0) (h refl)
 
@@ -52,13 +52,13 @@ record Cut (sig : Sig) (range : MatRange) (queens : ℕ) (old new : Men) (c : Co
   final : slice_index sig.material (queens + 4) ≡ count_of new c Pawn
   pawns : count_of old c Pawn ≤ slice_index range.hi (queens + 4)
 
-sum3 : (x y z x' y' z' : ℕ) → x ≤ x' → y ≤ y' → z ≤ z' → x + y + z ≤ x' + y' + z'
+pub sum3 : (x y z x' y' z' : ℕ) → x ≤ x' → y ≤ y' → z ≤ z' → x + y + z ≤ x' + y' + z'
 sum3 x y z x' y' z' h i j = omega arith
 
-sum2 : (x y x' y' : ℕ) → x ≤ x' → y ≤ y' → x + y ≤ x' + y'
+pub sum2 : (x y x' y' : ℕ) → x ≤ x' → y ≤ y' → x + y ≤ x' + y'
 sum2 x y x' y' h i = omega arith
 
-below_zero : (x y : ℕ) → x ≤ y → y ≡ 0 → x ≡ 0
+pub below_zero : (x y : ℕ) → x ≤ y → y ≡ 0 → x ≡ 0
 below_zero x y h i = omega arith
 
 paid_within : (x y w f p h : ℕ) → x ≤ y → y + f ≤ p → w ≡ f → p ≤ h → x + w ≤ h

@@ -8,4 +8,5 @@ pub mod Left
 pub mod Skipping
 pub mod Homes
 pub mod Coming
+pub mod Having
 pub mod Costs

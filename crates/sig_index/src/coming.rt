@@ -36,7 +36,7 @@ fn colour_can_come(r: &MatRange, counts: &[u8; 10], queens: usize) -> bool
 }
 
 // How many men of a kind are missing to the least that the range allows.
-fn lack(r: &MatRange, counts: &[u8; 10], place: usize) -> u32
+pub(crate) fn lack(r: &MatRange, counts: &[u8; 10], place: usize) -> u32
     requires { place < 10 }
     ensures lack { result ≡ lack r.now counts.now place }
     ensures few { result ≤ 255 }

@@ -3,6 +3,7 @@
 
 mod coming;
 mod games;
+mod having;
 mod head_query;
 mod homes;
 mod laws;
@@ -15,6 +16,7 @@ mod span;
 
 pub use coming::{can_come, missing_men_are_promoted};
 pub use games::{FetchError, Games, HeadName};
+pub use having::{can_have, start_men_skipping_is_sound};
 pub use head_query::HeadQuery;
 pub use homes::{home_allows, home_pawn_skipping_is_sound};
 pub use laws::{held_records_stay, pawns_leave_once};
