@@ -51,8 +51,8 @@ sig-bounded names end e is = record {
 pub at-all : {X : Type 0} (P : X → Type 0) (xs : List X) (i : ℕ) (x : X) → All P xs → slice_get xs i ≡ Some x → P x
 at-all P xs i x all at = subst P (get_or_from_slice_get xs i x x at) (all i x (slice_get_within xs i x at))
 
-pub named-at : (kept : Kept) (i : ℕ) (e : Entry) → IsSound kept → slice_get kept.entries i ≡ Some e → HasNames kept.names e
-named-at kept i e sound at = (at-all (IsKept kept.names kept.end) kept.entries i e sound.entries at).named
+pub kept-at : (kept : Kept) (i : ℕ) (e : Entry) → IsSound kept → slice_get kept.entries i ≡ Some e → IsKept kept.names kept.end e
+kept-at kept i e sound at = at-all (IsKept kept.names kept.end) kept.entries i e sound.entries at
 
 -- Each record of an open base lies within its games file.
 pub are-within : (kept : Kept) (known : ℕ) → IsSound kept → kept.end ≤ known → AreWithin known (extents_of kept)

@@ -115,8 +115,8 @@ impl Base {
     }
 }
 
-/// Where the record of an entry stands.
-pub(crate) fn extent_of(e: &Entry) -> Extent
+// Where the record of an entry stands.
+fn extent_of(e: &Entry) -> Extent
     ensures extent { result ≡ extent_of e.now }
 {
     Extent {
@@ -125,8 +125,8 @@ pub(crate) fn extent_of(e: &Entry) -> Extent
     }
 }
 
-/// The signature that an entry has.
-pub(crate) fn sig_in(e: &Entry) -> Sig
+// The signature that an entry has.
+fn sig_in(e: &Entry) -> Sig
     ensures sig { result ≡ sig_in e.now }
 {
     Sig {

@@ -99,6 +99,9 @@ pub home_read_is : (b : List ℕ) → IsBytes b → (i : ℕ) → home_in b i �
 unfolding home_at
 home_read_is b h i = λ j. cond (ltb i (home_count_read_is b h j)) (fields.home_value-is b i h j) 0
 
+pub home_values_read_is : (b : List ℕ) → IsBytes b → map (home_in b) (range_with_len 0 16) ≡ map (home_at b) (range_with_len 0 16)
+home_values_read_is b h = let home = home_read_is b h in λ i. map (λ j. home j i) (range_with_len 0 16)
+
 pub material_read_is : (b : List ℕ) → IsBytes b → map (field b) places.material ≡ material_at (get_or b 34 0) (get_or b 35 0) (get_or b 36 0)
 unfolding material_at places.material
 material_read_is b h =

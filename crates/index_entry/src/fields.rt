@@ -2,7 +2,7 @@
 ghost use Rattle.std.specs.Prelude.{◌≡◌, ◌/◌, ◌%◌};
 ghost use Rattle.index_entry.specs.Entry.{entry_in, outcome_of, rating_of};
 
-use crate::unpacking::{quad, split, word};
+use crate::unpacking::{byte_at, home_of, material_of, quad, split, word};
 use game_tree::{Date, Outcome, Rating};
 
 /// Whether the game is marked as deleted.
@@ -128,4 +128,76 @@ pub fn plies_in(b: &[u8; 47]) -> u16
     ensures plies { result ≡ (entry_in b.now).plies }
 {
     u16::from(b[38] / 64) * 256 + u16::from(b[37])
+}
+
+/// Whether the game has a start of its own.
+#[tactic(auto, using(crate::proofs::ReadLemmas::own_start_read_is), unfolding(crate::specs::Entry::entry_in))]
+pub fn has_own_start_in(b: &[u8; 47]) -> bool
+    ensures own_start { result ≡ (entry_in b.now).own_start }
+{
+    word(b, 7) % 2 == 1
+}
+
+/// Whether there is a promotion in any line.
+#[tactic(auto, using(crate::proofs::ReadLemmas::promo_read_is), unfolding(crate::specs::Entry::entry_in))]
+pub fn has_promotion_in(b: &[u8; 47]) -> bool
+    ensures promo { result ≡ (entry_in b.now).promo }
+{
+    word(b, 7) / 2 % 2 == 1
+}
+
+/// Whether there is a promotion to another man than a queen.
+#[tactic(auto, using(crate::proofs::ReadLemmas::under_read_is), unfolding(crate::specs::Entry::entry_in))]
+pub fn has_underpromotion_in(b: &[u8; 47]) -> bool
+    ensures under { result ≡ (entry_in b.now).under }
+{
+    word(b, 7) / 4 % 2 == 1
+}
+
+/// The code of the number of variations.
+#[tactic(auto, using(crate::proofs::ReadLemmas::vars_read_is), unfolding(crate::specs::Entry::entry_in))]
+pub fn variations_in(b: &[u8; 47]) -> u8
+    ensures vars { result ≡ (entry_in b.now).vars }
+{
+    byte_at(b, 22) % 16
+}
+
+/// The code of the number of comments.
+#[tactic(auto, using(crate::proofs::ReadLemmas::comments_read_is), unfolding(crate::specs::Entry::entry_in))]
+pub fn comments_in(b: &[u8; 47]) -> u8
+    ensures comments { result ≡ (entry_in b.now).comments }
+{
+    byte_at(b, 22) / 16
+}
+
+/// The code of the number of NAGs.
+#[tactic(auto, using(crate::proofs::ReadLemmas::nags_read_is), unfolding(crate::specs::Entry::entry_in))]
+pub fn nags_in(b: &[u8; 47]) -> u8
+    ensures nags { result ≡ (entry_in b.now).nags }
+{
+    byte_at(b, 21) % 16
+}
+
+/// The ten final counts of men.
+#[tactic(auto, using(crate::proofs::ReadLemmas::material_read_is), unfolding(crate::specs::Entry::entry_in))]
+pub fn material_in(b: &[u8; 47]) -> [u8; 10]
+    ensures material { result ≡ (entry_in b.now).material }
+{
+    material_of(b[34], b[35], b[36])
+}
+
+/// How many home values there are.
+#[tactic(auto, using(crate::proofs::ReadLemmas::home_count_read_is), unfolding(crate::specs::Entry::entry_in))]
+pub fn home_count_in(b: &[u8; 47]) -> u8
+    ensures count { result ≡ (entry_in b.now).home_count }
+{
+    byte_at(b, 38) % 64
+}
+
+/// The home values, and 0 past the end of their list.
+#[tactic(auto, using(crate::proofs::ReadLemmas::home_values_read_is), unfolding(crate::specs::Entry::entry_in))]
+pub fn home_in(b: &[u8; 47]) -> [u8; 16]
+    ensures home { result ≡ (entry_in b.now).home }
+{
+    home_of(b)
 }

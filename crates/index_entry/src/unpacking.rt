@@ -1,5 +1,5 @@
 //! An entry from its 47 bytes.
-ghost use Rattle.std.specs.Prelude.{◌≡◌, ◌≤◌, ◌<◌, ◌+◌, ◌*◌, ◌^◌, map, IfOk};
+ghost use Rattle.std.specs.Prelude.{◌≡◌, ◌≤◌, ◌<◌, ◌+◌, ◌*◌, ◌^◌, map, slice_index, IfOk};
 ghost use Rattle.std.specs.List.{range_with_len};
 ghost use Rattle.byteorder.specs.Endian.{big_from};
 ghost use Rattle.index_entry.specs.Entry.{IsEntry, entry_in, entry_read};
@@ -68,6 +68,14 @@ fn read_entry(b: &[u8; 47]) -> Result<Entry, EntryFault>
         home_count: b[38] % 64,
         home: home_of(b),
     })
+}
+
+// The byte at a place.
+pub(crate) fn byte_at(b: &[u8; 47], at: usize) -> u8
+    requires { at < 47 }
+    ensures { result ≡ slice_index b.now at }
+{
+    b[at]
 }
 
 // The number of the two bytes at a place.
@@ -163,7 +171,7 @@ fn rating_of(word: u16) -> Result<Rating, EntryFault>
 
 // The ten final counts.
 #[tactic(auto, unfolding(crate::specs::Reading::material_at))]
-fn material_of(first: u8, second: u8, third: u8) -> [u8; 10]
+pub(crate) fn material_of(first: u8, second: u8, third: u8) -> [u8; 10]
     ensures { result ≡ material_at first second third }
 {
     [
@@ -181,7 +189,7 @@ fn material_of(first: u8, second: u8, third: u8) -> [u8; 10]
 }
 
 // The home values, and 0 past the end of their list.
-fn home_of(b: &[u8; 47]) -> [u8; 16]
+pub(crate) fn home_of(b: &[u8; 47]) -> [u8; 16]
     ensures { result ≡ map (home_at b.now) (range_with_len 0 16) }
 {
     let mut home = [0; 16];
