@@ -16,7 +16,7 @@ use Rattle.tree_rows.proofs.KeyLaws.{key_total, is-less, is-greater}
 use Rattle.tree_rows.proofs.RowLaws.{Misses, row-key, row-same, row-other, row-none}
 
 -- keys that rise, and keys without this one
-abbrev Rises : List (Option Move) → Type 0
+abbrev pub Rises : List (Option Move) → Type 0
 Rises [] = Unit {0}
 Rises (k ∷ keys) = AllByRecursion (λ q. key_cmp k q ≡ Less) keys × Rises keys
 
@@ -47,7 +47,7 @@ rises-with (k ∷ keys) key h = by (key_cmp k key) refl (rises-with keys key h.1
         let less : key_cmp key k ≡ Less = is-less k key e in
         rw e ((less, all-mapped (λ q. key_cmp k q ≡ Less) (λ q. key_cmp key q ≡ Less) keys (λ q f. key_total.trans key k q less f) h.0), h)
 
-rises-more : (hits : List GameHit) (keys : List (Option Move)) → Rises keys → Rises (fold (λ ks hit. with_key ks hit.next) keys hits)
+pub rises-more : (hits : List GameHit) (keys : List (Option Move)) → Rises keys → Rises (fold (λ ks hit. with_key ks hit.next) keys hits)
 rises-more [] keys h = h
 rises-more (hit ∷ hits) keys h = rises-more hits (with_key keys hit.next) (rises-with keys hit.next h)
 

@@ -16,17 +16,17 @@ use Rattle.tree_rows.proofs.RowLaws.{grown-key, grown-games, grown-swap, shrunk-
 use Rattle.tree_rows.proofs.Adding.{all_added, rows-added, no-rows}
 
 -- the first row of a key
-abbrev first : GameHit → Row
+abbrev pub first : GameHit → Row
 first hit = grown hit (no_hits hit.next)
 
 -- a hit more, by where its key stands
-less : (hit : GameHit) (row : Row) (rows : List Row) → key_cmp row.key hit.next ≡ Less → added hit (row ∷ rows) ≡ row ∷ added hit rows
+pub less : (hit : GameHit) (row : Row) (rows : List Row) → key_cmp row.key hit.next ≡ Less → added hit (row ∷ rows) ≡ row ∷ added hit rows
 less hit row rows e = rw e refl
 
-tied : (hit : GameHit) (row : Row) (rows : List Row) → key_cmp row.key hit.next ≡ Equal → added hit (row ∷ rows) ≡ grown hit row ∷ rows
+pub tied : (hit : GameHit) (row : Row) (rows : List Row) → key_cmp row.key hit.next ≡ Equal → added hit (row ∷ rows) ≡ grown hit row ∷ rows
 tied hit row rows e = rw e refl
 
-greater : (hit : GameHit) (row : Row) (rows : List Row) → key_cmp row.key hit.next ≡ Greater → added hit (row ∷ rows) ≡ first hit ∷ row ∷ rows
+pub greater : (hit : GameHit) (row : Row) (rows : List Row) → key_cmp row.key hit.next ≡ Greater → added hit (row ∷ rows) ≡ first hit ∷ row ∷ rows
 greater hit row rows e = rw e refl
 
 at-grown : (hit : GameHit) (row : Row) (key : Option Move) (o : Ordering) → key_cmp row.key key ≡ o → key_cmp (grown hit row).key key ≡ o
@@ -131,7 +131,7 @@ unfolding all_added
 later hit rows [] = refl
 later hit rows (next ∷ hits) = ap (λ (xs : List Row). all_added xs hits) (swap next hit rows) ∙ later hit (added next rows) hits
 
-any-order : (before behind : List GameHit) (hit : GameHit) → rows_of (before ++ hit ∷ behind) ≡ added hit (rows_of (before ++ behind))
+pub any-order : (before behind : List GameHit) (hit : GameHit) → rows_of (before ++ hit ∷ behind) ≡ added hit (rows_of (before ++ behind))
 unfolding all_added
 any-order before behind hit =
     sym (rows-added before (hit ∷ behind)) ∙ later hit (rows_of before) behind ∙ ap (added hit) (rows-added before behind)

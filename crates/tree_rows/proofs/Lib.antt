@@ -1,9 +1,10 @@
-mod KeyLaws
+pub mod KeyLaws
 mod RowLaws
 mod Placing
 mod Adding
 pub mod HitKeys
 mod Dropping
+pub mod OneRow
 mod Totals
 mod SameBoard
 mod NeededLaws

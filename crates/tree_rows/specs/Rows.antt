@@ -1,6 +1,6 @@
 -- The rows of a tree: plain sums over the games that meet a position (this project's own, after Scid's tree window).
-use Rattle.std.specs.Prelude.{◌≡◌, ℕ, ◌<◌, ◌≤◌, ◌==◌, if◌then◌else◌, List, [], ◌∷◌, ◌++◌, map, length, All, Option}
-use Rattle.std.specs.List.{fold, sum_by}
+use Rattle.std.specs.Prelude.{◌≡◌, ℕ, ◌<◌, ◌≤◌, ◌==◌, if◌then◌else◌, List, [], ◌∷◌, ◌++◌, map, length, All, Option, None}
+use Rattle.std.specs.List.{find, fold, sum_by}
 use Rattle.std.specs.Ordering.{match_ordering}
 use Rattle.cell_core.specs.declared.step.Move.{Move}
 use Rattle.game_tree.specs.declared.head.Outcome.{Outcome}
@@ -55,6 +55,15 @@ keys_of hits = fold (λ keys hit. with_key keys hit.next) [] hits
 -- The rows of the hits: one for each key among them.
 unfoldable pub rows_of : List GameHit → List Row
 rows_of hits = map (λ key. row_of key hits) (keys_of hits)
+
+-- The row of a key, if there is one.
+abbrev pub row_at : Option Move → List Row → Option Row
+row_at key rows = find (λ row. same_key row.key key) rows
+
+-- Rows of which no two have one key.
+abbrev pub KeysDiffer : List Row → Type 0
+KeysDiffer [] = Unit {0}
+KeysDiffer (row ∷ rows) = (row_at row.key rows ≡ None) × KeysDiffer rows
 
 -- The numbers of a hit have 16 bits.
 abbrev pub IsHit : GameHit → Type 0

@@ -1,7 +1,7 @@
 //! The order of the keys of rows.
 ghost use Rattle.std.specs.Prelude.{◌≡◌};
 ghost use Rattle.chess_laws.specs.Moves.{promotion_number};
-ghost use Rattle.tree_rows.specs.Keys.{key_cmp, key_numbers};
+ghost use Rattle.tree_rows.specs.Keys.{key_cmp, key_numbers, same_key};
 
 use cell_core::{Kind, Move};
 use std::cmp::Ordering;
@@ -12,6 +12,13 @@ pub(crate) fn key_order(a: &Option<Move>, b: &Option<Move>) -> Ordering
     ensures { result ≡ key_cmp a.now b.now }
 {
     key_numbers(a).cmp(&key_numbers(b))
+}
+
+/// Whether two keys are the same.
+pub fn same_key(a: &Option<Move>, b: &Option<Move>) -> bool
+    ensures same { result ≡ same_key a.now b.now }
+{
+    key_order(a, b).is_eq()
 }
 
 // A key as numbers.

@@ -1,16 +1,28 @@
 //! Laws of the definitions.
-ghost use Rattle.std.specs.Prelude.{◌≡◌, ◌↔◌, Option, true};
+ghost use Rattle.std.specs.Prelude.{◌≡◌, ◌↔◌, ◌∷◌, ◌++◌, List, Option, true, false};
 ghost use Rattle.cell_core.specs.declared.step.Move.{Move};
 ghost use Rattle.chess_laws.specs.declared.setup.Setup.{Setup};
 ghost use Rattle.chess_laws.specs.Position.{Sound};
 ghost use Rattle.chess_laws.specs.Step.{Legal};
 ghost use Rattle.chess_text.specs.SanText.{san_text};
+ghost use Rattle.tree_rows.specs.declared.hit.GameHit.{GameHit};
 ghost use Rattle.tree_rows.specs.Keys.{same_key};
+ghost use Rattle.tree_rows.specs.Rows.{KeysDiffer, row_at, rows_of};
 ghost use Rattle.tree_rows.specs.MoveText.{needed};
 
 /// A law: keys are the same only where they are one move, or `end` both times.
 pub fn keys_are_told_apart()
     ensures same { (a b : Option Move) → (same_key a b ≡ true) ↔ (a ≡ b) }
+{}
+
+/// A law: a hit changes the row of its own key alone.
+pub fn a_hit_changes_its_own_row_alone()
+    ensures others { (before behind : List GameHit) (hit : GameHit) (key : Option Move) → same_key hit.next key ≡ false → row_at key (rows_of (before ++ hit ∷ behind)) ≡ row_at key (rows_of (before ++ behind)) }
+{}
+
+/// A law: the rows of hits have different keys.
+pub fn rows_have_different_keys()
+    ensures differ { (hits : List GameHit) → KeysDiffer (rows_of hits) }
 {}
 
 /// A law: a move has the text of its row, its SAN in the position whose only right and en passant square are those that it needs, in

@@ -13,7 +13,11 @@ mod rows;
 mod writing;
 
 pub use hit::GameHit;
-pub use laws::{keys_are_told_apart, texts_of_moves_are_shared};
+pub use key::same_key;
+pub use laws::{
+    a_hit_changes_its_own_row_alone, keys_are_told_apart, rows_have_different_keys,
+    texts_of_moves_are_shared,
+};
 pub use row::Row;
 pub use rows::Rows;
 pub use writing::lines;

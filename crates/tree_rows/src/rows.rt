@@ -1,7 +1,6 @@
 //! The rows of a tree.
 ghost use Rattle.std.specs.Prelude.{◌≡◌, ◌≤◌, length};
-ghost use Rattle.std.specs.List.{find};
-ghost use Rattle.tree_rows.specs.Keys.{same_key};
+ghost use Rattle.tree_rows.specs.Rows.{row_at};
 ghost use Rattle.tree_rows.specs.Keeping.{has_key, place_in};
 
 use crate::hit::GameHit;
@@ -30,10 +29,8 @@ impl Model for Rows {
 
 impl Rows {
     ghost use Rattle.std.specs.Prelude.{◌≡◌, ◌≤◌, ◌<◌, [], ◌∷◌, ◌++◌, List, Some, length, All, slice_get, IfOk, OnOk, OnErr};
-    ghost use Rattle.std.specs.List.{find};
     ghost use Rattle.tree_rows.specs.declared.hit.GameHit.{GameHit as Hit};
-    ghost use Rattle.tree_rows.specs.Keys.{same_key};
-    ghost use Rattle.tree_rows.specs.Rows.{AreRows, HasHit, IsHit, rows_of};
+    ghost use Rattle.tree_rows.specs.Rows.{AreRows, HasHit, IsHit, row_at, rows_of};
     ghost use Rattle.tree_rows.specs.Keeping.{HasRoom, added};
 
     /// The rows of at most 16,777,214 hits. It fails only for want of memory.
@@ -41,20 +38,29 @@ impl Rows {
         requires few { length hits.now ≤ 16777214 }
         ensures rows { IfOk result (λ rows. rows ≡ rows_of hits.now) }
     {
-        let mut rows = Rows {
-            rows: Vec::new(alloc),
-        };
+        let mut rows = Rows::new(alloc);
         for hit in hits {
             rows.add(hit)?;
         }
         Ok(rows)
     }
 
+    /// The rows of no hit.
+    pub fn new(alloc: Global) -> Rows
+        ensures none { result ≡ rows_of [] }
+    {
+        Rows {
+            rows: Vec::new(alloc),
+        }
+    }
+
     /// Counts one hit more, where fewer than 16,777,214 are counted. After want of memory the rows are as they were.
     pub fn add_hit(&mut self, hit: &GameHit) -> Result<(), AllocError>
         requires few { AreRows 16777213 self.old }
         ensures rows { (hits : List Hit) → self.old ≡ rows_of hits → OnOk result (self.new ≡ rows_of (hits ++ hit.now ∷ [])) }
+        ensures among { (before behind : List Hit) → self.old ≡ rows_of (before ++ behind) → OnOk result (self.new ≡ rows_of (before ++ hit.now ∷ behind)) }
         ensures unchanged { OnErr result (self.new ≡ self.old) }
+        ensures hit { IsHit hit.now }
     {
         self.add(hit)
     }
@@ -74,7 +80,7 @@ impl Rows {
 
     /// The row of a key, if there is one.
     pub fn get(&self, key: Option<Move>) -> Option<Row>
-        ensures row { result ≡ find (λ row. same_key row.key key) self.now }
+        ensures row { result ≡ row_at key self.now }
     {
         find_in(self.rows.as_slice(), &key)
     }
@@ -146,7 +152,7 @@ fn has_key(rows: &[Row], place: usize, key: &Option<Move>) -> bool
 
 // The first row that has this key.
 fn find_in(rows: &[Row], key: &Option<Move>) -> Option<Row>
-    ensures { result ≡ find (λ row. same_key row.key key.now) rows.now }
+    ensures { result ≡ row_at key.now rows.now }
 {
     for row in rows {
         if key_order(&row.key, key).is_eq() {

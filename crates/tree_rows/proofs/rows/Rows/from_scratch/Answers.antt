@@ -1,12 +1,12 @@
-use Rattle.std.proofs.Common.{◌∙◌, subst}
+use Rattle.std.proofs.Common.{subst}
 use Rattle.std.proofs.lemmas.List.Elements.{All-nil, All-more}
 use Rattle.tree_rows.specs.Rows.{IsHit}
 use Rattle.tree_rows.proofs.RowLaws.{room-at}
-use Rattle.tree_rows.proofs.Adding.{no-rows, rows_more}
+use Rattle.tree_rows.proofs.Adding.{rows_more}
 use Rattle.tree_rows.proofs.rows.Rows.from_scratch.Goals as goal
 
 pub loop-hit-init : goal.loop-hit-init
-loop-hit-init c = record { rows = c.new.ensures.items ∙ no-rows; ranges = All-nil IsHit }
+loop-hit-init c = record { rows = c.new-rows.ensures.none; ranges = All-nil IsHit }
 
 pub add-requires : goal.add-requires
 add-requires c = record {
