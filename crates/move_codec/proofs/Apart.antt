@@ -22,7 +22,7 @@ use Rattle.move_codec.specs.Numbers.{Numbered, AreNumbers, HasKingFirst, number_
 use Rattle.move_codec.specs.Packed.{Decodes, at_difference, diagonal_move, diagonal_square, encoding, is_mark, king_differences, named, named_by, named_from, named_value, on_line, rest_of, to_square, value_of}
 use Rattle.move_codec.proofs.Cases.{Mover, Spelled, mover}
 use Rattle.move_codec.proofs.Decoding.{named-used, same_ok, to_square-takes}
-use Rattle.move_codec.proofs.Kings.{first_of}
+use Rattle.move_codec.proofs.Boards.{first_of}
 use Rattle.move_codec.proofs.Lists.{same_or_not}
 use Rattle.move_codec.proofs.RoundTrip.{encoding-mover, has_number}
 

@@ -1,15 +1,13 @@
 pub mod Places
 pub mod Lists
-pub mod Numbering
+pub mod Tracking
 pub mod Boards
-pub mod Strides
-pub mod Spelling
+pub mod Tables
 pub mod Cases
 pub mod RoundTrip
 pub mod Steps
 pub mod Standard
 pub mod Text
 pub mod Decoding
-pub mod Kings
 pub mod Apart
 pub mod Moving

@@ -1,7 +1,7 @@
 -- The numbers at the standard start are those of its men.
-use Rattle.std.proofs.Common.{◌≡◌, ℕ, zero, suc, ◌+◌, ◌<◌, ◌≤◌, Bool, true, cond, eqb, ltb, ◌&&◌, List, [], ◌∷◌, Option, Some, None, length, slice_get, inl, inr, refl, sym, ◌∙◌, ap, arith}
+use Rattle.std.proofs.Common.{◌≡◌, ℕ, zero, suc, ◌+◌, ◌<◌, ◌≤◌, Bool, true, cond, eqb, ltb, ◌&&◌, List, [], ◌∷◌, Option, Some, None, length, slice_get, refl, sym, ◌∙◌, ap, arith}
 use Rattle.std.specs.List.{list_all}
-use Rattle.std.proofs.lemmas.Bool.{eqb-true, ltb-true, false≢true, cases_lt}
+use Rattle.std.proofs.lemmas.Bool.{and_parts, eqb-true, ltb-true, false≢true}
 use Rattle.std.proofs.lemmas.Option.{same_Some, none-some}
 use Rattle.cell_core.specs.declared.man.Colour.{Colour}
 use Rattle.cell_core.specs.declared.man.Colour.TheVariants.{White, Black}
@@ -12,16 +12,15 @@ use Rattle.cell_core.specs.Man.{is_of}
 use Rattle.chess_laws.specs.Position.{start_men}
 use Rattle.chess_laws.proofs.Kings.{is_man-Some, king-only}
 use Rattle.move_codec.specs.Numbers.{AreNumbers, IsNumbering, number_of, standard_numbers, start_ranks}
-use Rattle.move_codec.proofs.Strides.{and_true}
+use Rattle.move_codec.proofs.Tables.{all_below, below}
 use Rattle.move_codec.proofs.Lists.{found-within}
-use Rattle.move_codec.proofs.Numbering.{holds}
-use Rattle.move_codec.proofs.Boards.{stands_within}
+use Rattle.move_codec.proofs.Boards.{holds, stands_within}
 
 -- a test of every element holds of each
 passes : (test : ℕ → Bool) (xs : List ℕ) (k x : ℕ) → list_all test xs ≡ true → slice_get xs k ≡ Some x → test x ≡ true
 passes test [] k x all e = absurd (none-some x e)
-passes test (y ∷ ys) zero x all e = ap test (sym (same_Some y x e)) ∙ (and_true (test y) (list_all test ys) all).0
-passes test (y ∷ ys) (suc k) x all e = passes test ys k x (and_true (test y) (list_all test ys) all).1 e
+passes test (y ∷ ys) zero x all e = ap test (sym (same_Some y x e)) ∙ (and_parts (test y) (list_all test ys) all).0
+passes test (y ∷ ys) (suc k) x all e = passes test ys k x (and_parts (test y) (list_all test ys) all).1 e
 
 -- whether each element of a list, from a place on, is found at its own place
 abbrev pub own_places : List ℕ → ℕ → List ℕ → Bool
@@ -31,24 +30,10 @@ own_places xs i (y ∷ ys) = eqb (number_of xs y) i && own_places xs (suc i) ys
 pub own_place : (xs : List ℕ) (i : ℕ) (ys : List ℕ) (k x : ℕ) → own_places xs i ys ≡ true → slice_get ys k ≡ Some x → number_of xs x ≡ i + k
 own_place xs i [] k x all e = absurd (none-some x e)
 own_place xs i (y ∷ ys) zero x all e =
-    let here = eqb-true (number_of xs y) i (and_true (eqb (number_of xs y) i) (own_places xs (suc i) ys) all).0 in
+    let here = eqb-true (number_of xs y) i (and_parts (eqb (number_of xs y) i) (own_places xs (suc i) ys) all).0 in
     ap (number_of xs) (sym (same_Some y x e)) ∙ here ∙ omega arith
 own_place xs i (y ∷ ys) (suc k) x all e =
-    own_place xs (suc i) ys k x (and_true (eqb (number_of xs y) i) (own_places xs (suc i) ys) all).1 e ∙ omega arith
-
--- a test of every number below n
-abbrev pub all_below : (ℕ → Bool) → ℕ → Bool
-all_below test zero = true
-all_below test (suc n) = test n && all_below test n
-
-pub below : (test : ℕ → Bool) (n k : ℕ) → all_below test n ≡ true → k < n → test k ≡ true
-below test zero k all h = absurd (omega arith)
-below test (suc n) k all h =
-    let parts = and_true (test n) (all_below test n) all in
-    elim (cases_lt k n) [
-      | inl before ↦ below test n k parts.1 before
-      | inr last ↦ let same : k ≡ n = omega arith in rw same parts.0
-    ]
+    own_place xs (suc i) ys k x (and_parts (eqb (number_of xs y) i) (own_places xs (suc i) ys) all).1 e ∙ omega arith
 
 -- whether a man of the side on a square is in the list
 abbrev is_listed : Colour → Men → List ℕ → ℕ → Bool

@@ -2,7 +2,7 @@
 use Rattle.std.proofs.Common.{◌≡◌, ◌≢◌, ℕ, zero, suc, ◌+◌, ◌-◌, ◌*◌, ◌<◌, ◌≤◌, true, false, cond, eqb, ltb, List, [], ◌∷◌, ◌++◌, Option, Some, None, length, get_or, slice_get, ◌⊎◌, inl, inr, refl, sym, ◌∙◌, ap, subst, arith, length-append, zero-add, add-one, drop, drop-cons, ◌/◌, ◌%◌}
 use Rattle.std.specs.Prelude.{count_by, sum_by}
 use Rattle.std.proofs.lemmas.List.Sums.{sum_by-cons, sum_by-append}
-use Rattle.std.proofs.lemmas.Bool.{false≢true, cases_Bool, ltb-true, eqb-true}
+use Rattle.std.proofs.lemmas.Bool.{and_parts, false≢true, cases_Bool, ltb-true, eqb-true}
 use Rattle.std.proofs.lemmas.Option.{same_Some, none-some}
 use Rattle.cell_core.specs.declared.man.Colour.{Colour}
 use Rattle.cell_core.specs.declared.man.Kind.TheVariants.{King}
@@ -11,12 +11,12 @@ use Rattle.cell_core.specs.Board.{Men, man_at}
 use Rattle.cell_core.specs.Man.{is_of, is_man, same_colour, same_kind}
 use Rattle.chess_laws.specs.Position.{HasKings, HasFewMen}
 use Rattle.chess_laws.proofs.Kings.{is_man-Some, king-only}
-use Rattle.move_codec.proofs.Strides.{and_true}
 use Rattle.cell_core.specs.declared.man.Colour.TheVariants.{White, Black}
 use Rattle.move_codec.specs.Numbers.{AreNumbers, HasKingFirst, text_numbers, IsNumbering, number_of, text_squares, rank_squares, with_king, with_square, with_squares, text_numbers_of}
 use Rattle.move_codec.proofs.Lists.{found, found-within, same_or_not}
-use Rattle.move_codec.proofs.Standard.{below, held_within, own_place}
-use Rattle.move_codec.proofs.Numbering.{holds}
+use Rattle.move_codec.proofs.Standard.{held_within, own_place}
+use Rattle.move_codec.proofs.Tables.{below}
+use Rattle.move_codec.proofs.Boards.{holds}
 
 -- a list with one more square: where it stands, and where the others went
 pub record Adds (squares next : List ℕ) (square : ℕ) : Type 0 where
@@ -166,7 +166,7 @@ Partial-add men c x later squares next distinct stands adds h = record {
 -- a king is a man of its side
 king_held : (c : Colour) (o : Option Man) → is_man c King o ≡ true → is_of c o ≡ true
 king_held c None h = absurd (false≢true h)
-king_held c (Some m) h = (and_true (same_colour m.colour c) (same_kind m.kind King) h).0
+king_held c (Some m) h = (and_parts (same_colour m.colour c) (same_kind m.kind King) h).0
 
 Partial-step : (men : Men) (c : Colour) (x : ℕ) (later squares : List ℕ) → Distinct (x ∷ later)
     → Partial men c (x ∷ later) squares → Partial men c later (with_square men c squares x)
