@@ -1,7 +1,6 @@
 use Rattle.std.proofs.Common.{◌∙◌, sym}
 use Rattle.std.proofs.lemmas.Result.{err_from_is_err_and}
-use Rattle.move_codec.proofs.Decoding.{Decodes-fault, named-used, named-second}
-use Rattle.move_codec.proofs.Moving.{named-number}
+use Rattle.move_codec.proofs.Decoding.{Decodes-fault, named-number, named-used, named-second}
 use Rattle.move_codec.proofs.numbered.Numbered.advance.Goals as goal
 
 pub returns-in_err-m-clause-decodes : goal.returns-in_err-m-clause-decodes
