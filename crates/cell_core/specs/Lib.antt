@@ -1,4 +1,6 @@
 pub mod Board
 pub mod Man
 pub mod Packed
+pub mod SameMen
+pub mod Sets
 pub mod Text

@@ -1,28 +1,54 @@
 //! The board of 64 squares.
 ghost use Rattle.std.specs.Prelude.{◌≡◌, ◌↔◌, IsTrue, None, replicate, length};
 ghost use Rattle.cell_core.specs.Board.{man_at, put, same_men};
+ghost use Rattle.cell_core.specs.Sets.{sets_of};
 
 use super::man::Man;
+use super::sets::Sets;
 use super::square::Square;
 use std::marker::Model;
 
 /// A board of 64 squares, each empty or with a man on it. Contracts see the list of the 64 in the squares' order.
-#[derive(Clone, Copy, Debug, PartialEq, Eq)]
+/// Beside it are kept the squares of each kind and of each colour, by which boards are compared.
+#[derive(Clone, Copy, Debug)]
 pub struct Board {
     cells: [Option<Man>; 64],
+    sets: Sets,
 }
 
 impl Model for Board {
-    ghost use Rattle.std.specs.Prelude.{◌≡◌, length, List, Option};
+    ghost use Rattle.std.specs.Prelude.{List, Option};
     ghost use Rattle.cell_core.specs.declared.man.Man.{Man};
+    ghost use Rattle.cell_core.specs.Sets.{Fit, sets_back, sets_of};
 
     ghost Value = { List (Option Man) };
 
     ghost view = { λ b. b.cells };
 
-    ghost invariant = { λ b. length b.cells ≡ 64 };
+    ghost invariant = { λ b. Fit b.cells b.sets };
 
-    ghost inverse = { λ cells. record { cells = cells } };
+    ghost inverse = { λ cells. record { cells = cells; sets = sets_of cells } };
+
+    ghost inverse_ok = { λ b fit i. record { cells = b.cells; sets = sets_back b.cells b.sets fit i } };
+}
+
+impl Eq for Board {
+    ghost use Rattle.cell_core.specs.SameMen.{men_equiv};
+
+    ghost laws = { men_equiv };
+}
+
+impl PartialEq for Board {
+    ghost use Rattle.std.specs.Cmp.{partial_equiv_from_equiv};
+    ghost use Rattle.cell_core.specs.SameMen.{men_equiv};
+
+    ghost eq = { same_men };
+
+    ghost laws = { partial_equiv_from_equiv men_equiv };
+
+    fn eq(&self, other: &Board) -> bool {
+        self.sets.is_same(&other.sets)
+    }
 }
 
 impl Board {
@@ -30,14 +56,35 @@ impl Board {
     pub fn empty() -> Board
         ensures empty { result ≡ replicate 64 None }
     {
-        Board { cells: [None; 64] }
+        Board {
+            cells: [None; 64],
+            sets: Sets::none(),
+        }
     }
 
     /// The board with these men on its 64 squares.
     pub fn from_cells(cells: [Option<Man>; 64]) -> Board
         ensures men { result ≡ cells }
     {
-        Board { cells }
+        let mut sets = Sets::none();
+        for s in 0..64u8 {
+            if let Some(man) = cells[s as usize] {
+                sets.add(s, man);
+            }
+        }
+        Board { cells, sets }
+    }
+
+    /// The board with these men on its 64 squares, which are known to be those of the sets, a bit a square: of each kind,
+    /// from king to pawn, and of White and Black.
+    pub fn with_sets(cells: [Option<Man>; 64], kinds: [u64; 6], colours: [u64; 2]) -> Board
+        requires sets { sets_of cells ≡ record { kinds = kinds; colours = colours } }
+        ensures men { result ≡ cells }
+    {
+        Board {
+            cells,
+            sets: Sets::new(kinds, colours),
+        }
     }
 
     /// What stands on each of the 64 squares, in the order of their numbers.
@@ -62,7 +109,27 @@ impl Board {
         ensures after { self.new ≡ put self.old s man }
         ensures squares { length self.new ≡ 64 }
     {
-        self.cells[s.index() as usize] = man;
+        let number = s.index();
+        self.sets.clear(number, number);
+        self.cells[number as usize] = man;
+        if let Some(man) = man {
+            self.sets.add(number, man);
+        }
+    }
+
+    /// Takes what stands on `from` away and puts `man` on `to`, or empties it: `set` for both squares of a move at once.
+    pub fn go(&mut self, from: Square, to: Square, man: Option<Man>)
+        ensures after { self.new ≡ put (put self.old from None) to man }
+        ensures squares { length self.new ≡ 64 }
+    {
+        let left = from.index();
+        let entered = to.index();
+        self.sets.clear(left, entered);
+        self.cells[left as usize] = None;
+        self.cells[entered as usize] = man;
+        if let Some(man) = man {
+            self.sets.add(entered, man);
+        }
     }
 
     /// Whether the same men stand on the same squares.

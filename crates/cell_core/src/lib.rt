@@ -5,6 +5,7 @@
 mod board;
 mod man;
 mod packed;
+mod sets;
 mod square;
 mod step;
 mod text;

@@ -115,8 +115,7 @@ fn move_man(p: &mut Setup, m: &Move)
         }),
         None => p.board.at(m.from),
     };
-    p.board.set(m.from, None);
-    p.board.set(m.to, arriving);
+    p.board.go(m.from, m.to, arriving);
 }
 
 /// The rights that are left after the move.

@@ -1,8 +1,8 @@
-use Rattle.std.proofs.Common.{◌≡◌, ℕ, Option, rules, Bool, ◌&&◌, ap, refl}
+use Rattle.std.proofs.Common.{◌≡◌, ℕ, Option, rules, Bool, ◌&&◌, ap}
 use Rattle.std.specs.Bool.{Decides}
 use Rattle.std.specs.Option.{option_eq}
 use Rattle.std.proofs.lemmas.Bool.Decides.{Decides-and, Decides-at, Decides-like}
-use Rattle.std.proofs.lemmas.Slice.Eq.{slice_eq-Decides}
+use Rattle.cell_core.proofs.Same.{same_men-Decides}
 use Rattle.cell_core.specs.declared.man.Colour.{Colour}
 use Rattle.chess_laws.specs.declared.setup.Rights.{Rights}
 use Rattle.chess_laws.specs.declared.setup.Setup.{Setup}
@@ -39,7 +39,7 @@ returns c =
     ((rights.ghosts).eq c.args.setup.now.rights c.args.initial.now.rights)
     (option_eq (square.ghosts).eq c.args.setup.now.en_passant c.args.initial.now.en_passant)
     c.eq.ensures
-    (slice_eq-Decides (search rules) _ _ _ refl)
+    (same_men-Decides c.args.setup.now.board c.args.initial.now.board)
     (same_colour c.args.setup.now.side c.args.initial.now.side)
     (same_rights c.args.setup.now.rights c.args.initial.now.rights)
     (same_square c.args.setup.now.en_passant c.args.initial.now.en_passant)
