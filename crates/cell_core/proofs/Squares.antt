@@ -1,11 +1,11 @@
 -- The sets that are kept beside a board are those of its squares.
-use Rattle.std.proofs.Common.{◌≡◌, ℕ, zero, suc, ◌+◌, ◌-◌, ◌*◌, ◌/◌, ◌%◌, ◌^◌, ◌<◌, ◌≤◌, Bool, true, false, cond, List, [], ◌∷◌, ◌++◌, length, map, take, replicate, Option, Some, None, refl, ap, sym, ◌∙◌, inl, inr, arith, w64, slice_index_or, slice_set, get_or}
+use Rattle.std.proofs.Common.{◌≡◌, ℕ, zero, suc, ◌+◌, ◌-◌, ◌*◌, ◌/◌, ◌%◌, ◌^◌, ◌<◌, ◌≤◌, Bool, true, false, cond, ◌&&◌, min, max, is_some, List, [], ◌∷◌, ◌++◌, length, map, take, replicate, Option, Some, None, refl, ap, sym, ◌∙◌, inl, inr, arith, w64, slice_index_or, slice_set, get_or}
 use Rattle.std.specs.Int.{bit_at}
 use Rattle.std.specs.Int.RustNames.{bit_or, bit_and}
 use Rattle.std.proofs.lemmas.Bool.{cases_eq, cases_lt}
 use Rattle.std.proofs.lemmas.List.{append_assoc, append-nil, ext_get_or, get_or_at, get_or-set_same, get_or-set_other, get_or_past, length-append, length-replicate, length-set, length-take-le, set_at, set-set, take_all, take_more}
 use Rattle.std.proofs.lemmas.Nat.{and_assoc}
-use Rattle.std.proofs.lemmas.Nat.Bits.{bit_at_and, bit_at-lt, bit_at_set_same, bit_at_set_other, bit_at_clear_same, bit_at_clear_other, same_from_bits}
+use Rattle.std.proofs.lemmas.Nat.Bits.{bit_at_and, bit_at_or, bit_at-lt, bit_at_set_same, bit_at_set_other, bit_at_clear_same, bit_at_clear_other, same_from_bits}
 use Rattle.std.proofs.lemmas.Simd.{bit_mask_l}
 use Rattle.cell_core.specs.declared.man.Colour.{Colour}
 use Rattle.cell_core.specs.declared.man.Colour.TheVariants.{White, Black}
@@ -14,7 +14,7 @@ use Rattle.cell_core.specs.declared.man.Kind.TheVariants.{King, Queen, Rook, Bis
 use Rattle.cell_core.specs.declared.man.Man.{Man}
 use Rattle.cell_core.specs.declared.sets.Sets.{Sets}
 use Rattle.cell_core.specs.Board.{Men, man_at, put}
-use Rattle.cell_core.specs.Man.{is_of, kind_number}
+use Rattle.cell_core.specs.Man.{is_man, is_of, kind_number, same_colour, same_kind}
 use Rattle.cell_core.specs.Sets.{set_of, sets_of, is_kind, colour_number, Fit}
 
 -- a test of what stands on a square of the board
@@ -295,3 +295,52 @@ same_from_sets a b kept other fit fits same = same_squares a b (fit.squares ∙ 
 
 pub sets_from_same : (a b : Men) (kept other : Sets) → Fit a kept → Fit b other → a ≡ b → kept ≡ other
 sets_from_same a b kept other fit fits same = fit.sets ∙ ap sets_of same ∙ sym fits.sets
+
+-- the set of a kind or of a colour, at its place
+pub kind-set : (k : Kind) (men : Men) (n : ℕ) → n ≡ kind_number k → slice_index_or (sets_of men).kinds n 0 ≡ set_of (is_kind k) men
+unfolding sets_of
+kind-set King men n is = rw is refl
+kind-set Queen men n is = rw is refl
+kind-set Rook men n is = rw is refl
+kind-set Bishop men n is = rw is refl
+kind-set Knight men n is = rw is refl
+kind-set Pawn men n is = rw is refl
+
+pub colour-set : (c : Colour) (men : Men) (n : ℕ) → n ≡ colour_number c → slice_index_or (sets_of men).colours n 0 ≡ set_of (is_of c) men
+unfolding sets_of
+colour-set White men n is = rw is refl
+colour-set Black men n is = rw is refl
+
+-- a man of a colour and a kind stands in both sets
+both_bits : (a b : Bool) → ◌≡◌ {A = ℕ} (min (cond a 1 0) (cond b 1 0)) (cond (a && b) 1 0)
+both_bits true true = refl
+both_bits true false = refl
+both_bits false true = refl
+both_bits false false = refl
+
+both-sets : (c : Colour) (k : Kind) (x : Option Man) → ◌≡◌ {A = ℕ} (min (cond (is_of c x) 1 0) (cond (is_kind k x) 1 0)) (cond (is_man c k x) 1 0)
+both-sets c k None = refl
+both-sets c k (Some m) = both_bits (same_colour m.colour c) (same_kind m.kind k)
+
+pub man-set : (c : Colour) (k : Kind) (men : Men) → bit_and (set_of (is_of c) men) (set_of (is_kind k) men) ≡ set_of (is_man c k) men
+man-set c k men =
+    set-is (is_man c k) refl men (bit_and (set_of (is_of c) men) (set_of (is_kind k) men))
+    (λ i. bit_at_and (set_of (is_of c) men) (set_of (is_kind k) men) i
+    ∙ (λ j. min (bit-set_of (is_of c) refl men i j) (bit-set_of (is_kind k) refl men i j))
+    ∙ both-sets c k (man_at men i))
+
+-- a man stands in the set of one of the colours
+either-sets : (x : Option Man) → ◌≡◌ {A = ℕ} (max (cond (is_of White x) 1 0) (cond (is_of Black x) 1 0)) (cond (is_some x) 1 0)
+either-sets None = refl
+either-sets (Some m) =
+    elim m.colour as (λ c. ◌≡◌ {A = ℕ} (max (cond (is_of White (Some (record { colour = c; kind = m.kind }))) 1 0) (cond (is_of Black (Some (record { colour = c; kind = m.kind }))) 1 0)) 1) [
+      | White ↦ refl
+      | Black ↦ refl
+    ]
+
+pub some-set : (men : Men) → bit_or (set_of (is_of White) men) (set_of (is_of Black) men) ≡ set_of is_some men
+some-set men =
+    set-is is_some refl men (bit_or (set_of (is_of White) men) (set_of (is_of Black) men))
+    (λ i. bit_at_or (set_of (is_of White) men) (set_of (is_of Black) men) i
+    ∙ (λ j. max (bit-set_of (is_of White) refl men i j) (bit-set_of (is_of Black) refl men i j))
+    ∙ either-sets (man_at men i))

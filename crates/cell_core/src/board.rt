@@ -1,9 +1,10 @@
 //! The board of 64 squares.
-ghost use Rattle.std.specs.Prelude.{◌≡◌, ◌↔◌, IsTrue, None, replicate, length};
+ghost use Rattle.std.specs.Prelude.{◌≡◌, ◌↔◌, IsTrue, None, is_some, replicate, length};
 ghost use Rattle.cell_core.specs.Board.{man_at, put, same_men};
-ghost use Rattle.cell_core.specs.Sets.{sets_of};
+ghost use Rattle.cell_core.specs.Sets.{set_of, sets_of};
+ghost use Rattle.cell_core.specs.Man.{is_man, is_of};
 
-use super::man::Man;
+use super::man::{Colour, Kind, Man};
 use super::sets::Sets;
 use super::square::Square;
 use std::marker::Model;
@@ -102,6 +103,27 @@ impl Board {
     {
         let number = s.index() as usize;
         self.cells[number]
+    }
+
+    /// The squares of the men of this colour: the square `s` is the bit `s`.
+    pub fn of_colour(&self, colour: Colour) -> u64
+        ensures squares { result ≡ set_of (is_of colour) self.now }
+    {
+        self.sets.of_colour(colour)
+    }
+
+    /// The squares on which a man stands: the square `s` is the bit `s`.
+    pub fn occupied(&self) -> u64
+        ensures squares { result ≡ set_of is_some self.now }
+    {
+        self.sets.of_colour(Colour::White) | self.sets.of_colour(Colour::Black)
+    }
+
+    /// The squares of the men of this colour and kind: the square `s` is the bit `s`.
+    pub fn of_man(&self, colour: Colour, kind: Kind) -> u64
+        ensures squares { result ≡ set_of (is_man colour kind) self.now }
+    {
+        self.sets.of_colour(colour) & self.sets.of_kind(kind)
     }
 
     /// Puts `man` on the square `s`, or empties it.

@@ -1,8 +1,8 @@
 //! The squares of a board's men as sets, a bit a square.
 ghost use Rattle.std.specs.Prelude.{◌≡◌, ◌↔◌, ◌<◌, IsTrue, Some, None, replicate, length};
 ghost use Rattle.cell_core.specs.Board.{Men, man_at, put};
-ghost use Rattle.cell_core.specs.Sets.{colour_number, sets_of};
-ghost use Rattle.cell_core.specs.Man.{kind_number};
+ghost use Rattle.cell_core.specs.Sets.{colour_number, is_kind, set_of, sets_of};
+ghost use Rattle.cell_core.specs.Man.{is_of, kind_number};
 
 use super::man::{Colour, Kind, Man};
 
@@ -56,6 +56,20 @@ impl Sets {
         self.kinds[5] &= kept;
         self.colours[0] &= kept;
         self.colours[1] &= kept;
+    }
+
+    /// The squares of the men of this colour.
+    pub(crate) fn of_colour(&self, colour: Colour) -> u64
+        ensures squares { (men : Men) → self.now ≡ sets_of men → result ≡ set_of (is_of colour) men }
+    {
+        self.colours[colour_place(colour)]
+    }
+
+    /// The squares of the men of this kind.
+    pub(crate) fn of_kind(&self, kind: Kind) -> u64
+        ensures squares { (men : Men) → self.now ≡ sets_of men → result ≡ set_of (is_kind kind) men }
+    {
+        self.kinds[kind_place(kind)]
     }
 
     /// Whether the sets are the same.

@@ -1,10 +1,9 @@
 -- Bits of a word.
-use Rattle.std.proofs.Common.{◌≡◌, ℕ, ◌+◌, ◌-◌, ◌/◌, ◌^◌, ◌<◌, ◌≤◌, ◌⊎◌, sym, ◌∙◌, arith, inl, inr, Bool, true, false, eqb}
-use Rattle.std.specs.Bool.{OnTrue}
+use Rattle.std.proofs.Common.{◌≡◌, ℕ, ◌+◌, ◌-◌, ◌/◌, ◌^◌, ◌<◌, ◌≤◌, ◌⊎◌, sym, ◌∙◌, arith, inl, inr}
 use Rattle.std.specs.Int.{bit_at}
 use Rattle.std.specs.Int.RustNames.{bit_or}
 use Rattle.std.proofs.lemmas.Nat.{shr-shr}
-use Rattle.std.proofs.lemmas.Bool.{cases_eq, cases_lt, eqb-true}
+use Rattle.std.proofs.lemmas.Bool.{cases_eq, cases_lt}
 use Rattle.std.proofs.lemmas.Nat.Bits.{bit_at_or, bit_at-lt, bit_at-zero, bit_at_above}
 
 pub bit-kept : (a b i : ℕ) → bit_at a i ≡ 1 → bit_at (bit_or a b) i ≡ 1
@@ -42,11 +41,6 @@ bit-first n k place first i h less set =
     let shifted = bit-shifted n k i h in
     let zero_bit = first (i - k) (omega arith) in
     omega arith
-
--- the word 0 has no bit
-pub none-set : (n : ℕ) (test : Bool) → eqb n 0 ≡ test → OnTrue test ((k : ℕ) → bit_at n k ≡ 1 → ⊥)
-none-set n true h = λ k set. let zero_bit : bit_at n k ≡ 0 = rw (eqb-true n 0 h) (bit_at-zero k) in omega arith
-none-set n false h = tt
 
 -- where other bits are as before, a bit of the new word is the one that was set or one of the old
 pub bit-only : (n k i new : ℕ) → ((i ≡ k → ⊥) → bit_at new i ≡ bit_at n i) → bit_at new i ≡ 1 → (bit_at n i ≡ 1) ⊎ (i ≡ k)

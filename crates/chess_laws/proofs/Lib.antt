@@ -28,3 +28,5 @@ pub mod Knowing
 pub mod Ways
 pub mod Joining
 pub mod PawnMoves
+pub mod Sets
+pub mod Clear

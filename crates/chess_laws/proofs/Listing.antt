@@ -9,7 +9,8 @@ use Rattle.cell_core.specs.declared.man.Kind.{Kind}
 use Rattle.cell_core.specs.declared.man.Kind.TheVariants.{King, Queen, Rook, Bishop, Knight, Pawn}
 use Rattle.cell_core.specs.declared.step.Move.{Move}
 use Rattle.cell_core.specs.Board.{man_at}
-use Rattle.cell_core.specs.Man.{man, same_kind}
+use Rattle.cell_core.specs.Man.{is_of, man, same_kind}
+use Rattle.cell_core.specs.Sets.{set_of}
 use Rattle.chess_laws.specs.declared.setup.Setup.{Setup}
 use Rattle.chess_laws.specs.declared.targets.SquareSet.{SquareSet}
 use Rattle.chess_laws.specs.declared.effect.Effect.{Effect}
@@ -23,6 +24,7 @@ use Rattle.chess_laws.specs.Targets.{Comes, Has, ListsBelow, MayPromote, MayTake
 use Rattle.chess_laws.proofs.Boards.{man-kind, on_board, same_kind-true}
 use Rattle.chess_laws.proofs.Following.{case-on_board}
 use Rattle.chess_laws.proofs.Keeping.{castle-squares}
+use Rattle.chess_laws.proofs.Sets.{own-has}
 
 -- what promotes: nothing, or a pawn that comes to its last rank
 abbrev pub Promotes : Setup → Move → Type 0
@@ -282,6 +284,18 @@ lists-no_man p room f ms sound none h =
     let from : m.from ≡ f = omega arith in
     let fits = move-fits p m is in
     none fits.kind (ap (man_at p.board) (sym from) ∙ fits.stands))
+
+-- nor from any of the squares that are not among the mover's
+pub lists-no_men : (p : Setup) (room at t : ℕ) (ms : List Move) (own : SquareSet) → Sound p → at ≤ t → t ≤ 64 →
+    own.bits ≡ set_of (is_of p.side) p.board → ((a : ℕ) → at ≤ a → a < t → Has own a → ⊥) →
+    ListsBelow p room (512 * at) ms → ListsBelow p room (512 * t) ms
+lists-no_men p room at t ms own sound more less is none h =
+    lists-gap p room (512 * at) (512 * t) ms h (omega arith)
+    (λ m is_move low high.
+    let tm = move-to p m sound is_move in
+    let pm = promo-less m.promo in
+    let fits = move-fits p m is_move in
+    none m.from (omega arith) (omega arith) (own-has p.board p.side fits.kind own.bits m.from is fits.stands))
 
 -- some move shows that there are more than none
 pub more-one : (p : Setup) (m : Move) → IsMove p m → HasMoreMoves p 0

@@ -12,36 +12,9 @@ run-one : (men : Men) (o : Offset) (n a b : ℕ) → run men o (suc n) b a ≡ r
 unfolding run
 run-one men o n a b = refl
 
-pub run-found : (men : Men) (o : Offset) (i a b c : ℕ) (answer : Bool) → i < 8 → Some c ≡ shift o a → eqb c b ≡ true →
-    run men o (8 - i) b a ≡ answer → true ≡ answer
-run-found men o i a b c answer less step here before =
-    let left : 8 - i ≡ suc (8 - (i + 1)) = omega arith in
-    rw (left, run-one men o (8 - (i + 1)) a b, ← step, here) at before
-
 pub none_from : (x : Option Man) → is_some x ≡ false → x ≡ None
 none_from None h = refl
 none_from (Some m) h = absurd (cc)
-
-not_none : (x : Option Man) → is_some x ≡ true → is_none x ≡ false
-not_none None h = absurd (cc)
-not_none (Some m) h = refl
-
-pub run-further : (men : Men) (o : Offset) (i a b c : ℕ) (answer : Bool) → i < 8 → Some c ≡ shift o a → eqb c b ≡ false →
-    is_some (man_at men c) ≡ false → run men o (8 - i) b a ≡ answer → run men o (8 - (i + 1)) b c ≡ answer
-run-further men o i a b c answer less step other empty before =
-    let left : 8 - i ≡ suc (8 - (i + 1)) = omega arith in
-    rw (left, run-one men o (8 - (i + 1)) a b, ← step, other, none_from (man_at men c) empty) at before
-
-pub run-blocked : (men : Men) (o : Offset) (i a b c : ℕ) (answer : Bool) → i < 8 → Some c ≡ shift o a → eqb c b ≡ false →
-    is_some (man_at men c) ≡ true → run men o (8 - i) b a ≡ answer → false ≡ answer
-run-blocked men o i a b c answer less step other full before =
-    let left : 8 - i ≡ suc (8 - (i + 1)) = omega arith in
-    rw (left, run-one men o (8 - (i + 1)) a b, ← step, other, not_none (man_at men c) full) at before
-
-pub run-ended : (men : Men) (o : Offset) (i a b : ℕ) (answer : Bool) → i < 8 → shift o a ≡ None → run men o (8 - i) b a ≡ answer → false ≡ answer
-run-ended men o i a b answer less edge before =
-    let left : 8 - i ≡ suc (8 - (i + 1)) = omega arith in
-    rw (left, run-one men o (8 - (i + 1)) a b, edge) at before
 
 and-none : (x : Option Man) (further : Bool) → (is_none x && further) ≡ true → (x ≡ None) × (further ≡ true)
 and-none None true h = (refl, refl)

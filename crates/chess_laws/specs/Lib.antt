@@ -6,8 +6,10 @@ pub mod Step
 pub mod Counts
 pub mod Rays
 pub mod LegalTests
+pub mod Between
 pub mod Moves
 pub mod Targets
+pub mod Leaps
 pub mod LegalNow
 pub mod Keeps
 pub mod Ways

@@ -4,11 +4,12 @@ ghost use Rattle.cell_core.specs.Board.{man_at};
 ghost use Rattle.cell_core.specs.Man.{man, other};
 ghost use Rattle.chess_laws.specs.Geometry.{forward, king_steps, pawn_captures, rank_of, Leaps, Runs, Walk};
 ghost use Rattle.chess_laws.specs.Attacks.{Reaches, IsInCheck};
-ghost use Rattle.chess_laws.specs.LegalTests.{IsOnlyKing, MayCastle, glides, run, slides, IsEnemyOn};
+ghost use Rattle.chess_laws.specs.LegalTests.{IsOnlyKing, MayCastle, glides, line, slides, IsEnemyOn};
 ghost use Rattle.chess_laws.specs.Rays.{offset_at};
 ghost use Rattle.chess_laws.specs.Step.{Case, CastleCase, DoubleCase, GoesPlainly, HasNoOwn, NullCase, PassingCase, PlainCase, last_rank, may_become, pawn_rank, promotes_rightly};
 
 use super::attack::{attacks, stands};
+use super::between::is_clear;
 use super::castling::{has_right, is_path_safe, is_way_free};
 use super::effect::Effect;
 use super::next::passed_square;
@@ -272,9 +273,10 @@ fn runs(board: &Board, kind: Kind, from: Square, to: Square) -> bool
 /// Whether a man of this kind slides by the step of this row from one square to the other over empty squares.
 fn runs_by(board: &Board, kind: Kind, row: u8, from: Square, to: Square) -> bool
     requires row { row < 8 }
+    requires line { Some row ≡ line from to }
     ensures { IsTrue result ↔ ((glides kind row ≡ true) × Runs board.now from to (offset_at row)) }
 {
-    glides(kind, row) && run(board, &Offset::of_row(row), from, to)
+    glides(kind, row) && is_clear(board, row, from, to)
 }
 
 /// Whether a man of this kind slides by the step of this row.
@@ -287,25 +289,4 @@ pub fn glides(kind: Kind, row: u8) -> bool
         Kind::Bishop => 4 <= row && row < 8,
         Kind::King | Kind::Knight | Kind::Pawn => false,
     }
-}
-
-/// Walks by this step from one square, until it comes to the other, to a man or to the edge.
-#[tactic(auto, unfolding(crate::specs::LegalTests::run))]
-fn run(board: &Board, step: &Offset, from: Square, to: Square) -> bool
-    ensures { result ≡ run board.now step.now 8 to from }
-{
-    let mut at = from;
-    for _i in 0..8u8 {
-        let Some(next) = step.target(at) else {
-            return false;
-        };
-        if next == to {
-            return true;
-        }
-        if board.at(next).is_some() {
-            return false;
-        }
-        at = next;
-    }
-    false
 }

@@ -3,11 +3,13 @@
 #![tactic(auto)]
 
 mod attack;
+mod between;
 mod cases;
 mod castling;
 mod census;
 mod effect;
 mod fault;
+mod leaps;
 mod legal;
 mod making;
 mod moves;

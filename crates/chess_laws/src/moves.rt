@@ -17,7 +17,7 @@ use super::legal::{is_legal_allowed, is_legal_from, is_shut};
 use super::next::{effect_as, effect_of};
 use super::position::Position;
 use super::setup::Setup;
-use super::targets::targets;
+use super::targets::{SquareSet, targets};
 use arrayvec::ArrayVec;
 use cell_core::{Kind, Move, Square};
 
@@ -100,10 +100,13 @@ fn list_moves<const N: usize>(
     ensures many { OnFalse result (HasMoreMoves p.now N) }
 {
     into.clear();
-    for from in 0..64u8 {
-        if !list_from(p, king, checked, Square::at(from), into) {
+    let own = SquareSet::of_bits(p.board.of_colour(p.side));
+    let mut at = 0u8;
+    while let Some(from) = own.next(at) {
+        if !list_from(p, king, checked, from, into) {
             return false;
         }
+        at = from.index() + 1;
     }
     true
 }

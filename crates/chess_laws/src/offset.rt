@@ -122,18 +122,6 @@ pub const KING_STEPS: [Offset; 8] = [
     RIGHT, LEFT, UP, DOWN, UP_RIGHT, UP_LEFT, DOWN_RIGHT, DOWN_LEFT,
 ];
 
-// To the nearest squares that are not on the same rank, file or diagonal.
-pub const KNIGHT_STEPS: [Offset; 8] = [
-    Offset { row: 8 },
-    Offset { row: 9 },
-    Offset { row: 10 },
-    Offset { row: 11 },
-    Offset { row: 12 },
-    Offset { row: 13 },
-    Offset { row: 14 },
-    Offset { row: 15 },
-];
-
 // Diagonally in front of a white pawn.
 pub const WHITE_CAPTURES: [Offset; 2] = [UP_RIGHT, UP_LEFT];
 

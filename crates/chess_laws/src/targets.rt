@@ -1,20 +1,18 @@
 //! Where the rules of a man lead it, apart from the safety of its king.
-ghost use Rattle.std.specs.Prelude.{◌≡◌, ℕ, ◌<◌, ◌≤◌, ◌⊎◌, Any, MatchOption, None, Some, true};
-ghost use Rattle.std.specs.Bool.{OnTrue};
+ghost use Rattle.std.specs.Prelude.{◌≡◌, ◌↔◌, ℕ, ◌<◌, ◌≤◌, ◌⊎◌, Any, IsTrue, MatchOption, None, Some, true};
 ghost use Rattle.std.specs.Int.{bit_at};
 ghost use Rattle.cell_core.specs.Board.{man_at};
 ghost use Rattle.cell_core.specs.Man.{man};
 ghost use Rattle.chess_laws.specs.Castling.{king_target};
-ghost use Rattle.chess_laws.specs.Geometry.{Leaps, Runs, forward, pawn_captures};
+ghost use Rattle.chess_laws.specs.Geometry.{Leaps, Runs, forward, king_steps, knight_steps, pawn_captures};
 ghost use Rattle.chess_laws.specs.LegalTests.{run};
 ghost use Rattle.chess_laws.specs.Targets.{CastlesTo, Comes, DoublesTo, Has, MayTake, goes};
 ghost use Rattle.chess_laws.specs.Step.{CastleCase, HasNoOwn};
 
 use super::cases::{forward, has_enemy, has_no_own, is_castling, is_on_own_rank};
 use super::castling::{king_home, king_target};
-use super::offset::{
-    BISHOP_STEPS, BLACK_CAPTURES, KING_STEPS, KNIGHT_STEPS, Offset, ROOK_STEPS, WHITE_CAPTURES,
-};
+use super::leaps::{king_squares, knight_squares};
+use super::offset::{BISHOP_STEPS, BLACK_CAPTURES, KING_STEPS, Offset, ROOK_STEPS, WHITE_CAPTURES};
 use super::setup::{Setup, Wing};
 use cell_core::{Colour, Kind, Move, Square};
 
@@ -25,6 +23,29 @@ pub struct SquareSet {
 }
 
 impl SquareSet {
+    /// The squares of these bits, the square `s` being the bit `s`.
+    pub fn of_bits(bits: u64) -> SquareSet
+        ensures bits { result.bits ≡ bits }
+    {
+        SquareSet { bits }
+    }
+
+    /// Whether the set has one of the squares of these bits.
+    pub fn meets(&self, bits: u64) -> bool
+        ensures meets { IsTrue result ↔ ((s : ℕ) × (Has self.now s × (bit_at bits s ≡ 1))) }
+    {
+        self.bits & bits != 0
+    }
+
+    /// The set without the squares of these bits.
+    pub fn without(&self, bits: u64) -> SquareSet
+        ensures left { (s : ℕ) → Has result s ↔ (Has self.now s × (bit_at bits s ≡ 0)) }
+    {
+        SquareSet {
+            bits: self.bits & !bits,
+        }
+    }
+
     /// The set with no square.
     fn empty() -> SquareSet
         ensures none { (k : ℕ) → Has result k → ⊥ }
@@ -34,7 +55,7 @@ impl SquareSet {
 
     /// Whether no square is in the set.
     pub fn is_empty(&self) -> bool
-        ensures empty { OnTrue result ((k : ℕ) → Has self.now k → ⊥) }
+        ensures empty { IsTrue result ↔ ((k : ℕ) → Has self.now k → ⊥) }
     {
         self.bits == 0
     }
@@ -94,11 +115,11 @@ pub fn targets(p: &Setup, kind: Kind, from: Square) -> SquareSet
     ensures all { (b : ℕ) → Comes p.now kind from b → Has result b }
 {
     match kind {
-        Kind::King => castling_targets(p, from, leap_targets(p, &KING_STEPS, from)),
+        Kind::King => castling_targets(p, from, king_targets(p, from)),
         Kind::Queen => run_targets(p, &KING_STEPS, from),
         Kind::Rook => run_targets(p, &ROOK_STEPS, from),
         Kind::Bishop => run_targets(p, &BISHOP_STEPS, from),
-        Kind::Knight => leap_targets(p, &KNIGHT_STEPS, from),
+        Kind::Knight => knight_targets(p, from),
         Kind::Pawn => way_targets(p, from, capture_targets(p, from)),
     }
 }
@@ -210,18 +231,27 @@ fn with_taken(p: &Setup, s: Square, set: SquareSet) -> SquareSet
     }
 }
 
-/// Where one of the steps leads, but to no man of the mover's own.
-fn leap_targets(p: &Setup, steps: &[Offset], from: Square) -> SquareSet
-    ensures only { (b : ℕ) → Has result b → (Any (Leaps from b) steps.now × HasNoOwn p.now.board p.now.side b) }
-    ensures all { (b : ℕ) → Any (Leaps from b) steps.now → HasNoOwn p.now.board p.now.side b → Has result b }
+/// Where a knight's steps lead, but to no man of the mover's own.
+fn knight_targets(p: &Setup, from: Square) -> SquareSet
+    ensures only { (b : ℕ) → Has result b → (Any (Leaps from b) knight_steps × HasNoOwn p.now.board p.now.side b) }
+    ensures all { (b : ℕ) → Any (Leaps from b) knight_steps → HasNoOwn p.now.board p.now.side b → Has result b }
 {
-    let mut set = SquareSet::empty();
-    for step in steps {
-        if let Some(to) = step.target(from) {
-            set = with_free(p, to, set);
-        }
-    }
-    set
+    not_own(p, knight_squares(from))
+}
+
+/// Where a king's steps lead, but to no man of the mover's own.
+fn king_targets(p: &Setup, from: Square) -> SquareSet
+    ensures only { (b : ℕ) → Has result b → (Any (Leaps from b) king_steps × HasNoOwn p.now.board p.now.side b) }
+    ensures all { (b : ℕ) → Any (Leaps from b) king_steps → HasNoOwn p.now.board p.now.side b → Has result b }
+{
+    not_own(p, king_squares(from))
+}
+
+/// The squares of a set on which no man of the mover's own stands.
+fn not_own(p: &Setup, set: SquareSet) -> SquareSet
+    ensures { (b : ℕ) → Has result b ↔ (Has set b × HasNoOwn p.now.board p.now.side b) }
+{
+    set.without(p.board.of_colour(p.side))
 }
 
 /// The set, and this square where no man of the mover's own stands on it.

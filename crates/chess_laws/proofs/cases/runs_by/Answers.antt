@@ -6,5 +6,5 @@ use Rattle.chess_laws.proofs.cases.runs_by.Goals as goal
 
 pub returns-then-glides : goal.returns-then-glides
 returns-then-glides c =
-    let both = runs_by c.args.board.now (offset_at c.args.row) c.args.from c.args.to true c.run.result (rw c.of_row.ensures.step at c.run.ensures) in
+    let both = runs_by c.args.board.now (offset_at c.args.row) c.args.from c.args.to true c.is_clear.result c.is_clear.ensures in
     ((λ h. ((sym c.glides.ensures ∙ c.if-glides.true), (both.0 h).1)), (λ h. both.1 (refl, h.1)))

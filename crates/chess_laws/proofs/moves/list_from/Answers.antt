@@ -1,5 +1,5 @@
 -- No move goes to a square that is not among the targets.
-use Rattle.std.proofs.Common.{rules, arith, ◌≡◌, ◌+◌, ◌*◌, subst}
+use Rattle.std.proofs.Common.{rules, refl, arith, ◌≡◌, ◌+◌, ◌*◌, subst}
 use Rattle.chess_laws.specs.Targets.{Comes, ListsBelow}
 use Rattle.chess_laws.proofs.Listing.{lists-no_man, lists-targets}
 use Rattle.chess_laws.proofs.moves.list_from.Goals as goal
@@ -31,7 +31,7 @@ returns-then-is_empty-clause-listed g c =
     let first : 512 * c.args.from ≡ 512 * c.args.from + 8 * 0 = omega arith in
     let all : ListsBelow c.args.p.now g.row.N (512 * c.args.from + 8 * 64) c.args.into.now.items =
     lists-targets c.args.p.now g.row.N c.args.from 0 64 c.in-Some.kind c.args.into.now.items c.targets-targets.result
-    c.requires.sound (omega arith) (omega arith) c.in-Some.ensures c.targets-targets.ensures.all (λ b from less has. c.if-is_empty.ensures.empty b has)
+    c.requires.sound (omega arith) (omega arith) c.in-Some.ensures c.targets-targets.ensures.all (λ b from less has. c.if-is_empty.ensures.empty.0 refl b has)
     (subst (λ n. ListsBelow c.args.p.now g.row.N n c.args.into.now.items) first c.requires.before) in
     let same : 512 * c.args.from + 8 * 64 ≡ 512 * (c.args.from + 1) = omega arith in
     subst (λ n. ListsBelow c.args.p.now g.row.N n c.args.into.now.items) same all

@@ -1,7 +1,7 @@
--- The word 0 has no bit.
-use Rattle.std.proofs.Common.{refl}
-use Rattle.chess_laws.proofs.Bits.{none-set}
+-- The word 0 has no bit, and no other word has none.
+use Rattle.std.proofs.Common.{arith, refl}
+use Rattle.chess_laws.proofs.Sets.{empty-told}
 use Rattle.chess_laws.proofs.targets.SquareSet.is_empty.Goals as goal
 
 pub returns : goal.returns
-returns c = record { empty = none-set c.args.self.now.bits _ refl }
+returns c = record { empty = empty-told c.args.self.now.bits _ (omega arith) refl }

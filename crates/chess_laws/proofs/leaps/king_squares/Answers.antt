@@ -1,0 +1,10 @@
+-- The table is compared with the definition for any two squares, by computing.
+use Rattle.std.proofs.Common.{refl}
+use Rattle.chess_laws.specs.Geometry.{shift, king_steps}
+use Rattle.chess_laws.specs.Leaps.{names_leaps}
+use Rattle.chess_laws.specs.LegalNow.{leaps_now}
+use Rattle.chess_laws.proofs.leaps.king_squares.Goals as goal
+
+pub returns-clause-leaps : goal.returns-clause-leaps
+unfolding shift leaps_now names_leaps
+returns-clause-leaps c = c.squares_in.ensures.leaps king_steps refl
