@@ -1,5 +1,5 @@
--- A board packed into nibbles: this project's own form, in which boards are compared and hashed.
-use Rattle.std.specs.Prelude.{◌≡◌, ℕ, ◌+◌, ◌*◌, ◌/◌, ◌%◌, ◌≤◌, List, [], ◌∷◌, Option, Some, None, length, slice_index_or, All}
+-- A board packed into words: this project's own form, in which boards are compared and hashed.
+use Rattle.std.specs.Prelude.{◌≡◌, ℕ, zero, suc, ◌+◌, ◌*◌, ◌/◌, ◌%◌, List, [], ◌∷◌, ◌++◌, Option, Some, None, take, drop, slice_index_or}
 use Rattle.cell_core.specs.declared.man.Colour.{Colour}
 use Rattle.cell_core.specs.declared.man.Colour.TheVariants.{White, Black}
 use Rattle.cell_core.specs.declared.man.Kind.TheVariants.{King, Queen, Rook, Bishop, Knight, Pawn}
@@ -7,7 +7,7 @@ use Rattle.cell_core.specs.declared.man.Man.{Man}
 use Rattle.cell_core.specs.Board.{Men}
 use Rattle.cell_core.specs.Man.{kind_number}
 
--- 32 bytes, and the side to move.
+-- Four words of 64 bits, each for two ranks, and the side to move.
 pub record Packed : Type 0 where
   pub cells : List ℕ
   pub side : Colour
@@ -44,26 +44,30 @@ abbrev pub nibble_of : Option Man → ℕ
 nibble_of None = 0
 nibble_of (Some man) = first_nibble man.colour + kind_number man.kind
 
--- The squares of bytes: each byte has two, the one with the lower number in its low nibble.
+-- The squares of a word: each has four bits of it, the one with the lowest number the lowest four.
+unfoldable pub men_in : ℕ → ℕ → Men
+men_in zero word = []
+men_in (suc n) word = man_of (word % 16) ∷ men_in n (word / 16)
+
+-- The squares of words, sixteen of each.
 abbrev pub men_of : List ℕ → Men
 men_of [] = []
-men_of (cell ∷ cells) = man_of (cell % 16) ∷ man_of (cell / 16) ∷ men_of cells
+men_of (word ∷ words) = men_in 16 word ++ men_of words
 
--- The bytes of the squares, two squares to a byte.
+-- The word of squares.
+abbrev pub word_of : Men → ℕ
+word_of [] = 0
+word_of (man ∷ men) = nibble_of man + 16 * word_of men
+
+-- The words of the 64 squares.
 abbrev pub cells_of : Men → List ℕ
-cells_of [] = []
-cells_of (low ∷ []) = nibble_of low ∷ []
-cells_of (low ∷ high ∷ men) = (nibble_of low + 16 * nibble_of high) ∷ cells_of men
+cells_of men =
+    word_of (take 16 men) ∷ word_of (take 16 (drop 16 men)) ∷ word_of (take 16 (drop 32 men)) ∷ word_of (take 16 (drop 48 men)) ∷ []
 
 -- The packed form of a board and a side to move.
 abbrev pub packed_of : Men → Colour → Packed
 packed_of men to_move = record { cells = cells_of men; side = to_move }
 
--- Both nibbles of a byte stand for something.
-abbrev pub IsCell : ℕ → Type 0
-IsCell cell = (cell % 16 ≤ 12) × (cell / 16 ≤ 12)
-
--- 32 bytes in which every nibble stands for something.
-pub record ArePacked (cells : List ℕ) : Type 0 where
-  pub squares : length cells ≡ 32
-  pub nibbles : All IsCell cells
+-- Four words that stand for squares: they are the words of these.
+abbrev pub ArePacked : List ℕ → Type 0
+ArePacked cells = cells_of (men_of cells) ≡ cells

@@ -1,16 +1,16 @@
-//! The board packed into 32 bytes, both ways.
-ghost use Rattle.std.specs.Prelude.{◌≡◌, ◌+◌, ◌*◌, ◌<◌, ◌≤◌, length, slice_index};
-ghost use Rattle.cell_core.specs.Packed.{man_of, men_of, nibble_of, packed_of};
+//! The board packed into four words, both ways.
+ghost use Rattle.std.specs.Prelude.{◌≡◌, ◌+◌, ◌*◌, ◌<◌, ◌≤◌, ◌^◌, length, slice_index, take, drop};
+ghost use Rattle.cell_core.specs.Packed.{man_of, men_of, nibble_of, packed_of, word_of};
 
 use super::board::Board;
 use super::man::{Colour, Kind, Man};
 use std::marker::Model;
 
-/// A board and the side to move in 32 bytes of nibbles: what stands on two squares in a byte, the lower square in the
-/// low nibble. Two packed boards are equal exactly where their boards and their sides are.
+/// A board and the side to move in four words: what stands on a square in four bits, two ranks in a word, the lowest square
+/// in the lowest bits. Two packed boards are equal exactly where their boards and their sides are.
 #[derive(Clone, Copy, Debug, PartialEq, Eq, PartialOrd, Ord, Hash)]
 pub struct PackedBoard {
-    cells: [u8; 32],
+    cells: [u64; 4],
     side: Colour,
 }
 
@@ -32,11 +32,23 @@ pub fn pack(board: &Board, side: Colour) -> PackedBoard
     ensures given_back { men_of result.cells ≡ board.now }
 {
     let men = board.cells();
-    let mut cells = [0; 32];
-    for i in 0..32usize {
-        cells[i] = nibble(men[2 * i]) + 16 * nibble(men[2 * i + 1]);
+    PackedBoard {
+        cells: [word(men, 0), word(men, 16), word(men, 32), word(men, 48)],
+        side,
     }
-    PackedBoard { cells, side }
+}
+
+/// The word of the sixteen squares from this one on.
+fn word(men: &[Option<Man>; 64], first: usize) -> u64
+    requires squares { length men.now ≡ 64 }
+    requires first { first ≤ 48 }
+    ensures word { result ≡ word_of (take 16 (drop first men.now)) }
+{
+    let mut word = 0u64;
+    for left in 0..16usize {
+        word = 16 * word + u64::from(nibble(men[first + 15 - left]));
+    }
+    word
 }
 
 /// The board and the side to move of a packed board; `pack` gives the packed board back.
@@ -46,10 +58,12 @@ pub fn unpack(packed: &PackedBoard) -> (Board, Colour)
     ensures given_back { packed_of result.0 result.1 ≡ packed.now }
 {
     let mut men = [None; 64];
-    for i in 0..32usize {
-        let cell = packed.cells[i];
-        men[2 * i] = man(cell % 16);
-        men[2 * i + 1] = man(cell / 16);
+    for i in 0..4usize {
+        let mut word = packed.cells[i];
+        for j in 0..16usize {
+            men[16 * i + j] = man((word % 16) as u8);
+            word /= 16;
+        }
     }
     (Board::from_cells(men), packed.side)
 }

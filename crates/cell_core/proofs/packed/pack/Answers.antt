@@ -1,17 +1,12 @@
--- The bytes are those of the board, so they are packed and give the board back.
-use Rattle.std.proofs.Common.{◌≡◌, arith}
-use Rattle.cell_core.proofs.Packing.{packs, given_back, all_packed}
+-- The words are those of the board, so they stand for its squares and give them back.
+use Rattle.std.proofs.Common.{◌∙◌}
+use Rattle.cell_core.proofs.Packing.{packs, given_back}
 use Rattle.cell_core.proofs.packed.pack.Goals as goal
 
 pub invariant_of-result : goal.invariant_of-result
 invariant_of-result c =
-    let ends : c.loop-i.i ≡ 32 = omega arith in
-    let all = all_packed c.cells-men.result.now c.loop-i.cells c.loop-i.i ends c.loop-i.invariant.squares c.loop-i.invariant.bytes c.loop-i.invariant.packed in
-    rw all (packs c.cells-men.result.now c.loop-i.invariant.squares)
+    rw (c.word.ensures.word, c.word-2.ensures.word, c.word-3.ensures.word, c.word-4.ensures.word) (packs c.cells-men.result.now (rw c.cells-men.ensures.men c.cells-men.ensures.squares))
 
 pub returns-clause-given_back : goal.returns-clause-given_back
 returns-clause-given_back c =
-    let ends : c.loop-i.i ≡ 32 = omega arith in
-    let all = all_packed c.cells-men.result.now c.loop-i.cells c.loop-i.i ends c.loop-i.invariant.squares c.loop-i.invariant.bytes c.loop-i.invariant.packed in
-    let back = given_back c.cells-men.result.now c.loop-i.invariant.squares in
-    rw (all, back) c.cells-men.ensures.men
+    rw (c.word.ensures.word, c.word-2.ensures.word, c.word-3.ensures.word, c.word-4.ensures.word) (given_back c.cells-men.result.now (rw c.cells-men.ensures.men c.cells-men.ensures.squares) ∙ c.cells-men.ensures.men)
