@@ -58,7 +58,7 @@ impl Rows {
     pub fn add_hit(&mut self, hit: &GameHit) -> Result<(), AllocError>
         requires few { AreRows 16777213 self.old }
         ensures rows { (hits : List Hit) → self.old ≡ rows_of hits → OnOk result (self.new ≡ rows_of (hits ++ hit.now ∷ [])) }
-        ensures among { (before behind : List Hit) → self.old ≡ rows_of (before ++ behind) → OnOk result (self.new ≡ rows_of (before ++ hit.now ∷ behind)) }
+        ensures among { OnOk result ((before behind : List Hit) → self.old ≡ rows_of (before ++ behind) → self.new ≡ rows_of (before ++ hit.now ∷ behind)) }
         ensures unchanged { OnErr result (self.new ≡ self.old) }
         ensures hit { IsHit hit.now }
     {

@@ -19,5 +19,5 @@ returns-clause-rows c hits is =
     on-ok c.add.result (λ grows. grows ∙ ap (added c.args.hit.now) is ∙ added-rows hits c.args.hit.now) c.add.ensures.added
 
 pub returns-clause-among : goal.returns-clause-among
-returns-clause-among c before behind is =
-    on-ok c.add.result (λ grows. grows ∙ ap (added c.args.hit.now) is ∙ sym (any-order before behind c.args.hit.now)) c.add.ensures.added
+returns-clause-among c =
+    on-ok c.add.result (λ grows before behind is. grows ∙ ap (added c.args.hit.now) is ∙ sym (any-order before behind c.args.hit.now)) c.add.ensures.added
