@@ -1,0 +1,3 @@
+mod ViewLaws
+mod HitLaws
+mod GameLaws

@@ -1,0 +1,26 @@
+use Rattle.std.proofs.Common.{◌∙◌, List, set, sym, ap}
+use Rattle.std.proofs.lemmas.List.{set-set}
+use Rattle.tree_live.specs.declared.entry.Entry.{Entry}
+use Rattle.tree_live.specs.Watching.{Watched, counted}
+use Rattle.tree_live.specs.Keeping.{no_game}
+use Rattle.tree_live.proofs.HitLaws.{one-counted}
+use Rattle.tree_live.proofs.GameLaws.{entry-read, on-ok}
+use Rattle.tree_live.proofs.watch.Watch.change.Goals as goal
+
+pub put-requires-clause-same : goal.put-requires-clause-same
+put-requires-clause-same c =
+    let is = ap (λ (w : Watched). w.games) c.self.view_is in
+    let at = entry-read c.self.inside.games.items c.args.self.now.games c.args.i c.index.result.now is c.requires.game c.index.ensures in
+    sym c.counted-2.ensures.counted ∙ sym (one-counted c.counted.result c.counted-2.result (sym c.if-same_counted.ensures.same))
+    ∙ c.counted.ensures.counted ∙ ap counted at
+
+pub returns-clause-watched : goal.returns-clause-watched
+returns-clause-watched c =
+    on-ok c.put_in.result
+    (λ put. put ∙ ap (λ (w : Watched). record w { games = set w.games c.args.i c.args.game }) c.in_ok-take_out.ensures.watched
+    ∙ ap (λ (games : List Entry). record c.args.self.now { games = games }) (set-set c.args.self.now.games c.args.i no_game c.args.game))
+    c.put_in.ensures.watched
+
+pub returns-clause-differ : goal.returns-clause-differ
+returns-clause-differ c =
+    on-ok c.put_in.result (λ later base differ. later base (c.in_ok-take_out.ensures.differ base differ)) c.put_in.ensures.differ

@@ -1,0 +1,33 @@
+use Rattle.std.proofs.Common.{◌<◌, ◌∙◌, List, length, sym, ap, subst}
+use Rattle.tree_rows.specs.Rows.{row_at, rows_of}
+use Rattle.tree_live.specs.declared.entry.Entry.{Entry}
+use Rattle.tree_live.specs.Watching.{Watched, counted, hits_in}
+use Rattle.tree_live.specs.Keeping.{entry_at}
+use Rattle.tree_live.proofs.HitLaws.{leaves-hit, leaves-sums, leaves-others}
+use Rattle.tree_live.proofs.watch.Watch.leave.Goals as goal
+
+pub drop_hit-requires : goal.drop_hit-requires
+drop_hit-requires c =
+    let is = ap (λ (w : Watched). w.games) c.self.view_is in
+    record {
+      counted = leaves-hit c.self.inside.games.items c.args.i c.args.hit.now c.self.inside.table
+          (subst (λ (games : List Entry). c.args.i < length games) (sym is) c.requires.game)
+          (ap (λ (games : List Entry). counted (entry_at games c.args.i)) is ∙ c.requires.counted) c.self.invariant.1;
+    }
+
+pub invariant_of-self : goal.invariant_of-self
+invariant_of-self c =
+    let is = ap (λ (w : Watched). w.games) c.self.view_is in (
+      c.self.invariant.0,
+      leaves-sums c.self.inside.games.items c.args.i c.args.hit.now c.self.inside.table c.drop_hit.new.self
+          (subst (λ (games : List Entry). c.args.i < length games) (sym is) c.requires.game)
+          (ap (λ (games : List Entry). counted (entry_at games c.args.i)) is ∙ c.requires.counted) c.self.invariant.1 c.drop_hit.ensures.rows,
+    )
+
+pub returns-clause-others : goal.returns-clause-others
+returns-clause-others c key not =
+    let is = ap (λ (w : Watched). w.games) c.self.view_is in
+    leaves-others c.self.inside.games.items c.args.i c.args.hit.now key
+    (subst (λ (games : List Entry). c.args.i < length games) (sym is) c.requires.game)
+    (ap (λ (games : List Entry). counted (entry_at games c.args.i)) is ∙ c.requires.counted) not
+    ∙ ap (λ (games : List Entry). row_at key (rows_of (hits_in games))) is

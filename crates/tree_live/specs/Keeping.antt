@@ -1,0 +1,53 @@
+-- What the functions of this crate keep on their way.
+use Rattle.std.specs.Prelude.{◌≡◌, ℕ, ◌+◌, ◌||◌, if◌then◌else◌, Bool, true, false, List, [], ◌∷◌, ◌++◌, Option, None, slice_index_or, nat_lt, length, All}
+use Rattle.cell_core.specs.declared.step.Move.{Move}
+use Rattle.tree_rows.specs.declared.row.Row.{Row}
+use Rattle.tree_rows.specs.Keys.{same_key}
+use Rattle.tree_rows.specs.Rows.{IsHit, row_at, rows_of}
+use Rattle.tree_live.specs.declared.entry.Entry.{Entry}
+use Rattle.tree_live.specs.declared.marks.Marks.{Marks}
+use Rattle.tree_live.specs.Watching.{hits_in, wanted}
+
+-- How many rows stand before the first with this key.
+abbrev pub place_of : Option Move → List Row → ℕ
+place_of key [] = 0
+place_of key (row ∷ rows) = if same_key row.key key then 0 else place_of key rows + 1
+
+-- Whether a key is among these, and the keys with one more behind them, unless it is among them.
+abbrev pub is_among : Option Move → List (Option Move) → Bool
+is_among key [] = false
+is_among key (other ∷ keys) = same_key other key || is_among key keys
+
+abbrev pub noted : Option Move → List (Option Move) → List (Option Move)
+noted key keys = if is_among key keys then keys else keys ++ key ∷ []
+
+-- The rows of these keys are those of the table, and all others are as before.
+pub record Tells (keys : List (Option Move)) (table before after : List Row) : Type 0 where
+  pub own : (key : Option Move) → is_among key keys ≡ true → row_at key after ≡ row_at key table
+  pub others : (key : Option Move) → is_among key keys ≡ false → row_at key after ≡ row_at key before
+
+-- The rows of two states of the games differ at these keys alone.
+abbrev pub DifferAt : List (Option Move) → List Entry → List Entry → Type 0
+DifferAt keys before after =
+    (key : Option Move) → is_among key keys ≡ false → row_at key (rows_of (hits_in after)) ≡ row_at key (rows_of (hits_in before))
+
+-- A game that is out and has no hit.
+abbrev pub no_game : Entry
+no_game = record { hit = None; is_in = false }
+
+-- The game with this number.
+abbrev pub entry_at : List Entry → ℕ → Entry
+entry_at games i = slice_index_or games i no_game
+
+-- These rows sum the hits of the games that are in, whose numbers have 16 bits.
+pub record Sums (games : List Entry) (rows : List Row) : Type 0 where
+  pub summed : rows ≡ rows_of (hits_in games)
+  pub ranges : All IsHit (hits_in games)
+
+-- A game with its mark.
+abbrev pub marked : Marks → Entry → Option ℕ → Entry
+marked marks game mark = record game { is_in = wanted marks game.is_in mark }
+
+-- The games with one more, which has no hit, where there is none of this number.
+abbrev pub reaching : ℕ → List Entry → List Entry
+reaching i games = if nat_lt i (length games) then games else games ++ no_game ∷ []

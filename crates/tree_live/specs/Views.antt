@@ -1,0 +1,27 @@
+-- What a view of rows shows (this project's own).
+use Rattle.std.specs.Prelude.{◌≡◌, ℕ, ◌+◌, ◌-◌, ◌^◌, nat_lt, if◌then◌else◌, List, Option, false}
+use Rattle.cell_core.specs.declared.step.Move.{Move}
+use Rattle.tree_rows.specs.declared.hit.GameHit.{GameHit}
+use Rattle.tree_rows.specs.declared.row.Row.{Row}
+use Rattle.tree_rows.specs.Keys.{same_key}
+use Rattle.tree_rows.specs.Rows.{row_at, rows_of}
+
+-- The row of one key is set, or taken out where it is none, and every other key has the row that it had.
+pub record Sets (key : Option Move) (row : Option Row) (before after : List Row) : Type 0 where
+  pub own : row_at key after ≡ row
+  pub others : (other : Option Move) → same_key key other ≡ false → row_at other after ≡ row_at other before
+
+-- The rows that are shown are those that sum these hits.
+abbrev pub Shows : List GameHit → List Row → Type 0
+Shows hits rows = (key : Option Move) → row_at key rows ≡ row_at key (rows_of hits)
+
+-- A view in memory: its rows, how many changes it was told and how many rows it was to put, and which of these puts it refuses.
+pub record Table : Type 0 where
+  pub rows : List Row
+  pub told : ℕ
+  pub puts : ℕ
+  pub refuse : Option ℕ
+
+-- A count with one more, which stands still at the greatest u64.
+abbrev pub more : ℕ → ℕ
+more n = if nat_lt n (2 ^ 64 - 1) then n + 1 else n

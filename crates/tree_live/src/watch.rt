@@ -1,0 +1,352 @@
+//! A position that is watched.
+ghost use Rattle.std.specs.Prelude.{◌≡◌, length};
+
+use crate::entry::{Entry, same_counted, stayed};
+use crate::keys::note;
+use crate::marks::Marks;
+use crate::telling::tell;
+use crate::view::TreeView;
+use cell_core::{Move, PackedBoard};
+use game_filter::{Filter, Renumbering};
+use std::alloc::{AllocError, Global};
+use std::marker::Model;
+use tree_rows::{GameHit, Rows};
+
+/// A board and a side to move that a view shows: for each game of the base its hit, if it meets the position, and whether it is in the
+/// filter, with the rows that sum the hits of the games that are in.
+///
+/// Contracts see the board and the games. The view is not kept: each call is lent it.
+#[derive(Drop)]
+pub struct Watch {
+    board: PackedBoard,
+    games: Vec<Entry>,
+    table: Rows,
+}
+
+impl Model for Watch {
+    ghost use Rattle.std.specs.Prelude.{◌≤◌, vec_len};
+    ghost use Rattle.tree_live.specs.Watching.{Watched};
+    ghost use Rattle.tree_live.specs.Keeping.{Sums};
+
+    ghost Value = { Watched };
+
+    ghost view = { λ w. record { board = w.board; games = w.games.items } };
+
+    ghost invariant = { λ w. (vec_len w.games ≤ 16777214) × Sums w.games.items w.table };
+}
+
+impl Watch {
+    ghost use Rattle.std.specs.Prelude.{◌≡◌, ◌+◌, ◌<◌, ◌≤◌, [], ◌∷◌, ◌++◌, List, Option, Some, None, length, option_to_list, slice_index_or, slice_set, IfOk, OnOk, OnErr, false};
+    ghost use Rattle.cell_core.specs.declared.step.Move.{Move as MoveValue};
+    ghost use Rattle.game_filter.specs.Renumbering.{renumbered};
+    ghost use Rattle.tree_rows.specs.Keys.{same_key};
+    ghost use Rattle.tree_rows.specs.Rows.{row_at, rows_of};
+    ghost use Rattle.tree_live.specs.declared.entry.Entry.{Entry as EntryValue};
+    ghost use Rattle.tree_live.specs.Views.{Shows};
+    ghost use Rattle.tree_live.specs.Watching.{all_changes, all_out, by_marks, changes, counted, hits_in, staying, under, with_game};
+    ghost use Rattle.tree_live.specs.Keeping.{DifferAt, entry_at, marked, no_game, reaching};
+
+    /// Watches a board and side, of which these are the hits of the games, one optional hit each: the view is cleared and shows the
+    /// rows of those that are in.
+    pub fn attach(
+        alloc: Global,
+        view: &mut dyn TreeView,
+        board: PackedBoard,
+        hits: Vec<Option<GameHit>>,
+        filter: &Filter,
+    ) -> Result<Watch, AllocError>
+        requires same_games { length hits.items ≡ length filter.now }
+        requires few { length hits.items ≤ 16777214 }
+        ensures watched { IfOk result (λ watch. watch ≡ record { board = board; games = under filter.now (all_out hits.items) }) }
+        ensures shown { IfOk result (λ watch. Shows (hits_in watch.games) (rows view.new)) }
+        ensures told { told view.new ≤ told view.old + 1 + length (hits_in (under filter.now (all_out hits.items))) }
+    {
+        view.clear();
+        let mut watch = Watch::all_out(alloc, board, hits.as_slice())?;
+        watch.follow(alloc, view, Marks::Plies, filter.plies())?;
+        Ok(watch)
+    }
+
+    /// The board and side that are watched.
+    pub fn board(&self) -> &PackedBoard
+        ensures board { result.now ≡ self.now.board }
+    {
+        &self.board
+    }
+
+    /// The filter has become this one, of the same games.
+    pub fn filter_changed(
+        &mut self,
+        alloc: Global,
+        view: &mut dyn TreeView,
+        filter: &Filter,
+    ) -> Result<(), AllocError>
+        requires same_games { length filter.now ≡ length self.old.games }
+        requires shown { Shows (hits_in self.old.games) (rows view.old) }
+        ensures watched { OnOk result (self.new ≡ record self.old { games = under filter.now self.old.games }) }
+        ensures shown { OnOk result (Shows (hits_in self.new.games) (rows view.new)) }
+        ensures told { told view.new ≤ told view.old + all_changes self.old.games (under filter.now self.old.games) }
+    {
+        self.follow(alloc, view, Marks::Plies, filter.plies())
+    }
+
+    /// Game `i` has become another, or is added: its hit, if it has one, and whether it is in.
+    pub fn game_changed(
+        &mut self,
+        alloc: Global,
+        view: &mut dyn TreeView,
+        i: u32,
+        game: Entry,
+    ) -> Result<(), AllocError>
+        requires game { i ≤ length self.old.games }
+        requires room { i < 16777214 }
+        requires shown { Shows (hits_in self.old.games) (rows view.old) }
+        ensures watched { OnOk result (self.new ≡ record self.old { games = with_game i game self.old.games }) }
+        ensures shown { OnOk result (Shows (hits_in self.new.games) (rows view.new)) }
+        ensures told { told view.new ≤ told view.old + all_changes self.old.games (with_game i game self.old.games) }
+    {
+        let place = i as usize;
+        self.reach(place)?;
+        let mut keys = Vec::new(alloc);
+        self.change(place, game, &mut keys)?;
+        tell(&self.table, view, keys.as_slice())
+    }
+
+    /// The games have become those that stay, with their new numbers.
+    pub fn renumbered(
+        &mut self,
+        alloc: Global,
+        view: &mut dyn TreeView,
+        renumbering: &Renumbering,
+    ) -> Result<(), AllocError>
+        requires same_games { length renumbering.now.to ≡ length self.old.games }
+        requires shown { Shows (hits_in self.old.games) (rows view.old) }
+        ensures watched { OnOk result (self.new ≡ record self.old { games = renumbered renumbering.now.to self.old.games }) }
+        ensures shown { OnOk result (Shows (hits_in self.new.games) (rows view.new)) }
+        ensures told { told view.new ≤ told view.old + all_changes self.old.games (staying renumbering.now.to self.old.games) }
+    {
+        self.follow(alloc, view, Marks::Numbers, renumbering.to())?;
+        self.move_games(alloc, renumbering.to())
+    }
+
+    /// Watches no more: the box is dropped.
+    pub fn detach(self, slot: &mut Option<Box<dyn TreeView>>)
+        ensures gone { slot.new ≡ None }
+    {
+        *slot = None;
+    }
+
+    // All games out.
+    fn all_out(
+        alloc: Global,
+        board: PackedBoard,
+        hits: &[Option<GameHit>],
+    ) -> Result<Watch, AllocError>
+        requires few { length hits.now ≤ 16777214 }
+        ensures watched { IfOk result (λ watch. watch ≡ record { board = board; games = all_out hits.now }) }
+    {
+        let mut games = Vec::with_capacity(alloc, hits.len())?;
+        for hit in hits {
+            games.push(Entry {
+                hit: *hit,
+                is_in: false,
+            })?;
+        }
+        Ok(Watch {
+            board,
+            games,
+            table: Rows::new(alloc),
+        })
+    }
+
+    // Puts games in and out by their marks, and tells the view each row that differs, once.
+    fn follow(
+        &mut self,
+        alloc: Global,
+        view: &mut dyn TreeView,
+        marks: Marks,
+        list: &[Option<u32>],
+    ) -> Result<(), AllocError>
+        requires same_games { length list.now ≡ length self.old.games }
+        requires shown { Shows (hits_in self.old.games) (rows view.old) }
+        ensures watched { OnOk result (self.new ≡ record self.old { games = by_marks marks list.now self.old.games }) }
+        ensures shown { OnOk result (Shows (hits_in self.new.games) (rows view.new)) }
+        ensures told { told view.new ≤ told view.old + all_changes self.old.games (by_marks marks list.now self.old.games) }
+    {
+        let mut keys = Vec::new(alloc);
+        self.settle(marks, list, &mut keys)?;
+        tell(&self.table, view, keys.as_slice())
+    }
+
+    // Puts games in and out by their marks, and notes the keys of the rows that change.
+    fn settle(
+        &mut self,
+        marks: Marks,
+        list: &[Option<u32>],
+        keys: &mut Vec<Option<Move>>,
+    ) -> Result<(), AllocError>
+        requires same_games { length list.now ≡ length self.old.games }
+        requires no_keys { keys.old.items ≡ [] }
+        ensures watched { OnOk result (self.new ≡ record self.old { games = by_marks marks list.now self.old.games }) }
+        ensures differ { OnOk result (DifferAt keys.new.items self.old.games self.new.games) }
+        ensures few { OnOk result (length keys.new.items ≤ all_changes self.old.games (by_marks marks list.now self.old.games)) }
+    {
+        for i in 0..list.len() {
+            self.mark(i, marks, list[i], keys)?;
+        }
+        Ok(())
+    }
+
+    // Puts a game in or out by its mark.
+    fn mark(
+        &mut self,
+        i: usize,
+        marks: Marks,
+        mark: Option<u32>,
+        keys: &mut Vec<Option<Move>>,
+    ) -> Result<(), AllocError>
+        requires game { i < length self.old.games }
+        ensures watched { OnOk result (self.new ≡ record self.old { games = slice_set self.old.games i (marked marks (entry_at self.old.games i) mark) }) }
+        ensures differ { OnOk result ((base : List EntryValue) → DifferAt keys.old.items base self.old.games → DifferAt keys.new.items base self.new.games) }
+        ensures few { OnOk result (length keys.new.items ≤ length keys.old.items + changes (counted (entry_at self.old.games i)) (counted (marked marks (entry_at self.old.games i) mark))) }
+    {
+        let game = self.games[i];
+        let is_in = marks.wanted(game.is_in, mark);
+        if is_in == game.is_in {
+            return Ok(());
+        }
+        self.change(i, Entry { is_in, ..game }, keys)
+    }
+
+    // A game becomes another; notes the keys of the rows that change.
+    fn change(
+        &mut self,
+        i: usize,
+        game: Entry,
+        keys: &mut Vec<Option<Move>>,
+    ) -> Result<(), AllocError>
+        requires game { i < length self.old.games }
+        ensures watched { OnOk result (self.new ≡ record self.old { games = slice_set self.old.games i game }) }
+        ensures differ { OnOk result ((base : List EntryValue) → DifferAt keys.old.items base self.old.games → DifferAt keys.new.items base self.new.games) }
+        ensures few { OnOk result (length keys.new.items ≤ length keys.old.items + changes (counted (entry_at self.old.games i)) (counted game)) }
+    {
+        if same_counted(&self.games[i].counted(), &game.counted()) {
+            self.put(i, game);
+            return Ok(());
+        }
+        self.take_out(i, keys)?;
+        self.put_in(i, game, keys)
+    }
+
+    // A game becomes one of which nothing is counted.
+    fn take_out(&mut self, i: usize, keys: &mut Vec<Option<Move>>) -> Result<(), AllocError>
+        requires game { i < length self.old.games }
+        ensures watched { OnOk result (self.new ≡ record self.old { games = slice_set self.old.games i no_game }) }
+        ensures differ { OnOk result ((base : List EntryValue) → DifferAt keys.old.items base self.old.games → DifferAt keys.new.items base self.new.games) }
+        ensures few { OnOk result (length keys.new.items ≤ length keys.old.items + length (option_to_list (counted (entry_at self.old.games i)))) }
+    {
+        match self.games[i].counted() {
+            Some(hit) => {
+                note(keys, &hit.next)?;
+                self.leave(i, &hit);
+            }
+            None => self.put(i, NO_GAME),
+        }
+        Ok(())
+    }
+
+    // A game of which nothing is counted becomes another.
+    fn put_in(
+        &mut self,
+        i: usize,
+        game: Entry,
+        keys: &mut Vec<Option<Move>>,
+    ) -> Result<(), AllocError>
+        requires game { i < length self.old.games }
+        requires out { entry_at self.old.games i ≡ no_game }
+        ensures watched { OnOk result (self.new ≡ record self.old { games = slice_set self.old.games i game }) }
+        ensures differ { OnOk result ((base : List EntryValue) → DifferAt keys.old.items base self.old.games → DifferAt keys.new.items base self.new.games) }
+        ensures few { OnOk result (length keys.new.items ≤ length keys.old.items + length (option_to_list (counted game))) }
+    {
+        match game.counted() {
+            Some(hit) => {
+                note(keys, &hit.next)?;
+                self.enter(i, game, &hit)?;
+            }
+            None => self.put(i, game),
+        }
+        Ok(())
+    }
+
+    // A game becomes another of which the same is counted.
+    fn put(&mut self, i: usize, game: Entry)
+        requires game { i < length self.old.games }
+        requires same { counted game ≡ counted (entry_at self.old.games i) }
+        ensures watched { self.new ≡ record self.old { games = slice_set self.old.games i game } }
+        ensures same { hits_in self.new.games ≡ hits_in self.old.games }
+    {
+        self.games[i] = game;
+    }
+
+    // A game becomes one of which nothing is counted; this hit was.
+    fn leave(&mut self, i: usize, hit: &GameHit)
+        requires game { i < length self.old.games }
+        requires counted { counted (entry_at self.old.games i) ≡ Some hit.now }
+        ensures watched { self.new ≡ record self.old { games = slice_set self.old.games i no_game } }
+        ensures others { (key : Option MoveValue) → same_key hit.now.next key ≡ false → row_at key (rows_of (hits_in self.new.games)) ≡ row_at key (rows_of (hits_in self.old.games)) }
+    {
+        self.table.drop_hit(hit);
+        self.games[i] = NO_GAME;
+    }
+
+    // A game of which nothing is counted becomes one of which this hit is. After want of memory nothing changed.
+    fn enter(&mut self, i: usize, game: Entry, hit: &GameHit) -> Result<(), AllocError>
+        requires game { i < length self.old.games }
+        requires out { entry_at self.old.games i ≡ no_game }
+        requires counted { counted game ≡ Some hit.now }
+        ensures watched { OnOk result (self.new ≡ record self.old { games = slice_set self.old.games i game }) }
+        ensures others { OnOk result ((key : Option MoveValue) → same_key hit.now.next key ≡ false → row_at key (rows_of (hits_in self.new.games)) ≡ row_at key (rows_of (hits_in self.old.games))) }
+    {
+        self.table.add_hit(hit)?;
+        self.games[i] = game;
+        Ok(())
+    }
+
+    // One more game where there is none of this number.
+    fn reach(&mut self, i: usize) -> Result<(), AllocError>
+        requires room { i < 16777214 }
+        requires game { i ≤ length self.old.games }
+        ensures watched { OnOk result (self.new ≡ record self.old { games = reaching i self.old.games }) }
+    {
+        if i < self.games.len() {
+            return Ok(());
+        }
+        self.add_game()
+    }
+
+    // One more game, of which nothing is counted.
+    fn add_game(&mut self) -> Result<(), AllocError>
+        requires room { length self.old.games < 16777214 }
+        ensures watched { OnOk result (self.new ≡ record self.old { games = self.old.games ++ no_game ∷ [] }) }
+        ensures unchanged { OnErr result (self.new ≡ self.old) }
+    {
+        self.games.push(NO_GAME)?;
+        Ok(())
+    }
+
+    // The games that stay come to their new numbers; of those that go nothing is counted.
+    fn move_games(&mut self, alloc: Global, to: &[Option<u32>]) -> Result<(), AllocError>
+        requires same_games { length to.now ≡ length self.old.games }
+        requires out { hits_in (renumbered to.now self.old.games) ≡ hits_in self.old.games }
+        ensures watched { OnOk result (self.new ≡ record self.old { games = renumbered to.now self.old.games }) }
+    {
+        self.games = stayed(alloc, self.games.as_slice(), to)?;
+        Ok(())
+    }
+}
+
+// A game of which nothing is counted.
+const NO_GAME: Entry = Entry {
+    hit: None,
+    is_in: false,
+};
