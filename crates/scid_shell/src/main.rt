@@ -7,16 +7,20 @@ ghost use Rattle.shell_session.specs.Stops.{status_of};
 ghost use Rattle.shell_session.specs.declared.status.Status.TheVariants as done;
 
 mod messages;
+mod progress;
 #[cfg(test)]
 mod tests;
+mod watched;
 
 use base_files::DeviceError;
 use messages::{HELP, VERSION, message};
+use progress::ProgressLine;
 use shell_session::{Status, session};
 use std::io::ErrorKind;
 use std::process::ExitCode;
 use std::{env, io};
 use std_devices::{DiskFiles, StdSink, StdSource};
+use watched::Watched;
 
 fn main(rt: HostRuntime) -> ExitCode {
     match words(&rt) {
@@ -53,14 +57,17 @@ fn printed(outcome: io::Result<()>) -> Status
     }
 }
 
-/// Runs the session over the real files and streams.
+/// Runs the session over the real files and streams, and says how far it is.
 fn run(rt: &HostRuntime, words: &[String]) -> Status {
-    let mut files = DiskFiles::new(rt.alloc(), rt);
-    let mut input = StdSource::new(rt.stdin());
-    let mut out = StdSink::new(rt.stdout());
+    let line = ProgressLine::new(rt);
+    let mut files = Watched::new(DiskFiles::new(rt.alloc(), rt), &line);
+    let mut input = Watched::new(StdSource::new(rt.stdin()), &line);
+    let mut out = Watched::new(StdSink::new(rt.stdout()), &line);
     let status = session(rt.alloc(), words, &mut files, &mut input, &mut out);
-    files.close();
-    flushed(status, out.flush())
+    files.into_device().close();
+    let outcome = out.into_device().flush();
+    line.clear();
+    flushed(status, outcome)
 }
 
 /// The status of a session whose last bytes were then handed on. A fault at that is told where the session was done, and

@@ -1,0 +1,254 @@
+//! What a run does and how far it is, on one line of standard error.
+use std::cell::Cell;
+use std::fmt;
+use std::fmt::{Display, Formatter};
+use std::io::IsTerminal;
+use std::time::{Duration, Instant};
+
+/// How many milliseconds a run is quiet.
+const QUIET: u64 = 1000;
+
+/// How many milliseconds what was said stands at least.
+const STANDS: u64 = 100;
+
+/// Takes away what stands on the line.
+const CLEAR: &str = "\r\x1b[K";
+
+/// The line that says how far a run is, where standard error is a terminal, once the run takes more than a second.
+///
+/// It is short, and the cursor stands at its beginning, so that what somebody else says there covers it.
+#[derive(Drop)]
+pub struct ProgressLine<'r> {
+    rt: &'r HostRuntime,
+    // When the run began; none where nothing is said.
+    began: Option<Instant>,
+    // How long after that something may be said again.
+    next: Cell<Duration>,
+    shown: Cell<bool>,
+    progress: Cell<Progress>,
+    // Whether what is typed, and the text, stand on the same terminal.
+    typed: bool,
+    text: bool,
+}
+
+/// How far a run is.
+#[derive(Clone, Copy)]
+struct Progress {
+    work: Work,
+    // The games of the base when it was opened, and how many records were read since.
+    games: u32,
+    read: u64,
+    // The place in the games file that was read last, and the file's length.
+    place: u64,
+    end: u64,
+    // The games that were added to the games file, and those that were copied to a new one.
+    added: u64,
+    copied: u64,
+    // The bytes of the input that were read.
+    input: u64,
+}
+
+/// What a run does.
+#[derive(Clone, Copy, PartialEq, Eq)]
+enum Work {
+    Opening,
+    Reading,
+    Adding,
+    Compacting,
+    Saving,
+}
+
+impl<'r> ProgressLine<'r> {
+    /// The line of a run that begins. It is not shown yet.
+    pub fn new(rt: &'r HostRuntime) -> ProgressLine<'r> {
+        let began = if rt.stderr().is_terminal() {
+            Instant::now(rt).ok()
+        } else {
+            None
+        };
+        let progress = Progress {
+            work: Work::Opening,
+            games: 0,
+            read: 0,
+            place: 0,
+            end: 0,
+            added: 0,
+            copied: 0,
+            input: 0,
+        };
+        ProgressLine {
+            rt,
+            began,
+            next: Cell::new(Duration::from_millis(QUIET)),
+            shown: Cell::new(false),
+            progress: Cell::new(progress),
+            typed: rt.stdin().is_terminal(),
+            text: rt.stdout().is_terminal(),
+        }
+    }
+
+    /// The index was loaded.
+    pub fn loaded(&self, index: &[u8]) {
+        self.tell(Progress {
+            games: games_in(index),
+            ..self.progress.get()
+        });
+    }
+
+    /// The length of the games file was asked.
+    pub fn measured(&self, end: u64) {
+        self.tell(Progress {
+            end,
+            ..self.progress.get()
+        });
+    }
+
+    /// A record is read at this place of the games file.
+    pub fn read(&self, place: u64) {
+        let before = self.progress.get();
+        let work = match before.work {
+            Work::Opening | Work::Compacting => before.work,
+            _ => Work::Reading,
+        };
+        self.tell(Progress {
+            work,
+            read: before.read.saturating_add(1),
+            place,
+            ..before
+        });
+    }
+
+    /// A record is added to the games file.
+    pub fn added(&self, bytes: usize) {
+        let before = self.progress.get();
+        self.tell(Progress {
+            work: Work::Adding,
+            added: before.added.saturating_add(1),
+            end: before.end.saturating_add(bytes as u64),
+            ..before
+        });
+    }
+
+    /// A new games file is begun.
+    pub fn begun(&self) {
+        self.tell(Progress {
+            work: Work::Compacting,
+            copied: 0,
+            ..self.progress.get()
+        });
+    }
+
+    /// A record is added to the new games file.
+    pub fn copied(&self) {
+        let before = self.progress.get();
+        self.tell(Progress {
+            copied: before.copied.saturating_add(1),
+            ..before
+        });
+    }
+
+    /// Files are about to be replaced.
+    pub fn saving(&self) {
+        self.tell(Progress {
+            work: Work::Saving,
+            ..self.progress.get()
+        });
+    }
+
+    /// The input is about to be read: no line stands where somebody types.
+    pub fn before_input(&self) {
+        if self.typed {
+            self.clear();
+        }
+    }
+
+    /// So many bytes of the input were read.
+    pub fn taken(&self, bytes: usize) {
+        let before = self.progress.get();
+        self.progress.set(Progress {
+            input: before.input.saturating_add(bytes as u64),
+            ..before
+        });
+    }
+
+    /// A text is about to be written, so the base is open: no line stands where it goes.
+    pub fn before_text(&self) {
+        if self.text {
+            self.clear();
+        }
+        let before = self.progress.get();
+        if before.work == Work::Opening {
+            self.progress.set(Progress {
+                work: Work::Reading,
+                ..before
+            });
+        }
+    }
+
+    /// Takes the line away.
+    pub fn clear(&self) {
+        if self.shown.get() {
+            self.shown.set(false);
+            let _ = eprint!(self.rt; "{CLEAR}");
+        }
+    }
+
+    // Keeps how far the run is, and says it where it is time to.
+    fn tell(&self, progress: Progress) {
+        self.progress.set(progress);
+        let Some(began) = self.began else {
+            return;
+        };
+        let Ok(now) = began.elapsed(self.rt) else {
+            return;
+        };
+        if now >= self.next.get() {
+            self.next
+                .set(now.saturating_add(Duration::from_millis(STANDS)));
+            self.shown.set(true);
+            let _ = eprint!(self.rt; "{CLEAR}{progress}\r");
+        }
+    }
+}
+
+// The number of games in the header of an index.
+fn games_in(index: &[u8]) -> u32 {
+    match index.get(14..17) {
+        Some([high, middle, low]) => u32::from_be_bytes([0, *high, *middle, *low]),
+        _ => 0,
+    }
+}
+
+impl Progress {
+    // How much of the games file lies before the place that was read last, of a hundred.
+    fn percent(&self) -> u64 {
+        self.place / (self.end / 100 + 1)
+    }
+
+    // How many millions of bytes of the input were read.
+    fn megabytes(&self) -> u64 {
+        self.input / 1_000_000
+    }
+}
+
+impl Display for Progress {
+    fn fmt<W: fmt::Write>(&self, f: &mut Formatter<W>) -> fmt::Result {
+        match self.work {
+            Work::Opening => write!(f, "opening: {} of {} games", self.read, self.games),
+            Work::Reading => write!(f, "reading: {}% of the games file", self.percent()),
+            Work::Adding => write!(
+                f,
+                "adding: {} games, {} MB read",
+                self.added,
+                self.megabytes()
+            ),
+            Work::Compacting => write!(
+                f,
+                "compact: {} games, {}% read",
+                self.copied,
+                self.percent()
+            ),
+            Work::Saving => f.write_str("saving"),
+        }
+    }
+}
