@@ -21,6 +21,7 @@ GAMES = 300_000
 SCRIPT = "info\nfind rnbqkbnr/pppppppp/8/8/8/8/PPPPPPPP/RNBQKBNR w\ninfo\n"
 CLEAR = "\r\x1b[K"
 QUIET = 1.0
+LASTING = 1.5
 MOST_A_SECOND = 10
 FILES_FAULT = 5
 SAYS = {
@@ -131,12 +132,14 @@ def an_opening_is_counted(folder, large):
     shown = said(written)
     assert (status, piped(large, SCRIPT)) == (0, (0, text, "")), status
     counts = [re.fullmatch(SAYS["opening"], line) for line in shown if not re.fullmatch(SAYS["reading"], line)]
-    assert counts and all(counts), shown
-    assert {int(count[2]) for count in counts} == {GAMES}, shown[:2]
+    assert all(counts) and {int(count[2]) for count in counts} <= {GAMES}, shown[:2]
     read = [int(count[1]) for count in counts]
-    assert read == sorted(set(read)) and 0 < read[0] and read[-1] <= GAMES, read
-    assert len(shown) <= (took - QUIET) * MOST_A_SECOND + 1, (len(shown), took)
-    assert written.endswith(CLEAR) and picture(written) == [""], written[-80:]
+    assert read == sorted(set(read)) and all(0 < it <= GAMES for it in read), read
+    assert len(shown) <= max(took - QUIET, 0) * MOST_A_SECOND + 1, (len(shown), took)
+    assert picture(written) == [""], written[-80:]
+    if took < LASTING:
+        return f"it took {took:.1f} s"
+    assert shown and written.endswith(CLEAR), written[-80:]
     return f"{len(shown)} lines in {took:.1f} s, as `{shown[len(shown) // 2]}`"
 
 
@@ -172,8 +175,9 @@ def text_is_not_mixed_with_it(folder, large):
     terminal = Terminal()
     process = subprocess.Popen([PROGRAM, large], stdin=subprocess.PIPE, stdout=terminal.theirs, stderr=terminal.theirs)
     process.communicate(SCRIPT.encode(), timeout=600)
+    took = time.monotonic() - terminal.began
     written = terminal.end()
-    assert process.returncode == 0 and said(written), written[-80:]
+    assert process.returncode == 0 and (said(written) or took < LASTING), written[-80:]
     assert picture(written) == piped(large, SCRIPT)[1].split("\n"), written[-80:]
 
 
