@@ -6,7 +6,7 @@ use Rattle.move_codec.specs.Numbers.{Numbered}
 use Rattle.game_codec.specs.Place.{Place, after_move, numbered_after}
 use Rattle.game_codec.specs.Nests.{IsCalm, IsCalmBehind, IsKept, with_before}
 
-calm : (bytes : List ℕ) (used : ℕ) → 0 < used → used ≤ 2 → IsCalmBehind bytes → IsCalm (drop used bytes)
+pub calm : (bytes : List ℕ) (used : ℕ) → 0 < used → used ≤ 2 → IsCalmBehind bytes → IsCalm (drop used bytes)
 calm bytes zero some few are = absurd (omega (arith, some))
 calm bytes (suc zero) some few are = are.0
 calm bytes (suc (suc zero)) some few are = are.1

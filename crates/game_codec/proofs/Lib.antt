@@ -24,3 +24,7 @@ pub mod WalkLaws
 pub mod WalkSteps
 pub mod PassLaws
 pub mod CheckLaws
+pub mod OpenLaws
+pub mod MeetLaws
+pub mod AllWalkLaws
+pub mod VisitLaws

@@ -115,6 +115,17 @@ begun bytes all start used used' first then tags game r =
       };
     }
 
+-- The start of a record is the one that is read.
+pub starts_so : (bytes : List ℕ) (all : List Tag) (start : Numbered) (used used' : ℕ) → BeginsTags bytes all (drop used bytes)
+    → BeginsStart (drop used bytes) start (drop used' (drop used bytes)) → (tags : List Tag) (game : GameTree) (r : IsRecord bytes tags game)
+    → (r.start ≡ start) × (r.behind_start ≡ drop (used + used') bytes)
+starts_so bytes all start used used' first then tags game r =
+    let same = BeginsTags-one bytes r.all_tags all r.behind_tags (drop used bytes) r.tags_first first in
+    let begins : BeginsStart (drop used bytes) r.start r.behind_start =
+    subst (λ (l : List ℕ). BeginsStart l r.start r.behind_start) same.1 r.then_start in
+    let starts = BeginsStart-one (drop used bytes) r.start start r.behind_start (drop used' (drop used bytes)) begins then in
+    (starts.0, starts.1 ∙ drop-drop used' used bytes)
+
 -- Bytes whose tags or whose start has a fault are no record.
 pub no_tags : (bytes rest : List ℕ) (what : RecordWhat) → ((all : List Tag) × BreaksTags bytes all rest what) → IsSomeRecord bytes → ⊥
 no_tags bytes rest what breaks some =

@@ -19,3 +19,7 @@ pub mod Flat
 pub mod Walk
 pub mod Walking
 pub mod Checking
+pub mod Visits
+pub mod AllWalk
+pub mod Open
+pub mod Blank

@@ -2,6 +2,7 @@
 //! moves with their variations, and the comments of a game.
 #![tactic(auto)]
 
+mod all_walk;
 mod breach;
 mod building;
 mod checking;
@@ -19,12 +20,15 @@ mod tags;
 mod texts;
 mod token;
 mod tokens;
+mod visits;
 mod walk;
 
+pub use all_walk::AllWalk;
 pub use checking::first_fault;
 pub use decoding::decode_game;
 pub use encoding::encode_game;
 pub use fault::{DecodeError, EncodeError, RecordFault, RecordWhat};
 pub use one_reading::bytes_have_one_reading;
 pub use round_trip::written_records_are_read;
+pub use visits::all_moves_have_the_main_line;
 pub use walk::Walk;

@@ -115,7 +115,7 @@ impl Place {
 }
 
 // Whether a mark of what hangs on a move may follow the move that the bytes begin with, which takes one of them or two.
-fn hangs_behind(bytes: &[u8]) -> bool
+pub(crate) fn hangs_behind(bytes: &[u8]) -> bool
     ensures calm { OnFalse result (IsCalmBehind bytes.now) }
 {
     match bytes {

@@ -109,8 +109,9 @@ impl<'a> Walk<'a> {
 }
 
 // The start of a record, and how many bytes stand before its moves.
-fn begin(bytes: &[u8]) -> Result<StartRead, Breach>
+pub(crate) fn begin(bytes: &[u8]) -> Result<StartRead, Breach>
     ensures begun { IfOk result (λ read. (tags : List TagValue) (game : GameTree) → IsRecord bytes.now tags game → IsBehind game read.start 0 (drop read.used bytes.now)) }
+    ensures starts { IfOk result (λ read. (tags : List TagValue) (game : GameTree) (r : IsRecord bytes.now tags game) → (r.start ≡ read.start) × (r.behind_start ≡ drop read.used bytes.now)) }
     ensures used { IfOk result (λ read. read.used ≤ length bytes.now) }
     ensures fault { IfErr result (λ _. IsSomeRecord bytes.now → ⊥) }
     ensures first { IfErr result (Tells (Breaks bytes.now)) }
@@ -156,7 +157,7 @@ fn next_move<'a>(here: &mut Numbered, bytes: &'a [u8]) -> Result<Option<NextMove
 }
 
 // The fault that a part of these bytes has.
-fn fault_at(bytes: &[u8], breach: Breach) -> RecordFault
+pub(crate) fn fault_at(bytes: &[u8], breach: Breach) -> RecordFault
     requires few { length bytes.now < 2 ^ 32 }
     ensures first { Tells (Breaks bytes.now) breach → IsRecordFault bytes.now result }
     ensures within { result.place ≤ length bytes.now }

@@ -5,7 +5,7 @@ use Rattle.game_codec.specs.TagSpelling.{BeginsTags}
 use Rattle.game_codec.proofs.CheckLaws.{start_broken, tags_broken}
 use Rattle.game_codec.specs.Start.{BeginsStart, BreaksStart}
 use Rattle.game_codec.proofs.PassLaws.{if_err}
-use Rattle.game_codec.proofs.WalkSteps.{begun, no_start, no_tags}
+use Rattle.game_codec.proofs.WalkSteps.{begun, no_start, no_tags, starts_so}
 use Rattle.game_codec.proofs.walk.begin.Goals as goal
 
 pub returns-in_err-used-clause-fault : goal.returns-in_err-used-clause-fault
@@ -42,3 +42,11 @@ returns-in_err-read-clause-first c =
     let told : Tells (Breaks bytes) c.in_err-read.field-0.0 =
     start_broken bytes c.split_at.result.1.now tags.0 c.in_err-read.field-0.0 first c.in_err-read.ensures.err in
     search (rules, told)
+
+pub returns-clause-starts : goal.returns-clause-starts
+returns-clause-starts c =
+    let tags = c.in_ok-used.ensures.ok in
+    let start = c.in_ok-read.read.start in
+    let used = c.in_ok-read.read.used in
+    let then = subst (λ (l : List ℕ). BeginsStart l start (drop used l)) c.split_at.ensures.back c.in_ok-read.ensures.ok in
+    starts_so c.args.bytes.now tags.0 start c.in_ok-used.used used tags.1 then
