@@ -9,7 +9,7 @@ use Rattle.cell_core.specs.declared.man.Kind.TheVariants.{King}
 use Rattle.cell_core.specs.declared.man.Man.{Man}
 use Rattle.cell_core.specs.Board.{Men, man_at}
 use Rattle.cell_core.specs.Man.{is_of, is_man, same_colour, same_kind}
-use Rattle.chess_laws.specs.Position.{HasKings, HasFewMen}
+use Rattle.chess_laws.specs.Position.{HasKings, HasFewMen, king_square}
 use Rattle.chess_laws.proofs.Kings.{is_man-Some, king-only}
 use Rattle.cell_core.specs.declared.man.Colour.TheVariants.{White, Black}
 use Rattle.move_codec.specs.Numbers.{AreNumbers, HasKingFirst, text_numbers, IsNumbering, number_of, text_squares, rank_squares, with_king, with_square, with_squares, text_numbers_of}
@@ -54,6 +54,10 @@ Adds-push squares square = record {
   from = λ j s e. elim (get-push_from squares square j s e) [ inl last ↦ inl last | inr before ↦ inr (j, (before, refl)) ];
 }
 
+with_king-first : (squares : List ℕ) (x : ℕ) → slice_get (with_king squares x) 0 ≡ Some x
+with_king-first [] x = refl
+with_king-first (y ∷ ys) x = refl
+
 -- where the man with a number goes when a king takes 0
 abbrev pub king_place : ℕ → ℕ → ℕ
 king_place n zero = n
@@ -94,13 +98,20 @@ Adds-king (first ∷ rest) square = record {
           | inr before ↦ inr (suc j, (before, refl))
         ]
 
--- the list has the squares of the side's men but for those that are still to come
+-- a king is a man of its side
+king_held : (c : Colour) (o : Option Man) → is_man c King o ≡ true → is_of c o ≡ true
+king_held c None h = absurd (false≢true h)
+king_held c (Some m) h = (and_parts (same_colour m.colour c) (same_kind m.kind King) h).0
+
+-- the list has the squares of the side's men but for those that are still to come, and begins with its king if he has come
 pub record Partial (men : Men) (c : Colour) (later squares : List ℕ) : Type 0 where
   pub held : (k s : ℕ) → slice_get squares k ≡ Some s → holds c men s ≡ true
   pub once : (j k s : ℕ) → slice_get squares j ≡ Some s → slice_get squares k ≡ Some s → j ≡ k
   pub fresh : (k j s : ℕ) → slice_get squares k ≡ Some s → slice_get later j ≡ Some s → ⊥
   pub whole : (s : ℕ) → s < 64 → holds c men s ≡ true → ((j : ℕ) → slice_get later j ≡ Some s → ⊥)
       → slice_get squares (number_of squares s) ≡ Some s
+  pub king : (s : ℕ) → s < 64 → is_man c King (man_at men s) ≡ true → ((j : ℕ) → slice_get later j ≡ Some s → ⊥)
+      → slice_get squares 0 ≡ Some s
 
 -- no square comes twice
 abbrev pub Distinct : List ℕ → Type 0
@@ -123,6 +134,7 @@ Partial-skip men c x later squares distinct free h = record {
   once = h.once;
   fresh = λ k j s e f. h.fresh k (suc j) s e f;
   whole = λ s on_board t none. h.whole s on_board t (not_there s t none);
+  king = λ s on_board is none. h.king s on_board is (not_there s (king_held c (man_at men s) is) none);
 }
   where
     not_there : (s : ℕ) → holds c men s ≡ true → ((j : ℕ) → slice_get later j ≡ Some s → ⊥) → (j : ℕ) → slice_get (x ∷ later) j ≡ Some s → ⊥
@@ -131,8 +143,10 @@ Partial-skip men c x later squares distinct free h = record {
 
 -- a square with a man of the side
 Partial-add : (men : Men) (c : Colour) (x : ℕ) (later squares next : List ℕ) → Distinct (x ∷ later) → holds c men x ≡ true
-    → Adds squares next x → Partial men c (x ∷ later) squares → Partial men c later next
-Partial-add men c x later squares next distinct stands adds h = record {
+    → Adds squares next x → Partial men c (x ∷ later) squares
+    → ((s : ℕ) → s < 64 → is_man c King (man_at men s) ≡ true → ((j : ℕ) → slice_get later j ≡ Some s → ⊥) → slice_get next 0 ≡ Some s)
+    → Partial men c later next
+Partial-add men c x later squares next distinct stands adds h king = record {
   held = λ k s e. elim (adds.from k s e) [
     | inl new ↦ ap (holds c men) new.1 ∙ stands
     | inr old ↦ h.held old.0 s old.1.0
@@ -157,35 +171,43 @@ Partial-add men c x later squares next distinct stands adds h = record {
         found next (adds.place (number_of squares s)) s
         (adds.kept (number_of squares s) s (h.whole s on_board t (not_there s other none)))
   ];
+  king = king;
 }
   where
     not_there : (s : ℕ) → s ≢ x → ((j : ℕ) → slice_get later j ≡ Some s → ⊥) → (j : ℕ) → slice_get (x ∷ later) j ≡ Some s → ⊥
     not_there s other none zero e = other (sym (same_Some x s e))
     not_there s other none (suc j) e = none j e
 
--- a king is a man of its side
-king_held : (c : Colour) (o : Option Man) → is_man c King o ≡ true → is_of c o ≡ true
-king_held c None h = absurd (false≢true h)
-king_held c (Some m) h = (and_parts (same_colour m.colour c) (same_kind m.kind King) h).0
-
-Partial-step : (men : Men) (c : Colour) (x : ℕ) (later squares : List ℕ) → Distinct (x ∷ later)
+Partial-step : (men : Men) (c : Colour) (x : ℕ) (later squares : List ℕ) → count_by (is_man c King) men ≡ 1 → Distinct (x ∷ later)
     → Partial men c (x ∷ later) squares → Partial men c later (with_square men c squares x)
-Partial-step men c x later squares distinct h =
+Partial-step men c x later squares one distinct h =
     elim (cases_Bool (is_man c King (man_at men x))) [
-      | inl king ↦ rw king (Partial-add men c x later squares (with_king squares x) distinct (king_held c (man_at men x) king) (Adds-king squares x) h)
+      | inl king ↦
+          rw king (Partial-add men c x later squares (with_king squares x) distinct (king_held c (man_at men x) king) (Adds-king squares x) h
+          (λ s on_board is none. with_king-first squares x ∙ ap (λ (v : ℕ). Some v) (only x king ∙ sym (only s is))))
       | inr no_king ↦
           elim (cases_Bool (is_of c (man_at men x))) [
-            | inl man ↦ rw (no_king, man) (Partial-add men c x later squares (squares ++ x ∷ []) distinct man (Adds-push squares x) h)
+            | inl man ↦
+                rw (no_king, man) (Partial-add men c x later squares (squares ++ x ∷ []) distinct man (Adds-push squares x) h
+                (λ s on_board is none. get-push_before squares x 0 s (h.king s on_board is (not_there no_king s is none))))
             | inr none ↦ rw (no_king, none) (Partial-skip men c x later squares distinct none h)
           ]
     ]
+  where
+    only : (s : ℕ) → is_man c King (man_at men s) ≡ true → s ≡ king_square men c
+    only s is = king-only men c s one (is_man-Some c King (man_at men s) is)
 
-Partial-all : (men : Men) (c : Colour) (later squares : List ℕ) → Distinct later → Partial men c later squares
+    not_there : is_man c King (man_at men x) ≡ false → (s : ℕ) → is_man c King (man_at men s) ≡ true
+        → ((j : ℕ) → slice_get later j ≡ Some s → ⊥) → (j : ℕ) → slice_get (x ∷ later) j ≡ Some s → ⊥
+    not_there no_king s is none zero e = false≢true (sym no_king ∙ ap (λ t. is_man c King (man_at men t)) (same_Some x s e) ∙ is)
+    not_there no_king s is none (suc j) e = none j e
+
+Partial-all : (men : Men) (c : Colour) (later squares : List ℕ) → count_by (is_man c King) men ≡ 1 → Distinct later → Partial men c later squares
     → Partial men c [] (with_squares men c squares later)
 unfolding with_squares
-Partial-all men c [] squares distinct h = h
-Partial-all men c (x ∷ later) squares distinct h =
-    Partial-all men c later (with_square men c squares x) (Distinct-tail x later distinct) (Partial-step men c x later squares distinct h)
+Partial-all men c [] squares one distinct h = h
+Partial-all men c (x ∷ later) squares one distinct h =
+    Partial-all men c later (with_square men c squares x) one (Distinct-tail x later distinct) (Partial-step men c x later squares one distinct h)
 
 -- 1 where a man of the side stands
 abbrev count_at : Men → Colour → ℕ → ℕ
@@ -264,18 +286,29 @@ Partial-none men c = record {
   once = λ j k s ej ek. absurd (none-some s ej);
   fresh = λ k j s e f. none-some s e;
   whole = λ s on_board t none. absurd (none (number_of text_squares s) (text_whole s on_board));
+  king = λ s on_board is none. absurd (none (number_of text_squares s) (text_whole s on_board));
 }
 
--- the numbers from a placement text are those of a side's men, of which there are at most sixteen
-pub IsNumbering-text : (men : Men) (c : Colour) → length men ≡ 64 → count_by (is_of c) men ≤ 16 → IsNumbering men c (text_numbers_of men c)
-IsNumbering-text men c size few =
-    let all = Partial-all men c text_squares [] text_distinct (Partial-none men c) in
-    record {
-      few = omega (arith, length-with_squares men c [] text_squares, count-text men c size);
-      held = all.held;
-      once = all.once;
-      whole = λ s t. all.whole s (subst (λ n. s < n) size (held_within c men s t)) t (λ j e. none-some s e);
-    }
+-- the numbers from a placement text are those of a side's men, of which there are at most sixteen, its king's first
+numbers-text : (men : Men) (c : Colour) → length men ≡ 64 → count_by (is_man c King) men ≡ 1 → count_by (is_of c) men ≤ 16
+    → IsNumbering men c (text_numbers_of men c) × HasKingFirst men c (text_numbers_of men c)
+numbers-text men c size one few =
+    let all = Partial-all men c text_squares [] one text_distinct (Partial-none men c) in
+    let on_board : (s : ℕ) → holds c men s ≡ true → s < 64 = λ s t. subst (λ n. s < n) size (held_within c men s t) in (
+      record {
+        few = omega (arith, length-with_squares men c [] text_squares, count-text men c size);
+        held = all.held;
+        once = all.once;
+        whole = λ s t. all.whole s (on_board s t) t (λ j e. none-some s e);
+      },
+      λ s is. all.king s (on_board s (king_held c (man_at men s) is)) is (λ j e. none-some s e),
+    )
+
+pub AreNumbers-text : (men : Men) → length men ≡ 64 → HasKings men → HasFewMen men → AreNumbers men (text_numbers men)
+AreNumbers-text men size kings few =
+    let white = numbers-text men White size (kings White) (few White) in
+    let black = numbers-text men Black size (kings Black) (few Black) in
+    record { white = white.0; black = black.0; white_king = white.1; black_king = black.1 }
 
 -- How far a loop over the places of the text has come: what is left gives the same as all, and there is room for it.
 pub record InText (men : Men) (c : Colour) (place : ℕ) (squares : List ℕ) : Type 0 where
@@ -319,60 +352,3 @@ InText-next men c place squares next h is so_far =
 pub InText-end : (men : Men) (c : Colour) (squares : List ℕ) → InText men c 64 squares → squares ≡ text_numbers_of men c
 unfolding with_squares
 InText-end men c squares so_far = so_far.same
-
--- The king comes first
-
--- a king that has come is first
-abbrev KingCame : Men → Colour → List ℕ → List ℕ → Type 0
-KingCame men c later squares =
-    (s : ℕ) → is_man c King (man_at men s) ≡ true → ((j : ℕ) → slice_get later j ≡ Some s → ⊥) → slice_get squares 0 ≡ Some s
-
-with_king-first : (squares : List ℕ) (x : ℕ) → slice_get (with_king squares x) 0 ≡ Some x
-with_king-first [] x = refl
-with_king-first (y ∷ ys) x = refl
-
--- a square on which no king stands
-KingCame-before : (men : Men) (c : Colour) (x : ℕ) (later squares : List ℕ) → is_man c King (man_at men x) ≡ false
-    → KingCame men c (x ∷ later) squares → KingCame men c later squares
-KingCame-before men c x later squares no_king h s is none = h s is not_there
-  where
-    not_there : (j : ℕ) → slice_get (x ∷ later) j ≡ Some s → ⊥
-    not_there zero e = false≢true (sym no_king ∙ ap (λ t. is_man c King (man_at men t)) (same_Some x s e) ∙ is)
-    not_there (suc j) e = none j e
-
-KingCame-step : (men : Men) (c : Colour) (x : ℕ) (later squares : List ℕ) → count_by (is_man c King) men ≡ 1
-    → KingCame men c (x ∷ later) squares → KingCame men c later (with_square men c squares x)
-KingCame-step men c x later squares one h s is none =
-    elim (cases_Bool (is_man c King (man_at men x))) [
-      | inl king ↦
-          let same : x ≡ s = king-only men c x one (is_man-Some c King (man_at men x) king) ∙ sym (king-only men c s one (is_man-Some c King (man_at men s) is)) in
-          rw king (with_king-first squares x ∙ ap (λ (v : ℕ). Some v) same)
-      | inr no_king ↦
-          let first : slice_get squares 0 ≡ Some s = KingCame-before men c x later squares no_king h s is none in
-          elim (cases_Bool (is_of c (man_at men x))) [
-            | inl man ↦ rw (no_king, man) (get-push_before squares x 0 s first)
-            | inr absent ↦ rw (no_king, absent) first
-          ]
-    ]
-
-KingCame-all : (men : Men) (c : Colour) (later squares : List ℕ) → count_by (is_man c King) men ≡ 1 → KingCame men c later squares
-    → KingCame men c [] (with_squares men c squares later)
-unfolding with_squares
-KingCame-all men c [] squares one h = h
-KingCame-all men c (x ∷ later) squares one h =
-    KingCame-all men c later (with_square men c squares x) one (KingCame-step men c x later squares one h)
-
-HasKingFirst-text : (men : Men) (c : Colour) → length men ≡ 64 → count_by (is_man c King) men ≡ 1 → HasKingFirst men c (text_numbers_of men c)
-HasKingFirst-text men c size one s is =
-    let start : KingCame men c text_squares [] = λ t king none.
-    let on_board : t < 64 = rw size at (held_within c men t (king_held c (man_at men t) king)) in
-    absurd (none (number_of text_squares t) (text_whole t on_board)) in
-    KingCame-all men c text_squares [] one start s is (λ j e. none-some s e)
-
-pub AreNumbers-text : (men : Men) → length men ≡ 64 → HasKings men → HasFewMen men → AreNumbers men (text_numbers men)
-AreNumbers-text men size kings few = record {
-  white = IsNumbering-text men White size (few White);
-  black = IsNumbering-text men Black size (few Black);
-  white_king = HasKingFirst-text men White size (kings White);
-  black_king = HasKingFirst-text men Black size (kings Black);
-}

@@ -26,9 +26,9 @@ pub struct Numbered {
 }
 
 impl Model for Numbered {
-    ghost use Rattle.move_codec.specs.Numbers.{Numbered as Men, AreNumbers};
+    ghost use Rattle.move_codec.specs.Numbers.{Numbered as NumberedSetup, AreNumbers};
 
-    ghost Value = { Men };
+    ghost Value = { NumberedSetup };
 
     ghost view = { λ n. record { position = n.position; numbers = n.numbers } };
 
@@ -147,11 +147,7 @@ impl Numbered {
     {
         let side = self.position.setup().side;
         let effect = self.position.effect(m);
-        self.position.play(Move {
-            from: m.from,
-            to: m.to,
-            promo: m.promo,
-        });
+        self.position.play(*m);
         self.numbers.follow(side, m, effect);
     }
 
