@@ -23,8 +23,12 @@ pub mod AnswerLaws
 pub mod WalkLaws
 pub mod WalkSteps
 pub mod PassLaws
+pub mod TallyLaws
+pub mod TotalLaws
 pub mod CheckLaws
 pub mod OpenLaws
 pub mod MeetLaws
 pub mod AllWalkLaws
 pub mod VisitLaws
+pub mod ReadingLaws
+pub mod DateLaws

@@ -8,6 +8,7 @@ use Rattle.game_codec.specs.Token.{Token, Play, Nag, Comment, Open, Close, End}
 use Rattle.game_codec.specs.Place.{Place, Takes, FaultAt, beginning, ending, after_move, after_comment, variation_of}
 use Rattle.game_codec.specs.Moves.{SpellsMoves, Upto, here, past_move, past_nag, past_comment, past_variation, inside, BreaksMoves}
 use Rattle.game_codec.specs.Nests.{with_before, IsCalm, IsKept, IsPast, token_of, tokens_of}
+use Rattle.game_codec.specs.Following.{Spelled, HasFollowed}
 use Rattle.game_codec.specs.Scanning.{Scans, nest_of, tokens_then}
 use Rattle.game_codec.specs.Breach.{TellsBad}
 use Rattle.game_codec.specs.declared.breach.Refusal.{Refusal}
@@ -86,19 +87,6 @@ breaks-calm n p (past_comment u) bytes from w calm h = absurd (no_comment bytes 
 breaks-calm n p (past_variation inner u) bytes from w calm h = absurd (no_variation bytes h.0 calm h.1.2)
 breaks-calm n p (inside u) bytes from w calm h = absurd (no_variation bytes h.0 calm h.1.2)
 
--- A movetext with these items that the bytes spell, and these bytes follow.
-pub record Spelled (p : Place) (bytes behind : List ℕ) (tokens : List Token) : Type 0 where
-  pub movetext : Movetext
-  pub spells : SpellsMoves p movetext bytes behind
-  pub items : tokens_then movetext [] ≡ tokens
-
--- Whatever follows from here follows from the beginning of the line behind these items.
-pub record HasFollowed (start : Place) (bytes : List ℕ) (now : Place) (rest : List ℕ) (tokens : List Token) : Type 0 where
-  pub within : length rest ≤ length bytes
-  pub left : rest ≡ drop (length bytes - length rest) bytes
-  pub spells : (more : List Token) (behind : List ℕ) → Spelled now rest behind more → Spelled start bytes behind (tokens ++ more)
-  pub breaks : (u : Upto) (from : List ℕ) (w : RecordWhat) → BreaksMoves now u rest from w → (v : Upto) × BreaksMoves start v bytes from w
-
 pub HasFollowed-none : (start : Place) (bytes : List ℕ) → HasFollowed start bytes start bytes []
 HasFollowed-none start bytes = record {
   within = omega arith;
@@ -112,7 +100,7 @@ pub HasFollowed-breaks : (start : Place) (bytes : List ℕ) (now : Place) (rest 
 HasFollowed-breaks start bytes now rest tokens w has fault = has.breaks here rest w (refl, fault)
 
 -- The code's place serves as well.
-HasFollowed-kept : (start : Place) (bytes : List ℕ) (now code : Place) (rest : List ℕ) (tokens : List Token) → HasFollowed start bytes now rest tokens
+pub HasFollowed-kept : (start : Place) (bytes : List ℕ) (now code : Place) (rest : List ℕ) (tokens : List Token) → HasFollowed start bytes now rest tokens
     → IsKept now code rest → HasFollowed start bytes code rest tokens
 HasFollowed-kept start bytes now code rest tokens has (inl same) = subst (λ (p : Place). HasFollowed start bytes p rest tokens) (sym same) has
 HasFollowed-kept start bytes now code rest tokens has (inr (same, calm)) = record {

@@ -18,6 +18,11 @@ pub mod Fitting
 pub mod Flat
 pub mod Walk
 pub mod Walking
+pub mod Following
+pub mod Tallying
+pub mod Reading
+pub mod Totals
+pub mod TagDates
 pub mod Checking
 pub mod Visits
 pub mod AllWalk

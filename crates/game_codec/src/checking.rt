@@ -1,11 +1,13 @@
 //! Whether bytes are a record.
-ghost use Rattle.std.specs.Prelude.{◌≡◌, ◌<◌, ◌≤◌, ◌^◌, length, drop, IfOk, IfErr, OnOk, MatchOption};
+ghost use Rattle.std.specs.Prelude.{◌≡◌, ◌+◌, ◌<◌, ◌≤◌, ◌^◌, [], length, drop, IfOk, IfErr, OnOk, MatchOption};
 ghost use Rattle.game_tree.specs.Movetext.{Movetext};
 ghost use Rattle.game_codec.specs.Breach.{Tells};
 ghost use Rattle.game_codec.specs.Fault.{IsRecordFault, Breaks};
 ghost use Rattle.game_codec.specs.Moves.{SpellsMoves, BreaksMoves, Upto};
 ghost use Rattle.game_codec.specs.Record.{IsSomeRecord};
-ghost use Rattle.game_codec.specs.Texts.{BreaksTexts, texts_of};
+ghost use Rattle.game_codec.specs.Scanning.{tokens_then};
+ghost use Rattle.game_codec.specs.Tallying.{size_of, tallied};
+ghost use Rattle.game_codec.specs.Texts.{BreaksTexts};
 ghost use Rattle.game_codec.specs.Checking.{AreSomeTexts};
 
 use super::breach::Breach;
@@ -14,6 +16,7 @@ use super::fault::{RecordFault, RecordWhat};
 use super::place::Place;
 use super::start::read_start;
 use super::tags::tags_len;
+use super::tally::Tally;
 use super::texts::zero_at;
 use super::token::Token;
 use super::tokens::next_token;
@@ -41,28 +44,24 @@ fn check(bytes: &[u8]) -> Result<(), Breach>
     let (_, behind_tags) = bytes.split_at(tags_len(bytes)?);
     let start = read_start(behind_tags)?;
     let (_, behind_start) = behind_tags.split_at(start.used);
-    let line = check_line(Place::beginning(0, &start.start), behind_start)?;
-    let (_, behind_moves) = behind_start.split_at(line.used);
-    check_texts(line.comments, behind_moves)
+    let mut tally = Tally::new();
+    let used = check_line(Place::beginning(0, &start.start), behind_start, &mut tally)?;
+    let (_, behind_moves) = behind_start.split_at(used);
+    let _some = check_texts(tally.comments, behind_moves)?;
+    Ok(())
 }
 
-// How many bytes a line takes with its end, and how many comments it has with its variations.
-#[derive(Debug, Drop)]
-struct LineRead {
-    used: usize,
-    comments: usize,
-}
-
-// Goes along a line from its beginning to its end, and into its variations by a call of itself.
-fn check_line(place: Place, bytes: &[u8]) -> Result<LineRead, Breach>
-    ensures spelled { IfOk result (λ line. (s : Movetext) × (SpellsMoves place s bytes.now (drop line.used bytes.now) × (length (texts_of s) ≡ line.comments))) }
-    ensures used { IfOk result (λ line. line.used ≤ length bytes.now) }
-    ensures comments { IfOk result (λ line. line.comments ≤ line.used) }
+/// Goes along a line from its beginning to its end, and into its variations by a call of itself. It gives how many bytes the line takes
+/// with its end, and adds what it has with its variations.
+pub(crate) fn check_line(place: Place, bytes: &[u8], tally: &mut Tally) -> Result<usize, Breach>
+    requires room { size_of tally.old + length bytes.now ≤ usize.MAX }
+    ensures spelled { IfOk result (λ used. (s : Movetext) × (SpellsMoves place s bytes.now (drop used bytes.now) × (tally.new ≡ tallied tally.old (tokens_then s [])))) }
+    ensures used { IfOk result (λ used. used ≤ length bytes.now) }
+    ensures few { IfOk result (λ used. size_of tally.new ≤ size_of tally.old + used) }
     ensures err { IfErr result (Tells (λ rest what. (u : Upto) × BreaksMoves place u bytes.now rest what)) }
 {
     let mut here = place;
     let mut rest = bytes;
-    let mut comments = 0;
     'items: loop {
         let next = match next_token(&mut here, rest) {
             Ok(next) => next,
@@ -74,38 +73,29 @@ fn check_line(place: Place, bytes: &[u8]) -> Result<LineRead, Breach>
             }
         };
         rest = rest.split_at(next.used).1;
+        tally.add(&next.token);
         match next.token {
-            Token::Comment => comments += 1,
             Token::Open => {
-                let inner = check_line(here.variation(), rest)?;
-                rest = rest.split_at(inner.used).1;
-                comments += inner.comments;
+                let used = check_line(here.variation(), rest, tally)?;
+                rest = rest.split_at(used).1;
             }
-            Token::Close => {
-                return Ok(LineRead {
-                    used: bytes.len() - rest.len(),
-                    comments,
-                });
-            }
-            Token::End => {
-                return Ok(LineRead {
-                    used: bytes.len() - rest.len(),
-                    comments,
-                });
-            }
+            Token::Close => return Ok(bytes.len() - rest.len()),
+            Token::End => return Ok(bytes.len() - rest.len()),
             Token::Play(_) => {}
             Token::Nag(_) => {}
+            Token::Comment => {}
         }
     }
 }
 
-// Whether the bytes are so many texts.
-fn check_texts(due: usize, bytes: &[u8]) -> Result<(), Breach>
-    ensures ok { OnOk result (AreSomeTexts due bytes.now) }
+/// How many of so many texts are not empty, where the bytes are so many.
+pub(crate) fn check_texts(due: usize, bytes: &[u8]) -> Result<usize, Breach>
+    ensures ok { IfOk result (AreSomeTexts due bytes.now) }
     ensures err { IfErr result (Tells (BreaksTexts due bytes.now)) }
 {
     let mut rest = bytes;
     let mut read = 0;
+    let mut some = 0;
     while read < due {
         let Some(len) = zero_at(rest) else {
             return Err(Breach {
@@ -115,9 +105,11 @@ fn check_texts(due: usize, bytes: &[u8]) -> Result<(), Breach>
         };
         rest = rest.split_at(len + 1).1;
         read += 1;
+        // An empty text is no comment.
+        some += len.min(1);
     }
     if rest.is_empty() {
-        Ok(())
+        Ok(some)
     } else {
         Err(Breach {
             left: rest.len(),

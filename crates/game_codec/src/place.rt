@@ -3,11 +3,12 @@ ghost use Rattle.std.specs.Prelude.{◌≡◌, ◌+◌, ◌<◌, ◌≤◌, ◌�
 ghost use Rattle.std.specs.Bool.{OnFalse};
 ghost use Rattle.game_tree.specs.Legal.{deepest};
 ghost use Rattle.game_codec.specs.Place.{beginning, variation_of, after_comment, FaultAt, IsMoveDue, Takes};
-ghost use Rattle.game_codec.specs.Nests.{Hangs, IsCalm, IsCalmBehind, IsPast, token_of, with_before};
+ghost use Rattle.game_codec.specs.Nests.{Hangs, IsCalm, IsCalmBehind, IsKept, IsPast, token_of, with_before};
 
 use super::fault::RecordWhat;
 use super::token::Token;
 use super::tokens::NextToken;
+use chess_laws::Position;
 use move_codec::Numbered;
 use std::marker::Model;
 
@@ -53,6 +54,13 @@ impl Place {
         Place::beginning(self.depth + 1, &self.before)
     }
 
+    /// The position behind the last move.
+    pub(crate) fn position(&self) -> &Position
+        ensures position { result.now ≡ self.now.here.position }
+    {
+        self.here.position()
+    }
+
     /// How many variations are open.
     pub(crate) fn depth(&self) -> u32
         ensures depth { result ≡ self.now.depth }
@@ -88,6 +96,7 @@ impl Place {
         ensures used { IfOk result (λ next. (0 < next.used) × (next.used ≤ length bytes.now)) }
         ensures past { IfOk result (λ next. IsPast self.old (token_of next.token) self.new (drop next.used bytes.now)) }
         ensures fault { IfErr result (FaultAt self.old bytes.now) }
+        ensures kept { IfErr result (λ _. IsKept self.old self.new bytes.now) }
     {
         self.keep_before(bytes);
         match self.here.advance(bytes) {

@@ -1,5 +1,5 @@
 //! Reading the extra tags of a record.
-ghost use Rattle.std.specs.Prelude.{◌≡◌, ◌+◌, ◌<◌, ◌≤◌, ◌≢◌, List, [], ◌∷◌, ◌++◌, ℕ, length, drop, Ok, Err, IfOk, IfErr, OnOk, MatchOption, slice_index_or};
+ghost use Rattle.std.specs.Prelude.{◌≡◌, ◌+◌, ◌<◌, ◌≤◌, List, [], ◌∷◌, ◌++◌, ℕ, length, drop, Ok, Err, IfOk, IfErr, OnOk, MatchOption, slice_index_or};
 ghost use Rattle.std.specs.List.{list_all};
 ghost use Rattle.std.specs.Bool.{OnTrue};
 ghost use Rattle.cell_core.specs.Text.{IsZeroFree};
@@ -149,9 +149,9 @@ fn tag_of(alloc: Global, name: &[u8], value: &[u8]) -> Result<Tag, AllocError>
     })
 }
 
-// What the next tag is made of. The bytes used are counted behind its first.
+/// What the next tag is made of. The bytes used are counted behind its first.
 #[derive(Drop)]
-enum Parts<'a> {
+pub(crate) enum Parts<'a> {
     Named {
         name: &'a [u8],
         value: &'a [u8],
@@ -163,8 +163,8 @@ enum Parts<'a> {
     End,
 }
 
-// The parts of the next tag, or its first fault.
-fn next_parts<'a>(bytes: &'a [u8]) -> Result<Parts<'a>, RecordWhat>
+/// The parts of the next tag, or its first fault.
+pub(crate) fn next_parts<'a>(bytes: &'a [u8]) -> Result<Parts<'a>, RecordWhat>
     ensures ok { IfOk result (IsParts (tag_at bytes.now) (drop 1 bytes.now)) }
     ensures some { IfOk result (λ parts. 0 < length bytes.now) }
     ensures err { IfErr result (λ what. tag_at bytes.now ≡ Err what) }

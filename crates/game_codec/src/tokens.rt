@@ -1,7 +1,7 @@
 //! The next item of a record's moves.
 ghost use Rattle.std.specs.Prelude.{◌≡◌, ◌<◌, ◌≤◌, ℕ, List, ◌∷◌, length, drop, IfOk, IfErr};
 ghost use Rattle.game_codec.specs.Place.{Takes, FaultAt};
-ghost use Rattle.game_codec.specs.Nests.{IsPast, token_of};
+ghost use Rattle.game_codec.specs.Nests.{IsKept, IsPast, token_of};
 
 use super::fault::RecordWhat;
 use super::place::Place;
@@ -22,6 +22,7 @@ pub(crate) fn next_token(place: &mut Place, bytes: &[u8]) -> Result<NextToken, R
     ensures used { IfOk result (λ next. (0 < next.used) × (next.used ≤ length bytes.now)) }
     ensures past { IfOk result (λ next. IsPast place.old (token_of next.token) place.new (drop next.used bytes.now)) }
     ensures fault { IfErr result (FaultAt place.old bytes.now) }
+    ensures kept { IfErr result (λ _. IsKept place.old place.new bytes.now) }
 {
     let [byte, behind @ ..] = bytes else {
         return Err(RecordWhat::Short);
@@ -57,6 +58,7 @@ fn nag(place: &Place, behind: &[u8]) -> Result<NextToken, RecordWhat>
 
 // A comment, whatever stands behind its mark.
 fn comment(place: &mut Place) -> Result<NextToken, RecordWhat>
+    ensures same { IfErr result (λ _. place.new ≡ place.old) }
     ensures takes { IfOk result (λ next. (behind : List ℕ) → Takes place.old (12 ∷ behind) (token_of next.token) behind) }
     ensures used { IfOk result (λ next. next.used ≡ 1) }
     ensures past { IfOk result (λ next. (behind : List ℕ) → IsPast place.old (token_of next.token) place.new behind) }

@@ -1,5 +1,5 @@
 use Rattle.std.proofs.Common.{rules, [], sym, subst}
-use Rattle.std.proofs.lemmas.Result.{IfOk-weaker, IfErr-weaker, err_from_is_err_and}
+use Rattle.std.proofs.lemmas.Result.{err_from_is_err_and}
 use Rattle.game_codec.specs.Breach.{Tells}
 use Rattle.game_codec.specs.Fault.{Breaks}
 use Rattle.game_codec.specs.Moves.{BreaksMoves, Upto}
@@ -18,8 +18,8 @@ returns-in_err-start-clause-err c =
     start_broken bytes c.split_at.result.1.now tags.0 c.in_err-start.field-0.0 first c.in_err-start.ensures.err in
     search (rules, told)
 
-pub returns-in_err-line-clause-err : goal.returns-in_err-line-clause-err
-returns-in_err-line-clause-err c =
+pub returns-in_err-used-clause-err : goal.returns-in_err-used-clause-err
+returns-in_err-used-clause-err c =
     let bytes = c.args.bytes.now in
     let tags = c.in_ok-tags_len.ensures.ok in
     let start = c.in_ok-start.start.start in
@@ -27,9 +27,9 @@ returns-in_err-line-clause-err c =
     let behind_start = c.split_at-2.result.1.now in
     let first = subst (BeginsTags bytes tags.0) (sym c.split_at.ensures.back) tags.1 in
     let then = subst (BeginsStart behind_tags start) (sym c.split_at-2.ensures.back) c.in_ok-start.ensures.ok in
-    let tells = subst (λ (p : Place). Tells (λ rest what. (u : Upto) × BreaksMoves p u behind_start rest what) c.in_err-line.field-0.0) c.beginning.ensures.beginning c.in_err-line.ensures.err in
-    let told : Tells (Breaks bytes) c.in_err-line.field-0.0 = moves_broken bytes behind_tags behind_start [] tags.0 start first then c.in_err-line.field-0.0 tells in
-    let gone = err_from_is_err_and c.from_residual-in_err-line.result c.from_residual-in_err-line.ensures.1 in
+    let tells = subst (λ (p : Place). Tells (λ rest what. (u : Upto) × BreaksMoves p u behind_start rest what) c.in_err-used.field-0.0) c.beginning.ensures.beginning c.in_err-used.ensures.err in
+    let told : Tells (Breaks bytes) c.in_err-used.field-0.0 = moves_broken bytes behind_tags behind_start [] tags.0 start first then c.in_err-used.field-0.0 tells in
+    let gone = err_from_is_err_and c.from_residual-in_err-used.result c.from_residual-in_err-used.ensures.1 in
     rw (gone.1, gone.2) told
 
 pub returns-clause-ok : goal.returns-clause-ok
@@ -43,14 +43,12 @@ returns-clause-ok c =
     let first = subst (BeginsTags bytes tags.0) (sym c.split_at.ensures.back) tags.1 in
     let then = subst (BeginsStart behind_tags start) (sym c.split_at-2.ensures.back) c.in_ok-start.ensures.ok in
     let line =
-    line_is c.beginning.result start behind_start behind_moves c.in_ok-line.line.used c.in_ok-line.line.comments c.beginning.ensures.beginning
-    c.split_at-3.ensures.back c.in_ok-line.ensures.spelled in
-    IfOk-weaker c.check_texts.result _ _
-    (λ x texts. some_record bytes behind_tags behind_start behind_moves tags.0 start first then c.in_ok-line.line.comments line texts)
-    c.check_texts.ensures.ok
+    line_is c.beginning.result start behind_start behind_moves c.in_ok-used.used c.new-tally.result c.check_line.new.tally c.beginning.ensures.beginning
+    c.split_at-3.ensures.back c.new-tally.ensures.none c.in_ok-used.ensures.spelled in
+    some_record bytes behind_tags behind_start behind_moves tags.0 start first then c.check_line.new.tally.comments c.in_ok-_some._some line c.in_ok-_some.ensures.ok
 
-pub returns-clause-err : goal.returns-clause-err
-returns-clause-err c =
+pub returns-in_err-_some-clause-err : goal.returns-in_err-_some-clause-err
+returns-in_err-_some-clause-err c =
     let bytes = c.args.bytes.now in
     let tags = c.in_ok-tags_len.ensures.ok in
     let start = c.in_ok-start.start.start in
@@ -60,8 +58,9 @@ returns-clause-err c =
     let first = subst (BeginsTags bytes tags.0) (sym c.split_at.ensures.back) tags.1 in
     let then = subst (BeginsStart behind_tags start) (sym c.split_at-2.ensures.back) c.in_ok-start.ensures.ok in
     let line =
-    line_is c.beginning.result start behind_start behind_moves c.in_ok-line.line.used c.in_ok-line.line.comments c.beginning.ensures.beginning
-    c.split_at-3.ensures.back c.in_ok-line.ensures.spelled in
-    IfErr-weaker c.check_texts.result _ _
-    (λ breach tells. texts_broken bytes behind_tags behind_start behind_moves tags.0 start first then c.in_ok-line.line.comments breach line tells)
-    c.check_texts.ensures.err
+    line_is c.beginning.result start behind_start behind_moves c.in_ok-used.used c.new-tally.result c.check_line.new.tally c.beginning.ensures.beginning
+    c.split_at-3.ensures.back c.new-tally.ensures.none c.in_ok-used.ensures.spelled in
+    let told : Tells (Breaks bytes) c.in_err-_some.field-0.0 =
+    texts_broken bytes behind_tags behind_start behind_moves tags.0 start first then c.check_line.new.tally.comments c.in_err-_some.field-0.0 line c.in_err-_some.ensures.err in
+    let gone = err_from_is_err_and c.from_residual-in_err-_some.result c.from_residual-in_err-_some.ensures.1 in
+    rw (gone.1, gone.2) told

@@ -1,4 +1,5 @@
 use Rattle.std.proofs.Common.{ℕ, List, drop, rules, sym, subst}
+use Rattle.std.proofs.lemmas.List.{drop-drop}
 use Rattle.game_codec.specs.Breach.{Tells}
 use Rattle.game_codec.specs.Fault.{Breaks}
 use Rattle.game_codec.specs.TagSpelling.{BeginsTags}
@@ -50,3 +51,12 @@ returns-clause-starts c =
     let used = c.in_ok-read.read.used in
     let then = subst (λ (l : List ℕ). BeginsStart l start (drop used l)) c.split_at.ensures.back c.in_ok-read.ensures.ok in
     starts_so c.args.bytes.now tags.0 start c.in_ok-used.used used tags.1 then
+
+pub returns-clause-spelled : goal.returns-clause-spelled
+returns-clause-spelled c =
+    let tags = c.in_ok-used.ensures.ok in
+    let start = c.in_ok-read.read.start in
+    let used = c.in_ok-read.read.used in
+    let behind = drop c.in_ok-used.used c.args.bytes.now in
+    let then = subst (λ (l : List ℕ). BeginsStart l start (drop used l)) c.split_at.ensures.back c.in_ok-read.ensures.ok in
+    (tags.0, (behind, (tags.1, subst (BeginsStart behind start) (drop-drop used c.in_ok-used.used c.args.bytes.now) then)))
