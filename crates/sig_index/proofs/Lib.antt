@@ -17,3 +17,4 @@ pub mod RecordLemmas
 pub mod CostLemmas
 pub mod LookingLemmas
 pub mod ReadLemmas
+pub mod SignedLemmas

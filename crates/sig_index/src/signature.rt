@@ -16,8 +16,8 @@ use chess_laws::{Position, Setup};
 use game_tree::Game;
 use index_entry::count_code;
 
-// The home values of all pawns.
-const HOMES: [u8; 16] = [0, 1, 2, 3, 4, 5, 6, 7, 8, 9, 10, 11, 12, 13, 14, 15];
+/// The home values of all pawns.
+pub(crate) const HOMES: [u8; 16] = [0, 1, 2, 3, 4, 5, 6, 7, 8, 9, 10, 11, 12, 13, 14, 15];
 
 /// The home values of the pawns that left their own squares, in their order: `count` of them, at most 16, and zeros behind them. The
 /// home value of a pawn is 15 down to 8 for a2 to h2, and 7 down to 0 for a7 to h7.
@@ -93,9 +93,9 @@ fn replayed(g: &Game) -> (Position, HomeList)
     (position, home_list(left.as_slice()))
 }
 
-// Takes the values of the pawns that are not at home after a move out of `still`, and adds them to `left`. `home` has the values that
-// were at home at the last look: the sixteen squares are looked at only where the move touches one of these.
-fn leave_by(
+/// Takes the values of the pawns that are not at home after a move out of `still`, and adds them to `left`. `home` has the values that
+/// were at home at the last look: the sixteen squares are looked at only where the move touches one of these.
+pub(crate) fn leave_by(
     m: &Move,
     after: &Position,
     home: &mut Option<u16>,
@@ -168,8 +168,8 @@ fn leave(set: u16, still: &mut ArrayVec<u8, 16>, left: &mut ArrayVec<u8, 16>)
     *still = stay;
 }
 
-// These values with zeros behind them.
-fn home_list(values: &[u8]) -> HomeList
+/// These values with zeros behind them.
+pub(crate) fn home_list(values: &[u8]) -> HomeList
     requires { length values.now ≤ 16 }
     ensures { result ≡ home_list values.now }
 {
@@ -181,8 +181,8 @@ fn home_list(values: &[u8]) -> HomeList
     }
 }
 
-// The counts with more than three as three, but for pawns.
-fn material_of(last: &Position) -> [u8; 10]
+/// The counts with more than three as three, but for pawns.
+pub(crate) fn material_of(last: &Position) -> [u8; 10]
     ensures material { result ≡ material_of last.now.board }
     ensures bounded { AreCounts result }
 {
@@ -203,8 +203,8 @@ fn material_of(last: &Position) -> [u8; 10]
     ]
 }
 
-// Whether this is the initial position.
-fn is_initial(setup: &Setup, initial: &Setup) -> bool
+/// Whether this is the initial position.
+pub(crate) fn is_initial(setup: &Setup, initial: &Setup) -> bool
     ensures { IsTrue result ↔ (setup.now ≡ initial.now) }
 {
     setup == initial
