@@ -1,3 +1,4 @@
 mod ViewLaws
 mod HitLaws
 mod GameLaws
+mod SlotLaws

@@ -1,0 +1,63 @@
+-- The slots of a list of views, some of which are watched (this project's own).
+use Rattle.std.specs.Prelude.{◌≡◌, ℕ, ◌+◌, ◌<◌, ◌≤◌, Bool, List, Option, Some, None, length, option_map, slice_index_or, IfSome}
+use Rattle.game_filter.specs.Renumbering.{renumbered}
+use Rattle.tree_rows.specs.declared.row.Row.{Row}
+use Rattle.tree_live.specs.declared.change.Change.{Change}
+use Rattle.tree_live.specs.declared.change.Change.TheVariants.{Filter, Game, Numbers}
+use Rattle.tree_live.specs.Views.{Shows}
+use Rattle.tree_live.specs.Watching.{Watched, hits_in, all_changes, staying, under, with_game}
+
+-- The slot k is the view with the number first + k, for each k below the count; where it is watched, its watch.
+pub record Slotted : Type 0 where
+  pub first : ℕ
+  pub count : ℕ
+  pub watches : List (Option Watched)
+
+-- What stands at a place of a list, if anything does.
+abbrev pub in_slot : {T : Type 0} → List (Option T) → ℕ → Option T
+in_slot list k = slice_index_or list k None
+
+-- A slot that is watched holds a view, which shows the rows of the hits that are in.
+abbrev pub IsShown : {B : Type 0} → (B → List Row) → Option Watched → Option B → Type 0
+IsShown rows None slot = Unit {0}
+IsShown rows (Some watch) None = ⊥
+IsShown rows (Some watch) (Some view) = Shows (hits_in watch.games) (rows view)
+
+abbrev pub AreShown : {B : Type 0} → (B → List Row) → Slotted → List (Option B) → Type 0
+AreShown rows slots views = (k : ℕ) → IsShown rows (in_slot slots.watches k) (in_slot views (slots.first + k))
+
+-- A slot that may be told so many changes holds its view, which was told no more; one that is told nothing is as before.
+abbrev pub IsTold : {B : Type 0} → (B → ℕ) → Option ℕ → Option B → Option B → Type 0
+IsTold told None before after = after ≡ before
+IsTold told (Some most) None after = ⊥
+IsTold told (Some most) (Some before) None = ⊥
+IsTold told (Some most) (Some before) (Some after) = told after ≤ told before + most
+
+-- So is each slot, and every other view is as before.
+pub record AreTold {B : Type 0} (told : B → ℕ) (slots : Slotted) (most : ℕ → Watched → ℕ) (before after : List (Option B)) : Type 0 where
+  pub views : (k : ℕ) → IsTold told (option_map (most k) (in_slot slots.watches k)) (in_slot before (slots.first + k)) (in_slot after (slots.first + k))
+  pub others : (i : ℕ) → i < slots.first → in_slot after i ≡ in_slot before i
+  pub number : length after ≡ length before
+
+-- A condition on each slot that is watched, and each watch after a change of it.
+abbrev pub EachWatch : (Watched → Type 0) → Slotted → Type 0
+EachWatch holds slots = (k : ℕ) → IfSome (in_slot slots.watches k) holds
+
+abbrev pub AreChanged : (ℕ → Watched → Watched) → Slotted → Slotted → Type 0
+AreChanged change before after = (k : ℕ) → in_slot after.watches k ≡ option_map (change k) (in_slot before.watches k)
+
+-- What a change makes of the watch of slot k, how many changes of rows that is at most, and which games it fits.
+abbrev pub changed : Change → ℕ → Watched → Watched
+changed (Filter filter) k watch = record watch { games = under filter.now watch.games }
+changed (Game i hits is_in) k watch = record watch { games = with_game i (record { hit = in_slot hits.now k; is_in = is_in }) watch.games }
+changed (Numbers numbers) k watch = record watch { games = renumbered numbers.now.to watch.games }
+
+abbrev pub most_told : Change → ℕ → Watched → ℕ
+most_told (Filter filter) k watch = all_changes watch.games (under filter.now watch.games)
+most_told (Game i hits is_in) k watch = all_changes watch.games (with_game i (record { hit = in_slot hits.now k; is_in = is_in }) watch.games)
+most_told (Numbers numbers) k watch = all_changes watch.games (staying numbers.now.to watch.games)
+
+abbrev pub Fits : Change → Watched → Type 0
+Fits (Filter filter) watch = length filter.now ≡ length watch.games
+Fits (Game i hits is_in) watch = (i ≤ length watch.games) × (i < 16777214)
+Fits (Numbers numbers) watch = length numbers.now.to ≡ length watch.games
