@@ -1,0 +1,10 @@
+mod PointLemmas
+mod MovedLemmas
+mod SpotLemmas
+mod ListedLemmas
+mod RowLemmas
+mod KeyLemmas
+mod PlaceLemmas
+mod GameLemmas
+mod IndexLemmas
+mod BuildLemmas

@@ -1,0 +1,28 @@
+use Rattle.std.proofs.Common.{rules, ◌≡◌, ◌++◌, ◌<◌, List, ℕ, length, map, take, drop, sym, subst, ap, ◌∙◌, refl, arith}
+use Rattle.std.specs.Prelude.{All}
+use Rattle.std.proofs.lemmas.List.{length-map, take_at}
+use Rattle.game_filter.specs.Renumbering.{renumbered}
+use Rattle.pos_index.specs.declared.hit.Hit.{Hit}
+use Rattle.pos_index.specs.declared.spot.Spot.{Spot}
+use Rattle.pos_index.specs.Keeping.{AreListed, moved}
+use Rattle.pos_index.proofs.ListedLemmas.{listed_moved, lists_below, written_back}
+use Rattle.pos_index.proofs.lists.Lists.renumber.Goals as goal
+
+pub renumber_lists-requires : goal.renumber_lists-requires
+renumber_lists-requires c =
+    let lists : c.self.inside.lists.items ≡ c.as_mut_slice.result.now = search rules in
+    let games : length c.self.inside.rows.items ≡ length c.to-to.result.now = search rules in
+    let below = lists_below c.self.inside.lists.items c.self.inside.rows.items c.self.invariant in
+    subst (λ (n : ℕ). All (All (λ (h : Hit). h.game < n)) c.as_mut_slice.result.now) games
+    (subst (All (All (λ (h : Hit). h.game < length c.self.inside.rows.items))) lists below)
+
+pub invariant_of-self : goal.invariant_of-self
+invariant_of-self c =
+    let to = c.args.renumbering.now.to in
+    let lists : c.renumber_lists.new.lists ≡ map (moved to) c.self.inside.lists.items = search rules in
+    let back : c.as_mut_slice-2.result.now ≡ c.self.inside.rows.items = search rules in
+    let rows : c.truncate.new.self.items ≡ renumbered to c.self.inside.rows.items =
+    c.truncate.ensures.items ∙ ap (take c.renumber_rows-kept.result) (written_back c.renumber_rows-kept.new.rows c.self.inside.rows.items c.self.inside.rows.len (search rules))
+    ∙ c.renumber_rows-kept.ensures.moved ∙ (search rules) in
+    rw (rows, written_back c.renumber_lists.new.lists c.self.inside.lists.items c.self.inside.lists.len (search rules), lists)
+    (listed_moved c.self.inside.lists.items c.self.inside.rows.items to c.args.renumbering.now.kept c.self.invariant (search rules) (search rules))

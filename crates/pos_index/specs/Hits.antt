@@ -1,0 +1,71 @@
+-- Where games stand on a board, up to a depth (this project's own).
+use Rattle.std.specs.Prelude.{◌≡◌, ℕ, ◌+◌, ◌*◌, ◌≤◌, ◌&&◌, if◌then◌else◌, nat_eq, Bool, List, [], ◌∷◌, ◌++◌, Option, Some, None, length, map, min, sum_by}
+use Rattle.std.specs.Cmp.Lexicographic.{pointwise}
+use Rattle.std.specs.List.{range_with_len}
+use Rattle.cell_core.specs.declared.step.Move.{Move}
+use Rattle.cell_core.specs.Man.{same_colour}
+use Rattle.cell_core.specs.Packed.{Packed, packed_of}
+use Rattle.game_tree.specs.Game.{GameTree}
+use Rattle.game_tree.specs.Replay.{next_at, plies_of, position_at}
+use Rattle.pos_index.specs.declared.hit.Hit.{Hit}
+
+-- A place of a game: the board with the side to move, packed, after so many half-moves of its main line, and the move after it, if there
+-- is one. Castling rights and the en passant square are left out.
+pub record Place : Type 0 where
+  pub board : Packed
+  pub ply : ℕ
+  pub next : Option Move
+
+abbrev pub place_at : GameTree → ℕ → Place
+place_at game ply = record {
+  board = packed_of (position_at game ply).board (position_at game ply).side;
+  ply = ply;
+  next = next_at game ply;
+}
+
+-- The places of a game from ply 0 to the smaller of the depth and its plies.
+abbrev pub places_of : ℕ → GameTree → List Place
+places_of depth game = map (place_at game) (range_with_len 0 (min depth (plies_of game) + 1))
+
+-- The same of the game that has a number, and no place where none has it.
+abbrev pub row_of : ℕ → Option GameTree → List Place
+row_of depth None = []
+row_of depth (Some game) = places_of depth game
+
+-- Two packed boards are the same: the same men on the same squares, and the same side to move.
+abbrev pub same_packed : Packed → Packed → Bool
+same_packed a b = pointwise nat_eq a.cells b.cells && same_colour a.side b.side
+
+-- The hits of a game with this number on a board: its places there, in order.
+abbrev pub hits_in : Packed → ℕ → List Place → List Hit
+hits_in board game [] = []
+hits_in board game (place ∷ places) =
+    if same_packed board place.board
+    then record { game = game; ply = place.ply; next = place.next } ∷ hits_in board game places
+    else hits_in board game places
+
+-- The hits of all games, the first of which has this number, in order.
+abbrev pub hits_from : Packed → ℕ → List (List Place) → List Hit
+hits_from board game [] = []
+hits_from board game (row ∷ rows) = hits_in board game row ++ hits_from board (game + 1) rows
+
+-- The hits on a board up to a depth, where each number has a game or none.
+abbrev pub hits_of : ℕ → List (Option GameTree) → Packed → List Hit
+hits_of depth games board = hits_from board 0 (map (row_of depth) games)
+
+-- An index as contracts see it: its depth, and for each number the places of the game that has it.
+pub record Index : Type 0 where
+  pub depth : ℕ
+  pub rows : List (List Place)
+
+-- It stands for these games: each number has the places of its game.
+abbrev pub Indexes : Index → List (Option GameTree) → Type 0
+Indexes index games = index.rows ≡ map (row_of index.depth) games
+
+-- How many hits there are on all boards.
+abbrev pub entries_of : List (List Place) → ℕ
+entries_of rows = sum_by length rows
+
+-- How many games may stand under an index of a depth.
+abbrev pub Fits : ℕ → ℕ → Type 0
+Fits depth games = games * (depth + 1) ≤ 16000000

@@ -1,0 +1,102 @@
+-- What the parts of an index keep. Only models and private functions cite these words.
+use Rattle.std.specs.Prelude.{◌≡◌, ℕ, ◌+◌, ◌<◌, ◌≤◌, ◌^◌, ◌==◌, if◌then◌else◌, All, Bool, List, [], ◌∷◌, ◌++◌, Option, Some, None, length, map, slice_get, slice_index_or, slice_set}
+use Rattle.indexmap.specs.IndexSet.{IndexSet, IsUnique}
+use Rattle.cell_core.specs.declared.man.Colour.TheVariants.{White}
+use Rattle.cell_core.specs.Packed.{Packed}
+use Rattle.cell_core.specs.contracts.packed.PackedBoardPartialEq.TheImpl as packed_impl
+use Rattle.pos_index.specs.declared.hit.Hit.{Hit}
+use Rattle.pos_index.specs.declared.spot.Spot.{Spot}
+use Rattle.pos_index.specs.Hits.{Place}
+
+-- The hits of a game with this number on a board, by its number; and those of all games, the first of which has this number.
+abbrev pub hits_at : ℕ → ℕ → List Spot → List Hit
+hits_at board game [] = []
+hits_at board game (spot ∷ spots) =
+    if board == spot.board
+    then record { game = game; ply = spot.ply; next = spot.next } ∷ hits_at board game spots
+    else hits_at board game spots
+
+abbrev pub hits_by : ℕ → ℕ → List (List Spot) → List Hit
+hits_by board game [] = []
+hits_by board game (row ∷ rows) = hits_at board game row ++ hits_by board (game + 1) rows
+
+-- The hits of the games that stay, with the new numbers of the games.
+abbrev pub moved_by : Option ℕ → Hit → List Hit → List Hit
+moved_by None hit hits = hits
+moved_by (Some number) hit hits = record { game = number; ply = hit.ply; next = hit.next } ∷ hits
+
+abbrev pub moved : List (Option ℕ) → List Hit → List Hit
+moved to [] = []
+moved to (hit ∷ hits) = moved_by (slice_index_or to hit.game None) hit (moved to hits)
+
+-- The list at a number, and none past the last; and the same with another list there.
+abbrev pub row_in : {T : Type 0} → List (List T) → ℕ → List T
+row_in rows i = slice_index_or rows i []
+
+abbrev pub with_row : {T : Type 0} → List (List T) → ℕ → List T → List (List T)
+with_row rows i row = slice_set rows i row
+
+-- The last list is empty.
+pub record EndsEmpty {T : Type 0} (rows : List (List T)) : Type 0 where
+  pub front : List (List T)
+  pub ends : rows ≡ front ++ [] ∷ []
+
+-- How many boards there are, and the spots of each game.
+pub record Listed : Type 0 where
+  pub boards : ℕ
+  pub rows : List (List Spot)
+
+-- Every spot is on a board below this number.
+abbrev pub AreOn : ℕ → List (List Spot) → Type 0
+AreOn boards rows = All (All (λ spot. spot.board < boards)) rows
+
+-- On each board are the hits of the spots that are there.
+pub record AreListed (lists : List (List Hit)) (rows : List (List Spot)) : Type 0 where
+  pub each : (board : ℕ) → board < length lists → slice_get lists board ≡ Some (hits_by board 0 rows)
+  pub known : AreOn (length lists) rows
+
+-- The board with a number.
+abbrev pub board_in : List Packed → ℕ → Packed
+board_in boards i = slice_index_or boards i (record { cells = []; side = White })
+
+-- The place of a game that a spot stands for, and the places of all games.
+abbrev pub place_of : List Packed → Spot → Place
+place_of boards spot = record { board = board_in boards spot.board; ply = spot.ply; next = spot.next }
+
+abbrev pub row_places : List Packed → List Spot → List Place
+row_places boards row = map (place_of boards) row
+
+abbrev pub places_by : List Packed → List (List Spot) → List (List Place)
+places_by boards rows = map (row_places boards) rows
+
+-- The test by which packed boards are compared.
+abbrev pub packed_eq : Packed → Packed → Bool
+packed_eq = (packed_impl.ghosts).eq
+
+-- The spots are of boards that are there, the boards differ, and each has its list.
+pub record AreKept {S : Type 0} (boards : IndexSet Packed S) (lists : Listed) : Type 0 where
+  pub unique : IsUnique packed_eq boards
+  pub known : AreOn (length boards.keys) lists.rows
+  pub listed : length boards.keys ≤ lists.boards
+  pub few : length boards.keys < 2 ^ 32
+
+-- This is the number of a board.
+pub record IsNumber (boards : List Packed) (number : ℕ) (board : Packed) : Type 0 where
+  pub within : number < length boards
+  pub board_is : board_in boards number ≡ board
+
+-- Places were put behind those of game i; and at most so many.
+pub record HasPut (old : List (List Place)) (i : ℕ) (new : List (List Place)) : Type 0 where
+  pub places : List Place
+  pub put : new ≡ with_row old i (row_in old i ++ places)
+
+pub record HasPutAtMost (most : ℕ) (old : List (List Place)) (i : ℕ) (new : List (List Place)) : Type 0 where
+  pub places : List Place
+  pub few : length places ≤ most
+  pub put : new ≡ with_row old i (row_in old i ++ places)
+
+-- A game was added that has at most so many places.
+pub record AddsRow (most : ℕ) (old new : List (List Place)) : Type 0 where
+  pub row : List Place
+  pub few : length row ≤ most
+  pub added : new ≡ old ++ row ∷ []

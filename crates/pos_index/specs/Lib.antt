@@ -1,0 +1,4 @@
+pub mod Hits
+pub mod Asking
+pub mod Causes
+pub mod Keeping

@@ -1,0 +1,115 @@
+//! The hits on one board.
+ghost use Rattle.std.specs.Prelude.{◌≡◌, ◌≤◌, ◌<◌, [], ◌∷◌, ◌++◌, All, List, OnOk, OnErr, length, take};
+ghost use Rattle.pos_index.specs.declared.hit.Hit.{Hit as Standing};
+ghost use Rattle.pos_index.specs.Keeping.{moved};
+
+use crate::hit::Hit;
+use smallvec::SmallVec;
+use std::alloc::{AllocError, Global};
+use std::marker::Model;
+
+/// Hits in order of games, and of one game in order of plies. One hit takes no memory of its own.
+#[derive(Drop)]
+pub(crate) struct Hits {
+    hits: SmallVec<Hit, 1>,
+}
+
+impl Model for Hits {
+    ghost use Rattle.std.specs.Prelude.{List};
+    ghost use Rattle.pos_index.specs.declared.hit.Hit.{Hit as Standing};
+
+    ghost Value = { List Standing };
+
+    ghost view = { λ h. h.hits.items };
+}
+
+impl Hits {
+    /// No hits.
+    pub(crate) fn new(alloc: Global) -> Hits
+        ensures { result ≡ [] }
+    {
+        Hits {
+            hits: SmallVec::new(alloc),
+        }
+    }
+
+    /// The hits.
+    pub(crate) fn as_slice(&self) -> &[Hit]
+        ensures { result.now ≡ self.now }
+    {
+        self.hits.as_slice()
+    }
+
+    /// Puts a hit behind those of its game and of the games before.
+    pub(crate) fn put(&mut self, hit: Hit) -> Result<(), AllocError>
+        ensures put { (before behind : List Standing) → self.old ≡ before ++ behind → All (λ h. h.game ≤ hit.game) before → All (λ h. hit.game < h.game) behind
+            → OnOk result (self.new ≡ before ++ hit ∷ behind) }
+        ensures unchanged { OnErr result (self.new ≡ self.old) }
+    {
+        let place = self
+            .hits
+            .as_slice()
+            .partition_point(|other| other.game <= hit.game);
+        self.hits.insert(place, hit)?;
+        Ok(())
+    }
+
+    /// Takes the first hit of a game out.
+    pub(crate) fn take_first(&mut self, game: u32)
+        ensures { (before behind : List Standing) (hit : Standing) → self.old ≡ before ++ hit ∷ behind → All (λ h. h.game < game) before → All (λ h. game ≤ h.game) (hit ∷ behind)
+            → self.new ≡ before ++ behind }
+    {
+        let place = self
+            .hits
+            .as_slice()
+            .partition_point(|other| other.game < game);
+        if place < self.hits.len() {
+            self.hits.remove(place);
+        }
+    }
+
+    /// Takes the last hit of a game out.
+    pub(crate) fn take_last(&mut self, game: u32)
+        ensures { (before behind : List Standing) (hit : Standing) → self.old ≡ before ++ hit ∷ behind → All (λ h. h.game ≤ game) (before ++ hit ∷ []) → All (λ h. game < h.game) behind
+            → self.new ≡ before ++ behind }
+    {
+        let place = self
+            .hits
+            .as_slice()
+            .partition_point(|other| other.game <= game);
+        if 0 < place {
+            self.hits.remove(place - 1);
+        }
+    }
+
+    /// The hits get the new numbers of their games, and those of games that go are left out.
+    pub(crate) fn renumber(&mut self, to: &[Option<u32>])
+        requires { All (λ h. h.game < length to.now) self.old }
+        ensures { self.new ≡ moved to.now self.old }
+    {
+        let kept = renumber(self.hits.as_mut_slice(), to);
+        self.hits.truncate(kept);
+    }
+}
+
+// Moves the hits of the games that stay to the front, with the new numbers, and answers how many they are.
+fn renumber(hits: &mut [Hit], to: &[Option<u32>]) -> usize
+    requires { All (λ h. h.game < length to.now) hits.old }
+    ensures moved { take result hits.new ≡ moved to.now hits.old }
+    ensures len { length hits.new ≡ length hits.old }
+    ensures within { result ≤ length hits.old }
+{
+    let mut kept = 0;
+    for k in 0..hits.len() {
+        let hit = hits[k];
+        if let Some(number) = to[hit.game as usize] {
+            hits[kept] = Hit {
+                game: number,
+                ply: hit.ply,
+                next: hit.next,
+            };
+            kept += 1;
+        }
+    }
+    kept
+}

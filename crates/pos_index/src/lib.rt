@@ -1,0 +1,17 @@
+//! The position index: under each board with its side to move exactly the places at which the games stand there, up to a depth.
+#![tactic(auto)]
+
+mod building;
+mod fault;
+mod hit;
+mod hits;
+mod index;
+mod lists;
+mod places;
+mod placing;
+mod row;
+mod spot;
+
+pub use fault::BuildError;
+pub use hit::Hit;
+pub use index::PosIndex;

@@ -1,0 +1,212 @@
+//! The hits by the numbers of boards, and the boards of each game.
+ghost use Rattle.std.specs.Prelude.{◌≡◌, ◌+◌, ◌≤◌, ◌<◌, ◌^◌, [], ◌∷◌, ◌++◌, All, List, length, drop, map, take, OnOk, OnErr};
+ghost use Rattle.game_filter.specs.Renumbering.{renumbered};
+ghost use Rattle.pos_index.specs.Keeping.{AreListed, EndsEmpty, hits_by, moved, row_in, with_row};
+ghost use Rattle.pos_index.specs.declared.hit.Hit.{Hit as Hitting};
+ghost use Rattle.pos_index.specs.declared.spot.Spot.{Spot as Standing};
+
+use crate::hit::Hit;
+use crate::hits::Hits;
+use crate::row::Row;
+use crate::spot::Spot;
+use game_filter::Renumbering;
+use std::alloc::{AllocError, Global};
+use std::marker::Model;
+
+/// For each board, by its number, the hits, and for each game, by its number, its spots: each hit is of a spot, and each spot has its hit.
+#[derive(Drop)]
+pub(crate) struct Lists {
+    lists: Vec<Hits>,
+    rows: Vec<Row>,
+}
+
+impl Model for Lists {
+    ghost use Rattle.std.specs.Prelude.{length};
+    ghost use Rattle.pos_index.specs.Keeping.{Listed, AreListed};
+
+    ghost Value = { Listed };
+
+    ghost view = { λ l. record { boards = length l.lists.items; rows = l.rows.items } };
+
+    ghost invariant = { λ l. AreListed l.lists.items l.rows.items };
+}
+
+impl Lists {
+    /// No boards and no games.
+    pub(crate) fn new(alloc: Global) -> Lists
+        ensures { result ≡ record { boards = 0; rows = [] } }
+    {
+        Lists {
+            lists: Vec::new(alloc),
+            rows: Vec::new(alloc),
+        }
+    }
+
+    /// How many boards there are.
+    pub(crate) fn boards(&self) -> usize
+        ensures { result ≡ self.now.boards }
+    {
+        self.lists.len()
+    }
+
+    /// The spots of each game.
+    pub(crate) fn rows(&self) -> &[Row]
+        ensures { result.now ≡ self.now.rows }
+    {
+        self.rows.as_slice()
+    }
+
+    /// The hits on a board.
+    pub(crate) fn hits(&self, board: u32) -> &[Hit]
+        requires { board < self.now.boards }
+        ensures { result.now ≡ hits_by board 0 self.now.rows }
+    {
+        self.lists[board as usize].as_slice()
+    }
+
+    /// One board more.
+    pub(crate) fn add_board(&mut self, alloc: Global) -> Result<(), AllocError>
+        requires { self.old.boards < 2 ^ 32 }
+        ensures added { OnOk result (self.new ≡ record self.old { boards = self.old.boards + 1 }) }
+        ensures unchanged { OnErr result (self.new ≡ self.old) }
+    {
+        self.lists.push(Hits::new(alloc))?;
+        Ok(())
+    }
+
+    /// One game more, without spots, with memory for `spots` of them.
+    pub(crate) fn add_row(&mut self, alloc: Global, spots: usize) -> Result<(), AllocError>
+        ensures added { OnOk result (self.new ≡ record self.old { rows = self.old.rows ++ [] ∷ [] }) }
+        ensures unchanged { OnErr result (self.new ≡ self.old) }
+    {
+        self.rows.push(Row::new(alloc, spots)?)?;
+        Ok(())
+    }
+
+    /// The last game goes, which has no spots.
+    pub(crate) fn pop_row(&mut self)
+        requires { EndsEmpty self.old.rows }
+        ensures { (rows : List (List Standing)) → self.old.rows ≡ rows ++ [] ∷ [] → self.new ≡ record self.old { rows = rows } }
+    {
+        self.rows.pop();
+    }
+
+    /// One spot more of game `i`, behind its others.
+    pub(crate) fn put(&mut self, i: u32, spot: &Spot) -> Result<(), AllocError>
+        requires game { i < length self.old.rows }
+        requires board { spot.now.board < self.old.boards }
+        ensures put { OnOk result (self.new ≡ record self.old { rows = with_row self.old.rows i (row_in self.old.rows i ++ spot.now ∷ []) }) }
+        ensures unchanged { OnErr result (self.new ≡ self.old) }
+    {
+        let board = spot.board as usize;
+        put_in(&mut self.rows[i as usize], &mut self.lists[board], i, spot)?;
+        Ok(())
+    }
+
+    /// The first spots of game `i` go, so many.
+    pub(crate) fn drop_front(&mut self, i: u32, count: usize)
+        requires game { i < length self.old.rows }
+        requires spots { count ≤ length (row_in self.old.rows i) }
+        ensures { self.new ≡ record self.old { rows = with_row self.old.rows i (drop count (row_in self.old.rows i)) } }
+    {
+        let spots = self.rows[i as usize].spots();
+        take_firsts(self.lists.as_mut_slice(), spots.split_at(count).0, i);
+        self.rows[i as usize].drop_front(count);
+    }
+
+    /// The first spots of game `i` stay, so many.
+    pub(crate) fn truncate(&mut self, i: u32, count: usize)
+        requires game { i < length self.old.rows }
+        ensures { self.new ≡ record self.old { rows = with_row self.old.rows i (take count (row_in self.old.rows i)) } }
+    {
+        let spots = self.rows[i as usize].spots();
+        let kept = count.min(spots.len());
+        take_lasts(self.lists.as_mut_slice(), spots.split_at(kept).1, i);
+        self.rows[i as usize].truncate(kept);
+    }
+
+    /// The games get their new numbers, and those that go are left out.
+    pub(crate) fn renumber(&mut self, renumbering: &Renumbering)
+        requires same_games { length renumbering.now.to ≡ length self.old.rows }
+        ensures { self.new ≡ record self.old { rows = renumbered renumbering.now.to self.old.rows } }
+    {
+        let to = renumbering.to();
+        renumber_lists(self.lists.as_mut_slice(), to);
+        let kept = renumber_rows(self.rows.as_mut_slice(), to);
+        self.rows.truncate(kept);
+    }
+}
+
+// One spot more of game `game`, in its row and among the hits on its board.
+fn put_in(row: &mut Row, hits: &mut Hits, game: u32, spot: &Spot) -> Result<(), AllocError>
+    ensures row { OnOk result (row.new ≡ row.old ++ spot.now ∷ []) }
+    ensures put { (before behind : List Hitting) → hits.old ≡ before ++ behind → All (λ h. h.game ≤ game) before → All (λ h. game < h.game) behind
+        → OnOk result (hits.new ≡ before ++ record { game = game; ply = spot.now.ply; next = spot.now.next } ∷ behind) }
+    ensures unchanged { OnErr result ((row.new ≡ row.old) × (hits.new ≡ hits.old)) }
+{
+    let hit = Hit {
+        game,
+        ply: u32::from(spot.ply),
+        next: spot.next,
+    };
+    row.push(spot.board, spot.ply, &spot.next)?;
+    match hits.put(hit) {
+        Ok(()) => Ok(()),
+        Err(refused) => {
+            row.pop();
+            Err(refused)
+        }
+    }
+}
+
+// Takes the hits of the first spots of game `game` out.
+fn take_firsts(lists: &mut [Hits], spots: &[Spot], game: u32)
+    requires { All (λ spot. spot.board < length lists.old) spots.now }
+    ensures len { length lists.new ≡ length lists.old }
+    ensures taken { (rows : List (List Standing)) (behind : List Standing) → game < length rows → row_in rows game ≡ spots.now ++ behind → AreListed lists.old rows
+        → AreListed lists.new (with_row rows game behind) }
+{
+    for spot in spots {
+        lists[spot.board as usize].take_first(game);
+    }
+}
+
+// Takes the hits of the last spots of game `game` out.
+fn take_lasts(lists: &mut [Hits], spots: &[Spot], game: u32)
+    requires { All (λ spot. spot.board < length lists.old) spots.now }
+    ensures len { length lists.new ≡ length lists.old }
+    ensures taken { (rows : List (List Standing)) (front : List Standing) → game < length rows → row_in rows game ≡ front ++ spots.now → AreListed lists.old rows
+        → AreListed lists.new (with_row rows game front) }
+{
+    for k in 0..spots.len() {
+        let board = spots[spots.len() - 1 - k].board;
+        lists[board as usize].take_last(game);
+    }
+}
+
+// The hits of all boards get the new numbers of their games.
+fn renumber_lists(lists: &mut [Hits], to: &[Option<u32>])
+    requires { All (All (λ h. h.game < length to.now)) lists.old }
+    ensures { lists.new ≡ map (moved to.now) lists.old }
+{
+    for k in 0..lists.len() {
+        lists[k].renumber(to);
+    }
+}
+
+// Moves the rows of the games that stay to the front, in their order, and answers how many they are.
+fn renumber_rows(rows: &mut [Row], to: &[Option<u32>]) -> usize
+    requires { length to.now ≡ length rows.old }
+    ensures moved { take result rows.new ≡ renumbered to.now rows.old }
+    ensures len { length rows.new ≡ length rows.old }
+    ensures within { result ≤ length rows.old }
+{
+    let mut kept = 0;
+    for k in 0..rows.len() {
+        if to[k].is_some() {
+            rows.swap(kept, k);
+            kept += 1;
+        }
+    }
+    kept
+}

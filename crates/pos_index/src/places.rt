@@ -1,0 +1,159 @@
+//! The places of games, by their boards and by their games.
+ghost use Rattle.std.specs.Prelude.{◌≡◌, ◌+◌, ◌≤◌, ◌<◌, [], ◌∷◌, ◌++◌, List, length, drop, take, IfOk, OnOk, OnErr};
+ghost use Rattle.cell_core.specs.Packed.{Packed};
+ghost use Rattle.game_filter.specs.Renumbering.{renumbered};
+ghost use Rattle.pos_index.specs.Hits.{Place, hits_from};
+ghost use Rattle.pos_index.specs.Keeping.{AreKept, EndsEmpty, IsNumber, row_in, with_row};
+
+use crate::hit::Hit;
+use crate::lists::Lists;
+use crate::spot::Spot;
+use cell_core::{Move, PackedBoard};
+use game_filter::Renumbering;
+use indexmap::IndexSet;
+use std::alloc::{AllocError, Global};
+use std::marker::Model;
+
+/// The places of the games with the numbers from 0 on. A board is known by its number among those that were met; it keeps its number, also
+/// where no game stands there any more.
+#[derive(Drop)]
+pub(crate) struct Places {
+    boards: IndexSet<PackedBoard>,
+    // There may be a list more than there are boards, without hits.
+    lists: Lists,
+}
+
+impl Model for Places {
+    ghost use Rattle.std.specs.Prelude.{List};
+    ghost use Rattle.pos_index.specs.Hits.{Place};
+    ghost use Rattle.pos_index.specs.Keeping.{AreKept, places_by};
+
+    ghost Value = { List (List Place) };
+
+    ghost view = { λ p. places_by p.boards.keys p.lists.rows };
+
+    ghost invariant = { λ p. AreKept p.boards p.lists };
+}
+
+impl Places {
+    /// No games.
+    pub(crate) fn new(alloc: Global) -> Places
+        ensures { result ≡ [] }
+    {
+        Places {
+            boards: IndexSet::new(alloc),
+            lists: Lists::new(alloc),
+        }
+    }
+
+    /// How many numbers of games there are.
+    pub(crate) fn len(&self) -> usize
+        ensures { result ≡ length self.now }
+    {
+        self.lists.rows().len()
+    }
+
+    /// How many places the game with a number has.
+    pub(crate) fn count(&self, i: u32) -> usize
+        requires { i < length self.now }
+        ensures { result ≡ length (row_in self.now i) }
+    {
+        self.lists.rows()[i as usize].spots().len()
+    }
+
+    /// The hits on a board.
+    pub(crate) fn find(&self, board: &PackedBoard) -> &[Hit]
+        ensures { result.now ≡ hits_from board.now 0 self.now }
+    {
+        match self.boards.get_index_of(board) {
+            Some(number) => self.lists.hits(number as u32),
+            None => &[],
+        }
+    }
+
+    /// One game more, without places, with memory for `places` of them.
+    pub(crate) fn add_row(&mut self, alloc: Global, places: usize) -> Result<(), AllocError>
+        ensures added { OnOk result (self.new ≡ self.old ++ [] ∷ []) }
+        ensures unchanged { OnErr result (self.new ≡ self.old) }
+    {
+        self.lists.add_row(alloc, places)
+    }
+
+    /// The last game goes, which has no places.
+    pub(crate) fn pop_row(&mut self)
+        requires { EndsEmpty self.old }
+        ensures { (rows : List (List Place)) → self.old ≡ rows ++ [] ∷ [] → self.new ≡ rows }
+    {
+        self.lists.pop_row();
+    }
+
+    /// One place more of game `i`, behind its others.
+    pub(crate) fn put(
+        &mut self,
+        alloc: Global,
+        i: u32,
+        board: PackedBoard,
+        ply: u8,
+        next: &Option<Move>,
+    ) -> Result<(), AllocError>
+        requires game { i < length self.old }
+        ensures put { OnOk result (self.new ≡ with_row self.old i (row_in self.old i ++ record { board = board; ply = ply; next = next.now } ∷ [])) }
+        ensures unchanged { OnErr result (self.new ≡ self.old) }
+    {
+        let number = number_of(alloc, &mut self.boards, &mut self.lists, board)?;
+        let spot = Spot {
+            board: number,
+            ply,
+            next: *next,
+        };
+        self.lists.put(i, &spot)
+    }
+
+    /// The first places of game `i` go, so many.
+    pub(crate) fn drop_front(&mut self, i: u32, count: usize)
+        requires game { i < length self.old }
+        requires places { count ≤ length (row_in self.old i) }
+        ensures { self.new ≡ with_row self.old i (drop count (row_in self.old i)) }
+    {
+        self.lists.drop_front(i, count);
+    }
+
+    /// The first places of game `i` stay, so many.
+    pub(crate) fn truncate(&mut self, i: u32, count: usize)
+        requires game { i < length self.old }
+        ensures { self.new ≡ with_row self.old i (take count (row_in self.old i)) }
+    {
+        self.lists.truncate(i, count);
+    }
+
+    /// The games get their new numbers, and those that go are left out.
+    pub(crate) fn renumber(&mut self, renumbering: &Renumbering)
+        requires same_games { length renumbering.now.to ≡ length self.old }
+        ensures { self.new ≡ renumbered renumbering.now.to self.old }
+    {
+        self.lists.renumber(renumbering);
+    }
+}
+
+// The number of a board, which comes last if it is new. That there are more boards than 32 bits can tell is want of memory too.
+fn number_of(
+    alloc: Global,
+    boards: &mut IndexSet<PackedBoard>,
+    lists: &mut Lists,
+    board: PackedBoard,
+) -> Result<u32, AllocError>
+    requires { AreKept boards.old lists.old }
+    ensures number { IfOk result (λ number. IsNumber boards.new.keys number board) }
+    ensures kept { AreKept boards.new lists.new }
+    ensures begins { (more : List Packed) × (boards.new.keys ≡ boards.old.keys ++ more) }
+    ensures rows { lists.new.rows ≡ lists.old.rows }
+{
+    if boards.len() >= u32::MAX as usize {
+        return Err(AllocError);
+    }
+    if lists.boards() == boards.len() {
+        lists.add_board(alloc)?;
+    }
+    let (number, _) = boards.insert_full(board)?;
+    Ok(number as u32)
+}
