@@ -336,11 +336,28 @@ def twins_and_crosstables():
     write("twins_among_games", "base", b"", b"", records, "after")
 
 
+def opening_codes():
+    """The bases of the cases of `eco`. A game whose round is set is placed once more."""
+    b12 = entry(0, 25, ids=(0, 1, 0, 0, 0), result=1, eco=1 + 13100 + 1310 + 131 * 2, dates=1910 * 512, final=VIENNA_FINAL, plies=21, home=VIENNA_HOME)
+    write("eco_of_vienna", "vienna", index([VIENNA]), VIENNA_NAMES, VIENNA_RECORD)
+    write("eco_of_vienna", "vienna", index([b12]), VIENNA_NAMES, VIENNA_RECORD, "after")
+    for case in ("eco_of_pawns", "eco_errors"):
+        write(case, "pawns", index(PAWNS), PAWNS_NAMES, PAWNS_RECORDS)
+    write("eco_table_of_many_lines", "base", b"", b"", b"", "after")
+    spanish = game(E4 + E5 + NF3 + b"\x22\x59\x81")
+    after_e4 = b"rnbqkbnr/pppppppp/8/8/4P3/8/PPPP1PPP/RNBQKBNR"
+    records = spanish + game(b"\xff") + game(b"") + game(NF3 + D5 + D4) + game(E4 + b"\xb1") + game(b"\x8f\x0d" + E4 + E5 + b"\x0e\x8f")
+    records += game(b"\x81", start=after_e4 + b" b - - 0 1") + game(E5, start=after_e4 + b" b - - 0 1") + game(b"\x11", start=after_e4 + b" w - - 0 1")
+    records += game(b"\x0a", start=b"4k3/8/8/8/8/8/8/4K2R w K - 0 1") + game(E4 + E5 + NF3 + b"\x61\x62\x68") + game(E4 + b"\xa1" + D4 + D5) + game(E4 + b"\0")
+    write("eco_classifies", "base", b"", b"", records + spanish, "after")
+
+
 def main():
     edits()
     imports()
     compactions()
     twins_and_crosstables()
+    opening_codes()
     for case in ("filters_by_number", "find_in_both_orders", "search_header_among_filters", "search_material_by_signatures",
                  "search_position", "search_position_in_each_mode", "tree_in_both_orders"):
         write(case, "pawns", index(PAWNS), PAWNS_NAMES, PAWNS_RECORDS)

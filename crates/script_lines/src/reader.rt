@@ -376,6 +376,7 @@ pub fn body_word(order: &Order) -> Option<&Text>
     match order {
         Ok(Command::Import(word)) => Some(word),
         Ok(Command::Replace(_, word)) => Some(word),
+        Ok(Command::Eco(word)) => Some(word),
         _ => None,
     }
 }

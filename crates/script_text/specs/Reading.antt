@@ -6,7 +6,7 @@ use Rattle.chess_text.specs.Filling.{board_named}
 use Rattle.game_filter.specs.declared.op.Op.{Op}
 use Rattle.sig_index.specs.Queries.{any_head, any_material}
 use Rattle.script_text.specs.declared.command.Command.{Command}
-use Rattle.script_text.specs.declared.command.Command.TheVariants.{Nothing, Find, SearchPosition, SearchMaterial, SearchHeader, Reset, Clear, Negate, Restrict, Keep, Take, And, Or, Drop, Hits, List as Listing, Show, Export, Import, Replace, Tag, Delete, Undelete, Mark, Tree, Cross, Twins, Save, Compact, Info, Demo, Quit}
+use Rattle.script_text.specs.declared.command.Command.TheVariants.{Nothing, Find, SearchPosition, SearchMaterial, SearchHeader, Reset, Clear, Negate, Restrict, Keep, Take, And, Or, Drop, Hits, List as Listing, Show, Export, Import, Replace, Eco, Tag, Delete, Undelete, Mark, Tree, Cross, Twins, Save, Compact, Info, Demo, Quit}
 use Rattle.script_text.specs.declared.fault.ScriptFault.{ScriptFault}
 use Rattle.script_text.specs.declared.fault.ScriptFault.TheVariants.{TooLong, Unknown}
 use Rattle.script_text.specs.declared.forms.SearchKind.{SearchKind}
@@ -71,6 +71,7 @@ unfoldable pub editing : List ℕ → List Word → Result Command ScriptFault
 editing name words =
     if bytes_eq name (codes "import") then made Import (one body_end words)
     else if bytes_eq name (codes "replace") then made (λ given. Replace given.0 given.1) (two number body_end words)
+    else if bytes_eq name (codes "eco") then made Eco (one body_end words)
     else if bytes_eq name (codes "tag") then tag words
     else if bytes_eq name (codes "delete") then made Delete (one number words)
     else if bytes_eq name (codes "undelete") then made Undelete (one number words)

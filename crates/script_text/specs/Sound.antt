@@ -5,7 +5,7 @@ use Rattle.sig_index.specs.declared.head_query.HeadQuery.{HeadQuery}
 use Rattle.sig_index.specs.declared.mat_query.MatQuery.{MatQuery}
 use Rattle.script_text.specs.declared.command.Command.{Command}
 use Rattle.script_text.specs.declared.fault.ScriptFault.{ScriptFault}
-use Rattle.script_text.specs.declared.command.Command.TheVariants.{Nothing, Find, SearchPosition, SearchMaterial, SearchHeader, Reset, Clear, Negate, Restrict, Keep, Take, And, Or, Drop, Hits, List as Listing, Show, Export, Import, Replace, Tag, Delete, Undelete, Mark, Tree, Cross, Twins, Save, Compact, Info, Demo, Quit}
+use Rattle.script_text.specs.declared.command.Command.TheVariants.{Nothing, Find, SearchPosition, SearchMaterial, SearchHeader, Reset, Clear, Negate, Restrict, Keep, Take, And, Or, Drop, Hits, List as Listing, Show, Export, Import, Replace, Eco, Tag, Delete, Undelete, Mark, Tree, Cross, Twins, Save, Compact, Info, Demo, Quit}
 
 -- A mark that is asked for is one of the 18 bits.
 abbrev pub IsHeadQuery : HeadQuery → Type 0
@@ -23,6 +23,7 @@ IsSound (SearchHeader op query) = IsHeadQuery query
 IsSound (SearchMaterial op query) = IsMatQuery query
 IsSound (Import end) = length end ≤ 32
 IsSound (Replace game end) = length end ≤ 32
+IsSound (Eco end) = length end ≤ 32
 IsSound Nothing = Unit {0}
 IsSound (Find board side) = Unit {0}
 IsSound (SearchPosition op query) = Unit {0}

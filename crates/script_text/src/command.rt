@@ -47,6 +47,8 @@ pub enum Command {
     Import(Text),
     /// `replace G <<WORD`, with the word that ends the body.
     Replace(u64, Text),
+    /// `eco <<WORD`, with the word that ends the body.
+    Eco(Text),
     /// `tag G NAME VALUE`
     Tag(u64, TagEdit),
     /// `delete G`

@@ -174,6 +174,9 @@ fn editing(alloc: Global, name: &[u8], words: &[Word]) -> Result<Command, Comman
         let (game, end) = number_and_body(words)?;
         return Ok(Command::Replace(game, text(alloc, end)?));
     }
+    if name == b"eco".as_slice() {
+        return Ok(Command::Eco(text(alloc, one_body(words)?)?));
+    }
     if name == b"tag".as_slice() {
         return tag(alloc, words);
     }

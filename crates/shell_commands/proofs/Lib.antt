@@ -23,6 +23,7 @@ pub mod TreeLaws
 pub mod CrossLaws
 pub mod UntaggedLaws
 pub mod TwinLaws
+pub mod EcoLaws
 pub mod SavedLaws
 pub mod AddLaws
 pub mod IntakeLaws

@@ -1,7 +1,8 @@
 -- What a line costs over what a machine holds is its price in the state that the machine stands for.
 use Rattle.std.proofs.Common.{◌≡◌, ◌≤◌, ◌+◌, ◌&&◌, ℕ, zero, suc, Bool, false, List, [], ◌∷◌, length, map, sum_by, slice_get, Option, Some, Ok, Err, refl, sym, ap, ap₂, ◌∙◌, arith, not, filter, inl, inr}
 use Rattle.std.proofs.lemmas.Bool.{cases_Bool}
-use Rattle.std.proofs.lemmas.List.Sums.{sum_by-cons}
+use Rattle.std.specs.Prelude.{sum}
+use Rattle.std.proofs.lemmas.List.Sums.{sum-map, sum_by-cons}
 use Rattle.base_files.specs.Seen.{Seen}
 use Rattle.base_core.specs.Base.{Held}
 use Rattle.base_core.specs.Entries.{head_of, sig_in}
@@ -16,7 +17,7 @@ use Rattle.game_filter.specs.declared.op.Op.TheVariants.{Ignore, And}
 use Rattle.mat_search.specs.Passing as material
 use Rattle.pos_search.specs.Passing as position
 use Rattle.script_text.specs.declared.command.Command.{Command}
-use Rattle.script_text.specs.declared.command.Command.TheVariants.{Find, SearchPosition, SearchMaterial, Show, Export, Tag, Tree, Twins, Demo, Compact}
+use Rattle.script_text.specs.declared.command.Command.TheVariants.{Find, SearchPosition, SearchMaterial, Show, Export, Tag, Tree, Twins, Eco, Demo, Compact}
 use Rattle.sig_index.specs.declared.signature.Sig.{Sig}
 use Rattle.shell_commands.specs.Do.{Order, command_price, filtered_len, is_demo, len_if_in, len_in, price, price_by, priced}
 use Rattle.shell_commands.specs.Passing.{len_if, searched_len, sig_of}
@@ -101,6 +102,11 @@ same_lens (e ∷ es) (held ∷ all) count each =
     let count' : length es ≡ length all = cc in
     ap₂ (λ (n : ℕ) (ns : List ℕ). n ∷ ns) (sym (each zero e held refl refl)) (same_lens es all count' (λ i e' held' there here. each (suc i) e' held' there here))
 
+same_sum : (es : List Entry) (all : List Held) → length es ≡ length all
+    → ((i : ℕ) (e : Entry) (held : Held) → slice_get es i ≡ Some e → slice_get all i ≡ Some held → held.len ≡ e.len)
+    → sum_by (λ (x : Entry). x.len) es ≡ sum_by (λ (x : Held). x.len) all
+same_sum es all count each = sym (sum-map (λ (x : Entry). x.len) es) ∙ (ap sum (same_lens es all count each) ∙ sum-map (λ (x : Held). x.len) all)
+
 same_shared : (names : NameLists) (es : List Entry) (all : List Held) → length es ≡ length all
     → ((i : ℕ) (e : Entry) (held : Held) → slice_get es i ≡ Some e → slice_get all i ≡ Some held → held.len ≡ e.len)
     → map (λ (x : Entry). head_of names x []) es ≡ map (λ (x : Held). without_tags x.head) all
@@ -124,6 +130,7 @@ same_price names Export plies es all count each heads = same_filtered plies es a
 same_price names (Tree board side) plies es all count each heads =
     same_searched (λ (s : Sig). position.passes s (exactly board side)) And plies es all count each
 same_price names (Twins depth) plies es all count each heads = same_shared names es all count (λ i e held there here. (each i e held there here).len) heads
+same_price names (Eco word) plies es all count each heads = same_sum es all count (λ i e held there here. (each i e held there here).len)
 same_price names Compact plies es all count each heads = same_kept es all count (λ i e held there here. let alike = each i e held there here in (alike.len, alike.deleted))
 same_price names _ plies es all count each heads = refl
 

@@ -6,7 +6,7 @@ use Rattle.base_files.specs.declared.faults.Stop.TheVariants as stop
 use Rattle.command_runs.specs.Endings.{Halted, Serves}
 use Rattle.script_text.specs.Tasks.{Task, body_word, task, word_of}
 use Rattle.script_text.specs.declared.command.Command.{Command}
-use Rattle.script_text.specs.declared.command.Command.TheVariants.{Import, Replace}
+use Rattle.script_text.specs.declared.command.Command.TheVariants.{Import, Replace, Eco}
 use Rattle.shell_commands.specs.declared.halt.Halt.{Halt}
 use Rattle.shell_commands.specs.declared.halt.Halt.TheVariants as halt
 use Rattle.shell_commands.specs.Do.{Order, after_order, plain, text_of_order}
@@ -18,11 +18,13 @@ use Rattle.shell_commands.specs.Tasks.{BrokenTask, after_with, tasks, text_with}
 command_after : (s : State) (command : Command) (body : List ℕ) → word_of command ≡ None → after_order s (Ok command) ≡ after_with s (Ok command) body
 command_after s (Import word) body none = cc
 command_after s (Replace game word) body none = cc
+command_after s (Eco word) body none = cc
 command_after s _ body none = refl
 
 command_text : (s : State) (command : Command) (body : List ℕ) → word_of command ≡ None → text_of_order s (Ok command) ≡ text_with s (Ok command) body
 command_text s (Import word) body none = cc
 command_text s (Replace game word) body none = cc
+command_text s (Eco word) body none = cc
 command_text s _ body none = refl
 
 alone_after : (s : State) (order : Order) (body : List ℕ) → body_word order ≡ None → after_order s order ≡ after_with s order body

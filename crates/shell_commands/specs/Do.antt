@@ -8,7 +8,7 @@ use Rattle.game_tree.specs.declared.head.Head.{Head}
 use Rattle.mat_search.specs.Passing as material
 use Rattle.pos_search.specs.Passing as position
 use Rattle.script_text.specs.declared.command.Command.{Command}
-use Rattle.script_text.specs.declared.command.Command.TheVariants.{Nothing, Find, SearchPosition, SearchMaterial, SearchHeader, Reset, Clear, Negate, Restrict, Keep, Take, And, Or, Drop, Hits, List as Listing, Show, Export, Import, Replace, Tag, Delete, Undelete, Mark, Tree, Cross, Twins, Save, Info, Demo, Quit, Compact}
+use Rattle.script_text.specs.declared.command.Command.TheVariants.{Nothing, Find, SearchPosition, SearchMaterial, SearchHeader, Reset, Clear, Negate, Restrict, Keep, Take, And, Or, Drop, Hits, List as Listing, Show, Export, Import, Replace, Eco, Tag, Delete, Undelete, Mark, Tree, Cross, Twins, Save, Info, Demo, Quit, Compact}
 use Rattle.script_text.specs.declared.fault.ScriptFault.{ScriptFault}
 use Rattle.script_text.specs.declared.fault.ScriptFault.TheVariants.{Unknown}
 use Rattle.command_runs.specs.Plain.{Plain}
@@ -115,6 +115,7 @@ command_asks (Show game) = true
 command_asks Export = true
 command_asks (Import word) = true
 command_asks (Replace game word) = true
+command_asks (Eco word) = true
 command_asks (Tag game edit) = true
 command_asks (Tree board side) = true
 command_asks (Twins depth) = true
@@ -159,7 +160,7 @@ filtered_len len (ply ∷ plies) (game ∷ games) = len_if_in ply (len game) + f
 
 -- How many bytes of the games file a command asks at most, by what has the lengths of the games' records, their signatures, whether they are
 -- deleted, and their heads: those of the games that are looked at and can match, of the game that is shown or tagged, of the games that are
--- exported, of those that may be twins, of the games that stay.
+-- exported, of those that may be twins, of all games for their opening codes, of the games that stay.
 abbrev pub command_price : {A : Type 0} → (A → ℕ) → (A → Sig) → (A → Bool) → (A → Head) → List A → List (Option ℕ) → Command → ℕ
 command_price len sig gone head games plies (Find board side) = searched_len len (λ game. position.passes (sig game) (exactly board side)) Ignore plies games
 command_price len sig gone head games plies (SearchPosition op query) = searched_len len (λ game. position.passes (sig game) query) op plies games
@@ -169,6 +170,7 @@ command_price len sig gone head games plies (Tag game edit) = len_in len (slice_
 command_price len sig gone head games plies Export = filtered_len len plies games
 command_price len sig gone head games plies (Tree board side) = searched_len len (λ game. position.passes (sig game) (exactly board side)) Among plies games
 command_price len sig gone head games plies (Twins depth) = shared_len (map head games) (map head games) (map len games)
+command_price len sig gone head games plies (Eco word) = sum_by len games
 command_price len sig gone head games plies Compact = sum_by len (filter (λ game. not (gone game)) games)
 command_price len sig gone head games plies _ = 0
 

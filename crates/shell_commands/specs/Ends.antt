@@ -1,7 +1,9 @@
 -- Why a part of a command ends early. Only private functions cite this.
-use Rattle.std.specs.Prelude.{◌≡◌, ◌⊎◌, ⊤, ℕ, codes, List, [], ◌∷◌, ◌++◌, Option, Result, Ok, Err}
+use Rattle.std.specs.Prelude.{◌≡◌, ◌⊎◌, ⊤, ℕ, codes, List, [], ◌∷◌, ◌++◌, length, ◌||◌, ◌≤◌, is_some, IfSome, Option, Some, None, Result, Ok, Err}
+use Rattle.std.specs.List.{list_any}
 use Rattle.base_core.specs.Base.{Held}
 use Rattle.base_core.specs.Edited.{ChangedHeads, Does}
+use Rattle.base_core.specs.Edits.{classified}
 use Rattle.base_core.specs.Represents.{Kept}
 use Rattle.base_core.specs.declared.fault.EditError.{EditError}
 use Rattle.base_core.specs.declared.fault.EditError.TheVariants as edit
@@ -15,6 +17,7 @@ use Rattle.compact_base.specs.declared.fault.CompactError.{CompactError}
 use Rattle.compact_base.specs.declared.fault.CompactError.TheVariants as compacting
 use Rattle.pgn_read.specs.declared.error.PgnError.{PgnError}
 use Rattle.pgn_read.specs.declared.error.PgnError.TheVariants as pgn
+use Rattle.shell_commands.specs.Classifying.{with_code}
 use Rattle.shell_commands.specs.Editing.{full_line, full_words, too_long_line, too_long_words}
 use Rattle.shell_commands.specs.GameTexts.{ExportCut, exported}
 use Rattle.shell_commands.specs.Importing.{item_line}
@@ -123,6 +126,29 @@ unread_halt pgn.Memory = halt.Device stop.Memory
 abbrev pub halt_of_twins : TwinError → Halt
 halt_of_twins (twins.Fetch error) = halt_of_fetch error
 halt_of_twins twins.Memory = halt.Device stop.Memory
+
+-- An opening code, if it is one.
+abbrev pub IsCode : Option ℕ → Type 0
+IsCode code = IfSome code (λ eco. eco ≤ 65500)
+
+-- The game of this number got a code, where there is one.
+abbrev pub IsCoded : ℕ → Option ℕ → Kept → Kept → Type 0
+IsCoded i None old new = new ≡ old
+IsCoded i (Some code) old new = Does (classified i code) old new × ChangedHeads old new
+
+-- The games with these codes, one after the other; behind the last code they stay as they are.
+abbrev pub coded : List (Option ℕ) → List Held → List Held
+coded [] games = games
+coded (code ∷ codes) [] = []
+coded (code ∷ codes) (held ∷ games) = with_code code held ∷ coded codes games
+
+-- The games got these codes, and nothing else was changed.
+pub record AreCoded (codes : List (Option ℕ)) (old new : Kept) : Type 0 where
+  pub does : Does (λ base. record base { games = coded codes base.games }) old new
+  pub names : new.names ≡ old.names
+  pub count : length new.entries ≡ length old.entries
+  pub end : new.end ≡ old.end
+  pub unsaved : new.unsaved ≡ list_any is_some codes || old.unsaved
 
 -- All these games were marked as deleted, if there are any.
 abbrev pub Marked : List ℕ → Kept → Kept → Type 0

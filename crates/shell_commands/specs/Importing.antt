@@ -5,6 +5,7 @@ use Rattle.base_core.specs.Base.{Base, Held}
 use Rattle.base_core.specs.Edited.{first_full}
 use Rattle.base_core.specs.Edits.{added, end_with, game_replaced, names_with}
 use Rattle.base_core.specs.declared.fault.What.{What}
+use Rattle.chess_text.specs.declared.fault.SanFault.{SanFault}
 use Rattle.chess_text.specs.declared.fault.SanFault.TheVariants as san
 use Rattle.command_runs.specs.Plain.{Plain, after_all, run}
 use Rattle.game_codec.specs.Written.{longest, written_record}
@@ -28,13 +29,17 @@ use Rattle.shell_commands.specs.State.{State}
 abbrev pub item_line : ℕ → List ℕ → List ℕ
 item_line number words = codes "error: game " ++ decimal number ++ words ++ 10 ∷ []
 
+-- What is wrong with the text of a move.
+abbrev pub san_words : SanFault → List ℕ
+san_words san.Shape = codes "bad move text"
+san_words san.NoMove = codes "no legal move"
+san_words san.Two = codes "ambiguous move"
+
 -- What is wrong with a token of a game's text.
 abbrev pub what_words : GameWhat → List ℕ
 what_words what.Tag = codes "bad tag"
 what_words what.TagTooLong = codes "tag too long"
-what_words (what.San san.Shape) = codes "bad move text"
-what_words (what.San san.NoMove) = codes "no legal move"
-what_words (what.San san.Two) = codes "ambiguous move"
+what_words (what.San fault) = san_words fault
 what_words (what.Fen fault) = codes "bad position"
 what_words what.Brace = codes "open comment"
 what_words what.Paren = codes "unbalanced variation"

@@ -19,6 +19,7 @@ pub mod Editing
 pub mod Saving
 pub mod Compacting
 pub mod Importing
+pub mod Classifying
 pub mod Tasks
 pub mod Intakes
 pub mod Demoing

@@ -3,7 +3,8 @@ use Rattle.std.specs.Prelude.{ℕ, List, Ok, is_some, IsTrue}
 use Rattle.base_files.specs.declared.faults.Stop.TheVariants as stop
 use Rattle.command_runs.specs.Plain.{Plain}
 use Rattle.script_text.specs.Tasks.{Task, body_word}
-use Rattle.script_text.specs.declared.command.Command.TheVariants.{Import, Replace}
+use Rattle.script_text.specs.declared.command.Command.TheVariants.{Import, Replace, Eco}
+use Rattle.shell_commands.specs.Classifying.{eco_after, eco_text}
 use Rattle.shell_commands.specs.Do.{Order, after_order, text_of_order}
 use Rattle.shell_commands.specs.Importing.{import_after, import_text, replace_after, replace_text}
 use Rattle.shell_commands.specs.Stands.{Broken}
@@ -14,11 +15,13 @@ use Rattle.shell_commands.specs.declared.halt.Halt.TheVariants as halt
 abbrev pub after_with : State → Order → List ℕ → State
 after_with s (Ok (Import word)) body = import_after s body
 after_with s (Ok (Replace game word)) body = replace_after s game body
+after_with s (Ok (Eco word)) body = eco_after s body
 after_with s order body = after_order s order
 
 abbrev pub text_with : State → Order → List ℕ → List ℕ
 text_with s (Ok (Import word)) body = import_text s body
 text_with s (Ok (Replace game word)) body = replace_text s game body
+text_with s (Ok (Eco word)) body = eco_text s body
 text_with s order body = text_of_order s order
 
 -- The plain machine.

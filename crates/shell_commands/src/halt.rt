@@ -1,7 +1,7 @@
 //! Why a command ends a session early.
 use base_files::Stop;
 use sig_index::{FetchError, Sig};
-use std::alloc::AllocError;
+use std::alloc::{AllocError, AllocFailed};
 
 /// Why a command was broken off.
 #[derive(Clone, Copy, Debug, PartialEq, Eq)]
@@ -49,6 +49,18 @@ impl From<AllocError> for Halt {
     ghost from_gives = { λ _ e. e ≡ halt.Device stop.Memory };
 
     fn from(_refused: AllocError) -> Halt {
+        Halt::Device(Stop::Memory)
+    }
+}
+
+impl<T: Drop> From<AllocFailed<T>> for Halt {
+    ghost use Rattle.std.specs.Prelude.{◌≡◌};
+    ghost use Rattle.base_files.specs.declared.faults.Stop.TheVariants as stop;
+    ghost use Rattle.shell_commands.specs.declared.halt.Halt.TheVariants as halt;
+
+    ghost from_gives = { λ _ e. e ≡ halt.Device stop.Memory };
+
+    fn from(_refused: AllocFailed<T>) -> Halt {
         Halt::Device(Stop::Memory)
     }
 }

@@ -1,6 +1,6 @@
 //! The lines of the items of a body.
 ghost use Rattle.std.specs.Prelude.{◌≡◌, string_bytes, IfOk};
-ghost use Rattle.shell_commands.specs.Importing.{fault_words, faulty_line, imported_line, item_line, what_words};
+ghost use Rattle.shell_commands.specs.Importing.{fault_words, faulty_line, imported_line, item_line, san_words, what_words};
 
 use chess_text::SanFault;
 use pgn_read::{GameFault, GameWhat};
@@ -47,15 +47,24 @@ fn what_words(what: GameWhat) -> &'static str
     match what {
         GameWhat::Tag => "bad tag",
         GameWhat::TagTooLong => "tag too long",
-        GameWhat::San(SanFault::Shape) => "bad move text",
-        GameWhat::San(SanFault::NoMove) => "no legal move",
-        GameWhat::San(SanFault::Two) => "ambiguous move",
+        GameWhat::San(fault) => san_words(fault),
         GameWhat::Fen(_) => "bad position",
         GameWhat::Brace => "open comment",
         GameWhat::Paren => "unbalanced variation",
         GameWhat::Depth => "variation too deep",
         GameWhat::Token => "bad token",
         GameWhat::TooLong => "game too long",
+    }
+}
+
+// What is wrong with the text of a move.
+pub(crate) fn san_words(fault: SanFault) -> &'static str
+    ensures words { result.now ≡ san_words fault }
+{
+    match fault {
+        SanFault::Shape => "bad move text",
+        SanFault::NoMove => "no legal move",
+        SanFault::Two => "ambiguous move",
     }
 }
 

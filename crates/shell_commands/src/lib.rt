@@ -1,9 +1,12 @@
 //! The commands of a script over an open base: what each makes of the state, and the text that it writes.
 #![tactic(auto)]
 
+mod bodies;
+mod classifying;
 mod compacting;
 mod crosstables;
 mod demoing;
+mod eco_lines;
 mod editing;
 mod filters;
 mod game_texts;

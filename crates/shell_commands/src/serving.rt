@@ -14,6 +14,7 @@ ghost use Rattle.shell_commands.specs.State.{State};
 ghost use Rattle.shell_commands.specs.Tasks.{BrokenTask, tasks};
 ghost use Rattle.shell_commands.specs.Turns.{IsTurn};
 
+use crate::classifying::eco;
 use crate::compacting::compact;
 use crate::crosstables::cross;
 use crate::demoing::demo;
@@ -149,6 +150,7 @@ pub fn serve_body<F: Files, B: Source, K: Sink>(
     match order {
         Ok(Command::Import(_)) => import(alloc, machine, files, body, out),
         Ok(Command::Replace(number, _)) => replace(alloc, machine, files, body, out, *number),
+        Ok(Command::Eco(_)) => eco(alloc, machine, files, body, out),
         _ => serve(alloc, machine, files, out, order),
     }
 }
@@ -205,6 +207,7 @@ fn take_turn<'a>(
         }
         Command::Import(_) => Ok(Turn::Line(unknown(alloc)?)),
         Command::Replace(_, _) => Ok(Turn::Line(unknown(alloc)?)),
+        Command::Eco(_) => Ok(Turn::Line(unknown(alloc)?)),
         Command::Tag(number, edit) => tag_turn(alloc, machine, *number, edit),
         Command::Delete(number) => Ok(Turn::Line(delete(alloc, machine, *number)?)),
         Command::Undelete(number) => Ok(Turn::Line(undelete(alloc, machine, *number)?)),

@@ -15,6 +15,9 @@ use Rattle.command_runs.specs.Endings.{Cut, Done, Halted}
 use Rattle.command_runs.specs.Plain.{after_all, run}
 use Rattle.command_runs.specs.Runs.{Stopped}
 use Rattle.command_runs.proofs.Joining.{halted_all, halted_none, halted_within}
+use Rattle.eco_class.specs.Reading.{table_of}
+use Rattle.eco_class.specs.Table.{Opening}
+use Rattle.eco_class.specs.declared.fault.EcoFault.{EcoFault}
 use Rattle.game_tree.specs.Game.{GameTree}
 use Rattle.game_tree.specs.declared.head.Head.{Head}
 use Rattle.pgn_read.specs.declared.item.Item.{Item}
@@ -35,8 +38,9 @@ use Rattle.script_lines.proofs.TaskLaws.{on_body, on_line, on_open, on_quit}
 use Rattle.script_text.specs.Sound.{IsSoundLine}
 use Rattle.script_text.specs.Tasks.{Task, body_word, task, word_of}
 use Rattle.script_text.specs.declared.command.Command.{Command}
-use Rattle.script_text.specs.declared.command.Command.TheVariants.{Import, Replace, Quit}
-use Rattle.shell_commands.specs.Do.{Order, order_writes, price}
+use Rattle.script_text.specs.declared.command.Command.TheVariants.{Import, Replace, Eco, Quit}
+use Rattle.shell_commands.specs.Classifying.{state_by}
+use Rattle.shell_commands.specs.Do.{Order, price}
 use Rattle.shell_commands.specs.Importing.{Intake, intake, item_after, none_taken, not_added, state_with, the_new, unless_not_added}
 use Rattle.shell_commands.specs.Stands.{Holding, Stands, StillCarry, WhyHalt}
 use Rattle.shell_commands.specs.State.{State}
@@ -55,11 +59,12 @@ use Rattle.shell_session.proofs.RunningLaws.{front_stops, last_then_quit, line_b
 -- ---- the lines that have bodies
 
 abbrev pub HasBody : Order → List ℕ → Type 0
-HasBody order word = (order ≡ Ok (Import word)) ⊎ ((game : ℕ) × (order ≡ Ok (Replace game word)))
+HasBody order word = (order ≡ Ok (Import word)) ⊎ (((game : ℕ) × (order ≡ Ok (Replace game word))) ⊎ (order ≡ Ok (Eco word)))
 
 command_body : (command : Command) (word : List ℕ) → word_of command ≡ Some word → HasBody (Ok command) word
 command_body (Import end) word is = let e : end ≡ word = cc in let P : List ℕ → Order = λ w. Ok (Import w) in inl (ap P e)
-command_body (Replace game end) word is = let e : end ≡ word = cc in let P : List ℕ → Order = λ w. Ok (Replace game w) in inr (game, ap P e)
+command_body (Replace game end) word is = let e : end ≡ word = cc in let P : List ℕ → Order = λ w. Ok (Replace game w) in inr (inl (game, ap P e))
+command_body (Eco end) word is = let e : end ≡ word = cc in let P : List ℕ → Order = λ w. Ok (Eco w) in inr (inr (ap P e))
 command_body _ word is = cc
 
 pub has_body : (order : Order) (word : List ℕ) → body_word order ≡ Some word → HasBody order word
@@ -72,27 +77,22 @@ pub worded : {A : Type 0} (found : Option A) (f : A → List ℕ) (word : Option
 worded None f word none is test misses = let e : false ≡ true = test ∙ ap not misses in cc
 worded (Some a) f word none is test misses = (f a, sym is)
 
--- Their word is short, they are not `quit`, and they may change the files.
+-- Their word is short, and they are not `quit`.
 short_of : (order : Order) (word : List ℕ) → HasBody order word → IsSoundLine order → length word ≤ 32
 short_of order word (inl is) sound = subst IsSoundLine is sound
-short_of order word (inr (game, is)) sound = subst IsSoundLine is sound
+short_of order word (inr (inl (game, is))) sound = subst IsSoundLine is sound
+short_of order word (inr (inr is)) sound = subst IsSoundLine is sound
 
 pub short_word : (order : Order) (word : List ℕ) → IsSoundLine order → body_word order ≡ Some word → length word ≤ 32
 short_word order word sound is = short_of order word (has_body order word is) sound
 
 goes_of : (order : Order) (word : List ℕ) → HasBody order word → is_quit order ≡ false
 goes_of order word (inl is) = ap is_quit is
-goes_of order word (inr (game, is)) = ap is_quit is
+goes_of order word (inr (inl (game, is))) = ap is_quit is
+goes_of order word (inr (inr is)) = ap is_quit is
 
 pub body_goes : (order : Order) (word : List ℕ) → body_word order ≡ Some word → is_quit order ≡ false
 body_goes order word is = goes_of order word (has_body order word is)
-
-writes_of : (order : Order) (word : List ℕ) → HasBody order word → order_writes order ≡ true
-writes_of order word (inl is) = ap order_writes is
-writes_of order word (inr (game, is)) = ap order_writes is
-
-pub body_writes : (order : Order) (word : List ℕ) → body_word order ≡ Some word → order_writes order ≡ true
-body_writes order word is = writes_of order word (has_body order word is)
 
 -- They leave what the files carry.
 game_carried : (words : Option (List ℕ)) (i : Intake) (head : Head) (game : GameTree) → (unless_not_added words i head game).state.carried ≡ i.state.carried
@@ -111,13 +111,20 @@ new_carried : (s : State) (game : ℕ) (new : Result (Head × GameTree) (List �
 new_carried s game (Ok new) = refl
 new_carried s game (Err line) = refl
 
+table_carried : (s : State) (table : Result (List Opening) EcoFault) → (state_by s table).carried ≡ s.carried
+table_carried s (Ok table) = refl
+table_carried s (Err fault) = refl
+
 carried_of : (order : Order) (word : List ℕ) (s : State) (body : List ℕ) → HasBody order word → (tasks.after s (task order body)).carried ≡ s.carried
 carried_of order word s body (inl is) =
     let P : Order → Option Base = λ o. (tasks.after s (task o body)).carried in
     ap P is ∙ items_carried (none_taken s) (items_of body)
-carried_of order word s body (inr (game, is)) =
+carried_of order word s body (inr (inl (game, is))) =
     let P : Order → Option Base = λ o. (tasks.after s (task o body)).carried in
     ap P is ∙ new_carried s game (the_new s game body)
+carried_of order word s body (inr (inr is)) =
+    let P : Order → Option Base = λ o. (tasks.after s (task o body)).carried in
+    ap P is ∙ table_carried s (table_of body)
 
 pub body_carries : (order : Order) (word body : List ℕ) (holding : Holding) (seen : Seen) (s : State) → body_word order ≡ Some word → Stands holding seen (tasks.after s (task order body)) → StillCarry seen s order
 body_carries order word body holding seen s is stands =

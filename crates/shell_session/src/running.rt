@@ -86,6 +86,7 @@ fn run_task<F: Files, S: Source, K: Sink>(
     ensures done { IfOk result (λ back. (s : State) (ahead : List ℕ) → Stands machine.old (F.seen files.old) s → before reader.unread (S.left input.old) ≡ Some ahead → TaskDone order s ahead reader.used machine.new (F.seen files.new) back (S.left input.new) (K.taken out.old) (K.taken out.new) (F.asked files.old) (F.asked files.new)) }
     ensures halts { IfErr result (λ status. (s : State) (ahead : List ℕ) → Stands machine.old (F.seen files.old) s → before reader.unread (S.left input.old) ≡ Some ahead → Halts status (F.seen files.new) order s ahead reader.used (S.left input.new) (K.taken out.old) (K.taken out.new) (F.asked files.old) (F.asked files.new)) }
     ensures sound { OnOk result (Sound machine.new (F.seen files.new)) }
+    ensures unchanged { order_writes order ≡ false → F.seen files.new ≡ F.seen files.old }
     ensures choices { (F.seen files.new).choices ≡ (F.seen files.old).choices }
     ensures counts { NoneFell (counts (F.faults files.old) (S.faults input.old) (K.faults out.old)) (counts (F.faults files.new) (S.faults input.new) (K.faults out.new)) }
     ensures ends { IfErr result Interrupts }
@@ -122,6 +123,7 @@ fn run_quit<F: Files, K: Sink>(
     ensures interrupted { IfErr result (λ status. (s : State) → Stands machine.old (F.seen files.old) s → Interrupted status (F.seen files.new) s (task (Ok command.Quit) []) (K.taken out.old) (K.taken out.new)) }
     ensures asks { (s : State) → Stands machine.old (F.seen files.old) s → F.asked files.new ≤ F.asked files.old + price s (Ok command.Quit) }
     ensures sound { OnOk result (Sound machine.new (F.seen files.new)) }
+    ensures unchanged { F.seen files.new ≡ F.seen files.old }
     ensures choices { (F.seen files.new).choices ≡ (F.seen files.old).choices }
     ensures counts { NoneFell (counts (F.faults files.old) 0 (K.faults out.old)) (counts (F.faults files.new) 0 (K.faults out.new)) }
     ensures ends { IfErr result Interrupts }
@@ -192,6 +194,7 @@ fn run_body<F: Files, S: Source, K: Sink>(
     ensures done { IfOk result (λ back. (s : State) (ahead : List ℕ) → Stands machine.old (F.seen files.old) s → before reader.unread (S.left input.old) ≡ Some ahead → BodyDone order.now s ahead reader.used machine.new (F.seen files.new) back (S.left input.new) (K.taken out.old) (K.taken out.new) (F.asked files.old) (F.asked files.new)) }
     ensures halts { IfErr result (λ status. (s : State) (ahead : List ℕ) → Stands machine.old (F.seen files.old) s → before reader.unread (S.left input.old) ≡ Some ahead → Halts status (F.seen files.new) order.now s ahead reader.used (S.left input.new) (K.taken out.old) (K.taken out.new) (F.asked files.old) (F.asked files.new)) }
     ensures sound { OnOk result (Sound machine.new (F.seen files.new)) }
+    ensures unchanged { order_writes order.now ≡ false → F.seen files.new ≡ F.seen files.old }
     ensures choices { (F.seen files.new).choices ≡ (F.seen files.old).choices }
     ensures counts { NoneFell (counts (F.faults files.old) (S.faults input.old) (K.faults out.old)) (counts (F.faults files.new) (S.faults input.new) (K.faults out.new)) }
     ensures ends { IfErr result Interrupts }
@@ -241,6 +244,7 @@ fn serve_in<B: Begins, F: Files, S: Source, K: Sink>(
     ensures stands { Standing B.start place.new (S.left input.new) (S.budget input.new) (S.faults input.new) }
     ensures sound { OnOk result (Sound machine.new (F.seen files.new)) }
     ensures carries { (s : State) → Stands machine.old (F.seen files.old) s → IfErr result (λ _. StillCarry (F.seen files.new) s order.now) }
+    ensures unchanged { order_writes order.now ≡ false → F.seen files.new ≡ F.seen files.old }
     ensures choices { (F.seen files.new).choices ≡ (F.seen files.old).choices }
     ensures asks { is_demo order.now ≡ false → F.asked files.new ≤ F.asked files.old + cost machine.old order.now }
     ensures asks_demo { (s : State) (seed games : ℕ) → Stands machine.old (F.seen files.old) s → order.now ≡ Ok (command.Demo seed games) → F.asked files.new ≤ F.asked files.old + price s order.now }
