@@ -72,7 +72,7 @@ settled-dated head rule =
     ]
 
 -- The event date of a settled head, by the dates and the tags alone.
-abbrev found_or : Date → Option Date → Date
+abbrev pub found_or : Date → Option Date → Date
 found_or event None = event
 found_or event (Some date) = date
 
@@ -93,10 +93,20 @@ settled_event-is head =
       ]
     ]
 
--- So it is the same whatever the names.
-pub same_event_date : (names others : NameLists) (e : Entry) (tags : List Tag) → (settled (head_of names e tags)).event_date ≡ (settled (head_of others e tags)).event_date
+-- That of an entry's head: the entry's own within the rule, and else the first of the tags.
+pub event_date-near : (names : NameLists) (e : Entry) (tags : List Tag) → is_near e.event_date e.date ≡ true → (settled (head_of names e tags)).event_date ≡ e.event_date
 unfolding head_of
-same_event_date names others e tags = settled_event-is (head_of names e tags) ∙ sym (settled_event-is (head_of others e tags))
+event_date-near names e tags near = settled_event-is (head_of names e tags) ∙ rw near refl
+
+pub event_date-found : (names : NameLists) (e : Entry) (tags : List Tag) (found : Option Date) (date : Date) → is_near e.event_date e.date ≡ false
+    → IsTrue (keeps_rule e.event_date e.date) → found ≡ first_near_date e.date tags → found_or e.event_date found ≡ date
+    → (settled (head_of names e tags)).event_date ≡ date
+unfolding head_of
+event_date-found names e tags found date far rule is date_is =
+    elim (cases_Bool (is_unknown e.event_date)) [
+      | inl unknown ↦ settled_event-is (head_of names e tags) ∙ rw (far, unknown) (ap (found_or e.event_date) (sym is) ∙ date_is)
+      | inr known ↦ absurd (neither _ _ known far rule)
+    ]
 
 -- The head of what is kept of an entry, settled, is the settled head of the entry.
 pub settled_kept : (names : NameLists) (e : Entry) (s : Sig) (date : Date) (tags : List Tag) → IsTrue (keeps_rule e.event_date e.date) → (settled (head_of names e tags)).event_date ≡ date →

@@ -1,5 +1,5 @@
 -- The names of a base are within the bounds of a head's, and so is the head of an entry.
-use Rattle.std.proofs.Common.{◌≡◌, ◌≢◌, ◌<◌, ℕ, zero, suc, false, List, [], ◌∷◌, length, All, slice_get, Some, sym, ap, subst, inl, inr, arith, true≢false, ◌==◌, unwrap_or}
+use Rattle.std.proofs.Common.{◌≡◌, ◌≢◌, ◌<◌, ℕ, zero, suc, false, List, [], ◌∷◌, length, All, slice_get, Some, sym, ap, subst, inl, inr, true≢false, ◌==◌, unwrap_or}
 use Rattle.std.specs.List.{AllByRecursion}
 use Rattle.std.proofs.lemmas.Bool.{cases_Bool, eqb-false}
 use Rattle.std.proofs.lemmas.Option.{same_Some, none-some}
@@ -9,7 +9,7 @@ use Rattle.game_tree.specs.Head.{IsBounded, IsName, IsTag}
 use Rattle.game_tree.specs.declared.head.Tag.{Tag}
 use Rattle.index_entry.specs.Entry.{IsEntry}
 use Rattle.index_entry.specs.declared.entry.Entry.{Entry}
-use Rattle.name_base.specs.NameLists.{NameLists, AreNames, AreSound, has_zero, no_names, of_kind}
+use Rattle.name_base.specs.NameLists.{NameLists, AreNames, AreSound, has_zero, of_kind}
 use Rattle.name_base.specs.NameLists.{IsName as IsBaseName}
 use Rattle.name_base.specs.declared.kind.NameKind.{NameKind}
 use Rattle.name_base.specs.declared.kind.NameKind.TheVariants.{Player, Event, Site, Round}
@@ -57,27 +57,6 @@ head-bounded names e given sound has is tagged = record {
   event = name-bounded _ names.events e.event sound.events has.event;
   site = name-bounded _ names.sites e.site sound.sites has.site;
   round = name-bounded _ names.rounds e.round sound.rounds has.round;
-  date = is.date;
-  event_date = is.event_date;
-  white_rating = is.white_rating;
-  black_rating = is.black_rating;
-  eco = is.eco;
-  marks = is.marks;
-  tags = tagged;
-}
-
-no-name : IsName []
-no-name = record { short = omega arith; zero_free = All-nil (λ (byte : ℕ). byte ≢ 0) }
-
--- So is the head of an entry without names.
-pub nameless-bounded : (e : Entry) (given : List Tag) → IsEntry e → All IsTag given → IsBounded (head_of no_names e given)
-unfolding head_of
-nameless-bounded e given is tagged = record {
-  white = no-name;
-  black = no-name;
-  event = no-name;
-  site = no-name;
-  round = no-name;
   date = is.date;
   event_date = is.event_date;
   white_rating = is.white_rating;

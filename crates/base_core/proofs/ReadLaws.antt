@@ -25,7 +25,7 @@ use Rattle.game_codec.specs.Fault.{IfBad as IfBadRecord}
 use Rattle.game_codec.specs.declared.fault.DecodeError.{DecodeError}
 use Rattle.game_codec.specs.declared.fault.DecodeError.TheVariants as decode
 use Rattle.game_codec.proofs.DecodeLaws.{record-unbroken}
-use Rattle.base_core.specs.Errors.{packed_error, unread_error}
+use Rattle.base_core.specs.Errors.{unread_error}
 use Rattle.base_core.specs.GameAt.{TellsChange}
 use Rattle.base_files.specs.Counters.{LAST, raised}
 use Rattle.std.proofs.Math.Nat.{min-le_left}
@@ -255,14 +255,6 @@ kept_so (Ok x) strict names end game bytes read e is taken fields homes =
 kept_so (Err error) strict names end game bytes read e is taken fields homes = tt
 
 -- A record that is not read.
-pub packed_refuses : (strict : Bool) (game : ℕ) (bytes : List ℕ) (e : Entry) (error : DecodeError) → IfBadRecord (IsRecordFault bytes) error → IfBad (IsNotTaken strict game bytes e) (packed_error game error)
-packed_refuses strict game bytes e (decode.Bad fault) broken = inl (fault, (broken, refl))
-packed_refuses strict game bytes e decode.Memory broken = tt
-
-pub packed_failed : (game : ℕ) (error : DecodeError) → packed_error game error ≡ opening.Failed → ⊥
-packed_failed game (decode.Bad fault) is = absurd cc
-packed_failed game decode.Memory is = absurd cc
-
 pub unread_tells : (i : ℕ) (kept : Sig) (bytes : List ℕ) (error : DecodeError) → IfBadRecord (IsRecordFault bytes) error → TellsChange i kept bytes (unread_error i kept error)
 unread_tells i kept bytes (decode.Bad fault) broken = (refl, (refl, λ some. record-unbroken bytes some.0 some.1.0 fault some.1.1 broken))
 unread_tells i kept bytes decode.Memory broken = tt

@@ -11,7 +11,7 @@ use Rattle.game_codec.specs.declared.fault.EncodeError.TheVariants as encode
 use Rattle.name_base.specs.declared.fault.NamesError.{NamesError}
 use Rattle.name_base.specs.declared.fault.NamesError.TheVariants as names
 use Rattle.sig_index.specs.declared.signature.Sig.{Sig}
-use Rattle.base_core.specs.declared.fault.BaseFault.TheVariants.{Names, Packed}
+use Rattle.base_core.specs.declared.fault.BaseFault.TheVariants.{Names}
 use Rattle.base_core.specs.declared.fault.EditError.{EditError}
 use Rattle.base_core.specs.declared.fault.EditError.TheVariants as edit
 use Rattle.base_core.specs.declared.fault.OpenError.{OpenError}
@@ -29,11 +29,6 @@ open_error device.Memory = opening.Memory
 abbrev pub names_error : NamesError → OpenError
 names_error (names.Bad fault) = opening.Bad (Names fault)
 names_error names.Memory = opening.Memory
-
--- Where the record of a game is not read.
-abbrev pub packed_error : ℕ → DecodeError → OpenError
-packed_error game (decode.Bad fault) = opening.Bad (Packed game fault)
-packed_error game decode.Memory = opening.Memory
 
 -- Why a game is not read that has this signature.
 abbrev pub unread_error : ℕ → Sig → DecodeError → EditError

@@ -1,6 +1,6 @@
 //! Why a base is not opened.
 ghost use Rattle.std.specs.Prelude.{◌≡◌};
-ghost use Rattle.base_core.specs.Errors.{names_error, open_error, packed_error, save_error, unplaced_error, unread_error, unwritten_error};
+ghost use Rattle.base_core.specs.Errors.{names_error, open_error, save_error, unplaced_error, unread_error, unwritten_error};
 ghost use Rattle.base_core.specs.declared.fault.OpenError.TheVariants as opening;
 ghost use Rattle.base_core.specs.declared.fault.EditError.TheVariants as edit;
 ghost use Rattle.base_core.specs.declared.fault.SaveError.TheVariants as saving;
@@ -255,16 +255,6 @@ impl From<NamesError> for OpenError {
             NamesError::Bad(fault) => OpenError::Bad(BaseFault::Names(fault)),
             NamesError::Memory => OpenError::Memory,
         }
-    }
-}
-
-// Why a base is not opened where the record of a game is not read.
-pub(crate) fn packed_error(game: u32, error: DecodeError) -> OpenError
-    ensures error { result ≡ packed_error game error }
-{
-    match error {
-        DecodeError::Bad(fault) => OpenError::Bad(BaseFault::Packed { game, fault }),
-        DecodeError::Memory => OpenError::Memory,
     }
 }
 

@@ -3,13 +3,14 @@ ghost use Rattle.std.specs.Prelude.{◌≡◌, ◌≤◌, ◌<◌, ◌+◌, ◌*
 ghost use Rattle.base_files.specs.Counters.{Rose};
 ghost use Rattle.base_files.specs.Told.{TellsLength};
 ghost use Rattle.game_tree.specs.Date.{IsDate, keeps_rule};
-ghost use Rattle.game_tree.specs.Head.{HasTexts, IsBounded, IsTag, head_of as fields_with};
+ghost use Rattle.game_tree.specs.Game.{GameTree};
 ghost use Rattle.game_tree.specs.Settle.{settled};
 ghost use Rattle.game_tree.specs.declared.head.Tag.{Tag as TagValue};
-ghost use Rattle.game_codec.specs.Fault.{IsRecordFault, IfBad as IfBadRecord};
+ghost use Rattle.game_codec.specs.Fault.{IsRecordFault};
+ghost use Rattle.game_codec.specs.Record.{IsRecord};
 ghost use Rattle.index_entry.specs.Entry.{IsEntry, entry_in};
 ghost use Rattle.index_entry.specs.Index.{entry_bytes};
-ghost use Rattle.name_base.specs.NameLists.{NameLists, no_names};
+ghost use Rattle.name_base.specs.NameLists.{NameLists};
 ghost use Rattle.sig_index.specs.Signature.{IsSigBounded};
 ghost use Rattle.base_core.specs.Entries.{head_of};
 ghost use Rattle.base_core.specs.FirstFault.{EntryFails, Fails};
@@ -19,13 +20,13 @@ ghost use Rattle.base_core.specs.Represents.{IsKept};
 
 use crate::checking::{Opening, checked_entry, differing, kept_entry};
 use crate::entries::Entries;
-use crate::fault::{BaseFault, OpenError, packed_error};
+use crate::fault::{BaseFault, OpenError};
 use base_files::Files;
-use game_codec::{DecodeError, decode_game};
-use game_tree::{Date, Head, HeadRef, Tag, Tags, settle};
+use game_codec::{RecordFault, event_date_in};
+use game_tree::Date;
 use index_entry::Entry;
-use sig_index::{Sig, sig_of};
-use std::alloc::{AllocError, Global};
+use sig_index::{Sig, signed};
+use std::alloc::Global;
 
 // What a record says beside its entry: the signature of its game, and the event date of its settled head.
 #[derive(Clone, Copy, Debug, Drop)]
@@ -77,7 +78,7 @@ pub(crate) fn read_games<F: Files>(
     let mut entries = Entries::new(alloc);
     let mut mended = 0;
     for game in 0..count {
-        let read = read_game(alloc, files, o, game, buf)?;
+        let read = read_game(files, o, game, buf)?;
         entries.push(&read.entry)?;
         mended += read.count();
     }
@@ -86,7 +87,6 @@ pub(crate) fn read_games<F: Files>(
 
 // The entry of a game with its derived fields mended. Its record is read into `buf`.
 fn read_game<F: Files>(
-    alloc: Global,
     files: &mut F,
     o: &Opening<'_>,
     game: u32,
@@ -117,17 +117,11 @@ fn read_game<F: Files>(
     {
         return Err(OpenError::Failed);
     }
-    taken_entry(alloc, o.strict, game, &entry, &buf[..entry.len as usize])
+    taken_entry(o.strict, game, &entry, &buf[..entry.len as usize])
 }
 
 // The entry with its derived fields mended by the bytes of its record.
-fn taken_entry(
-    alloc: Global,
-    strict: bool,
-    game: u32,
-    entry: &Entry,
-    bytes: &[u8],
-) -> Result<GameRead, OpenError>
+fn taken_entry(strict: bool, game: u32, entry: &Entry, bytes: &[u8]) -> Result<GameRead, OpenError>
     requires fields { IsEntry entry.now }
     requires few { length bytes.now < 2 ^ 32 }
     ensures taken { IfOk result (λ read. IsTaken strict bytes.now entry.now read.entry read.mended) }
@@ -137,9 +131,9 @@ fn taken_entry(
     ensures strictly { IfOk result (λ read. IsTrue strict → read.mended ≡ false) }
     ensures no_files { IfErr result (λ error. error ≡ OpenError.Failed → ⊥) }
 {
-    let signed = match signed_by(alloc, entry, bytes) {
+    let signed = match signed_by(entry, bytes) {
         Ok(signed) => signed,
-        Err(error) => return Err(packed_error(game, error)),
+        Err(fault) => return Err(OpenError::Bad(BaseFault::Packed { game, fault })),
     };
     let found = differing(entry, &signed.sig);
     match found {
@@ -152,60 +146,33 @@ fn taken_entry(
 }
 
 // What the bytes of the entry's record say, or their first fault. This is the one place where a record is looked at.
-fn signed_by(alloc: Global, entry: &Entry, bytes: &[u8]) -> Result<Signed, DecodeError>
+fn signed_by(entry: &Entry, bytes: &[u8]) -> Result<Signed, RecordFault>
     requires fields { IsEntry entry.now }
     requires few { length bytes.now < 2 ^ 32 }
     ensures signed { IfOk result (λ signed. IsSigned bytes.now entry.now signed.sig signed.event_date) }
     ensures bounded { IfOk result (λ signed. IsSigBounded signed.sig) }
-    ensures fault { IfErr result (IfBadRecord (IsRecordFault bytes.now)) }
+    ensures fault { IfErr result (IsRecordFault bytes.now) }
     ensures event_date { IfOk result (λ signed. IsDate signed.event_date × IsTrue (keeps_rule signed.event_date entry.now.date)) }
 {
-    let (game, tags) = match decode_game(alloc, bytes) {
-        Ok(read) => read,
-        Err(error) => return Err(error),
-    };
-    match settled_event_date(alloc, entry, tags) {
-        Ok(event_date) => Ok(Signed {
-            sig: sig_of(&game),
-            event_date,
-        }),
-        Err(_) => Err(DecodeError::Memory),
+    let sig = signed(bytes)?;
+    Ok(Signed {
+        sig,
+        event_date: settled_event_date(entry, bytes),
+    })
+}
+
+// The event date that the head of an entry has when it is settled with the tags of its record. The names do not matter.
+fn settled_event_date(e: &Entry, bytes: &[u8]) -> Date
+    requires fields { IsEntry e.now }
+    ensures date { (tags : List TagValue) (game : GameTree) → IsRecord bytes.now tags game → (names : NameLists) → (settled (head_of names e.now tags)).event_date ≡ result }
+    ensures bounded { IsDate result }
+    ensures rule { IsTrue (keeps_rule result e.now.date) }
+{
+    if e.event_date.is_near(e.date) {
+        return e.event_date;
     }
-}
-
-// The event date that the head of an entry has with these tags when it is settled. The names do not matter.
-fn settled_event_date(alloc: Global, e: &Entry, tags: Vec<Tag>) -> Result<Date, AllocError>
-    requires fields { IsEntry e.now }
-    requires tags { All IsTag tags.items }
-    ensures date { IfOk result (λ date. (names : NameLists) → (settled (head_of names e.now tags.items)).event_date ≡ date) }
-    ensures bounded { IfOk result IsDate }
-    ensures rule { IfOk result (λ date. IsTrue (keeps_rule date e.now.date)) }
-{
-    let mut head = Head::of(alloc, nameless(e), Tags::from_vec(tags))?;
-    settle(alloc, &mut head)?;
-    Ok(head.event_date)
-}
-
-// The head of an entry without its tags and names.
-fn nameless(e: &Entry) -> HeadRef<'static>
-    requires fields { IsEntry e.now }
-    ensures bounded { (given : List TagValue) → All IsTag given → IsBounded (head_of no_names e.now given) }
-    ensures fields { (given : List TagValue) → fields_with result given ≡ head_of no_names e.now given }
-    ensures texts { HasTexts result }
-{
-    HeadRef {
-        white: b"",
-        black: b"",
-        event: b"",
-        site: b"",
-        round: b"",
-        date: e.date,
-        event_date: e.event_date,
-        result: e.result,
-        white_rating: e.white_rating,
-        black_rating: e.black_rating,
-        eco: e.eco,
-        marks: e.marks,
-        deleted: e.deleted,
+    match event_date_in(bytes, e.date) {
+        Some(date) => date,
+        None => e.event_date,
     }
 }

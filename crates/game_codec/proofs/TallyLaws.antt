@@ -114,17 +114,3 @@ module _ (start : Place) (bytes : List ℕ) (now : Place) (rest : List ℕ) (bef
 
   pub by_end : t ≡ read.End → LineTallied start bytes (length bytes - length later) before next
   by_end is = closed read.End is refl (line.by_end start bytes now rest has.tokens has.followed used fits t takes after past later later_is is)
-
-  same_size : (u : Read) → t ≡ u → added tally (token_of u) ≡ tally → size_of next ≤ size_of before + (length bytes - length later)
-  same_size u is none =
-      let size : size_of next ≡ size_of tally = ap size_of (next_is ∙ ap (λ (v : Read). added tally (token_of v)) is ∙ none) in
-      omega (arith, size, has.few, left, has.followed.within)
-
-  pub few_close : t ≡ read.Close → size_of next ≤ size_of before + (length bytes - length later)
-  few_close is = same_size read.Close is refl
-
-  pub few_end : t ≡ read.End → size_of next ≤ size_of before + (length bytes - length later)
-  few_end is = same_size read.End is refl
-
-  pub room : (most : ℕ) → size_of before + length bytes ≤ most → size_of next + length later ≤ most
-  room most all = omega (arith, all, has.few, grown, left, some)

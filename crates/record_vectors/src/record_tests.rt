@@ -6,7 +6,8 @@ ghost use Rattle.game_tree.specs.Legal.{IsLegalGame};
 use cell_core::Text;
 use chess_laws::Position;
 use game_codec::{
-    DecodeError, EncodeError, RecordFault, RecordWhat, Walk, decode_game, encode_game, first_fault,
+    DecodeError, EncodeError, Reading, RecordFault, RecordWhat, Walk, decode_game, encode_game,
+    first_fault,
 };
 use game_tree::{Game, Node, Tag};
 use move_codec::MoveFault;
@@ -470,6 +471,30 @@ fn walk_passes_two_hundred_variations(rt: HostRuntime) -> Result<(), Fail> {
 // The first fault of at most a thousand bytes.
 fn checked(bytes: &[u8]) -> Option<RecordFault> {
     first_fault(bytes.split_at(bytes.len().min(1000)).0)
+}
+
+// The first fault that a reading of at most a thousand bytes tells.
+fn read_through(bytes: &[u8]) -> Option<RecordFault> {
+    match Reading::new(bytes.split_at(bytes.len().min(1000)).0) {
+        Ok(reading) => match reading.finish() {
+            Ok(_) => None,
+            Err(fault) => Some(fault),
+        },
+        Err(fault) => Some(fault),
+    }
+}
+
+#[test]
+fn read_through_without_a_tree(rt: HostRuntime) {
+    for record in WRITTEN {
+        assert!(rt; read_through(record) == None, "it is a record");
+    }
+    for (bytes, place, what) in FAULTY {
+        assert!(rt;
+            read_through(bytes) == Some(RecordFault { place, what }),
+            "the fault"
+        );
+    }
 }
 
 #[test]

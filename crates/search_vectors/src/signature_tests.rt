@@ -158,6 +158,21 @@ fn signatures_of_short_games(rt: HostRuntime) {
     assert!(rt; misread(rt.alloc(), &ROWS).is_none());
 }
 
+// The first row whose record is signed otherwise without its tree.
+fn missigned(rows: &'static [Row]) -> Option<&'static Row> {
+    rows.iter().find(|row| {
+        match signed(row.record.split_at(row.record.len().min(2000)).0) {
+            Ok(sig) => sig != row.sig,
+            Err(_) => true,
+        }
+    })
+}
+
+#[test]
+fn signatures_of_their_records(rt: HostRuntime) {
+    assert!(rt; missigned(&ROWS).is_none());
+}
+
 // The plies that the signature of a game of so many plies has: the knights go out and back.
 fn plies_of(alloc: Global, plies: u32) -> Result<Option<u16>, Fail> {
     let mut record = b"\x00\x00".to_vec(alloc)?;

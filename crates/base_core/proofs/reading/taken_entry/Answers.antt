@@ -1,4 +1,4 @@
-use Rattle.std.proofs.Common.{◌≤◌, sym, subst}
+use Rattle.std.proofs.Common.{◌≤◌, sym, subst, refl, inl}
 use Rattle.index_entry.specs.Entry.{IsEntry}
 use Rattle.index_entry.specs.declared.entry.Entry.{Entry}
 use Rattle.base_core.proofs.KeptLaws.{kept-IsEntry, kept-homes}
@@ -12,3 +12,6 @@ returns-in_default-clause-fields c =
 pub returns-in_default-clause-homes : goal.returns-in_default-clause-homes
 returns-in_default-clause-homes c =
     subst (λ (e : Entry). e.home_count ≤ 16) (sym c.kept_entry.ensures.kept) (kept-homes c.args.entry.now c.in-Ok.signed.sig c.in-Ok.signed.event_date c.in-Ok.ensures.bounded.home_count)
+
+pub returns-in-Err-clause-not_taken : goal.returns-in-Err-clause-not_taken
+returns-in-Err-clause-not_taken c = inl (c.in-Err.fault, (c.in-Err.ensures.fault, refl))
