@@ -12,7 +12,7 @@ ghost use Rattle.name_base.specs.NameLists.{AreSound, of_kind};
 ghost use Rattle.sig_index.specs.Signature.{IsSig};
 ghost use Rattle.base_core.specs.Base.{Base as PlainBase};
 ghost use Rattle.base_core.specs.Entries.{HasNames, extent_of, head_of, name_at, sig_in};
-ghost use Rattle.base_core.specs.GameAt.{IfChanged, IsGameAt, IsRecordOf, IsShown, IsStillOfGame, SaysWhy, TellsChange};
+ghost use Rattle.base_core.specs.GameAt.{IfChanged, IsGameAt, IsRecordOf, IsRecordWith, IsShown, IsStillOfGame, SaysWhy, TellsChange};
 ghost use Rattle.base_core.specs.Represents.{Represents};
 
 use crate::base::Base;
@@ -23,7 +23,7 @@ use game_codec::decode_game;
 use game_tree::{Game, Head, HeadRef, Tag, Tags, settle};
 use index_entry::Entry;
 use name_base::{NameKind, Names};
-use sig_index::{HomeList, Sig, sig_of};
+use sig_index::{HomeList, Sig, sig_of, signed};
 use std::alloc::{AllocError, Global};
 
 impl Base {
@@ -80,10 +80,9 @@ impl Base {
     ///
     /// # Errors
     ///
-    /// `Changed` where the record has changed since the base was opened, `Failed` where the files fail, and `Memory`.
+    /// `Changed` where the record has changed since the base was opened, and `Failed` where the files fail.
     pub fn read_record<F: Files>(
         &self,
-        alloc: Global,
         i: u32,
         files: &mut F,
         buf: &mut [u8],
@@ -107,11 +106,10 @@ impl Base {
         if self.store.fetch(extent_of(&entry), files, buf).is_err() {
             return Err(EditError::Failed);
         }
-        let (_game, _tags) = match read_unchanged(alloc, i, &entry, &buf[..entry.len as usize]) {
-            Ok(read) => read,
-            Err(error) => return Err(error),
-        };
-        Ok(entry.len)
+        match check_unchanged(i, &entry, &buf[..entry.len as usize]) {
+            Ok(()) => Ok(entry.len),
+            Err(error) => Err(error),
+        }
     }
 }
 
@@ -143,6 +141,32 @@ fn sig_in(e: &Entry) -> Sig
         comments: e.comments,
         nags: e.nags,
     }
+}
+
+// Whether the bytes are still a record of a game with the signature of its entry.
+fn check_unchanged(i: u32, e: &Entry, bytes: &[u8]) -> Result<(), EditError>
+    requires few { length bytes.now < 2 ^ 32 }
+    ensures same { OnOk result (IsRecordWith bytes.now (sig_in e.now)) }
+    ensures why { IfErr result (TellsChange i (sig_in e.now) bytes.now) }
+{
+    let sig = match signed(bytes) {
+        Ok(sig) => sig,
+        Err(_) => {
+            return Err(EditError::Changed {
+                game: i,
+                kept: sig_in(e),
+                found: None,
+            });
+        }
+    };
+    if differing(e, &sig).is_some() {
+        return Err(EditError::Changed {
+            game: i,
+            kept: sig_in(e),
+            found: Some(sig),
+        });
+    }
+    Ok(())
 }
 
 // The game and the tags of the record of game `i`, where the game has the signature of its entry.

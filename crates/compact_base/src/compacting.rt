@@ -54,7 +54,7 @@ pub fn compact<F: Files>(
 {
     let (draft, renumbering) = draft_of(alloc, base)?;
     let (names, index) = draft.write(alloc)?;
-    if let Err(error) = write_files(alloc, base, files, buf, names.as_slice(), index.as_slice()) {
+    if let Err(error) = write_files(base, files, buf, names.as_slice(), index.as_slice()) {
         return Err(error);
     }
     base.adopt(draft);
@@ -63,7 +63,6 @@ pub fn compact<F: Files>(
 
 // Copies the records of the games that stay, and puts all three files in the place of the current ones.
 fn write_files<F: Files>(
-    alloc: Global,
     base: &Base,
     files: &mut F,
     buf: &mut [u8],
@@ -80,7 +79,7 @@ fn write_files<F: Files>(
     ensures counts { F.faults files.old ≤ F.faults files.new }
     ensures cause { IfErr result (λ error. error ≡ CompactError.Failed → Rose (F.faults files.old) (F.faults files.new)) }
 {
-    match copy_games(alloc, base, files, buf) {
+    match copy_games(base, files, buf) {
         Ok(()) => commit(files, names, index),
         Err(error) => Err(error),
     }

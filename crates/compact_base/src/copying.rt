@@ -14,11 +14,9 @@ use base_core::Base;
 use base_files::Files;
 use block_store::padding;
 use sig_index::Games;
-use std::alloc::Global;
 
 /// Begins a new games file, and adds the records of the games that stay to it, each after a look whether it is still the game's.
 pub(crate) fn copy_games<F: Files>(
-    alloc: Global,
     base: &Base,
     files: &mut F,
     buf: &mut [u8],
@@ -36,7 +34,7 @@ pub(crate) fn copy_games<F: Files>(
     begin(files)?;
     let mut end = 0;
     for i in 0..base.len() {
-        match copy_if_kept(alloc, base, i, files, buf, end) {
+        match copy_if_kept(base, i, files, buf, end) {
             Ok(after) => end = after,
             Err(error) => return Err(error),
         }
@@ -46,7 +44,6 @@ pub(crate) fn copy_games<F: Files>(
 
 // Adds the record of a game to the new games file, which ends at `end`, if the game stays, and tells where the file ends then.
 fn copy_if_kept<F: Files>(
-    alloc: Global,
     base: &Base,
     i: u32,
     files: &mut F,
@@ -69,12 +66,11 @@ fn copy_if_kept<F: Files>(
     if base.is_deleted(i) {
         return Ok(end);
     }
-    copy_record(alloc, base, i, files, buf, end)
+    copy_record(base, i, files, buf, end)
 }
 
 // Adds the record of a game to the new games file.
 fn copy_record<F: Files>(
-    alloc: Global,
     base: &Base,
     i: u32,
     files: &mut F,
@@ -94,7 +90,7 @@ fn copy_record<F: Files>(
     ensures counts { F.faults files.old ≤ F.faults files.new }
     ensures cause { IfErr result (λ error. error ≡ CompactError.Failed → Rose (F.faults files.old) (F.faults files.new)) }
 {
-    let read = match base.read_record(alloc, i, files, buf) {
+    let read = match base.read_record(i, files, buf) {
         Ok(read) => read,
         Err(unread) => return Err(record_error(unread)),
     };

@@ -19,8 +19,8 @@ returns-in-Err-clause-unchanged g c =
     let tells = subst T c.extent_of.ensures.extent (from_ok c.fetch.result (T c.extent_of.result) c.if-is_err.ensures.value c.fetch.ensures.bytes) in
     unchanged_told (g.F.Files.seen c.args.files.now).games c.args.self.now c.args.i c.entry-entry.result _ c.in-Err.error c.entry-entry.ensures.at tells c.in-Err.ensures.why
 
-pub returns-clause-read : goal.returns-clause-read
-returns-clause-read g c = λ e at.
+pub returns-in-Ok-clause-read : goal.returns-in-Ok-clause-read
+returns-in-Ok-clause-read g c = λ e at.
     let T : Extent → Type 0 = λ x. Tells (part_told (g.F.Files.seen c.args.files.now).games x.offset x.len) (take x.len c.fetch.new.buf) in
     let tells = subst T c.extent_of.ensures.extent (from_ok c.fetch.result (T c.extent_of.result) c.if-is_err.ensures.value c.fetch.ensures.bytes) in
     let same : c.entry-entry.result ≡ e = same_Some c.entry-entry.result e (sym c.entry-entry.ensures.at ∙ at) in
