@@ -1,5 +1,7 @@
-//! Tests alone: slots over boxed views.
+//! Tests alone: views of trees, told by watches, beside rows that were counted by hand.
 #![tactic(auto)]
 
 #[cfg(test)]
 mod slot_tests;
+#[cfg(test)]
+mod watch_tests;
