@@ -1,12 +1,12 @@
 -- The sets that are kept beside a board are those of its squares.
-use Rattle.std.proofs.Common.{◌≡◌, ℕ, zero, suc, ◌+◌, ◌-◌, ◌*◌, ◌/◌, ◌%◌, ◌^◌, ◌<◌, ◌≤◌, Bool, true, false, cond, ◌&&◌, min, max, is_some, List, [], ◌∷◌, ◌++◌, length, map, take, replicate, Option, Some, None, refl, ap, sym, ◌∙◌, inl, inr, arith, w64, slice_index_or, slice_set, get_or}
+use Rattle.std.proofs.Common.{◌≡◌, ℕ, zero, suc, ◌+◌, ◌-◌, ◌*◌, ◌%◌, ◌^◌, ◌<◌, ◌≤◌, Bool, true, false, cond, ◌&&◌, min, max, is_some, [], ◌∷◌, ◌++◌, length, map, take, replicate, Option, Some, None, refl, ap, sym, ◌∙◌, inl, inr, arith, w64, slice_index_or, slice_set, get_or}
+use Rattle.std.specs.Prelude.{count_by}
 use Rattle.std.specs.Int.{bit_at}
-use Rattle.std.specs.Int.RustNames.{bit_or, bit_and}
+use Rattle.std.specs.Int.RustNames.{bit_or, bit_and, count_ones}
 use Rattle.std.proofs.lemmas.Bool.{cases_eq, cases_lt}
-use Rattle.std.proofs.lemmas.List.{append_assoc, append-nil, ext_get_or, get_or_at, get_or-set_same, get_or-set_other, get_or_past, length-append, length-replicate, length-set, length-take-le, set_at, set-set, take_all, take_more}
-use Rattle.std.proofs.lemmas.Nat.{and_assoc}
-use Rattle.std.proofs.lemmas.Nat.Bits.{bit_at_and, bit_at_or, bit_at-lt, bit_at_set_same, bit_at_set_other, bit_at_clear_same, bit_at_clear_other, same_from_bits}
-use Rattle.std.proofs.lemmas.Simd.{bit_mask_l}
+use Rattle.std.proofs.lemmas.List.{append_assoc, append-nil, ext_get_or, get_or_at, get_or-set_same, get_or-set_other, get_or_past, length-append, length-replicate, length-set, length-take-le, set-get_or, set_at, set-set, take_all, take_more}
+use Rattle.std.proofs.lemmas.Nat.Bits.{bit_at_and, bit_at_or, bit_at_set_same, bit_at_set_other, bit_at_clear_same, bit_at_clear_other, same_from_bits}
+use Rattle.std.proofs.lemmas.Simd.{bit_mask_l, ones-mask_l}
 use Rattle.cell_core.specs.declared.man.Colour.{Colour}
 use Rattle.cell_core.specs.declared.man.Colour.TheVariants.{White, Black}
 use Rattle.cell_core.specs.declared.man.Kind.{Kind}
@@ -54,14 +54,19 @@ left test none men s squares less =
           ])
     ])
 
--- two squares are emptied
-pub cleared : (test : Option Man → Bool) → test None ≡ false → (men : Men) (a b : ℕ) → length men ≡ 64 → a < 64 → b < 64
-    → bit_and (set_of test men) (bit_and (18446744073709551615 - 1 * 2 ^ a % 18446744073709551616) (18446744073709551615 - 1 * 2 ^ b % 18446744073709551616))
-    ≡ set_of test (put (put men a None) b None)
-cleared test none men a b squares first second =
-    sym (and_assoc (18446744073709551615 - 1 * 2 ^ b % 18446744073709551616) (set_of test men) (18446744073709551615 - 1 * 2 ^ a % 18446744073709551616))
-    ∙ ap (λ w. bit_and w (18446744073709551615 - 1 * 2 ^ b % 18446744073709551616)) (left test none men a squares first)
-    ∙ left test none (put men a None) b (length-set men a None ∙ squares) second
+-- and who did not pass the test has left it
+stays : (test : Option Man → Bool) → test None ≡ false → (men : Men) (s : ℕ) (man : Man) → test (Some man) ≡ false → man_at men s ≡ Some man → length men ≡ 64 → s < 64
+    → set_of test men ≡ set_of test (put men s None)
+stays test none men s man fails stands squares less =
+    set-is test none (put men s None) (set_of test men)
+    (λ i. elim (cases_eq i s) [
+      | inl same ↦
+          let gone : man_at (put men s None) s ≡ None = get_or-set_same men s None None (omega (arith, squares, less)) in
+          rw (same, gone, none) (bit-set_of test none men s ∙ rw (stands, fails) refl)
+      | inr apart ↦
+          let kept : man_at (put men s None) i ≡ man_at men i = get_or-set_other men s i None None apart in
+          rw kept (bit-set_of test none men i)
+    ])
 
 -- a man comes to an empty square, who passes the test, or does not
 pub come : (test : Option Man → Bool) → test None ≡ false → (men : Men) (s : ℕ) (man : Man) → test (Some man) ≡ true → length men ≡ 64 → s < 64
@@ -173,28 +178,117 @@ colours-come Black k men s n is empty squares less =
     ∷ come (is_of Black) refl men s (record { colour = Black; kind = k }) refl squares less i
     ∷ [])
 
--- the sets fit the board again when two squares were emptied, and when a man has come to the second
-pub emptied : (cells : Men) (a b : ℕ) (kept new : Sets) → Fit cells kept
-    → ((men : Men) → length men ≡ 64 → kept ≡ sets_of men → new ≡ sets_of (put (put men a None) b None))
-    → Fit (put (put cells a None) b None) new
-emptied cells a b kept new fit clear =
-    record {
-      squares = length-set (put cells a None) b None ∙ length-set cells a None ∙ fit.squares;
-      sets = clear cells fit.squares fit.sets;
-    }
+-- a man of each kind and colour leaves his square
+pub kinds-leave : (k : Kind) (c : Colour) (men : Men) (s n : ℕ) → n ≡ kind_number k → man_at men s ≡ Some (record { colour = c; kind = k }) → length men ≡ 64 → s < 64
+    → slice_set (sets_of men).kinds n (bit_and (slice_index_or (sets_of men).kinds n 0) (18446744073709551615 - 1 * 2 ^ s % 18446744073709551616))
+    ≡ (sets_of (put men s None)).kinds
+unfolding sets_of
+kinds-leave King c men s n is stands squares less =
+    rw is
+    (λ i.
+    left (is_kind King) refl men s squares less i
+    ∷ stays (is_kind Queen) refl men s (record { colour = c; kind = King }) refl stands squares less i
+    ∷ stays (is_kind Rook) refl men s (record { colour = c; kind = King }) refl stands squares less i
+    ∷ stays (is_kind Bishop) refl men s (record { colour = c; kind = King }) refl stands squares less i
+    ∷ stays (is_kind Knight) refl men s (record { colour = c; kind = King }) refl stands squares less i
+    ∷ stays (is_kind Pawn) refl men s (record { colour = c; kind = King }) refl stands squares less i
+    ∷ [])
+kinds-leave Queen c men s n is stands squares less =
+    rw is
+    (λ i.
+    stays (is_kind King) refl men s (record { colour = c; kind = Queen }) refl stands squares less i
+    ∷ left (is_kind Queen) refl men s squares less i
+    ∷ stays (is_kind Rook) refl men s (record { colour = c; kind = Queen }) refl stands squares less i
+    ∷ stays (is_kind Bishop) refl men s (record { colour = c; kind = Queen }) refl stands squares less i
+    ∷ stays (is_kind Knight) refl men s (record { colour = c; kind = Queen }) refl stands squares less i
+    ∷ stays (is_kind Pawn) refl men s (record { colour = c; kind = Queen }) refl stands squares less i
+    ∷ [])
+kinds-leave Rook c men s n is stands squares less =
+    rw is
+    (λ i.
+    stays (is_kind King) refl men s (record { colour = c; kind = Rook }) refl stands squares less i
+    ∷ stays (is_kind Queen) refl men s (record { colour = c; kind = Rook }) refl stands squares less i
+    ∷ left (is_kind Rook) refl men s squares less i
+    ∷ stays (is_kind Bishop) refl men s (record { colour = c; kind = Rook }) refl stands squares less i
+    ∷ stays (is_kind Knight) refl men s (record { colour = c; kind = Rook }) refl stands squares less i
+    ∷ stays (is_kind Pawn) refl men s (record { colour = c; kind = Rook }) refl stands squares less i
+    ∷ [])
+kinds-leave Bishop c men s n is stands squares less =
+    rw is
+    (λ i.
+    stays (is_kind King) refl men s (record { colour = c; kind = Bishop }) refl stands squares less i
+    ∷ stays (is_kind Queen) refl men s (record { colour = c; kind = Bishop }) refl stands squares less i
+    ∷ stays (is_kind Rook) refl men s (record { colour = c; kind = Bishop }) refl stands squares less i
+    ∷ left (is_kind Bishop) refl men s squares less i
+    ∷ stays (is_kind Knight) refl men s (record { colour = c; kind = Bishop }) refl stands squares less i
+    ∷ stays (is_kind Pawn) refl men s (record { colour = c; kind = Bishop }) refl stands squares less i
+    ∷ [])
+kinds-leave Knight c men s n is stands squares less =
+    rw is
+    (λ i.
+    stays (is_kind King) refl men s (record { colour = c; kind = Knight }) refl stands squares less i
+    ∷ stays (is_kind Queen) refl men s (record { colour = c; kind = Knight }) refl stands squares less i
+    ∷ stays (is_kind Rook) refl men s (record { colour = c; kind = Knight }) refl stands squares less i
+    ∷ stays (is_kind Bishop) refl men s (record { colour = c; kind = Knight }) refl stands squares less i
+    ∷ left (is_kind Knight) refl men s squares less i
+    ∷ stays (is_kind Pawn) refl men s (record { colour = c; kind = Knight }) refl stands squares less i
+    ∷ [])
+kinds-leave Pawn c men s n is stands squares less =
+    rw is
+    (λ i.
+    stays (is_kind King) refl men s (record { colour = c; kind = Pawn }) refl stands squares less i
+    ∷ stays (is_kind Queen) refl men s (record { colour = c; kind = Pawn }) refl stands squares less i
+    ∷ stays (is_kind Rook) refl men s (record { colour = c; kind = Pawn }) refl stands squares less i
+    ∷ stays (is_kind Bishop) refl men s (record { colour = c; kind = Pawn }) refl stands squares less i
+    ∷ stays (is_kind Knight) refl men s (record { colour = c; kind = Pawn }) refl stands squares less i
+    ∷ left (is_kind Pawn) refl men s squares less i
+    ∷ [])
 
-pub entered : (cells : Men) (a b : ℕ) (kept between new : Sets) (man : Man) → b < 64 → Fit cells kept
-    → ((men : Men) → length men ≡ 64 → kept ≡ sets_of men → between ≡ sets_of (put (put men a None) b None))
-    → ((men : Men) → length men ≡ 64 → between ≡ sets_of men → man_at men b ≡ None → new ≡ sets_of (put men b (Some man)))
-    → Fit (put (put cells a None) b (Some man)) new
-entered cells a b kept between new man less fit clear add =
-    let empty : Fit (put (put cells a None) b None) between = emptied cells a b kept between fit clear in
-    let gone : man_at (put (put cells a None) b None) b ≡ None = get_or-set_same (put cells a None) b None None (omega (arith, length-set cells a None, fit.squares, less)) in
-    let same : put (put (put cells a None) b None) b (Some man) ≡ put (put cells a None) b (Some man) = set-set (put cells a None) b None (Some man) in
-    record {
-      squares = length-set (put cells a None) b (Some man) ∙ length-set cells a None ∙ fit.squares;
-      sets = add (put (put cells a None) b None) empty.squares empty.sets gone ∙ ap sets_of same;
-    }
+pub colours-leave : (c : Colour) (k : Kind) (men : Men) (s n : ℕ) → n ≡ colour_number c → man_at men s ≡ Some (record { colour = c; kind = k }) → length men ≡ 64 → s < 64
+    → slice_set (sets_of men).colours n (bit_and (slice_index_or (sets_of men).colours n 0) (18446744073709551615 - 1 * 2 ^ s % 18446744073709551616))
+    ≡ (sets_of (put men s None)).colours
+unfolding sets_of
+colours-leave White k men s n is stands squares less =
+    rw is
+    (λ i.
+    left (is_of White) refl men s squares less i
+    ∷ stays (is_of Black) refl men s (record { colour = White; kind = k }) refl stands squares less i
+    ∷ [])
+colours-leave Black k men s n is stands squares less =
+    rw is
+    (λ i.
+    stays (is_of White) refl men s (record { colour = Black; kind = k }) refl stands squares less i
+    ∷ left (is_of Black) refl men s squares less i
+    ∷ [])
+
+-- the sets fit the board again when a man has left his square, and when one has come to an empty one
+pub removed : (cells : Men) (s : ℕ) (kept new : Sets) (man : Man) → Fit cells kept → get_or cells s None ≡ Some man
+    → ((men : Men) → length men ≡ 64 → kept ≡ sets_of men → man_at men s ≡ Some man → new ≡ sets_of (put men s None))
+    → Fit (put cells s None) new
+removed cells s kept new man fit stands leave =
+    record { squares = length-set cells s None ∙ fit.squares; sets = leave cells fit.squares fit.sets stands }
+
+pub entered : (cells : Men) (s : ℕ) (kept new : Sets) (man : Man) → Fit cells kept → get_or cells s None ≡ None
+    → ((men : Men) → length men ≡ 64 → kept ≡ sets_of men → man_at men s ≡ None → new ≡ sets_of (put men s (Some man)))
+    → Fit (put cells s (Some man)) new
+entered cells s kept new man fit empty add =
+    record { squares = length-set cells s (Some man) ∙ fit.squares; sets = add cells fit.squares fit.sets empty }
+
+-- an empty square is emptied
+pub empty_already : (men : Men) (s : ℕ) → man_at men s ≡ None → men ≡ put men s None
+empty_already men s empty = sym (ap (put men s) (sym empty) ∙ set-get_or men s None)
+
+-- a square is empty when it was emptied, and then a man comes to it
+pub emptied : (men new : Men) (s : ℕ) → new ≡ put men s None → length new ≡ 64 → s < 64 → man_at new s ≡ None
+emptied men new s is squares less =
+    rw is (get_or-set_same men s None None (omega (arith, sym (length-set men s None) ∙ ap length (sym is) ∙ squares, less)))
+
+pub filled : (men left new : Men) (s : ℕ) (man : Option Man) → left ≡ put men s None → new ≡ put left s man → new ≡ put men s man
+filled men left new s man gone is = is ∙ ap (λ m. put m s man) gone ∙ set-set men s None man
+
+pub filled_behind : (men first left new : Men) (a s : ℕ) (man : Option Man) → first ≡ put men a None → left ≡ put first s None → new ≡ put left s man
+    → new ≡ put (put men a None) s man
+filled_behind men first left new a s man before gone is = filled first left new s man gone is ∙ ap (λ m. put m s man) before
 
 -- the squares so far, and no man on the others
 abbrev pub so_far : ℕ → Men → Men
@@ -344,3 +438,8 @@ some-set men =
     (λ i. bit_at_or (set_of (is_of White) men) (set_of (is_of Black) men) i
     ∙ (λ j. max (bit-set_of (is_of White) refl men i j) (bit-set_of (is_of Black) refl men i j))
     ∙ either-sets (man_at men i))
+
+-- a set has as many squares as pass its test
+pub ones-set_of : (test : Option Man → Bool) (men : Men) → count_ones (set_of test men) ≡ count_by test men
+unfolding set_of
+ones-set_of test men = ones-mask_l test men

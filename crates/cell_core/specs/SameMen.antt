@@ -1,12 +1,12 @@
 -- That the test of boards is an equivalence, as `==` has to be. No public contract cites these words.
-use Rattle.std.specs.Prelude.{◌≡◌, Bool, true}
+use Rattle.std.specs.Prelude.{◌≡◌, true}
 use Rattle.std.proofs.Common.{refl, sym}
 use Rattle.std.specs.Cmp.{IsEquivalence, and_equiv, on_equiv, nat_eq_equiv}
 use Rattle.std.specs.Cmp.Lexicographic.{lists_equiv, options_equiv}
 use Rattle.cell_core.specs.declared.man.Colour.{Colour}
 use Rattle.cell_core.specs.declared.man.Colour.TheVariants.{White, Black}
 use Rattle.cell_core.specs.declared.man.Man.{Man}
-use Rattle.cell_core.specs.Man.{kind_number, same_colour, same_man}
+use Rattle.cell_core.specs.Man.{kind_number, same_colour}
 use Rattle.cell_core.specs.Board.{same_men}
 
 colour_refl : (a : Colour) → same_colour a a ≡ true

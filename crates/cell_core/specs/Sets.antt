@@ -1,5 +1,5 @@
 -- A board as sets of squares, a bit a square, which are kept beside its squares (this project's own).
-use Rattle.std.specs.Prelude.{◌≡◌, ℕ, Bool, false, ◌∷◌, [], List, map, Option, Some, None, length}
+use Rattle.std.specs.Prelude.{◌≡◌, ℕ, Bool, false, ◌∷◌, [], map, Option, Some, None, length}
 use Rattle.std.proofs.Common.{sym}
 use lib.Lanes.{mask_l}
 use Rattle.cell_core.specs.declared.man.Man.{Man}

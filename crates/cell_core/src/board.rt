@@ -1,5 +1,5 @@
 //! The board of 64 squares.
-ghost use Rattle.std.specs.Prelude.{◌≡◌, ◌↔◌, IsTrue, None, is_some, replicate, length};
+ghost use Rattle.std.specs.Prelude.{◌≡◌, ◌↔◌, ◌<◌, IsTrue, None, is_some, replicate, length};
 ghost use Rattle.cell_core.specs.Board.{man_at, put, same_men};
 ghost use Rattle.cell_core.specs.Sets.{set_of, sets_of};
 ghost use Rattle.cell_core.specs.Man.{is_man, is_of};
@@ -108,6 +108,7 @@ impl Board {
     /// The squares of the men of this colour: the square `s` is the bit `s`.
     pub fn of_colour(&self, colour: Colour) -> u64
         ensures squares { result ≡ set_of (is_of colour) self.now }
+        ensures on_board { length self.now ≡ 64 }
     {
         self.sets.of_colour(colour)
     }
@@ -122,35 +123,58 @@ impl Board {
     /// The squares of the men of this colour and kind: the square `s` is the bit `s`.
     pub fn of_man(&self, colour: Colour, kind: Kind) -> u64
         ensures squares { result ≡ set_of (is_man colour kind) self.now }
+        ensures on_board { length self.now ≡ 64 }
     {
         self.sets.of_colour(colour) & self.sets.of_kind(kind)
     }
 
     /// Puts `man` on the square `s`, or empties it.
+    #[tactic(auto, using(crate::proofs::Squares::emptied, crate::proofs::Squares::filled))]
     pub fn set(&mut self, s: Square, man: Option<Man>)
         ensures after { self.new ≡ put self.old s man }
         ensures squares { length self.new ≡ 64 }
     {
         let number = s.index();
-        self.sets.clear(number, number);
-        self.cells[number as usize] = man;
-        if let Some(man) = man {
-            self.sets.add(number, man);
-        }
+        self.leave(number);
+        self.enter(number, man);
     }
 
     /// Takes what stands on `from` away and puts `man` on `to`, or empties it: `set` for both squares of a move at once.
+    #[tactic(auto, using(crate::proofs::Squares::emptied, crate::proofs::Squares::filled, crate::proofs::Squares::filled_behind))]
     pub fn go(&mut self, from: Square, to: Square, man: Option<Man>)
         ensures after { self.new ≡ put (put self.old from None) to man }
         ensures squares { length self.new ≡ 64 }
     {
-        let left = from.index();
+        self.leave(from.index());
         let entered = to.index();
-        self.sets.clear(left, entered);
-        self.cells[left as usize] = None;
-        self.cells[entered as usize] = man;
-        if let Some(man) = man {
-            self.sets.add(entered, man);
+        self.leave(entered);
+        self.enter(entered, man);
+    }
+
+    /// Takes what stands on a square away.
+    #[tactic(auto, using(crate::proofs::Squares::empty_already))]
+    fn leave(&mut self, number: u8)
+        requires { number < 64 }
+        ensures after { self.new ≡ put self.old number None }
+        ensures squares { length self.new ≡ 64 }
+    {
+        if let Some(gone) = self.cells[number as usize] {
+            self.sets.remove(number, gone);
+            self.cells[number as usize] = None;
+        }
+    }
+
+    /// Puts `man` on an empty square, or leaves it empty.
+    #[tactic(auto, using(crate::proofs::Squares::empty_already))]
+    fn enter(&mut self, number: u8, man: Option<Man>)
+        requires on_board { number < 64 }
+        requires empty { man_at self.old number ≡ None }
+        ensures after { self.new ≡ put self.old number man }
+        ensures squares { length self.new ≡ 64 }
+    {
+        if let Some(entering) = man {
+            self.sets.add(number, entering);
+            self.cells[number as usize] = man;
         }
     }
 

@@ -41,21 +41,14 @@ impl Sets {
         self.colours[colour_place(man.colour)] |= square;
     }
 
-    /// Nothing stands on these two squares any more.
-    pub(crate) fn clear(&mut self, a: u8, b: u8)
-        requires first { a < 64 }
-        requires second { b < 64 }
-        ensures sets { (men : Men) → length men ≡ 64 → self.old ≡ sets_of men → self.new ≡ sets_of (put (put men a None) b None) }
+    /// A man leaves his square.
+    pub(crate) fn remove(&mut self, s: u8, man: Man)
+        requires { s < 64 }
+        ensures sets { (men : Men) → length men ≡ 64 → self.old ≡ sets_of men → man_at men s ≡ Some man → self.new ≡ sets_of (put men s None) }
     {
-        let kept = !(1u64 << a) & !(1u64 << b);
-        self.kinds[0] &= kept;
-        self.kinds[1] &= kept;
-        self.kinds[2] &= kept;
-        self.kinds[3] &= kept;
-        self.kinds[4] &= kept;
-        self.kinds[5] &= kept;
-        self.colours[0] &= kept;
-        self.colours[1] &= kept;
+        let kept = !(1u64 << s);
+        self.kinds[kind_place(man.kind)] &= kept;
+        self.colours[colour_place(man.colour)] &= kept;
     }
 
     /// The squares of the men of this colour.

@@ -1,8 +1,8 @@
 -- A walk along a line comes to its end where no man stands between.
-use Rattle.std.proofs.Common.{◌≡◌, ℕ, zero, suc, ◌+◌, ◌-◌, ◌*◌, ◌%◌, ◌^◌, ◌<◌, ◌≤◌, ◌&&◌, ◌||◌, ◌==◌, ◌⊎◌, not, min, max, inl, inr, Bool, true, false, cond, eqb, List, [], Option, Some, None, is_none, is_some, refl, sym, subst, ◌∙◌, ap, arith}
+use Rattle.std.proofs.Common.{◌≡◌, ℕ, zero, suc, ◌-◌, ◌^◌, ◌<◌, ◌&&◌, ◌⊎◌, not, inl, inr, Bool, true, false, eqb, List, [], Option, Some, None, is_none, is_some, refl, sym, subst, ◌∙◌, ap, arith}
 use Rattle.std.specs.Int.{bit_at}
 use Rattle.std.specs.Int.RustNames.{bit_and, bit_or}
-use Rattle.std.proofs.lemmas.Bool.{agree_below, agree_below_at, and_parts, cases_Bool, cases_eq, eq-eqb, eqb-true, false≢true}
+use Rattle.std.proofs.lemmas.Bool.{agree_below, agree_below_at, and_parts, cases_Bool, cases_eq, eqb-true, false≢true}
 use Rattle.std.proofs.lemmas.Nat.Bits.{bit_at-lt, bit_at-pow_same, bit_at-pow_other, bit_at-zero, bit_at_and, bit_at_or, same_from_bits}
 use Rattle.std.specs.Prelude.{Any}
 use Rattle.cell_core.specs.declared.man.Colour.{Colour}
@@ -16,7 +16,7 @@ use Rattle.cell_core.proofs.Squares.{bit-set_of}
 use Rattle.chess_laws.specs.Geometry.{Offset, shift}
 use Rattle.chess_laws.specs.LegalTests.{glides, line, run, run_on, slides}
 use Rattle.chess_laws.specs.Between.{between, crossed, crossed_on, is_between, is_seen, names_between, names_seen}
-use Rattle.chess_laws.specs.Rays.{entry, offset_at, SlidesFrom}
+use Rattle.chess_laws.specs.Rays.{offset_at, SlidesFrom}
 use Rattle.chess_laws.specs.Leaps.{squares_of}
 use Rattle.chess_laws.proofs.Kings.{is_man-true}
 use Rattle.chess_laws.proofs.Lines.{any-slide, line-walk}

@@ -1,12 +1,12 @@
 -- The line between two squares: the one queen's step by which a walk may lead from one to the other.
-use Rattle.std.proofs.Common.{◌≡◌, ◌↔◌, ℕ, zero, suc, ◌+◌, ◌*◌, ◌<◌, Bool, true, false, ◌&&◌, [], Some, None, IsTrue, length, get_or, refl, sym, ◌∙◌, subst, arith}
+use Rattle.std.proofs.Common.{◌≡◌, ◌↔◌, ℕ, zero, suc, ◌+◌, ◌*◌, ◌<◌, Bool, true, false, ◌&&◌, Some, None, IsTrue, length, get_or, refl, sym, ◌∙◌, subst, arith}
 use Rattle.std.specs.Prelude.{Any}
 use Rattle.std.proofs.lemmas.Bool.Decides.{nat_tests}
 use Rattle.std.proofs.lemmas.Bool.{false≢true}
 use Rattle.cell_core.specs.declared.man.Kind.{Kind}
 use Rattle.cell_core.specs.declared.man.Kind.TheVariants.{King, Queen, Rook, Bishop, Knight, Pawn}
 use Rattle.cell_core.specs.Board.{Men}
-use Rattle.chess_laws.specs.Geometry.{Offset, file_of, rank_of, king_steps, Walk, Runs, Leaps}
+use Rattle.chess_laws.specs.Geometry.{Offset, file_of, rank_of, king_steps, Walk, Runs}
 use Rattle.chess_laws.specs.LegalTests.{line, line_of, glides, run, slides}
 use Rattle.chess_laws.specs.Rays.{offset_at}
 use Rattle.chess_laws.proofs.Running.{run_is}
@@ -141,21 +141,3 @@ pub runs_by : (men : Men) (o : Offset) (a b : ℕ) (first second : Bool) → sec
     IsTrue (first && second) ↔ ((first ≡ true) × Runs men a b o)
 runs_by men o a b true second h = ((λ t. (refl, (run_is men o a b).0 (sym h ∙ t))), (λ both. h ∙ (run_is men o a b).1 both.1))
 runs_by men o a b false second h = ((λ t. absurd (false≢true t)), (λ both. absurd (false≢true both.0)))
-
--- and a king's step too
-pub leaps_none : (a b : ℕ) → None ≡ line a b → Any (Leaps a b) king_steps → ⊥
-leaps_none a b none any =
-    let slide = any-slide Queen (Leaps a b) any in
-    let on = line-walk [] slide.row 0 a b slide.less slide.holds in
-    cc
-
-pub leaps_row : (row a b : ℕ) (test : Bool) → Some row ≡ line a b → row < 8 → (IsTrue test ↔ Leaps a b (offset_at row)) →
-    IsTrue test ↔ Any (Leaps a b) king_steps
-leaps_row row a b test some less both = (
-  (λ h. slide-any Queen (Leaps a b) row less (grind (arith, nat_tests)) (both.0 h)),
-  (λ any.
-      let slide = any-slide Queen (Leaps a b) any in
-      let on = line-walk [] slide.row 0 a b slide.less slide.holds in
-      let same : slide.row ≡ row = cc in
-      both.1 (rw same at slide.holds)),
-)

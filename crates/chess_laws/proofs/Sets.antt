@@ -1,18 +1,18 @@
 -- What the sets of squares say: of a board, and of a table of leaps.
-use Rattle.std.proofs.Common.{◌≡◌, ◌↔◌, ℕ, ◌+◌, ◌-◌, ◌&&◌, ◌==◌, ltb, ◌*◌, ◌/◌, ◌%◌, ◌^◌, ◌<◌, ◌≤◌, min, inl, inr, Bool, true, false, cond, not, eqb, IsTrue, List, Option, Some, None, refl, sym, ◌∙◌, ap, arith, w64}
+use Rattle.std.proofs.Common.{◌≡◌, ◌↔◌, ℕ, ◌-◌, ◌&&◌, ◌==◌, ltb, ◌/◌, ◌^◌, ◌<◌, inl, inr, Bool, true, false, cond, not, eqb, IsTrue, List, Option, Some, None, refl, sym, ◌∙◌, ap, arith, w64}
 use Rattle.std.specs.Prelude.{Any}
 use Rattle.std.specs.Int.{bit_at}
 use Rattle.std.specs.Int.RustNames.{bit_and}
 use Rattle.std.specs.List.{list_any}
 use Rattle.std.proofs.lemmas.Bool.{agree_below, agree_below_at, and_parts, cases_Bool, cases_lt, eq-eqb, eqb-true, ltb-true, false≢true}
 use Rattle.std.proofs.lemmas.Nat.{and_le_l}
-use Rattle.std.proofs.lemmas.Nat.Bits.{bit_at-lt, bit_at-trailing_zeros, bit_at-zero, bit_at_above, bit_at_and, bit_at_not}
+use Rattle.std.proofs.lemmas.Nat.Bits.{bit_at-lt, bit_at-trailing_zeros, bit_at-zero, bit_at_above, bit_at_and, bit_at_not, shr_and_one}
 use Rattle.cell_core.specs.declared.man.Colour.{Colour}
 use Rattle.cell_core.specs.declared.man.Colour.TheVariants.{White, Black}
 use Rattle.cell_core.specs.declared.man.Kind.{Kind}
 use Rattle.cell_core.specs.declared.man.Man.{Man}
 use Rattle.cell_core.specs.Board.{Men, man_at}
-use Rattle.cell_core.specs.Man.{is_man, is_of, man, same_colour}
+use Rattle.cell_core.specs.Man.{is_man, is_of, man, other, same_colour}
 use Rattle.cell_core.specs.Sets.{set_of}
 use Rattle.cell_core.proofs.Same.{same_colour-Decides}
 use Rattle.cell_core.proofs.Squares.{bit-set_of}
@@ -20,6 +20,7 @@ use Rattle.chess_laws.specs.Rays.{LeapsFrom}
 use Rattle.chess_laws.specs.Geometry.{Offset, Leaps}
 use Rattle.chess_laws.specs.Leaps.{names_leaps, squares_of}
 use Rattle.chess_laws.specs.LegalNow.{leaps_now}
+use Rattle.chess_laws.specs.LegalTests.{IsEnemyOn}
 use Rattle.chess_laws.specs.Step.{HasNoOwn}
 use Rattle.chess_laws.proofs.Kings.{is_man-Some, is_man-true}
 use Rattle.chess_laws.proofs.Deciding.{any-Decides, leaps-Decides}
@@ -150,3 +151,36 @@ leap-set table steps a b all a_less =
           agree_below_at (λ b. bit_at (squares_of table a) b == 1) (λ b. list_any (leaps_now a b) steps) 64 b parts.1 within in
           eqb-true (bit_at (squares_of table a) b) 1 (here ∙ decides.1 any),
     )
+
+-- one bit of a word, as the code reads it
+pub has-told : (n s : ℕ) (test : Bool) → test ≡ eqb (bit_and (n / 2 ^ s) 1) 1 → IsTrue test ↔ (bit_at n s ≡ 1)
+has-told n s test told = (
+  λ h. sym (shr_and_one n s) ∙ eqb-true (bit_and (n / 2 ^ s) 1) 1 (sym told ∙ h),
+  λ set. told ∙ eq-eqb (bit_and (n / 2 ^ s) 1) 1 (shr_and_one n s ∙ set),
+)
+
+-- the squares that two sets have
+pub both-bits : (n m s : ℕ) → (bit_at (bit_and n m) s ≡ 1) ↔ ((bit_at n s ≡ 1) × (bit_at m s ≡ 1))
+both-bits n m s =
+    let both = bit_at_and n m s in
+    let one = bit_at-lt n s in
+    let two = bit_at-lt m s in
+    (λ h. (omega (arith, both, one, two, h), omega (arith, both, one, two, h)), λ h. omega (arith, both, one, two, h.0, h.1))
+
+-- an enemy stands on a square of the other colour's set
+of-some : (c : Colour) (x : Option Man) → is_of c x ≡ true → (k : Kind) × (x ≡ Some (man c k))
+of-some c None h = absurd (false≢true h)
+of-some c (Some m) h = (m.kind, ap (λ d. Some (man d m.kind)) ((same_colour-Decides m.colour c).0 h))
+
+pub enemy-bit : (men : Men) (c : Colour) (bits s : ℕ) → bits ≡ set_of (is_of (other c)) men → (bit_at bits s ≡ 1) ↔ IsEnemyOn men c s
+enemy-bit men c bits s is = (
+  λ set. of-some (other c) (man_at men s) (one-true (is_of (other c) (man_at men s)) (sym (bit-set_of (is_of (other c)) refl men s) ∙ rw (← is) set)),
+  λ enemy. own-has men (other c) enemy.0 bits s is enemy.1,
+)
+
+-- an option is one number
+pub some-same : (x : Option ℕ) (a b : ℕ) → x ≡ Some a → x ≡ Some b → a ≡ b
+some-same x a b h k = let e : Some a ≡ Some b = sym h ∙ k in cc
+
+pub none-some : (x : Option ℕ) (a : ℕ) → x ≡ None → x ≡ Some a → ⊥
+none-some x a h k = let e : None ≡ Some a = sym h ∙ k in absurd (cc)

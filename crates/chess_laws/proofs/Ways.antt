@@ -1,14 +1,9 @@
 -- The table of ways says which step leads from one square towards another.
-use Rattle.std.proofs.Common.{◌≡◌, ◌↔◌, ℕ, ◌<◌, ◌≤◌, Bool, true, ◌==◌, eqb, List, Option, Some, None, IsTrue, refl, ◌∙◌, ap, arith}
-use Rattle.std.specs.Prelude.{Any}
-use Rattle.std.specs.List.{list_any}
+use Rattle.std.proofs.Common.{◌≡◌, ℕ, ◌<◌, ◌≤◌, true, List, Option, Some, None, refl, ap, arith}
 use Rattle.std.proofs.lemmas.Bool.{agree_below, agree_below_at, eqb-true, leb-true}
 use Rattle.std.proofs.lemmas.Bool.Decides.{nat_tests}
-use Rattle.chess_laws.specs.Geometry.{knight_steps, Leaps}
-use Rattle.chess_laws.specs.LegalNow.{leaps_now}
 use Rattle.chess_laws.specs.LegalTests.{line}
-use Rattle.chess_laws.specs.Ways.{is_row, names_knights, names_lines, way}
-use Rattle.chess_laws.proofs.Deciding.{any-Decides, leaps-Decides}
+use Rattle.chess_laws.specs.Ways.{is_row, names_lines, way}
 
 row-named : (table : List ℕ) (a b : ℕ) → names_lines table ≡ true → a < 64 → b < 64 → is_row (line a b) (way table a b) ≡ true
 unfolding names_lines
@@ -36,14 +31,3 @@ way-row table a b n is all a_less b_less less = row-some (line a b) n (rw is (ro
 pub way-none : (table : List ℕ) (a b n : ℕ) → n ≡ way table a b → names_lines table ≡ true → a < 64 → b < 64 → 8 ≤ n → None ≡ line a b
 way-none table a b n is all a_less b_less more =
     row-none (line a b) n (rw is (row-named table a b all a_less b_less)) (line-less a b) more
-
--- and whether a knight's step leads from one to the other
-pub way-knight : (table : List ℕ) (a b n : ℕ) (test : Bool) → test ≡ eqb n 8 → n ≡ way table a b → names_knights table ≡ true → a < 64 → b < 64 →
-    IsTrue test ↔ Any (Leaps a b) knight_steps
-unfolding names_knights
-way-knight table a b n test told is all a_less b_less =
-    let rows = agree_below_at (λ a. agree_below (λ b. way table a b == 8) (λ b. list_any (leaps_now a b) knight_steps) 64) (λ a. true) 64 a all a_less in
-    let here : eqb (way table a b) 8 ≡ list_any (leaps_now a b) knight_steps =
-    agree_below_at (λ b. way table a b == 8) (λ b. list_any (leaps_now a b) knight_steps) 64 b rows b_less in
-    let same : test ≡ list_any (leaps_now a b) knight_steps = told ∙ ap (λ k. eqb k 8) is ∙ here in
-    rw same (any-Decides (leaps_now a b) (Leaps a b) (leaps-Decides a b) knight_steps)

@@ -27,12 +27,7 @@ place_in Black n = 5 + n
 abbrev pub slot : Man → ℕ
 slot m = if same_kind m.kind King then 10 else place_in m.colour (kind_number m.kind - 1)
 
--- The counts with one man more.
-abbrev pub more : List ℕ → Option Man → List ℕ
-more counts None = counts
-more counts (Some m) = if nat_lt (slot m) 10 then slice_set counts (slot m) (slice_index_or counts (slot m) 0 + 1) else counts
-
--- And with one man less.
+-- The counts with one man less.
 abbrev pub fewer : List ℕ → Option Man → List ℕ
 fewer counts None = counts
 fewer counts (Some m) = if nat_lt (slot m) 10 then slice_set counts (slot m) (slice_index_or counts (slot m) 0 - 1) else counts

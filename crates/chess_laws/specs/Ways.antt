@@ -1,10 +1,7 @@
 -- The table of the ways between squares, which the code reads. No public contract cites these words.
 use Rattle.std.specs.Prelude.{ℕ, ◌+◌, ◌-◌, ◌*◌, ◌/◌, ◌==◌, nat_le, Bool, List, slice_index_or, Option, Some, None}
-use Rattle.std.specs.List.{list_any}
 use Rattle.std.proofs.Common.{true}
 use Rattle.std.proofs.lemmas.Bool.{agree_below}
-use Rattle.chess_laws.specs.Geometry.{knight_steps}
-use Rattle.chess_laws.specs.LegalNow.{leaps_now}
 use Rattle.chess_laws.specs.LegalTests.{line}
 
 -- The number of a square on a board of sixteen files, on which a difference of numbers tells files and ranks apart.
@@ -23,7 +20,3 @@ is_row (Some row) n = n == row
 -- Whether a table says so of any two squares.
 unfoldable pub names_lines : List ℕ → Bool
 names_lines table = agree_below (λ a. agree_below (λ b. is_row (line a b) (way table a b)) (λ b. true) 64) (λ a. true) 64
-
--- Whether a table has 8 just where a knight's step leads from one square to the other.
-unfoldable pub names_knights : List ℕ → Bool
-names_knights table = agree_below (λ a. agree_below (λ b. way table a b == 8) (λ b. list_any (leaps_now a b) knight_steps) 64) (λ a. true) 64

@@ -2,7 +2,7 @@
 ghost use Rattle.std.specs.Prelude.{◌≡◌, ◌↔◌, ◌<◌, IsTrue, Any, Some, None, true};
 ghost use Rattle.cell_core.specs.Board.{man_at};
 ghost use Rattle.cell_core.specs.Man.{man, other};
-ghost use Rattle.chess_laws.specs.Geometry.{forward, king_steps, pawn_captures, rank_of, Leaps, Runs, Walk};
+ghost use Rattle.chess_laws.specs.Geometry.{forward, pawn_captures, rank_of, Leaps, Runs, Walk};
 ghost use Rattle.chess_laws.specs.Attacks.{Reaches, IsInCheck};
 ghost use Rattle.chess_laws.specs.LegalTests.{IsOnlyKing, MayCastle, glides, line, slides, IsEnemyOn};
 ghost use Rattle.chess_laws.specs.Rays.{offset_at};
@@ -12,8 +12,9 @@ use super::attack::{attacks, stands};
 use super::between::is_clear;
 use super::castling::{has_right, is_path_safe, is_way_free};
 use super::effect::Effect;
+use super::leaps::{is_capture_step, is_king_step, is_knight_step};
 use super::next::passed_square;
-use super::offset::{BLACK_CAPTURES, DOWN, Offset, UP, WHITE_CAPTURES, is_knight_step, line};
+use super::offset::{DOWN, Offset, UP, line};
 use super::setup::{Setup, Wing};
 use cell_core::{Board, Colour, Kind, Man, Move, Square};
 
@@ -66,7 +67,7 @@ fn steps_on(p: &Setup, m: &Move) -> bool
 fn takes(p: &Setup, m: &Move) -> bool
     ensures { IsTrue result ↔ (Any (Leaps m.now.from m.now.to) (pawn_captures p.now.side)) × IsEnemyOn p.now.board p.now.side m.now.to }
 {
-    pawn_takes(p.side, m.from, m.to) && has_enemy(&p.board, p.side, m.to)
+    is_capture_step(p.side, m.from, m.to) && has_enemy(&p.board, p.side, m.to)
 }
 
 /// Whether an enemy of this colour stands on the square.
@@ -161,7 +162,7 @@ fn is_passing(p: &Setup, m: &Move) -> bool
         kind: Kind::Pawn,
     };
     stands(&p.board, m.from, p.side, Kind::Pawn)
-        && pawn_takes(p.side, m.from, m.to)
+        && is_capture_step(p.side, m.from, m.to)
         && p.en_passant == Some(m.to)
         && p.board.at(m.to).is_none()
         && p.board.at(passed_square(m)) == Some(passed)
@@ -214,50 +215,16 @@ pub fn forward(colour: Colour) -> Offset
     }
 }
 
-/// Whether the target is diagonally in front of a pawn.
-fn pawn_takes(colour: Colour, from: Square, to: Square) -> bool
-    ensures { IsTrue result ↔ Any (Leaps from to) (pawn_captures colour) }
-{
-    match colour {
-        Colour::White => leads(&WHITE_CAPTURES, from, to),
-        Colour::Black => leads(&BLACK_CAPTURES, from, to),
-    }
-}
-
 /// Whether such a man reaches one square from the other.
 pub fn reaches(board: &Board, colour: Colour, kind: Kind, from: Square, to: Square) -> bool
     ensures { IsTrue result ↔ Reaches board.now colour kind from to }
 {
     match kind {
-        Kind::King => adjoins(from, to),
+        Kind::King => is_king_step(from, to),
         Kind::Queen | Kind::Rook | Kind::Bishop => runs(board, kind, from, to),
         Kind::Knight => is_knight_step(from, to),
-        Kind::Pawn => pawn_takes(colour, from, to),
+        Kind::Pawn => is_capture_step(colour, from, to),
     }
-}
-
-/// Whether one of the king's steps leads from one square to the other.
-fn adjoins(from: Square, to: Square) -> bool
-    ensures { IsTrue result ↔ Any (Leaps from to) king_steps }
-{
-    match line(from, to) {
-        None => false,
-        Some(row) => leads_by(&Offset::of_row(row), from, to),
-    }
-}
-
-/// Whether one of the steps leads from one square to the other.
-fn leads(steps: &[Offset], from: Square, to: Square) -> bool
-    ensures { IsTrue result ↔ Any (Leaps from to) steps.now }
-{
-    steps.iter().any(|step| leads_by(step, from, to))
-}
-
-/// Whether this step leads from one square to the other.
-fn leads_by(step: &Offset, from: Square, to: Square) -> bool
-    ensures { IsTrue result ↔ Leaps from to step.now }
-{
-    step.target(from) == Some(to)
 }
 
 /// Whether equal steps, of this kind of man, lead from one square to the other over empty squares.

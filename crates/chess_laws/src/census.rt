@@ -1,9 +1,9 @@
 //! What is counted on a board.
-ghost use Rattle.std.specs.Prelude.{◌≡◌, ◌↔◌, ℕ, ◌<◌, ◌≤◌, IsTrue, IsBitSet, count_by, MatchOption, ◌≢◌, length, slice_index_or};
+ghost use Rattle.std.specs.Prelude.{◌≡◌, ◌↔◌, ℕ, ◌<◌, ◌≤◌, IsTrue, IsBitSet, count_by, MatchOption, ◌≢◌, length};
 ghost use Rattle.std.specs.List.{position};
 ghost use Rattle.cell_core.specs.Man.{is_of, is_man};
 ghost use Rattle.cell_core.specs.declared.man.Kind.TheVariants.{King};
-ghost use Rattle.chess_laws.specs.Counts.{counts_of, count_of, fewer, is_home, more, slot};
+ghost use Rattle.chess_laws.specs.Counts.{counts_of, count_of, fewer, is_home, slot};
 ghost use Rattle.chess_laws.specs.Position.{king_square};
 
 use cell_core::{Board, Colour, Kind, Man, Square};
@@ -35,8 +35,7 @@ pub fn count_side(board: &Board, colour: Colour) -> usize
     ensures number { result ≡ count_by (is_of colour) board.now }
     ensures squares { length board.now ≡ 64 }
 {
-    let cells = board.cells();
-    cells.iter().filter(|cell| holds_side(cell, colour)).count()
+    board.of_colour(colour).count_ones() as usize
 }
 
 /// How many men of this colour and kind there are.
@@ -44,21 +43,7 @@ fn count(board: &Board, colour: Colour, kind: Kind) -> usize
     ensures number { result ≡ count_of board.now colour kind }
     ensures squares { result ≤ 64 }
 {
-    let cells = board.cells();
-    cells
-        .iter()
-        .filter(|cell| holds(cell, colour, kind))
-        .count()
-}
-
-/// Whether a man of this colour stands on a square.
-fn holds_side(cell: &Option<Man>, colour: Colour) -> bool
-    ensures { result ≡ is_of colour cell.now }
-{
-    match cell {
-        Some(man) => man.colour == colour,
-        None => false,
-    }
+    board.of_man(colour, kind).count_ones() as usize
 }
 
 /// Whether a man of this colour and kind stands on a square.
@@ -75,25 +60,25 @@ pub fn holds(cell: &Option<Man>, colour: Colour, kind: Kind) -> bool
 pub fn counts(board: &Board) -> [u8; 10]
     ensures { result ≡ counts_of board.now }
 {
-    let cells = board.cells();
-    let mut all = [0u8; 10];
-    for cell in cells {
-        count_in(&mut all, cell);
-    }
-    all
+    [
+        number(board, Colour::White, Kind::Queen),
+        number(board, Colour::White, Kind::Rook),
+        number(board, Colour::White, Kind::Bishop),
+        number(board, Colour::White, Kind::Knight),
+        number(board, Colour::White, Kind::Pawn),
+        number(board, Colour::Black, Kind::Queen),
+        number(board, Colour::Black, Kind::Rook),
+        number(board, Colour::Black, Kind::Bishop),
+        number(board, Colour::Black, Kind::Knight),
+        number(board, Colour::Black, Kind::Pawn),
+    ]
 }
 
-// One more of the man on this square, where one stands there that is counted.
-fn count_in(all: &mut [u8; 10], cell: &Option<Man>)
-    requires room { (s : ℕ) → slice_index_or all.old s 0 < 64 }
-    ensures { all.new ≡ more all.old cell.now }
+/// How many men of this colour and kind there are, as a small number.
+fn number(board: &Board, colour: Colour, kind: Kind) -> u8
+    ensures number { result ≡ count_of board.now colour kind }
 {
-    if let Some(man) = cell {
-        let place = slot(man);
-        if place < 10 {
-            all[place] += 1;
-        }
-    }
+    count(board, colour, kind) as u8
 }
 
 // One less of the man on this square, where one stands there that is counted.

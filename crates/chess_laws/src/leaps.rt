@@ -1,5 +1,5 @@
 //! Where knights and kings, and pawns that capture, come from each square.
-ghost use Rattle.std.specs.Prelude.{◌≡◌, ◌↔◌, ◌<◌, ℕ, List, true, Any};
+ghost use Rattle.std.specs.Prelude.{◌≡◌, ◌↔◌, ◌<◌, ℕ, List, true, Any, IsTrue};
 ghost use Rattle.chess_laws.specs.Geometry.{Leaps, Offset, king_steps, knight_steps, pawn_captures};
 ghost use Rattle.chess_laws.specs.Leaps.{names_leaps};
 ghost use Rattle.chess_laws.specs.Targets.{Has};
@@ -32,6 +32,27 @@ pub fn capture_squares(colour: Colour, s: Square) -> SquareSet
         Colour::White => squares_in(&WHITE_CAPTURE_SQUARES, s),
         Colour::Black => squares_in(&BLACK_CAPTURE_SQUARES, s),
     }
+}
+
+/// Whether one of the king's steps leads from one square to the other.
+pub fn is_king_step(from: Square, to: Square) -> bool
+    ensures { IsTrue result ↔ Any (Leaps from to) king_steps }
+{
+    king_squares(from).has(to)
+}
+
+/// Whether one of a knight's steps leads from one square to the other.
+pub fn is_knight_step(from: Square, to: Square) -> bool
+    ensures { IsTrue result ↔ Any (Leaps from to) knight_steps }
+{
+    knight_squares(from).has(to)
+}
+
+/// Whether the target is diagonally in front of a pawn of this colour.
+pub fn is_capture_step(colour: Colour, from: Square, to: Square) -> bool
+    ensures { IsTrue result ↔ Any (Leaps from to) (pawn_captures colour) }
+{
+    capture_squares(colour, from).has(to)
 }
 
 // What a table that says where steps lead has of the square.

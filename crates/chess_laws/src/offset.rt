@@ -1,9 +1,9 @@
 //! Steps on the board, and where they lead from each square.
-ghost use Rattle.std.specs.Prelude.{◌≡◌, ◌↔◌, ◌<◌, Any, IfSome, IsTrue, true};
+ghost use Rattle.std.specs.Prelude.{◌≡◌, ◌<◌, IfSome, true};
 ghost use Rattle.chess_laws.specs.LegalTests.{line};
 ghost use Rattle.chess_laws.specs.Rays.{names_all, offset_at};
-ghost use Rattle.chess_laws.specs.Geometry.{Leaps, knight_steps, shift};
-ghost use Rattle.chess_laws.specs.Ways.{names_knights, names_lines, spread, way};
+ghost use Rattle.chess_laws.specs.Geometry.{shift};
+ghost use Rattle.chess_laws.specs.Ways.{names_lines, spread, way};
 
 use cell_core::Square;
 use std::marker::Model;
@@ -69,13 +69,6 @@ pub fn line(from: Square, to: Square) -> Option<u8>
     line_in(&WAYS, from, to)
 }
 
-/// Whether one of a knight's steps leads from one square to the other.
-pub fn is_knight_step(from: Square, to: Square) -> bool
-    ensures { IsTrue result ↔ Any (Leaps from to) knight_steps }
-{
-    is_knight_step_in(&WAYS, from, to)
-}
-
 // The row of the queen's step between two squares, by a table of the ways between squares.
 fn line_in(table: &[u8; 240], from: Square, to: Square) -> Option<u8>
     requires says { names_lines table.now ≡ true }
@@ -84,14 +77,6 @@ fn line_in(table: &[u8; 240], from: Square, to: Square) -> Option<u8>
 {
     let way = way_in(table, from, to);
     if way < 8 { Some(way) } else { None }
-}
-
-// Whether a knight's step leads from one square to the other, by a table of the ways between squares.
-fn is_knight_step_in(table: &[u8; 240], from: Square, to: Square) -> bool
-    requires says { names_knights table.now ≡ true }
-    ensures { IsTrue result ↔ Any (Leaps from to) knight_steps }
-{
-    way_in(table, from, to) == 8
 }
 
 // What a table says of the way from one square to the other.
@@ -121,12 +106,6 @@ pub const BISHOP_STEPS: [Offset; 4] = [UP_RIGHT, UP_LEFT, DOWN_RIGHT, DOWN_LEFT]
 pub const KING_STEPS: [Offset; 8] = [
     RIGHT, LEFT, UP, DOWN, UP_RIGHT, UP_LEFT, DOWN_RIGHT, DOWN_LEFT,
 ];
-
-// Diagonally in front of a white pawn.
-pub const WHITE_CAPTURES: [Offset; 2] = [UP_RIGHT, UP_LEFT];
-
-// Diagonally in front of a black pawn.
-pub const BLACK_CAPTURES: [Offset; 2] = [DOWN_RIGHT, DOWN_LEFT];
 
 pub const RIGHT: Offset = Offset { row: 0 };
 

@@ -9,12 +9,12 @@ ghost use Rattle.chess_laws.specs.LegalTests.{run};
 ghost use Rattle.chess_laws.specs.Targets.{CastlesTo, Comes, DoublesTo, Has, MayTake, goes};
 ghost use Rattle.chess_laws.specs.Step.{CastleCase, HasNoOwn};
 
-use super::cases::{forward, has_enemy, has_no_own, is_castling, is_on_own_rank};
+use super::cases::{forward, has_no_own, is_castling, is_on_own_rank};
 use super::castling::{king_home, king_target};
-use super::leaps::{king_squares, knight_squares};
-use super::offset::{BISHOP_STEPS, BLACK_CAPTURES, KING_STEPS, Offset, ROOK_STEPS, WHITE_CAPTURES};
+use super::leaps::{capture_squares, king_squares, knight_squares};
+use super::offset::{BISHOP_STEPS, KING_STEPS, Offset, ROOK_STEPS};
 use super::setup::{Setup, Wing};
-use cell_core::{Colour, Kind, Move, Square};
+use cell_core::{Kind, Move, Square};
 
 /// A set of squares.
 #[derive(Clone, Copy, Debug, PartialEq, Eq)]
@@ -28,6 +28,22 @@ impl SquareSet {
         ensures bits { result.bits ≡ bits }
     {
         SquareSet { bits }
+    }
+
+    /// Whether the square is in the set.
+    pub fn has(&self, s: Square) -> bool
+        ensures has { IsTrue result ↔ Has self.now s }
+    {
+        self.bits >> s.index() & 1 == 1
+    }
+
+    /// The squares of the set that are among those of these bits.
+    pub fn within(&self, bits: u64) -> SquareSet
+        ensures both { (s : ℕ) → Has result s ↔ (Has self.now s × (bit_at bits s ≡ 1)) }
+    {
+        SquareSet {
+            bits: self.bits & bits,
+        }
     }
 
     /// Whether the set has one of the squares of these bits.
@@ -197,37 +213,17 @@ fn capture_targets(p: &Setup, from: Square) -> SquareSet
     ensures only { (b : ℕ) → Has result b → (Any (Leaps from b) (pawn_captures p.now.side) × MayTake p.now b) }
     ensures all { (b : ℕ) → Any (Leaps from b) (pawn_captures p.now.side) → MayTake p.now b → Has result b }
 {
-    match p.side {
-        Colour::White => takes_by(p, &WHITE_CAPTURES, from),
-        Colour::Black => takes_by(p, &BLACK_CAPTURES, from),
-    }
+    capture_squares(p.side, from).within(takeable(p))
 }
 
-/// Where one of the steps leads to an enemy, or to the en passant square.
-fn takes_by(p: &Setup, steps: &[Offset], from: Square) -> SquareSet
-    ensures only { (b : ℕ) → Has result b → (Any (Leaps from b) steps.now × MayTake p.now b) }
-    ensures all { (b : ℕ) → Any (Leaps from b) steps.now → MayTake p.now b → Has result b }
+/// The squares on which a pawn may capture: those of the enemies, and the en passant square.
+fn takeable(p: &Setup) -> u64
+    ensures { (b : ℕ) → (bit_at result b ≡ 1) ↔ MayTake p.now b }
 {
-    let mut set = SquareSet::empty();
-    for step in steps {
-        if let Some(to) = step.target(from) {
-            set = with_taken(p, to, set);
-        }
-    }
-    set
-}
-
-/// The set, and this square where an enemy stands on it or it is the en passant square.
-#[tactic(auto, unfolding(crate::specs::Targets::MayTake))]
-fn with_taken(p: &Setup, s: Square, set: SquareSet) -> SquareSet
-    ensures added { MayTake p.now s → Has result s }
-    ensures kept { (b : ℕ) → Has set b → Has result b }
-    ensures only { (b : ℕ) → Has result b → (Has set b ⊎ ((b ≡ s) × MayTake p.now s)) }
-{
-    if has_enemy(&p.board, p.side, s) || p.en_passant == Some(s) {
-        set.with(s)
-    } else {
-        set
+    let enemies = p.board.of_colour(p.side.other());
+    match p.en_passant {
+        Some(s) => with_bit(enemies, s.index()),
+        None => enemies,
     }
 }
 

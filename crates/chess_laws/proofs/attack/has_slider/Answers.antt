@@ -1,6 +1,5 @@
 use Rattle.std.proofs.Common.{refl}
 use Rattle.chess_laws.proofs.Clear.{no-slider}
-use Rattle.cell_core.specs.declared.man.Kind.TheVariants.{Queen}
 use Rattle.chess_laws.proofs.attack.has_slider.Goals as goal
 
 pub returns : goal.returns

@@ -1,10 +1,17 @@
--- One more square is counted.
-use Rattle.std.proofs.Common.{◌≡◌, sym, ◌∙◌, ap, length, get_or, None, arith}
-use Rattle.chess_laws.specs.Counts.{more}
-use Rattle.chess_laws.proofs.Counting.{counts-next}
+-- Each of the ten is counted.
+use Rattle.std.proofs.Common.{◌∷◌, []}
 use Rattle.chess_laws.proofs.census.counts.Goals as goal
 
-pub loop-cell-preserved : goal.loop-cell-preserved
-loop-cell-preserved c =
-    let long : length c.cells-cells.result.now ≡ 64 = rw c.cells-cells.ensures.men c.cells-cells.ensures.squares in
-    c.count_in.ensures ∙ (ap (λ a. more a (get_or c.cells-cells.result.now c.loop-cell.cell-index None)) c.loop-cell.invariant ∙ sym (counts-next c.cells-cells.result.now c.loop-cell.cell-index (omega arith)))
+pub returns : goal.returns
+returns c = λ i.
+    c.number.ensures.number i
+    ∷ c.number-2.ensures.number i
+    ∷ c.number-3.ensures.number i
+    ∷ c.number-4.ensures.number i
+    ∷ c.number-5.ensures.number i
+    ∷ c.number-6.ensures.number i
+    ∷ c.number-7.ensures.number i
+    ∷ c.number-8.ensures.number i
+    ∷ c.number-9.ensures.number i
+    ∷ c.number-10.ensures.number i
+    ∷ []

@@ -1,6 +1,4 @@
 -- The table says it.
-use Rattle.std.proofs.Common.{◌≡◌, ap}
-use Rattle.std.specs.Int.{bit_at}
 use Rattle.chess_laws.proofs.Sets.{leap-set}
 use Rattle.chess_laws.proofs.leaps.squares_in.Goals as goal
 

@@ -1,5 +1,5 @@
 -- No move begins on a square that is not one of the mover's, and below the last place there are all.
-use Rattle.std.proofs.Common.{arith, rules, ◌≡◌, ◌*◌, ◌∙◌}
+use Rattle.std.proofs.Common.{arith, rules, ◌*◌, ◌∙◌}
 use Rattle.chess_laws.specs.Targets.{ListsBelow}
 use Rattle.chess_laws.proofs.Listing.{lists-all, lists-no_men}
 use Rattle.chess_laws.proofs.Climbing.{no-more}

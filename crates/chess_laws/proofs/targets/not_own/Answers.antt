@@ -1,5 +1,4 @@
 -- The set of the mover's men has no other square.
-use Rattle.std.proofs.Common.{◌≡◌, ◌∙◌}
 use Rattle.chess_laws.proofs.Sets.{no_own}
 use Rattle.chess_laws.proofs.targets.not_own.Goals as goal
 

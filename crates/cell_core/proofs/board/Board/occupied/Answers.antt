@@ -1,5 +1,5 @@
 -- Each man is of one of the colours.
-use Rattle.std.proofs.Common.{◌≡◌, ◌∙◌}
+use Rattle.std.proofs.Common.{◌∙◌}
 use Rattle.std.specs.Int.RustNames.{bit_or}
 use Rattle.cell_core.proofs.Squares.{some-set}
 use Rattle.cell_core.proofs.board.Board.occupied.Goals as goal

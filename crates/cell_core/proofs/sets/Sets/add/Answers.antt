@@ -1,5 +1,4 @@
 -- The set of the man's kind and that of his colour have his square.
-use Rattle.std.proofs.Common.{◌≡◌}
 use Rattle.cell_core.proofs.Squares.{kinds-come, colours-come}
 use Rattle.cell_core.proofs.sets.Sets.add.Goals as goal
 
