@@ -1,12 +1,22 @@
 -- A match passes the test of signatures, and can follow each earlier position.
-use Rattle.std.proofs.Common.{◌≡◌, ℕ, ◌<◌, ◌≤◌, Bool, true, false, not, ◌||◌, List, refl, sym, ap, ◌∙◌, subst, arith, inl, inr}
-use Rattle.std.specs.Prelude.{slice_index}
+use Rattle.std.proofs.Common.{◌≡◌, ℕ, suc, ◌+◌, ◌==◌, ◌<◌, ◌≤◌, Bool, true, false, not, ◌&&◌, ◌||◌, cond, nat_le, List, [], Option, None, refl, sym, ap, ◌∙◌, subst, arith, inl, inr}
+use Rattle.std.specs.Prelude.{filter, map, option_map, slice_index}
+use Rattle.std.specs.List.{find}
+use Rattle.std.specs.Option.{option_or}
+use Rattle.std.proofs.lemmas.Bool.Decides.{nat_tests}
 use Rattle.std.proofs.lemmas.Bool.{and_from, both_ways, cases_Bool}
 use Rattle.chess_laws.specs.Counts.{counts_of, is_home}
 use Rattle.chess_laws.specs.Position.{Sound}
+use Rattle.chess_laws.specs.Step.{stepped}
+use Rattle.chess_laws.specs.declared.setup.Setup.{Setup}
+use Rattle.game_codec.specs.Visits.{Visit, line_visits, place_of_visit, places}
+use Rattle.game_tree.specs.Counts.{line_variations, variations_of}
 use Rattle.game_tree.specs.Game.{GameTree}
 use Rattle.game_tree.specs.Legal.{IsLegalGame}
 use Rattle.game_tree.specs.Replay.{plies_of, position_at}
+use Rattle.game_tree.specs.Tree.{Line, ends, goes, more}
+use Rattle.game_tree.specs.Tree.{none as bare}
+use Rattle.index_entry.specs.Counts.{count_code}
 use Rattle.sig_index.specs.declared.pos_query.PosQuery.{PosQuery}
 use Rattle.sig_index.specs.declared.signature.Sig.{Sig}
 use Rattle.sig_index.specs.Coming.{can_come}
@@ -16,10 +26,10 @@ use Rattle.sig_index.specs.Skipping.{can_stand}
 use Rattle.sig_index.proofs.AllowLemmas.{same_set}
 use Rattle.sig_index.proofs.ComingLemmas.{comes}
 use Rattle.sig_index.proofs.PrefixLemmas.{home_sound, stood_before}
-use Rattle.sig_index.proofs.Ranges.{all_from}
+use Rattle.sig_index.proofs.Ranges.{all_from, find_none}
 use Rattle.sig_index.proofs.SkippingLemmas.{skipping_sound}
-use Rattle.pos_search.specs.Matching.{matches_at}
-use Rattle.pos_search.specs.Passing.{fixes_pawns, just, passes}
+use Rattle.pos_search.specs.Matching.{first_aside, first_if_aside, first_of, first_on_main, is_sought, matches_at}
+use Rattle.pos_search.specs.Passing.{fixes_pawns, just, passes, passes_main}
 use Rattle.pos_search.specs.Sought.{can_follow, has_homes}
 use Rattle.pos_search.proofs.MatchLemmas.{matched}
 
@@ -36,17 +46,22 @@ if_fixed false test h = refl
 
 -- ---- the test of signatures
 
+or_right : (a b : Bool) → b ≡ true → (a || b) ≡ true
+or_right true b h = refl
+or_right false b h = h
+
 match_passes : (game : GameTree) (sig : Sig) (query : PosQuery) (ply : ℕ) → Sound game.start → IsLegalGame game → IsSig game sig → ply ≤ plies_of game
     → matches_at query game ply ≡ true → passes sig query ≡ true
 unfolding passes
 match_passes game sig query ply sound legal is within holds =
     let men = (position_at game ply).board in
     let m = matched query (position_at game ply) holds in
-    and_from (can_stand sig (just (counts_of query.board))) (not (fixes_pawns query.mode) || home_allows sig (home_set query.board))
+    or_right (query.vars && not (sig.vars == 0)) (passes_main sig query)
+    (and_from (can_stand sig (just (counts_of query.board))) (not (fixes_pawns query.mode) || home_allows sig (home_set query.board))
     (skipping_sound game sig (just (counts_of query.board)) ply sound legal is within
     (λ place less. same_most (counts_of men) (counts_of query.board) place m.counts))
     (if_fixed (fixes_pawns query.mode) (home_allows sig (home_set query.board))
-    (λ fixed. ap (home_allows sig) (sym (same_set men query.board (m.homes fixed))) ∙ home_sound game sig ply sound legal is within))
+    (λ fixed. ap (home_allows sig) (sym (same_set men query.board (m.homes fixed))) ∙ home_sound game sig ply sound legal is within)))
 
 pub refused : (game : GameTree) (sig : Sig) (query : PosQuery) (ply : ℕ) → Sound game.start → IsLegalGame game → IsSig game sig → ply ≤ plies_of game
     → passes sig query ≡ false → matches_at query game ply ≡ false
@@ -54,6 +69,61 @@ refused game sig query ply sound legal is within not = elim (cases_Bool (matches
   | inl holds ↦ absurd (both_ways (passes sig query) not (match_passes game sig query ply sound legal is within holds))
   | inr fails ↦ fails
 ]
+
+-- A query that looks in variations passes over games that have none.
+vars_false : (a b c : Bool) → (a && not b || c) ≡ false → a ≡ true → b ≡ true
+vars_false a true c h looks = refl
+vars_false true false c h looks = absurd (cc)
+vars_false false false c h looks = absurd (cc)
+
+code_by : (few : Bool) (n rest : ℕ) → 0 < rest → cond few n rest ≡ 0 → n ≡ 0
+code_by true n rest some h = h
+code_by false n rest some h = absurd (omega (arith, some, h))
+
+more_codes : (a b c d e : Bool) → 0 < cond a 10 (cond b 11 (cond c 12 (cond d 13 (cond e 14 15))))
+more_codes true b c d e = omega arith
+more_codes false true c d e = omega arith
+more_codes false false true d e = omega arith
+more_codes false false false true e = omega arith
+more_codes false false false false true = omega arith
+more_codes false false false false false = omega arith
+
+code_none : (n : ℕ) → count_code n ≡ 0 → n ≡ 0
+code_none n h =
+    code_by (nat_le n 10) n (cond (nat_le n 12) 10 (cond (nat_le n 17) 11 (cond (nat_le n 24) 12 (cond (nat_le n 34) 13 (cond (nat_le n 44) 14 15)))))
+    (more_codes (nat_le n 12) (nat_le n 17) (nat_le n 24) (nat_le n 34) (nat_le n 44)) h
+
+pub no_variations : (game : GameTree) (sig : Sig) (query : PosQuery) → IsSig game sig → passes sig query ≡ false → query.vars ≡ true → variations_of game ≡ 0
+unfolding passes
+no_variations game sig query is not looks =
+    let none : (sig.vars == 0) ≡ true = vars_false query.vars (sig.vars == 0) (passes_main sig query) not looks in
+    let zero_code : sig.vars ≡ 0 = grind (arith, nat_tests) in
+    code_none (variations_of game) (sym is.vars ∙ zero_code)
+
+main_alone : (p : Setup) (ply : ℕ) (line : Line) → line_variations line ≡ 0 → filter (λ (v : Visit). not v.main) (line_visits true p ply line) ≡ []
+main_alone p ply ends none = refl
+main_alone p ply (goes mv nags comment bare line) none = main_alone (stepped p mv) (suc ply) line (omega (arith, none))
+main_alone p ply (goes mv nags comment (more lead inner others) line) none = absurd (omega (arith, none))
+
+pub no_places : (game : GameTree) → variations_of game ≡ 0 → places game ≡ []
+no_places game none = ap (map place_of_visit) (main_alone game.start 0 game.line none)
+
+-- So it passes over no game that has a first place.
+aside_none : (query : PosQuery) (game : GameTree) (vars : Bool) → query.vars ≡ vars → (query.vars ≡ true → places game ≡ []) → cond vars (first_aside query game) None ≡ None
+aside_none query game true is none = ap (λ (ps : List (Setup × ℕ)). option_map (λ (p : Setup × ℕ). p.1) (find (is_sought query) ps)) (none is)
+aside_none query game false is none = refl
+
+pub refused_aside : (game : GameTree) (sig : Sig) (query : PosQuery) → IsSig game sig → passes sig query ≡ false → first_if_aside query game ≡ None
+refused_aside game sig query is not =
+    aside_none query game query.vars refl (λ looks. no_places game (no_variations game sig query is not looks))
+
+pub refused_main : (game : GameTree) (sig : Sig) (query : PosQuery) → Sound game.start → IsLegalGame game → IsSig game sig → passes sig query ≡ false → first_on_main query game ≡ None
+refused_main game sig query sound legal is not =
+    find_none (matches_at query game) 0 (plies_of game + 1) (λ k from less. refused game sig query k sound legal is (omega (arith, less)) not)
+
+pub refused_first : (game : GameTree) (sig : Sig) (query : PosQuery) → Sound game.start → IsLegalGame game → IsSig game sig → passes sig query ≡ false → first_of query game ≡ None
+refused_first game sig query sound legal is not =
+    ap (λ (first : Option ℕ). option_or first (first_if_aside query game)) (refused_main game sig query sound legal is not) ∙ refused_aside game sig query is not
 
 -- ---- the end of a walk
 

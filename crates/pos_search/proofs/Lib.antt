@@ -4,3 +4,4 @@ pub mod FollowLemmas
 pub mod WalkLemmas
 pub mod SearchLemmas
 pub mod FirstLemmas
+pub mod AsideLemmas

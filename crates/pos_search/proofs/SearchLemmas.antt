@@ -1,6 +1,7 @@
 -- The search through the games, one after the other.
 use Rattle.std.proofs.Common.{◌≡◌, ℕ, ◌+◌, ◌<◌, ◌≤◌, true, false, cond, ◌&&◌, List, Option, None, Some, length, get_or, set, take, refl, sym, ap, ◌∙◌, arith}
 use Rattle.std.specs.Prelude.{option_map, slice_get}
+use Rattle.std.specs.Option.{option_or}
 use Rattle.std.proofs.lemmas.List.{length-map, take_all}
 use Rattle.std.proofs.lemmas.Option.{get_or_from_slice_get, slice_get-map}
 use Rattle.base_files.specs.declared.extent.Extent.{Extent}
@@ -14,27 +15,29 @@ use Rattle.sig_index.specs.Games.{Holds}
 use Rattle.sig_index.specs.declared.pos_query.PosQuery.{PosQuery}
 use Rattle.sig_index.specs.declared.signature.Sig.{Sig}
 use Rattle.sig_index.proofs.RecordLemmas.{game_legal, game_sound}
-use Rattle.pos_search.specs.Matching.{first_of, firsts_of, hit_of}
+use Rattle.pos_search.specs.Matching.{first_if_aside, first_of, first_on_main, firsts_of, hit_aside, hit_of}
 use Rattle.pos_search.specs.Passing.{passes}
 use Rattle.pos_search.specs.Searching.{cost_of, ply_of}
-use Rattle.pos_search.proofs.FollowLemmas.{refused}
-use Rattle.pos_search.proofs.WalkLemmas.{no_hit, none_of}
+use Rattle.pos_search.proofs.FollowLemmas.{refused_aside, refused_main}
 
 -- A game that can't match does not.
 pub unread : (told : List ℕ) (extents : List Extent) (sigs : List Sig) (list : List GameTree) (i : ℕ) (sig : Sig) (game : GameTree) (query : PosQuery)
     → Holds told extents sigs list → slice_get sigs i ≡ Some sig → slice_get list i ≡ Some game → passes sig query ≡ false → None ≡ hit_of query game
 unread told extents sigs list i sig game query holds kept there not =
     let held = holds.each i sig game kept there in
-    no_hit query game (none_of query game (λ ply within.
-    refused game sig query ply (game_sound _ held.tags game held.is_record) (game_legal _ held.tags game held.is_record) held.is_sig within not))
+    let main = refused_main game sig query (game_sound _ held.tags game held.is_record) (game_legal _ held.tags game held.is_record) held.is_sig not in
+    let aside = refused_aside game sig query held.is_sig not in
+    λ j. option_or (option_map (λ (k : ℕ). (k, next_at game k)) (sym main j)) (option_map hit_aside (sym aside j))
 
 -- The ply of a hit is the first.
-ply_by : (first : Option ℕ) (next : ℕ → Option Move) → ply_of (option_map (λ (k : ℕ). (k, next k)) first) ≡ first
-ply_by None next = refl
-ply_by (Some k) next = refl
+ply_by : (first aside : Option ℕ) (next : ℕ → Option Move)
+    → ply_of (option_or (option_map (λ (k : ℕ). (k, next k)) first) (option_map hit_aside aside)) ≡ option_or first aside
+ply_by None None next = refl
+ply_by None (Some k) next = refl
+ply_by (Some k) aside next = refl
 
 pub ply_is : (query : PosQuery) (game : GameTree) (hit : Option (ℕ × Option Move)) (ply : Option ℕ) → hit ≡ hit_of query game → ply ≡ ply_of hit → ply ≡ first_of query game
-ply_is query game hit ply found is = is ∙ ap ply_of found ∙ ply_by (first_of query game) (next_at game)
+ply_is query game hit ply found is = is ∙ ap ply_of found ∙ ply_by (first_on_main query game) (first_if_aside query game) (next_at game)
 
 -- What a game costs that is looked at.
 pub looked_cost : (op : Op) (query : PosQuery) (sig : Sig) (extent : Extent) (plies : List (Option ℕ)) (i : ℕ) (old : Option ℕ) → slice_get plies i ≡ Some old

@@ -11,7 +11,7 @@ use Rattle.game_tree.specs.Legal.{IsLegalGame}
 use Rattle.game_tree.specs.Replay.{next_at, plies_of, position_at}
 use Rattle.sig_index.specs.declared.pos_query.PosQuery.{PosQuery}
 use Rattle.sig_index.proofs.Ranges.{find_first, find_none}
-use Rattle.pos_search.specs.Matching.{IsLegalFrom, first_of, hit_of, matches, matches_at}
+use Rattle.pos_search.specs.Matching.{IsLegalFrom, first_on_main, hit_on_main, matches, matches_at}
 use Rattle.pos_search.specs.Sought.{can_follow}
 use Rattle.pos_search.proofs.FollowLemmas.{none_follows}
 use Rattle.pos_search.proofs.MatchLemmas.{matched}
@@ -33,22 +33,22 @@ at_next query game ply next at here is = record {
 
 -- The game matches here.
 pub found_here : (query : PosQuery) (game : GameTree) (ply : ℕ) (next : Option Move) → IsAt query game ply → ply ≤ plies_of game
-    → matches_at query game ply ≡ true → next ≡ next_at game ply → Some (ply, next) ≡ hit_of query game
+    → matches_at query game ply ≡ true → next ≡ next_at game ply → Some (ply, next) ≡ hit_on_main query game
 found_here query game ply next at within holds is =
     ap (λ (m : Option Move). Some (ply, m)) is
     ∙ ap (λ (first : Option ℕ). option_map (λ (k : ℕ). (k, next_at game k)) first)
     (sym (find_first (matches_at query game) 0 (plies_of game + 1) ply (omega arith) (omega (arith, within)) holds at.before))
 
 -- It matches nowhere.
-pub none_of : (query : PosQuery) (game : GameTree) → ((k : ℕ) → k ≤ plies_of game → matches_at query game k ≡ false) → None ≡ first_of query game
+pub none_of : (query : PosQuery) (game : GameTree) → ((k : ℕ) → k ≤ plies_of game → matches_at query game k ≡ false) → None ≡ first_on_main query game
 none_of query game none = sym (find_none (matches_at query game) 0 (plies_of game + 1) (λ k from less. none k (omega (arith, less))))
 
-pub no_hit : (query : PosQuery) (game : GameTree) → None ≡ first_of query game → None ≡ hit_of query game
+pub no_hit : (query : PosQuery) (game : GameTree) → None ≡ first_on_main query game → None ≡ hit_on_main query game
 no_hit query game none = ap (λ (first : Option ℕ). option_map (λ (k : ℕ). (k, next_at game k)) first) none
 
 -- No sought position can follow this one.
 pub none_later : (query : PosQuery) (game : GameTree) (ply : ℕ) → IsAt query game ply → Sound game.start → IsLegalGame game
-    → can_follow query (position_at game ply) ≡ false → None ≡ hit_of query game
+    → can_follow query (position_at game ply) ≡ false → None ≡ hit_on_main query game
 none_later query game ply at sound legal not = no_hit query game (none_of query game (λ k within.
     elim (cases_lt k ply) [
       | inl before ↦ at.before k before
@@ -57,7 +57,7 @@ none_later query game ply at sound legal not = no_hit query game (none_of query 
 
 -- The line ends here.
 pub none_at_end : (query : PosQuery) (game : GameTree) (ply : ℕ) → IsAt query game ply → matches_at query game ply ≡ false → plies_of game ≤ ply
-    → None ≡ hit_of query game
+    → None ≡ hit_on_main query game
 none_at_end query game ply at here last = no_hit query game (none_of query game (λ k within.
     elim (cases_lt k ply) [
       | inl before ↦ at.before k before

@@ -1,8 +1,8 @@
 -- At which plies a game matches a search of a position (this project's own).
-use Rattle.std.specs.Prelude.{◌≡◌, ◌<◌, ◌≤◌, ℕ, zero, suc, ◌+◌, ◌&&◌, ◌==◌, nat_eq, if◌then◌else◌, Bool, true, false, List, Option, Some, None, map, option_map}
+use Rattle.std.specs.Prelude.{◌≡◌, ◌<◌, ◌≤◌, ℕ, zero, suc, ◌+◌, ◌&&◌, ◌==◌, ◌⊎◌, nat_eq, if◌then◌else◌, Bool, true, false, IsTrue, List, Option, Some, None, map, option_map, slice_get}
 use Rattle.std.specs.Cmp.Lexicographic.{pointwise}
 use Rattle.std.specs.List.{find, list_all, range_with_len}
-use Rattle.std.specs.Option.{option_eq}
+use Rattle.std.specs.Option.{option_eq, option_or}
 use Rattle.cell_core.specs.declared.man.Colour.{Colour}
 use Rattle.cell_core.specs.declared.man.Colour.TheVariants.{White, Black}
 use Rattle.cell_core.specs.declared.man.Kind.TheVariants.{Pawn}
@@ -15,6 +15,7 @@ use Rattle.chess_laws.specs.Geometry.{square}
 use Rattle.chess_laws.specs.Position.{Sound}
 use Rattle.chess_laws.specs.Step.{Legal}
 use Rattle.chess_laws.specs.declared.setup.Setup.{Setup}
+use Rattle.game_codec.specs.Visits.{places}
 use Rattle.game_tree.specs.Game.{GameTree}
 use Rattle.game_tree.specs.Replay.{next_at, plies_of, position_at}
 use Rattle.sig_index.specs.declared.pos_query.Mode.{Mode}
@@ -66,18 +67,58 @@ abbrev pub matches_at : PosQuery → GameTree → ℕ → Bool
 matches_at query game ply = matches query (position_at game ply)
 
 -- The first ply of the main line at which it matches, or none where it never does; ply 0 is the start.
+abbrev pub first_on_main : PosQuery → GameTree → Option ℕ
+first_on_main query game = find (matches_at query game) (range_with_len 0 (plies_of game + 1))
+
+-- The ply of the first place in its variations, as they are written, whose position is one that is sought; where the query looks there.
+abbrev pub is_sought : PosQuery → Setup × ℕ → Bool
+is_sought query place = matches query place.0
+
+abbrev pub first_aside : PosQuery → GameTree → Option ℕ
+first_aside query game = option_map (λ (place : Setup × ℕ). place.1) (find (is_sought query) (places game))
+
+abbrev pub first_if_aside : PosQuery → GameTree → Option ℕ
+first_if_aside query game = if query.vars then first_aside query game else None
+
+-- The first ply of the main line, and where there is none that of the variations.
 abbrev pub first_of : PosQuery → GameTree → Option ℕ
-first_of query game = find (matches_at query game) (range_with_len 0 (plies_of game + 1))
+first_of query game = option_or (first_on_main query game) (first_if_aside query game)
 
--- The same as a relation: the game matches at this ply of its main line and at none before, or at none.
+-- The same as a relation: the game matches at this ply of its main line and at none before; or at none, and this is the ply of the first
+-- place of its variations that does; or nowhere.
+abbrev pub NoneOnMain : PosQuery → GameTree → Type 0
+NoneOnMain query game = (ply : ℕ) → ply ≤ plies_of game → matches_at query game ply ≡ false
+
+pub record FirstOnMain (query : PosQuery) (game : GameTree) (ply : ℕ) : Type 0 where
+  pub within : ply ≤ plies_of game
+  pub here : matches_at query game ply ≡ true
+  pub before : (earlier : ℕ) → earlier < ply → matches_at query game earlier ≡ false
+
+pub record FirstAside (query : PosQuery) (game : GameTree) (ply : ℕ) : Type 0 where
+  pub looks : IsTrue query.vars
+  pub none : NoneOnMain query game
+  pub number : ℕ
+  pub position : Setup
+  pub place : slice_get (places game) number ≡ Some (position, ply)
+  pub here : matches query position ≡ true
+  pub before : (earlier : ℕ) (other : Setup × ℕ) → earlier < number → slice_get (places game) earlier ≡ Some other → is_sought query other ≡ false
+
+abbrev pub NoneAside : PosQuery → GameTree → Type 0
+NoneAside query game = (number : ℕ) (place : Setup × ℕ) → slice_get (places game) number ≡ Some place → is_sought query place ≡ false
+
 abbrev pub FirstPly : PosQuery → GameTree → Option ℕ → Type 0
-FirstPly query game (Some ply) =
-    (ply ≤ plies_of game) × ((matches_at query game ply ≡ true) × ((earlier : ℕ) → earlier < ply → matches_at query game earlier ≡ false))
-FirstPly query game None = (ply : ℕ) → ply ≤ plies_of game → matches_at query game ply ≡ false
+FirstPly query game (Some ply) = FirstOnMain query game ply ⊎ FirstAside query game ply
+FirstPly query game None = NoneOnMain query game × (IsTrue query.vars → NoneAside query game)
 
--- That ply and the move after it, if there is one.
+-- That ply, and on the main line the move after it, if there is one. A place in a variation has none.
+abbrev pub hit_on_main : PosQuery → GameTree → Option (ℕ × Option Move)
+hit_on_main query game = option_map (λ ply. (ply, next_at game ply)) (first_on_main query game)
+
+abbrev pub hit_aside : ℕ → ℕ × Option Move
+hit_aside ply = (ply, None)
+
 abbrev pub hit_of : PosQuery → GameTree → Option (ℕ × Option Move)
-hit_of query game = option_map (λ ply. (ply, next_at game ply)) (first_of query game)
+hit_of query game = option_or (hit_on_main query game) (option_map hit_aside (first_if_aside query game))
 
 -- The first matching plies of all games.
 abbrev pub firsts_of : PosQuery → List GameTree → List (Option ℕ)

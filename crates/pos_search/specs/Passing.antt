@@ -1,5 +1,5 @@
 -- Which games a search of a position has to read, by their signatures (this project's own).
-use Rattle.std.specs.Prelude.{ℕ, Bool, true, false, not, ◌&&◌, ◌||◌, List}
+use Rattle.std.specs.Prelude.{ℕ, Bool, true, false, not, ◌&&◌, ◌||◌, ◌==◌, List}
 use Rattle.chess_laws.specs.Counts.{counts_of}
 use Rattle.sig_index.specs.declared.mat_query.MatRange.{MatRange}
 use Rattle.sig_index.specs.declared.pos_query.Mode.{Mode}
@@ -20,8 +20,13 @@ fixes_pawns Pawns = true
 fixes_pawns Files = false
 fixes_pawns Material = false
 
--- A game with this signature can match: the counts of the board can have stood, and where the mode fixes them the pawns that stand at home
--- on the board can have been those at home.
-unfoldable pub passes : Sig → PosQuery → Bool
-passes sig query =
+-- A main line with this signature can match: the counts of the board can have stood, and where the mode fixes them the pawns that stand at
+-- home on the board can have been those at home.
+abbrev pub passes_main : Sig → PosQuery → Bool
+passes_main sig query =
     can_stand sig (just (counts_of query.board)) && (not (fixes_pawns query.mode) || home_allows sig (home_set query.board))
+
+-- A game with this signature can match: its main line, or a variation where it has some and the query looks there. The signature tells
+-- nothing of the men in variations.
+unfoldable pub passes : Sig → PosQuery → Bool
+passes sig query = (query.vars && not (sig.vars == 0)) || passes_main sig query

@@ -1,9 +1,11 @@
 -- What the functions of this crate keep of a query, and when they end a walk.
-use Rattle.std.specs.Prelude.{◌≡◌, ℕ, Bool, true, not, ◌&&◌, ◌||◌}
+use Rattle.std.specs.Prelude.{◌≡◌, ℕ, Bool, true, not, ◌&&◌, ◌||◌, if◌then◌else◌, Option, Some, None}
 use Rattle.std.specs.List.{list_all}
+use Rattle.std.specs.Option.{option_or}
 use Rattle.cell_core.specs.Board.{Men, same_men}
 use Rattle.chess_laws.specs.Counts.{counts_of, is_home}
 use Rattle.chess_laws.specs.declared.setup.Setup.{Setup}
+use Rattle.game_codec.specs.AllWalk.{AllWalked}
 use Rattle.sig_index.specs.declared.mat_query.MatRange.{MatRange}
 use Rattle.sig_index.specs.declared.pos_query.Mode.{Mode}
 use Rattle.sig_index.specs.declared.pos_query.Mode.TheVariants.{Exact, Pawns, Files, Material}
@@ -11,7 +13,7 @@ use Rattle.sig_index.specs.declared.pos_query.PosQuery.{PosQuery}
 use Rattle.sig_index.specs.Coming.{can_come}
 use Rattle.sig_index.specs.Homes.{home_set}
 use Rattle.sig_index.specs.Signature.{all_homes}
-use Rattle.pos_search.specs.Matching.{same_files, same_pawns}
+use Rattle.pos_search.specs.Matching.{matches, same_files, same_pawns}
 use Rattle.pos_search.specs.Passing.{fixes_pawns, just}
 
 -- What is counted on the board of a query: its ten counts, as the only ones of a range, and its pawns at home.
@@ -33,3 +35,7 @@ has_homes sought men = list_all (λ value. not (is_home sought value) || is_home
 -- A position that is sought can still come after this one: no man is missing, and where the mode fixes them no pawn at home.
 unfoldable pub can_follow : PosQuery → Setup → Bool
 can_follow query p = can_come (just (counts_of query.board)) (counts_of p.board) && (not (fixes_pawns query.mode) || has_homes query.board p.board)
+
+-- The ply of the first place in a variation that was found so far: this one, where none was found before it.
+abbrev pub found_aside : PosQuery → Option ℕ → AllWalked → Option ℕ
+found_aside query found walk = option_or found (if not walk.on_main && matches query walk.position then Some walk.ply else None)

@@ -1,7 +1,8 @@
 //! Laws of the definitions.
-ghost use Rattle.std.specs.Prelude.{◌≡◌, ◌≤◌, ◌↔◌, ℕ, true, false};
+ghost use Rattle.std.specs.Prelude.{◌≡◌, ◌≤◌, ◌↔◌, ℕ, true, false, None, IsTrue};
 ghost use Rattle.chess_laws.specs.Position.{Sound};
 ghost use Rattle.chess_laws.specs.declared.setup.Setup.{Setup};
+ghost use Rattle.game_tree.specs.Counts.{variations_of};
 ghost use Rattle.game_tree.specs.Game.{GameTree};
 ghost use Rattle.game_tree.specs.Legal.{IsLegalGame};
 ghost use Rattle.game_tree.specs.Replay.{plies_of};
@@ -12,14 +13,18 @@ ghost use Rattle.sig_index.specs.declared.signature.Sig.{Sig};
 ghost use Rattle.pos_search.specs.Matching.{FirstPly, first_of, matches, matches_at};
 ghost use Rattle.pos_search.specs.Passing.{passes};
 
-/// A law: where `passes` is false of its signature, a legal game matches at no ply.
+/// A law: where `passes` is false of its signature, a legal game matches at no ply of its main line and has no first place; and where the
+/// query looks there it has no place in a variation, so that only games without variations are passed over.
 pub fn tests_are_sound()
     ensures sound { (game : GameTree) (sig : Sig) (query : PosQuery) (ply : ℕ) → Sound game.start → IsLegalGame game → IsSig game sig → ply ≤ plies_of game
         → passes sig query ≡ false → matches_at query game ply ≡ false }
+    ensures first { (game : GameTree) (sig : Sig) (query : PosQuery) → Sound game.start → IsLegalGame game → IsSig game sig → passes sig query ≡ false → first_of query game ≡ None }
+    ensures variations { (game : GameTree) (sig : Sig) (query : PosQuery) → IsSig game sig → passes sig query ≡ false → IsTrue query.vars → variations_of game ≡ 0 }
 {}
 
-/// A law: the ply that a search computes for a game is the first of its main line at which it matches, and it computes none exactly where
-/// the game matches nowhere; an exact search matches where the board and the side to move are those of the query.
+/// A law: the ply that a search computes for a game is the first of its main line at which it matches; where there is none and the query
+/// looks in variations, it is the ply of the first of their places that does; and it computes none exactly where the game matches nowhere;
+/// an exact search matches where the board and the side to move are those of the query.
 pub fn first_plies_are_first()
     ensures first { (query : PosQuery) (game : GameTree) → FirstPly query game (first_of query game) }
     ensures exact { (query : PosQuery) (p : Setup) → query.mode ≡ Exact → (matches query p ≡ true) ↔ ((p.board ≡ query.board) × (p.side ≡ query.side)) }

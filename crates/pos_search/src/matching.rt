@@ -12,8 +12,8 @@ use chess_laws::Position;
 use sig_index::{MatRange, Mode, PosQuery, Sig, can_come, can_stand, home_allows};
 use std::marker::Model;
 
-/// Whether a game with this signature can match: where it cannot, no ply of its main line matches. A home list has at most 16 values, each
-/// below 16.
+/// Whether a game with this signature can match: where it cannot, no ply of its main line matches, and no place of its variations where the
+/// query looks there. A home list has at most 16 values, each below 16.
 pub fn passes(s: &Sig, q: &PosQuery) -> bool
     requires home { IsHomeList s.now.home }
     ensures passes { result ≡ passes s.now q.now }
@@ -73,7 +73,17 @@ impl<'a> Sought<'a> {
         requires home { IsHomeList s.now.home }
         ensures passes { result ≡ passes s.now self.now }
     {
+        if self.query.vars && s.vars != 0 {
+            return true;
+        }
         can_stand(s, &self.range) && (!fixes_pawns(self.query.mode) || home_allows(s, self.homes))
+    }
+
+    // Whether variations are looked at too.
+    pub(crate) fn looks_aside(&self) -> bool
+        ensures aside { result ≡ self.now.vars }
+    {
+        self.query.vars
     }
 
     // Whether a position is one that is sought. The 64 squares are looked at only where the ten counts agree.

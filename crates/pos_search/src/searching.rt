@@ -16,8 +16,9 @@ use cell_core::Move;
 use game_filter::{Filter, Op};
 use sig_index::{FetchError, Games, PosQuery};
 
-/// The first ply at which game `i` matches, with the move after it, or `None` where it never does. `i` is below the number of games, and
-/// `buf` has 131,072 bytes. The game's record is read if it can match, and so many bytes count as asked.
+/// The first ply at which game `i` matches, with the move after it on the main line and none in a variation, or `None` where it never does.
+/// `i` is below the number of games, and `buf` has 131,072 bytes. The game's record is read if it can match, and so many bytes count as
+/// asked.
 pub fn hit<G: Games, F: Files>(
     games: &G,
     i: u32,

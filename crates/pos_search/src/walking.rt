@@ -1,17 +1,19 @@
 //! The walk over a record to its first match.
-ghost use Rattle.std.specs.Prelude.{◌≡◌, ◌^◌, ◌<◌, List, length, IfOk, IfErr};
+ghost use Rattle.std.specs.Prelude.{◌≡◌, ◌^◌, ◌<◌, ◌&&◌, List, length, IsTrue, IfOk, IfErr, option_map};
 ghost use Rattle.game_codec.specs.Record.{IsRecord, IsSomeRecord};
 ghost use Rattle.game_tree.specs.Game.{GameTree};
 ghost use Rattle.game_tree.specs.declared.head.Tag.{Tag};
-ghost use Rattle.pos_search.specs.Matching.{IsLegalFrom, hit_of};
+ghost use Rattle.pos_search.specs.Matching.{IsLegalFrom, hit_aside, hit_of, hit_on_main, matches};
+ghost use Rattle.pos_search.specs.Sought.{found_aside};
 
 use crate::matching::Sought;
 use cell_core::Move;
-use game_codec::{RecordFault, Walk};
+use game_codec::{AllWalk, RecordFault, Walk};
 use sig_index::PosQuery;
 
-/// The first ply of the main line of a record that matches, with the move after it, or `None` where none does. A record has fewer than 2^32
-/// bytes. No memory is taken, and the walk ends where no match can come. The fault comes only where the bytes are no record.
+/// The first ply of the main line of a record that matches, with the move after it; where none does and the query looks in variations, the
+/// ply of the first of their places that does, without a move; or `None` where nothing matches. A record has fewer than 2^32 bytes. No
+/// memory is taken, and the walk ends where no match can come. The fault comes only where the bytes are no record.
 pub fn first_match(bytes: &[u8], q: &PosQuery) -> Result<Option<(u32, Option<Move>)>, RecordFault>
     requires few { length bytes.now < 2 ^ 32 }
     ensures first { IfOk result (λ hit. (tags : List Tag) (game : GameTree) → IsRecord bytes.now tags game → hit ≡ hit_of q.now game) }
@@ -28,6 +30,79 @@ pub(crate) fn first_sought(
 ) -> Result<Option<(u32, Option<Move>)>, RecordFault>
     requires few { length bytes.now < 2 ^ 32 }
     ensures first { IfOk result (λ hit. (tags : List Tag) (game : GameTree) → IsRecord bytes.now tags game → hit ≡ hit_of q.now game) }
+    ensures legal { IfOk result (λ hit. IsLegalFrom q.now hit) }
+    ensures fault { IfErr result (λ _. IsSomeRecord bytes.now → ⊥) }
+{
+    if q.looks_aside() {
+        first_in_lines(bytes, q)
+    } else {
+        first_on_main(bytes, q)
+    }
+}
+
+// The same where variations are looked at too: the main line comes first, wherever its place stands.
+fn first_in_lines(bytes: &[u8], q: &Sought<'_>) -> Result<Option<(u32, Option<Move>)>, RecordFault>
+    requires few { length bytes.now < 2 ^ 32 }
+    requires aside { IsTrue q.now.vars }
+    ensures first { IfOk result (λ hit. (tags : List Tag) (game : GameTree) → IsRecord bytes.now tags game → hit ≡ hit_of q.now game) }
+    ensures legal { IfOk result (λ hit. IsLegalFrom q.now hit) }
+    ensures fault { IfErr result (λ _. IsSomeRecord bytes.now → ⊥) }
+{
+    let mut walk = AllWalk::new(bytes)?;
+    if q.matches(walk.position()) {
+        return first_on_main(bytes, q);
+    }
+    let mut found = None;
+    loop {
+        match walk.step() {
+            Ok(Some(_)) => {}
+            Ok(None) => return Ok(hit_aside(found)),
+            Err(fault) => return Err(fault),
+        }
+        if is_met(&walk, q) {
+            return first_on_main(bytes, q);
+        }
+        found = found_aside(found, &walk, q);
+    }
+}
+
+// Whether the walk is at a place of the main line that matches.
+fn is_met(walk: &AllWalk<'_>, q: &Sought<'_>) -> bool
+    ensures { result ≡ (walk.now.on_main && matches q.now walk.now.position) }
+{
+    walk.on_main() && q.matches(walk.position())
+}
+
+// The ply of the first place in a variation so far.
+fn found_aside(found: Option<u32>, walk: &AllWalk<'_>, q: &Sought<'_>) -> Option<u32>
+    ensures { result ≡ found_aside q.now found walk.now }
+{
+    match found {
+        Some(ply) => Some(ply),
+        None => {
+            if !walk.on_main() && q.matches(walk.position()) {
+                Some(walk.ply())
+            } else {
+                None
+            }
+        }
+    }
+}
+
+// The hit at such a place, which has no next move.
+fn hit_aside(found: Option<u32>) -> Option<(u32, Option<Move>)>
+    ensures { result ≡ option_map hit_aside found }
+{
+    match found {
+        Some(ply) => Some((ply, None)),
+        None => None,
+    }
+}
+
+// The first place of the main line.
+fn first_on_main(bytes: &[u8], q: &Sought<'_>) -> Result<Option<(u32, Option<Move>)>, RecordFault>
+    requires few { length bytes.now < 2 ^ 32 }
+    ensures first { IfOk result (λ hit. (tags : List Tag) (game : GameTree) → IsRecord bytes.now tags game → hit ≡ hit_on_main q.now game) }
     ensures legal { IfOk result (λ hit. IsLegalFrom q.now hit) }
     ensures fault { IfErr result (λ _. IsSomeRecord bytes.now → ⊥) }
 {

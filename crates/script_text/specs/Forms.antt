@@ -44,6 +44,10 @@ mode word =
     else if bytes_eq word (codes "material") then Some Material
     else None
 
+-- vars: variations are looked at too.
+abbrev pub vars : List ℕ → Option Bool
+vars word = if bytes_eq word (codes "vars") then Some true else None
+
 -- on or off.
 abbrev pub switch : List ℕ → Option Bool
 switch word =

@@ -1,6 +1,6 @@
 -- The one reading of a line: the command that it is, or its first fault (this project's own). The rows of the table are
 -- `searching` to `ending`: the word of each command and the forms of its arguments in their order.
-use Rattle.std.specs.Prelude.{ℕ, ◌-◌, ◌==◌, nat_lt, Bool, false, if◌then◌else◌, List, [], ◌∷◌, length, take, slice_index_or, Some, None, Result, Ok, Err, codes}
+use Rattle.std.specs.Prelude.{ℕ, ◌-◌, ◌==◌, nat_le, nat_lt, Bool, false, if◌then◌else◌, List, [], ◌∷◌, length, take, slice_index_or, Some, None, Result, Ok, Err, codes}
 use Rattle.std.specs.Str.{bytes_eq}
 use Rattle.chess_text.specs.Filling.{board_named}
 use Rattle.game_filter.specs.declared.op.Op.{Op}
@@ -12,7 +12,7 @@ use Rattle.script_text.specs.declared.fault.ScriptFault.TheVariants.{TooLong, Un
 use Rattle.script_text.specs.declared.forms.SearchKind.{SearchKind}
 use Rattle.script_text.specs.declared.forms.SearchKind.TheVariants as kind
 use Rattle.script_text.specs.Words.{Word, words_of}
-use Rattle.script_text.specs.Forms.{side, op, search_kind, mode, switch, mark_bit, filter_name, name_text, body_end}
+use Rattle.script_text.specs.Forms.{side, op, search_kind, mode, switch, vars, mark_bit, filter_name, name_text, body_end}
 use Rattle.script_text.specs.Numbers.{number, demo_games, twin_depth}
 use Rattle.script_text.specs.Arguments.{◌>>=◌, text_at, argument, no_more, one, two, three}
 use Rattle.script_text.specs.Items.{items}
@@ -25,14 +25,25 @@ abbrev pub made : {A : Type 0} → (A → Command) → Result A ScriptFault → 
 made make (Ok given) = Ok (make given)
 made make (Err fault) = Err fault
 
--- search OP position MODE BOARD SIDE
+-- The last word of a search of positions, vars, which may be left out.
+unfoldable pub aside_word : List Word → Result Bool ScriptFault
+aside_word words = do
+  aside ← argument 6 vars words
+  done ← no_more 6 words
+  Ok aside
+
+abbrev pub looks_aside : List Word → Result Bool ScriptFault
+looks_aside words =
+    if nat_le (length words) 6 then Ok false else aside_word words
+
+-- search OP position MODE BOARD SIDE, and the same with vars
 unfoldable pub search_position : Op → List Word → Result Command ScriptFault
 search_position operation words = do
   in_common ← argument 3 mode words
   board ← argument 4 board_named words
   to_move ← argument 5 side words
-  done ← no_more 5 words
-  Ok (SearchPosition operation (record { mode = in_common; board = board; side = to_move }))
+  aside ← looks_aside words
+  Ok (SearchPosition operation (record { mode = in_common; board = board; side = to_move; vars = aside }))
 
 -- search OP material ITEM .. and search OP header ITEM ..
 abbrev pub search_of : SearchKind → Op → List Word → Result Command ScriptFault

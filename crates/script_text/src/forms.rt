@@ -6,7 +6,7 @@ ghost use Rattle.std.specs.Bool.{OnTrue};
 ghost use Rattle.std.specs.Char.{is_ascii_alphanumeric};
 ghost use Rattle.chess_text.specs.Filling.{board_named};
 ghost use Rattle.cell_core.specs.Text.{IsZeroFree};
-ghost use Rattle.script_text.specs.Forms.{side, op, search_kind, mode, switch, answer, mark_bit, is_name_byte, filter_name, name_text, end_word, body_end};
+ghost use Rattle.script_text.specs.Forms.{side, op, search_kind, mode, switch, vars, answer, mark_bit, is_name_byte, filter_name, name_text, end_word, body_end};
 
 use cell_core::{Board, Colour};
 use chess_text::read_board;
@@ -26,7 +26,7 @@ pub(crate) fn board(word: &[u8]) -> Option<Board>
 /// What a search looks at.
 #[derive(Clone, Copy, Debug, PartialEq, Eq)]
 pub(crate) enum SearchKind {
-    /// The positions of the main line.
+    /// The positions of the main line, and of variations where asked.
     Position,
     /// The counts of men along the main line.
     Material,
@@ -59,6 +59,16 @@ pub(crate) fn op(word: &[u8]) -> Option<Op>
     }
     if word == b"or".as_slice() {
         return Some(Op::Or);
+    }
+    None
+}
+
+/// The word of a search of positions by which it looks in variations too: `vars`.
+pub(crate) fn vars(word: &[u8]) -> Option<bool>
+    ensures { result ≡ vars word.now }
+{
+    if word == b"vars".as_slice() {
+        return Some(true);
     }
     None
 }

@@ -3,7 +3,7 @@ ghost use Rattle.std.specs.Prelude.{◌≡◌, ◌≤◌, ◌<◌, length, IfOk,
 ghost use Rattle.cell_core.specs.Text.{IsZeroFree};
 ghost use Rattle.script_text.specs.Words.{Word, words_of};
 ghost use Rattle.script_text.specs.Answer.{Answers};
-ghost use Rattle.script_text.specs.Reading.{search, search_position, searching, filtering, saving_filters, showing, editing, ending, command_of, shorn, is_remark, reading};
+ghost use Rattle.script_text.specs.Reading.{aside_word, looks_aside, search, search_position, searching, filtering, saving_filters, showing, editing, ending, command_of, shorn, is_remark, reading};
 ghost use Rattle.script_text.specs.Sound.{IsSound};
 ghost use Rattle.script_text.specs.declared.fault.CommandError.TheVariants.{Memory};
 
@@ -13,7 +13,7 @@ use crate::arguments::{
 };
 use crate::command::Command;
 use crate::fault::{CommandError, ScriptFault};
-use crate::forms::{SearchKind, board, mode, op, search_kind, side};
+use crate::forms::{SearchKind, board, mode, op, search_kind, side, vars};
 use crate::items::{head_items, mat_items};
 use crate::tagging::tag;
 use crate::words::{Word, cut};
@@ -40,8 +40,37 @@ fn search_position(operation: Op, words: &[Word]) -> Result<Command, ScriptFault
     let mode = mode(text_at(words, 3)?).ok_or(ScriptFault::Argument(3))?;
     let board = board(text_at(words, 4)?).ok_or(ScriptFault::Argument(4))?;
     let side = side(text_at(words, 5)?).ok_or(ScriptFault::Argument(5))?;
-    no_more(words, 5)?;
-    Ok(Command::SearchPosition(operation, PosQuery { mode, board, side }))
+    let vars = looks_aside(words)?;
+    Ok(Command::SearchPosition(
+        operation,
+        PosQuery {
+            mode,
+            board,
+            side,
+            vars,
+        },
+    ))
+}
+
+// Whether a search of positions looks in variations too: its last word, which may be left out.
+fn looks_aside(words: &[Word]) -> Result<bool, ScriptFault>
+    ensures exact { result ≡ looks_aside words.now }
+{
+    if words.len() <= 6 {
+        Ok(false)
+    } else {
+        aside_word(words)
+    }
+}
+
+// That word.
+#[tactic(auto, unfolding(crate::specs::Reading::aside_word))]
+fn aside_word(words: &[Word]) -> Result<bool, ScriptFault>
+    ensures exact { result ≡ aside_word words.now }
+{
+    let aside = vars(text_at(words, 6)?).ok_or(ScriptFault::Argument(6))?;
+    no_more(words, 6)?;
+    Ok(aside)
 }
 
 // The arguments of a search.

@@ -204,7 +204,7 @@ const EDGES: [Row; 20] = [
     ("import <<a_b", Some(Argument(1))),
 ];
 
-const POSITIONS: [Row; 18] = [
+const POSITIONS: [Row; 20] = [
     ("search or position pawns 8/8/8/8/8/8/8/8 w", None),
     ("search and position material 8/8/8/8/8/8/8/8 b", None),
     ("search", Some(Argument(1))),
@@ -242,6 +242,14 @@ const POSITIONS: [Row; 18] = [
     ),
     (
         "search ignore position exact 8/8/8/8/8/8/8/8 w all",
+        Some(Argument(6)),
+    ),
+    (
+        "search ignore position exact 8/8/8/8/8/8/8/8 w \"vars",
+        Some(Argument(6)),
+    ),
+    (
+        "search ignore position exact 8/8/8/8/8/8/8/8 w vars vars",
         Some(Extra),
     ),
 ];
@@ -448,13 +456,13 @@ fn material(rt: HostRuntime) -> Result<(), Fail> {
 
 #[test]
 fn positions(rt: HostRuntime) -> Result<(), Fail> {
-    let line = b"search ignore position files 8/8/8/8/8/8/8/8 b";
+    let line = b"search ignore position files 8/8/8/8/8/8/8/8 b vars";
     let Command::SearchPosition(op, query) = read_command(rt.alloc(), line)? else {
         return Err(Fail::from("search"));
     };
     assert_eq!(rt; op, Op::Ignore);
     assert_eq!(rt; query.mode, Mode::Files);
-    assert_eq!(rt; query.side, Colour::Black);
+    assert_eq!(rt; (query.side, query.vars), (Colour::Black, true));
     Ok(())
 }
 

@@ -9,6 +9,7 @@ struct Row {
     mode: Mode,
     board: &'static [u8; 64],
     side: Colour,
+    vars: bool,
     first: Option<u32>,
 }
 
@@ -20,6 +21,7 @@ const START: Row = Row {
     mode: Mode::Exact,
     board: INITIAL,
     side: Colour::White,
+    vars: false,
     first: Some(0),
 };
 
@@ -102,6 +104,69 @@ const ROWS: [Row; 14] = [
     },
 ];
 
+// 1. Nf3 (1. Nc3) 1... Nf6 2. Ng1 Ng8 3. Nc3, and the position after each move of a knight to c3.
+const KNIGHTS: Row = Row {
+    record: b"\x00\x00\x67\x0d\x28\x0e\x61\x62\x68\x28\x0f",
+    board: b"R.BQKBNRPPPPPPPP..N.............................pppppppprnbqkbnr",
+    side: Colour::Black,
+    vars: true,
+    first: Some(5),
+    ..START
+};
+
+const VARIATIONS: [Row; 8] = [
+    // The main line comes first, also where it comes later.
+    KNIGHTS,
+    Row {
+        record: b"\x00\x00\x67\x0d\x28\x0e\x61\x62\x68\x0f",
+        first: Some(1),
+        ..KNIGHTS
+    },
+    Row {
+        record: b"\x00\x00\x67\x0d\x28\x0e\x61\x62\x68\x0f",
+        vars: false,
+        first: None,
+        ..KNIGHTS
+    },
+    // 1. e4 (1. d4 (1. c4) 1... d5) 1... e5: a variation of a variation, and behind it the first.
+    Row {
+        record: b"\x00\x00\xcf\x0d\xbf\x0d\xaf\x0e\xbf\x0e\xcf\x0f",
+        board: b"RNBQKBNRPP.PPPPP..........P.....................pppppppprnbqkbnr",
+        first: Some(1),
+        ..KNIGHTS
+    },
+    Row {
+        record: b"\x00\x00\xcf\x0d\xbf\x0d\xaf\x0e\xbf\x0e\xcf\x0f",
+        board: b"RNBQKBNRPPP.PPPP...........P.......p............ppp.pppprnbqkbnr",
+        side: Colour::White,
+        first: Some(2),
+        ..KNIGHTS
+    },
+    // 1. e4 e5 2. Nf3 (2. Nc3 Nc6): the plies before the variation count.
+    Row {
+        record: b"\x00\x00\xcf\xcf\x67\x0d\x28\x22\x0e\x0f",
+        board: b"R.BQKBNRPPPP.PPP..N.........P.......p.....n.....pppp.pppr.bqkbnr",
+        side: Colour::White,
+        first: Some(4),
+        ..KNIGHTS
+    },
+    // 1. e4 (1. -- d5): a null move.
+    Row {
+        record: b"\x00\x00\xcf\x0d\x00\xbf\x0e\x0f",
+        board: b"RNBQKBNRPPPPPPPP...................p............ppp.pppprnbqkbnr",
+        side: Colour::White,
+        first: Some(2),
+        ..KNIGHTS
+    },
+    // 1. e4 (1. e4 (1. e4 .. (1. d4))): the tenth open line.
+    Row {
+        record: b"\x00\x00\xcf\x0d\xcf\x0d\xcf\x0d\xcf\x0d\xcf\x0d\xcf\x0d\xcf\x0d\xcf\x0d\xcf\x0d\xbf\x0e\x0e\x0e\x0e\x0e\x0e\x0e\x0e\x0e\x0f",
+        board: b"RNBQKBNRPPP.PPPP...........P....................pppppppprnbqkbnr",
+        first: Some(1),
+        ..KNIGHTS
+    },
+];
+
 // The man of a letter of a placement.
 fn man(letter: u8) -> Option<Man> {
     let colour = if letter.is_ascii_uppercase() {
@@ -135,6 +200,7 @@ fn first_in(row: &Row) -> Option<(u32, Option<Move>)> {
         mode: row.mode,
         board: board(row.board),
         side: row.side,
+        vars: row.vars,
     };
     match first_match(row.record.split_at(row.record.len().min(2000)).0, &query) {
         Ok(hit) => hit,
@@ -146,6 +212,15 @@ fn first_in(row: &Row) -> Option<(u32, Option<Move>)> {
 fn first_matches_of_a_short_game(rt: HostRuntime) {
     assert!(rt;
         ROWS.iter()
+            .all(|row| first_in(row).map(|hit| hit.0) == row.first)
+    );
+}
+
+#[test]
+fn first_matches_in_variations(rt: HostRuntime) {
+    assert!(rt;
+        VARIATIONS
+            .iter()
             .all(|row| first_in(row).map(|hit| hit.0) == row.first)
     );
 }
@@ -186,6 +261,7 @@ fn can_have(own_start: bool, mode: Mode, letters: &[u8; 64]) -> bool {
             mode,
             board: board(letters),
             side: Colour::White,
+            vars: false,
         },
     )
 }
@@ -205,4 +281,24 @@ fn signatures_that_rule_a_game_out(rt: HostRuntime) {
     assert!(rt; can_have(false, Mode::Files, black_first));
     assert!(rt; can_have(false, Mode::Material, black_first));
     assert!(rt; can_have(true, Mode::Exact, black_first));
+}
+
+// Whether a game with that signature and so many variations can have a board on which d7 left before e2, in some line.
+fn can_have_aside(vars: u8) -> bool {
+    let sig = Sig { vars, ..EXCHANGE };
+    passes(
+        &sig,
+        &PosQuery {
+            mode: Mode::Exact,
+            board: board(b"RNBQKBNRPPPPPPPP...................p............ppp.pppprnbqkbnr"),
+            side: Colour::White,
+            vars: true,
+        },
+    )
+}
+
+#[test]
+fn games_with_variations_are_not_ruled_out(rt: HostRuntime) {
+    assert!(rt; can_have_aside(1));
+    assert!(rt; !can_have_aside(0));
 }

@@ -1,5 +1,5 @@
 -- The commands that search. This project's own.
-use Rattle.std.specs.Prelude.{ℕ, min, List, Option, map}
+use Rattle.std.specs.Prelude.{ℕ, min, false, List, Option, map}
 use Rattle.base_core.specs.Base.{Held}
 use Rattle.cell_core.specs.Board.{Men}
 use Rattle.cell_core.specs.declared.man.Colour.{Colour}
@@ -17,16 +17,16 @@ use Rattle.sig_index.specs.declared.pos_query.PosQuery.{PosQuery}
 use Rattle.shell_commands.specs.Lines.{filter_line, hits_text}
 use Rattle.shell_commands.specs.State.{State, games_of}
 
--- search OP position MODE BOARD SIDE
+-- search OP position MODE BOARD SIDE, and the same with vars
 abbrev pub search_position_after : State → Op → PosQuery → State
 search_position_after s op query = record s { filter = searched op (position.firsts_of query (games_of s)) s.filter }
 
 abbrev pub search_position_text : State → Op → PosQuery → List ℕ
 search_position_text s op query = filter_line (search_position_after s op query).filter
 
--- find BOARD SIDE: a search of all games for the board on all squares.
+-- find BOARD SIDE: a search of all main lines for the board on all squares.
 abbrev pub exactly : Men → Colour → PosQuery
-exactly board side = record { mode = Exact; board = board; side = side }
+exactly board side = record { mode = Exact; board = board; side = side; vars = false }
 
 abbrev pub find_after : State → Men → Colour → State
 find_after s board side = search_position_after s Ignore (exactly board side)

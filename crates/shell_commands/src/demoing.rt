@@ -222,5 +222,6 @@ fn at_start() -> PosQuery
         mode: Mode::Exact,
         board: *Position::start().board(),
         side: Colour::White,
+        vars: false,
     }
 }

@@ -45,6 +45,7 @@ pub(crate) fn find<F: Files, K: Sink>(
         mode: Mode::Exact,
         board: *board,
         side,
+        vars: false,
     };
     let block = machine.block.as_mut_slice();
     match search_games(
@@ -60,7 +61,7 @@ pub(crate) fn find<F: Files, K: Sink>(
     }
 }
 
-// search OP position MODE BOARD SIDE
+// search OP position MODE BOARD SIDE, and the same with vars
 pub(crate) fn search_position<F: Files, K: Sink>(
     alloc: Global,
     machine: &mut Machine,

@@ -52,6 +52,7 @@ pub(crate) fn tree<F: Files, K: Sink>(
         mode: Mode::Exact,
         board: *board,
         side,
+        vars: false,
     };
     let block = machine.block.as_mut_slice();
     match read_tree(alloc, &machine.base, &machine.filter, &query, files, block) {

@@ -14,10 +14,12 @@ pub enum Mode {
     Material,
 }
 
-/// What a search of positions asks: a position that has in common with `board` what `mode` says, with `side` to move.
+/// What a search of positions asks: a position that has in common with `board` what `mode` says, with `side` to move. With `vars` the
+/// variations are looked at too, where none of the main line is one.
 #[derive(Clone, Copy, Debug, PartialEq, Eq)]
 pub struct PosQuery {
     pub mode: Mode,
     pub board: Board,
     pub side: Colour,
+    pub vars: bool,
 }

@@ -3,7 +3,7 @@ use Rattle.game_codec.specs.Record.{IsRecord}
 use Rattle.game_tree.specs.Game.{GameTree}
 use Rattle.game_tree.specs.declared.head.Tag.{Tag}
 use Rattle.pos_search.proofs.WalkLemmas.{IsAt}
-use Rattle.pos_search.proofs.walking.first_sought.Given as goal
+use Rattle.pos_search.proofs.walking.first_on_main.Given as goal
 
 -- The walk is on these bytes, and in each game of which they are a record no ply before its own matches.
 abbrev pub invariant-loop-walk : goal.invariant-loop-walk
