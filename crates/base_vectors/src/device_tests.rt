@@ -1,40 +1,8 @@
 //! What no clause says: that the calls succeed with ample memory.
 
-use base_files::{
-    DeviceError, Files, Input, MemFiles, MemSink, MemSource, Part, Source, read_to_limit, write_all,
-};
+use base_files::{DeviceError, Input, MemSink, MemSource, Source, read_to_limit, write_all};
 use std::alloc::Global;
 use std::test::Fail;
-
-// Whether the part of the base has these bytes.
-fn has<F: Files>(
-    alloc: Global,
-    files: &mut F,
-    part: Part,
-    want: &[u8],
-) -> Result<bool, DeviceError> {
-    let bytes = files.load(alloc, part)?;
-    Ok(bytes.as_slice() == want)
-}
-
-#[test]
-fn files_in_memory(rt: HostRuntime) -> Result<(), Fail> {
-    let index = b"INDEX".to_vec(rt.alloc())?;
-    let games = b"abc".to_vec(rt.alloc())?;
-    let none_fail = Vec::new(rt.alloc());
-    let mut files = MemFiles::new(index, Vec::new(rt.alloc()), games, none_fail);
-    files.choose("any", false)?;
-    assert!(rt; has(rt.alloc(), &mut files, Part::Index, b"INDEX")?);
-    files.append_games(1, b"de")?;
-    assert_eq!(rt; files.games(), b"abc\0de".as_slice());
-    files.replace(Part::Names, b"new")?;
-    assert_eq!(rt; files.names(), b"new".as_slice());
-    files.begin_new()?;
-    files.append_new(1, b"f")?;
-    files.commit_new(b"N", b"I")?;
-    assert_eq!(rt; files.games(), b"\0f".as_slice());
-    Ok(())
-}
 
 #[test]
 fn an_endless_source_repeats_its_piece(rt: HostRuntime) -> Result<(), Fail> {

@@ -1,7 +1,5 @@
-//! Tests alone: devices in memory, and the blocks of a games file.
+//! Tests alone: devices in memory.
 #![tactic(auto)]
 
-#[cfg(test)]
-mod block_tests;
 #[cfg(test)]
 mod device_tests;
