@@ -2,8 +2,6 @@
 #![tactic(auto)]
 
 #[cfg(test)]
-mod board_tests;
-#[cfg(test)]
 mod fen_tests;
 #[cfg(test)]
 mod packed_move_tests;
