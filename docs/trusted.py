@@ -1,0 +1,232 @@
+#!/usr/bin/env python3
+"""docs/trusted.py: what the theorem of the program rests on.
+
+It follows the contract of `session`, and those of the traits that it is over, through the definitions of specs/: each that their clauses name,
+each that these name, and so on. A name of the toolchain's library or of a type of the code ends a path.
+
+Usage: docs/trusted.py            how many definitions of each crate, and how many lines they have
+       docs/trusted.py --files    the same of each file, with the names
+
+docs/check.py looks whether docs/TRUSTED.md lists these files, and those that the other public clauses cite."""
+import pathlib
+import re
+import sys
+
+TOP = pathlib.Path(__file__).resolve().parent.parent
+PAGE = "docs/TRUSTED.md"
+PRIVATE = "No public contract cites these words"
+FIRST, SECOND = "What the theorem of `session` rests on", "What the crates' other clauses cite"
+THEOREM = [
+    ("shell_session", "run.rt", "pub fn session"),
+    ("base_files", "files.rt", "pub trait Files"),
+    ("base_files", "source.rt", "pub trait Source"),
+    ("base_files", "sink.rt", "pub trait Sink"),
+]
+WORD = re.compile(r"[^\W\d][\w'-]*(?:\.[^\W\d][\w'-]*)*")
+USE = re.compile(r"^\s*(?:ghost )?use (Rattle\.[\w.+]+?)(?:\.\{([^}]*)\})?(?: as (\w+))?;?$", flags=re.M)
+HEAD = re.compile(r"(?:(?:pub|abbrev|unfoldable|record|data) )*(mutual$|[^\s:={}()]+(?= [^=]*: ))")
+INNER = re.compile(r"^\s+(?:pub )?([^\s:={}()]+) : ", flags=re.M)
+OWNER = re.compile(r"(?:impl(?:<[^>]*>)? ([\w<>, ]+ for )?|(pub trait ))(\w+)")
+SEEN = re.compile(r"\s+ghost (?:view|Value|from_gives)\b")
+FUNCTION = re.compile(r"^\s*(pub(?:\(\w+\))? )?(?:const )?fn (\w+)")
+
+
+def sources(folder, ending):
+    return sorted(it for it in (TOP / "crates").glob(f"*/{folder}/**/*{ending}"))
+
+
+def crate_of(path):
+    return path.parts[path.parts.index("crates") + 1]
+
+
+def taken(text):
+    """What a file names of others: each word that it takes, as module and name, and each module that it has a short name for."""
+    words, modules = {}, {}
+    for module, items, short in USE.findall(text):
+        if not items:
+            modules[short or module.split(".")[-1]] = module
+        for item in filter(None, (it.strip() for it in items.split(","))):
+            name, _, other = item.partition(" as ")
+            words[other.strip() or name] = (module, name.strip())
+    return words, modules
+
+
+class Definitions:
+    """A file of specs/: its definitions by name, each as its lines without comments. Those of one `mutual` are one, and so are a type and
+    its constructors."""
+
+    def __init__(self, path):
+        self.path, self.text = path, path.read_text()
+        self.words, self.modules = taken(self.text)
+        self.blocks, self.block_of = [], {}
+        for line in self.text.splitlines():
+            if not line.strip() or re.match(r"\s*--|use ", line):
+                continue
+            head = HEAD.match(line)
+            if head and not line[0].isspace():
+                self.blocks.append([])
+                self.block_of.setdefault(head[1], len(self.blocks) - 1)
+            if self.blocks:
+                self.blocks[-1].append(line)
+        for number, lines in enumerate(self.blocks):
+            if " record " in f" {lines[0]}":
+                continue
+            for name in INNER.findall("\n".join(lines[1:])):
+                self.block_of.setdefault(name, number)
+
+
+def read_all():
+    """Every file of specs/, by its module."""
+    return {f"Rattle.{crate_of(it)}.specs.{it.stem}": Definitions(it) for it in sources("specs", ".antt")}
+
+
+def named(text, words, modules, files, own=None):
+    """The definitions that a text names, as module and number. The name of a clause is none of them."""
+    for word in set(WORD.findall(re.sub(r"\b(ensures|requires) \w+ \{", "{", text))):
+        first, _, rest = word.partition(".")
+        if own and first in files[own].block_of:
+            yield own, files[own].block_of[first]
+            continue
+        module, name = words.get(first, (modules.get(first), rest.split(".")[0]))
+        if module in files and name in files[module].block_of:
+            yield module, files[module].block_of[name]
+
+
+def reached(roots, files):
+    """All that these definitions rest on, themselves among them, each with the one that led to it."""
+    found, ahead = dict(roots), list(roots)
+    while ahead:
+        module, number = at = ahead.pop()
+        here = files[module]
+        for further in named("\n".join(here.blocks[number]), here.words, here.modules, files, module):
+            if further not in found:
+                found[further] = at
+                ahead.append(further)
+    return found
+
+
+def clauses_of(text, head):
+    """The clauses of a function or of a trait's functions."""
+    begin = text.index(head)
+    return text[begin : text.index("\n{" if " fn " in head else "\n}", begin)]
+
+
+def of_theorem(files):
+    """All that the theorem rests on."""
+    roots = {}
+    for crate, name, head in THEOREM:
+        path = TOP / "crates" / crate / "src" / name
+        text = path.read_text()
+        roots.update({it: path for it in named(clauses_of(text, head), *taken(text), files)})
+    return reached(roots, files)
+
+
+def exported(crate):
+    """The names that a crate hands out: what its root brings out of its modules. None is a program, of which all counts."""
+    root = TOP / "crates" / crate / "src/lib.rt"
+    if not root.exists():
+        return None
+    return {word for words in re.findall(r"pub use \w+::\{?([^;}]+)", root.read_text()) for word in re.findall(r"\w+", words)}
+
+
+def public_clauses(path):
+    """The clauses of the functions of a source file that the crate hands out, of the methods of such types, and what such types are seen as."""
+    out, owner, of_trait, inside, clauses = exported(crate_of(path)), None, False, False, []
+    for line in path.read_text().splitlines():
+        block = OWNER.match(line)
+        if block:
+            owner, of_trait = block[3], bool(block[1] or block[2])
+        elif line == "}":
+            owner, of_trait = None, False
+        head = FUNCTION.match(line)
+        if head:
+            inside = out is None or ((owner or head[2]) in out and (head[1] == "pub " or of_trait))
+        if line.rstrip().endswith("{") and (head or line.strip() == "{"):
+            inside = False
+        elif inside and not head or (out and owner in out and SEEN.match(line)):
+            clauses.append(line)
+    return "\n".join(clauses)
+
+
+def of_clauses(files):
+    """All that public clauses rest on."""
+    roots = {}
+    for path in sources("src", ".rt"):
+        roots.update({it: path for it in named(public_clauses(path), *taken(path.read_text()), files)})
+    return reached(roots, files)
+
+
+def listed():
+    """The files of each list of the page, in their order, each with the number of its line."""
+    lists, files, crate = {FIRST: [], SECOND: []}, None, None
+    for number, line in enumerate((TOP / PAGE).read_text().splitlines(), 1):
+        if line.startswith("## "):
+            files = lists.get(line[3:])
+        elif line.startswith("### "):
+            crate = line[4:].strip("`")
+        elif line.startswith("| `") and files is not None:
+            for name in re.findall(r"`(?:specs/)?([\w/]+)\.antt`", line.split("|")[1]):
+                files.append((f"Rattle.{crate}.specs.{name}", number))
+    return lists
+
+
+def faults():
+    """What docs/TRUSTED.md lists and should not, or should and does not, and which definitions say that nobody cites them, and somebody does."""
+    files = read_all()
+    theorem, clauses = of_theorem(files), of_clauses(files)
+    first = {module for module, _ in theorem}
+    second = {module for module, _ in clauses} - first
+    lists = listed()
+    for name, wanted in ((FIRST, first), (SECOND, second)):
+        there = [module for module, _ in lists[name]]
+        for module, number in lists[name]:
+            if module not in files:
+                yield f"{PAGE}:{number}: there is no {module}"
+            elif module not in wanted or there.count(module) > 1:
+                yield f"{PAGE}:{number}: {module} does not belong there, or stands there twice"
+        for module in sorted(wanted - set(there)):
+            yield f"{PAGE}: {module} is missing under '{name}'"
+    yield from out_of_order(lists[FIRST], theorem, files)
+    yield from cited_private_words(files, {**clauses, **theorem})
+
+
+def out_of_order(rows, theorem, files):
+    """Files of the first list that stand before one that they name."""
+    line_of = dict(rows)
+    for module, number in sorted(theorem):
+        here = files[module]
+        for other, _ in named("\n".join(here.blocks[number]), here.words, here.modules, files, module):
+            if line_of.get(other, 0) > line_of.get(module, sys.maxsize):
+                yield f"{PAGE}:{line_of[module]}: {module} stands before {other}, which it names"
+
+
+def cited_private_words(files, cited):
+    private = {module for module, file in files.items() if PRIVATE in " ".join(file.text.split("\n")[:3])}
+    for module, number in sorted(cited, key=str):
+        if module in private:
+            name = next(name for name, block in files[module].block_of.items() if block == number)
+            yield f"{module} says that no public contract cites its words, and one rests on {name}"
+
+
+def main():
+    files = read_all()
+    theorem = of_theorem(files)
+    by_file = {}
+    for module, number in theorem:
+        by_file.setdefault(module, set()).add(number)
+    lines = {module: sum(len(files[module].blocks[it]) for it in numbers) for module, numbers in by_file.items()}
+    order = [module for module, _ in listed()[FIRST] if module in by_file]
+    if "--files" in sys.argv[1:]:
+        for module in [*order, *sorted(set(by_file) - set(order))]:
+            names = [name for name, block in files[module].block_of.items() if block in by_file[module]]
+            print(f"{lines[module]:5} lines, {len(by_file[module])} of {len(files[module].blocks)} definitions: {module[7:]}: {' '.join(names)}")
+    else:
+        for crate in sorted({module.split(".")[1] for module in by_file}):
+            own = [module for module in by_file if module.split(".")[1] == crate]
+            print(f"{crate:16} {sum(len(by_file[it]) for it in own):5} definitions, {sum(lines[it] for it in own):5} lines, {len(own):3} files")
+    every = sum(len(block) for file in files.values() for block in file.blocks)
+    print(f"session: {len(theorem)} definitions, {sum(lines.values())} lines of {every} in specs/, in {len(by_file)} of {len(files)} files")
+
+
+if __name__ == "__main__":
+    main()
