@@ -59,6 +59,7 @@ long lo plies ply all sig from within is = elim (cases_lt all 1023) [
 
 stands : (range : MatRange) (game : GameTree) (sig : Sig) (ply plies : ℕ) → 1 ≤ plies → Sound game.start → IsLegalGame game → IsSig game sig
     → Begins range game ply plies → can_be_in sig range ≡ true
+unfolding can_be_in
 stands range game sig ply plies some sound legal is streak =
     and_from (can_stand sig range) (can_have sig range)
     (skipping_sound game sig range ply sound legal is (omega (arith, streak.within, some)) (at_most range (counts_at game ply) streak.here))

@@ -12,7 +12,7 @@ abbrev pub is_long : Sig → MatQuery → Bool
 is_long sig query = nat_le (query.ply_lo + query.streak - 1) sig.plies || (sig.plies == 1023)
 
 -- The counts can have stood in the range: at most its greatest, and at least its least.
-abbrev pub can_be_in : Sig → MatRange → Bool
+unfoldable pub can_be_in : Sig → MatRange → Bool
 can_be_in sig range = can_stand sig range && can_have sig range
 
 -- They can have stood in the query's range, or with `swap` in the exchanged one.

@@ -26,10 +26,18 @@ fn is_long(s: &Sig, q: &MatQuery) -> bool
 fn can_match(s: &Sig, q: &MatQuery) -> bool
     ensures { result ≡ can_match s.now q.now }
 {
-    can_be_in(s, &q.range) || q.swap && can_be_in(s, &exchanged(&q.range))
+    can_be_in(s, &q.range) || q.swap && can_be_in_exchanged(s, &q.range)
+}
+
+// The same of the range with the colours exchanged.
+fn can_be_in_exchanged(s: &Sig, range: &MatRange) -> bool
+    ensures { result ≡ can_be_in s.now (exchanged range.now) }
+{
+    can_be_in(s, &exchanged(range))
 }
 
 // Whether the counts can have stood in the range.
+#[tactic(auto, unfolding(crate::specs::Passing::can_be_in))]
 fn can_be_in(s: &Sig, range: &MatRange) -> bool
     ensures { result ≡ can_be_in s.now range.now }
 {

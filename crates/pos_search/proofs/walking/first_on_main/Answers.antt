@@ -1,7 +1,7 @@
 use Rattle.std.proofs.Common.{◌≡◌, ℕ, true, false, List, Some, sym, ap, subst, ◌∙◌, rules}
 use Rattle.std.proofs.lemmas.Bool.{not-true}
 use Rattle.chess_laws.specs.Position.{Sound}
-use Rattle.game_codec.specs.Record.{IsRecord}
+use Rattle.game_codec.specs.Record.{IsRecord, IsSomeRecord}
 use Rattle.game_tree.specs.Replay.{position_at}
 use Rattle.sig_index.proofs.RecordLemmas.{game_legal, game_sound, no_next}
 use Rattle.pos_search.specs.Matching.{matches, matches_at}
@@ -64,3 +64,9 @@ loop-walk-preserved c =
           ap (matches q) (sym (c.position.ensures.replay tags game on)) ∙ (sym c.matches.ensures.matches ∙ c.if-matches.false) in
           at_next q game c.loop-walk.walk.ply _ (c.loop-walk.invariant.at tags game is) other played.1.0;
     }
+
+pub returns-in-Err-clause-fault : goal.returns-in-Err-clause-fault
+returns-in-Err-clause-fault c = λ some. c.in-Err.ensures.fault (subst IsSomeRecord (sym c.loop-walk.invariant.bytes) some)
+
+pub returns-in-Err-step-clause-fault : goal.returns-in-Err-step-clause-fault
+returns-in-Err-step-clause-fault c = λ some. c.in-Err-step.ensures.fault (subst IsSomeRecord (sym c.loop-walk.invariant.bytes) some)
