@@ -29,7 +29,7 @@ unfolding set_of
 bit-set_of test none men i = bit_mask_l (map test men) i ∙ ap (λ b. cond b 1 0) (test-at test none men i)
 
 -- a word with these bits is the set
-set-is : (test : Option Man → Bool) → test None ≡ false → (men : Men) (word : ℕ) → ((i : ℕ) → bit_at word i ≡ cond (test (man_at men i)) 1 0) → word ≡ set_of test men
+pub set-is : (test : Option Man → Bool) → test None ≡ false → (men : Men) (word : ℕ) → ((i : ℕ) → bit_at word i ≡ cond (test (man_at men i)) 1 0) → word ≡ set_of test men
 set-is test none men word bits = same_from_bits word (set_of test men) (λ i. bits i ∙ sym (bit-set_of test none men i))
 
 -- a square is emptied

@@ -1,7 +1,7 @@
 //! The board of 64 squares.
 ghost use Rattle.std.specs.Prelude.{◌≡◌, ◌↔◌, ◌<◌, IsTrue, None, is_some, replicate, length};
 ghost use Rattle.cell_core.specs.Board.{man_at, put, same_men};
-ghost use Rattle.cell_core.specs.Sets.{set_of, sets_of};
+ghost use Rattle.cell_core.specs.Sets.{is_kind, set_of, sets_of};
 ghost use Rattle.cell_core.specs.Man.{is_man, is_of};
 
 use super::man::{Colour, Kind, Man};
@@ -111,6 +111,13 @@ impl Board {
         ensures on_board { length self.now ≡ 64 }
     {
         self.sets.of_colour(colour)
+    }
+
+    /// The squares of the men of this kind: the square `s` is the bit `s`.
+    pub fn of_kind(&self, kind: Kind) -> u64
+        ensures squares { result ≡ set_of (is_kind kind) self.now }
+    {
+        self.sets.of_kind(kind)
     }
 
     /// The squares on which a man stands: the square `s` is the bit `s`.

@@ -1,13 +1,13 @@
 //! The board packed into four words, both ways.
-ghost use Rattle.std.specs.Prelude.{◌≡◌, ◌+◌, ◌*◌, ◌<◌, ◌≤◌, ◌^◌, length, slice_index, take, drop};
-ghost use Rattle.cell_core.specs.Packed.{man_of, men_of, nibble_of, packed_of, word_of};
+ghost use Rattle.std.specs.Prelude.{◌≡◌, ◌<◌, length};
+ghost use Rattle.cell_core.specs.Packed.{cells_of, man_of, men_of, nibble_at, packed_of};
 
 use super::board::Board;
 use super::man::{Colour, Kind, Man};
 use std::marker::Model;
 
-/// A board and the side to move in four words: what stands on a square in four bits, two ranks in a word, the lowest square
-/// in the lowest bits. Two packed boards are equal exactly where their boards and their sides are.
+/// A board and the side to move in four words: what stands on a square in four bits, one in each word, at the bit of the
+/// square. Two packed boards are equal exactly where their boards and their sides are.
 #[derive(Clone, Copy, Debug, PartialEq, Eq, PartialOrd, Ord, Hash)]
 pub struct PackedBoard {
     cells: [u64; 4],
@@ -31,24 +31,26 @@ pub fn pack(board: &Board, side: Colour) -> PackedBoard
     ensures packed { result ≡ packed_of board.now side }
     ensures given_back { men_of result.cells ≡ board.now }
 {
-    let men = board.cells();
     PackedBoard {
-        cells: [word(men, 0), word(men, 16), word(men, 32), word(men, 48)],
+        cells: words(board),
         side,
     }
 }
 
-/// The word of the sixteen squares from this one on.
-fn word(men: &[Option<Man>; 64], first: usize) -> u64
-    requires squares { length men.now ≡ 64 }
-    requires first { first ≤ 48 }
-    ensures word { result ≡ word_of (take 16 (drop first men.now)) }
+/// The words of a board: a word for each bit of the kinds' numbers, which count from one here, and one for Black.
+fn words(board: &Board) -> [u64; 4]
+    ensures words { result ≡ cells_of board.now }
+    ensures squares { length board.now ≡ 64 }
 {
-    let mut word = 0u64;
-    for left in 0..16usize {
-        word = 16 * word + u64::from(nibble(men[first + 15 - left]));
-    }
-    word
+    let rooks = board.of_kind(Kind::Rook);
+    let knights = board.of_kind(Kind::Knight);
+    let pawns = board.of_kind(Kind::Pawn);
+    [
+        board.of_kind(Kind::King) | rooks | knights,
+        board.of_kind(Kind::Queen) | rooks | pawns,
+        board.of_kind(Kind::Bishop) | knights | pawns,
+        board.of_colour(Colour::Black),
+    ]
 }
 
 /// The board and the side to move of a packed board; `pack` gives the packed board back.
@@ -58,29 +60,21 @@ pub fn unpack(packed: &PackedBoard) -> (Board, Colour)
     ensures given_back { packed_of result.0 result.1 ≡ packed.now }
 {
     let mut men = [None; 64];
-    for i in 0..4usize {
-        let mut word = packed.cells[i];
-        for j in 0..16usize {
-            men[16 * i + j] = man((word % 16) as u8);
-            word /= 16;
-        }
+    for s in 0..64u8 {
+        men[s as usize] = man(nibble(&packed.cells, s));
     }
     (Board::from_cells(men), packed.side)
 }
 
-/// The nibble of what stands on a square.
-fn nibble(man: Option<Man>) -> u8
-    ensures number { result ≡ nibble_of man }
-    ensures small { result ≤ 12 }
+/// The nibble of a square.
+#[tactic(auto, unfolding(crate::specs::Packed::nibble_at))]
+fn nibble(words: &[u64; 4], s: u8) -> u8
+    requires { s < 64 }
+    ensures { result ≡ nibble_at words.now s }
 {
-    let Some(man) = man else {
-        return 0;
-    };
-    let first = match man.colour {
-        Colour::White => 1,
-        Colour::Black => 7,
-    };
-    first + man.kind as u8
+    let low = (words[0] >> s) % 2 + 2 * ((words[1] >> s) % 2);
+    let high = 4 * ((words[2] >> s) % 2) + 8 * ((words[3] >> s) % 2);
+    (low + high) as u8
 }
 
 /// What stands on a square with this nibble.
@@ -95,12 +89,12 @@ fn man(nibble: u8) -> Option<Man>
         4 => occupied(Colour::White, Kind::Bishop),
         5 => occupied(Colour::White, Kind::Knight),
         6 => occupied(Colour::White, Kind::Pawn),
-        7 => occupied(Colour::Black, Kind::King),
-        8 => occupied(Colour::Black, Kind::Queen),
-        9 => occupied(Colour::Black, Kind::Rook),
-        10 => occupied(Colour::Black, Kind::Bishop),
-        11 => occupied(Colour::Black, Kind::Knight),
-        12 => occupied(Colour::Black, Kind::Pawn),
+        9 => occupied(Colour::Black, Kind::King),
+        10 => occupied(Colour::Black, Kind::Queen),
+        11 => occupied(Colour::Black, Kind::Rook),
+        12 => occupied(Colour::Black, Kind::Bishop),
+        13 => occupied(Colour::Black, Kind::Knight),
+        14 => occupied(Colour::Black, Kind::Pawn),
         _ => None,
     }
 }
