@@ -1,6 +1,8 @@
 -- A board packed into words: this project's own form, in which boards are compared and hashed.
-use Rattle.std.specs.Prelude.{ℕ, Bool, ◌+◌, ◌*◌, ◌==◌, ◌≡◌, List, [], ◌∷◌, map, Option, Some, None, slice_index_or}
+use Rattle.std.specs.Prelude.{ℕ, Bool, ◌+◌, ◌*◌, ◌==◌, ◌≡◌, List, [], ◌∷◌, ◌++◌, map, Option, Some, None, slice_index_or}
 use Rattle.std.specs.List.{range_with_len}
+use Rattle.std.specs.Hash as fed
+use Rattle.std.specs.Hash.{HashWrites}
 use Rattle.std.specs.Int.{bit_at}
 use Rattle.cell_core.specs.declared.man.Colour.{Colour}
 use Rattle.cell_core.specs.declared.man.Colour.TheVariants.{White, Black}
@@ -74,3 +76,12 @@ packed_of men to_move = record { cells = cells_of men; side = to_move }
 -- Four words that stand for squares: they are the words of these.
 abbrev pub ArePacked : List ℕ → Type 0
 ArePacked cells = cells_of (men_of cells) ≡ cells
+
+-- What is hashed of four words: two numbers of 128 bits, each of two words with the lower half first.
+abbrev pub joined : ℕ → ℕ → ℕ
+joined low high = low + high * 18446744073709551616
+
+abbrev pub hash_writes : List ℕ → HashWrites
+hash_writes cells =
+    fed.u128 (joined (slice_index_or cells 0 0) (slice_index_or cells 1 0))
+    ++ fed.u128 (joined (slice_index_or cells 2 0) (slice_index_or cells 3 0))

@@ -1,14 +1,15 @@
 //! The board packed into four words, both ways.
 ghost use Rattle.std.specs.Prelude.{◌≡◌, ◌<◌, length};
-ghost use Rattle.cell_core.specs.Packed.{cells_of, man_of, men_of, nibble_at, packed_of};
+ghost use Rattle.cell_core.specs.Packed.{cells_of, joined, man_of, men_of, nibble_at, packed_of};
 
 use super::board::Board;
 use super::man::{Colour, Kind, Man};
+use std::hash::{Hash, Hasher};
 use std::marker::Model;
 
 /// A board and the side to move in four words: what stands on a square in four bits, one in each word, at the bit of the
 /// square. Two packed boards are equal exactly where their boards and their sides are.
-#[derive(Clone, Copy, Debug, PartialEq, Eq, PartialOrd, Ord, Hash)]
+#[derive(Clone, Copy, Debug, PartialEq, Eq, PartialOrd, Ord)]
 pub struct PackedBoard {
     cells: [u64; 4],
     side: Colour,
@@ -24,6 +25,29 @@ impl Model for PackedBoard {
     ghost invariant = { λ p. ArePacked p.cells };
 
     ghost inverse = { λ p. record { cells = p.cells; side = p.side } };
+}
+
+/// A hash is made of the words, in two writes: the two sides to move of a board hash the same.
+impl Hash for PackedBoard {
+    ghost use Rattle.std.specs.Cmp.Rules.{hashing};
+    ghost use borrow.Author.Rules.{rules};
+    ghost use Rattle.cell_core.specs.Packed.{hash_writes};
+
+    ghost hash_input = { λ p. hash_writes p.cells };
+
+    ghost respects_eq = { Prim.search (hashing, rules) };
+
+    fn hash<H: Hasher>(&self, state: &mut H) {
+        state.write_u128(joined(self.cells[0], self.cells[1]));
+        state.write_u128(joined(self.cells[2], self.cells[3]));
+    }
+}
+
+/// Two words as one, the first being the lower half.
+fn joined(low: u64, high: u64) -> u128
+    ensures { result ≡ joined low high }
+{
+    low as u128 + ((high as u128) << 64)
 }
 
 /// Packs a board and the side to move; `unpack` gives them back.

@@ -1,18 +1,21 @@
 //! Which moves are legal.
-ghost use Rattle.std.specs.Prelude.{◌≡◌, ◌↔◌, ◌&&◌, IsTrue, false};
+ghost use Rattle.std.specs.Prelude.{◌≡◌, ◌↔◌, ◌&&◌, IsTrue, Some, false};
 ghost use Rattle.std.specs.Bool.{OnTrue};
+ghost use Rattle.cell_core.specs.Board.{man_at};
+ghost use Rattle.cell_core.specs.Man.{man};
 ghost use Rattle.chess_laws.specs.LegalTests.{IsOnlyKing, is_calm, king_after};
 ghost use Rattle.chess_laws.specs.Attacks.{IsInCheck};
+ghost use Rattle.chess_laws.specs.declared.effect.Effect.TheVariants.{Plain};
 ghost use Rattle.chess_laws.specs.Rays.{Covers, Shut};
 ghost use Rattle.chess_laws.specs.Position.{Sound};
 ghost use Rattle.chess_laws.specs.Step.{board_after, effect_of, Case, Legal};
 
 use super::attack::opens;
-use super::cases::{is_allowed, is_in_check};
+use super::cases::{is_allowed, is_in_check, is_plain_of};
 use super::effect::Effect;
 use super::next::{change_board, effect_of};
 use super::setup::Setup;
-use cell_core::{Move, Square};
+use cell_core::{Kind, Move, Square};
 
 /// Whether the move is legal for the side to move, whose king stands on this square and is in check or not.
 pub fn is_legal(p: &Setup, king: Square, checked: bool, m: &Move) -> bool
@@ -34,6 +37,23 @@ pub fn is_legal_as(p: &Setup, king: Square, checked: bool, m: &Move, effect: Eff
 {
     let shut = is_shut(p, king, checked, m.from);
     is_legal_from(p, king, shut, m, effect)
+}
+
+/// Whether the move is legal, which is a plain one of the mover's man of this kind.
+#[inline(always)]
+pub fn is_legal_plain(p: &Setup, king: Square, checked: bool, kind: Kind, m: &Move) -> bool
+    requires sound { Sound p.now }
+    requires king { IsOnlyKing p.now.board p.now.side king }
+    requires check { IsTrue checked ↔ IsInCheck p.now.board p.now.side }
+    requires stands { man_at p.now.board m.now.from ≡ Some (man p.now.side kind) }
+    requires effect { Plain ≡ effect_of p.now m.now }
+    ensures { IsTrue result ↔ Legal p.now m.now }
+{
+    if !is_plain_of(p, kind, m) {
+        return false;
+    }
+    let shut = is_shut(p, king, checked, m.from);
+    is_legal_allowed(p, king, shut, m, Effect::Plain)
 }
 
 /// Whether the mover's king is safe after each calm move from this square.
@@ -71,6 +91,7 @@ pub fn is_legal_allowed(p: &Setup, king: Square, shut: bool, m: &Move, effect: E
 }
 
 // Whether the mover's king is safe on the board after an allowed move.
+#[inline(never)]
 fn is_safe_after(p: &Setup, king: Square, m: &Move, effect: Effect) -> bool
     requires sound { Sound p.now }
     requires king { IsOnlyKing p.now.board p.now.side king }

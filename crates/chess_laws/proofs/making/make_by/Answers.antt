@@ -9,7 +9,7 @@ use Rattle.std.specs.Bool.{OnFalse}
 use Rattle.chess_laws.specs.Counts.{counts_of}
 use Rattle.chess_laws.proofs.Counting.{counts-after}
 use Rattle.chess_laws.proofs.Opening.{check-told}
-use Rattle.chess_laws.proofs.making.make.Goals as goal
+use Rattle.chess_laws.proofs.making.make_by.Goals as goal
 
 pub returns-clause-check : goal.returns-clause-check
 returns-clause-check c =
