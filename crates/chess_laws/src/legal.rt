@@ -57,6 +57,7 @@ pub fn is_legal_plain(p: &Setup, king: Square, checked: bool, kind: Kind, m: &Mo
 }
 
 /// Whether the mover's king is safe after each calm move from this square.
+#[inline(always)]
 pub fn is_shut(p: &Setup, king: Square, checked: bool, from: Square) -> bool
     requires check { IsTrue checked ↔ IsInCheck p.now.board p.now.side }
     ensures { OnTrue result (Shut p.now king from) }
@@ -79,6 +80,7 @@ pub fn is_legal_from(p: &Setup, king: Square, shut: bool, m: &Move, effect: Effe
 }
 
 /// Whether the move, which is of this kind and allowed by its rules, is legal, where the square it leaves may be shut.
+#[inline(always)]
 pub fn is_legal_allowed(p: &Setup, king: Square, shut: bool, m: &Move, effect: Effect) -> bool
     requires sound { Sound p.now }
     requires king { IsOnlyKing p.now.board p.now.side king }
@@ -112,6 +114,7 @@ pub fn king_after(king: Square, m: &Move) -> Square
 }
 
 // Whether the mover's king is safe after the move without a look at the board after it.
+#[inline(always)]
 fn stays_safe(shut: bool, effect: Effect) -> bool
     ensures { result ≡ (shut && is_calm effect) }
 {
@@ -119,6 +122,7 @@ fn stays_safe(shut: bool, effect: Effect) -> bool
 }
 
 // Whether the move changes two squares alone, where it begins and where it ends.
+#[inline(always)]
 pub fn is_calm(effect: Effect) -> bool
     ensures { result ≡ is_calm effect }
 {
@@ -129,6 +133,7 @@ pub fn is_calm(effect: Effect) -> bool
 }
 
 // Whether the mover's king is what leaves this square, or is open to an attack when another man leaves it.
+#[inline(always)]
 fn uncovers(p: &Setup, king: Square, from: Square) -> bool
     ensures { result ≡ false → Covers p.now king from }
 {
