@@ -5,7 +5,6 @@ ghost use Rattle.cell_core.specs.Board.{man_at};
 ghost use Rattle.cell_core.specs.Man.{other};
 ghost use Rattle.chess_laws.specs.Attacks.{Attacks, IsInCheck};
 ghost use Rattle.chess_laws.specs.Counts.{counts_of, fewer};
-ghost use Rattle.chess_laws.specs.declared.effect.Effect.TheVariants.{Plain};
 ghost use Rattle.chess_laws.specs.Keeps.{in_check};
 ghost use Rattle.chess_laws.specs.LegalTests.{is_calm, takes_target};
 ghost use Rattle.chess_laws.specs.Position.{Sound, king_square};
@@ -17,7 +16,7 @@ use super::cases::reaches;
 use super::census::{self, count_out};
 use super::effect::Effect;
 use super::legal::is_calm;
-use super::next::{change, change_plain};
+use super::next::{change, change_calm};
 use super::setup::Setup;
 use cell_core::{Board, Colour, Man, Move, Square};
 
@@ -42,58 +41,28 @@ pub fn make(
     ensures check { result ≡ in_check p.new }
     ensures census { counts.new ≡ counts_of p.new.board }
 {
-    if let Effect::Plain = effect {
-        if let Some(man) = standing {
-            return make_plain(p, counts, m, man, resting);
-        }
-    }
-    make_by(p, counts, m, effect, resting)
-}
-
-// Makes a plain move of this man.
-#[inline(always)]
-fn make_plain(
-    p: &mut Setup,
-    counts: &mut [u8; 10],
-    m: &Move,
-    standing: Man,
-    resting: Square,
-) -> bool
-    requires sound { Sound p.old }
-    requires legal { Legal p.old m.now }
-    requires effect { Plain ≡ effect_of p.old m.now }
-    requires stands { man_at p.old.board m.now.from ≡ Some standing }
-    requires resting { resting ≡ king_square p.old.board (other p.old.side) }
-    requires census { counts.old ≡ counts_of p.old.board }
-    ensures becomes { p.new ≡ after p.old m.now Plain }
-    ensures check { result ≡ in_check p.new }
-    ensures census { counts.new ≡ counts_of p.new.board }
-{
-    let side = p.side;
-    let opened = may_open(p, m, Effect::Plain, resting);
-    let taken = p.board.at(m.to);
-    let arriving = change_plain(p, m, standing);
-    recount(counts, &p.board, &taken, takes_alone(m, Effect::Plain));
-    gives_check_by(&p.board, side, arriving, m.to, resting, opened)
-}
-
-// Makes a move of this kind.
-fn make_by(p: &mut Setup, counts: &mut [u8; 10], m: &Move, effect: Effect, resting: Square) -> bool
-    requires sound { Sound p.old }
-    requires legal { Legal p.old m.now }
-    requires effect { effect ≡ effect_of p.old m.now }
-    requires resting { resting ≡ king_square p.old.board (other p.old.side) }
-    requires census { counts.old ≡ counts_of p.old.board }
-    ensures becomes { p.new ≡ after p.old m.now effect }
-    ensures check { result ≡ in_check p.new }
-    ensures census { counts.new ≡ counts_of p.new.board }
-{
     let side = p.side;
     let opened = may_open(p, m, effect, resting);
     let taken = p.board.at(m.to);
-    change(p, m, effect);
+    let come = change_as(p, m, effect, standing);
     recount(counts, &p.board, &taken, takes_alone(m, effect));
-    gives_check(&p.board, side, m.to, resting, opened)
+    gives_check(&p.board, side, &come, m.to, resting, opened)
+}
+
+// Makes the move of what stands on its first square, and gives what stands on its target then.
+#[inline(always)]
+fn change_as(p: &mut Setup, m: &Move, effect: Effect, standing: Option<Man>) -> Option<Man>
+    requires standing { standing ≡ man_at p.old.board m.now.from }
+    ensures becomes { p.new ≡ after p.old m.now effect }
+    ensures come { result ≡ man_at p.new.board m.now.to }
+{
+    if let Some(man) = standing {
+        if is_calm(effect) {
+            return Some(change_calm(p, m, effect, man));
+        }
+    }
+    change(p, m, effect);
+    p.board.at(m.to)
 }
 
 // Whether the move changes the counts by the man on its target alone.
@@ -135,45 +104,31 @@ fn may_open(p: &Setup, m: &Move, effect: Effect, s: Square) -> bool
     !is_calm(effect) || opens(&p.board, p.side, m.from, s)
 }
 
-// Whether the man of this colour that has come to a square attacks another, or, where a line may have been opened, some
+// Whether what has come to a square is a man of this colour that attacks another, or, where a line may have been opened, some
 // man does.
-fn gives_check(board: &Board, by: Colour, from: Square, s: Square, opened: bool) -> bool
-    ensures { IsTrue result ↔ (Hits board.now by from s ⊎ ((opened ≡ true) × Attacks board.now by s)) }
-{
-    hits(board, by, from, s) || (opened && attacks(board, by, s))
-}
-
-// The same, where this man has come.
 #[inline(always)]
-fn gives_check_by(
+fn gives_check(
     board: &Board,
     by: Colour,
-    standing: Man,
+    come: &Option<Man>,
     from: Square,
     s: Square,
     opened: bool,
 ) -> bool
-    requires stands { man_at board.now from ≡ Some standing }
+    requires come { come.now ≡ man_at board.now from }
     ensures { IsTrue result ↔ (Hits board.now by from s ⊎ ((opened ≡ true) × Attacks board.now by s)) }
 {
-    hits_by(board, by, standing, from, s) || (opened && attacks(board, by, s))
+    hits(board, by, come, from, s) || (opened && attacks(board, by, s))
 }
 
-// Whether a man of this colour stands on one square and reaches another.
-fn hits(board: &Board, by: Colour, from: Square, s: Square) -> bool
+// Whether what stands on one square is a man of this colour and reaches another.
+#[inline(always)]
+fn hits(board: &Board, by: Colour, standing: &Option<Man>, from: Square, s: Square) -> bool
+    requires standing { standing.now ≡ man_at board.now from }
     ensures { IsTrue result ↔ Hits board.now by from s }
 {
-    match board.at(from) {
-        Some(standing) => hits_by(board, by, standing, from, s),
+    match standing {
+        Some(standing) => standing.colour == by && reaches(board, by, standing.kind, from, s),
         None => false,
     }
-}
-
-// Whether this man, who stands on the one square, is of this colour and reaches the other.
-#[inline(always)]
-fn hits_by(board: &Board, by: Colour, standing: Man, from: Square, s: Square) -> bool
-    requires stands { man_at board.now from ≡ Some standing }
-    ensures { IsTrue result ↔ Hits board.now by from s }
-{
-    standing.colour == by && reaches(board, by, standing.kind, from, s)
 }

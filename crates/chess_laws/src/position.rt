@@ -299,10 +299,17 @@ impl Position {
         ensures step { OnTrue result (Step self.old m.now self.new) }
         ensures kept { OnFalse result (self.new ≡ self.old) }
     {
-        if let Effect::Plain = effect {
-            return self.advance_plain(kind, m);
+        match effect {
+            Effect::Plain => self.advance_plain(kind, m),
+            Effect::Double => {
+                let standing = Man {
+                    colour: self.side(),
+                    kind,
+                };
+                self.advance_of(m, Effect::Double, Some(standing))
+            }
+            Effect::Passing | Effect::Castle(_) | Effect::Null => self.advance_by(m, effect),
         }
-        self.advance_by(m, effect)
     }
 
     // `advance` of a plain move.
@@ -330,6 +337,19 @@ impl Position {
         ensures step { OnTrue result (Step self.old m.now self.new) }
         ensures kept { OnFalse result (self.new ≡ self.old) }
     {
+        let standing = self.inner.board.at(m.from);
+        self.advance_of(m, effect, standing)
+    }
+
+    // The same, of what stands on its first square.
+    #[inline(always)]
+    fn advance_of(&mut self, m: &Move, effect: Effect, standing: Option<Man>) -> bool
+        requires effect { effect ≡ effect_of self.old m.now }
+        requires standing { standing ≡ man_at self.old.board m.now.from }
+        ensures legal { IsTrue result ↔ Legal self.old m.now }
+        ensures step { OnTrue result (Step self.old m.now self.new) }
+        ensures kept { OnFalse result (self.new ≡ self.old) }
+    {
         let legal = is_legal_as(
             self.setup(),
             self.king(self.side()),
@@ -338,7 +358,6 @@ impl Position {
             effect,
         );
         if legal {
-            let standing = self.inner.board.at(m.from);
             self.follow(m, effect, standing);
         }
         legal

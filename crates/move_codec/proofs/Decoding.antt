@@ -1,6 +1,6 @@
 -- What is decoded, from what is named and whether it is legal.
-use Rattle.std.proofs.Common.{suc, ◌<◌, ◌≤◌, ◌-◌, length, arith, ◌≡◌, ℕ, ◌/◌, ◌%◌, Bool, true, false, ◌&&◌, cond, eqb, leb, ltb, refl, subst, List, [], ◌∷◌, Option, Some, None, Ok, Err, ◌⊎◌, inl, inr, sym, ◌∙◌, ap}
-use Rattle.std.specs.Prelude.{Result, slice_get, slice_index_or}
+use Rattle.std.proofs.Common.{◌<◌, ◌≤◌, ◌-◌, length, arith, ◌≡◌, ℕ, ◌/◌, ◌%◌, Bool, true, false, ◌&&◌, cond, eqb, leb, ltb, refl, subst, List, [], ◌∷◌, Option, Some, None, Ok, Err, ◌⊎◌, inl, inr, sym, ◌∙◌, ap}
+use Rattle.std.specs.Prelude.{Result, slice_get}
 use Rattle.std.proofs.lemmas.Bool.Decides.{nat_tests}
 use Rattle.std.proofs.lemmas.Option.{same_Some, slice_get_within}
 use Rattle.cell_core.specs.declared.man.Colour.{Colour}
