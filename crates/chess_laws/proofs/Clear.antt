@@ -1,5 +1,5 @@
 -- A walk along a line comes to its end where no man stands between.
-use Rattle.std.proofs.Common.{◌≡◌, ℕ, zero, suc, ◌-◌, ◌^◌, ◌<◌, ◌&&◌, ◌⊎◌, not, inl, inr, Bool, true, false, eqb, List, [], Option, Some, None, is_none, is_some, refl, sym, subst, ◌∙◌, ap, arith}
+use Rattle.std.proofs.Common.{◌≡◌, ℕ, zero, suc, ◌^◌, ◌<◌, ◌&&◌, ◌⊎◌, not, inl, inr, Bool, true, false, eqb, List, [], Option, Some, None, is_none, is_some, refl, sym, subst, ◌∙◌, ap, arith}
 use Rattle.std.specs.Int.{bit_at}
 use Rattle.std.specs.Int.RustNames.{bit_and, bit_or}
 use Rattle.std.proofs.lemmas.Bool.{agree_below, agree_below_at, and_parts, cases_Bool, cases_eq, eqb-true, false≢true}

@@ -93,7 +93,6 @@ pub fn is_legal_allowed(p: &Setup, king: Square, shut: bool, m: &Move, effect: E
 }
 
 // Whether the mover's king is safe on the board after an allowed move.
-#[inline(never)]
 fn is_safe_after(p: &Setup, king: Square, m: &Move, effect: Effect) -> bool
     requires sound { Sound p.now }
     requires king { IsOnlyKing p.now.board p.now.side king }

@@ -330,7 +330,6 @@ impl Position {
     }
 
     // `advance` of a move whose kind of half-move is known.
-    #[inline(never)]
     fn advance_by(&mut self, m: &Move, effect: Effect) -> bool
         requires effect { effect ≡ effect_of self.old m.now }
         ensures legal { IsTrue result ↔ Legal self.old m.now }
@@ -342,7 +341,7 @@ impl Position {
     }
 
     // The same, of what stands on its first square.
-    #[inline(always)]
+    #[inline(never)]
     fn advance_of(&mut self, m: &Move, effect: Effect, standing: Option<Man>) -> bool
         requires effect { effect ≡ effect_of self.old m.now }
         requires standing { standing ≡ man_at self.old.board m.now.from }
