@@ -40,7 +40,7 @@ fn shown(view: &Option<Box<dyn TreeView>>) -> Shown {
     }
 }
 
-// What the views of slots 0 and 2 show, which are the fourth and the sixth.
+// What the views of slots 0 and 2 show, which are those of the numbers 4 and 6.
 fn both(rt: &impl Abort, views: &[Option<Box<dyn TreeView>>]) -> [Shown; 2] {
     assert_eq!(rt; views.len(), 8);
     [shown(&views[4]), shown(&views[6])]
