@@ -1,4 +1,6 @@
 //! The three ways of a search, over games in memory.
+ghost use Rattle.std.specs.Prelude.{◌≡◌, []};
+
 use cell_core::Text;
 use game_codec::decode_game;
 use game_filter::{Filter, Op};
@@ -24,17 +26,12 @@ fn text(alloc: Global, bytes: &[u8]) -> Result<Text, Fail> {
     }
 }
 
-// Adds the game 1. e4 of this player.
-fn add(
-    rt: &impl Abort,
-    alloc: Global,
-    games: &mut MemGames,
-    file: &mut Vec<u8>,
-    white: &[u8],
-) -> Result<(), Fail> {
-    let (game, _) = decode_game(alloc, b"\x00\x00\xcf\x0f")?;
-    let head = Head {
-        white: text(alloc, white)?,
+// A head of which only the name of White may be known.
+pub(crate) fn head_of(alloc: Global, white: Text) -> Head
+    ensures tags { result.tags ≡ [] }
+{
+    Head {
+        white,
         black: Text::new(alloc),
         event: Text::new(alloc),
         site: Text::new(alloc),
@@ -48,7 +45,19 @@ fn add(
         marks: 0,
         deleted: false,
         tags: Tags::new(alloc),
-    };
+    }
+}
+
+// Adds the game 1. e4 of this player.
+fn add(
+    rt: &impl Abort,
+    alloc: Global,
+    games: &mut MemGames,
+    file: &mut Vec<u8>,
+    white: &[u8],
+) -> Result<(), Fail> {
+    let (game, _) = decode_game(alloc, b"\x00\x00\xcf\x0f")?;
+    let head = head_of(alloc, text(alloc, white)?);
     assert!(rt; games.len() < 4);
     games.add(alloc, head, &game, file)?;
     Ok(())

@@ -186,7 +186,7 @@ fn man(letter: u8) -> Option<Man> {
     Some(Man { colour, kind })
 }
 
-fn board(letters: &[u8; 64]) -> Board {
+pub(crate) fn board(letters: &[u8; 64]) -> Board {
     let mut board = Board::empty();
     for s in 0..64u8 {
         board.set(Square::at(s), man(letters[usize::from(s)]));
