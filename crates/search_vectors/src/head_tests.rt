@@ -77,9 +77,9 @@ fn left(
         assert!(rt; i < filter.len());
         filter.set(i, entries[i as usize]);
     }
-    assert_eq!(rt; filter.len(), games.len());
+    assert!(rt; filter.len() == games.len());
     search(games, query, op, &mut filter);
-    assert_eq!(rt; filter.len(), 4);
+    assert!(rt; filter.len() == 4);
     Ok([filter.get(0), filter.get(1), filter.get(2), filter.get(3)])
 }
 
@@ -93,17 +93,14 @@ fn each_way_of_searching(rt: HostRuntime) -> Result<(), Fail> {
     let mut query = HeadQuery::any();
     query.white = Some(text(rt.alloc(), b"A")?);
     let old = [Some(3), Some(5), None, None];
-    assert_eq!(rt;
-        left(&rt, rt.alloc(), &games, &query, Op::Ignore, old)?,
-        [Some(0), None, Some(0), None]
+    assert!(rt;
+        left(&rt, rt.alloc(), &games, &query, Op::Ignore, old)? == [Some(0), None, Some(0), None]
     );
-    assert_eq!(rt;
-        left(&rt, rt.alloc(), &games, &query, Op::And, old)?,
-        [Some(0), None, None, None]
+    assert!(rt;
+        left(&rt, rt.alloc(), &games, &query, Op::And, old)? == [Some(0), None, None, None]
     );
-    assert_eq!(rt;
-        left(&rt, rt.alloc(), &games, &query, Op::Or, old)?,
-        [Some(3), Some(5), Some(0), None]
+    assert!(rt;
+        left(&rt, rt.alloc(), &games, &query, Op::Or, old)? == [Some(3), Some(5), Some(0), None]
     );
     Ok(())
 }

@@ -228,7 +228,7 @@ fn first_matches_in_variations(rt: HostRuntime) {
 #[test]
 fn the_move_after_a_match(rt: HostRuntime) {
     match first_in(&START) {
-        Some((_, Some(m))) => assert_eq!(rt; (m.from.index(), m.to.index()), (12, 28)),
+        Some((_, Some(m))) => assert!(rt; (m.from.index(), m.to.index()) == (12, 28)),
         _ => assert!(rt; false, "a move"),
     }
 }
