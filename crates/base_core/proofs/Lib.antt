@@ -20,3 +20,4 @@ pub mod PlaceLaws
 pub mod AmongLaws
 pub mod TakeLaws
 pub mod TagLaws
+pub mod SomeBase
