@@ -35,8 +35,11 @@ pub fn is_legal_as(p: &Setup, king: Square, checked: bool, m: &Move, effect: Eff
     requires effect { effect ≡ effect_of p.now m.now }
     ensures { IsTrue result ↔ Legal p.now m.now }
 {
+    if !is_allowed(p, king, m, effect) {
+        return false;
+    }
     let shut = is_shut(p, king, checked, m.from);
-    is_legal_from(p, king, shut, m, effect)
+    is_legal_allowed(p, king, shut, m, effect)
 }
 
 /// Whether the move is legal, which is a plain one of the mover's man of this kind.
