@@ -2,9 +2,9 @@
 ghost use Rattle.std.specs.Prelude.{◌≡◌};
 ghost use Rattle.chess_laws.specs.Position.{Sound};
 ghost use Rattle.sig_index.specs.Homes.{IsHomeList};
-ghost use Rattle.pos_search.specs.Matching.{alike, matches};
+ghost use Rattle.pos_search.specs.Matching.{alike, matches, same_counts};
 ghost use Rattle.pos_search.specs.Passing.{fixes_pawns, passes};
-ghost use Rattle.pos_search.specs.Sought.{alike_beside, can_follow, has_homes};
+ghost use Rattle.pos_search.specs.Sought.{can_follow, has_homes};
 
 use crate::boards::{counts, home_set, same_files, same_pawns};
 use cell_core::{Board, Colour};
@@ -86,7 +86,7 @@ impl<'a> Sought<'a> {
         self.query.vars
     }
 
-    // Whether a position is one that is sought. The 64 squares are looked at only where the ten counts agree.
+    // Whether a position is one that is sought.
     #[tactic(auto, unfolding(crate::specs::Matching::matches))]
     pub(crate) fn matches(&self, p: &Position) -> bool
         ensures matches { result ≡ matches self.now p.now }
@@ -101,19 +101,20 @@ impl<'a> Sought<'a> {
     fn is_alike(&self, p: &Position) -> bool
         ensures { result ≡ alike self.now.mode p.now.board self.now.board }
     {
-        p.counts() == self.range.lo && self.is_alike_beside(p.board())
-    }
-
-    // Whether a board has in common with the sought one what the mode asks beside the ten counts.
-    fn is_alike_beside(&self, board: &Board) -> bool
-        ensures { result ≡ alike_beside self.now.mode board.now self.now.board }
-    {
+        let board = p.board();
         match self.query.mode {
             Mode::Exact => board.is_same(&self.query.board),
-            Mode::Pawns => same_pawns(board, &self.query.board),
-            Mode::Files => same_files(board, &self.query.board),
-            Mode::Material => true,
+            Mode::Pawns => self.has_counts(p) && same_pawns(board, &self.query.board),
+            Mode::Files => self.has_counts(p) && same_files(board, &self.query.board),
+            Mode::Material => self.has_counts(p),
         }
+    }
+
+    // Whether its board has as many men of each kind as the sought one.
+    fn has_counts(&self, p: &Position) -> bool
+        ensures { result ≡ same_counts p.now.board self.now.board }
+    {
+        p.counts() == self.range.lo
     }
 
     // Whether a position that is sought can still come after this one.
