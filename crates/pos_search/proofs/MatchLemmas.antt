@@ -1,10 +1,11 @@
 -- What a position that is sought has in common with the query.
-use Rattle.std.proofs.Common.{◌≡◌, ℕ, ◌+◌, ◌<◌, Bool, true, false, cond, ◌&&◌, List, Option, None, Some, refl, sym, ap, ◌∙◌, arith, inl, inr}
+use Rattle.std.proofs.Common.{◌≡◌, ℕ, ◌+◌, ◌-◌, ◌<◌, leb, get_or, Bool, true, false, cond, ◌&&◌, List, Option, None, Some, refl, sym, ap, ◌∙◌, arith, inl, inr}
 use Rattle.std.specs.Prelude.{nat_eq}
 use Rattle.std.specs.Bool.{Decides}
 use Rattle.std.specs.Cmp.Lexicographic.{pointwise}
 use Rattle.std.specs.Option.{option_eq}
 use Rattle.std.proofs.lemmas.Bool.{and_parts, cases_eq}
+use Rattle.std.proofs.lemmas.Bool.Decides.{nat_tests, same_from_decides}
 use Rattle.std.proofs.lemmas.Slice.Eq.{bytes_eq-Decides}
 use Rattle.cell_core.specs.declared.man.Colour.{Colour}
 use Rattle.cell_core.specs.declared.man.Kind.TheVariants.{Pawn}
@@ -14,13 +15,14 @@ use Rattle.cell_core.specs.Man.{is_man, same_colour, same_kind}
 use Rattle.cell_core.proofs.Same.{same_colour-Decides, same_men-Decides}
 use Rattle.chess_laws.specs.Counts.{counts_of, home_colour, home_square, is_home}
 use Rattle.chess_laws.specs.declared.setup.Setup.{Setup}
+use Rattle.sig_index.specs.Coming.{can_come}
 use Rattle.sig_index.specs.declared.pos_query.Mode.{Mode}
 use Rattle.sig_index.specs.declared.pos_query.Mode.TheVariants.{Exact, Pawns, Files, Material}
 use Rattle.sig_index.specs.declared.pos_query.PosQuery.{PosQuery}
 use Rattle.sig_index.proofs.HomeLemmas.{home_fits}
 use Rattle.sig_index.proofs.Ranges.{all_each, all_from, all_not}
 use Rattle.pos_search.specs.Matching.{alike, matches, pawn_on, same_counts, same_file, same_files, same_pawn, same_pawns}
-use Rattle.pos_search.specs.Passing.{fixes_pawns}
+use Rattle.pos_search.specs.Passing.{fixes_pawns, just}
 
 -- ---- two boards
 
@@ -106,9 +108,18 @@ files_all a b each = sym (all_from (same_file a b) 0 8 (λ file from less. each 
 -- ---- a position that is sought
 
 -- the ten counts are compared
-pub counts_same : (a b : Men) (counts sought : List ℕ) (t : Bool) → t ≡ pointwise nat_eq counts sought → counts ≡ counts_of a → sought ≡ counts_of b → t ≡ same_counts a b
-unfolding same_counts
-counts_same a b counts sought t is count count' = is ∙ (λ i. pointwise nat_eq (count i) (count' i))
+pub counts_same : (a b : Men) (counts sought : List ℕ) (t : Bool) → Decides t (counts ≡ sought) → counts ≡ counts_of a → sought ≡ counts_of b → t ≡ same_counts a b
+counts_same a b counts sought t is count count' = same_from_decides t (same_counts a b) (rw (count, count') at is) (counts-Decides a b)
+
+-- the same men can come
+enough : (a b d e p : ℕ) → leb (a - a + (b - b + (d - d) + (e - e)) + p) p ≡ true
+enough a b d e p = grind (arith, nat_tests)
+
+pub comes_same : (counts : List ℕ) → can_come (just counts) counts ≡ true
+unfolding can_come
+comes_same counts =
+    let at = λ (place : ℕ). get_or counts place 0 in
+    rw (enough (at 0) (at 1) (at 2) (at 3) (at 4), enough (at 5) (at 6) (at 7) (at 8) (at 9)) refl
 
 pub record Matched (query : PosQuery) (p : Setup) : Type 0 where
   pub side : p.side ≡ query.side

@@ -1,12 +1,14 @@
 //! What a search of a position asks of one position, and of a signature.
 ghost use Rattle.std.specs.Prelude.{◌≡◌};
+ghost use Rattle.chess_laws.specs.Counts.{counts_of};
 ghost use Rattle.chess_laws.specs.Position.{Sound};
+ghost use Rattle.sig_index.specs.Coming.{can_come};
 ghost use Rattle.sig_index.specs.Homes.{IsHomeList};
 ghost use Rattle.pos_search.specs.Matching.{alike, matches, same_counts};
-ghost use Rattle.pos_search.specs.Passing.{fixes_pawns, passes};
+ghost use Rattle.pos_search.specs.Passing.{fixes_pawns, just, passes};
 ghost use Rattle.pos_search.specs.Sought.{can_follow, has_homes};
 
-use crate::boards::{counts, home_set, same_files, same_pawns};
+use crate::boards::{counts, home_set, same_files, same_numbers, same_pawns};
 use cell_core::{Board, Colour};
 use chess_laws::Position;
 use sig_index::{MatRange, Mode, PosQuery, Sig, can_come, can_stand, home_allows};
@@ -114,7 +116,7 @@ impl<'a> Sought<'a> {
     fn has_counts(&self, p: &Position) -> bool
         ensures { result ≡ same_counts p.now.board self.now.board }
     {
-        p.counts() == self.range.lo
+        same_numbers(&p.counts(), &self.range.lo)
     }
 
     // Whether a position that is sought can still come after this one.
@@ -122,7 +124,18 @@ impl<'a> Sought<'a> {
     pub(crate) fn can_follow(&self, p: &Position) -> bool
         ensures { result ≡ can_follow self.now p.now }
     {
-        can_come(&self.range, &p.counts()) && (!fixes_pawns(self.query.mode) || self.has_homes(p))
+        self.men_can_come(p) && (!fixes_pawns(self.query.mode) || self.has_homes(p))
+    }
+
+    // Whether the men of the sought board that are missing can still be made. Where none is, it is seen at once.
+    fn men_can_come(&self, p: &Position) -> bool
+        ensures { result ≡ can_come (just (counts_of self.now.board)) (counts_of p.now.board) }
+    {
+        let counts = p.counts();
+        if !same_numbers(&counts, &self.range.lo) {
+            return can_come(&self.range, &counts);
+        }
+        true
     }
 
     // Whether each pawn at home on the sought board stands at home.

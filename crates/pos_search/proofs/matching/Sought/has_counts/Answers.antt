@@ -7,5 +7,5 @@ use Rattle.pos_search.proofs.matching.Sought.has_counts.Goals as goal
 
 pub returns : goal.returns
 returns c =
-    counts_same c.args.p.now.board c.args.self.now.board c.counts.result c.self.inside.range.lo c.eq.result c.eq.ensures c.counts.ensures.counts
+    counts_same c.args.p.now.board c.args.self.now.board c.counts.result c.self.inside.range.lo c.same_numbers.result c.same_numbers.ensures c.counts.ensures.counts
     (ap (λ (r : MatRange). r.lo) c.self.invariant.counted ∙ ap (λ (p : PosQuery). counts_of p.board) c.self.view_is)
