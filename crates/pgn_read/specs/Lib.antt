@@ -17,3 +17,4 @@ pub mod Window
 pub mod Fit
 pub mod Legality
 pub mod RoundTrip
+pub mod Meant
