@@ -2,7 +2,7 @@
 use Rattle.std.proofs.Common.{◌<◌, ℕ, drop, subst, sym, arith}
 use Rattle.byteorder.specs.Numbers.{big_from-lt}
 use Rattle.index_entry.proofs.BitLemmas.{IsBytes-drop}
-use Rattle.index_entry.proofs.index.read_index.Goals as goal
+use Rattle.index_entry.proofs.index.read_header.Goals as goal
 
 pub returns-clause-sound : goal.returns-clause-sound
 returns-clause-sound c = record {
