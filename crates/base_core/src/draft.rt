@@ -197,9 +197,9 @@ impl Base {
             return Err(EditError::Full(What::File));
         }
         let placed = placed_entry(e, &ids, (end - len) as u32);
-        if self.entries.push(&placed).is_err() {
+        if let Err(refused) = self.entries.push(&placed) {
             cut_names(&mut self.names, &counts);
-            return Err(EditError::Memory);
+            return Err(EditError::from(refused));
         }
         self.header.games += 1;
         self.store = Store::new(end);

@@ -163,6 +163,7 @@ fn take_one(
     ensures id { IfOk result (λ own. slice_get (of_kind kind names.new) own ≡ Some (name_at (of_kind kind (filled_names of.now)) id)) }
     ensures sound { AreSound names.new }
     ensures holds { HoldsNames names.new names.old }
+    ensures unchanged { OnErr result (names.new ≡ names.old) }
     ensures why { IfErr result (IfFull (λ what. (what ≡ names_of kind) × (limit_of kind < length (with_name (of_kind kind names.old) (name_at (of_kind kind (filled_names of.now)) id))))) }
 {
     add_bytes(alloc, names, kind, of.name_of(kind, id))

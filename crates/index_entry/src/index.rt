@@ -50,7 +50,10 @@ pub fn read_index(bytes: &[u8]) -> Result<IndexHead, IndexFault>
     ensures whole { IfOk result (λ head. 182 + 47 * head.games ≤ length bytes.now) }
     ensures sound { IfOk result IsIndexHead }
 {
-    let head = read_header(bytes)?;
+    let head = match read_header(bytes) {
+        Ok(head) => head,
+        Err(fault) => return Err(fault),
+    };
     if bytes.len() < HEADER_LEN + ENTRY_LEN * head.games as usize {
         return Err(IndexFault::Length(bytes.len() as u64));
     }

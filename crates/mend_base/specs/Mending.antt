@@ -1,5 +1,5 @@
 -- What mending a base has done: the new files, and what was told (this project's own).
-use Rattle.std.specs.Prelude.{◌≡◌, ◌≤◌, ⊤, ℕ, List, length, Option, Ok, Err, IfSome}
+use Rattle.std.specs.Prelude.{◌≡◌, ◌≤◌, ⊤, ℕ, List, length, Option, Some, Ok, Err, IfSome}
 use Rattle.base_files.specs.Counters.{Rose}
 use Rattle.base_files.specs.Seen.{FreshAlone, Seen, committed}
 use Rattle.index_entry.specs.Index.{header_read}

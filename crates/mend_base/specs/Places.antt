@@ -5,7 +5,7 @@ use Rattle.index_entry.specs.Index.{entry_bytes}
 use Rattle.index_entry.specs.declared.entry.Entry.{Entry}
 use Rattle.index_entry.specs.declared.fault.IndexFault.TheVariants.{Length}
 use Rattle.index_entry.specs.declared.index.IndexHead.{IndexHead}
-use Rattle.name_base.specs.PartNames.{PartLists, filled_names, name_met, names_in_part}
+use Rattle.name_base.specs.PartNames.{PartLists, filled_names, name_met}
 use Rattle.base_core.specs.Base.{Base, Held, empty_base}
 use Rattle.base_core.specs.Compacted.{only}
 use Rattle.base_core.specs.Entries.{Says}
@@ -60,9 +60,9 @@ IsPlace index names games game (Err fault) =
     IsCut index game fault ⊎ (HasEntry index game × Fails false (filled_names names) games game (entry_bytes index game) fault)
 
 -- These are the places of so many games, the first ones.
-pub record ArePlaces (index names games : List ℕ) (count : ℕ) (places : List Place) : Type 0 where
+pub record ArePlaces (index : List ℕ) (names : PartLists) (games : List ℕ) (count : ℕ) (places : List Place) : Type 0 where
   pub long : length places ≡ count
-  pub each : (i : ℕ) (place : Place) → slice_get places i ≡ Some place → IsPlace index (names_in_part names) games i place
+  pub each : (i : ℕ) (place : Place) → slice_get places i ≡ Some place → IsPlace index names games i place
 
 -- ---- what comes of the places.
 
