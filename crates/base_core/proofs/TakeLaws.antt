@@ -98,7 +98,7 @@ keeps-taken of names games fresh end e ids held long are is =
 -- ---- the draft with the game.
 
 -- Settling leaves the names.
-names-settled : (of names : NameLists) (e : Entry) (tags : List Tag) → names_with (settled (head_of of e tags)) names ≡ names_with (head_of of e []) names
+pub names-settled : (of names : NameLists) (e : Entry) (tags : List Tag) → names_with (settled (head_of of e tags)) names ≡ names_with (head_of of e []) names
 unfolding head_of
 names-settled of names e tags = ap (λ (h : Head). names_with h names) (settled-rest (head_of of e tags))
 

@@ -37,6 +37,7 @@ abbrev pub FillsNext : ℕ → List ℕ → PartLists → List ℕ → Option (L
 FillsNext game index names games told draft file what =
     (header : IndexHead) (before : Option (List Note)) → HasMended game header index names games before told draft file → IsTooMuch index names games what
 
--- Where the draft stands for a base beside the new games file, the new files mean it now and open as it.
-abbrev pub PutsIt : Kept → Option (List ℕ) → Seen → Type 0
-PutsIt draft fresh new = IfSome fresh (λ file. (base : Base) → length file ≡ draft.end → Represents draft file base → IfTold new (λ i n g. OpensAgain i n g base))
+-- The new games file is the one that was made; where the draft stands for a base beside it, the new files mean the base and open as it.
+pub record PutsIt (draft : Kept) (old new : Seen) : Type 0 where
+  pub games : new.games ≡ old.fresh
+  pub opens : IfTold new (λ i n g. (base : Base) → length g ≡ draft.end → Represents draft g base → OpensAgain i n g base)

@@ -166,7 +166,7 @@ fn mend_games<F: Files, N: Files, R: Report>(
 // Makes the new games file and the names and the index of the draft the files of the new base.
 fn put<N: Files>(alloc: Global, draft: &Draft, new: &mut N) -> Result<(), MendError>
     ensures made { OnOk result (IsMade (N.seen new.old) (N.seen new.new)) }
-    ensures means { OnOk result (PutsIt draft.now (N.seen new.old).fresh (N.seen new.new)) }
+    ensures means { OnOk result (PutsIt draft.now (N.seen new.old) (N.seen new.new)) }
     ensures left { OnErr result (FreshAlone (N.seen new.old) (N.seen new.new)) }
     ensures none_asked { N.asked new.new ≡ N.asked new.old }
     ensures counts { N.faults new.old ≤ N.faults new.new }
