@@ -1,12 +1,8 @@
 -- What the devices leave, and why they fail.
-use Rattle.std.proofs.Common.{◌≡◌, ◌≤◌, ℕ, List, length, Option, None, Some, IfErr, IfOk, OnErr, IfSome, Result, Ok, Err, refl, sym, ap, ◌∙◌, subst, inl, inr, arith}
-use Rattle.base_files.specs.Causes.{HasCause}
+use Rattle.std.proofs.Common.{◌≡◌, ◌≤◌, ℕ, List, length, Option, None, Some, IfErr, OnOk, OnErr, Result, Ok, Err, refl, sym, ap, ◌∙◌, subst, inl, inr, arith}
 use Rattle.base_files.specs.Counters.{LAST, Rose}
-use Rattle.base_files.specs.Seen.{FreshAlone, LengthenedInPart, Seen, begun, committed, lengthened}
-use Rattle.base_files.specs.declared.faults.DeviceError.{DeviceError}
-use Rattle.base_files.specs.declared.faults.DeviceError.TheVariants as device
+use Rattle.base_files.specs.Seen.{FreshAlone, Seen, begun, lengthened}
 use Rattle.mend_base.specs.Devices.{IsNew, IsOld, IsReport}
-use Rattle.mend_base.specs.Errors.{new_error, old_error, report_error}
 use Rattle.mend_base.specs.Keeping.{IsKeeping, WhyStopped}
 use Rattle.mend_base.specs.Mending.{Faults, HasRisen}
 use Rattle.mend_base.specs.declared.fault.MendError.{MendError}
@@ -27,26 +23,7 @@ alone-begun old new is = subst (λ (s : Seen). s ≡ record old { fresh = s.fres
 pub alone-longer : (old new : Seen) (bytes : List ℕ) → new ≡ lengthened bytes old → FreshAlone old new
 alone-longer old new bytes is = subst (λ (s : Seen). s ≡ record old { fresh = s.fresh; added = s.added }) (sym is) refl
 
-pub left-so : (e : DeviceError) (old new : Seen) → (e ≡ device.Failed → FreshAlone old new) → (e ≡ device.Memory → new ≡ old) → FreshAlone old new
-left-so device.Failed old new failed memory = failed refl
-left-so device.Memory old new failed memory = none-changed old new (memory refl)
-
-pub in-part-alone : (old new : Seen) → LengthenedInPart old new → FreshAlone old new
-in-part-alone old new part = part.rest ∙ ap (λ (n : ℕ). record old { fresh = new.fresh; added = n }) (sym (ap (λ (s : Seen). s.added) part.rest))
-
 -- ---- causes.
-
-pub old-so : (e : DeviceError) (result : MendError) (old new : ℕ) → result ≡ old_error e → HasCause e old new → IsOld old new result
-old-so device.Failed result old new is cause = subst (λ (r : MendError). IsOld old new r) (sym is) cause
-old-so device.Memory result old new is cause = subst (λ (r : MendError). IsOld old new r) (sym is) tt
-
-pub new-so : (e : DeviceError) (result : MendError) (old new : ℕ) → result ≡ new_error e → HasCause e old new → IsNew old new result
-new-so device.Failed result old new is cause = subst (λ (r : MendError). IsNew old new r) (sym is) cause
-new-so device.Memory result old new is cause = subst (λ (r : MendError). IsNew old new r) (sym is) tt
-
-pub report-so : (e : DeviceError) (result : MendError) (old new : ℕ) → result ≡ report_error e → HasCause e old new → IsReport old new result
-report-so device.Failed result old new is cause = subst (λ (r : MendError). IsReport old new r) (sym is) cause
-report-so device.Memory result old new is cause = subst (λ (r : MendError). IsReport old new r) (sym is) tt
 
 pub rose-later : (first old new : ℕ) → first ≤ old → Rose old new → Rose first new
 rose-later first old new before (inl rose) = inl (omega (arith, before, rose))
@@ -130,3 +107,11 @@ risen-since a b c error.Memory old new report is = tt
 pub err-weaker : {A : Type 0} (P Q : MendError → Type 0) (r : Result A MendError) → ((e : MendError) → P e → Q e) → IfErr r P → IfErr r Q
 err-weaker P Q (Ok x) f is = tt
 err-weaker P Q (Err e) f is = f e is
+
+pub on-ok-so : {A E : Type 0} (P Q : Type 0) (r : Result A E) → (P → Q) → OnOk r P → OnOk r Q
+on-ok-so P Q (Ok x) f is = f is
+on-ok-so P Q (Err e) f is = tt
+
+pub on-err-any : {A E : Type 0} (Q : Type 0) (r : Result A E) → Q → OnErr r Q
+on-err-any Q (Ok x) is = tt
+on-err-any Q (Err e) is = is

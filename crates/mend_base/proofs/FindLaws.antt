@@ -1,24 +1,28 @@
 -- What was found of a game, where the games file is told.
 use Rattle.std.proofs.Common.{◌≡◌, ◌≤◌, ◌<◌, ◌+◌, ◌*◌, ℕ, Bool, true, false, List, length, take, slice_get, nat_le, nat_lt, if◌then◌else◌, is_some, Option, None, Some, Result, Ok, Err, IfSome, IsTrue, refl, sym, ap, ◌∙◌, subst, inl, inr, arith, true≢false}
-use Rattle.std.proofs.lemmas.Bool.{lt-leb}
+use Rattle.std.proofs.lemmas.Bool.{le-ltb, lt-leb}
 use Rattle.base_files.specs.Told.{Tells, TellsLength, part_told}
 use Rattle.game_codec.specs.Fault.{IsRecordFault}
 use Rattle.game_codec.specs.declared.fault.RecordFault.{RecordFault}
 use Rattle.game_tree.specs.Date.{keeps_rule}
-use Rattle.index_entry.specs.Entry.{IsEntry}
+use Rattle.index_entry.specs.Entry.{IsEntry, entry_read}
 use Rattle.index_entry.specs.Index.{entry_bytes}
 use Rattle.index_entry.specs.declared.entry.Entry.{Entry}
 use Rattle.index_entry.specs.declared.fault.IndexFault.TheVariants.{Length}
 use Rattle.name_base.specs.NameLists.{NameLists}
 use Rattle.name_base.specs.PartNames.{PartLists, filled_names}
 use Rattle.name_base.proofs.PartLemmas.{length-filled}
-use Rattle.base_core.specs.FirstFault.{Fails, derived_fault, entry_checked, id_fault}
+use Rattle.base_core.specs.FirstFault.{Fails, derived_fault, entry_checked, id_fault, place_fault, unless}
 use Rattle.base_core.specs.Reading.{IsMended, IsReadSo, IsTaken, kept_entry}
 use Rattle.base_core.specs.declared.fault.BaseFault.{BaseFault}
-use Rattle.base_core.specs.declared.fault.BaseFault.TheVariants.{Index, Packed}
+use Rattle.base_core.specs.declared.fault.BaseFault.TheVariants.{Index, Packed, Place}
 use Rattle.base_core.specs.declared.fault.IdField.{IdField}
+use Rattle.base_core.specs.declared.fault.PlaceWhat.{PlaceWhat}
+use Rattle.base_core.proofs.CheckLaws.{checked, ends_within, read_is}
 use Rattle.base_core.proofs.ReadLaws.{checked_told, not_taken_told, taken_told}
-use Rattle.mend_base.specs.Finding.{KeepsWhole}
+use Rattle.mend_base.specs.Finding.{Finds, IsFoundIn, KeepsWhole, entry_cost}
+use Rattle.mend_base.specs.declared.finding.Find.{Find}
+use Rattle.mend_base.specs.declared.finding.Find.TheVariants as find
 use Rattle.mend_base.specs.Places.{HasEntry, IsPlace, missing_in}
 
 -- ---- the ids of an entry.
@@ -57,7 +61,7 @@ taken-so bytes e kept mended = record {
   signed = mended.1.1.0;
   keeps = mended.1.1.1;
   mends = refl;
-  strictly = λ is. absurd is;
+  strictly = λ is. absurd (true≢false (sym is));
 }
 
 one-entry : (names : NameLists) (end game : ℕ) (bytes : List ℕ) (e x : Entry) → entry_checked names end game bytes ≡ Ok e → entry_checked names end game bytes ≡ Ok x → x ≡ e
@@ -104,3 +108,29 @@ unread-place told index names end game fault there long fails = fault-place told
 pub mended-place : (bytes : List ℕ) (e kept : Entry) → IsMended bytes e kept → (kept.offset ≡ e.offset) × (kept.len ≡ e.len)
 unfolding kept_entry
 mended-place bytes e kept mended = (ap (λ (x : Entry). x.offset) mended.1.1.1, ap (λ (x : Entry). x.len) mended.1.1.1)
+
+-- ---- what the functions answer.
+
+pub checked-at : (names : PartLists) (end game : ℕ) (bytes : List ℕ) (e : Entry) (o : Option PlaceWhat) → Ok e ≡ entry_read bytes → IsEntry e → o ≡ place_fault end e →
+    unless (λ what. Place game what) o (Ok e) ≡ entry_checked (filled_names names) end game bytes
+unfolding entry_checked
+checked-at names end game bytes e o read is placed = rw (sym read, none-missing names e is, sym placed) refl
+
+-- What a game that is there costs.
+pub cost-there : (names : PartLists) (index : List ℕ) (end game : ℕ) (e : Entry) → HasEntry index game → entry_checked (filled_names names) end game (entry_bytes index game) ≡ Ok e → entry_cost index game ≡ e.len
+cost-there names index end game e there is =
+    let k = checked (filled_names names) end game (entry_bytes index game) e is in
+    rw (le-ltb (length index) (229 + 47 * game) there) (ap (λ (x : Entry). x.len) (read_is (entry_bytes index game) e k.read))
+
+pub ends-in : (names : PartLists) (end game : ℕ) (bytes : List ℕ) (e : Entry) → entry_checked (filled_names names) end game bytes ≡ Ok e → e.offset + e.len ≤ end
+ends-in names end game bytes e is = ends_within end e (checked (filled_names names) end game bytes e is).placed
+
+pub found-so : (told : Option (List ℕ)) (index : List ℕ) (names : PartLists) (end game : ℕ) (buf : List ℕ) (e : Entry) (result : Find) → HasEntry index game → IsTrue (keeps_rule e.event_date e.date) →
+    TellsLength told end → Tells (part_told told e.offset e.len) (take e.len buf) → entry_checked (filled_names names) end game (entry_bytes index game) ≡ Ok e → IsFoundIn names game e (take e.len buf) result →
+    Finds index names told game buf result
+found-so told index names end game buf e (find.Whole kept missing) there rule long tells is found =
+    let placed = mended-place (take e.len buf) e kept found.0 in
+    let O : ℕ → Type 0 = λ n. Tells (part_told told n e.len) (take e.len buf) in
+    let L : ℕ → Type 0 = λ n. Tells (part_told told kept.offset n) (take n buf) in
+    (subst L (sym placed.1) (subst O (sym placed.0) tells), whole-place told index names end game (take e.len buf) e kept missing there rule long tells is found.0 found.1)
+found-so told index names end game buf e (find.Broken fault) there rule long tells is found = broken-place told index names end game (take e.len buf) e fault there long tells is found

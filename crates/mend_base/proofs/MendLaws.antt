@@ -1,5 +1,5 @@
 -- The draft and the new games file after the first games, and one game more.
-use Rattle.std.proofs.Common.{◌≡◌, ◌≤◌, ◌<◌, ◌+◌, ℕ, List, [], ◌∷◌, ◌++◌, length, take, Option, None, Some, Result, Ok, Err, IfSome, refl, sym, ap, ◌∙◌, subst, arith}
+use Rattle.std.proofs.Common.{◌≡◌, ◌≤◌, ◌<◌, ◌+◌, ◌-◌, ℕ, zero, suc, List, [], ◌∷◌, ◌++◌, length, take, Option, None, Some, Result, Ok, Err, IfSome, refl, sym, ap, ◌∙◌, subst, arith, zero-add, suc-add}
 use Rattle.std.proofs.lemmas.List.{length_push}
 use Rattle.std.proofs.lemmas.Option.{none-some}
 use Rattle.base_files.specs.Extents.{record_in}
@@ -26,7 +26,7 @@ use Rattle.base_core.specs.declared.fault.IdField.{IdField}
 use Rattle.base_core.specs.declared.fault.What.{What}
 use Rattle.base_core.proofs.OnlyLaws.{only-more, placed-long}
 use Rattle.base_core.proofs.TakeLaws.{names-settled}
-use Rattle.mend_base.specs.Finding.{KeepsWhole}
+use Rattle.mend_base.specs.Finding.{KeepsWhole, entries_cost, entry_cost}
 use Rattle.mend_base.specs.Keeping.{FillsNext, MendsNext, PutsIt, WhyStopped}
 use Rattle.mend_base.specs.Mending.{BeganTelling, HasMended, IsMade, IsTooMuch, Mends, WhyNotMended}
 use Rattle.mend_base.specs.Notes.{with_notes}
@@ -192,6 +192,16 @@ pub fills-told : (old : Option (List ℕ)) (count : ℕ) (header : IndexHead) (i
 fills-told None count header index names before told draft file what has fills = tt
 fills-told (Some games) count header index names before told draft file what has fills = fills header before has
 
+-- What the games so far and one more cost.
+cost-more : (index : List ℕ) (a n : ℕ) → entries_cost index a ≤ entries_cost index (n + a)
+cost-more index a zero = subst (λ (k : ℕ). entries_cost index a ≤ entries_cost index k) (sym (zero-add a)) (omega arith)
+cost-more index a (suc n) = subst (λ (k : ℕ). entries_cost index a ≤ entries_cost index k) (sym (suc-add n a)) (omega (arith, cost-more index a n))
+
+pub cost-within : (index : List ℕ) (game count : ℕ) → game < count → entries_cost index game + entry_cost index game ≤ entries_cost index count
+cost-within index game count below =
+    let e : count - suc game + suc game ≡ count = omega (arith, below) in
+    subst (λ (k : ℕ). entries_cost index (suc game) ≤ entries_cost index k) e (cost-more index (suc game) (count - suc game))
+
 -- ---- the new files.
 
 pub puts-it : (old new : Seen) (draft : Kept) (index names : List ℕ) → new ≡ committed names index old → ((games : List ℕ) (base : Base) → draft.end ≡ length games → Represents draft games base → OpensAgain index names games base) →
@@ -257,3 +267,8 @@ made-so old mid new alone made = record {
   alone = made.alone ∙ ap (λ (s : Seen). record s { fresh = made.between.fresh; added = made.between.added }) alone;
   put = made.put;
 }
+
+pub began-unread : (i n g : Option (List ℕ)) (told : Option (List Note)) → IfSome i (λ index. IfSome n (λ names. IfSome g (λ games. BeganTelling index (names_in_part names) games told told)))
+began-unread None n g told = tt
+began-unread (Some i) None g told = tt
+began-unread (Some i) (Some n) g told = began-none g i (names_in_part n) told told refl

@@ -59,7 +59,8 @@ notes-more game (p ∷ places) place =
 pub told-more : (before told now : Option (List Note)) (count : ℕ) (places : List Place) (place : Place) → length places ≡ count → told ≡ with_notes before (notes_from 0 places) → now ≡ with_notes told (note_of count place) →
     now ≡ with_notes before (notes_from 0 (places ++ place ∷ []))
 told-more before told now count places place long told_is now_is =
+    let here : count ≡ 0 + length places = omega (arith, long) in
     now_is
     ∙ (ap (λ t. with_notes t (note_of count place)) told_is
     ∙ (more-notes before (notes_from 0 places) (note_of count place)
-    ∙ ap (λ ns. with_notes before ns) (ap (λ n. notes_from 0 places ++ note_of n place) (sym long) ∙ sym (notes-more 0 places place))))
+    ∙ ap (λ ns. with_notes before ns) (ap (λ n. notes_from 0 places ++ note_of n place) here ∙ sym (notes-more 0 places place))))
