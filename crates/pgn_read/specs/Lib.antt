@@ -1,5 +1,6 @@
 pub mod Place
 pub mod Bytes
+pub mod Classes
 pub mod Clear
 pub mod Token
 pub mod TagText

@@ -1,0 +1,4 @@
+pub mod DeviceLaws
+pub mod PlaceLaws
+pub mod FindLaws
+pub mod MendLaws
