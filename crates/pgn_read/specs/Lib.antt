@@ -11,6 +11,7 @@ pub mod Text
 pub mod Heads
 pub mod Reading
 pub mod ReadingCode
+pub mod MovetextSpelling
 pub mod Items
 pub mod Causes
 pub mod Readers
