@@ -2,7 +2,6 @@
 use game_tree::{Date, Outcome, Rating};
 use index_entry::*;
 use std::alloc::Global;
-use std::process::Abort;
 use std::test::Fail;
 
 /// Reti's game against Tartakower, Vienna 1910: White won in eleven moves, opening code B15.
@@ -31,10 +30,10 @@ fn changed(bytes: &[u8; 47], changes: &[(usize, u8)]) -> [u8; 47] {
 #[test]
 fn reads_and_writes_a_game(rt: HostRuntime) -> Result<(), Fail> {
     let entry = unpack(&RETI)?;
-    assert_eq!(rt; entry.len, 25);
-    assert_eq!(rt; entry.black, 1);
-    assert_eq!(rt; entry.eco, 15_066);
-    assert_eq!(rt; entry.plies, 21);
+    assert!(rt; entry.len == 25);
+    assert!(rt; entry.black == 1);
+    assert!(rt; entry.eco == 15_066);
+    assert!(rt; entry.plies == 21);
     assert!(rt; entry.result == Outcome::White);
     assert!(rt;
         entry.date
@@ -44,13 +43,10 @@ fn reads_and_writes_a_game(rt: HostRuntime) -> Result<(), Fail> {
                 day: 0
             }
     );
-    assert_eq!(rt; entry.material, [0, 2, 2, 1, 6, 1, 2, 2, 2, 6]);
-    assert_eq!(rt; entry.home_count, 5);
-    assert_eq!(rt;
-        entry.home,
-        [11, 5, 12, 4, 3, 0, 0, 0, 0, 0, 0, 0, 0, 0, 0, 0]
-    );
-    assert_eq!(rt; pack(&entry), RETI);
+    assert!(rt; entry.material == [0, 2, 2, 1, 6, 1, 2, 2, 2, 6]);
+    assert!(rt; entry.home_count == 5);
+    assert!(rt; entry.home == [11, 5, 12, 4, 3, 0, 0, 0, 0, 0, 0, 0, 0, 0, 0, 0]);
+    assert!(rt; pack(&entry) == RETI);
     Ok(())
 }
 
@@ -159,14 +155,8 @@ fn numbers_do_not_touch(rt: HostRuntime) -> Result<(), Fail> {
         let alone = numbers(&unpack(&changed(&[0; 47], changes))?);
         let others = numbers(&unpack(&changed(&full, changes))?);
         for (k, (_, other)) in GREATEST.into_iter().enumerate() {
-            assert_eq!(rt;
-                alone.get(k).copied(),
-                Some(if k == i { greatest } else { 0 })
-            );
-            assert_eq!(rt;
-                others.get(k).copied(),
-                Some(if k == i { 0 } else { other })
-            );
+            assert!(rt; alone.get(k).copied() == Some(if k == i { greatest } else { 0 }));
+            assert!(rt; others.get(k).copied() == Some(if k == i { 0 } else { other }));
         }
     }
     Ok(())
@@ -194,11 +184,8 @@ fn reads_words(rt: HostRuntime) -> Result<(), Fail> {
         &RETI,
         &[(34, 0xe9), (35, 0x66), (36, 0xa6), (38, 1), (39, 0x01)],
     ))?;
-    assert_eq!(rt; entry.material, [3, 0, 0, 0, 0, 0, 0, 0, 0, 0]);
-    assert_eq!(rt;
-        entry.home,
-        [11, 4, 12, 4, 0, 0, 0, 0, 0, 0, 0, 0, 0, 0, 0, 0]
-    );
+    assert!(rt; entry.material == [3, 0, 0, 0, 0, 0, 0, 0, 0, 0]);
+    assert!(rt; entry.home == [11, 4, 12, 4, 0, 0, 0, 0, 0, 0, 0, 0, 0, 0, 0, 0]);
     Ok(())
 }
 
