@@ -21,3 +21,4 @@ pub mod AmongLaws
 pub mod TakeLaws
 pub mod OnlyLaws
 pub mod TagLaws
+pub mod SomeBase

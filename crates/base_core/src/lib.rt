@@ -26,6 +26,7 @@ pub use fault::{
     SaveError, What,
 };
 pub use laws::{
-    carried_bases_stay, files_have_one_meaning, open_bases_have_one_meaning, searches_see_the_games,
+    carried_bases_stay, files_have_one_meaning, files_mean_a_base_or_have_a_fault,
+    open_bases_have_one_meaning, searches_see_the_games,
 };
 pub use reading::mended_entry;

@@ -8,7 +8,7 @@ use Rattle.cell_core.specs.declared.step.Move.{Move}
 use Rattle.chess_laws.specs.Step.{stepped}
 use Rattle.chess_laws.specs.declared.setup.Setup.{Setup}
 use Rattle.game_codec.specs.AllWalk.{AllWalked}
-use Rattle.game_codec.specs.Visits.{Visit, all_visits, branch_visits, line_visits, place_of_visit, places}
+use Rattle.game_codec.specs.Visits.{Visit, all_visits, branch_visits, line_visits, place_of_visit}
 use Rattle.game_tree.specs.Game.{GameTree}
 use Rattle.game_tree.specs.Replay.{next_at, plies_of}
 use Rattle.game_tree.specs.Tree.{Line, ends, goes, Branches, more, moves_of}

@@ -1,8 +1,10 @@
 use Rattle.std.proofs.Common.{◌≡◌, ◌+◌, ◌≤◌, ℕ, true, false, None, get_or, rules, sym, subst, ◌∙◌}
 use Rattle.std.proofs.lemmas.Bool.{not-false, not-true}
 use Rattle.std.proofs.lemmas.List.{set-get_or}
+use Rattle.game_filter.specs.Search.{looks_at}
 use Rattle.game_filter.proofs.Searches.{joined, not_looked_at}
 use Rattle.sig_index.specs.Games.{extent_in}
+use Rattle.sig_index.proofs.CostLemmas.{not_passed}
 use Rattle.pos_search.specs.Matching.{first_of as first_ply_of}
 use Rattle.pos_search.proofs.SearchLemmas.{looked_cost, ply_is}
 use Rattle.pos_search.proofs.searching.search_game.Goals as goal
@@ -34,3 +36,8 @@ returns-in-Err-clause-asks g c = λ sig kept.
     subst (λ (n : ℕ). g.F.Files.asked c.hit_sought.new.files ≤ g.F.Files.asked c.args.files.now + n)
     (looked_cost c.args.op c.args.q.now sig (extent_in (g.G.Games.extents c.args.games.now) c.args.i) c.args.filter.now c.args.i c.get-old.result c.get-old.ensures.entry
     (sym c.looks_at.ensures.looks ∙ yes)) (c.hit_sought.ensures.asks sig kept)
+
+pub returns-in-Ok-clause-passed : goal.returns-in-Ok-clause-passed
+returns-in-Ok-clause-passed g c = λ no.
+    let yes : c.looks_at.result ≡ true = search (rules, not-false c.looks_at.result) in
+    absurd (not_passed (looks_at c.args.op) c.args.filter.now c.args.i c.get-old.result c.get-old.ensures.entry (sym c.looks_at.ensures.looks ∙ yes) no)
