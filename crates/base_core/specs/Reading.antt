@@ -55,6 +55,10 @@ pub record IsTaken (strict : Bool) (bytes : List ℕ) (e kept : Entry) (mended :
   pub mends : mended ≡ is_some (derived_fault e sig)
   pub strictly : IsTrue strict → mended ≡ false
 
+-- The entry with what the bytes of its record say.
+abbrev pub IsMended : List ℕ → Entry → Entry → Type 0
+IsMended bytes e kept = (sig : Sig) × ((date : Date) × (IsSigned bytes e sig date × (kept ≡ kept_entry e sig date)))
+
 -- They are no record, or refused by a strict opening.
 abbrev pub IsNotTaken : Bool → ℕ → List ℕ → Entry → BaseFault → Type 0
 IsNotTaken strict game bytes e fault =

@@ -1,0 +1,25 @@
+//! Each game has one place, and a base without a fault comes over whole.
+ghost use Rattle.std.specs.Prelude.{◌≡◌, ◌<◌, [], false, List, ℕ, length};
+ghost use Rattle.index_entry.specs.Index.{entry_bytes};
+ghost use Rattle.name_base.specs.PartNames.{PartLists, names_in_part};
+ghost use Rattle.base_core.specs.Base.{Base as PlainBase};
+ghost use Rattle.base_core.specs.FirstFault.{Passes};
+ghost use Rattle.base_core.specs.Means.{Means};
+ghost use Rattle.mend_base.specs.Places.{ArePlaces, Place, games_of, notes_from};
+
+/// A law: a game of three files is whole, or has one first fault, and not both. So there is one list of places at most.
+pub fn one_place_each()
+    ensures one { (index : List ℕ) (names : PartLists) (games : List ℕ) (count : ℕ) (places others : List Place)
+        → ArePlaces index names games count places → ArePlaces index names games count others → places ≡ others }
+{}
+
+/// A law: where three files mean a base and each of their entries passes, so that they have no fault, every game of the base comes over with
+/// its head, in order, and nothing is told.
+pub fn sound_bases_come_over()
+    ensures games { (index names games : List ℕ) (base : PlainBase) (places : List Place) → Means index names games base
+        → ((i : ℕ) → i < base.header.games → Passes false base.names games i (entry_bytes index i))
+        → ArePlaces index (names_in_part names) games base.header.games places → games_of places ≡ base.games }
+    ensures notes { (index names games : List ℕ) (base : PlainBase) (places : List Place) → Means index names games base
+        → ((i : ℕ) → i < base.header.games → Passes false base.names games i (entry_bytes index i))
+        → ArePlaces index (names_in_part names) games base.header.games places → notes_from 0 places ≡ [] }
+{}
