@@ -2,7 +2,7 @@ use Rattle.std.proofs.Common.{◌≡◌, ◌≤◌, ◌+◌, length, IsTrue, [],
 use Rattle.base_files.specs.Told.{Tells}
 use Rattle.pgn_read.specs.Text.{gap_behind}
 use Rattle.pgn_read.specs.Readers.{ahead}
-use Rattle.pgn_read.proofs.window.Window.skip_gap.Given as goal
+use Rattle.pgn_read.proofs.window.Window.skip_on.Given as goal
 
 -- What is left of the gap leads to the same place.
 abbrev pub invariant-gap : goal.invariant-gap
