@@ -1,16 +1,15 @@
 -- Rows that are the same for each key have the same text, in whatever order they stand.
-use Rattle.std.proofs.Common.{◌≡◌, ℕ, ◌+◌, ◌<◌, ◌≤◌, ◌==◌, ◌&&◌, ◌||◌, not, nat_lt, Bool, true, false, cond, List, [], ◌∷◌, ◌++◌, Option, Some, None, Ordering, codes, refl, sym, ap, ◌∙◌, subst, arith}
+use Rattle.std.proofs.Common.{◌≡◌, ℕ, ◌<◌, ◌==◌, ◌&&◌, ◌||◌, not, nat_lt, Bool, true, false, cond, List, [], ◌∷◌, ◌++◌, Option, Some, None, Ordering, codes, refl, sym, ap, ◌∙◌, subst, arith}
 use Rattle.std.specs.List.{AllByRecursion, fold, sum_by}
 use Rattle.std.specs.declared.cmp.Ordering.TheVariants.{Less, Equal, Greater}
 use Rattle.std.specs.Ordering.{is_eq, is_lt}
-use Rattle.std.proofs.lemmas.Bool.{and_parts, eqb-false, eqb-true, false≢true, ltb-false, ltb-true, lt-ltb}
+use Rattle.std.proofs.lemmas.Bool.{and_parts, eqb-true, false≢true, ltb-false, ltb-true, lt-ltb}
 use Rattle.std.proofs.lemmas.List.Sums.{sum_by-append, sum_by-cons}
 use Rattle.cell_core.specs.declared.man.Colour.{Colour}
 use Rattle.cell_core.specs.declared.step.Move.{Move}
 use Rattle.cell_core.specs.Board.{Men}
 use Rattle.tree_rows.specs.declared.hit.GameHit.{GameHit}
 use Rattle.tree_rows.specs.declared.row.Row.{Row}
-use Rattle.tree_rows.specs.declared.numbers.Numbers.{Numbers}
 use Rattle.tree_rows.specs.Keys.{key_cmp, same_key}
 use Rattle.tree_rows.specs.Rows.{KeysDiffer, row_at, rows_of}
 use Rattle.tree_rows.specs.TreeText.{in_order, line_of, row_before, row_lines, total_of, tree_text, with_row}
