@@ -1,6 +1,7 @@
 -- The places of a game, one after the other.
 use Rattle.std.proofs.Common.{◌≡◌, ◌≤◌, ◌<◌, ◌+◌, ◌-◌, ℕ, zero, suc, Bool, true, cond, nat_lt, List, [], ◌∷◌, ◌++◌, None, Some, Option, length, length-append, length-take-le, get_or, set, map, min, take, drop, refl, sym, ap, ◌∙◌, subst, arith, add-one, inl, inr}
-use Rattle.std.specs.Prelude.{false, is_none, option_map, slice_get}
+use Rattle.std.specs.Prelude.{All, IfSome, false, is_none, option_map, slice_get}
+use Rattle.std.proofs.lemmas.List.Elements.{All-cons, All-nil, All-push}
 use Rattle.std.specs.List.{range_with_len}
 use Rattle.std.proofs.lemmas.Option.{slice_get-get_or, slice_get_past}
 use Rattle.std.proofs.lemmas.List.{append-nil, append_assoc, drop_at, drop_more, get_or-append_right, get_or-set_same, get_or-take, get_or_append_left, length-drop, length-map, length-set, length_push, map-append, set-get_or, set-set, set_at, take-append-le, take-map, take_at, take-append-drop}
@@ -8,16 +9,18 @@ use Rattle.std.proofs.lemmas.Bool.{cases_eq, le-ltb, lt-ltb, ltb-false, ltb-true
 use Rattle.cell_core.specs.declared.step.Move.{Move}
 use Rattle.cell_core.specs.Packed.{Packed, packed_of}
 use Rattle.chess_laws.specs.declared.setup.Setup.{Setup}
+use Rattle.chess_laws.specs.Position.{Sound}
 use Rattle.chess_laws.specs.Step.{Step}
 use Rattle.game_tree.specs.Game.{GameTree}
 use Rattle.game_tree.specs.Legal.{IsLegalGame}
 use Rattle.game_tree.proofs.LegalLemmas.{IsLegalGame-next}
 use Rattle.game_tree.specs.Replay.{main_moves, next_at, plies_of, position_at}
 use Rattle.game_tree.specs.Tree.{Played, line_of, moves_of}
+use Rattle.sig_index.proofs.PrefixLemmas.{moves_at}
 use Rattle.sig_index.proofs.RecordLemmas.{no_next}
-use Rattle.pos_index.specs.Hits.{Place, place_at, places_of}
+use Rattle.pos_index.specs.Hits.{IsFrom, IsLegalPlace, IsRow, Place, place_at, places_of}
 use Rattle.pos_index.specs.Keeping.{AreAlike, HasPut, HasPutAtMost, IsPlaceOn, first_places, next_put, place_in, row_in, with_row}
-use Rattle.pos_index.proofs.IndexLemmas.{length-range}
+use Rattle.pos_index.proofs.IndexLemmas.{length-range, places_few}
 
 range_next : (a n : ℕ) → range_with_len a (suc n) ≡ range_with_len a n ++ (a + n) ∷ []
 range_next a zero = ap (λ (k : ℕ). k ∷ []) (let same : a ≡ a + 0 = omega arith in same)
@@ -283,18 +286,22 @@ whole-row old front now i n depth game lt alike few is nexts =
 
 -- The same without the game.
 pub at_most-none : (old : List (List Place)) (i : ℕ) → HasPutAtMost 0 old i old
-at_most-none old i = record { places = []; few = omega arith; put = sym (ap (with_row old i) (append-nil (row_in old i)) ∙ set-get_or old i []) }
+at_most-none old i = record {
+  places = [];
+  row = record { few = omega arith; legal = All-nil IsLegalPlace };
+  put = sym (ap (with_row old i) (append-nil (row_in old i)) ∙ set-get_or old i []);
+}
 
-pub at_most-more : (n : ℕ) (old now next : List (List Place)) (i : ℕ) (place : Place) → HasPutAtMost n old i now → i < length old
+pub at_most-more : (n : ℕ) (old now next : List (List Place)) (i : ℕ) (place : Place) → HasPutAtMost n old i now → i < length old → IsLegalPlace place
     → next ≡ with_row now i (row_in now i ++ place ∷ []) → HasPutAtMost (n + 1) old i next
-at_most-more n old now next i place so lt more = record {
+at_most-more n old now next i place so lt legal more = record {
   places = so.places ++ place ∷ [];
-  few = omega (arith, so.few, length_push so.places place);
+  row = record { few = omega (arith, so.row.few, length_push so.places place); legal = All-push IsLegalPlace so.places place so.row.legal legal };
   put = row_more old now next i so.places place lt so.put more;
 }
 
 pub at_most-wider : (n m : ℕ) (old now : List (List Place)) (i : ℕ) → HasPutAtMost n old i now → n ≤ m → HasPutAtMost m old i now
-at_most-wider n m old now i so le = record { places = so.places; few = omega (arith, so.few, le); put = so.put }
+at_most-wider n m old now i so le = record { places = so.places; row = record { few = omega (arith, so.row.few, le); legal = so.row.legal }; put = so.put }
 
 -- What was put is taken out again.
 pub taken_back : (old now new : List (List Place)) (i count : ℕ) → HasPut old i now → i < length old → count ≡ length (row_in old i)
@@ -329,3 +336,31 @@ got_some xs line i ply x same at lt is = (λ j. slice_get (sym same j) (sym at j
 
 pub got_none : {T : Type 0} (xs line : List T) (i ply : ℕ) → xs ≡ line → i ≡ ply → length xs ≤ i → slice_get line ply ≡ None
 got_none xs line i ply same at le = (λ j. slice_get (sym same j) (sym at j)) ∙ slice_get_past xs i le
+
+-- The move after a place is legal there.
+pub legal_place : (p q : Setup) (board : Packed) (ply : ℕ) (next : Option Move) → Sound p → board ≡ packed_of p.board p.side → ((m : Move) → next ≡ Some m → Step p m q)
+    → IsLegalPlace (record { board = board; ply = ply; next = next })
+legal_place p q board ply None sound is steps = tt
+legal_place p q board ply (Some m) sound is steps = record { position = p; sound = sound; stands = sym is; legal = (q, steps m refl) }
+
+place_legal : (game : GameTree) → Sound game.start → IsLegalGame game → (k : ℕ) → IsLegalPlace (place_at game k)
+place_legal game sound legal k = by (next_at game k) refl
+  where
+    by : (next : Option Move) → next_at game k ≡ next → IfSome next (IsFrom (place_at game k).board)
+    by None is = tt
+    by (Some m) is = record {
+      position = position_at game k;
+      sound = (moves_at game k sound legal (omega (arith, next_within game k m is))).sound;
+      stands = refl;
+      legal = (position_at game (k + 1), legal_next game (position_at game k) k m legal refl is);
+    }
+
+all_legal : (game : GameTree) → Sound game.start → IsLegalGame game → (plies : List ℕ) → All IsLegalPlace (map (place_at game) plies)
+all_legal game sound legal [] = All-nil IsLegalPlace
+all_legal game sound legal (k ∷ plies) = All-cons IsLegalPlace (place_at game k) (map (place_at game) plies) (place_legal game sound legal k) (all_legal game sound legal plies)
+
+pub places_row : (depth : ℕ) (game : GameTree) → Sound game.start → IsLegalGame game → IsRow (depth + 1) (places_of depth game)
+places_row depth game sound legal = record {
+  few = places_few depth game;
+  legal = all_legal game sound legal (range_with_len 0 (min depth (plies_of game) + 1));
+}

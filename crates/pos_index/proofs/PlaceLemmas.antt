@@ -1,17 +1,15 @@
 -- The places that spots stand for.
-use Rattle.std.proofs.Common.{◌≡◌, ◌≤◌, ◌<◌, ◌+◌, ◌-◌, ℕ, zero, suc, Bool, true, false, eqb, cond, List, [], ◌∷◌, ◌++◌, None, Some, Option, length, get_or, set, map, take, drop, slice_get, refl, sym, ap, ◌∙◌, subst, arith, inl, inr}
+use Rattle.std.proofs.Common.{◌≡◌, ◌<◌, ◌+◌, ℕ, Bool, false, eqb, cond, List, [], ◌∷◌, ◌++◌, None, Some, Option, length, set, map, take, drop, slice_get, refl, sym, ap, ◌∙◌, arith}
 use Rattle.std.specs.Prelude.{All, Result, Ok, Err, OnErr, OnOk}
-use Rattle.std.proofs.lemmas.Bool.{cases_lt}
 use Rattle.std.proofs.lemmas.Option.{get_or_from_slice_get}
 use Rattle.cell_core.specs.declared.step.Move.{Move}
-use Rattle.std.proofs.lemmas.List.{drop-map, get_or-map, map-append, get_or_append_left, length-append, length-map, length-set, map-set, map_push, take-map}
-use Rattle.std.proofs.lemmas.List.Elements.{All-append, All-cons, All-drop, All-head, All-nil, All-push, All-set, All-tail, All-take, All-weaker}
+use Rattle.std.proofs.lemmas.List.{drop-map, get_or-map, map-append, get_or_append_left, length-append, length-map, map-set, map_push, take-map}
+use Rattle.std.proofs.lemmas.List.Elements.{All-drop, All-head, All-nil, All-push, All-tail, All-take, All-weaker}
 use Rattle.cell_core.specs.Packed.{Packed}
 use Rattle.game_filter.specs.Renumbering.{renumbered}
-use Rattle.pos_index.specs.declared.hit.Hit.{Hit}
 use Rattle.pos_index.specs.declared.spot.Spot.{Spot}
 use Rattle.pos_index.specs.Hits.{Place, hits_from, hits_in, same_packed}
-use Rattle.pos_index.specs.Keeping.{AreOn, EndsEmpty, IsPlaceOn, board_in, hits_at, hits_by, next_put, next_set, place_in, place_of, places_by, row_in, row_places, spot_in, with_row}
+use Rattle.pos_index.specs.Keeping.{AreOn, IsPlaceOn, board_in, hits_at, hits_by, next_put, next_set, place_in, place_of, places_by, row_in, row_places, spot_in, with_row}
 use Rattle.pos_index.proofs.ListedLemmas.{on_row, row_known}
 use Rattle.pos_index.proofs.SpotLemmas.{hit_of}
 

@@ -1,5 +1,5 @@
 -- Where a test that holds of the front of a list alone ends to hold.
-use Rattle.std.proofs.Common.{◌≡◌, ◌≤◌, ◌<◌, ◌+◌, ◌-◌, ℕ, Bool, true, false, zero, List, [], ◌∷◌, ◌++◌, length, insert, remove, refl, sym, ap, ◌∙◌, subst, arith, true≢false, length-append, inl, inr, get_or, leb, ltb, set, append_assoc, Option}
+use Rattle.std.proofs.Common.{◌≡◌, ◌≤◌, ◌<◌, ◌+◌, ◌-◌, ℕ, Bool, true, false, List, ◌∷◌, ◌++◌, length, insert, remove, refl, sym, ap, ◌∙◌, subst, arith, true≢false, length-append, inl, inr, get_or, leb, ltb, set, append_assoc, Option}
 use Rattle.std.specs.Prelude.{All}
 use Rattle.pos_index.specs.declared.hit.Hit.{Hit}
 use Rattle.std.specs.List.Sorted.{IsPartitionedBy, IsPartitionPoint}

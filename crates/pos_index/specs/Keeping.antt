@@ -9,7 +9,7 @@ use Rattle.pos_index.specs.declared.hit.Hit.{Hit}
 use Rattle.pos_index.specs.declared.spot.Spot.{Spot}
 use Rattle.game_tree.specs.Game.{GameTree}
 use Rattle.cell_core.specs.declared.step.Move.{Move}
-use Rattle.pos_index.specs.Hits.{Place, place_at}
+use Rattle.pos_index.specs.Hits.{IsRow, Place, place_at}
 
 -- The hits of a game with this number on a board, by its number; and those of all games, the first of which has this number.
 abbrev pub hits_at : ℕ → ℕ → List Spot → List Hit
@@ -115,18 +115,18 @@ pub record IsNumber (boards : List Packed) (number : ℕ) (board : Packed) : Typ
   pub within : number < length boards
   pub board_is : board_in boards number ≡ board
 
--- Places were put behind those of game i; and at most so many.
+-- Places were put behind those of game i; and at most so many, each with a legal move or none after it.
 pub record HasPut (old : List (List Place)) (i : ℕ) (new : List (List Place)) : Type 0 where
   pub places : List Place
   pub put : new ≡ with_row old i (row_in old i ++ places)
 
 pub record HasPutAtMost (most : ℕ) (old : List (List Place)) (i : ℕ) (new : List (List Place)) : Type 0 where
   pub places : List Place
-  pub few : length places ≤ most
+  pub row : IsRow most places
   pub put : new ≡ with_row old i (row_in old i ++ places)
 
--- A game was added that has at most so many places.
+-- A game was added that has at most so many places, each with a legal move or none after it.
 pub record AddsRow (most : ℕ) (old new : List (List Place)) : Type 0 where
   pub row : List Place
-  pub few : length row ≤ most
+  pub is_row : IsRow most row
   pub added : new ≡ old ++ row ∷ []

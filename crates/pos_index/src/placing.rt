@@ -1,6 +1,7 @@
 //! The places of one game, from the game in memory or from its record.
 ghost use Rattle.std.specs.Prelude.{◌≡◌, ◌+◌, ◌≤◌, ◌<◌, ◌^◌, [], ◌∷◌, ◌++◌, false, true, nat_lt, if◌then◌else◌, List, drop, length, IfOk, OnOk, OnErr};
 ghost use Rattle.cell_core.specs.Packed.{packed_of};
+ghost use Rattle.chess_laws.specs.Position.{Sound};
 ghost use Rattle.game_codec.specs.Record.{IsRecord, IsSomeRecord};
 ghost use Rattle.game_tree.specs.Game.{GameTree};
 ghost use Rattle.game_tree.specs.Legal.{IsLegalGame};
@@ -30,6 +31,7 @@ pub(crate) fn put_game(
     requires legal { IsLegalGame game.now }
     requires depth { depth ≤ 40 }
     ensures put { OnOk result (places.new ≡ with_row places.old i (row_in places.old i ++ drop from (places_of depth game.now))) }
+    ensures start { Sound game.now.start }
     ensures unchanged { OnErr result (places.new ≡ places.old) }
 {
     let old = places.count(i);
@@ -55,6 +57,7 @@ fn try_game(
     requires legal { IsLegalGame game.now }
     requires depth { depth ≤ 40 }
     ensures put { OnOk result (places.new ≡ with_row places.old i (row_in places.old i ++ drop from (places_of depth game.now))) }
+    ensures start { Sound game.now.start }
     ensures some { OnErr result (HasPut places.old i places.new) }
 {
     let mut position = game.start;
@@ -134,9 +137,11 @@ fn next_in(game: &Game, ply: u8) -> Option<Move>
 
 // The board of a position with its side to move.
 fn packed(position: &Position) -> PackedBoard
-    ensures { result ≡ packed_of position.now.board position.now.side }
+    ensures packed { result ≡ packed_of position.now.board position.now.side }
+    ensures sound { Sound position.now }
 {
-    pack(position.board(), position.side())
+    let setup = position.setup();
+    pack(&setup.board, setup.side)
 }
 
 /// Puts the places of the game of a record of fewer than 2^32 bytes, up to a depth, behind those that number `i` has, and answers whether

@@ -1,5 +1,5 @@
 use Rattle.std.proofs.Common.{rules, arith}
-use Rattle.pos_index.proofs.GameLemmas.{nexts-more, nexts-none, nexts-there, nexts-within}
+use Rattle.pos_index.proofs.GameLemmas.{nexts-more, nexts-none, nexts-within}
 use Rattle.pos_index.proofs.placing.set_nexts.Goals as goal
 
 pub loop-k-init : goal.loop-k-init

@@ -1,4 +1,4 @@
-use Rattle.std.proofs.Common.{rules, ◌≡◌, ◌++◌, None, ltb}
+use Rattle.std.proofs.Common.{rules, None, ltb}
 use Rattle.std.proofs.lemmas.List.Sorted.{IsPartitionPoint-from_clause}
 use Rattle.pos_index.proofs.PointLemmas.{end_before}
 use Rattle.pos_index.proofs.hits.Hits.first_of.Goals as goal

@@ -1,11 +1,11 @@
-use Rattle.std.proofs.Common.{rules, ◌≡◌, ◌≤◌, ◌<◌, ◌+◌, ◌-◌, ◌++◌, ◌∙◌, ap, sym, subst, List, take, drop, length, arith}
+use Rattle.std.proofs.Common.{rules, ◌≡◌, ◌<◌, ◌+◌, ◌-◌, ◌++◌, ◌∙◌, ap, sym, subst, List, map, take, drop, length, arith}
 use Rattle.std.specs.Prelude.{Some, slice_set}
 use Rattle.std.proofs.lemmas.List.{length-set}
 use Rattle.std.proofs.lemmas.List.Elements.{All-set}
-use Rattle.pos_index.specs.Hits.{Fits, Place, places_of}
+use Rattle.pos_index.specs.Hits.{Fits, Index, IsRow, Place, places_of, row_of}
 use Rattle.pos_index.specs.Keeping.{row_in, with_row}
-use Rattle.pos_index.proofs.GameLemmas.{alike-front, whole-row}
-use Rattle.pos_index.proofs.IndexLemmas.{AreShort, places_few, stands_set}
+use Rattle.pos_index.proofs.GameLemmas.{alike-front, places_row, whole-row}
+use Rattle.pos_index.proofs.IndexLemmas.{AreShort, stands_set}
 use Rattle.pos_index.proofs.index.PosIndex.replace.Goals as goal
 
 pub invariant_of-self-2 : goal.invariant_of-self-2
@@ -24,7 +24,7 @@ invariant_of-self-2 c =
       c.self.invariant.0,
       (
         subst (λ (l : List (List Place)). Fits depth (length l)) (sym now) (subst (Fits depth) (sym (length-set old c.args.i (places_of depth game))) c.self.invariant.1.0),
-        subst (AreShort (depth + 1)) (sym now) (All-set (λ (r : List Place). length r ≤ depth + 1) old c.args.i (places_of depth game) (places_few depth game) c.self.invariant.1.1),
+        subst (AreShort (depth + 1)) (sym now) (All-set (IsRow (depth + 1)) old c.args.i (places_of depth game) (places_row depth game c.put_game.ensures.start c.requires.legal) c.self.invariant.1.1),
       ),
     )
 
@@ -56,4 +56,5 @@ returns-clause-indexed c = λ games is.
     (omega (arith, c.from.ensures, c.from-2.ensures, alike.within, c.count-old.ensures)) c.in_ok-put_game.ensures.put c.drop_middle.ensures in
     let now : c.set_nexts.new.places ≡ slice_set old c.args.i (places_of depth game) =
     whole-row old c.drop_middle.new.self c.set_nexts.new.places c.args.i n depth game there alike c.common-kept.ensures.few front c.set_nexts.ensures in
-    now ∙ stands_set depth c.args.i old games (Some game) (search (rules, is))
+    now ∙ stands_set depth c.args.i old games (Some game)
+    (ap (λ (index : Index). index.rows) c.self.view_is ∙ is ∙ ap (λ (index : Index). map (row_of index.depth) games) (sym c.self.view_is))

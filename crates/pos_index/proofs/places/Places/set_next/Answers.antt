@@ -1,4 +1,4 @@
-use Rattle.std.proofs.Common.{rules, ◌<◌, ◌∙◌, ap, length, set, List}
+use Rattle.std.proofs.Common.{◌<◌, ◌∙◌, ap, length, set, List}
 use Rattle.pos_index.specs.Hits.{Place}
 use Rattle.pos_index.specs.Keeping.{Listed, next_put, place_in, row_in, with_row}
 use Rattle.pos_index.proofs.PlaceLemmas.{next_placed, row_length, there_is}
