@@ -24,3 +24,4 @@ pub mod HeadsAgainLaws
 pub mod TakenLaws
 pub mod RoundTripLaws
 pub mod CountLaws
+pub mod MeantLaws

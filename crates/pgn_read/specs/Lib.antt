@@ -19,3 +19,4 @@ pub mod Window
 pub mod Fit
 pub mod Legality
 pub mod RoundTrip
+pub mod Meant
