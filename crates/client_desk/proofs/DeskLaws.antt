@@ -1,5 +1,5 @@
 -- A desk whose seats have changed: for whoever keeps a desk.
-use Rattle.std.proofs.Common.{◌≡◌, ℕ, ◌+◌, ◌<◌, ◌≤◌, ◌==◌, Bool, true, false, List, Option, Some, None, nat_lt, length, get_or, slice_get, set, All, refl, sym, ap, subst, ◌∙◌, arith}
+use Rattle.std.proofs.Common.{◌≡◌, ℕ, ◌+◌, ◌<◌, ◌==◌, Bool, true, false, List, Option, Some, None, nat_lt, length, get_or, slice_get, set, All, refl, sym, subst, arith}
 use Rattle.std.specs.List.{AllPairs}
 use Rattle.std.proofs.lemmas.Bool.{eqb-true, eqb-false, ltb-true, ltb-false}
 use Rattle.std.proofs.lemmas.List.{length-set, get_or-set_same, get_or-set_other}
@@ -12,7 +12,7 @@ use Rattle.client_desk.specs.Desks.{Apart, Echoed}
 use Rattle.client_desk.proofs.EchoLaws.{apart-pair, slot-of, slot-same}
 
 -- A place of a list where something stands is below its length.
-got-below : {A : Type 0} (xs : List A) (c : ℕ) (x : A) → slice_get xs c ≡ Some x → c < length xs
+pub got-below : {A : Type 0} (xs : List A) (c : ℕ) (x : A) → slice_get xs c ≡ Some x → c < length xs
 got-below xs c x e = by (nat_lt c (length xs)) refl
   where
     by : (b : Bool) → nat_lt c (length xs) ≡ b → c < length xs

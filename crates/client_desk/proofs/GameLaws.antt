@@ -1,5 +1,5 @@
 -- Which games a watch has in, as the filter of its seat changes.
-use Rattle.std.proofs.Common.{◌≡◌, ℕ, zero, suc, ◌+◌, ◌<◌, ◌≤◌, Bool, true, false, cond, List, [], ◌∷◌, ◌++◌, Option, Some, None, is_some, nat_lt, length, map, get_or, set, length-append, refl, sym, ap, subst, ◌∙◌, arith}
+use Rattle.std.proofs.Common.{◌≡◌, ℕ, zero, suc, ◌<◌, ◌≤◌, Bool, List, [], ◌∷◌, ◌++◌, Option, Some, None, is_some, length, map, get_or, refl, sym, ap, ◌∙◌, arith}
 use Rattle.std.proofs.lemmas.Bool.{le-ltb, lt-ltb}
 use Rattle.std.proofs.lemmas.List.{length-map, map-append}
 use Rattle.std.proofs.Math.Seq.{map-set_same}
@@ -7,7 +7,7 @@ use Rattle.game_filter.specs.Renumbering.{renumbered}
 use Rattle.filter_seat.specs.SavedFilters.{to_start}
 use Rattle.tree_rows.specs.declared.hit.GameHit.{GameHit}
 use Rattle.tree_live.specs.declared.entry.Entry.{Entry}
-use Rattle.tree_live.specs.Watching.{under, all_out, with_game}
+use Rattle.tree_live.specs.Watching.{under, with_game}
 use Rattle.client_desk.specs.Changes.{game_with}
 
 -- Which games are in.

@@ -1,5 +1,5 @@
 -- What a seat keeps as it changes.
-use Rattle.std.proofs.Common.{◌≡◌, ℕ, zero, suc, ◌+◌, ◌-◌, ◌<◌, ◌≤◌, ◌==◌, ◌&&◌, Bool, true, false, cond, List, [], ◌∷◌, ◌++◌, Option, Some, None, is_some, nat_lt, length, map, get_or, slice_get, set, take, drop, All, IfSome, Result, Ok, Err, OnOk, OnErr, option_map, length-append, refl, sym, ap, subst, ◌∙◌, arith}
+use Rattle.std.proofs.Common.{◌≡◌, ℕ, zero, suc, ◌+◌, ◌-◌, ◌<◌, ◌≤◌, ◌==◌, ◌&&◌, Bool, true, false, cond, List, [], ◌∷◌, ◌++◌, Option, Some, None, nat_lt, length, map, get_or, slice_get, set, take, drop, All, IfSome, Result, Ok, Err, OnOk, OnErr, option_map, length-append, refl, sym, ap, subst, ◌∙◌, arith}
 use Rattle.std.proofs.lemmas.Bool.{eqb-true, eqb-false, ltb-true, ltb-false}
 use Rattle.std.proofs.lemmas.List.{length-set, length-drop, length-take, length-map, get_or_past, get_or-set_same, get_or-set_other}
 use Rattle.std.proofs.lemmas.List.Elements.{All-map}
@@ -14,8 +14,8 @@ use Rattle.tree_live.specs.Slots.{Slotted, AreChanged, AreTold, EachWatch, IsTol
 use Rattle.client_desk.specs.declared.change.Change.{Change}
 use Rattle.client_desk.specs.declared.change.Change.TheVariants.{Added, Edited, Renumbered}
 use Rattle.client_desk.specs.Seats.{Seated, IsSeat, IsSlot, GoesBy, SeatTold}
-use Rattle.client_desk.specs.Changes.{Fits, Follows, filter_after, kept_after, game_with, games_after, watch_after, most_told}
-use Rattle.client_desk.proofs.GameLaws.{ins, marks, same-number, ins-under, ins-added, ins-edited, marks-to_start, ins-renumbered, length-renumbered, few-renumbered}
+use Rattle.client_desk.specs.Changes.{Fits, Follows, filter_after, kept_after, game_with, watch_after, most_told}
+use Rattle.client_desk.proofs.GameLaws.{ins, same-number, ins-under, ins-added, ins-edited, marks-to_start, ins-renumbered, length-renumbered, few-renumbered}
 
 -- ---- all slots
 

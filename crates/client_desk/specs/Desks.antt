@@ -1,6 +1,6 @@
 -- Four clients on one base (this project's own).
-use Rattle.std.specs.Prelude.{◌≡◌, ℕ, ◌+◌, ◌<◌, Bool, false, List, [], ◌∷◌, Option, None, length, replicate, slice_index_or, slice_set, option_map}
-use Rattle.tree_live.specs.Slots.{Slotted, IsTold, in_slot}
+use Rattle.std.specs.Prelude.{◌≡◌, ℕ, ◌+◌, ◌<◌, Bool, false, List, [], ◌∷◌, Option, None, length, replicate, slice_index_or, option_map}
+use Rattle.tree_live.specs.Slots.{IsTold, in_slot}
 use Rattle.client_desk.specs.declared.change.Change.{Change}
 use Rattle.client_desk.specs.Seats.{Seated, IsSlot, new_seat}
 use Rattle.client_desk.specs.Changes.{Follows, most_told}

@@ -1,5 +1,5 @@
 -- What the loop over the seats of a desk keeps on its way. Only private functions cite this.
-use Rattle.std.specs.Prelude.{◌≡◌, ℕ, ◌+◌, ◌<◌, ◌≤◌, List, Option, None, length, slice_index_or}
+use Rattle.std.specs.Prelude.{◌≡◌, ℕ, ◌<◌, ◌≤◌, List, Option, None, length, slice_index_or}
 use Rattle.tree_rows.specs.declared.row.Row.{Row}
 use Rattle.tree_live.specs.Slots.{in_slot}
 use Rattle.client_desk.specs.declared.change.Change.{Change}
