@@ -12,7 +12,8 @@ import sys
 import tempfile
 from pathlib import Path
 
-import make_bases as made
+sys.dont_write_bytecode = True
+import make_bases as made  # noqa: E402
 
 TOP = Path(__file__).resolve().parent.parent
 PROGRAMS = ("scid_shell", "scid_mend")

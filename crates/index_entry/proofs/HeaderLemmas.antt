@@ -1,7 +1,7 @@
 -- The first fault of an index is that of its header, or that its entries are cut off.
-use Rattle.std.proofs.Common.{◌≡◌, ◌<◌, ℕ, ◌+◌, ◌*◌, Bool, true, false, not, nat_eq, nat_lt, List, length, take, Result, Ok, Err, if◌then◌else◌, refl, sym, ap, ◌∙◌}
+use Rattle.std.proofs.Common.{◌≡◌, ◌≤◌, ◌<◌, ℕ, ◌+◌, ◌*◌, Bool, true, false, not, nat_eq, nat_lt, List, length, take, Result, Ok, Err, if◌then◌else◌, refl, sym, ap, ◌∙◌, subst}
 use Rattle.std.specs.Str.{bytes_eq}
-use Rattle.std.proofs.lemmas.Bool.{lt-ltb}
+use Rattle.std.proofs.lemmas.Bool.{lt-ltb, ltb-false}
 use Rattle.index_entry.specs.Index.{head_in, header_read, index_read, magic, number_in}
 use Rattle.index_entry.specs.declared.index.IndexHead.{IndexHead}
 use Rattle.index_entry.specs.declared.fault.IndexFault.{IndexFault}
@@ -29,3 +29,17 @@ cut-off bytes head is short = sym (index-header bytes ∙ (ap (then_length bytes
 
 pub faulty-header : (bytes : List ℕ) (fault : IndexFault) → Err fault ≡ header_read bytes → Err fault ≡ index_read bytes
 faulty-header bytes fault is = sym (index-header bytes ∙ ap (then_length bytes) (sym is))
+
+-- An index without a fault has the entries of all its games.
+length-there : (bytes : List ℕ) (r : Result IndexHead IndexFault) (head : IndexHead) → then_length bytes r ≡ Ok head → 182 + 47 * head.games ≤ length bytes
+length-there bytes (Err fault) head is = absurd cc
+length-there bytes (Ok found) head is = by (nat_lt (length bytes) (182 + 47 * found.games)) refl is
+  where
+    by : (b : Bool) → nat_lt (length bytes) (182 + 47 * found.games) ≡ b → (if b then Err (Length (length bytes)) else Ok found) ≡ Ok head → 182 + 47 * head.games ≤ length bytes
+    by true short is = absurd cc
+    by false long is =
+        let same : found ≡ head = cc in
+        subst (λ (h : IndexHead). 182 + 47 * h.games ≤ length bytes) same (ltb-false (length bytes) (182 + 47 * found.games) long)
+
+pub index-whole : (bytes : List ℕ) (head : IndexHead) → index_read bytes ≡ Ok head → 182 + 47 * head.games ≤ length bytes
+index-whole bytes head is = length-there bytes (header_read bytes) head (sym (index-header bytes) ∙ is)

@@ -11,6 +11,7 @@ pub mod Text
 pub mod Heads
 pub mod Reading
 pub mod ReadingCode
+pub mod MovetextSpelling
 pub mod Items
 pub mod Causes
 pub mod Readers
@@ -18,3 +19,4 @@ pub mod Window
 pub mod Fit
 pub mod Legality
 pub mod RoundTrip
+pub mod Meant

@@ -1,6 +1,9 @@
 //! `scid_mend OLD NEW`: makes the Scid base NEW of every game of OLD that is whole, and says on standard output what becomes of the others.
 #![tactic(auto)]
 
+ghost use Rattle.std.specs.Prelude.{◌≡◌, MatchResult};
+ghost use Rattle.scid_mend.specs.declared.status.Status.TheVariants as done;
+
 mod messages;
 mod printer;
 mod status;
@@ -50,7 +53,9 @@ fn is_name(word: &str) -> bool {
 }
 
 /// The status after a text was printed.
-fn printed(outcome: io::Result<()>) -> Status {
+fn printed(outcome: io::Result<()>) -> Status
+    ensures printed { MatchResult outcome (λ _. result ≡ done.All) (λ _. result ≡ done.WriteFault) }
+{
     match outcome {
         Ok(()) => Status::All,
         Err(_) => Status::WriteFault,

@@ -1,4 +1,7 @@
 //! What the program says besides its report.
+ghost use Rattle.std.specs.Prelude.{◌≡◌};
+ghost use Rattle.scid_mend.specs.Messages.{line_of};
+
 use crate::status::Status;
 
 /// The answer to `--help`.
@@ -27,7 +30,9 @@ is told on standard error.
 pub const VERSION: &str = "scid_mend 0.1.0\n";
 
 /// The line on standard error for a status; of a faulty index and of a limit its beginning, which the fault or the limit follows.
-pub fn message(status: &Status) -> &'static str {
+pub fn message(status: &Status) -> &'static str
+    ensures line { result.now ≡ line_of status.now }
+{
     match status {
         Status::All | Status::Some => "",
         Status::BadIndex(_) => "bad base: index file: ",

@@ -1,4 +1,8 @@
 //! How a run of the program ends.
+ghost use Rattle.std.specs.Prelude.{◌≡◌, MatchResult};
+ghost use Rattle.scid_mend.specs.Statuses.{exit_code_of, files_status, mended_status, mending_status};
+ghost use Rattle.scid_mend.specs.declared.status.Status.TheVariants as done;
+
 use base_core::What;
 use base_files::DeviceError;
 use index_entry::IndexFault;
@@ -28,7 +32,9 @@ pub enum Status {
 
 impl Status {
     /// The status after the files of a base failed.
-    pub fn of_files(error: DeviceError) -> Status {
+    pub fn of_files(error: DeviceError) -> Status
+        ensures status { result ≡ files_status error }
+    {
         match error {
             DeviceError::Failed => Status::FilesFault,
             DeviceError::Memory => Status::Memory,
@@ -36,16 +42,20 @@ impl Status {
     }
 
     /// The status after a base was mended and its last line written.
-    pub fn of_mended(mended: Mended, outcome: io::Result<()>) -> Status {
+    pub fn of_mended(mended: Mended, outcome: io::Result<()>) -> Status
+        ensures status { MatchResult outcome (λ _. result ≡ mended_status mended) (λ _. result ≡ done.WriteFault) }
+    {
         match outcome {
-            Err(_) => Status::WriteFault,
             Ok(()) if mended.came == mended.of => Status::All,
             Ok(()) => Status::Some,
+            Err(_) => Status::WriteFault,
         }
     }
 
     /// The exit code of the process.
-    pub fn exit_code(&self) -> u8 {
+    pub fn exit_code(&self) -> u8
+        ensures code { result ≡ exit_code_of self.now }
+    {
         match self {
             Status::All => 0,
             Status::Some => 1,
@@ -60,7 +70,11 @@ impl Status {
 }
 
 impl From<MendError> for Status {
-    fn from(error: MendError) -> Status {
+    ghost from_gives = { λ error s. s ≡ mending_status error };
+
+    fn from(error: MendError) -> Status
+        ensures status { result ≡ mending_status error }
+    {
         match error {
             MendError::Bad(fault) => Status::BadIndex(fault),
             MendError::Full(what) => Status::Full(what),
