@@ -17,6 +17,7 @@ TOP = Path(__file__).resolve().parent.parent
 PROGRAM = str(Path(sys.argv[1] if len(sys.argv) > 1 else TOP / "crates/scid_shell/out/scid_shell").resolve())
 ENDINGS = ("si4", "sn4", "sg4")
 USAGE = 1
+BAD_BASE = 2
 FILES_FAULT = 5
 CHANGED_GAME = 6
 CHANGED = "another program changed it"
@@ -218,6 +219,20 @@ def a_record_that_changes_ends_the_run(folder):
         clear(folder)
 
 
+def a_mended_base_opens_again(folder):
+    """A base whose entries are mended as it is opened is refused under --strict, and opens so again once it was saved or compacted."""
+    for leaves in ("save", "compact"):
+        for ending in ENDINGS:
+            shutil.copy(TOP / f"samples/openings.{ending}", folder)
+        base = str(Path(folder, "openings"))
+        assert run(base, "info\n", ("--strict",))[0] == BAD_BASE
+        status, output, errors = run(base, f"{leaves}\n")
+        assert (status, errors) == (0, "") and output.startswith("base 5 games 5 mended\n"), (leaves, output, errors)
+        status, output, errors = run(base, "info\n", ("--strict",))
+        assert (status, errors) == (0, "") and output.startswith("base 5 games 0 mended\n"), (leaves, output, errors)
+        clear(folder)
+
+
 def a_word_that_is_no_text(folder):
     """A word with bytes that no text has is no base, and nothing is read of the input."""
     ran = subprocess.run([PROGRAM, os.fsencode(folder) + b"/\xff"], input="info\n", capture_output=True, text=True, timeout=60)
@@ -392,6 +407,7 @@ def main():
         (modes_and_links_stay,),
         (edits_go_on_after_a_compaction,),
         (a_record_that_changes_ends_the_run,),
+        (a_mended_base_opens_again,),
         (a_word_that_is_no_text,),
         (a_broken_off_run_that_was_not_alone,),
     ]

@@ -1,4 +1,4 @@
--- Ends
+-- How saving and compacting end early. Only private functions cite this.
 use Rattle.std.specs.Prelude.{ℕ, List, Result, Ok, Err}
 use Rattle.base_core.specs.declared.fault.SaveError.{SaveError}
 use Rattle.base_core.specs.declared.fault.SaveError.TheVariants as saving

@@ -1,4 +1,4 @@
--- FilterLaws
+-- Laws of the commands on filters: lengths stay, and numbers may be cut to that of the games.
 use Rattle.std.proofs.Common.{◌≡◌, ℕ, suc, ◌+◌, [], ◌∷◌, length, refl, ap, Option, ◌<◌, arith, ◌≤◌, List, All, sym, subst}
 use Rattle.std.proofs.lemmas.Bool.Decides.{nat_tests}
 use Rattle.std.specs.Prelude.{nat_le, min}

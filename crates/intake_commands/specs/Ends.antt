@@ -1,4 +1,4 @@
--- Ends
+-- How taking games in ends early. Only private functions cite this.
 use Rattle.std.specs.Prelude.{ℕ, codes, List, ◌++◌, Result, Ok, Err}
 use Rattle.base_core.specs.declared.fault.EditError.{EditError}
 use Rattle.base_core.specs.declared.fault.EditError.TheVariants as edit

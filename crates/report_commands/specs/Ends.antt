@@ -1,4 +1,4 @@
--- Ends
+-- How the reports end early, and what games get by them. Only private functions cite this.
 use Rattle.std.specs.List.{list_any}
 use Rattle.std.specs.Prelude.{ℕ, ◌≤◌, IfSome, Option, ◌≡◌, Some, None, codes, List, [], ◌∷◌, length, ◌||◌, is_some}
 use Rattle.base_core.specs.Base.{Held}

@@ -1,4 +1,4 @@
--- Why a part of a command ends early. Only private functions cite this.
+-- Why a part of a command ends early. This project's own.
 use Rattle.std.specs.Prelude.{⊤, ℕ, List, Result, Ok, Err, ◌≡◌, ◌⊎◌}
 use Rattle.base_core.specs.declared.fault.EditError.{EditError}
 use Rattle.base_core.specs.declared.fault.EditError.TheVariants as edit

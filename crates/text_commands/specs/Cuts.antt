@@ -1,4 +1,4 @@
--- Cuts
+-- How the text of a game, or of many, is broken off. Only private functions cite this.
 use Rattle.std.specs.Prelude.{◌≡◌, ℕ, List, [], Option, Result, Ok, Err}
 use Rattle.base_core.specs.Base.{Held}
 use Rattle.base_files.specs.Told.{adds}
