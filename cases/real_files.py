@@ -16,6 +16,7 @@ from pathlib import Path
 TOP = Path(__file__).resolve().parent.parent
 PROGRAM = str(Path(sys.argv[1] if len(sys.argv) > 1 else TOP / "crates/scid_shell/out/scid_shell").resolve())
 ENDINGS = ("si4", "sn4", "sg4")
+USAGE = 1
 FILES_FAULT = 5
 CHANGED_GAME = 6
 CHANGED = "another program changed it"
@@ -217,6 +218,13 @@ def a_record_that_changes_ends_the_run(folder):
         clear(folder)
 
 
+def a_word_that_is_no_text(folder):
+    """A word with bytes that no text has is no base, and nothing is read of the input."""
+    ran = subprocess.run([PROGRAM, os.fsencode(folder) + b"/\xff"], input="info\n", capture_output=True, text=True, timeout=60)
+    assert (ran.returncode, ran.stdout) == (USAGE, "") and ran.stderr.startswith("usage: "), (ran.returncode, ran.stdout, ran.stderr)
+    assert contents(folder) == {}
+
+
 def traced(base, script, *inject):
     """Runs a session under strace, and gives its calls."""
     log = f"{base}.calls"
@@ -384,6 +392,7 @@ def main():
         (modes_and_links_stay,),
         (edits_go_on_after_a_compaction,),
         (a_record_that_changes_ends_the_run,),
+        (a_word_that_is_no_text,),
         (a_broken_off_run_that_was_not_alone,),
     ]
     if shutil.which("strace"):

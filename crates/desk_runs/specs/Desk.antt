@@ -9,14 +9,14 @@ use Rattle.script_text.specs.declared.command.Command.TheVariants.{Nothing, Find
 use Rattle.script_text.specs.declared.fault.ScriptFault.{ScriptFault}
 use Rattle.shell_commands.specs.Tasks.{task_work}
 use Rattle.shell_state.specs.Lines.{error_line}
-use Rattle.shell_state.specs.State.{State}
+use Rattle.shell_state.specs.State.{Carried, State}
 
 -- ---- the two parts of a state
 
 -- What all clients share: the base, the one that the files carry, and whether changes are unsaved.
 pub record Shared : Type 0 where
   pub base : Base
-  pub carried : Option Base
+  pub carried : Option Carried
   pub unsaved : Bool
 
 -- What one client has of his own: a filter, and the filters that he keeps by name.

@@ -34,7 +34,7 @@ use Rattle.shell_state.specs.Carrying.{Contents, AreBeside, Beside, StillCarry, 
 use Rattle.shell_state.specs.Ends.{IsDevice, EndsAs}
 use Rattle.shell_state.specs.Refusing.{full_line}
 use Rattle.shell_state.specs.Stands.{Stands, Holding, Fits, looks_in}
-use Rattle.shell_state.specs.State.{State}
+use Rattle.shell_state.specs.State.{Carried, anew, State}
 use Rattle.shell_state.specs.Work.{Look}
 use Rattle.shell_state.specs.declared.halt.Halt.{Halt}
 use Rattle.shell_state.specs.declared.halt.Halt.TheVariants as halt
@@ -130,7 +130,7 @@ done_stands old new filter saved seen seen' s st is means compacts clean =
       filter = ap (λ (p : List (Option ℕ)). renumbered (numbering old.entries).to p) st.filter ∙ ap (λ (t : List (Option ℕ)). renumbered t s.filter) to;
       saved = ap (λ (f : List SavedFilter). map (kept_renumbered (numbering old.entries).to) f) st.saved ∙ ap (λ (t : List (Option ℕ)). map (kept_renumbered t) s.saved) to;
       unsaved = clean;
-      carried = beside_meant new seen' (compacted s.base) now there.names again.means;
+      carried = beside_meant new seen' (compacted s.base) true now there.names again.means (λ sound. again.faultless);
     }
 
 pub compact_stands : (old new : Kept) (filter : List (Option ℕ)) (saved : List SavedFilter) (seen seen' : Seen) (s : State) → Stands (held_by old filter saved) seen s → IsCommitted old new seen seen' → MeansIt new seen'
@@ -159,10 +159,10 @@ fresh_contents seen seen' left c = record {
   games_told = ap (λ (x : Seen). x.games) left ∙ c.games_told;
 }
 
-fresh_beside : (kept : Kept) (seen seen' : Seen) (unsaved : Bool) (carried : Option Base) → FreshAlone seen seen' → AreBeside kept seen unsaved carried → AreBeside kept seen' unsaved carried
+fresh_beside : (kept : Kept) (seen seen' : Seen) (unsaved : Bool) (carried : Option Carried) → FreshAlone seen seen' → AreBeside kept seen unsaved carried → AreBeside kept seen' unsaved carried
 unfolding fresh_contents
 fresh_beside kept seen seen' unsaved (Some base) left b =
-    record { contents = fresh_contents seen seen' left b.contents; carries = b.carries; names = b.names; means = b.means }
+    record { contents = fresh_contents seen seen' left b.contents; carries = b.carries; names = b.names; means = b.means; opens = b.opens }
 fresh_beside kept seen seen' unsaved None left b = (ap (λ (x : Seen). x.index) left ∙ b.0, ap (λ (x : Seen). x.names) left ∙ b.1)
 
 -- The new games file is no part of a state.
@@ -221,7 +221,7 @@ compact_device e h kept filter saved seen s st changed (inr ends) = device_so e 
 pub fresh_carry : (holding : Holding) (seen seen' : Seen) (s : State) (leaves : Option (Base → Base)) → FreshAlone seen seen' → Stands holding seen s → StillCarry seen' s leaves
 fresh_carry holding seen seen' s leaves left st = carry_of holding seen' s leaves (fresh_stands holding seen seen' s left st)
 
-done_may : (kept : Kept) (seen : Seen) (carried : Option Base) (base : Base) → Beside kept seen false (compacted base) → MayCarry seen carried (Some compacted) base
+done_may : (kept : Kept) (seen : Seen) (carried : Option Carried) (base : Base) → Beside kept seen false (anew (compacted base)) → MayCarry seen carried (Some compacted) base
 done_may kept seen (Some own) base b = inr (b.contents, b.carries)
 done_may kept seen None base b = tt
 

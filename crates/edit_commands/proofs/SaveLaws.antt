@@ -1,5 +1,5 @@
 -- Laws of `save`.
-use Rattle.std.proofs.Common.{false, ℕ, List, Option, ◌≡◌, Bool, [], Some, None, IfSome, subst, refl, ap, ◌∙◌, inl, inr}
+use Rattle.std.proofs.Common.{true, false, ℕ, List, Option, ◌≡◌, Bool, [], Some, None, IfSome, subst, refl, ap, ◌∙◌, inl, inr}
 use Rattle.base_core.specs.Base.{Base}
 use Rattle.base_core.specs.Means.{Carries, HoldsNames}
 use Rattle.base_core.specs.Opening.{IfTold}
@@ -13,7 +13,7 @@ use Rattle.shell_state.proofs.CarryLaws.{beside_meant}
 use Rattle.shell_state.proofs.Quietly.{held_by}
 use Rattle.shell_state.specs.Carrying.{AreBeside, Contents, Beside, CarryIt, MayCarry, StillCarry}
 use Rattle.shell_state.specs.Stands.{Sound, Stands, Holding}
-use Rattle.shell_state.specs.State.{State}
+use Rattle.shell_state.specs.State.{Carried, anew, State}
 
 -- What is kept, with nothing unsaved.
 abbrev pub clean : Kept → Kept
@@ -30,7 +30,7 @@ saved_sound kept filter saved seen seen' is at =
     record { fits = record { filter = is.fits.filter; saved = is.fits.saved }; base = clean_sound kept is.base; at_end = at }
 
 -- The contents that are told beside a state.
-pub contents_of : (kept : Kept) (seen : Seen) (unsaved : Bool) (carried : Option Base) (games : List ℕ) → AreBeside kept seen unsaved carried → seen.games ≡ Some games → Contents seen
+pub contents_of : (kept : Kept) (seen : Seen) (unsaved : Bool) (carried : Option Carried) (games : List ℕ) → AreBeside kept seen unsaved carried → seen.games ≡ Some games → Contents seen
 contents_of kept seen unsaved (Some base) games b told = b.contents
 contents_of kept seen unsaved None games b told = record { index = []; names = []; games = games; index_told = b.0; names_told = b.1; games_told = told }
 
@@ -65,7 +65,7 @@ save_stands kept filter saved seen seen' s st is means =
       filter = st.filter;
       saved = st.saved;
       unsaved = refl;
-      carried = beside_meant (clean kept) seen' s.base now there.names again.means;
+      carried = beside_meant (clean kept) seen' s.base true now there.names again.means (λ sound. again.faultless);
     }
 
 -- ---- where it is broken off
@@ -89,15 +89,15 @@ left_contents kept seen seen' c (inr left) = record {
   games_told = ap (λ (s : Seen). s.games) left.1.1 ∙ c.games_told;
 }
 
-left_carries : (kept : Kept) (seen seen' : Seen) (unsaved : Bool) (base : Base) → Beside kept seen unsaved base → IsLeft kept seen seen' → StillCarries kept seen seen' → CarryIt seen' base
-left_carries kept seen seen' unsaved base b left still =
+left_carries : (kept : Kept) (seen seen' : Seen) (unsaved : Bool) (own : Carried) → Beside kept seen unsaved own → IsLeft kept seen seen' → StillCarries kept seen seen' → CarryIt seen' own.base
+left_carries kept seen seen' unsaved own b left still =
     let now : Contents seen' = left_contents kept seen seen' b.contents left in
     let Then : List ℕ → List ℕ → List ℕ → List ℕ → List ℕ → List ℕ → Type 0 = λ index names games i n g. (own : Base) (carried : Carries index names games own) → HoldsNames kept.names carried.all_names → Carries i n g own in
     let first = known_told seen (λ index names games. IfTold seen' (λ i n g. Then index names games i n g)) b.contents still in
     let second = known_told seen' (λ i n g. Then b.contents.index b.contents.names b.contents.games i n g) now first in
-    (now, second base b.carries b.names)
+    (now, second own.base b.carries b.names)
 
-left_may : (kept : Kept) (seen seen' : Seen) (unsaved : Bool) (carried : Option Base) (base : Base) → AreBeside kept seen unsaved carried → IsLeft kept seen seen' → StillCarries kept seen seen'
+left_may : (kept : Kept) (seen seen' : Seen) (unsaved : Bool) (carried : Option Carried) (base : Base) → AreBeside kept seen unsaved carried → IsLeft kept seen seen' → StillCarries kept seen seen'
     → MayCarry seen' carried (Some (λ base. base)) base
 left_may kept seen seen' unsaved (Some own) base b left still = inl (left_carries kept seen seen' unsaved own b left still)
 left_may kept seen seen' unsaved None base b left still = tt
@@ -107,7 +107,7 @@ pub unsaved_carry : (kept : Kept) (filter : List (Option ℕ)) (saved : List Sav
 unsaved_carry kept filter saved seen seen' s st left still = left_may kept seen seen' s.unsaved s.carried s.base st.carried left still
 
 -- It was done, and its text was not written.
-saved_may : (kept : Kept) (seen : Seen) (carried : Option Base) (base : Base) → Beside kept seen false base → MayCarry seen carried (Some (λ base. base)) base
+saved_may : (kept : Kept) (seen : Seen) (carried : Option Carried) (base : Base) → Beside kept seen false (anew base) → MayCarry seen carried (Some (λ base. base)) base
 saved_may kept seen (Some own) base b = inr (b.contents, b.carries)
 saved_may kept seen None base b = tt
 

@@ -9,7 +9,7 @@ use Rattle.compact_base.specs.Compacting.{numbers_from}
 use Rattle.game_filter.specs.Renumbering.{renumbered}
 use Rattle.filter_seat.specs.SavedFilters.{kept_renumbered}
 use Rattle.shell_state.specs.Refusing.{full_line}
-use Rattle.shell_state.specs.State.{State}
+use Rattle.shell_state.specs.State.{anew, State}
 use Rattle.shell_state.specs.Work.{Work, writing}
 use Rattle.shell_state.specs.Work.Price.{by_looks}
 
@@ -25,7 +25,7 @@ is_within base = nat_le (compacted base).end longest_file
 abbrev pub compacted_state : State → State
 compacted_state s = record {
   base = compacted s.base;
-  carried = Some (compacted s.base);
+  carried = Some (anew (compacted s.base));
   filter = renumbered (numbers_of s.base) s.filter;
   saved = map (kept_renumbered (numbers_of s.base)) s.saved;
   unsaved = false;

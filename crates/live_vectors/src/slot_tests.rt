@@ -136,6 +136,24 @@ fn renumbered(
     Ok(both(rt, views))
 }
 
+// What a box that refuses its second row shows after it was to be watched, or nothing where that went well.
+fn refused(
+    rt: &impl Abort,
+    alloc: Global,
+    views: &mut [Option<Box<dyn TreeView>>],
+) -> Result<Shown, Fail> {
+    let all = Filter::new(alloc, 3)?;
+    let mut slots = none(7, 1, views, 3);
+    let hits = Vec::from_array(alloc, [played(12, 2500), played(11, 2400), None])?;
+    let board = pack(&Board::empty(), Colour::White);
+    assert!(rt; slots.holds(views, 0));
+    if watch(alloc, &mut slots, views, 0, board, hits, &all).is_ok() {
+        return Ok((0, 0, 0));
+    }
+    assert_eq!(rt; views.len(), 8);
+    Ok(shown(&views[7]))
+}
+
 // All changes, one after the other.
 fn stages(
     rt: &impl Abort,
@@ -158,15 +176,16 @@ fn stages(
 }
 
 #[test]
-fn two_slots_on_one_board(rt: HostRuntime) -> Result<(), Fail> {
+fn seven_boxes_in_eight_slots(rt: HostRuntime) -> Result<(), Fail> {
     let mut views: Vec<Option<Box<dyn TreeView>>> = Vec::new(rt.alloc());
     for k in 0..8u8 {
         if k == 5 {
             views.push(None)?;
         } else {
+            let refuse = if k == 7 { Some(1) } else { None };
             let view: Box<dyn TreeView> = Box::new(
                 rt.alloc(),
-                TableView::new(Vec::new(rt.alloc()), None),
+                TableView::new(Vec::new(rt.alloc()), refuse),
             )?;
             views.push(Some(view))?;
         }
@@ -178,5 +197,6 @@ fn two_slots_on_one_board(rt: HostRuntime) -> Result<(), Fail> {
     assert!(rt; !slots.holds(views.as_slice(), 3));
     assert!(rt; slots.watched(0).is_none());
     assert_eq!(rt; stages(&rt, rt.alloc(), views.as_mut_slice())?, STAGES);
+    assert_eq!(rt; refused(&rt, rt.alloc(), views.as_mut_slice())?, (1, 1, 2));
     Ok(())
 }

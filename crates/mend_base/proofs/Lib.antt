@@ -4,3 +4,4 @@ pub mod FindLaws
 pub mod MendLaws
 pub mod OneLaws
 pub mod WholeLaws
+pub mod ThereLaws

@@ -12,7 +12,7 @@ use Rattle.game_codec.specs.Fault.{IsRecordFault}
 use Rattle.game_codec.specs.declared.fault.RecordFault.{RecordFault}
 use Rattle.base_core.specs.Reading.{IsMended}
 use Rattle.base_core.specs.declared.fault.BaseFault.TheVariants.{Packed}
-use Rattle.mend_base.specs.Places.{IsPlace, missing_in}
+use Rattle.mend_base.specs.Places.{IsPlace, Place, missing_in}
 use Rattle.mend_base.specs.declared.finding.Find.{Find}
 use Rattle.mend_base.specs.declared.finding.Find.TheVariants as find
 
@@ -55,3 +55,7 @@ IsKeepable (find.Broken fault) = ⊤
 abbrev pub IsFoundIn : PartLists → ℕ → Entry → List ℕ → Find → Type 0
 IsFoundIn names game e bytes (find.Whole kept missing) = IsMended bytes e kept × (missing ≡ missing_in names e)
 IsFoundIn names game e bytes (find.Broken fault) = (what : RecordFault) × (IsRecordFault bytes what × (fault ≡ Packed game what))
+
+-- A game has a place.
+abbrev pub HasPlace : List ℕ → PartLists → List ℕ → ℕ → Type 0
+HasPlace index names games game = (place : Place) × IsPlace index names games game place

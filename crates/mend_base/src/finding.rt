@@ -1,5 +1,5 @@
 //! Looking for a game in files that may be faulty.
-ghost use Rattle.std.specs.Prelude.{◌≡◌, ◌≤◌, ◌<◌, ◌+◌, ◌*◌, ◌^◌, length, IfOk, OnErr, IfSome};
+ghost use Rattle.std.specs.Prelude.{◌≡◌, ◌≤◌, ◌<◌, ◌+◌, ◌*◌, ◌^◌, nat_lt, length, IfOk, OnErr, IfSome};
 ghost use Rattle.base_files.specs.Counters.{Rose};
 ghost use Rattle.base_files.specs.Told.{Tells, TellsLength, part_told};
 ghost use Rattle.index_entry.specs.Entry.{IsEntry, entry_in};
@@ -49,7 +49,7 @@ pub(crate) fn find_game<F: Files>(
     ensures counts { F.faults old.old ≤ F.faults old.new }
     ensures cause { OnErr result (Rose (F.faults old.old) (F.faults old.new)) }
 {
-    if source.index.len() < HEADER_LEN + ENTRY_LEN * (game as usize + 1) {
+    if is_cut(source, game) {
         let cut = IndexFault::Length(source.index.len() as u64);
         return Ok(Find::Broken(BaseFault::Index(cut)));
     }
@@ -66,9 +66,16 @@ pub(crate) fn find_game<F: Files>(
     Ok(found_in(source, game, &entry, &buf[..entry.len as usize]))
 }
 
-// What the entry of a game says, or its first fault before its record is read.
+/// Whether the index ends before the end of the entry of a game.
+pub(crate) fn is_cut(source: &Source<'_>, game: u32) -> bool
+    ensures cut { result ≡ nat_lt (length source.now.index.now) (229 + 47 * game) }
+{
+    source.index.len() < HEADER_LEN + ENTRY_LEN * (game as usize + 1)
+}
+
+/// What the entry of a game says, or its first fault before its record is read.
 #[tactic(auto, unfolding(base_core::specs::FirstFault::entry_checked))]
-fn placed_entry(source: &Source<'_>, game: u32) -> Result<Entry, BaseFault>
+pub(crate) fn placed_entry(source: &Source<'_>, game: u32) -> Result<Entry, BaseFault>
     requires there { HasEntry source.now.index.now game }
     ensures exact { result ≡ entry_checked (filled_names source.now.names.now) source.now.end game (entry_bytes source.now.index.now game) }
     ensures fields { IfOk result IsEntry }
@@ -83,8 +90,8 @@ fn placed_entry(source: &Source<'_>, game: u32) -> Result<Entry, BaseFault>
     Ok(entry)
 }
 
-// What the bytes of the record of a game say.
-fn found_in(source: &Source<'_>, game: u32, entry: &Entry, bytes: &[u8]) -> Find
+/// What the bytes of the record of a game say.
+pub(crate) fn found_in(source: &Source<'_>, game: u32, entry: &Entry, bytes: &[u8]) -> Find
     requires fields { IsEntry entry.now }
     requires few { length bytes.now < 2 ^ 32 }
     ensures found { IsFoundIn source.now.names.now game entry.now bytes.now result }

@@ -267,6 +267,22 @@ impl Window {
         if self.pass_space() {
             return Ok(());
         }
+        self.skip_on(source)
+    }
+
+    // The same of any gap. Apart from the loop over tokens it leaves the way over a gap of one space short.
+    #[inline(never)]
+    fn skip_on<S: Source>(&mut self, source: &mut S) -> Result<(), PgnError>
+        requires told { IsTrue self.old.ended → Tells (S.left source.old) [] }
+        ensures skipped { OnOk result (option_map skipped (ahead self.old (S.left source.old)) ≡ ahead self.new (S.left source.new)) }
+        ensures there { OnOk result (IsTrue self.new.ended ⊎ (1 ≤ length self.new.unread)) }
+        ensures told { OnOk result (IsTrue self.new.ended → Tells (S.left source.new) []) }
+        ensures sum { OnOk result (S.budget source.new + length self.new.unread ≤ S.budget source.old + length self.old.unread) }
+        ensures spends { S.budget source.new ≤ S.budget source.old }
+        ensures counts { S.faults source.old ≤ S.faults source.new }
+        ensures same { S.origin source.new ≡ S.origin source.old }
+        ensures cause { IfErr result (λ e. HasCause e (S.faults source.old) (S.faults source.new)) }
+    {
         let mut inside = false;
         'gap: loop {
             if let Err(error) = self.look(source, 1) {

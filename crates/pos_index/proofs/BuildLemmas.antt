@@ -1,7 +1,7 @@
 -- The places of the games of a base, one game after the other.
-use Rattle.std.proofs.Common.{◌≡◌, ◌≤◌, ◌<◌, ◌+◌, ◌-◌, ℕ, List, [], ◌∷◌, ◌++◌, None, Some, Option, length, get_or, map, take, sum_by, refl, sym, ap, ◌∙◌, subst, arith}
-use Rattle.std.specs.Prelude.{All, slice_get}
-use Rattle.std.proofs.lemmas.List.{get_or_push, length-map, length_push, map_push, set_at, take_all, take_more}
+use Rattle.std.proofs.Common.{◌≡◌, ◌≤◌, ◌<◌, ◌+◌, ℕ, List, [], ◌∷◌, ◌++◌, None, Some, Option, length, map, take, sum_by, sym, ap, ◌∙◌, subst, arith}
+use Rattle.std.specs.Prelude.{slice_get}
+use Rattle.std.proofs.lemmas.List.{length_push, map_push, take_all, take_more}
 use Rattle.std.proofs.lemmas.List.Elements.{All-push}
 use Rattle.std.proofs.lemmas.List.Sums.{sum_by-take-le, sum_by_more}
 use Rattle.std.proofs.lemmas.Option.{get_or_from_slice_get, slice_get_within}
@@ -11,7 +11,7 @@ use Rattle.game_codec.specs.Record.{IsSomeRecord}
 use Rattle.game_tree.specs.Game.{GameTree}
 use Rattle.sig_index.specs.Games.{HasChanged, extent_in, record_told}
 use Rattle.sig_index.specs.declared.signature.Sig.{Sig}
-use Rattle.pos_index.specs.Hits.{Place, places_of, row_of}
+use Rattle.pos_index.specs.Hits.{IsRow, Place, places_of, row_of}
 use Rattle.pos_index.specs.Keeping.{AddsRow, HasPutAtMost, row_in, with_row}
 use Rattle.pos_index.proofs.IndexLemmas.{AreShort, put_last}
 
@@ -24,7 +24,7 @@ added_last old mid now i places last is put =
 pub adds_row : (most : ℕ) (old mid now : List (List Place)) (i : ℕ) → i ≡ length old → mid ≡ old ++ [] ∷ [] → HasPutAtMost most mid i now → AddsRow most old now
 adds_row most old mid now i last is put = record {
   row = put.places;
-  few = put.few;
+  is_row = put.row;
   added = added_last old mid now i put.places last is put.put;
 }
 
@@ -33,7 +33,7 @@ adds-length most old now adds = ap length adds.added ∙ length_push old adds.ro
 
 pub adds-short : (most : ℕ) (old now : List (List Place)) → AddsRow most old now → AreShort most old → AreShort most now
 adds-short most old now adds all =
-    subst (AreShort most) (sym adds.added) (All-push (λ (row : List Place). length row ≤ most) old adds.row all adds.few)
+    subst (AreShort most) (sym adds.added) (All-push (IsRow most) old adds.row all adds.is_row)
 
 -- One game more of a list.
 pub rows_next : (depth : ℕ) (list : List GameTree) (i : ℕ) (game : GameTree) (old now : List (List Place)) → slice_get list i ≡ Some game

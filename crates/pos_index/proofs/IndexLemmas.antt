@@ -1,15 +1,15 @@
 -- An index that stands for a list of games.
-use Rattle.std.proofs.Common.{◌≡◌, ◌≤◌, ◌<◌, ◌+◌, ◌*◌, ◌-◌, ℕ, zero, suc, List, [], ◌∷◌, ◌++◌, None, Some, Option, length, get_or, set, map, min, take, drop, sum_by, refl, sym, ap, ◌∙◌, subst, arith}
+use Rattle.std.proofs.Common.{◌≡◌, ◌≤◌, ◌+◌, ◌*◌, ℕ, zero, suc, List, [], ◌∷◌, ◌++◌, None, Some, Option, length, set, map, min, sum_by, refl, sym, ap, ◌∙◌, arith}
 use Rattle.std.specs.Prelude.{All}
 use Rattle.std.specs.List.{range_with_len}
-use Rattle.std.proofs.lemmas.List.{drop_at, get_or_push, get_or-set_same, length-map, length-set, length_push, map-set, map_push, set_at, set-set, take_all}
+use Rattle.std.proofs.lemmas.List.{get_or_push, length-map, map-set, map_push, set_at}
 use Rattle.std.proofs.lemmas.List.Sums.{sum_by-le}
 use Rattle.std.proofs.lemmas.Nat.{mul-le}
-use Rattle.std.proofs.lemmas.List.Elements.{All-cons, All-head, All-nil, All-push, All-set, All-tail}
-use Rattle.game_filter.specs.Renumbering.{Rises, renumbered}
+use Rattle.std.proofs.lemmas.List.Elements.{All-cons, All-head, All-nil, All-tail, All-weaker}
+use Rattle.game_filter.specs.Renumbering.{renumbered}
 use Rattle.game_tree.specs.Game.{GameTree}
 use Rattle.game_tree.specs.Replay.{plies_of}
-use Rattle.pos_index.specs.Hits.{Place, place_at, places_of, row_of}
+use Rattle.pos_index.specs.Hits.{IsRow, Place, place_at, places_of, row_of}
 use Rattle.pos_index.specs.Keeping.{row_in, with_row}
 use Rattle.pos_index.proofs.PlaceLemmas.{map-renumbered}
 
@@ -29,7 +29,7 @@ stands_renumbered depth to rows games is = ap (renumbered to) is ∙ sym (map-re
 
 -- ---- how long rows are
 
-length-range : (a n : ℕ) → length (range_with_len a n) ≡ n
+pub length-range : (a n : ℕ) → length (range_with_len a n) ≡ n
 length-range a zero = refl
 length-range a (suc n) = ap suc (length-range (a + 1) n)
 
@@ -38,14 +38,14 @@ places_few depth game =
     omega (arith, length-map (range_with_len 0 (min depth (plies_of game) + 1)) (place_at game), length-range 0 (min depth (plies_of game) + 1))
 
 abbrev pub AreShort : ℕ → List (List Place) → Type 0
-AreShort most rows = All (λ (row : List Place). length row ≤ most) rows
+AreShort most rows = All (IsRow most) rows
 
 pub short_renumbered : (most : ℕ) (to : List (Option ℕ)) (rows : List (List Place)) → AreShort most rows → AreShort most (renumbered to rows)
-short_renumbered most [] rows all = All-nil (λ (row : List Place). length row ≤ most)
-short_renumbered most (number ∷ to) [] all = All-nil (λ (row : List Place). length row ≤ most)
-short_renumbered most (None ∷ to) (row ∷ rows) all = short_renumbered most to rows (All-tail (λ (r : List Place). length r ≤ most) row rows all)
-short_renumbered most (Some number ∷ to) (row ∷ rows) all = All-cons (λ (r : List Place). length r ≤ most) row (renumbered to rows) (All-head (λ (r : List Place). length r ≤ most) row rows all)
-    (short_renumbered most to rows (All-tail (λ (r : List Place). length r ≤ most) row rows all))
+short_renumbered most [] rows all = All-nil (IsRow most)
+short_renumbered most (number ∷ to) [] all = All-nil (IsRow most)
+short_renumbered most (None ∷ to) (row ∷ rows) all = short_renumbered most to rows (All-tail (IsRow most) row rows all)
+short_renumbered most (Some number ∷ to) (row ∷ rows) all = All-cons (IsRow most) row (renumbered to rows) (All-head (IsRow most) row rows all)
+    (short_renumbered most to rows (All-tail (IsRow most) row rows all))
 
 pub fewer_renumbered : {T : Type 0} (to : List (Option ℕ)) (rows : List T) → length (renumbered to rows) ≤ length rows
 fewer_renumbered [] rows = omega arith
@@ -54,7 +54,8 @@ fewer_renumbered (None ∷ to) (row ∷ rows) = omega (arith, fewer_renumbered t
 fewer_renumbered (Some number ∷ to) (row ∷ rows) = omega (arith, fewer_renumbered to rows)
 
 pub total-few : (depth : ℕ) (rows : List (List Place)) → AreShort (depth + 1) rows → length rows * (depth + 1) ≤ 16000000 → sum_by length rows ≤ 16000000
-total-few depth rows all fits = omega (arith, sum_by-le (λ (r : List Place). length r) (depth + 1) rows all, fits)
+total-few depth rows all fits =
+    omega (arith, sum_by-le (λ (r : List Place). length r) (depth + 1) rows (All-weaker (IsRow (depth + 1)) (λ (r : List Place). length r ≤ depth + 1) (λ r is. is.few) rows all), fits)
 
 -- At most so many games.
 pub games_few : (depth n : ℕ) → n * (depth + 1) ≤ 16000000 → n ≤ 16000000
@@ -71,11 +72,3 @@ pub put_last : (old now : List (List Place)) (i : ℕ) (places : List Place) →
 put_last old now i places last is =
     is ∙ ap (λ (r : List Place). with_row (old ++ [] ∷ []) i (r ++ places)) (get_or_push {X = List Place} old [] [] i (sym last))
     ∙ set_at {A = List Place} old [] [] places i (sym last)
-
-pub put_other : (old now new : List (List Place)) (i count : ℕ) (places : List Place) → i < length old → count ≡ length (row_in old i) → now ≡ with_row old i (row_in old i ++ places)
-    → new ≡ with_row now i (drop count (row_in now i)) → new ≡ set old i places
-put_other old now new i count places lt is put dropped =
-    dropped ∙ ap (λ (l : List (List Place)). with_row l i (drop count (row_in l i))) put
-    ∙ set-set old i (row_in old i ++ places) (drop count (row_in (with_row old i (row_in old i ++ places)) i))
-    ∙ ap (λ (r : List Place). with_row old i (drop count r)) (get_or-set_same old i (row_in old i ++ places) [] lt)
-    ∙ ap (with_row old i) (drop_at (row_in old i) places count (sym is))

@@ -1,5 +1,5 @@
 -- Boards that differ, by their numbers.
-use Rattle.std.proofs.Common.{◌≡◌, ◌≤◌, ◌<◌, ◌+◌, ℕ, Bool, true, false, eqb, ◌&&◌, not, ltb, List, [], ◌∷◌, ◌++◌, None, Some, Option, length, get_or, cond, refl, sym, ap, ◌∙◌, subst, arith, inl, inr, rules, true≢false}
+use Rattle.std.proofs.Common.{◌≡◌, ◌<◌, ℕ, Bool, true, false, eqb, ◌&&◌, List, [], ◌∷◌, ◌++◌, Some, length, cond, refl, sym, ap, ◌∙◌, arith, inl, inr, rules, true≢false}
 use Rattle.std.specs.Prelude.{nat_eq, position}
 use Rattle.std.specs.Bool.{Decides}
 use Rattle.std.specs.Cmp.Lexicographic.{pointwise}

@@ -8,3 +8,4 @@ mod PlaceLemmas
 mod GameLemmas
 mod IndexLemmas
 mod BuildLemmas
+mod LegalHits

@@ -1,8 +1,6 @@
 -- Hits and rows that get new numbers, one after the other.
-use Rattle.std.proofs.Common.{◌≡◌, ◌≤◌, ◌<◌, ◌+◌, ℕ, zero, suc, List, [], ◌∷◌, ◌++◌, Option, None, Some, is_some, length, get_or, set, take, drop, refl, sym, ap, ◌∙◌, subst, arith, add-one, true, false}
-use Rattle.std.specs.Prelude.{All}
-use Rattle.std.proofs.lemmas.List.{append-nil, take_more, take_more_set, take-set, take_all, drop-set-lt, drop-drop, drop_more, length-set, get_or-drop}
-use Rattle.game_filter.specs.Renumbering.{renumbered}
+use Rattle.std.proofs.Common.{◌≡◌, ◌≤◌, ◌<◌, ◌+◌, ℕ, List, [], ◌∷◌, ◌++◌, Option, None, Some, length, get_or, set, take, drop, refl, sym, ap, ◌∙◌, arith}
+use Rattle.std.proofs.lemmas.List.{append-nil, take_more, take_more_set, take_all, drop-set-lt, drop-drop, length-set, get_or-drop}
 use Rattle.pos_index.specs.declared.hit.Hit.{Hit}
 use Rattle.pos_index.specs.Keeping.{moved, moved_by}
 

@@ -1,10 +1,10 @@
 -- Rows that are moved to the front.
-use Rattle.std.proofs.Common.{◌≡◌, ◌≤◌, ◌<◌, ◌+◌, ℕ, zero, suc, List, [], ◌∷◌, ◌++◌, Option, None, Some, is_some, true, false, length, get_or, set, take, drop, refl, sym, ap, ◌∙◌, subst, arith, add-one, inl, inr}
+use Rattle.std.proofs.Common.{◌≡◌, ◌≤◌, ◌<◌, ◌+◌, ℕ, zero, suc, List, [], ◌∷◌, ◌++◌, Option, None, Some, is_some, true, false, length, get_or, set, take, drop, refl, sym, ap, ◌∙◌, arith, add-one, inl, inr}
 use Rattle.std.specs.List.{swap}
 use Rattle.std.proofs.lemmas.Bool.{cases_eq}
-use Rattle.std.proofs.lemmas.List.{append-nil, take_more, take_more_set, take-set, take-set-le, take_all, drop-set-lt, drop-drop, length-set, get_or-drop, set-set, set-get_or}
+use Rattle.std.proofs.lemmas.List.{append-nil, take_more_set, take-set-le, take_all, drop-set-lt, drop-drop, length-set, get_or-drop, set-set}
 use Rattle.std.proofs.lemmas.List.Edits.{swap_is}
-use Rattle.game_filter.specs.Renumbering.{Rises, renumbered}
+use Rattle.game_filter.specs.Renumbering.{renumbered}
 use Rattle.pos_index.specs.declared.spot.Spot.{Spot}
 
 -- What stays of one row.

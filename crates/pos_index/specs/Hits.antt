@@ -1,9 +1,12 @@
 -- Where games stand on a board, up to a depth (this project's own).
-use Rattle.std.specs.Prelude.{◌≡◌, ℕ, ◌+◌, ◌*◌, ◌≤◌, ◌&&◌, if◌then◌else◌, nat_eq, Bool, List, [], ◌∷◌, ◌++◌, Option, Some, None, length, map, min, sum_by}
+use Rattle.std.specs.Prelude.{◌≡◌, ℕ, ◌+◌, ◌*◌, ◌≤◌, ◌&&◌, if◌then◌else◌, nat_eq, All, Bool, List, [], ◌∷◌, ◌++◌, Option, Some, None, length, map, min, sum_by, IfSome}
 use Rattle.std.specs.Cmp.Lexicographic.{pointwise}
 use Rattle.std.specs.List.{range_with_len}
 use Rattle.cell_core.specs.declared.step.Move.{Move}
 use Rattle.cell_core.specs.Man.{same_colour}
+use Rattle.chess_laws.specs.declared.setup.Setup.{Setup}
+use Rattle.chess_laws.specs.Position.{Sound}
+use Rattle.chess_laws.specs.Step.{Legal}
 use Rattle.cell_core.specs.Packed.{Packed, packed_of}
 use Rattle.game_tree.specs.Game.{GameTree}
 use Rattle.game_tree.specs.Replay.{next_at, plies_of, position_at}
@@ -22,6 +25,17 @@ place_at game ply = record {
   ply = ply;
   next = next_at game ply;
 }
+
+-- A move is legal in some position that keeps the rules and has this board and side to move; and so is the move after a place, if there
+-- is one.
+pub record IsFrom (board : Packed) (m : Move) : Type 0 where
+  pub position : Setup
+  pub sound : Sound position
+  pub stands : packed_of position.board position.side ≡ board
+  pub legal : Legal position m
+
+abbrev pub IsLegalPlace : Place → Type 0
+IsLegalPlace place = IfSome place.next (IsFrom place.board)
 
 -- The places of a game from ply 0 to the smaller of the depth and its plies.
 abbrev pub places_of : ℕ → GameTree → List Place
@@ -61,6 +75,11 @@ pub record Index : Type 0 where
 -- It stands for these games: each number has the places of its game.
 abbrev pub Indexes : Index → List (Option GameTree) → Type 0
 Indexes index games = index.rows ≡ map (row_of index.depth) games
+
+-- So many places at most, each with a legal move or none after it.
+pub record IsRow (most : ℕ) (row : List Place) : Type 0 where
+  pub few : length row ≤ most
+  pub legal : All IsLegalPlace row
 
 -- How many hits there are on all boards.
 abbrev pub entries_of : List (List Place) → ℕ

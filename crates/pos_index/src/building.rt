@@ -7,7 +7,7 @@ ghost use Rattle.game_tree.specs.Game.{GameTree};
 ghost use Rattle.sig_index.specs.Games.{AreWithin, Holds, extent_in};
 ghost use Rattle.pos_index.specs.Asking.{price};
 ghost use Rattle.pos_index.specs.Causes.{HasBuildCause};
-ghost use Rattle.pos_index.specs.Hits.{places_of, row_of};
+ghost use Rattle.pos_index.specs.Hits.{IsRow, places_of, row_of};
 
 use crate::fault::BuildError;
 use crate::places::Places;
@@ -28,7 +28,7 @@ pub(crate) fn read_places<G: Games, F: Files>(
     requires room { length buf.old ≡ 131072 }
     requires within { AreWithin (F.seen files.old).known (G.extents games.now) }
     ensures games { IfOk result (λ places. length places ≡ length (G.sigs games.now)) }
-    ensures short { IfOk result (λ places. All (λ row. length row ≤ depth + 1) places) }
+    ensures short { IfOk result (λ places. All (IsRow (depth + 1)) places) }
     ensures read { (told : List ℕ) (list : List GameTree) → (F.seen files.old).games ≡ Some told → Holds told (G.extents games.now) (G.sigs games.now) list → IfOk result (λ places. places ≡ map (row_of depth) (map Some list)) }
     ensures room { length buf.new ≡ 131072 }
     ensures unchanged { F.seen files.new ≡ F.seen files.old }

@@ -3,7 +3,7 @@ use crate::building::read_places;
 use crate::fault::BuildError;
 use crate::hit::Hit;
 use crate::places::Places;
-use crate::placing::put_game;
+use crate::placing::{common, put_game, set_nexts};
 use base_files::Files;
 use cell_core::PackedBoard;
 use game_filter::Renumbering;
@@ -27,24 +27,24 @@ pub struct PosIndex {
 
 impl Model for PosIndex {
     ghost use Rattle.std.specs.Prelude.{◌≤◌, ◌+◌, All, length};
-    ghost use Rattle.pos_index.specs.Hits.{Fits, Index};
+    ghost use Rattle.pos_index.specs.Hits.{Fits, Index, IsRow};
 
     ghost Value = { Index };
 
     ghost view = { λ p. record { depth = p.depth; rows = p.places } };
 
-    ghost invariant = { λ p. (p.depth ≤ 40) × (Fits p.depth (length p.places) × All (λ row. length row ≤ p.depth + 1) p.places) };
+    ghost invariant = { λ p. (p.depth ≤ 40) × (Fits p.depth (length p.places) × All (IsRow (p.depth + 1)) p.places) };
 }
 
 impl PosIndex {
-    ghost use Rattle.std.specs.Prelude.{◌≡◌, ◌+◌, ◌≤◌, ◌<◌, ◌↔◌, ℕ, [], ◌∷◌, ◌++◌, List, Option, Some, None, IsTrue, length, map, slice_set, IfOk, IfErr, OnOk, OnErr};
+    ghost use Rattle.std.specs.Prelude.{◌≡◌, ◌+◌, ◌≤◌, ◌<◌, ◌↔◌, ℕ, [], ◌∷◌, ◌++◌, List, All, Option, Some, None, IsTrue, length, map, slice_set, IfOk, IfErr, IfSome, OnOk, OnErr};
     ghost use Rattle.game_filter.specs.Renumbering.{renumbered};
     ghost use Rattle.game_tree.specs.Game.{GameTree};
     ghost use Rattle.game_tree.specs.Legal.{IsLegalGame};
     ghost use Rattle.sig_index.specs.Games.{AreWithin, Holds};
     ghost use Rattle.pos_index.specs.Asking.{price};
     ghost use Rattle.pos_index.specs.Causes.{HasBuildCause};
-    ghost use Rattle.pos_index.specs.Hits.{Fits, Indexes, entries_of, hits_from, hits_of, places_of};
+    ghost use Rattle.pos_index.specs.Hits.{Fits, Indexes, IsFrom, entries_of, hits_from, hits_of, places_of};
 
     /// The index of the games of a base, up to a depth of at most 40: their records are read, each once, and so many bytes count as asked.
     /// `buf` has 131,072 bytes.
@@ -107,6 +107,8 @@ impl PosIndex {
     pub fn find(&self, p: &PackedBoard) -> &[Hit]
         ensures hits { result.now ≡ hits_from p.now 0 self.now.rows }
         ensures indexed { (games : List (Option GameTree)) → Indexes self.now games → result.now ≡ hits_of self.now.depth games p.now }
+        // Also where the records that were read are of no games.
+        ensures legal { All (λ hit. IfSome hit.next (IsFrom p.now)) result.now }
     {
         self.places.find(p)
     }
@@ -121,7 +123,7 @@ impl PosIndex {
         ensures unchanged { OnErr result (self.new ≡ self.old) }
     {
         self.places.add_row(alloc, usize::from(self.depth) + 1)?;
-        match put_game(alloc, &mut self.places, i, g, self.depth) {
+        match put_game(alloc, &mut self.places, i, g, 0, self.depth) {
             Ok(()) => Ok(()),
             Err(refused) => {
                 self.places.pop_row();
@@ -130,7 +132,8 @@ impl PosIndex {
         }
     }
 
-    /// Puts a legal game in the place of game `i`: the hits of the old one go. After want of memory the index is as it was.
+    /// Puts a legal game in the place of game `i`: the hits of the old one go, but for those on the boards with which both begin, which get the
+    /// moves of the new one. After want of memory the index is as it was.
     pub fn replace(&mut self, alloc: Global, i: u32, new: &Game) -> Result<(), AllocError>
         requires game { i < length self.old.rows }
         requires legal { IsLegalGame new.now }
@@ -139,8 +142,11 @@ impl PosIndex {
         ensures unchanged { OnErr result (self.new ≡ self.old) }
     {
         let old = self.places.count(i);
-        put_game(alloc, &mut self.places, i, new, self.depth)?;
-        self.places.drop_front(i, old);
+        let kept = common(&self.places, i, new, self.depth);
+        put_game(alloc, &mut self.places, i, new, kept, self.depth)?;
+        self.places
+            .drop_middle(i, usize::from(kept), old - usize::from(kept));
+        set_nexts(&mut self.places, i, new, kept);
         Ok(())
     }
 

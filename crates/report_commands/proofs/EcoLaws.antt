@@ -27,7 +27,7 @@ use Rattle.shell_state.proofs.Quietly.{held_by}
 use Rattle.shell_state.specs.Carrying.{AreBeside}
 use Rattle.shell_state.specs.Ends.{IsDevice, IsBodyFault}
 use Rattle.shell_state.specs.Stands.{Stands, Fits, looks_in}
-use Rattle.shell_state.specs.State.{State}
+use Rattle.shell_state.specs.State.{Carried, State}
 use Rattle.shell_state.specs.Work.{Look}
 use Rattle.shell_state.specs.declared.halt.Halt.{Halt}
 use Rattle.shell_state.specs.declared.halt.Halt.TheVariants as halt
@@ -145,12 +145,13 @@ right_false true unsaved clean = absurd (cc)
 right_false false unsaved clean = clean
 
 -- Heads were edited or not, and no file was changed.
-beside_coded : (old new : Kept) (seen : Seen) (some unsaved : Bool) (carried : Option Base) → new.names ≡ old.names → AreBeside old seen unsaved carried → AreBeside new seen (some || unsaved) carried
+beside_coded : (old new : Kept) (seen : Seen) (some unsaved : Bool) (carried : Option Carried) → new.names ≡ old.names → AreBeside old seen unsaved carried → AreBeside new seen (some || unsaved) carried
 beside_coded old new seen some unsaved (Some base) names b = record {
   contents = b.contents;
   carries = b.carries;
   names = subst (λ (n : NameLists). HoldsNames n b.carries.all_names) (sym names) b.names;
   means = λ clean. b.means (right_false some unsaved clean);
+  opens = λ clean. b.opens (right_false some unsaved clean);
 }
 beside_coded old new seen some unsaved None names b = b
 

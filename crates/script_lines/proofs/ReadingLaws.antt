@@ -1,6 +1,7 @@
 -- Laws of what a reader of lines has taken.
-use Rattle.std.proofs.Common.{Result, Ok, Bool, ◌⊎◌, ◌-◌, ◌==◌, ◌∷◌, zero, not, true, inl, inr, min, ◌≡◌, ◌≤◌, ◌<◌, ◌+◌, ℕ, suc, List, [], ◌++◌, length, take, drop, Option, Some, None, refl, sym, ap, ◌∙◌, arith, append_assoc}
+use Rattle.std.proofs.Common.{Result, Ok, Bool, false, true≢false, ◌⊎◌, ◌-◌, ◌==◌, ◌∷◌, zero, not, true, inl, inr, min, ◌≡◌, ◌≤◌, ◌<◌, ◌+◌, ℕ, suc, List, [], ◌++◌, length, take, drop, Option, Some, None, refl, sym, ap, ◌∙◌, arith, append_assoc, subst}
 use Rattle.std.specs.List.{copy_within}
+use Rattle.std.proofs.lemmas.Bool.{eqb-true}
 use Rattle.std.proofs.Math.Seq.{take-add, take-append-add}
 use Rattle.std.proofs.lemmas.List.Edits.{take-paste}
 use Rattle.std.proofs.lemmas.List.{take-append-le, take-take, take_all, take-append-drop, drop-append-le, drop-drop, drop-take, drop_all, length-drop, length-take, length-take-le, length-append}
@@ -142,6 +143,13 @@ front_part zero bytes = refl
 front_part (suc n) [] = refl
 front_part (suc n) (byte ∷ bytes) = ap (λ l. byte ∷ l) (front_part n bytes)
 
+not_is : (b : Bool) → not b ≡ false → b ≡ true
+not_is true e = refl
+not_is false e = absurd (true≢false e)
+
+pub none_more : (n : ℕ) → not (n == 0) ≡ false → n ≡ 0
+none_more n e = eqb-true n 0 (not_is (n == 0) e)
+
 pub some_more : (n : ℕ) → not (n == 0) ≡ true → 0 < n
 some_more zero more = cc
 some_more (suc n) more = omega arith
@@ -179,3 +187,22 @@ filled_behind u n new unread l l' front given =
 -- All of a vector was lent as a slice.
 pub all_lent : (n : ℕ) (new old : List ℕ) → length new ≡ n → take n (new ++ drop (length new) old) ≡ new
 all_lent n new old size = take-append-le n new (drop (length new) old) (omega (arith, size)) ∙ take_all n new (omega (arith, size))
+
+some_fed : (bytes : List ℕ) → (feed_at bytes ≡ None → ⊥) → 0 < length bytes
+some_fed [] some = absurd (some refl)
+some_fed (byte ∷ bytes) some = omega arith
+
+-- Where a line feed stands unread, nothing was asked of the input so far, and so nothing is now.
+pub unasked_still : {S : Type 0} (first unread : List ℕ) (old now new : S) (P : Type 0) → ((feed_at first ≡ None → ⊥) → (now ≡ old) × (unread ≡ first))
+    → (0 < length unread → (new ≡ now) × P) → (feed_at first ≡ None → ⊥) → new ≡ old
+unasked_still first unread old now new P before still some =
+    let b = before some in
+    (still (subst (λ (l : List ℕ). 0 < length l) (sym b.1) (some_fed first some))).0 ∙ b.0
+
+-- A part without a line feed was all that stood unread, so that none had stood there.
+pub never_open : {S : Type 0} (first unread : List ℕ) (old now new : S) (reader refilled : Reader) (P : Type 0) → ((feed_at first ≡ None → ⊥) → (now ≡ old) × (reader.unread ≡ first))
+    → (0 < length reader.unread → (new ≡ now) × (refilled ≡ reader)) → feed_at refilled.unread ≡ None → (feed_at first ≡ None → ⊥) → P
+never_open first unread old now new reader refilled P before still none some =
+    let b = before some in
+    let s = still (subst (λ (l : List ℕ). 0 < length l) (sym b.1) (some_fed first some)) in
+    absurd (some (ap feed_at (sym (ap (λ (r : Reader). r.unread) s.1 ∙ b.1)) ∙ none))

@@ -131,6 +131,7 @@ impl LineReader {
         ensures some { result ≡ Ok true → 0 < length self.new.unread }
         ensures none { result ≡ Ok false → self.new.unread ≡ [] }
         ensures end { result ≡ Ok false → Tells (S.left input.new) [] }
+        ensures unasked { 0 < length self.old.unread → (input.new ≡ input.old) × (self.new ≡ self.old) }
         ensures failed { OnErr result (self.new.unread ≡ []) }
         ensures sum { S.budget input.new + length self.new.unread ≡ S.budget input.old + length self.old.unread }
         ensures falls { S.budget input.new ≤ S.budget input.old }
@@ -231,6 +232,7 @@ impl LineReader {
         requires none { feed_at (take (longest_script - self.old.used) self.old.unread) ≡ None }
         ensures part { OnOk result ((l : Option (List ℕ)) → TookPart self.old.line self.old l self.new l) }
         ensures all { result ≡ Ok false → self.new.unread ≡ [] }
+        ensures none { result ≡ Ok false → feed_at self.old.unread ≡ None }
         ensures full { result ≡ Ok true → IsFull self.new }
         ensures sum { self.new.used + length self.new.unread ≡ self.old.used + length self.old.unread }
     {
@@ -244,6 +246,7 @@ impl LineReader {
         ensures line { result ≡ Ok Part.Ended → (l : Option (List ℕ)) → TookLine self.old.line self.old l (reading self.new.line) self.new l }
         ensures open { result ≡ Ok Part.Open → (l : Option (List ℕ)) → TookPart self.old.line self.old l self.new l }
         ensures all { result ≡ Ok Part.Open → self.new.unread ≡ [] }
+        ensures none { result ≡ Ok Part.Open → feed_at self.old.unread ≡ None }
         ensures limit { result ≡ Ok Part.Limit → (l : Option (List ℕ)) → TookPart self.old.line self.old l self.new l }
         ensures full { result ≡ Ok Part.Limit → IsFull self.new }
         ensures sum { self.new.used + length self.new.unread ≡ self.old.used + length self.old.unread }
@@ -262,10 +265,12 @@ impl LineReader {
     }
 
     // Reads a line, and says whether a line feed ended it; else the end of the input did.
+    #[tactic(auto, using(crate::proofs::ReadingLaws::unasked_still))]
     fn read_line<S: Source>(&mut self, input: &mut S) -> Result<bool, ReadError>
         requires fresh { self.old.line ≡ [] }
         ensures line { result ≡ Ok true → TookLine [] self.old (S.left input.old) (reading self.new.line) self.new (S.left input.new) }
         ensures last { result ≡ Ok false → TookLast self.old (S.left input.old) self.new (S.left input.new) }
+        ensures unasked { (feed_at self.old.unread ≡ None → ⊥) → input.new ≡ input.old }
         ensures stuck { IfErr result (λ e. Stuck e self.old (S.left input.old) self.new (S.left input.new)) }
         ensures sum { S.budget input.new + (self.new.used + length self.new.unread) ≡ S.budget input.old + (self.old.used + length self.old.unread) }
         ensures falls { S.budget input.new ≤ S.budget input.old }
@@ -296,6 +301,9 @@ impl LineReader {
         ensures line { (order : PlainOrder) → result ≡ Ok (Taken.Line order) → TookLine [] self.old (S.left input.old) order self.new (S.left input.new) }
         ensures last { (order : PlainOrder) → result ≡ Ok (Taken.Last order) → SaysLast self.old (S.left input.old) order self.new (S.left input.new) }
         ensures stuck { IfErr result (λ e. Stuck e self.old (S.left input.old) self.new (S.left input.new)) }
+        // While a whole line stands unread nothing is asked of the input, and of a line no more is held than tells what it says.
+        ensures unasked { (feed_at self.old.unread ≡ None → ⊥) → input.new ≡ input.old }
+        ensures held { OnOk result (length self.new.line ≤ most_kept) }
         ensures within { OnOk result (self.new.used ≤ longest_script) }
         ensures few { OnOk result (length self.new.unread ≤ piece_len) }
         ensures bounds { (order : PlainOrder) → result ≡ Ok (Taken.Line order) → IsSoundLine order }
@@ -322,6 +330,7 @@ impl LineReader {
         ensures memory { IfErr result (λ e. e ≡ ReadError.Memory) }
         ensures within { self.now.used ≤ longest_script }
         ensures few { length self.now.unread ≤ piece_len }
+        ensures held { length self.now.line ≤ most_kept }
     {
         match read_command(alloc, self.line.as_slice()) {
             Ok(command) => Ok(Ok(command)),

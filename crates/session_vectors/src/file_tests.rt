@@ -70,12 +70,13 @@ const ANOTHER: Swap = Swap {
     byte: 0x41,
 };
 
-/// Commands that go along a main line.
-const WALKERS: [&[u8]; 4] = [
+/// Commands that go along a main line. The last one matches at its beginning, and asks for the move behind that.
+const WALKERS: [&[u8]; 5] = [
     FIND,
     b"search ignore position pawns rnbqkbnr/pppppppp/8/8/4P3/8/PPPP1PPP/RNBQKBNR b\n",
     b"search ignore material wq=0..0\n",
     TREE,
+    b"tree rnbqkbnr/pppppppp/8/8/8/8/PPPPPPPP/RNBQKBNR w\n",
 ];
 
 /// The first byte of the moves names no legal one.

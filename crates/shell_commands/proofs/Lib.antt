@@ -1,2 +1,3 @@
 pub mod TaskLaws
 pub mod SayLaws
+pub mod RefusedLaws

@@ -16,7 +16,7 @@ use Rattle.command_runs.specs.Endings.{Halted}
 use Rattle.shell_state.specs.Stands.{Holding, Stands}
 use Rattle.shell_state.specs.State.{State, begin}
 use Rattle.shell_session.specs.Running.{Interrupts, Opening, OpeningRefused}
-use Rattle.shell_session.specs.Session.{Answers, AreGiven, Chooses, ChoosesBase, Reads, WhyStatus, Due, Given, Inlet, Opened, RanAll, RanPart, begun, given, opening_line, opening_text}
+use Rattle.shell_session.specs.Session.{Answers, AreGiven, Chooses, ChoosesBase, Reads, Silent, WhyStatus, Due, Given, Inlet, Opened, RanAll, RanPart, begun, given, opening_line, opening_text}
 use Rattle.shell_session.specs.Stops.{status_of}
 use Rattle.shell_session.specs.Words.{Wanted, words_read}
 use Rattle.shell_session.specs.declared.status.Status.{Status}
@@ -193,6 +193,35 @@ reads_line stop.Read input = tt
 reads_line stop.Write input = tt
 reads_line stop.Files input = tt
 reads_line stop.Memory input = tt
+
+-- What is written then: nothing, or whatever it is.
+pub silent_running : (status : Status) (old new : Option (List ℕ)) → Interrupts status → Silent status old new
+silent_running InputTooLong old new stops = tt
+silent_running ReadFault old new stops = tt
+silent_running WriteFault old new stops = tt
+silent_running FilesFault old new stops = tt
+silent_running (Changed game kept found) old new stops = tt
+silent_running Memory old new stops = tt
+silent_running Usage old new stops = absurd stops
+silent_running Done old new stops = absurd stops
+silent_running (BadBase fault) old new stops = absurd stops
+
+pub silent_opening : (status : Status) (told : Option (List ℕ)) → Silent status told told
+silent_opening Usage told = refl
+silent_opening (BadBase fault) told = refl
+silent_opening InputTooLong told = tt
+silent_opening ReadFault told = tt
+silent_opening WriteFault told = tt
+silent_opening FilesFault told = tt
+silent_opening (Changed game kept found) told = tt
+silent_opening Memory told = tt
+silent_opening Done told = tt
+
+pub silent_line : (s : Stop) (old new : Option (List ℕ)) → Silent (status_of s) old new
+silent_line stop.Read old new = tt
+silent_line stop.Write old new = tt
+silent_line stop.Files old new = tt
+silent_line stop.Memory old new = tt
 
 -- The cause where the opening refused: the files', if it is one of a device.
 pub why_opening : (create strict : Bool) (seen : Seen) (status : Status) (f f' i k : ℕ) → OpeningRefused create strict seen status → (status ≡ FilesFault → Rose f f') → WhyStatus status (counts f i k) (counts f' i k)

@@ -44,7 +44,7 @@ use Rattle.shell_commands.specs.Tasks.{order_left, order_work, Order, order_pric
 use Rattle.intake_commands.specs.Importing.{Intake, intake, item_after, none_taken, not_added, state_with, the_new, unless_not_added}
 use Rattle.shell_state.specs.Stands.{Holding, Stands, WhyHalt}
 use Rattle.shell_state.specs.Carrying.{StillCarry}
-use Rattle.shell_state.specs.State.{State}
+use Rattle.shell_state.specs.State.{Carried, State}
 use Rattle.shell_commands.specs.Tasks.{BrokenTask, tasks}
 use Rattle.shell_state.specs.declared.halt.Halt.{Halt}
 use Rattle.shell_state.specs.declared.halt.Halt.TheVariants as halt
@@ -124,13 +124,13 @@ table_carried s (Err fault) = refl
 
 carried_of : (order : Order) (word : List ℕ) (s : State) (body : List ℕ) → HasBody order word → (tasks.after s (task order body)).carried ≡ s.carried
 carried_of order word s body (inl is) =
-    let P : Order → Option Base = λ o. (tasks.after s (task o body)).carried in
+    let P : Order → Option Carried = λ o. (tasks.after s (task o body)).carried in
     ap P is ∙ items_carried (none_taken s) (items_of body)
 carried_of order word s body (inr (inl (game, is))) =
-    let P : Order → Option Base = λ o. (tasks.after s (task o body)).carried in
+    let P : Order → Option Carried = λ o. (tasks.after s (task o body)).carried in
     ap P is ∙ new_carried s game (the_new s game body)
 carried_of order word s body (inr (inr is)) =
-    let P : Order → Option Base = λ o. (tasks.after s (task o body)).carried in
+    let P : Order → Option Carried = λ o. (tasks.after s (task o body)).carried in
     ap P is ∙ table_carried s (table_of body)
 
 pub body_carries : (order : Order) (word body : List ℕ) (holding : Holding) (seen : Seen) (s : State) → body_word order ≡ Some word → Stands holding seen (tasks.after s (task order body)) → StillCarry seen s (order_left order)

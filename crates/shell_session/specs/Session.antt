@@ -219,3 +219,9 @@ Reads Usage old new = new ≡ old
 Reads (BadBase fault) old new = new ≡ old
 Reads InputTooLong old new = new.budget + longest_script < old.budget
 Reads _ old new = ⊤
+
+-- Nothing is written where the words or the files refuse.
+abbrev pub Silent : Status → Option (List ℕ) → Option (List ℕ) → Type 0
+Silent Usage old new = new ≡ old
+Silent (BadBase fault) old new = new ≡ old
+Silent _ old new = ⊤

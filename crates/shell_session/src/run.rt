@@ -3,7 +3,7 @@ ghost use Rattle.std.specs.Prelude.{◌≡◌, ◌↔◌, ℕ, ◌⊎◌, List, 
 ghost use Rattle.base_files.specs.Seen.{SameContents, Seen};
 ghost use Rattle.base_files.specs.Counters.{Rose};
 ghost use Rattle.command_runs.specs.Counts.{NoneFell, counts};
-ghost use Rattle.shell_session.specs.Session.{Answers, Asks, Chooses, Due, Reads, WhyStatus, given, inlet};
+ghost use Rattle.shell_session.specs.Session.{Answers, Asks, Chooses, Due, Reads, Silent, WhyStatus, given, inlet};
 ghost use Rattle.shell_session.specs.Words.{words_read};
 
 use crate::opening::{open, write_opening};
@@ -44,6 +44,9 @@ pub fn session<F: Files, S: Source, K: Sink>(
     // The bytes that are asked of the games file.
     ensures asks { (index names games script : List ℕ) → (F.seen files.old).index ≡ Some index → (F.seen files.old).names ≡ Some names → (F.seen files.old).games ≡ Some games → S.left input.old ≡ Some script →
         Asks (given (map string_bytes words.now) index names games script) (F.asked files.old) (F.asked files.new) }
+
+    // Whatever the files tell, nothing is written where the words or the files refuse.
+    ensures silent { Silent result (K.taken out.old) (K.taken out.new) }
 
     // What is read of any input.
     ensures reads { Reads result (inlet (S.left input.old) (S.budget input.old) (S.faults input.old)) (inlet (S.left input.new) (S.budget input.new) (S.faults input.new)) }

@@ -18,9 +18,9 @@ abbrev pub first_holding : Kept → Holding
 first_holding kept = record { kept = kept; filter = all_in (length kept.entries); saved = [] }
 
 -- The files beside a base that was opened.
-beside_open : (kept : Kept) (seen : Seen) (base : Base) → IsOpen kept seen false base → AreBeside kept seen false (Some base)
+beside_open : (kept : Kept) (seen : Seen) (base : Base) → IsOpen kept seen false base → AreBeside kept seen false (Some (record { base = base; sound = false }))
 beside_open kept seen base is =
-    beside_meant kept seen base is.contents is.represents.names is.means
+    beside_meant kept seen base false is.contents is.represents.names is.means (λ sound. absurd (cc))
 
 begun_so : (kept : Kept) (seen : Seen) (created : Bool) (base : Base) → IsOpen kept seen created base → Stands (first_holding kept) seen (begin created base)
 begun_so kept seen true base is =

@@ -9,28 +9,30 @@ use Rattle.base_core.specs.Represents.{Kept}
 use Rattle.base_files.specs.Seen.{Seen, appended}
 use Rattle.base_files.specs.Told.{adds, Grew}
 use Rattle.name_base.specs.NameLists.{NameLists}
-use Rattle.shell_state.specs.Carrying.{Beside, Contents, AreBeside, AreLeft, CarryIt, MayCarry, StillCarry}
+use Rattle.shell_state.specs.Carrying.{IsFaultless, Beside, Contents, AreBeside, AreLeft, CarryIt, MayCarry, StillCarry}
 use Rattle.shell_state.specs.Stands.{Holding, Stands}
-use Rattle.shell_state.specs.State.{State}
+use Rattle.shell_state.specs.State.{Carried, State}
 use Rattle.shell_state.specs.declared.halt.Halt.{Halt}
 
 -- Files that mean a base whose names are kept.
-pub beside_meant : (kept : Kept) (seen : Seen) (base : Base) → (c : Contents seen) → kept.names ≡ base.names → Means c.index c.names c.games base → Beside kept seen false base
-beside_meant kept seen base c names means =
+pub beside_meant : (kept : Kept) (seen : Seen) (base : Base) (sound : Bool) → (c : Contents seen) → kept.names ≡ base.names → Means c.index c.names c.games base → (sound ≡ true → IsFaultless c.index c.names c.games)
+    → Beside kept seen false (record { base = base; sound = sound })
+beside_meant kept seen base sound c names means opens =
     let carries = means-carries c.index c.names c.games base means in
     record {
       contents = c;
       carries = record { header = means.header; all_names = base.names; lists = means.lists; more_names = holds-own base.names; end = carries.end; held = means.held };
       names = subst (λ (n : NameLists). HoldsNames n base.names) (sym names) (holds-own base.names);
       means = λ clean. means;
+      opens = λ clean. opens;
     }
 
 -- After the commands of a script, and where one was broken off.
-pub carried_left : (kept : Kept) (seen : Seen) (unsaved : Bool) (carried : Option Base) → AreBeside kept seen unsaved carried → AreLeft seen carried unsaved
-carried_left kept seen unsaved (Some base) b = ((b.contents, b.carries), λ clean. (b.contents, b.means clean))
+pub carried_left : (kept : Kept) (seen : Seen) (unsaved : Bool) (carried : Option Carried) → AreBeside kept seen unsaved carried → AreLeft seen carried unsaved
+carried_left kept seen unsaved (Some carried) b = ((b.contents, b.carries), (λ clean. (b.contents, b.means clean), λ clean sound. (b.contents, b.opens clean sound)))
 carried_left kept seen unsaved None b = b
 
-may_carry : (kept : Kept) (seen : Seen) (unsaved : Bool) (carried : Option Base) (left : Option (Base → Base)) (base : Base) → AreBeside kept seen unsaved carried → MayCarry seen carried left base
+may_carry : (kept : Kept) (seen : Seen) (unsaved : Bool) (carried : Option Carried) (left : Option (Base → Base)) (base : Base) → AreBeside kept seen unsaved carried → MayCarry seen carried left base
 may_carry kept seen unsaved (Some own) left base b = inl (b.contents, b.carries)
 may_carry kept seen unsaved None left base b = tt
 
@@ -51,10 +53,10 @@ if_err (Err e) P p = p
 -- ---- as files and names grow
 
 -- Bytes were added to the games file, and names to those that are kept; then the base is not saved.
-pub beside_grown : (old new : Kept) (seen seen' : Seen) (more : List ℕ) (unsaved : Bool) (carried : Option Base) → seen' ≡ appended more seen → HoldsNames new.names old.names
+pub beside_grown : (old new : Kept) (seen seen' : Seen) (more : List ℕ) (unsaved : Bool) (carried : Option Carried) → seen' ≡ appended more seen → HoldsNames new.names old.names
     → AreBeside old seen unsaved carried → AreBeside new seen' true carried
-beside_grown old new seen seen' more unsaved (Some base) is names b =
-    let later = carries-longer b.contents.index b.contents.names b.contents.games more base b.carries in
+beside_grown old new seen seen' more unsaved (Some carried) is names b =
+    let later = carries-longer b.contents.index b.contents.names b.contents.games more carried.base b.carries in
     record {
       contents = record {
         index = b.contents.index;
@@ -74,6 +76,7 @@ beside_grown old new seen seen' more unsaved (Some base) is names b =
       };
       names = holds-more new.names old.names b.carries.all_names names b.names;
       means = λ clean. absurd (true≢false clean);
+      opens = λ clean. absurd (true≢false clean);
     }
 beside_grown old new seen seen' more unsaved None is names b = (ap (λ (s : Seen). s.index) is ∙ b.0, ap (λ (s : Seen). s.names) is ∙ b.1)
 
@@ -83,12 +86,13 @@ carry_appended holding seen seen' more s left is st =
     may_carry holding.kept seen' true s.carried left s.base (beside_grown holding.kept holding.kept seen seen' more s.unsaved s.carried is (holds-own holding.kept.names) st.carried)
 
 -- The base was edited, and no file was changed.
-pub beside_edited : (old new : Kept) (seen : Seen) (unsaved : Bool) (carried : Option Base) → new.names ≡ old.names → AreBeside old seen unsaved carried → AreBeside new seen true carried
+pub beside_edited : (old new : Kept) (seen : Seen) (unsaved : Bool) (carried : Option Carried) → new.names ≡ old.names → AreBeside old seen unsaved carried → AreBeside new seen true carried
 beside_edited old new seen unsaved (Some base) names b = record {
   contents = b.contents;
   carries = b.carries;
   names = subst (λ (n : NameLists). HoldsNames n b.carries.all_names) (sym names) b.names;
   means = λ clean. absurd (true≢false clean);
+  opens = λ clean. absurd (true≢false clean);
 }
 beside_edited old new seen unsaved None names b = b
 
@@ -112,9 +116,9 @@ carry_in_part seen seen' base is grew (c, carries) =
       carries-longer c.index c.names c.games more.0 base carries,
     )
 
-may_in_part : (kept : Kept) (seen seen' : Seen) (unsaved : Bool) (carried : Option Base) (left : Option (Base → Base)) (base : Base) → seen' ≡ record seen { games = seen'.games } → Grew seen.games seen'.games
+may_in_part : (kept : Kept) (seen seen' : Seen) (unsaved : Bool) (carried : Option Carried) (left : Option (Base → Base)) (base : Base) → seen' ≡ record seen { games = seen'.games } → Grew seen.games seen'.games
     → AreBeside kept seen unsaved carried → MayCarry seen' carried left base
-may_in_part kept seen seen' unsaved (Some own) left base is grew b = inl (carry_in_part seen seen' own is grew (b.contents, b.carries))
+may_in_part kept seen seen' unsaved (Some own) left base is grew b = inl (carry_in_part seen seen' own.base is grew (b.contents, b.carries))
 may_in_part kept seen seen' unsaved None left base is grew b = tt
 
 pub carry_grown : (holding : Holding) (seen seen' : Seen) (s : State) (left : Option (Base → Base)) → seen' ≡ record seen { games = seen'.games } → Grew seen.games seen'.games → Stands holding seen s → StillCarry seen' s left
@@ -123,15 +127,15 @@ carry_grown holding seen seen' s left is grew st = may_in_part holding.kept seen
 -- What is carried beside another state of the same script.
 pub carry_later : (holding : Holding) (seen : Seen) (s s' : State) (left : Option (Base → Base)) → s'.carried ≡ s.carried → Stands holding seen s' → StillCarry seen s left
 carry_later holding seen s s' left same st =
-    subst (λ (c : Option Base). MayCarry seen c left s.base) same (may_carry holding.kept seen s'.unsaved s'.carried left s.base st.carried)
+    subst (λ (c : Option Carried). MayCarry seen c left s.base) same (may_carry holding.kept seen s'.unsaved s'.carried left s.base st.carried)
 
 -- What is carried where nothing is left in its place is carried whatever breaks off.
-carried_always : (seen : Seen) (carried : Option Base) (left : Option (Base → Base)) (base base' : Base) → MayCarry seen carried None base' → MayCarry seen carried left base
+carried_always : (seen : Seen) (carried : Option Carried) (left : Option (Base → Base)) (base base' : Base) → MayCarry seen carried None base' → MayCarry seen carried left base
 carried_always seen (Some own) left base base' (inl carry) = inl carry
 carried_always seen (Some own) left base base' (inr none) = absurd none
 carried_always seen None left base base' may = tt
 
 pub carry_before : (seen : Seen) (s s' : State) (left : Option (Base → Base)) → s'.carried ≡ s.carried → StillCarry seen s' None → StillCarry seen s left
 carry_before seen s s' left same carry =
-    let P : Option Base → Type 0 = λ c. MayCarry seen c None s'.base in
+    let P : Option Carried → Type 0 = λ c. MayCarry seen c None s'.base in
     carried_always seen s.carried left s.base s'.base (subst P same carry)

@@ -1,4 +1,5 @@
-use Rattle.std.proofs.Common.{◌≡◌, ◌≤◌, ◌+◌, ℕ, take, sym, subst, arith}
+use Rattle.std.proofs.Common.{◌≡◌, ◌≤◌, ◌+◌, ℕ, take, sym, ◌∙◌, subst, arith}
+use Rattle.std.proofs.lemmas.Bool.{ltb-false}
 use Rattle.base_files.specs.Told.{Tells, part_told}
 use Rattle.index_entry.specs.Index.{entry_bytes}
 use Rattle.base_core.proofs.ReadLaws.{asked-le}
@@ -15,7 +16,7 @@ returns-then-is_err-clause-asks g c =
     omega (
       arith,
       asked-le _ _ _ c.read_games.ensures.asks,
-      cost-there c.args.source.now.names.now c.args.source.now.index.now c.args.source.now.end c.args.game c.in-Ok.entry (omega (arith, c.if-source-game.false)) (sym c.in-Ok.ensures.exact),
+      cost-there c.args.source.now.names.now c.args.source.now.index.now c.args.source.now.end c.args.game c.in-Ok.entry (ltb-false _ _ (sym c.is_cut.ensures.cut ∙ c.if-is_cut.false)) (sym c.in-Ok.ensures.exact),
     )
 
 pub returns-clause-asks : goal.returns-clause-asks
@@ -23,7 +24,7 @@ returns-clause-asks g c =
     omega (
       arith,
       asked-le _ _ _ c.read_games.ensures.asks,
-      cost-there c.args.source.now.names.now c.args.source.now.index.now c.args.source.now.end c.args.game c.in-Ok.entry (omega (arith, c.if-source-game.false)) (sym c.in-Ok.ensures.exact),
+      cost-there c.args.source.now.names.now c.args.source.now.index.now c.args.source.now.end c.args.game c.in-Ok.entry (ltb-false _ _ (sym c.is_cut.ensures.cut ∙ c.if-is_cut.false)) (sym c.in-Ok.ensures.exact),
     )
 
 pub returns-clause-found : goal.returns-clause-found
@@ -31,4 +32,4 @@ returns-clause-found g c =
     let T : ℕ → Type 0 = λ n. Tells (part_told (g.F.Files.seen c.args.old.now).games n c.in-Ok.entry.len) (take c.in-Ok.entry.len c.read_games.new.into) in
     let tells = subst T c.from.ensures (from_ok c.read_games.result (T c.from.result) c.if-is_err.ensures.value c.read_games.ensures.bytes) in
     found-so (g.F.Files.seen c.args.old.now).games c.args.source.now.index.now c.args.source.now.names.now c.args.source.now.end c.args.game c.read_games.new.into c.in-Ok.entry c.found_in.result
-    (omega (arith, c.if-source-game.false)) c.in-Ok.ensures.fields.event_rule c.requires.told tells (sym c.in-Ok.ensures.exact) c.found_in.ensures.found
+    (ltb-false _ _ (sym c.is_cut.ensures.cut ∙ c.if-is_cut.false)) c.in-Ok.ensures.fields.event_rule c.requires.told tells (sym c.in-Ok.ensures.exact) c.found_in.ensures.found

@@ -1,4 +1,3 @@
-use Rattle.std.proofs.Common.{rules}
 use Rattle.pos_index.specs.Hits.{places_of}
 use Rattle.pos_index.proofs.BuildLemmas.{added_last, adds_row}
 use Rattle.pos_index.proofs.building.add_record.Goals as goal

@@ -1,4 +1,3 @@
-use Rattle.std.proofs.Common.{rules}
 use Rattle.sig_index.proofs.ReadLemmas.{front_is, game_read}
 use Rattle.pos_index.proofs.building.read_game.Goals as goal
 

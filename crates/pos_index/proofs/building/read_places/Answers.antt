@@ -1,4 +1,4 @@
-use Rattle.std.proofs.Common.{rules, ◌≡◌, ◌<◌, ◌≤◌, ◌+◌, ◌∙◌, ap, sym, length, arith}
+use Rattle.std.proofs.Common.{◌<◌, ◌+◌, ◌∙◌, ap, length, arith}
 use Rattle.base_files.specs.Seen.{Seen}
 use Rattle.sig_index.proofs.ReadLemmas.{some_at}
 use Rattle.pos_index.proofs.BuildLemmas.{adds-length, adds-short, asked_next, asked_within, rows_all, rows_next}

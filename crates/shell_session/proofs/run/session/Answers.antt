@@ -1,11 +1,11 @@
 use Rattle.std.proofs.Common.{◌≡◌, ◌⊎◌, ℕ, List, map, string_bytes, sym, ap, ◌∙◌, subst}
 use Rattle.base_files.specs.Seen.{Seen}
-use Rattle.shell_session.specs.Session.{Answers, Due, given, inlet}
+use Rattle.shell_session.specs.Session.{Answers, Due, Silent, given, inlet}
 use Rattle.shell_session.specs.Words.{Wanted}
 use Rattle.shell_session.specs.declared.status.Status.{Status}
 use Rattle.shell_session.specs.declared.status.Status.TheVariants.{Done, Memory}
 use Rattle.shell_session.specs.Stops.{status_of}
-use Rattle.shell_session.proofs.AnswerLaws.{chooses_running, chosen, due_of, line_session, part_session, why_line, why_running, whole_session}
+use Rattle.shell_session.proofs.AnswerLaws.{chooses_running, chosen, due_of, line_session, part_session, silent_line, silent_running, why_line, why_running, whole_session}
 use Rattle.shell_session.proofs.PriceLaws.{asks_opening, asks_script}
 use Rattle.shell_session.proofs.run.session.Goals as goal
 
@@ -91,3 +91,11 @@ returns-clause-asks g c = λ index names games script i n told left.
     let wanted : Wanted = record { name = c.in-Some.wanted.name.now; create = c.in-Some.wanted.create; strict = c.in-Some.wanted.strict } in
     asks_script (map string_bytes c.args.words.now) index names games script (g.F.Files.seen c.args.files.now) (g.F.Files.seen c.open.new.files) wanted c.in-Ok.opened.0 c.in-Ok.opened.1
     (g.S.Source.left c.args.input.now) _ _ _ (sym c.in-Some.ensures.read) c.in-Ok.ensures.opens c.open.ensures.asks c.run_script.ensures.asks i n told left
+
+pub returns-in-Err-write_opening-clause-silent : goal.returns-in-Err-write_opening-clause-silent
+returns-in-Err-write_opening-clause-silent g c =
+    let P : Status → Type 0 = λ status. Silent status (g.K.Sink.taken c.args.out.now) (g.K.Sink.taken c.write_opening.new.out) in
+    subst P (sym c.from.ensures) (silent_line c.in-Err-write_opening.stop _ _)
+
+pub returns-clause-silent : goal.returns-clause-silent
+returns-clause-silent g c = silent_running c.in-Err-run_script.status _ _ c.in-Err-run_script.ensures.ends

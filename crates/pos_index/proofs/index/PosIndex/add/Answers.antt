@@ -1,9 +1,10 @@
-use Rattle.std.proofs.Common.{rules, ◌≡◌, ◌≤◌, ◌+◌, ◌++◌, ◌∷◌, ◌∙◌, ap, sym, subst, List, [], length, arith}
+use Rattle.std.proofs.Common.{rules, ◌≡◌, ◌+◌, ◌++◌, ◌∷◌, ◌∙◌, sym, subst, List, [], length, arith}
 use Rattle.std.proofs.lemmas.List.{length_push}
 use Rattle.std.proofs.lemmas.List.Elements.{All-push}
-use Rattle.pos_index.specs.Hits.{Fits, Index, Place, places_of}
+use Rattle.pos_index.specs.Hits.{Fits, IsRow, Place, places_of}
 use Rattle.pos_index.proofs.BuildLemmas.{added_last}
-use Rattle.pos_index.proofs.IndexLemmas.{AreShort, places_few, stands_added}
+use Rattle.pos_index.proofs.GameLemmas.{places_row}
+use Rattle.pos_index.proofs.IndexLemmas.{AreShort, stands_added}
 use Rattle.pos_index.proofs.index.PosIndex.add.Goals as goal
 
 pub invariant_of-self-in-Ok : goal.invariant_of-self-in-Ok
@@ -17,7 +18,7 @@ invariant_of-self-in-Ok c =
       c.self.invariant.0,
       (
         subst (λ (l : List (List Place)). Fits depth (length l)) (sym now) room,
-        subst (AreShort (depth + 1)) (sym now) (All-push (λ (r : List Place). length r ≤ depth + 1) old row c.self.invariant.1.1 (places_few depth c.args.g.now)),
+        subst (AreShort (depth + 1)) (sym now) (All-push (IsRow (depth + 1)) old row c.self.invariant.1.1 (places_row depth c.args.g.now c.put_game.ensures.start c.requires.legal)),
       ),
     )
 

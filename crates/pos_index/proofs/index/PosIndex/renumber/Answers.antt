@@ -1,5 +1,5 @@
-use Rattle.std.proofs.Common.{rules, ◌≡◌, ◌≤◌, ◌+◌, ◌∙◌, ap, sym, subst, List, length}
-use Rattle.pos_index.specs.Hits.{Fits, Index, Place}
+use Rattle.std.proofs.Common.{rules, ◌+◌, ◌∙◌, sym, subst, List, length}
+use Rattle.pos_index.specs.Hits.{Fits, Place}
 use Rattle.pos_index.proofs.IndexLemmas.{AreShort, fewer_fit, fewer_renumbered, short_renumbered, stands_renumbered}
 use Rattle.pos_index.proofs.index.PosIndex.renumber.Goals as goal
 

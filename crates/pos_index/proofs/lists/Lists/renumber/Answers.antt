@@ -1,10 +1,8 @@
-use Rattle.std.proofs.Common.{rules, ◌≡◌, ◌++◌, ◌<◌, List, ℕ, length, map, take, drop, sym, subst, ap, ◌∙◌, refl, arith}
+use Rattle.std.proofs.Common.{rules, ◌≡◌, ◌<◌, ℕ, length, map, take, subst, ap, ◌∙◌}
 use Rattle.std.specs.Prelude.{All}
-use Rattle.std.proofs.lemmas.List.{length-map, take_at}
 use Rattle.game_filter.specs.Renumbering.{renumbered}
 use Rattle.pos_index.specs.declared.hit.Hit.{Hit}
-use Rattle.pos_index.specs.declared.spot.Spot.{Spot}
-use Rattle.pos_index.specs.Keeping.{AreListed, moved}
+use Rattle.pos_index.specs.Keeping.{moved}
 use Rattle.pos_index.proofs.ListedLemmas.{listed_moved, lists_below, written_back}
 use Rattle.pos_index.proofs.lists.Lists.renumber.Goals as goal
 

@@ -1,4 +1,4 @@
-use Rattle.std.proofs.Common.{◌≡◌, ◌≤◌, ◌∙◌, ap, sym, subst, length}
+use Rattle.std.proofs.Common.{◌≤◌, ◌∙◌, ap, sym, subst, length}
 use Rattle.game_filter.specs.Renumbering.{renumbered}
 use Rattle.pos_index.specs.Keeping.{AreOn, Listed, places_by, row_places}
 use Rattle.pos_index.proofs.ListedLemmas.{on_moved}

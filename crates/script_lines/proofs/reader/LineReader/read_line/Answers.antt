@@ -1,5 +1,5 @@
 use Rattle.std.proofs.Common.{arith, ap, length, [], ◌∙◌}
-use Rattle.script_lines.proofs.ReadingLaws.{took_filled, took_rest, took_twice}
+use Rattle.script_lines.proofs.ReadingLaws.{never_open, took_filled, took_rest, took_twice, unasked_still}
 use Rattle.script_lines.proofs.reader.LineReader.read_line.Goals as goal
 
 pub returns-in-Ok-Ended-clause-line : goal.returns-in-Ok-Ended-clause-line
@@ -14,6 +14,8 @@ parts-preserved g c = record {
       took_twice [] _ _ _ _ _ _
       (took_filled [] _ _ _ _ _ _ c.parts.invariant.part c.refill.ensures.kept c.refill.ensures.line c.refill.ensures.used)
       (c.take_part.ensures.open (cc (c.in-Ok-Open.is, c.in-Ok-Open.field-0-is)) (g.S.Source.left c.refill.new.input));
+  unasked = never_open c.args.self.now.unread c.parts.self.unread c.args.input.now c.parts.input c.refill.new.input c.parts.self c.refill.new.self _ c.parts.invariant.unasked c.refill.ensures.unasked
+      (c.take_part.ensures.none (cc (c.in-Ok-Open.is, c.in-Ok-Open.field-0-is)));
   sum = omega (arith, c.parts.invariant.sum, c.refill.ensures.sum, c.refill.ensures.used, c.take_part.ensures.sum);
   falls = omega (arith, c.parts.invariant.falls, c.refill.ensures.falls);
   faults = omega (arith, c.parts.invariant.faults, c.refill.ensures.counts);

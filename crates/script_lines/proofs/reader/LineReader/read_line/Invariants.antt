@@ -1,4 +1,5 @@
-use Rattle.std.proofs.Common.{◌≡◌, ◌≤◌, ◌+◌, [], length}
+use Rattle.std.proofs.Common.{◌≡◌, ◌≤◌, ◌+◌, [], None, length}
+use Rattle.script_lines.specs.Bodies.{feed_at}
 use Rattle.script_lines.specs.Reading.{TookPart}
 use Rattle.script_lines.proofs.reader.LineReader.read_line.Given as goal
 
@@ -6,6 +7,7 @@ use Rattle.script_lines.proofs.reader.LineReader.read_line.Given as goal
 abbrev pub invariant-parts : goal.invariant-parts
 invariant-parts g l = record {
   part : TookPart [] l.fn.self (g.S.Source.left l.fn.input) l.self (g.S.Source.left l.input);
+  unasked : (feed_at l.fn.self.unread ≡ None → ⊥) → (l.input ≡ l.fn.input) × (l.self.unread ≡ l.fn.self.unread);
   sum : g.S.Source.budget l.input + (l.self.used + length l.self.unread) ≡ g.S.Source.budget l.fn.input + (l.fn.self.used + length l.fn.self.unread);
   falls : g.S.Source.budget l.input ≤ g.S.Source.budget l.fn.input;
   faults : g.S.Source.faults l.fn.input ≤ g.S.Source.faults l.input;

@@ -1,8 +1,8 @@
 use Rattle.std.proofs.Common.{arith, not, ◌≡◌, ◌-◌, length, take, ap, sym, ◌∙◌}
-use Rattle.std.proofs.lemmas.List.{length-drop, length-take}
+use Rattle.std.proofs.lemmas.List.{length-drop, length-take, take_all}
 use Rattle.script_lines.specs.Bodies.{feed_at}
 use Rattle.script_lines.specs.Script.{longest_script}
-use Rattle.script_lines.proofs.ReadingLaws.{front_part, ok_is, some_more, took_part}
+use Rattle.script_lines.proofs.ReadingLaws.{front_part, none_more, ok_is, some_more, took_part}
 use Rattle.script_lines.proofs.reader.LineReader.take_open.Goals as goal
 
 pub take-requires-clause-within : goal.take-requires-clause-within
@@ -29,3 +29,13 @@ returns-clause-full c = λ is.
       full = omega (arith, size, rest, more, same, c.in_ok-take.ensures.used, c.within-within.ensures.used);
       more = omega (arith, more, same);
     }
+
+pub returns-clause-none : goal.returns-clause-none
+returns-clause-none c = λ is.
+    let room = longest_script - c.args.self.now.used in
+    let unread = c.args.self.now.unread in
+    let size = ap length c.within-within.ensures.within ∙ length-take room unread in
+    let rest = ap length c.in_ok-take.ensures.unread ∙ length-drop (length c.within-within.result.now) unread in
+    let none = none_more (length c.unread.result.now) (ap not (sym c.is_empty.ensures) ∙ ok_is is) in
+    let same = ap length c.unread.ensures.unread in
+    ap feed_at (sym (take_all room unread (omega (arith, size, rest, none, same)))) ∙ c.requires.none

@@ -1,0 +1,6 @@
+mod MenLemmas
+mod PlaceLemmas
+mod BoardLemmas
+mod MeetLemmas
+mod HereLemmas
+mod GameLemmas

@@ -1,0 +1,19 @@
+use Rattle.std.proofs.Common.{◌≡◌, ◌≤◌, ℕ, ◌+◌, List, Some, length}
+use Rattle.game_tree.specs.Game.{GameTree}
+use Rattle.sig_index.specs.Games.{Holds}
+use Rattle.book_pages.specs.Asking.{price_below}
+use Rattle.book_pages.specs.Keeping.{AreTallies, HaveCounted}
+use Rattle.book_pages.proofs.book.count_games.Given as goal
+
+-- The games before this one were counted, and the records of those that are in were asked for.
+abbrev pub invariant-loop-i : goal.invariant-loop-i
+invariant-loop-i g l = record {
+  kept : AreTallies l.boards.keys l.i l.tallies;
+  counted : (told : List ℕ) (list : List GameTree) → (g.F.Files.seen l.fn.files).games ≡ Some told
+      → Holds told (g.G.Games.extents l.games) (g.G.Games.sigs l.games) list
+      → HaveCounted l.boards.keys l.filter (g.G.Games.heads l.games) list l.i l.tallies;
+  room : length l.buf ≡ 131072;
+  unchanged : g.F.Files.seen l.files ≡ g.F.Files.seen l.fn.files;
+  asks : g.F.Files.asked l.files ≤ g.F.Files.asked l.fn.files + price_below l.filter (g.G.Games.extents l.games) l.i;
+  counts : g.F.Files.faults l.fn.files ≤ g.F.Files.faults l.files;
+}

@@ -1,0 +1,13 @@
+-- Why a book is not made (this project's own).
+use Rattle.std.specs.Prelude.{ℕ, List, Option, ⊤}
+use Rattle.base_files.specs.declared.extent.Extent.{Extent}
+use Rattle.sig_index.specs.Games.{HasFetchCause}
+use Rattle.sig_index.specs.declared.signature.Sig.{Sig}
+use Rattle.book_pages.specs.declared.fault.BookError.{BookError}
+use Rattle.book_pages.specs.declared.fault.BookError.TheVariants.{Fetch, Memory}
+
+-- The cause of an error, where the files tell `told` of the games file and their count of faults went from `old` to `new`: that of a
+-- record which was not read; want of memory is free.
+abbrev pub HasBookCause : BookError → List Sig → List Extent → Option (List ℕ) → List ℕ → ℕ → ℕ → Type 0
+HasBookCause (Fetch error) sigs extents told buffer old new = HasFetchCause error sigs extents told buffer old new
+HasBookCause Memory sigs extents told buffer old new = ⊤

@@ -1,0 +1,5 @@
+pub mod Hits
+pub mod Asking
+pub mod Causes
+pub mod Book
+pub mod Keeping

@@ -1,0 +1,322 @@
+//! A book.
+ghost use Rattle.std.specs.Prelude.{◌≡◌, ◌≤◌, ◌<◌, ◌+◌, ◌^◌, ℕ, All, List, Some, length, IfOk, IfErr, OnOk, slice_get, take};
+ghost use Rattle.cell_core.specs.Packed.{men_of};
+ghost use Rattle.game_tree.specs.Game.{GameTree};
+ghost use Rattle.sig_index.specs.Games.{AreWithin, Holds, extent_in, head_in};
+ghost use Rattle.book_pages.specs.Asking.{len_if_in, price};
+ghost use Rattle.book_pages.specs.Causes.{HasBookCause};
+ghost use Rattle.book_pages.specs.Hits.{hits_below};
+ghost use Rattle.book_pages.specs.Keeping.{AreBoards, AreTallies, AreCountedIf, HaveCounted, IsBoard, IsUncounted, counted_of};
+
+use crate::counting::{Counted, count_record, men_in};
+use crate::fault::BookError;
+use crate::tally::Tally;
+use crate::trail::{Trail, Way};
+use base_files::Files;
+use cell_core::{PackedBoard, unpack};
+use chess_laws::Position;
+use game_filter::Filter;
+use indexmap::IndexSet;
+use sig_index::{FetchError, Games};
+use std::alloc::{AllocError, Global};
+use std::marker::Model;
+use tree_rows::Row;
+
+/// The pages of a book, in the order of its boards: on each what the games of a filter made from that board on.
+///
+/// Contracts see the boards, and the rows of each page.
+#[derive(Drop)]
+pub struct Book {
+    boards: IndexSet<PackedBoard>,
+    tallies: Vec<Tally>,
+    trails: Vec<Trail>,
+}
+
+impl Model for Book {
+    ghost use Rattle.std.specs.Prelude.{map};
+    ghost use Rattle.book_pages.specs.Book.{Pages};
+    ghost use Rattle.book_pages.specs.Keeping.{IsBook};
+
+    ghost Value = { Pages };
+
+    ghost view = { λ b. record { boards = b.boards.keys; rows = map (λ tally. tally.rows) b.tallies.items } };
+
+    ghost invariant = { λ b. IsBook b.boards.keys b.tallies.items };
+}
+
+impl Book {
+    ghost use Rattle.std.specs.Prelude.{◌≡◌, ◌≤◌, ◌<◌, ◌+◌, ◌^◌, All, List, Some, length, IfOk, IfErr, slice_get};
+    ghost use Rattle.cell_core.specs.Packed.{Packed, men_of};
+    ghost use Rattle.game_tree.specs.Game.{GameTree};
+    ghost use Rattle.sig_index.specs.Games.{AreWithin, Holds};
+    ghost use Rattle.tree_rows.specs.MoveText.{IsKey};
+    ghost use Rattle.book_pages.specs.Asking.{price};
+    ghost use Rattle.book_pages.specs.Book.{ShowTrees};
+    ghost use Rattle.book_pages.specs.Causes.{HasBookCause};
+
+    /// The pages of these boards, the first of which is the start of the book, over the games of a filter: at most 16,777,214 games, and
+    /// an entry of the filter for each. The ways that the pages tell are at most so deep.
+    ///
+    /// The record of each game of the filter is read, once, and so many bytes count as asked. `buf` has 131,072 bytes.
+    pub fn read<G: Games, F: Files>(
+        alloc: Global,
+        games: &G,
+        filter: &Filter,
+        boards: IndexSet<PackedBoard>,
+        depth: u8,
+        files: &mut F,
+        buf: &mut [u8],
+    ) -> Result<Book, BookError>
+        requires games { length filter.now ≡ length (G.sigs games.now) }
+        requires few { length filter.now ≤ 16777214 }
+        requires room { length buf.old ≡ 131072 }
+        requires within { AreWithin (F.seen files.old).known (G.extents games.now) }
+        // Over a games file that is told and holds the records of these games.
+        ensures rows { (told : List ℕ) (list : List GameTree) → (F.seen files.old).games ≡ Some told → Holds told (G.extents games.now) (G.sigs games.now) list → IfOk result (λ book. ShowTrees filter.now (G.heads games.now) list book) }
+        ensures boards { IfOk result (λ book. book.boards ≡ boards.keys) }
+        ensures room { length buf.new ≡ 131072 }
+        ensures unchanged { F.seen files.new ≡ F.seen files.old }
+        ensures asks { F.asked files.new ≤ F.asked files.old + price filter.now (G.extents games.now) }
+        ensures counts { F.faults files.old ≤ F.faults files.new }
+        ensures cause { IfErr result (λ e. HasBookCause e (G.sigs games.now) (G.extents games.now) (F.seen files.old).games buf.new (F.faults files.old) (F.faults files.new)) }
+    {
+        let mut tallies = tallies_of(alloc, boards.len())?;
+        let mut trails = trails_of(alloc, boards.len())?;
+        let fewest = fewest_in(boards.as_slice());
+        match count_games(
+            alloc,
+            games,
+            filter,
+            &boards,
+            fewest,
+            tallies.as_mut_slice(),
+            trails.as_mut_slice(),
+            depth,
+            files,
+            buf,
+        ) {
+            Ok(()) => {}
+            Err(error) => return Err(error),
+        }
+        Ok(Book {
+            boards,
+            tallies,
+            trails,
+        })
+    }
+
+    /// How many pages there are.
+    pub fn len(&self) -> usize
+        ensures len { result ≡ length self.now.boards }
+        ensures rows { result ≡ length self.now.rows }
+    {
+        self.boards.len()
+    }
+
+    /// The board of a page, with the side to move.
+    pub fn board(&self, number: usize) -> PackedBoard
+        requires page { number < length self.now.boards }
+        ensures board { slice_get self.now.boards number ≡ Some result }
+    {
+        self.boards.as_slice()[number]
+    }
+
+    /// The rows of a page, in the order of their keys. Each key is a move that is legal from some position of its board and side, or none.
+    pub fn rows(&self, number: usize) -> &[Row]
+        requires page { number < length self.now.boards }
+        ensures rows { slice_get self.now.rows number ≡ Some result.now }
+        ensures keys { (board : Packed) → slice_get self.now.boards number ≡ Some board → All (λ row. IsKey (men_of board.cells) board.side row.key) result.now }
+    {
+        self.tallies[number].rows().as_slice()
+    }
+
+    /// The first games of a page, at most ten.
+    pub fn firsts(&self, number: usize) -> &[u32] {
+        match self.tallies.get(number) {
+            Some(tally) => tally.firsts(),
+            None => &[],
+        }
+    }
+
+    /// The page that the move of a row of a page leads to, if there is one.
+    pub fn led(&self, number: usize, row: &Row) -> Option<usize> {
+        match (self.trails.get(number), &row.key) {
+            (Some(trail), Some(mv)) => trail.behind(mv),
+            _ => None,
+        }
+    }
+
+    /// How the first game came there that reached the page's board within the depth of the book.
+    pub fn way(&self, number: usize) -> Option<&Way> {
+        match self.trails.get(number) {
+            Some(trail) => trail.way.as_ref(),
+            None => None,
+        }
+    }
+}
+
+// The tallies of so many pages before any game is counted.
+fn tallies_of(alloc: Global, pages: usize) -> Result<Vec<Tally>, AllocError>
+    ensures count { IfOk result (λ tallies. length tallies.items ≡ pages) }
+    ensures each { IfOk result (λ tallies. All IsUncounted tallies.items) }
+{
+    let mut tallies = Vec::new(alloc);
+    for _page in 0..pages {
+        tallies.push(Tally::new(alloc))?;
+    }
+    Ok(tallies)
+}
+
+// The trails of so many pages before any game is counted.
+fn trails_of(alloc: Global, pages: usize) -> Result<Vec<Trail>, AllocError> {
+    let mut trails = Vec::new(alloc);
+    for _page in 0..pages {
+        trails.push(Trail::new(alloc))?;
+    }
+    Ok(trails)
+}
+
+// Counts the games of a filter on boards.
+fn count_games<G: Games, F: Files>(
+    alloc: Global,
+    games: &G,
+    filter: &Filter,
+    boards: &IndexSet<PackedBoard>,
+    fewest: u16,
+    tallies: &mut [Tally],
+    trails: &mut [Trail],
+    depth: u8,
+    files: &mut F,
+    buf: &mut [u8],
+) -> Result<(), BookError>
+    requires games { length filter.now ≡ length (G.sigs games.now) }
+    requires few { length filter.now ≤ 16777214 }
+    requires boards { AreBoards boards.now fewest }
+    requires count { length tallies.old ≡ length boards.now.keys }
+    requires each { All IsUncounted tallies.old }
+    requires room { length buf.old ≡ 131072 }
+    requires within { AreWithin (F.seen files.old).known (G.extents games.now) }
+    ensures kept { OnOk result (AreTallies boards.now.keys (length filter.now) tallies.new) }
+    ensures counted { (told : List ℕ) (list : List GameTree) → (F.seen files.old).games ≡ Some told → Holds told (G.extents games.now) (G.sigs games.now) list → OnOk result (HaveCounted boards.now.keys filter.now (G.heads games.now) list (length filter.now) tallies.new) }
+    ensures room { length buf.new ≡ 131072 }
+    ensures unchanged { F.seen files.new ≡ F.seen files.old }
+    ensures asks { F.asked files.new ≤ F.asked files.old + price filter.now (G.extents games.now) }
+    ensures counts { F.faults files.old ≤ F.faults files.new }
+    ensures cause { IfErr result (λ e. HasBookCause e (G.sigs games.now) (G.extents games.now) (F.seen files.old).games buf.new (F.faults files.old) (F.faults files.new)) }
+{
+    for i in 0..filter.len() {
+        match count_game(
+            alloc,
+            games,
+            filter.get(i),
+            i,
+            boards,
+            fewest,
+            tallies,
+            trails,
+            depth,
+            files,
+            buf,
+        ) {
+            Ok(()) => {}
+            Err(error) => return Err(error),
+        }
+    }
+    Ok(())
+}
+
+// Counts game `i`, if it is in.
+fn count_game<G: Games, F: Files>(
+    alloc: Global,
+    games: &G,
+    ply: Option<u32>,
+    i: u32,
+    boards: &IndexSet<PackedBoard>,
+    fewest: u16,
+    tallies: &mut [Tally],
+    trails: &mut [Trail],
+    depth: u8,
+    files: &mut F,
+    buf: &mut [u8],
+) -> Result<(), BookError>
+    requires game { i < length (G.sigs games.now) }
+    requires few { i ≤ 16777213 }
+    requires boards { AreBoards boards.now fewest }
+    requires kept { AreTallies boards.now.keys i tallies.old }
+    requires room { length buf.old ≡ 131072 }
+    requires within { AreWithin (F.seen files.old).known (G.extents games.now) }
+    ensures kept { OnOk result (AreTallies boards.now.keys (i + 1) tallies.new) }
+    ensures counted { (told : List ℕ) (list : List GameTree) (game : GameTree) → (F.seen files.old).games ≡ Some told → Holds told (G.extents games.now) (G.sigs games.now) list → slice_get list i ≡ Some game → OnOk result (AreCountedIf boards.now.keys i ply (head_in (G.heads games.now) i) game tallies.old tallies.new) }
+    ensures room { length buf.new ≡ 131072 }
+    ensures unchanged { F.seen files.new ≡ F.seen files.old }
+    ensures asks { F.asked files.new ≤ F.asked files.old + len_if_in ply (extent_in (G.extents games.now) i).len }
+    ensures counts { F.faults files.old ≤ F.faults files.new }
+    ensures cause { IfErr result (λ e. HasBookCause e (G.sigs games.now) (G.extents games.now) (F.seen files.old).games buf.new (F.faults files.old) (F.faults files.new)) }
+{
+    let Some(_) = ply else {
+        return Ok(());
+    };
+    let len = games.extent(i).len as usize;
+    match games.fetch(i, files, buf) {
+        Ok(_) => {}
+        Err(error) => return Err(BookError::Fetch(error)),
+    }
+    let game = counted(games, i);
+    let read = match count_record(
+        alloc,
+        boards,
+        fewest,
+        tallies,
+        trails,
+        depth,
+        &game,
+        buf.split_at(len).0,
+    ) {
+        Ok(read) => read,
+        Err(_) => return Err(BookError::Memory),
+    };
+    if read {
+        return Ok(());
+    }
+    Err(BookError::Fetch(FetchError::Changed {
+        game: i,
+        kept: games.sig(i),
+        found: None,
+    }))
+}
+
+// What is counted of game `i` beside its moves.
+fn counted<G: Games>(games: &G, i: u32) -> Counted
+    requires game { i < length (G.sigs games.now) }
+    ensures counted { result ≡ counted_of i (head_in (G.heads games.now) i) }
+{
+    Counted {
+        number: i,
+        outcome: games.outcome(i),
+        white: games.white_rating(i).value,
+        black: games.black_rating(i).value,
+        year: games.date(i).year,
+    }
+}
+
+// No board has fewer men than so many, kings not counted.
+fn fewest_in(boards: &[PackedBoard]) -> u16
+    ensures fewest { All (IsBoard result) boards.now }
+{
+    let mut fewest = u16::MAX;
+    for board in boards {
+        fewest = fewest.min(men_on(board));
+    }
+    fewest
+}
+
+// A board has at least so many men: those that are there, where it is one of a position.
+fn men_on(board: &PackedBoard) -> u16
+    ensures board { IsBoard result board.now }
+{
+    let (cells, side) = unpack(board);
+    match Position::try_new(cells, side, 0, None) {
+        Ok(place) => men_in(&place),
+        Err(_) => 0,
+    }
+}

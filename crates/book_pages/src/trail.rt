@@ -1,0 +1,149 @@
+//! How games go from board to board.
+use arrayvec::ArrayVec;
+use cell_core::Move;
+use chess_laws::Position;
+use std::alloc::{AllocError, Global};
+
+// A move from a board, and the number of the board that it leads to.
+#[derive(Clone, Copy, Debug)]
+struct Link {
+    mv: Move,
+    to: usize,
+}
+
+/// How the first game that reached a board came there: the position from which it came, and its moves.
+#[derive(Drop)]
+pub struct Way {
+    pub start: Position,
+    pub moves: Vec<Move>,
+}
+
+/// What is known of a board beside its rows.
+#[derive(Drop)]
+pub(crate) struct Trail {
+    links: Vec<Link>,
+    pub(crate) way: Option<Way>,
+}
+
+impl Trail {
+    /// Nothing is known.
+    pub(crate) fn new(alloc: Global) -> Trail {
+        Trail {
+            links: Vec::new(alloc),
+            way: None,
+        }
+    }
+
+    /// The number of the board that a move leads to, if it has a page.
+    pub(crate) fn behind(&self, mv: &Move) -> Option<usize> {
+        for link in self.links.as_slice() {
+            if link.mv == *mv {
+                return Some(link.to);
+            }
+        }
+        None
+    }
+
+    // A move leads to another board.
+    fn link(&mut self, mv: Move, to: usize) -> Result<(), AllocError> {
+        if self.behind(&mv).is_none() {
+            self.links.push(Link { mv, to })?;
+        }
+        Ok(())
+    }
+}
+
+/// The trail of one game over the boards: where it began, the moves from there on, and the board that it left last.
+#[derive(Drop)]
+pub(crate) struct Tracker {
+    depth: usize,
+    start: Option<Position>,
+    moves: ArrayVec<Move, 40>,
+    // Whether it went on for more half-moves than a book has.
+    over: bool,
+    left: Option<Left>,
+}
+
+// The board that was left by a move.
+#[derive(Clone, Copy)]
+struct Left {
+    place: usize,
+    mv: Move,
+}
+
+impl Tracker {
+    /// A game that has not come to the start of a book yet, which is so deep.
+    pub(crate) fn new(depth: u8) -> Tracker {
+        Tracker {
+            depth: usize::from(depth),
+            start: None,
+            moves: ArrayVec::new(),
+            over: false,
+            left: None,
+        }
+    }
+
+    /// The game comes to a position, on the board with this number, if it has a page. The first board is the start.
+    pub(crate) fn arrive(
+        &mut self,
+        alloc: Global,
+        trails: &mut [Trail],
+        here: Option<usize>,
+        position: &Position,
+    ) -> Result<(), AllocError> {
+        let Some(to) = here else {
+            return Ok(());
+        };
+        if let Some(left) = self.left {
+            if let Some(trail) = trails.get_mut(left.place) {
+                trail.link(left.mv, to)?;
+            }
+        }
+        if to == 0 && self.start.is_none() {
+            self.start = Some(*position);
+        }
+        match trails.get_mut(to) {
+            Some(trail) => self.tell_way(alloc, trail),
+            None => Ok(()),
+        }
+    }
+
+    // Tells a board how it was reached, if it was not told before.
+    fn tell_way(&self, alloc: Global, trail: &mut Trail) -> Result<(), AllocError> {
+        if self.over || trail.way.is_some() {
+            return Ok(());
+        }
+        let Some(start) = self.start else {
+            return Ok(());
+        };
+        let moves = Vec::from_slice(alloc, self.moves.as_slice())?;
+        trail.way = Some(Way { start, moves });
+        Ok(())
+    }
+
+    /// The game leaves that board by a move.
+    pub(crate) fn leave(&mut self, here: Option<usize>, mv: Move) {
+        self.left = left_by(here, &mv);
+        self.go_on(mv);
+    }
+
+    // Goes on by a move, once it came to the start.
+    fn go_on(&mut self, mv: Move) {
+        if self.start.is_none() {
+            return;
+        }
+        if self.moves.len() < self.depth && !self.moves.is_full() {
+            self.moves.push(mv);
+        } else {
+            self.over = true;
+        }
+    }
+}
+
+// The board that is left by a move, if the game stands on one.
+fn left_by(here: Option<usize>, mv: &Move) -> Option<Left> {
+    match here {
+        Some(place) => Some(Left { place, mv: *mv }),
+        None => None,
+    }
+}

@@ -1,0 +1,229 @@
+-- Laws of refused tasks: a text that begins with `error: ` leaves the state as it was.
+use Rattle.std.proofs.Common.{◌≡◌, ◌<◌, ◌+◌, ◌%◌, ◌^◌, true≢false, ℕ, zero, suc, Bool, true, false, List, [], ◌∷◌, ◌++◌, length, map, Option, Some, None, Result, Ok, Err, refl, sym, ap, ◌∙◌, subst, arith, append_assoc, append-nil}
+use Rattle.std.specs.Prelude.{codes, unwrap_or, if◌then◌else◌, is_some, nat_eq, nat_lt, option_and_then, slice_get}
+use Rattle.std.specs.Fmt.{decimal}
+use Rattle.std.proofs.lemmas.Fmt.{decimal_by_steps}
+use Rattle.base_core.specs.Base.{Base, Held}
+use Rattle.base_core.specs.Edits.{added, deleted, held_of, marked, undeleted}
+use Rattle.command_runs.specs.Plain.{after_all}
+use Rattle.demo_games.specs.Demo.{Made, demo_game}
+use Rattle.eco_class.specs.Reading.{table_of}
+use Rattle.eco_class.specs.Table.{Opening}
+use Rattle.eco_class.specs.declared.fault.EcoFault.{EcoFault}
+use Rattle.game_tree.specs.Game.{GameTree}
+use Rattle.game_tree.specs.TagEdit.{edited}
+use Rattle.game_tree.specs.declared.head.Head.{Head}
+use Rattle.game_tree.specs.declared.tag_edit.TagEdit.{TagEdit}
+use Rattle.pgn_read.specs.Items.{items_of}
+use Rattle.pgn_read.specs.declared.item.Item.{Item}
+use Rattle.pgn_read.specs.declared.item.Item.TheVariants.{Bad, Good}
+use Rattle.script_text.specs.Tasks.{Task}
+use Rattle.script_text.specs.declared.command.Command.{Command}
+use Rattle.script_text.specs.declared.command.Command.TheVariants.{Nothing, Find, SearchPosition, SearchMaterial, SearchHeader, Reset, Clear, Negate, Restrict, Keep, Take, And, Or, Drop, Hits, List as Listing, Show, Export, Import, Replace, Eco, Tag, Delete, Undelete, Mark, Tree, Cross, Twins, Save, Info, Demo, Quit, Compact}
+use Rattle.edit_commands.specs.Compacting.{compacted_line, compacted_state, is_within}
+use Rattle.edit_commands.specs.Editing.{edited_there, line_there, tag_line_there, tagged_there, unless_refused}
+use Rattle.filter_seat.specs.SavedFilters.{dropped_at, dropped_in, has_room, is_kept, joined_with, kept_at, place_of, plies_at, saved_as, taken}
+use Rattle.intake_commands.specs.Demo.{Adding, adding, adding_refusal, demo_after, one_more, unless_ended, unless_refusal, unless_shown}
+use Rattle.intake_commands.specs.Importing.{Intake, intake, item_after, line_with, none_taken, not_added, state_with, the_new, unless_not_added}
+use Rattle.report_commands.specs.Classifying.{state_by, text_by}
+use Rattle.shell_commands.specs.Refused.{IsError}
+use Rattle.shell_commands.specs.Tasks.{Order, command_work, order_work, tasks}
+use Rattle.game_filter.proofs.Searches.{length-searched}
+use Rattle.game_filter.specs.Filter.{intersection, union}
+use Rattle.game_filter.specs.declared.op.Op.TheVariants.{Ignore}
+use Rattle.search_commands.specs.Searching.{find_after}
+use Rattle.shell_state.specs.Lines.{game_line, filter_line, full_filters_line, hit_lines, hits_text, name_line, no_filter_line}
+use Rattle.shell_state.specs.Refusing.{full_line, refusal_of}
+use Rattle.shell_state.specs.State.{State, with_filter}
+use Rattle.base_core.specs.Edits.{tagged}
+use Rattle.base_core.specs.Compacted.{compacted}
+use Rattle.base_core.specs.declared.fault.What.TheVariants.{File}
+
+-- ---- texts that are no error lines
+
+-- A text that begins with another letter.
+not_error : (c : ℕ) (xs : List ℕ) → nat_eq c 101 ≡ false → IsError (c ∷ xs) → ⊥
+not_error c xs other is =
+    let e : c ∷ xs ≡ 101 ∷ (codes "rror: " ++ is.0) = is.1 in
+    let head : c ≡ 101 = cc e in
+    let same : true ≡ false = subst (λ (n : ℕ). nat_eq n 101 ≡ false) head other in
+    true≢false same
+
+-- A number begins with a digit.
+record Begins (n : ℕ) (text : List ℕ) : Type 0 where
+  first : ℕ
+  later : List ℕ
+  is : text ≡ first ∷ later
+  digit : first < 58
+
+begins : (n : ℕ) → n < 2 ^ 64 → Begins n (decimal n)
+begins = decimal_by_steps Begins
+    (λ n small. record { first = 48 + n; later = []; is = refl; digit = omega arith })
+    (λ n digits many front. record { first = front.first; later = front.later ++ (48 + n % 10) ∷ []; is = ap (λ (l : List ℕ). l ++ (48 + n % 10) ∷ []) front.is; digit = front.digit })
+
+no_number : (n : ℕ) (rest more : List ℕ) → n < 2 ^ 64 → decimal n ++ rest ≡ 101 ∷ more → ⊥
+no_number n rest more small is =
+    let b = begins n small in
+    let whole : b.first ∷ b.later ++ rest ≡ 101 ∷ more = sym (ap (λ (l : List ℕ). l ++ rest) b.is) ∙ is in
+    let e : b.first ≡ 101 = cc in
+    absurd (omega (arith, e, b.digit))
+
+front : (a b c d e f : List ℕ) → ((((a ++ b) ++ c) ++ d) ++ e) ++ f ≡ a ++ ((((b ++ c) ++ d) ++ e) ++ f)
+front a b c d e f =
+    ap (λ (l : List ℕ). ((l ++ d) ++ e) ++ f) (append_assoc a b c) ∙ ap (λ (l : List ℕ). (l ++ e) ++ f) (append_assoc a (b ++ c) d)
+    ∙ ap (λ (l : List ℕ). l ++ f) (append_assoc a ((b ++ c) ++ d) e) ∙ append_assoc a (((b ++ c) ++ d) ++ e) f
+
+no_hits : (n : ℕ) (plies all : List (Option ℕ)) → n + length plies < 2 ^ 64 → IsError (hit_lines n plies ++ filter_line all) → ⊥
+no_hits n [] all few is = not_error 102 _ refl is
+no_hits n (Some ply ∷ plies) all few is =
+    let whole = front (decimal n) (codes " ") (decimal ply) (10 ∷ []) (hit_lines (n + 1) plies) (filter_line all) in
+    no_number n ((((codes " " ++ decimal ply) ++ (10 ∷ [])) ++ hit_lines (n + 1) plies) ++ filter_line all) (codes "rror: " ++ is.0) (omega (arith, few)) (sym whole ∙ is.1)
+no_hits n (None ∷ plies) all few is = no_hits (n + 1) plies all (omega (arith, few)) is
+
+found_so : (s : State) (plies : List (Option ℕ)) → length plies < 2 ^ 64 → IsError (hits_text plies) → ⊥
+found_so s plies few is = no_hits 0 plies plies (omega (arith, few)) is
+
+-- ---- each command
+
+kept_none : (room : Bool) (s : State) (name : List ℕ) → IsError (if room then name_line (codes "kept ") name else full_filters_line)
+    → record s { saved = if room then s.saved ++ saved_as name s.filter ∷ [] else s.saved } ≡ s
+kept_none true s name is = absurd (not_error 107 _ refl is)
+kept_none false s name is = refl
+
+kept_so : (place : Option ℕ) (s : State) (name : List ℕ) → IsError (if has_room s.saved place then name_line (codes "kept ") name else full_filters_line)
+    → record s { saved = kept_at s.saved (saved_as name s.filter) place } ≡ s
+kept_so (Some place) s name is = absurd (not_error 107 _ refl is)
+kept_so None s name is = kept_none (nat_lt (length s.saved) 8) s name is
+
+joined_so : (place : Option ℕ) (join : List (Option ℕ) → List (Option ℕ) → List (Option ℕ)) (s : State) (name : List ℕ)
+    → IsError (if is_some place then filter_line (joined_with join s.filter (option_and_then (plies_at s.saved) place)) else no_filter_line name)
+    → with_filter s (joined_with join s.filter (option_and_then (plies_at s.saved) place)) ≡ s
+joined_so (Some place) join s name is = absurd (not_error 102 _ refl is)
+joined_so None join s name is = refl
+
+dropped_so : (place : Option ℕ) (s : State) (name : List ℕ) → IsError (if is_some place then name_line (codes "dropped ") name else no_filter_line name) → record s { saved = dropped_at s.saved place } ≡ s
+dropped_so (Some place) s name is = absurd (not_error 100 _ refl is)
+dropped_so None s name is = refl
+
+dropped-so : (s : State) (name : List ℕ) → IsError (if is_kept s.saved name then name_line (codes "dropped ") name else no_filter_line name) → record s { saved = dropped_in s.saved name } ≡ s
+unfolding dropped_in
+dropped-so s name is = dropped_so (place_of s.saved name) s name is
+
+edited_so : (c : ℕ) (words : List ℕ) (edit : Base → Base) (game : ℕ) (s : State) (held : Option Held) → nat_eq c 101 ≡ false → IsError (line_there (c ∷ words) game held) → edited_there edit s held ≡ s
+edited_so c words edit game s (Some held) other is = absurd (not_error c _ other is)
+edited_so c words edit game s None other is = refl
+
+tagged_by : (line : Option (List ℕ)) (game : ℕ) (s : State) (base : Base) → IsError (unwrap_or line (game_line (codes "tagged ") game)) → unless_refused line s base ≡ s
+tagged_by (Some line) game s base is = refl
+tagged_by None game s base is = absurd (not_error 116 _ refl is)
+
+tagged_so : (game : ℕ) (edit : TagEdit) (s : State) (held : Option Held) → IsError (tag_line_there game edit s held) → tagged_there game edit s held ≡ s
+tagged_so game edit s (Some held) is = tagged_by (refusal_of s.base (edited held.head edit) held.game) game s (tagged game edit s.base) is
+tagged_so game edit s None is = refl
+
+compacted_so : (within : Bool) (s : State) → IsError (if within then compacted_line (length s.base.games) (length (compacted s.base).games) else full_line File) → (if within then compacted_state s else s) ≡ s
+compacted_so true s is = absurd (not_error 99 _ refl is)
+compacted_so false s is = refl
+
+replaced_so : (s : State) (game : ℕ) (new : Result (Head × GameTree) (List ℕ)) → IsError (line_with game new) → state_with s game new ≡ s
+replaced_so s game (Ok new) is = absurd (not_error 114 _ refl is)
+replaced_so s game (Err line) is = refl
+
+classified_so : (s : State) (table : Result (List Opening) EcoFault) → IsError (text_by s table) → state_by s table ≡ s
+classified_so s (Ok table) is = absurd (not_error 99 _ refl is)
+classified_so s (Err fault) is = refl
+
+command_refused : (s : State) (command : Command) (body : List ℕ) → length s.filter < 2 ^ 64 → IsError ((command_work command body).text s) → ((word : List ℕ) → command ≡ Import word → ⊥)
+    → ((seed games : ℕ) → command ≡ Demo seed games → ⊥) → (command_work command body).after s ≡ s
+command_refused s Nothing body few is imports makes = refl
+command_refused s (Find board side) body few is imports makes = absurd (found_so s (find_after s board side).filter (rw (length-searched Ignore _ s.filter) few) is)
+command_refused s (SearchPosition op query) body few is imports makes = absurd (not_error 102 _ refl is)
+command_refused s (SearchMaterial op query) body few is imports makes = absurd (not_error 102 _ refl is)
+command_refused s (SearchHeader op query) body few is imports makes = absurd (not_error 102 _ refl is)
+command_refused s Reset body few is imports makes = absurd (not_error 102 _ refl is)
+command_refused s Clear body few is imports makes = absurd (not_error 102 _ refl is)
+command_refused s Negate body few is imports makes = absurd (not_error 102 _ refl is)
+command_refused s (Restrict first last) body few is imports makes = absurd (not_error 102 _ refl is)
+command_refused s (Keep name) body few is imports makes = kept_so (place_of s.saved name) s name is
+command_refused s (Take name) body few is imports makes = joined_so (place_of s.saved name) taken s name is
+command_refused s (And name) body few is imports makes = joined_so (place_of s.saved name) intersection s name is
+command_refused s (Or name) body few is imports makes = joined_so (place_of s.saved name) union s name is
+command_refused s (Drop name) body few is imports makes = dropped-so s name is
+command_refused s Hits body few is imports makes = refl
+command_refused s Listing body few is imports makes = refl
+command_refused s (Show game) body few is imports makes = refl
+command_refused s Export body few is imports makes = refl
+command_refused s (Import word) body few is imports makes = absurd (imports word refl)
+command_refused s (Replace game word) body few is imports makes = replaced_so s game (the_new s game body) is
+command_refused s (Eco word) body few is imports makes = classified_so s (table_of body) is
+command_refused s (Tag game edit) body few is imports makes = tagged_so game edit s (slice_get s.base.games game) is
+command_refused s (Delete game) body few is imports makes = edited_so 100 (codes "eleted ") (deleted game) game s (slice_get s.base.games game) refl is
+command_refused s (Undelete game) body few is imports makes = edited_so 117 (codes "ndeleted ") (undeleted game) game s (slice_get s.base.games game) refl is
+command_refused s (Mark game bit on) body few is imports makes = edited_so 109 (codes "arked ") (marked game bit on) game s (slice_get s.base.games game) refl is
+command_refused s (Tree board side) body few is imports makes = refl
+command_refused s (Cross event) body few is imports makes = refl
+command_refused s (Twins depth) body few is imports makes = absurd (not_error 116 _ refl is)
+command_refused s Save body few is imports makes = absurd (not_error 115 _ refl is)
+command_refused s Info body few is imports makes = refl
+command_refused s (Demo seed games) body few is imports makes = absurd (makes seed games refl)
+command_refused s Quit body few is imports makes = refl
+command_refused s Compact body few is imports makes = compacted_so (is_within s.base) s is
+
+order_refused : (s : State) (order : Order) (body : List ℕ) → length s.filter < 2 ^ 64 → IsError ((order_work order body).text s) → ((word : List ℕ) → order ≡ Ok (Import word) → ⊥)
+    → ((seed games : ℕ) → order ≡ Ok (Demo seed games) → ⊥) → (order_work order body).after s ≡ s
+order_refused s (Ok command) body few is imports makes =
+    command_refused s command body few is (λ word same. imports word (ap (λ (x : Command). Ok x) same)) (λ seed games same. makes seed games (ap (λ (x : Command). Ok x) same))
+order_refused s (Err fault) body few is imports makes = refl
+
+pub refused : (s : State) (t : Task) → length s.filter < 2 ^ 64 → IsError (tasks.text s t) → ((word : List ℕ) → t.order ≡ Ok (Import word) → ⊥) → ((seed games : ℕ) → t.order ≡ Ok (Demo seed games) → ⊥) → tasks.after s t ≡ s
+refused s t few is imports makes = order_refused s t.order t.body few is imports makes
+
+-- ---- games are added behind the others
+
+abbrev Adds : State → State → Type 0
+Adds old new = (more : List Held) × (new.base.games ≡ old.base.games ++ more)
+
+none_added : (s : State) → Adds s s
+none_added s = ([], sym (append-nil s.base.games))
+
+adds_on : (s s' s'' : State) → Adds s s' → Adds s' s'' → Adds s s''
+adds_on s s' s'' first later = (first.0 ++ later.0, later.1 ∙ ap (λ (l : List Held). l ++ later.0) first.1 ∙ append_assoc s.base.games first.0 later.0)
+
+added_games : (head : Head) (game : GameTree) (base : Base) → (added head game base).games ≡ base.games ++ held_of head game ∷ []
+unfolding added
+added_games head game base = refl
+
+item_by : (words : Option (List ℕ)) (i : Intake) (head : Head) (game : GameTree) → Adds i.state (unless_not_added words i head game).state
+item_by (Some words) i head game = none_added i.state
+item_by None i head game = (held_of head game ∷ [], added_games head game i.state.base)
+
+item_adds : (i : Intake) (item : Item) → Adds i.state (item_after i item).state
+item_adds i (Good head game) = item_by (not_added i.state.base head game) i head game
+item_adds i (Bad fault) = none_added i.state
+
+items_add : (i : Intake) (items : List Item) → Adds i.state (after_all intake i items).state
+items_add i [] = none_added i.state
+items_add i (item ∷ items) = adds_on i.state (item_after i item).state (after_all intake (item_after i item) items).state (item_adds i item) (items_add (item_after i item) items)
+
+pub imported : (s : State) (word body : List ℕ) → Adds s (tasks.after s (record { order = Ok (Import word); body = body }))
+imported s word body = items_add (none_taken s) (items_of body)
+
+made_by : (line : Option (List ℕ)) (a : Adding) (made : Made) → Adds a.state (unless_refusal line a made).state
+made_by (Some line) a made = none_added a.state
+made_by None a made = (held_of made.head made.game ∷ [], added_games made.head made.game a.state.base)
+
+one_by : (line : Option (List ℕ)) (a : Adding) (made : Made) → Adds a.state (unless_ended line a made).state
+one_by (Some line) a made = none_added a.state
+one_by None a made = made_by (adding_refusal a.state.base made.head made.game) a made
+
+adding_adds : (s : State) (seed games : ℕ) → Adds s (adding s seed games).state
+adding_adds s seed zero = none_added s
+adding_adds s seed (suc games) =
+    adds_on s (adding s seed games).state (one_more (adding s seed games) games).state (adding_adds s seed games) (one_by (adding s seed games).refused (adding s seed games) (demo_game (adding s seed games).number games))
+
+shown_by : (line : Option (List ℕ)) (s s' : State) → Adds s s' → Adds s (unless_shown line s')
+shown_by (Some line) s s' adds = adds
+shown_by None s s' adds = adds
+
+pub made : (s : State) (seed games : ℕ) (body : List ℕ) → Adds s (tasks.after s (record { order = Ok (Demo seed games); body = body }))
+made s seed games body = shown_by (adding s seed games).refused s (adding s seed games).state (adding_adds s seed games)

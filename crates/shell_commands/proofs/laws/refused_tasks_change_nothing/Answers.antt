@@ -1,0 +1,11 @@
+use Rattle.shell_commands.proofs.RefusedLaws.{imported, made, refused}
+use Rattle.shell_commands.proofs.laws.refused_tasks_change_nothing.Goals as goal
+
+pub returns-clause-refused : goal.returns-clause-refused
+returns-clause-refused c = λ s t few is imports makes. refused s t few is imports makes
+
+pub returns-clause-imported : goal.returns-clause-imported
+returns-clause-imported c = λ s word body. imported s word body
+
+pub returns-clause-made : goal.returns-clause-made
+returns-clause-made c = λ s seed games body. made s seed games body
