@@ -2,7 +2,8 @@
 """Runs the commands of README.md as they stand, in a fresh clone of what is committed, and compares what they write with what stands behind them.
 
 A command stands behind `$ ` in an indented line, and its text in the indented lines that follow, which end with `..` where it is shown in part.
-Commands that take long are only looked for. The program is PROGRAM, or the one that the launcher builds without its proofs.
+Commands that take long are only looked for. The program is PROGRAM, with scid_mend from the place beside it where it is built, or what the launchers
+build without proofs.
 
 Usage: cases/readme.py [PROGRAM [PAGE]]
 """
@@ -15,6 +16,7 @@ import tempfile
 from pathlib import Path
 
 TOP = Path(__file__).resolve().parent.parent
+PROGRAMS = ("scid_shell", "scid_mend")
 LONG = ("./build", "cases/run --quick", ".ci/run")
 
 
@@ -35,11 +37,13 @@ def commands(page):
 def make_clone(folder, program):
     clone = folder / "clone"
     subprocess.run(["git", "clone", "-q", TOP, clone], check=True)
-    if program:
-        place = clone / "crates/scid_shell/out/unproved/scid_shell"
-        place.parent.mkdir(parents=True)
-        shutil.copyfile(program, place)
-        place.chmod(0o755)
+    for name in PROGRAMS if program else ():
+        built = Path(str(program).replace(PROGRAMS[0], name))
+        if built.exists():
+            place = clone / "crates" / name / "out/unproved" / name
+            place.parent.mkdir(parents=True)
+            shutil.copyfile(built, place)
+            place.chmod(0o755)
     return clone
 
 

@@ -17,6 +17,7 @@ TOP = Path(__file__).resolve().parent.parent
 PROGRAM = str(Path(sys.argv[1] if len(sys.argv) > 1 else TOP / "crates/scid_shell/out/scid_shell").resolve())
 ENDINGS = ("si4", "sn4", "sg4")
 FILES_FAULT = 5
+CHANGED_GAME = 6
 CHANGED = "another program changed it"
 IN_THE_WAY = "it is in the way"
 
@@ -194,6 +195,28 @@ def edits_go_on_after_a_compaction(folder):
     assert " - C" in heads(base)[0]
 
 
+def a_record_that_changes_ends_the_run(folder):
+    """A record that another program writes over after the opening: whoever reads it ends there, and leaves the files as they are."""
+    read = ("show 0", "export", "tag 0 White C")
+    start = "rnbqkbnr/pppppppp/8/8/8/8/PPPPPPPP/RNBQKBNR w"
+    search = (f"find {start}", f"search ignore position exact {start}", "search ignore material wp=8..8", f"tree {start}")
+    for what in (*read, *search):
+        # Its games file has two blocks, so that the first is read anew.
+        shutil.copytree(TOP / "cases/compact_across_a_block/before", folder, dirs_exist_ok=True)
+        base = str(Path(folder, "long"))
+        session = Session(base)
+        assert session.ask("info").startswith("games 4 "), session.end()
+        path = Path(f"{base}.sg4")
+        with path.open("r+b") as file:
+            file.write(b"\xce")
+        then = contents(folder)
+        first = session.ask(what)
+        status, errors = session.end()
+        assert (status, errors) == (CHANGED_GAME, "changed game 0\n"), (what, status, errors)
+        assert first == "" and contents(folder) == then, (what, first)
+        clear(folder)
+
+
 def traced(base, script, *inject):
     """Runs a session under strace, and gives its calls."""
     log = f"{base}.calls"
@@ -360,6 +383,7 @@ def main():
         (files_of_the_user_stay,),
         (modes_and_links_stay,),
         (edits_go_on_after_a_compaction,),
+        (a_record_that_changes_ends_the_run,),
         (a_broken_off_run_that_was_not_alone,),
     ]
     if shutil.which("strace"):

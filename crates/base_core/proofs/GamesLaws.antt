@@ -14,7 +14,7 @@ use Rattle.sig_index.specs.Games.{AreWithin, Holds, IsHeld, extent_in, head_in, 
 use Rattle.sig_index.specs.Signature.{IsSigBounded}
 use Rattle.sig_index.specs.declared.signature.Sig.{Sig}
 use Rattle.base_core.specs.Base.{Base, Held}
-use Rattle.base_core.specs.Entries.{HasNames, extent_of, head_of, sig_in}
+use Rattle.base_core.specs.Entries.{extent_of, head_of, sig_in}
 use Rattle.base_core.specs.Represents.{IsKept, IsSound, Keeps, Kept, Represents, extents_of, heads_of, sigs_of}
 use Rattle.base_core.proofs.CheckLaws.{ends_within}
 use Rattle.base_core.proofs.KeptLaws.{settled-rest}

@@ -19,4 +19,6 @@ pub mod NamingLaws
 pub mod PlaceLaws
 pub mod AmongLaws
 pub mod TakeLaws
+pub mod OnlyLaws
 pub mod TagLaws
+pub mod SomeBase

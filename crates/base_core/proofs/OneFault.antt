@@ -68,7 +68,7 @@ passes_fails strict names games game bytes fault p (inr (inr f)) =
     none-some f.field (sym (p.derived f.asked) ∙ (derived-one p.fields f.fields p.sig f.sig same ∙ f.differs))
 
 -- An entry has one first fault.
-fails-one : (strict : Bool) (names : NameLists) (games : List ℕ) (game : ℕ) (bytes : List ℕ) (fault other : BaseFault) → Fails strict names games game bytes fault → Fails strict names games game bytes other → fault ≡ other
+pub fails-one : (strict : Bool) (names : NameLists) (games : List ℕ) (game : ℕ) (bytes : List ℕ) (fault other : BaseFault) → Fails strict names games game bytes fault → Fails strict names games game bytes other → fault ≡ other
 fails-one strict names games game bytes fault other (inl f) (inl g) = same_err _ fault other f g
 fails-one strict names games game bytes fault other (inl f) (inr (inl g)) = absurd (ok_err _ g.fields fault g.checked f)
 fails-one strict names games game bytes fault other (inl f) (inr (inr g)) = absurd (ok_err _ g.fields fault g.signs.checked f)

@@ -134,10 +134,10 @@ none_read strict index names games = record {
 }
 
 -- At a place of a list with one element more stands one of the list, or the new one.
-abbrev IsIn : {X : Type 0} → List X → X → ℕ → X → ℕ → Type 0
+abbrev pub IsIn : {X : Type 0} → List X → X → ℕ → X → ℕ → Type 0
 IsIn xs x n y i = ((i < n) × (slice_get xs i ≡ Some y)) ⊎ ((i ≡ n) × (x ≡ y))
 
-placed_in : {X : Type 0} (xs : List X) (x y : X) (i n : ℕ) → length xs ≡ n → slice_get (xs ++ x ∷ []) i ≡ Some y → IsIn xs x n y i
+pub placed_in : {X : Type 0} (xs : List X) (x y : X) (i n : ℕ) → length xs ≡ n → slice_get (xs ++ x ∷ []) i ≡ Some y → IsIn xs x n y i
 placed_in xs x y i n long at =
     let within : i < length (xs ++ x ∷ []) = slice_get_within (xs ++ x ∷ []) i y at in
     let pushed : length (xs ++ x ∷ []) ≡ length xs + 1 = length_push xs x in

@@ -4,16 +4,21 @@ use Rattle.std.specs.List.{AllByRecursion}
 use Rattle.base_files.specs.Extents.{record_in}
 use Rattle.block_store.specs.Placing.{end_after, longest_file, padded}
 use Rattle.index_entry.specs.declared.entry.Entry.{Entry}
+use Rattle.index_entry.specs.declared.index.IndexHead.{IndexHead}
 use Rattle.name_base.specs.NameLists.{NameLists, is_in, no_names}
 use Rattle.base_core.specs.declared.naming.NameIds.{NameIds}
 use Rattle.base_core.specs.Base.{Base, Held}
 use Rattle.base_core.specs.Edits.{with_game}
 use Rattle.base_core.specs.Entries.{extent_of}
-use Rattle.base_core.specs.Represents.{Kept, Represents}
+use Rattle.base_core.specs.Represents.{Keeps, Kept, Represents}
 
 -- What is kept of a base, without its games, its names and its records.
 abbrev pub emptied : Kept → Kept
 emptied kept = record { header = record kept.header { games = 0 }; names = no_names; entries = []; end = 0; unsaved = false }
+
+-- What is kept of a draft of no games, with what this header says of the whole base.
+abbrev pub begun : IndexHead → Kept
+begun header = record { header = record header { games = 0 }; names = no_names; entries = []; end = 0; unsaved = false }
 
 -- Each of the first names is one of the others.
 abbrev pub AreAmong : List (List ℕ) → List (List ℕ) → Type 0
@@ -52,4 +57,12 @@ abbrev pub TakesOver : ℕ → Kept → Kept → Kept → Type 0
 TakesOver i of old new =
     (e : Entry) (held : Held) (games fresh : List ℕ) (whole made : Base) → slice_get of.entries i ≡ Some e → slice_get whole.games i ≡ Some held
     → Represents of games whole → length fresh ≡ old.end → Represents old fresh made
+    → Represents new (fresh ++ padded old.end (record_in games (extent_of e))) (with_game held made)
+
+-- A game was taken into a draft by an entry, with these names by their ids: where the entry keeps the game beside its games file, and the draft
+-- stood for a base beside a new games file, the draft now stands for that base with the game, beside the new games file with the record of the
+-- game behind zero bytes or none.
+abbrev pub Takes : NameLists → Entry → Kept → Kept → Type 0
+Takes names e old new =
+    (held : Held) (games fresh : List ℕ) (made : Base) → Keeps names games e held → length fresh ≡ old.end → Represents old fresh made
     → Represents new (fresh ++ padded old.end (record_in games (extent_of e))) (with_game held made)

@@ -1,5 +1,6 @@
 -- What is read of a game when a base is opened, as the functions of this crate go through it.
-use Rattle.std.specs.Prelude.{◌≡◌, ◌⊎◌, ℕ, Bool, false, IsTrue, List, length, slice_get, Option, Some, None, is_some, count_by}
+use Rattle.std.specs.Prelude.{◌≡◌, ◌≤◌, ◌+◌, ◌⊎◌, ℕ, Bool, false, IsTrue, List, length, slice_get, Option, Some, None, is_some, count_by, Ok}
+use Rattle.base_files.specs.Extents.{record_in}
 use Rattle.game_tree.specs.Game.{GameTree}
 use Rattle.game_tree.specs.Settle.{settled}
 use Rattle.game_tree.specs.declared.date.Date.{Date}
@@ -7,6 +8,7 @@ use Rattle.game_tree.specs.declared.head.Tag.{Tag}
 use Rattle.game_codec.specs.Record.{IsRecord}
 use Rattle.game_codec.specs.Fault.{IsRecordFault}
 use Rattle.game_codec.specs.declared.fault.RecordFault.{RecordFault}
+use Rattle.index_entry.specs.Entry.{entry_read}
 use Rattle.index_entry.specs.Index.{entry_bytes}
 use Rattle.index_entry.specs.declared.entry.Entry.{Entry}
 use Rattle.name_base.specs.NameLists.{NameLists}
@@ -16,7 +18,7 @@ use Rattle.base_core.specs.declared.fault.BaseFault.{BaseFault}
 use Rattle.base_core.specs.declared.fault.BaseFault.TheVariants.{Packed, Derived}
 use Rattle.base_core.specs.declared.fault.DerivedField.{DerivedField}
 use Rattle.base_core.specs.Base.{Held}
-use Rattle.base_core.specs.Entries.{Says, head_of}
+use Rattle.base_core.specs.Entries.{Says, extent_of, head_of}
 use Rattle.base_core.specs.FirstFault.{Signs, derived_fault}
 use Rattle.base_core.specs.Represents.{Keeps}
 
@@ -53,6 +55,10 @@ pub record IsTaken (strict : Bool) (bytes : List ℕ) (e kept : Entry) (mended :
   pub mends : mended ≡ is_some (derived_fault e sig)
   pub strictly : IsTrue strict → mended ≡ false
 
+-- The entry with what the bytes of its record say.
+abbrev pub IsMended : List ℕ → Entry → Entry → Type 0
+IsMended bytes e kept = (sig : Sig) × ((date : Date) × (IsSigned bytes e sig date × (kept ≡ kept_entry e sig date)))
+
 -- They are no record, or refused by a strict opening.
 abbrev pub IsNotTaken : Bool → ℕ → List ℕ → Entry → BaseFault → Type 0
 IsNotTaken strict game bytes e fault =
@@ -88,3 +94,14 @@ pub record AreRead (strict : Bool) (index : List ℕ) (names : NameLists) (games
       IsRead strict names games i (entry_bytes index i) e held field
   pub mends : mended ≡ count_by is_some fields
   pub strictly : IsTrue strict → mended ≡ 0
+
+-- The bytes are a record of a game that has a signature, or have a first fault.
+abbrev pub IsDecided : List ℕ → Type 0
+IsDecided bytes =
+    ((tags : List Tag) × ((tree : GameTree) × ((s : Sig) × (IsRecord bytes tags tree × IsSig tree s))))
+    ⊎ ((what : RecordFault) × IsRecordFault bytes what)
+
+-- So are those of the record of a game, where its entry can be read and the record lies within the games file.
+abbrev pub IsGameDecided : List ℕ → List ℕ → ℕ → Type 0
+IsGameDecided index games game =
+    (e : Entry) → entry_read (entry_bytes index game) ≡ Ok e → e.offset + e.len ≤ length games → IsDecided (record_in games (extent_of e))

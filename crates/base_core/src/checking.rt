@@ -68,9 +68,9 @@ fn missing_name(names: &Names, e: &Entry) -> Option<IdField>
     None
 }
 
-// What is wrong with the place of the entry's record in a games file that ends there.
+/// What is wrong with the place of the entry's record in a games file that ends there.
 #[tactic(auto, unfolding(crate::specs::FirstFault::place_fault))]
-fn misplaced(e: &Entry, end: u64) -> Option<PlaceWhat>
+pub fn misplaced(e: &Entry, end: u64) -> Option<PlaceWhat>
     ensures first { result ≡ place_fault end e.now }
 {
     let offset = u64::from(e.offset);

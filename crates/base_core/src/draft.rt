@@ -1,19 +1,26 @@
 //! A base that is made of games of another one, without a byte of its files.
-ghost use Rattle.std.specs.Prelude.{◌≡◌, ◌≤◌, ◌<◌, ◌↔◌, ◌+◌, List, ℕ, length, IfOk, OnOk, OnErr, IsErrOf};
+ghost use Rattle.std.specs.Prelude.{◌≡◌, ◌≤◌, ◌<◌, ◌↔◌, ◌+◌, List, ℕ, [], Some, length, IfOk, IfErr, OnOk, OnErr, IsErrOf};
 ghost use Rattle.block_store.specs.Placing.{end_after, longest_file, padding};
+ghost use Rattle.index_entry.specs.Entry.{IsEntry};
+ghost use Rattle.index_entry.specs.Index.{IsIndexHead};
+ghost use Rattle.name_base.specs.PartNames.{filled_names};
 ghost use Rattle.base_core.specs.Base.{Base as PlainBase};
-ghost use Rattle.base_core.specs.Drafts.{AreNamesOf, Grows, TakesOver, emptied, length_at, placed_entry};
+ghost use Rattle.base_core.specs.Drafts.{AreNamesOf, Grows, Takes, TakesOver, begun, emptied, length_at, placed_entry};
+ghost use Rattle.base_core.specs.Edited.{full_names, or_file};
+ghost use Rattle.base_core.specs.Edits.{names_with};
+ghost use Rattle.base_core.specs.Entries.{head_of};
+ghost use Rattle.base_core.specs.Placing.{IfFull};
 ghost use Rattle.base_core.specs.Represents.{Represents};
 ghost use Rattle.base_core.specs.Saved.{OpensAgain, Writes};
 
 use crate::base::Base;
 use crate::entries::Entries;
-use crate::fault::DraftError;
+use crate::fault::{DraftError, EditError, What};
 use crate::naming::{NameIds, counts_of, cut_names};
-use crate::taking::take_names;
+use crate::taking::{take_names, take_part};
 use block_store::{Store, padding};
 use index_entry::{Entry, IndexHead};
-use name_base::Names;
+use name_base::{Names, PartNames};
 use std::alloc::{AllocError, Global};
 use std::marker::Model;
 
@@ -47,6 +54,48 @@ impl Draft {
         Draft {
             base: Base::of(header, Names::new(alloc), Entries::new(alloc), 0),
         }
+    }
+
+    /// A draft of no games, with what this header says of the whole base.
+    pub fn begin(alloc: Global, header: &IndexHead) -> Draft
+        requires header { IsIndexHead header.now }
+        ensures empty { result ≡ begun header.now }
+    {
+        let header = IndexHead {
+            games: 0,
+            ..*header
+        };
+        Draft {
+            base: Base::of(header, Names::new(alloc), Entries::new(alloc), 0),
+        }
+    }
+
+    /// The number of its games.
+    pub fn len(&self) -> u32
+        ensures len { result ≡ length self.now.entries }
+    {
+        self.base.entries.len()
+    }
+
+    /// Takes the game of an entry whose derived fields are those of its record, with the names of its ids, `?` for each that is not
+    /// there. Gives the number of zero bytes before its record.
+    ///
+    /// # Errors
+    ///
+    /// `Full` exactly where the names of a kind or the games file would pass their limit, the first of them in this order, and `Memory`.
+    /// The draft is then as it was.
+    pub fn take(&mut self, alloc: Global, of: &PartNames, e: &Entry) -> Result<u32, EditError>
+        requires fields { IsEntry e.now }
+        requires homes { e.now.home_count ≤ 16 }
+        requires few { length self.old.entries < 16777214 }
+        ensures taken { OnOk result (Takes (filled_names of.now) e.now self.old self.new) }
+        ensures grown { OnOk result (Grows e.now.len self.old self.new) }
+        ensures names { OnOk result (self.new.names ≡ names_with (head_of (filled_names of.now) e.now []) self.old.names) }
+        ensures pad { IfOk result (λ pad. pad ≡ padding self.old.end e.now.len) }
+        ensures why { IfErr result (IfFull (λ what. or_file (full_names (names_with (head_of (filled_names of.now) e.now []) self.old.names)) (end_after self.old.end e.now.len) ≡ Some what)) }
+        ensures unchanged { OnErr result (self.new ≡ self.old) }
+    {
+        self.base.take(alloc, of, e)
     }
 
     /// Takes over game `i` of the base, and gives the number of zero bytes before its record.
@@ -118,6 +167,39 @@ impl Base {
         if let Err(refused) = self.entries.push(&placed) {
             cut_names(&mut self.names, &counts);
             return Err(DraftError::from(refused));
+        }
+        self.header.games += 1;
+        self.store = Store::new(end);
+        Ok(pad)
+    }
+}
+
+impl Base {
+    // Takes a game by its entry, as `Draft::take` says.
+    fn take(&mut self, alloc: Global, of: &PartNames, e: &Entry) -> Result<u32, EditError>
+        requires fields { IsEntry e.now }
+        requires homes { e.now.home_count ≤ 16 }
+        requires few { length self.old.entries < 16777214 }
+        ensures taken { OnOk result (Takes (filled_names of.now) e.now self.old self.new) }
+        ensures grown { OnOk result (Grows e.now.len self.old self.new) }
+        ensures names { OnOk result (self.new.names ≡ names_with (head_of (filled_names of.now) e.now []) self.old.names) }
+        ensures pad { IfOk result (λ pad. pad ≡ padding self.old.end e.now.len) }
+        ensures why { IfErr result (IfFull (λ what. or_file (full_names (names_with (head_of (filled_names of.now) e.now []) self.old.names)) (end_after self.old.end e.now.len) ≡ Some what)) }
+        ensures unchanged { OnErr result (self.new ≡ self.old) }
+    {
+        let counts = counts_of(&self.names);
+        let ids = take_part(alloc, &mut self.names, of, e)?;
+        let len = u64::from(e.len);
+        let pad = padding(self.store.end(), len);
+        let end = self.store.end().saturating_add(u64::from(pad) + len);
+        if end > LONGEST_FILE {
+            cut_names(&mut self.names, &counts);
+            return Err(EditError::Full(What::File));
+        }
+        let placed = placed_entry(e, &ids, (end - len) as u32);
+        if let Err(refused) = self.entries.push(&placed) {
+            cut_names(&mut self.names, &counts);
+            return Err(EditError::from(refused));
         }
         self.header.games += 1;
         self.store = Store::new(end);

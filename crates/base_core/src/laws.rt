@@ -1,15 +1,57 @@
-//! Three files mean one base and have one first fault, and an open base stands for one base.
-ghost use Rattle.std.specs.Prelude.{◌≡◌, ◌++◌, Bool, false, List, map, ℕ};
+//! Three files mean one base or have one first fault, and an open base stands for one base.
+ghost use Rattle.std.specs.Prelude.{◌≡◌, ◌≤◌, ◌<◌, ◌+◌, ◌*◌, ◌^◌, ◌⊎◌, ◌++◌, Bool, false, List, length, map, ℕ};
 ghost use Rattle.game_tree.specs.Head.{without_tags};
 ghost use Rattle.sig_index.specs.Games.{Holds};
 ghost use Rattle.base_core.specs.Base.{Base as PlainBase};
 ghost use Rattle.base_core.specs.FirstFault.{FirstFault};
 ghost use Rattle.base_core.specs.Means.{Carries, Means};
 ghost use Rattle.base_core.specs.Opening.{Opens, is_created};
+ghost use Rattle.base_core.specs.Reading.{IsDecided, IsGameDecided};
 ghost use Rattle.base_core.specs.Represents.{Kept, Represents, extents_of, heads_of, sigs_of};
 ghost use Rattle.base_core.specs.declared.fault.BaseFault.{BaseFault as Fault};
 
-/// A law: three files mean one base at most, and have one first fault at most. Where one of them is opened, one of both is there.
+use index_entry::{entry_of, read_index, unpack};
+use sig_index::signed;
+
+/// A law: three files have a first fault or mean a base, however strict the opening is. Each record is looked at, and no memory is taken.
+pub fn files_mean_a_base_or_have_a_fault(index: &[u8], names: &[u8], games: &[u8])
+    ensures one_of_both { (strict : Bool)
+        → ((fault : Fault) × FirstFault strict index.now names.now games.now fault) ⊎ ((base : PlainBase) × Means index.now names.now games.now base) }
+{
+    let Ok(header) = read_index(index) else {
+        return;
+    };
+    for game in 0..header.games {
+        decide_game(index, games, game);
+    }
+}
+
+// The record of a game is one or has a fault, where it lies within the games file.
+fn decide_game(index: &[u8], games: &[u8], game: u32)
+    requires there { 229 + 47 * game ≤ length index.now }
+    ensures decided { IsGameDecided index.now games.now game }
+{
+    let Ok(entry) = unpack(&entry_of(index, game)) else {
+        return;
+    };
+    let offset = entry.offset as usize;
+    let len = entry.len as usize;
+    if offset + len <= games.len() {
+        let (_, behind) = games.split_at(offset);
+        let (bytes, _) = behind.split_at(len);
+        decide(bytes);
+    }
+}
+
+// Bytes are a record or have a fault.
+fn decide(bytes: &[u8])
+    requires few { length bytes.now < 2 ^ 32 }
+    ensures decided { IsDecided bytes.now }
+{
+    let _signed = signed(bytes);
+}
+
+/// A law: three files mean one base at most, and have one first fault at most.
 pub fn files_have_one_meaning()
     ensures one_base { (index names games : List ℕ) (base other : PlainBase) → Means index names games base → Means index names games other → base ≡ other }
     ensures one_fault { (strict : Bool) (index names games : List ℕ) (fault other : Fault)

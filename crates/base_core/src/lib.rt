@@ -19,11 +19,14 @@ mod taking;
 mod uses;
 
 pub use base::Base;
+pub use checking::misplaced;
 pub use draft::Draft;
 pub use fault::{
     BaseFault, DerivedField, DraftError, EditError, IdField, NoGame, OpenError, PlaceWhat,
     SaveError, What,
 };
 pub use laws::{
-    carried_bases_stay, files_have_one_meaning, open_bases_have_one_meaning, searches_see_the_games,
+    carried_bases_stay, files_have_one_meaning, files_mean_a_base_or_have_a_fault,
+    open_bases_have_one_meaning, searches_see_the_games,
 };
+pub use reading::mended_entry;

@@ -1,7 +1,7 @@
 //! The names of heads among those of a base.
 ghost use Rattle.std.specs.Prelude.{◌≡◌, ◌≤◌, ◌<◌, Some, length, slice_get, IfOk, IfErr, OnOk, OnErr};
 ghost use Rattle.game_tree.specs.Head.{IsBounded, IsName};
-ghost use Rattle.name_base.specs.NameLists.{AreSound, limit_of, of_kind, with_kind, with_name};
+ghost use Rattle.name_base.specs.NameLists.{AreSound, IsName as IsBaseName, limit_of, of_kind, with_kind, with_name};
 ghost use Rattle.base_core.specs.Edits.{names_with};
 ghost use Rattle.base_core.specs.Edited.{full_names};
 ghost use Rattle.base_core.specs.Means.{HoldsNames};
@@ -109,7 +109,26 @@ fn add_name(alloc: Global, names: &mut Names, kind: NameKind, name: &Text) -> Re
     ensures unchanged { OnErr result (names.new ≡ names.old) }
     ensures why { IfErr result (IfFull (λ what. (what ≡ names_of kind) × (limit_of kind < length (with_name (of_kind kind names.old) name.now)))) }
 {
-    let added = names.add(alloc, kind, name.as_bytes());
+    add_bytes(alloc, names, kind, name.as_bytes())
+}
+
+/// Adds a name, and gives its id.
+pub(crate) fn add_bytes(
+    alloc: Global,
+    names: &mut Names,
+    kind: NameKind,
+    name: &[u8],
+) -> Result<u32, EditError>
+    requires name { IsBaseName name.now }
+    requires sound { AreSound names.old }
+    ensures names { OnOk result (names.new ≡ with_kind kind names.old (with_name (of_kind kind names.old) name.now)) }
+    ensures id { IfOk result (λ id. slice_get (of_kind kind names.new) id ≡ Some name.now) }
+    ensures sound { AreSound names.new }
+    ensures holds { HoldsNames names.new names.old }
+    ensures unchanged { OnErr result (names.new ≡ names.old) }
+    ensures why { IfErr result (IfFull (λ what. (what ≡ names_of kind) × (limit_of kind < length (with_name (of_kind kind names.old) name.now)))) }
+{
+    let added = names.add(alloc, kind, name);
     // Counting makes the bounds of the names known.
     let _count = names.count(kind);
     match added {

@@ -15,7 +15,7 @@ ghost use Rattle.sig_index.specs.Signature.{IsSigBounded};
 ghost use Rattle.base_core.specs.Entries.{head_of};
 ghost use Rattle.base_core.specs.FirstFault.{EntryFails, Fails};
 ghost use Rattle.base_core.specs.Opening.{IfBad, records_len};
-ghost use Rattle.base_core.specs.Reading.{AreRead, IsNotTaken, IsReadSo, IsSigned, IsTaken};
+ghost use Rattle.base_core.specs.Reading.{AreRead, IsMended, IsNotTaken, IsReadSo, IsSigned, IsTaken};
 ghost use Rattle.base_core.specs.Represents.{IsKept};
 
 use crate::checking::{Opening, checked_entry, differing, kept_entry};
@@ -143,6 +143,23 @@ fn taken_entry(strict: bool, game: u32, entry: &Entry, bytes: &[u8]) -> Result<G
             mended: found.is_some(),
         }),
     }
+}
+
+/// The entry with its derived fields and its event date mended by the bytes of its record.
+///
+/// # Errors
+///
+/// The first fault of the record.
+pub fn mended_entry(entry: &Entry, bytes: &[u8]) -> Result<Entry, RecordFault>
+    requires fields { IsEntry entry.now }
+    requires few { length bytes.now < 2 ^ 32 }
+    ensures mended { IfOk result (IsMended bytes.now entry.now) }
+    ensures fault { IfErr result (IsRecordFault bytes.now) }
+    ensures fields { IfOk result IsEntry }
+    ensures homes { IfOk result (λ kept. kept.home_count ≤ 16) }
+{
+    let signed = signed_by(entry, bytes)?;
+    Ok(kept_entry(entry, &signed.sig, signed.event_date))
 }
 
 // What the bytes of the entry's record say, or their first fault. This is the one place where a record is looked at.

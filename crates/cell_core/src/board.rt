@@ -1,5 +1,5 @@
 //! The board of 64 squares.
-ghost use Rattle.std.specs.Prelude.{◌≡◌, ◌↔◌, ◌<◌, IsTrue, None, is_some, replicate, length};
+ghost use Rattle.std.specs.Prelude.{◌≡◌, ◌↔◌, ◌<◌, IsTrue, Some, None, is_some, replicate, length};
 ghost use Rattle.cell_core.specs.Board.{man_at, put, same_men};
 ghost use Rattle.cell_core.specs.Sets.{is_kind, set_of, sets_of};
 ghost use Rattle.cell_core.specs.Man.{is_man, is_of};
@@ -158,7 +158,35 @@ impl Board {
         self.enter(entered, man);
     }
 
+    /// Takes this man, who stands on `from`, away and puts the other on `to`: `go` of a man that is known.
+    #[inline(always)]
+    #[tactic(auto, using(crate::proofs::Squares::emptied, crate::proofs::Squares::filled, crate::proofs::Squares::filled_behind))]
+    pub fn carry(&mut self, from: Square, to: Square, man: Man, arriving: Man)
+        requires stands { man_at self.old from ≡ Some man }
+        ensures after { self.new ≡ put (put self.old from None) to (Some arriving) }
+        ensures squares { length self.new ≡ 64 }
+        ensures on_board { to < 64 }
+    {
+        self.take(from.index(), man);
+        let target = to.index();
+        self.leave(target);
+        self.enter(target, Some(arriving));
+    }
+
+    /// Takes this man away from the square on which he stands.
+    #[inline(always)]
+    fn take(&mut self, number: u8, man: Man)
+        requires on_board { number < 64 }
+        requires stands { man_at self.old number ≡ Some man }
+        ensures after { self.new ≡ put self.old number None }
+        ensures squares { length self.new ≡ 64 }
+    {
+        self.sets.remove(number, man);
+        self.cells[number as usize] = None;
+    }
+
     /// Takes what stands on a square away.
+    #[inline(always)]
     #[tactic(auto, using(crate::proofs::Squares::empty_already))]
     fn leave(&mut self, number: u8)
         requires { number < 64 }
@@ -166,12 +194,12 @@ impl Board {
         ensures squares { length self.new ≡ 64 }
     {
         if let Some(gone) = self.cells[number as usize] {
-            self.sets.remove(number, gone);
-            self.cells[number as usize] = None;
+            self.take(number, gone);
         }
     }
 
     /// Puts `man` on an empty square, or leaves it empty.
+    #[inline(always)]
     #[tactic(auto, using(crate::proofs::Squares::empty_already))]
     fn enter(&mut self, number: u8, man: Option<Man>)
         requires on_board { number < 64 }

@@ -1,5 +1,5 @@
 -- A walk along a line comes to its end where no man stands between.
-use Rattle.std.proofs.Common.{◌≡◌, ℕ, zero, suc, ◌-◌, ◌^◌, ◌<◌, ◌&&◌, ◌⊎◌, not, inl, inr, Bool, true, false, eqb, List, [], Option, Some, None, is_none, is_some, refl, sym, subst, ◌∙◌, ap, arith}
+use Rattle.std.proofs.Common.{◌≡◌, ℕ, zero, suc, ◌^◌, ◌<◌, ◌&&◌, ◌⊎◌, not, inl, inr, Bool, true, false, eqb, List, [], Option, Some, None, is_none, is_some, refl, sym, subst, ◌∙◌, ap, arith}
 use Rattle.std.specs.Int.{bit_at}
 use Rattle.std.specs.Int.RustNames.{bit_and, bit_or}
 use Rattle.std.proofs.lemmas.Bool.{agree_below, agree_below_at, and_parts, cases_Bool, cases_eq, eqb-true, false≢true}
@@ -13,13 +13,14 @@ use Rattle.cell_core.specs.Man.{is_man, man}
 use Rattle.cell_core.specs.Board.{Men, man_at}
 use Rattle.cell_core.specs.Sets.{set_of}
 use Rattle.cell_core.proofs.Squares.{bit-set_of}
-use Rattle.chess_laws.specs.Geometry.{Offset, shift}
+use Rattle.chess_laws.specs.Geometry.{Offset, shift, Runs}
 use Rattle.chess_laws.specs.LegalTests.{glides, line, run, run_on, slides}
 use Rattle.chess_laws.specs.Between.{between, crossed, crossed_on, is_between, is_seen, names_between, names_seen}
-use Rattle.chess_laws.specs.Rays.{offset_at, SlidesFrom}
+use Rattle.chess_laws.specs.Rays.{entry, offset_at, SlidesFrom}
 use Rattle.chess_laws.specs.Leaps.{squares_of}
 use Rattle.chess_laws.proofs.Kings.{is_man-true}
 use Rattle.chess_laws.proofs.Lines.{any-slide, line-walk}
+use Rattle.chess_laws.proofs.Running.{walk-ends}
 
 -- a square more among those that are to be empty
 one-full : (men : Men) (s set : ℕ) (m : Man) → man_at men s ≡ Some m → eqb (bit_and (bit_or (2 ^ s) set) (set_of is_some men)) 0 ≡ false
@@ -84,15 +85,29 @@ unfolding run crossed
 run-clear men o zero a b = refl
 run-clear men o (suc n) a b = run-step men b (shift o a) (run men o n b) (run [] o n b) (crossed o n b) (λ c. run-clear men o n c b)
 
--- the table tells it of two squares on a line
-pub clear-told : (table : List (List ℕ)) (men : Men) (row a b word occupied : ℕ) (test : Bool) → names_between table ≡ true → Some row ≡ line a b → a < 64 → b < 64
-    → word ≡ between table row a b → occupied ≡ set_of is_some men → test ≡ eqb (bit_and word occupied) 0 → test ≡ run men (offset_at row) 8 b a
+-- what the table says of two squares on a line
+told-of : (table : List (List ℕ)) (row a b : ℕ) → names_between table ≡ true → Some row ≡ line a b → a < 64 → b < 64 → is_between table (Some row) a b ≡ true
 unfolding names_between
-clear-told table men row a b word occupied test all on_line a_less b_less is full told =
+told-of table row a b all on_line a_less b_less =
     let rows = agree_below_at (λ a. agree_below (λ b. is_between table (line a b) a b) (λ b. true) 64) (λ a. true) 64 a all a_less in
     let here : is_between table (line a b) a b ≡ true = agree_below_at (λ b. is_between table (line a b) a b) (λ b. true) 64 b rows b_less in
-    let on : is_between table (Some row) a b ≡ true = subst (λ x. is_between table x a b ≡ true) (sym on_line) here in
-    let parts = and_parts (eqb (between table row a b) (crossed (offset_at row) 8 b a)) (run [] (offset_at row) 8 b a) on in
+    subst (λ x. is_between table x a b ≡ true) (sym on_line) here
+
+-- it has the second among those that the first sees
+pub seen-run : (table : List (List ℕ)) (row a word : ℕ) → names_between table ≡ true → row < 8 → a < 64 → word ≡ entry table row a
+    → (men : Men) (b : ℕ) → Runs men a b (offset_at row) → bit_at word b ≡ 1
+seen-run table row a word all less a_less is men b (n, walk) =
+    let on = told-of table row a b all (sym (line-walk men row n a b less walk)) a_less (walk-ends men (offset_at row) n a b walk) in
+    let parts = and_parts (eqb (bit_at (entry table row a) b) 1) (eqb (between table row a b) (crossed (offset_at row) 8 b a) && run [] (offset_at row) 8 b a) on in
+    rw is (eqb-true (bit_at (entry table row a) b) 1 parts.0)
+
+-- and tells whether the way is clear
+pub clear-told : (table : List (List ℕ)) (men : Men) (row a b word occupied : ℕ) (test : Bool) → names_between table ≡ true → Some row ≡ line a b → a < 64 → b < 64
+    → word ≡ between table row a b → occupied ≡ set_of is_some men → test ≡ eqb (bit_and word occupied) 0 → test ≡ run men (offset_at row) 8 b a
+clear-told table men row a b word occupied test all on_line a_less b_less is full told =
+    let on = told-of table row a b all on_line a_less b_less in
+    let seen = and_parts (eqb (bit_at (entry table row a) b) 1) (eqb (between table row a b) (crossed (offset_at row) 8 b a) && run [] (offset_at row) 8 b a) on in
+    let parts = and_parts (eqb (between table row a b) (crossed (offset_at row) 8 b a)) (run [] (offset_at row) 8 b a) seen.1 in
     let same : between table row a b ≡ crossed (offset_at row) 8 b a = eqb-true (between table row a b) (crossed (offset_at row) 8 b a) parts.0 in
     told ∙ (λ i. eqb (bit_and ((is ∙ same) i) (full i)) 0)
     ∙ sym (run-clear men (offset_at row) 8 a b ∙ ap (λ t. t && eqb (bit_and (crossed (offset_at row) 8 b a) (set_of is_some men)) 0) parts.1)

@@ -23,10 +23,12 @@ abbrev pub between : List (List ℕ) → ℕ → ℕ → ℕ → ℕ
 between table row a b =
     bit_and (bit_and (entry table row a) (18446744073709551615 - entry table row b)) (18446744073709551615 - 1 * 2 ^ b % 18446744073709551616)
 
--- Whether it says so of two squares on a line, and the steps come from the one to the other over a board with no man.
+-- Whether it says so of two squares on a line, of which it has the second among those that the first sees, and the steps come
+-- from the one to the other over a board with no man.
 abbrev pub is_between : List (List ℕ) → Option ℕ → ℕ → ℕ → Bool
 is_between table None a b = true
-is_between table (Some row) a b = (between table row a b == crossed (offset_at row) 8 b a) && run [] (offset_at row) 8 b a
+is_between table (Some row) a b =
+    (bit_at (entry table row a) b == 1) && ((between table row a b == crossed (offset_at row) 8 b a) && run [] (offset_at row) 8 b a)
 
 -- Whether it does of any two squares.
 unfoldable pub names_between : List (List ℕ) → Bool

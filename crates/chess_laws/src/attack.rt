@@ -10,6 +10,7 @@ ghost use Rattle.cell_core.specs.Board.{man_at};
 ghost use Rattle.cell_core.specs.Man.{man, other};
 ghost use Rattle.cell_core.specs.declared.man.Kind.TheVariants.{King, Knight, Pawn, Queen};
 
+use super::between::seen;
 use super::leaps::{capture_squares, king_squares, knight_squares};
 use super::offset::{BISHOP_STEPS, Offset, ROOK_STEPS, line};
 use cell_core::{Board, Colour, Kind, Man, Square};
@@ -83,6 +84,7 @@ fn slides(
 }
 
 /// Whether such a man, or a queen, stands on one of the squares of these bits.
+#[inline(always)]
 fn has_slider(board: &Board, by: Colour, kind: Kind, squares: u64) -> bool
     ensures none { result ≡ false → (a : ℕ) → bit_at squares a ≡ 1 → ((man_at board.now a ≡ Some (man by kind)) ⊎ (man_at board.now a ≡ Some (man by Queen))) → ⊥ }
 {
@@ -97,6 +99,7 @@ fn slides_by_one(board: &Board, by: Colour, kind: Kind, steps: &[Offset], s: Squ
 }
 
 /// Whether such a man, or a queen, stands where equal steps of this one lead from `s` over empty squares.
+#[inline(never)]
 fn slides_by(board: &Board, by: Colour, kind: Kind, step: &Offset, s: Square) -> bool
     ensures { IsTrue result ↔ SlidesFrom board.now by kind s step.now }
 {
@@ -129,6 +132,7 @@ fn first_met(board: &Board, step: &Offset, s: Square) -> Option<Man>
 }
 
 // Whether a man that leaves `from` for elsewhere opens the line from a man of this colour to the square `s`.
+#[inline(always)]
 pub fn opens(board: &Board, by: Colour, from: Square, s: Square) -> bool
     ensures { IsTrue result ↔ Opens board.now by from s }
 {
@@ -139,11 +143,25 @@ pub fn opens(board: &Board, by: Colour, from: Square, s: Square) -> bool
 }
 
 // Whether a man of this colour slides to the square from where the step of this row leads.
+#[inline(always)]
 fn slides_along(board: &Board, by: Colour, row: u8, s: Square) -> bool
     requires row { row < 8 }
     ensures { IsTrue result ↔ SlidesFrom board.now by (glider row) s (offset_at row) }
 {
     let kind = if row < 4 { Kind::Rook } else { Kind::Bishop };
+    slides_in_row(board, by, kind, row, s)
+}
+
+// Whether such a man, or a queen, slides to the square from where the step of this row leads. None is looked for where none
+// stands that way.
+#[inline(always)]
+fn slides_in_row(board: &Board, by: Colour, kind: Kind, row: u8, s: Square) -> bool
+    requires row { row < 8 }
+    ensures { IsTrue result ↔ SlidesFrom board.now by kind s (offset_at row) }
+{
+    if !has_slider(board, by, kind, seen(row, s)) {
+        return false;
+    }
     slides_by(board, by, kind, &Offset::of_row(row), s)
 }
 

@@ -1,5 +1,8 @@
 //! Which squares stand between two squares on a line.
-ghost use Rattle.std.specs.Prelude.{◌≡◌, ◌<◌, Some, true};
+ghost use Rattle.std.specs.Prelude.{◌≡◌, ℕ, ◌<◌, Some, true};
+ghost use Rattle.std.specs.Int.{bit_at};
+ghost use Rattle.cell_core.specs.Board.{Men};
+ghost use Rattle.chess_laws.specs.Geometry.{Runs};
 ghost use Rattle.chess_laws.specs.LegalTests.{line, run};
 ghost use Rattle.chess_laws.specs.Between.{between, names_between};
 ghost use Rattle.chess_laws.specs.Rays.{offset_at};
@@ -34,6 +37,25 @@ fn between_in(table: &[[u64; 64]; 8], row: u8, from: Square, to: Square) -> u64
     let first = from.index();
     let second = to.index();
     table[row as usize][first as usize] & !table[row as usize][second as usize] & !(1u64 << second)
+}
+
+/// Where equal steps of this row lead from the square, to the edge of the board: the square `b` is the bit `b`.
+#[inline(always)]
+pub fn seen(row: u8, s: Square) -> u64
+    requires row { row < 8 }
+    ensures seen { (men : Men) (b : ℕ) → Runs men s b (offset_at row) → bit_at result b ≡ 1 }
+{
+    seen_in(&RAYS, row, s)
+}
+
+// The same, by a table of where each step leads.
+#[inline(always)]
+fn seen_in(table: &[[u64; 64]; 8], row: u8, s: Square) -> u64
+    requires row { row < 8 }
+    requires says { names_between table.now ≡ true }
+    ensures seen { (men : Men) (b : ℕ) → Runs men s b (offset_at row) → bit_at result b ≡ 1 }
+{
+    table[row as usize][s.index() as usize]
 }
 
 // Where equal steps of each of the first eight lead from each square, to the edge.

@@ -39,12 +39,20 @@ fn is_plain(p: &Setup, m: &Move) -> bool
     let Some(standing) = p.board.at(m.from) else {
         return false;
     };
-    standing.colour == p.side
-        && goes_plainly(p, standing.kind, m)
-        && promotes_rightly(p.side, standing.kind, m)
+    standing.colour == p.side && is_plain_of(p, standing.kind, m)
+}
+
+/// Whether it is a plain move or capture of the mover's man of this kind, which stands where it begins.
+#[inline(always)]
+pub fn is_plain_of(p: &Setup, kind: Kind, m: &Move) -> bool
+    requires stands { man_at p.now.board m.now.from ≡ Some (man p.now.side kind) }
+    ensures { IsTrue result ↔ PlainCase p.now m.now }
+{
+    goes_plainly(p, kind, m) && promotes_rightly(p.side, kind, m)
 }
 
 /// Whether a man of this kind makes the move plainly.
+#[inline(always)]
 fn goes_plainly(p: &Setup, kind: Kind, m: &Move) -> bool
     ensures { IsTrue result ↔ GoesPlainly p.now kind m.now }
 {
@@ -57,6 +65,7 @@ fn goes_plainly(p: &Setup, kind: Kind, m: &Move) -> bool
 }
 
 /// Whether a pawn goes one square forward to an empty square.
+#[inline(always)]
 fn steps_on(p: &Setup, m: &Move) -> bool
     ensures { IsTrue result ↔ (Leaps m.now.from m.now.to (forward p.now.side)) × (man_at p.now.board m.now.to ≡ None) }
 {
@@ -64,6 +73,7 @@ fn steps_on(p: &Setup, m: &Move) -> bool
 }
 
 /// Whether a pawn captures an enemy man diagonally in front of it.
+#[inline(always)]
 fn takes(p: &Setup, m: &Move) -> bool
     ensures { IsTrue result ↔ (Any (Leaps m.now.from m.now.to) (pawn_captures p.now.side)) × IsEnemyOn p.now.board p.now.side m.now.to }
 {
@@ -71,6 +81,7 @@ fn takes(p: &Setup, m: &Move) -> bool
 }
 
 /// Whether an enemy of this colour stands on the square.
+#[inline(always)]
 pub fn has_enemy(board: &Board, colour: Colour, s: Square) -> bool
     ensures { IsTrue result ↔ IsEnemyOn board.now colour s }
 {
@@ -81,6 +92,7 @@ pub fn has_enemy(board: &Board, colour: Colour, s: Square) -> bool
 }
 
 /// Whether no man of this colour stands on the square.
+#[inline(always)]
 pub fn has_no_own(board: &Board, colour: Colour, s: Square) -> bool
     ensures { IsTrue result ↔ HasNoOwn board.now colour s }
 {
@@ -91,6 +103,7 @@ pub fn has_no_own(board: &Board, colour: Colour, s: Square) -> bool
 }
 
 /// Whether a move names a promotion exactly where a pawn comes to the last rank.
+#[inline(always)]
 fn promotes_rightly(side: Colour, kind: Kind, m: &Move) -> bool
     ensures { result ≡ promotes_rightly side kind m.now }
 {
@@ -216,6 +229,7 @@ pub fn forward(colour: Colour) -> Offset
 }
 
 /// Whether such a man reaches one square from the other.
+#[inline(always)]
 pub fn reaches(board: &Board, colour: Colour, kind: Kind, from: Square, to: Square) -> bool
     ensures { IsTrue result ↔ Reaches board.now colour kind from to }
 {
@@ -228,6 +242,7 @@ pub fn reaches(board: &Board, colour: Colour, kind: Kind, from: Square, to: Squa
 }
 
 /// Whether equal steps, of this kind of man, lead from one square to the other over empty squares.
+#[inline(always)]
 fn runs(board: &Board, kind: Kind, from: Square, to: Square) -> bool
     ensures { IsTrue result ↔ Any (Runs board.now from to) (slides kind) }
 {
@@ -238,6 +253,7 @@ fn runs(board: &Board, kind: Kind, from: Square, to: Square) -> bool
 }
 
 /// Whether a man of this kind slides by the step of this row from one square to the other over empty squares.
+#[inline(always)]
 fn runs_by(board: &Board, kind: Kind, row: u8, from: Square, to: Square) -> bool
     requires row { row < 8 }
     requires line { Some row ≡ line from to }

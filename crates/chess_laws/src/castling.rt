@@ -72,9 +72,26 @@ pub fn has_right(rights: &Rights, colour: Colour, wing: Wing) -> bool
 pub fn rights_after(rights: &Rights, m: &Move) -> Rights
     ensures { result ≡ rights_after rights.now m.now }
 {
-    if !touches_home(m) {
-        return *rights;
+    let mut left = *rights;
+    leave_rights(&mut left, m);
+    left
+}
+
+/// Leaves of the rights those that are left after a move that is not the null move.
+#[inline(always)]
+pub fn leave_rights(rights: &mut Rights, m: &Move)
+    ensures { rights.new ≡ rights_after rights.old m.now }
+{
+    if touches_home(m) {
+        *rights = kept_rights(rights, m);
     }
+}
+
+// Each right that is left after the move.
+#[inline(never)]
+fn kept_rights(rights: &Rights, m: &Move) -> Rights
+    ensures { result ≡ rights_after rights.now m.now }
+{
     Rights {
         white_king_side: keeps(rights, m, Colour::White, Wing::KingSide),
         white_queen_side: keeps(rights, m, Colour::White, Wing::QueenSide),

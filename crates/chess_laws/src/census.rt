@@ -82,6 +82,7 @@ fn number(board: &Board, colour: Colour, kind: Kind) -> u8
 }
 
 // One less of the man on this square, where one stands there that is counted.
+#[inline(always)]
 pub fn count_out(all: &mut [u8; 10], cell: &Option<Man>)
     ensures { all.new ≡ fewer all.old cell.now }
 {
@@ -94,6 +95,7 @@ pub fn count_out(all: &mut [u8; 10], cell: &Option<Man>)
 }
 
 // The place of a man's count among the ten, and 10 for a king.
+#[inline(always)]
 fn slot(man: &Man) -> usize
     ensures { result ≡ slot man.now }
 {

@@ -1,18 +1,21 @@
 //! Which moves are legal.
-ghost use Rattle.std.specs.Prelude.{◌≡◌, ◌↔◌, ◌&&◌, IsTrue, false};
+ghost use Rattle.std.specs.Prelude.{◌≡◌, ◌↔◌, ◌&&◌, IsTrue, Some, false};
 ghost use Rattle.std.specs.Bool.{OnTrue};
+ghost use Rattle.cell_core.specs.Board.{man_at};
+ghost use Rattle.cell_core.specs.Man.{man};
 ghost use Rattle.chess_laws.specs.LegalTests.{IsOnlyKing, is_calm, king_after};
 ghost use Rattle.chess_laws.specs.Attacks.{IsInCheck};
+ghost use Rattle.chess_laws.specs.declared.effect.Effect.TheVariants.{Plain};
 ghost use Rattle.chess_laws.specs.Rays.{Covers, Shut};
 ghost use Rattle.chess_laws.specs.Position.{Sound};
 ghost use Rattle.chess_laws.specs.Step.{board_after, effect_of, Case, Legal};
 
 use super::attack::opens;
-use super::cases::{is_allowed, is_in_check};
+use super::cases::{is_allowed, is_in_check, is_plain_of};
 use super::effect::Effect;
 use super::next::{change_board, effect_of};
 use super::setup::Setup;
-use cell_core::{Move, Square};
+use cell_core::{Kind, Move, Square};
 
 /// Whether the move is legal for the side to move, whose king stands on this square and is in check or not.
 pub fn is_legal(p: &Setup, king: Square, checked: bool, m: &Move) -> bool
@@ -32,11 +35,32 @@ pub fn is_legal_as(p: &Setup, king: Square, checked: bool, m: &Move, effect: Eff
     requires effect { effect ≡ effect_of p.now m.now }
     ensures { IsTrue result ↔ Legal p.now m.now }
 {
+    if !is_allowed(p, king, m, effect) {
+        return false;
+    }
     let shut = is_shut(p, king, checked, m.from);
-    is_legal_from(p, king, shut, m, effect)
+    is_legal_allowed(p, king, shut, m, effect)
+}
+
+/// Whether the move is legal, which is a plain one of the mover's man of this kind.
+#[inline(always)]
+pub fn is_legal_plain(p: &Setup, king: Square, checked: bool, kind: Kind, m: &Move) -> bool
+    requires sound { Sound p.now }
+    requires king { IsOnlyKing p.now.board p.now.side king }
+    requires check { IsTrue checked ↔ IsInCheck p.now.board p.now.side }
+    requires stands { man_at p.now.board m.now.from ≡ Some (man p.now.side kind) }
+    requires effect { Plain ≡ effect_of p.now m.now }
+    ensures { IsTrue result ↔ Legal p.now m.now }
+{
+    if !is_plain_of(p, kind, m) {
+        return false;
+    }
+    let shut = is_shut(p, king, checked, m.from);
+    is_legal_allowed(p, king, shut, m, Effect::Plain)
 }
 
 /// Whether the mover's king is safe after each calm move from this square.
+#[inline(always)]
 pub fn is_shut(p: &Setup, king: Square, checked: bool, from: Square) -> bool
     requires check { IsTrue checked ↔ IsInCheck p.now.board p.now.side }
     ensures { OnTrue result (Shut p.now king from) }
@@ -59,6 +83,7 @@ pub fn is_legal_from(p: &Setup, king: Square, shut: bool, m: &Move, effect: Effe
 }
 
 /// Whether the move, which is of this kind and allowed by its rules, is legal, where the square it leaves may be shut.
+#[inline(always)]
 pub fn is_legal_allowed(p: &Setup, king: Square, shut: bool, m: &Move, effect: Effect) -> bool
     requires sound { Sound p.now }
     requires king { IsOnlyKing p.now.board p.now.side king }
@@ -91,6 +116,7 @@ pub fn king_after(king: Square, m: &Move) -> Square
 }
 
 // Whether the mover's king is safe after the move without a look at the board after it.
+#[inline(always)]
 fn stays_safe(shut: bool, effect: Effect) -> bool
     ensures { result ≡ (shut && is_calm effect) }
 {
@@ -98,6 +124,7 @@ fn stays_safe(shut: bool, effect: Effect) -> bool
 }
 
 // Whether the move changes two squares alone, where it begins and where it ends.
+#[inline(always)]
 pub fn is_calm(effect: Effect) -> bool
     ensures { result ≡ is_calm effect }
 {
@@ -108,6 +135,7 @@ pub fn is_calm(effect: Effect) -> bool
 }
 
 // Whether the mover's king is what leaves this square, or is open to an attack when another man leaves it.
+#[inline(always)]
 fn uncovers(p: &Setup, king: Square, from: Square) -> bool
     ensures { result ≡ false → Covers p.now king from }
 {

@@ -1,6 +1,7 @@
 //! Making a legal move, and whether it gives check.
-ghost use Rattle.std.specs.Prelude.{◌≡◌, ◌↔◌, ◌⊎◌, ◌&&◌, IsTrue, is_none, true};
+ghost use Rattle.std.specs.Prelude.{◌≡◌, ◌↔◌, ◌⊎◌, ◌&&◌, IsTrue, Some, is_none, true};
 ghost use Rattle.std.specs.Bool.{OnFalse, OnTrue};
+ghost use Rattle.cell_core.specs.Board.{man_at};
 ghost use Rattle.cell_core.specs.Man.{other};
 ghost use Rattle.chess_laws.specs.Attacks.{Attacks, IsInCheck};
 ghost use Rattle.chess_laws.specs.Counts.{counts_of, fewer};
@@ -15,16 +16,25 @@ use super::cases::reaches;
 use super::census::{self, count_out};
 use super::effect::Effect;
 use super::legal::is_calm;
-use super::next::change;
+use super::next::{change, change_calm};
 use super::setup::Setup;
 use cell_core::{Board, Colour, Man, Move, Square};
 
-/// Makes a legal move and keeps the ten counts, and answers whether the other side is in check then, whose king stands on
-/// this square.
-pub fn make(p: &mut Setup, counts: &mut [u8; 10], m: &Move, effect: Effect, resting: Square) -> bool
+/// Makes a legal move of what stands where it begins and keeps the ten counts, and answers whether the other side is in check
+/// then, whose king stands on this square.
+#[inline(always)]
+pub fn make(
+    p: &mut Setup,
+    counts: &mut [u8; 10],
+    m: &Move,
+    effect: Effect,
+    standing: Option<Man>,
+    resting: Square,
+) -> bool
     requires sound { Sound p.old }
     requires legal { Legal p.old m.now }
     requires effect { effect ≡ effect_of p.old m.now }
+    requires standing { standing ≡ man_at p.old.board m.now.from }
     requires resting { resting ≡ king_square p.old.board (other p.old.side) }
     requires census { counts.old ≡ counts_of p.old.board }
     ensures becomes { p.new ≡ after p.old m.now effect }
@@ -34,12 +44,29 @@ pub fn make(p: &mut Setup, counts: &mut [u8; 10], m: &Move, effect: Effect, rest
     let side = p.side;
     let opened = may_open(p, m, effect, resting);
     let taken = p.board.at(m.to);
-    change(p, m, effect);
+    let come = change_as(p, m, effect, standing);
     recount(counts, &p.board, &taken, takes_alone(m, effect));
-    gives_check(&p.board, side, m.to, resting, opened)
+    gives_check(&p.board, side, &come, m.to, resting, opened)
+}
+
+// Makes the move of what stands on its first square, and gives what stands on its target then.
+#[inline(always)]
+fn change_as(p: &mut Setup, m: &Move, effect: Effect, standing: Option<Man>) -> Option<Man>
+    requires standing { standing ≡ man_at p.old.board m.now.from }
+    ensures becomes { p.new ≡ after p.old m.now effect }
+    ensures come { result ≡ man_at p.new.board m.now.to }
+{
+    if let Some(man) = standing {
+        if is_calm(effect) {
+            return Some(change_calm(p, m, effect, man));
+        }
+    }
+    change(p, m, effect);
+    p.board.at(m.to)
 }
 
 // Whether the move changes the counts by the man on its target alone.
+#[inline(always)]
 fn takes_alone(m: &Move, effect: Effect) -> bool
     ensures { result ≡ (takes_target effect && is_none m.now.promo) }
 {
@@ -57,6 +84,7 @@ fn takes_target(effect: Effect) -> bool
 }
 
 // The counts of the board, which are those before without the man that was taken, if that is all.
+#[inline(always)]
 fn recount(counts: &mut [u8; 10], board: &Board, taken: &Option<Man>, alone: bool)
     ensures one { OnTrue alone (counts.new ≡ fewer counts.old taken.now) }
     ensures all { OnFalse alone (counts.new ≡ counts_of board.now) }
@@ -69,25 +97,37 @@ fn recount(counts: &mut [u8; 10], board: &Board, taken: &Option<Man>, alone: boo
 }
 
 // Whether the move may open a line from a man of the mover to the square.
+#[inline(always)]
 fn may_open(p: &Setup, m: &Move, effect: Effect, s: Square) -> bool
     ensures { OnFalse result ((is_calm effect ≡ true) × (Opens p.now.board p.now.side m.now.from s → ⊥)) }
 {
     !is_calm(effect) || opens(&p.board, p.side, m.from, s)
 }
 
-// Whether the man of this colour that has come to a square attacks another, or, where a line may have been opened, some
+// Whether what has come to a square is a man of this colour that attacks another, or, where a line may have been opened, some
 // man does.
-fn gives_check(board: &Board, by: Colour, from: Square, s: Square, opened: bool) -> bool
+#[inline(always)]
+fn gives_check(
+    board: &Board,
+    by: Colour,
+    come: &Option<Man>,
+    from: Square,
+    s: Square,
+    opened: bool,
+) -> bool
+    requires come { come.now ≡ man_at board.now from }
     ensures { IsTrue result ↔ (Hits board.now by from s ⊎ ((opened ≡ true) × Attacks board.now by s)) }
 {
-    hits(board, by, from, s) || (opened && attacks(board, by, s))
+    hits(board, by, come, from, s) || (opened && attacks(board, by, s))
 }
 
-// Whether a man of this colour stands on one square and reaches another.
-fn hits(board: &Board, by: Colour, from: Square, s: Square) -> bool
+// Whether what stands on one square is a man of this colour and reaches another.
+#[inline(always)]
+fn hits(board: &Board, by: Colour, standing: &Option<Man>, from: Square, s: Square) -> bool
+    requires standing { standing.now ≡ man_at board.now from }
     ensures { IsTrue result ↔ Hits board.now by from s }
 {
-    match board.at(from) {
+    match standing {
         Some(standing) => standing.colour == by && reaches(board, by, standing.kind, from, s),
         None => false,
     }

@@ -1,9 +1,13 @@
 //! What a move leads to.
-ghost use Rattle.std.specs.Prelude.{◌≡◌};
+ghost use Rattle.std.specs.Prelude.{◌≡◌, Some, true};
+ghost use Rattle.cell_core.specs.Board.{man_at};
 ghost use Rattle.cell_core.specs.declared.man.Kind.TheVariants.{King, Pawn};
+ghost use Rattle.cell_core.specs.declared.step.Move.{Move};
+ghost use Rattle.chess_laws.specs.declared.setup.Setup.{Setup};
+ghost use Rattle.chess_laws.specs.LegalTests.{is_calm};
 ghost use Rattle.chess_laws.specs.Step.{effect_as, effect_of, goes_two, changes_file, arriving, moved, board_after, rights_left, en_passant_after, passed_square, after};
 
-use super::castling::{king_home, king_target, rights_after, rook_home, rook_target};
+use super::castling::{king_home, king_target, leave_rights, rights_after, rook_home, rook_target};
 use super::effect::Effect;
 use super::rules::en_passant_rank;
 use super::setup::{Rights, Setup, Wing};
@@ -20,6 +24,7 @@ pub fn effect_of(p: &Setup, m: &Move) -> Effect
 }
 
 /// What kind of half-move the move of a man of this kind is.
+#[inline(always)]
 pub fn effect_as(p: &Setup, kind: Kind, m: &Move) -> Effect
     ensures { result ≡ effect_as kind p.now m.now }
 {
@@ -131,6 +136,7 @@ fn rights_left(p: &Setup, m: &Move, effect: Effect) -> Rights
 }
 
 /// The square that a pawn's double step has crossed.
+#[inline(always)]
 fn en_passant_after(p: &Setup, m: &Move, effect: Effect) -> Option<Square>
     ensures { result ≡ en_passant_after p.now m.now effect }
 {
@@ -140,6 +146,34 @@ fn en_passant_after(p: &Setup, m: &Move, effect: Effect) -> Option<Square>
             Some(Square::at(8 * rank + m.from.index() % 8))
         }
         Effect::Plain | Effect::Passing | Effect::Castle(_) | Effect::Null => None,
+    }
+}
+
+/// Makes a plain move or a double step of this man, who stands where it begins, and gives the man that arrives.
+#[inline(always)]
+pub fn change_calm(p: &mut Setup, m: &Move, effect: Effect, standing: Man) -> Man
+    requires calm { is_calm effect ≡ true }
+    requires stands { man_at p.old.board m.now.from ≡ Some standing }
+    ensures becomes { p.new ≡ after p.old m.now effect }
+    ensures lands { man_at p.new.board m.now.to ≡ Some result }
+{
+    let en_passant = en_passant_after(p, m, effect);
+    let arriving = arriving(p.side, standing, m.promo);
+    p.board.carry(m.from, m.to, standing, arriving);
+    p.side = p.side.other();
+    leave_rights(&mut p.rights, m);
+    p.en_passant = en_passant;
+    arriving
+}
+
+// The man that arrives: this one, or what he is promoted to.
+#[inline(always)]
+fn arriving(side: Colour, standing: Man, promo: Option<Kind>) -> Man
+    ensures { (p : Setup) (m : Move) → p.side ≡ side → m.promo ≡ promo → man_at p.board m.from ≡ Some standing → Some result ≡ arriving p m promo }
+{
+    match promo {
+        Some(kind) => Man { colour: side, kind },
+        None => standing,
     }
 }
 

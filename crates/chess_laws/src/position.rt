@@ -12,14 +12,14 @@ use super::castling::king_home;
 use super::census::{counts, home_set, only_king};
 use super::effect::Effect;
 use super::fault::PlaceFault;
-use super::legal::{is_legal, is_legal_as, king_after};
+use super::legal::{is_legal, is_legal_as, is_legal_plain, king_after};
 use super::making::make;
-use super::next::effect_of;
+use super::next::{effect_as, effect_of};
 use super::rules::{
     has_few_men, has_fit_en_passant, has_pawns_inside, rests_in_check, standing_rights, start_board,
 };
 use super::setup::{Rights, Setup};
-use cell_core::{Board, Colour, Move, Square};
+use cell_core::{Board, Colour, Kind, Man, Move, Square};
 use std::marker::Model;
 
 /// A position that keeps the rules: one king a side, no pawn on the first or last rank, at most 16 men a side, the side
@@ -238,6 +238,7 @@ fn place(
 impl Position {
     ghost use Rattle.chess_laws.specs.declared.setup.Setup.{Setup};
     ghost use Rattle.chess_laws.specs.LegalNow.{legal_now};
+    ghost use Rattle.chess_laws.specs.declared.effect.Effect.TheVariants.{Plain};
     ghost use Rattle.chess_laws.specs.Step.{after, effect_of, is_capture, Legal, Step};
     ghost use Rattle.std.specs.Bool.{OnTrue, OnFalse};
 
@@ -269,13 +270,85 @@ impl Position {
         }
     }
 
+    /// What kind of half-move a move of the mover's man of this kind is, which stands on its first square: `effect` where the
+    /// man is known.
+    #[inline(always)]
+    pub fn effect_as(&self, kind: Kind, m: &Move) -> Effect
+        requires stands { man_at self.now.board m.now.from ≡ Some (man self.now.side kind) }
+        ensures effect { result ≡ effect_of self.now m.now }
+    {
+        effect_as(&self.inner, kind, m)
+    }
+
     /// Plays the move where it is legal, and answers whether it is. A position whose move is not legal stays as it was.
     pub fn advance(&mut self, m: &Move) -> bool
         ensures legal { IsTrue result ↔ Legal self.old m.now }
         ensures step { OnTrue result (Step self.old m.now self.new) }
         ensures kept { OnFalse result (self.new ≡ self.old) }
     {
-        let effect = effect_of(self.setup(), m);
+        self.advance_by(m, effect_of(self.setup(), m))
+    }
+
+    /// `advance` of a move of the mover's man of this kind, which stands on its first square, and whose kind of half-move is
+    /// known. With the two given as constants it is compiled for them.
+    #[inline(always)]
+    pub fn advance_as(&mut self, kind: Kind, m: &Move, effect: Effect) -> bool
+        requires stands { man_at self.old.board m.now.from ≡ Some (man self.old.side kind) }
+        requires effect { effect ≡ effect_of self.old m.now }
+        ensures legal { IsTrue result ↔ Legal self.old m.now }
+        ensures step { OnTrue result (Step self.old m.now self.new) }
+        ensures kept { OnFalse result (self.new ≡ self.old) }
+    {
+        match effect {
+            Effect::Plain => self.advance_plain(kind, m),
+            Effect::Double => {
+                let standing = Man {
+                    colour: self.side(),
+                    kind,
+                };
+                self.advance_of(m, Effect::Double, Some(standing))
+            }
+            Effect::Passing | Effect::Castle(_) | Effect::Null => self.advance_by(m, effect),
+        }
+    }
+
+    // `advance` of a plain move.
+    #[inline(always)]
+    fn advance_plain(&mut self, kind: Kind, m: &Move) -> bool
+        requires stands { man_at self.old.board m.now.from ≡ Some (man self.old.side kind) }
+        requires effect { Plain ≡ effect_of self.old m.now }
+        ensures legal { IsTrue result ↔ Legal self.old m.now }
+        ensures step { OnTrue result (Step self.old m.now self.new) }
+        ensures kept { OnFalse result (self.new ≡ self.old) }
+    {
+        let side = self.side();
+        let legal = is_legal_plain(self.setup(), self.king(side), self.in_check(), kind, m);
+        if legal {
+            self.follow(m, Effect::Plain, Some(Man { colour: side, kind }));
+        }
+        legal
+    }
+
+    // `advance` of a move whose kind of half-move is known.
+    fn advance_by(&mut self, m: &Move, effect: Effect) -> bool
+        requires effect { effect ≡ effect_of self.old m.now }
+        ensures legal { IsTrue result ↔ Legal self.old m.now }
+        ensures step { OnTrue result (Step self.old m.now self.new) }
+        ensures kept { OnFalse result (self.new ≡ self.old) }
+    {
+        let standing = self.inner.board.at(m.from);
+        self.advance_of(m, effect, standing)
+    }
+
+    // The same, of what stands on its first square.
+    #[inline(never)]
+    fn advance_of(&mut self, m: &Move, effect: Effect, standing: Option<Man>) -> bool
+        requires effect { effect ≡ effect_of self.old m.now }
+        requires standing { standing ≡ man_at self.old.board m.now.from }
+        ensures legal { IsTrue result ↔ Legal self.old m.now }
+        ensures step { OnTrue result (Step self.old m.now self.new) }
+        ensures kept { OnFalse result (self.new ≡ self.old) }
+    {
         let legal = is_legal_as(
             self.setup(),
             self.king(self.side()),
@@ -284,7 +357,7 @@ impl Position {
             effect,
         );
         if legal {
-            self.follow(m, effect);
+            self.follow(m, effect, standing);
         }
         legal
     }
@@ -296,13 +369,16 @@ impl Position {
         ensures only { (q : Setup) → Step self.old m q → q ≡ self.new }
     {
         let effect = effect_of(self.setup(), &m);
-        self.follow(&m, effect);
+        let standing = self.inner.board.at(m.from);
+        self.follow(&m, effect, standing);
     }
 
-    // Plays a legal move of this kind.
-    fn follow(&mut self, m: &Move, effect: Effect)
+    // Plays a legal move of this kind, of what stands on its first square.
+    #[inline(always)]
+    fn follow(&mut self, m: &Move, effect: Effect, standing: Option<Man>)
         requires legal { Legal self.old m.now }
         requires effect { effect ≡ effect_of self.old m.now }
+        requires standing { standing ≡ man_at self.old.board m.now.from }
         ensures becomes { self.new ≡ after self.old m.now effect }
     {
         match self.inner.side {
@@ -312,6 +388,7 @@ impl Position {
                     &mut self.counts,
                     m,
                     effect,
+                    standing,
                     self.black_king,
                 );
                 self.white_king = king_after(self.white_king, m);
@@ -322,6 +399,7 @@ impl Position {
                     &mut self.counts,
                     m,
                     effect,
+                    standing,
                     self.white_king,
                 );
                 self.black_king = king_after(self.black_king, m);

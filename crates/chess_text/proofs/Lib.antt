@@ -6,11 +6,11 @@ pub mod WritingLaws
 pub mod DigitLaws
 pub mod ShapeLaws
 pub mod SearchLaws
+pub mod OnesLaws
 pub mod CameLaws
 pub mod PawnLaws
 pub mod WrittenSan
 pub mod RivalLaws
-pub mod FewLaws
 pub mod OneText
 pub mod TextLaws
 pub mod AnswerLaws

@@ -10,6 +10,7 @@ pub mod FieldReading
 pub mod Written
 pub mod SanShape
 pub mod SanReads
+pub mod Ones
 pub mod SanReading
 pub mod SanSearch
 pub mod San

@@ -1,12 +1,11 @@
 -- What the search for a move of a shape answers. No public contract cites these words.
-use Rattle.std.specs.Prelude.{◌≡◌, ℕ, ◌<◌, ◌+◌, ◌-◌, ◌*◌, ◌/◌, ◌%◌, ◌==◌, not, Bool, false, List, Option, Some, None, Result, MatchResult, IfSome, slice_index_or}
+use Rattle.std.specs.Prelude.{◌≡◌, ℕ, ◌<◌, ◌+◌, ◌%◌, ◌==◌, not, Bool, false, List, Option, Some, None, Result, MatchResult, IfSome, slice_index_or}
+use Rattle.std.specs.Int.{bit_at}
 use Rattle.cell_core.specs.declared.step.Move.{Move}
 use Rattle.cell_core.specs.Board.{man_at}
 use Rattle.cell_core.specs.Man.{man}
 use Rattle.chess_laws.specs.declared.setup.Setup.{Setup}
 use Rattle.chess_laws.specs.Geometry.{file_of, rank_of}
-use Rattle.chess_text.specs.declared.san_reading.Way.{Way}
-use Rattle.chess_text.specs.declared.san_reading.Way.TheVariants.{File, Rank, Rising, Falling}
 use Rattle.chess_text.specs.declared.shape.Going.{Going}
 use Rattle.chess_text.specs.declared.shape.Shape.{Shape}
 use Rattle.chess_text.specs.declared.shape.Shape.TheVariants.{Goes}
@@ -70,8 +69,7 @@ pub record Grown (p : Setup) (g : Going) (before after : Option Move) : Type 0 w
   pub fits : IfSome after (Fits p (Goes g))
   pub kept : (s : ℕ) → Known p g before s → Known p g after s
 
--- So it is after one more square, after the first n squares to which these steps lead from the target, and after the first n
--- squares of a way through it.
+-- So it is after one more square, and after the first n squares to which these steps lead from the target.
 pub record FoundWith (p : Setup) (g : Going) (s : ℕ) (before after : Option Move) : Type 0 where
   pub grown : Grown p g before after
   pub known : Known p g after s
@@ -83,20 +81,10 @@ pub record FoundBy (p : Setup) (g : Going) (steps : List ℕ) (n : ℕ) (found :
   pub fits : IfSome found (Fits p (Goes g))
   pub known : (k : ℕ) → k < n → Known p g found (step_on steps g.target k)
 
-abbrev pub place_on : Way → ℕ → ℕ → ℕ
-place_on File target i = 8 * i + target % 8
-place_on Rank target i = 8 * (target / 8) + i
-place_on Rising target i = 8 * ((target / 8 + 8 + i - target % 8) % 8) + i
-place_on Falling target i = 8 * ((target / 8 + target % 8 + 8 - i) % 8) + i
-
-pub record FoundAlong (p : Setup) (g : Going) (way : Way) (n : ℕ) (before after : Option Move) : Type 0 where
-  pub grown : Grown p g before after
-  pub known : (k : ℕ) → k < n → Known p g after (place_on way g.target k)
-
-pub record FoundOn (p : Setup) (g : Going) (a b : Way) (before after : Option Move) : Type 0 where
-  pub grown : Grown p g before after
-  pub first : (k : ℕ) → k < 8 → Known p g after (place_on a g.target k)
-  pub second : (k : ℕ) → k < 8 → Known p g after (place_on b g.target k)
+-- So it is where the squares of the men that are left to be tried are the bits of a word.
+pub record FoundBut (p : Setup) (g : Going) (left : ℕ) (found : Option Move) : Type 0 where
+  pub fits : IfSome found (Fits p (Goes g))
+  pub known : (s : ℕ) → bit_at left s ≡ 0 → Known p g found s
 
 -- What was found is every legal move of the shape.
 pub record FoundAll (p : Setup) (g : Going) (found : Option Move) : Type 0 where

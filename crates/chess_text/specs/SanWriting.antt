@@ -1,5 +1,6 @@
 -- What the writer of a move's text keeps on its way. No public contract cites these words.
-use Rattle.std.specs.Prelude.{◌≡◌, ◌↔◌, ℕ, ◌<◌, IsTrue, List, [], if◌then◌else◌}
+use Rattle.std.specs.Prelude.{◌≡◌, ◌↔◌, ℕ, IsTrue, List, [], if◌then◌else◌}
+use Rattle.std.specs.Int.{bit_at}
 use Rattle.cell_core.specs.declared.man.Kind.{Kind}
 use Rattle.cell_core.specs.declared.step.Move.{Move}
 use Rattle.chess_laws.specs.declared.setup.Setup.{Setup}
@@ -12,16 +13,16 @@ use Rattle.chess_text.specs.declared.san_writing.Rivals.{Rivals}
 use Rattle.chess_text.specs.Squares.{file_text, rank_text, square_text}
 use Rattle.chess_text.specs.San.{IsRival, HasRival, HasRivalOnFile, HasRivalOnRank, GoingText, SignText}
 
--- A number below n has the property.
-abbrev pub SomeBelow : ℕ → (ℕ → Type 0) → Type 0
-SomeBelow n P = (s : ℕ) × (s < n) × P s
+-- A square that has no one in the word has the property.
+abbrev pub SomeBut : ℕ → (ℕ → Type 0) → Type 0
+SomeBut left P = (s : ℕ) × (bit_at left s ≡ 0) × P s
 
--- The other men of this kind on squares below n that can legally go to the target: any, one on the file of the origin, one on
--- its rank.
-pub record RivalsBelow (p : Setup) (k : Kind) (m : Move) (n : ℕ) (seen : Rivals) : Type 0 where
-  pub any : IsTrue seen.any ↔ SomeBelow n (IsRival p k m)
-  pub on_file : IsTrue seen.on_file ↔ SomeBelow n (λ s. IsRival p k m s × (file_of s ≡ file_of m.from))
-  pub on_rank : IsTrue seen.on_rank ↔ SomeBelow n (λ s. IsRival p k m s × (rank_of s ≡ rank_of m.from))
+-- The other men of this kind that can legally go to the target, where the squares of those that are left to be tried are the ones of
+-- a word: any, one on the file of the origin, one on its rank.
+pub record RivalsBut (p : Setup) (k : Kind) (m : Move) (left : ℕ) (seen : Rivals) : Type 0 where
+  pub any : IsTrue seen.any ↔ SomeBut left (IsRival p k m)
+  pub on_file : IsTrue seen.on_file ↔ SomeBut left (λ s. IsRival p k m s × (file_of s ≡ file_of m.from))
+  pub on_rank : IsTrue seen.on_rank ↔ SomeBut left (λ s. IsRival p k m s × (rank_of s ≡ rank_of m.from))
 
 -- The same over all squares.
 pub record AreRivals (p : Setup) (k : Kind) (m : Move) (seen : Rivals) : Type 0 where

@@ -5,6 +5,7 @@ mod fault;
 mod fen;
 mod fields;
 mod letters;
+mod ones;
 mod placement;
 mod san_laws;
 mod san_parts;

@@ -7,27 +7,14 @@ ghost use Rattle.chess_text.specs.declared.fault.SanFault.{SanFault};
 ghost use Rattle.chess_text.specs.declared.shape.Shape.TheVariants.{Castle, Goes, Null};
 ghost use Rattle.chess_text.specs.SanAnswer.{san_answer};
 ghost use Rattle.chess_text.specs.SanReads.{SanReads, SanFaultOf, Fits, has_own_form};
-ghost use Rattle.chess_text.specs.declared.san_reading.Way.TheVariants.{File, Rank, Rising, Falling};
-ghost use Rattle.chess_text.specs.SanSearch.{AnswersShape, NotOne, StandsSo, FitsFrom, FoundAll, FoundAlong, FoundBy, FoundOn, FoundWith, is_from_elsewhere, place_on};
+ghost use Rattle.chess_text.specs.SanSearch.{AnswersShape, NotOne, StandsSo, FitsFrom, FoundAll, FoundBy, FoundWith, is_from_elsewhere};
 
 use super::fault::SanFault;
+use super::ones::{lowest, without};
 use super::san_shape::shape_of;
-use super::san_writing::KING_STEPS;
 use super::shape::{Going, Shape};
 use cell_core::{Colour, Kind, Man, Move, Square};
 use chess_laws::{Effect, Position, Setup, Wing, king_target};
-
-// A way through a square: its file, its rank, or its diagonal that goes up or down to the right.
-#[derive(Clone, Copy)]
-pub enum Way {
-    File,
-    Rank,
-    Rising,
-    Falling,
-}
-
-// From the target of a knight to the squares from which it may come, counted from a1 over h8 back to a1.
-const KNIGHT_STEPS: [u8; 8] = [47, 54, 6, 15, 49, 58, 10, 17];
 
 // From the target of a white pawn: one square back, two, and back to the left and to the right.
 const WHITE_PAWN_STEPS: [u8; 4] = [56, 48, 55, 57];
@@ -128,24 +115,35 @@ fn search(p: &Position, setup: &Setup, g: &Going) -> Result<Move, SanFault>
     }
 }
 
-// The legal move that goes so, if there is one: each square is tried from which a man of this kind may come to the target.
-#[tactic(auto, using(crate::proofs::CameLaws::king_all, crate::proofs::CameLaws::knight_all, crate::proofs::CameLaws::white_all, crate::proofs::CameLaws::black_all, crate::proofs::CameLaws::rook_all, crate::proofs::CameLaws::bishop_all, crate::proofs::CameLaws::queen_all))]
+// The legal move that goes so, if there is one: each man of this kind is tried, and of pawns those that may come to the target.
+#[tactic(auto, using(crate::proofs::CameLaws::white_all, crate::proofs::CameLaws::black_all))]
 fn find_from(p: &Position, setup: &Setup, g: &Going) -> Result<Option<Move>, SanFault>
     requires same { setup.now ≡ p.now }
     requires sound { Sound p.now }
     ensures all { MatchResult result (FoundAll p.now g.now) (NotOne p.now (Goes g.now)) }
 {
     match g.kind {
-        Kind::King => by_steps(p, setup, g, &KING_STEPS),
-        Kind::Queen => by_diagonals(by_lines(p, setup, g)?, p, setup, g),
-        Kind::Rook => by_lines(p, setup, g),
-        Kind::Bishop => by_diagonals(None, p, setup, g),
-        Kind::Knight => by_steps(p, setup, g, &KNIGHT_STEPS),
+        Kind::King | Kind::Queen | Kind::Rook | Kind::Bishop | Kind::Knight => by_men(p, setup, g),
         Kind::Pawn => match setup.side {
             Colour::White => by_steps(p, setup, g, &WHITE_PAWN_STEPS),
             Colour::Black => by_steps(p, setup, g, &BLACK_PAWN_STEPS),
         },
     }
+}
+
+// The legal move that goes so of one of the men of this kind.
+fn by_men(p: &Position, setup: &Setup, g: &Going) -> Result<Option<Move>, SanFault>
+    requires same { setup.now ≡ p.now }
+    ensures all { MatchResult result (FoundAll p.now g.now) (NotOne p.now (Goes g.now)) }
+{
+    let mut found = None;
+    let mut left = setup.board.of_man(setup.side, g.kind);
+    'men: while left != 0 {
+        let from = lowest(left);
+        found = with_square(found, p, setup, g, from)?;
+        left = without(left, from);
+    }
+    Ok(found)
 }
 
 // The legal move that goes so from a square to which one of these steps leads from the target.
@@ -160,66 +158,6 @@ fn by_steps(p: &Position, setup: &Setup, g: &Going, steps: &[u8]) -> Result<Opti
         found = with_square(found, p, setup, g, from)?;
     }
     Ok(found)
-}
-
-// The legal move that goes so from the target's file or rank.
-fn by_lines(p: &Position, setup: &Setup, g: &Going) -> Result<Option<Move>, SanFault>
-    requires same { setup.now ≡ p.now }
-    ensures tried { MatchResult result (FoundOn p.now g.now File Rank None) (NotOne p.now (Goes g.now)) }
-{
-    let found = along(None, p, setup, g, Way::File)?;
-    along(found, p, setup, g, Way::Rank)
-}
-
-// What was found, and the legal move that goes so from one of the target's diagonals.
-fn by_diagonals(
-    found: Option<Move>,
-    p: &Position,
-    setup: &Setup,
-    g: &Going,
-) -> Result<Option<Move>, SanFault>
-    requires same { setup.now ≡ p.now }
-    requires fits { IfSome found (Fits p.now (Goes g.now)) }
-    ensures tried { MatchResult result (FoundOn p.now g.now Rising Falling found) (NotOne p.now (Goes g.now)) }
-{
-    let found = along(found, p, setup, g, Way::Rising)?;
-    along(found, p, setup, g, Way::Falling)
-}
-
-// What was found, and the legal move that goes so from the squares of this way through the target.
-#[tactic(auto, using(crate::proofs::CameLaws::along_start))]
-fn along(
-    found: Option<Move>,
-    p: &Position,
-    setup: &Setup,
-    g: &Going,
-    way: Way,
-) -> Result<Option<Move>, SanFault>
-    requires same { setup.now ≡ p.now }
-    requires fits { IfSome found (Fits p.now (Goes g.now)) }
-    ensures tried { MatchResult result (FoundAlong p.now g.now way 8 found) (NotOne p.now (Goes g.now)) }
-{
-    let mut found = found;
-    for i in 0..8u8 {
-        found = with_square(found, p, setup, g, place_on(way, g.target, i))?;
-    }
-    Ok(found)
-}
-
-// The square of this rank on the target's file, or of this file on its rank or on a diagonal, which goes on at the other
-// edge of the board.
-fn place_on(way: Way, target: Square, i: u8) -> Square
-    requires line { i < 8 }
-    ensures place { result ≡ place_on way target i }
-{
-    let file = target.index() % 8;
-    let rank = target.index() / 8;
-    match way {
-        Way::File => Square::at(8 * i + file),
-        Way::Rank => Square::at(8 * rank + i),
-        Way::Rising => Square::at(8 * ((rank + 8 + i - file) % 8) + i),
-        Way::Falling => Square::at(8 * ((rank + file + 8 - i) % 8) + i),
-    }
 }
 
 // What was found, and the legal move that goes so from this square. There is but one such move from a square. Most squares have

@@ -4,22 +4,23 @@ ghost use Rattle.std.specs.Bool.{OnTrue};
 ghost use Rattle.std.specs.Option.{option_to_list};
 ghost use Rattle.cell_core.specs.Board.{man_at};
 ghost use Rattle.cell_core.specs.Man.{man};
-ghost use Rattle.chess_laws.specs.Counts.{count_of};
 ghost use Rattle.chess_laws.specs.Geometry.{file_of, rank_of};
 ghost use Rattle.chess_laws.specs.Position.{Sound};
 ghost use Rattle.chess_laws.specs.Step.{Legal, Step, stepped};
 ghost use Rattle.chess_text.specs.Letters.{capital_of};
+ghost use Rattle.chess_text.specs.Ones.{Drops};
 ghost use Rattle.chess_text.specs.Squares.{square_text};
 ghost use Rattle.chess_text.specs.SanShape.{castling_text, null_text};
 ghost use Rattle.chess_text.specs.SanReads.{SanReads};
 ghost use Rattle.chess_text.specs.San.{San, GoingText, HasMove, IsRival, PieceText, SignText, capture_text, pawn_capture_text, pawn_text, promotion_text};
 ghost use Rattle.chess_text.specs.SanText.{san_text};
-ghost use Rattle.chess_text.specs.SanWriting.{AreRivals, FrontText, RivalsBelow, SignBehind, origin_by};
+ghost use Rattle.chess_text.specs.SanWriting.{AreRivals, FrontText, RivalsBut, SignBehind, origin_by};
 
 use super::letters::capital_of;
+use super::ones::{lowest, without};
 use super::squares::{file_letter, rank_digit};
 use arrayvec::ArrayVec;
-use cell_core::{Colour, Kind, Man, Move, Square};
+use cell_core::{Kind, Man, Move, Square};
 use chess_laws::{Effect, Position, Setup, Wing};
 
 // Which other men of its kind can legally go to a move's target: any, one on the file of its origin, one on the rank.
@@ -31,7 +32,7 @@ pub struct Rivals {
 }
 
 // From a square to those beside it, counted from a1 over h8 back to a1.
-pub const KING_STEPS: [u8; 8] = [1, 7, 8, 9, 55, 56, 57, 63];
+const KING_STEPS: [u8; 8] = [1, 7, 8, 9, 55, 56, 57, 63];
 
 /// Writes a legal move in Standard Algebraic Notation (PGN standard, 8.2.3): the letter of the man, as much of its origin as
 /// tells it from all others of its kind that can legally go there, `x` for a capture, the target, `=` and the letter of a
@@ -312,150 +313,17 @@ const NO_RIVALS: Rivals = Rivals {
     on_rank: false,
 };
 
-// The other men of this kind that can legally go to the target. Most often there is none or one that has to be looked for.
+// The other men of this kind that can legally go to the target: each man of the kind is tried.
 fn rivals_of(p: &Position, setup: &Setup, kind: Kind, m: &Move) -> Rivals
     requires same { setup.now ≡ p.now }
-    requires sound { Sound p.now }
-    ensures found { AreRivals p.now kind m.now result }
-{
-    if is_one_of(p, setup, kind, m.from, 1) {
-        return NO_RIVALS;
-    }
-    if is_one_of(p, setup, kind, m.from, 2) {
-        return other_rival(p, setup, kind, m);
-    }
-    search_rivals(p, setup, kind, m)
-}
-
-// Whether the side to move has so many men of this kind, of which one stands on this square.
-fn is_one_of(p: &Position, setup: &Setup, kind: Kind, from: Square, number: u8) -> bool
-    requires same { setup.now ≡ p.now }
-    requires sound { Sound p.now }
-    ensures one { IsTrue result ↔ ((count_of p.now.board p.now.side kind ≡ number) × (man_at p.now.board from ≡ Some (man p.now.side kind))) }
-{
-    has_count(p, setup.side, kind, number) && stands(setup, kind, from)
-}
-
-// Whether a man of this kind of the side to move stands on the square.
-fn stands(p: &Setup, kind: Kind, s: Square) -> bool
-    ensures stands { IsTrue result ↔ (man_at p.now.board s ≡ Some (man p.now.side kind)) }
-{
-    let man = Man {
-        colour: p.side,
-        kind,
-    };
-    p.board.at(s) == Some(man)
-}
-
-// Whether the side has so many men of this kind.
-fn has_count(p: &Position, side: Colour, kind: Kind, number: u8) -> bool
-    requires sound { Sound p.now }
-    ensures count { IsTrue result ↔ (count_of p.now.board side kind ≡ number) }
-{
-    count_of(p, side, kind) == number
-}
-
-// How many men of this kind the side has. It has one king.
-fn count_of(p: &Position, side: Colour, kind: Kind) -> u8
-    requires sound { Sound p.now }
-    ensures count { result ≡ count_of p.now.board side kind }
-{
-    let counts = p.counts();
-    match side {
-        Colour::White => match kind {
-            Kind::King => 1,
-            Kind::Queen => counts[0],
-            Kind::Rook => counts[1],
-            Kind::Bishop => counts[2],
-            Kind::Knight => counts[3],
-            Kind::Pawn => counts[4],
-        },
-        Colour::Black => match kind {
-            Kind::King => 1,
-            Kind::Queen => counts[5],
-            Kind::Rook => counts[6],
-            Kind::Bishop => counts[7],
-            Kind::Knight => counts[8],
-            Kind::Pawn => counts[9],
-        },
-    }
-}
-
-// The other of two men of this kind, if it can legally go to the target.
-fn other_rival(p: &Position, setup: &Setup, kind: Kind, m: &Move) -> Rivals
-    requires same { setup.now ≡ p.now }
-    requires sound { Sound p.now }
-    requires two { count_of p.now.board p.now.side kind ≡ 2 }
-    requires stands { man_at p.now.board m.now.from ≡ Some (man p.now.side kind) }
-    ensures found { AreRivals p.now kind m.now result }
-{
-    match other_place(setup, kind, m.from) {
-        Some(s) => rival_on(p, setup, kind, m, s),
-        None => search_rivals(p, setup, kind, m),
-    }
-}
-
-// The man on this square, which is the only other one that may go to the target, if it legally can.
-fn rival_on(p: &Position, setup: &Setup, kind: Kind, m: &Move, s: Square) -> Rivals
-    requires same { setup.now ≡ p.now }
-    requires only { (t : ℕ) → IsRival p.now kind m.now t → t ≡ s }
-    ensures found { AreRivals p.now kind m.now result }
-{
-    if !is_rival(p, setup, kind, m, s) {
-        return NO_RIVALS;
-    }
-    Rivals {
-        any: true,
-        on_file: is_same_file(s, m.from),
-        on_rank: is_same_rank(s, m.from),
-    }
-}
-
-// Another square than this one on which a man of this kind of the side to move stands: the first, from the side's own
-// rank on, since most men stand near it.
-fn other_place(p: &Setup, kind: Kind, from: Square) -> Option<Square>
-    ensures stands { IfSome result (λ s. man_at p.now.board s ≡ Some (man p.now.side kind)) }
-    ensures apart { IfSome result (λ s. s ≡ from → ⊥) }
-{
-    for number in 0..64u8 {
-        let s = from_own_side(p.side, number);
-        if is_other(p, kind, from, s) {
-            return Some(s);
-        }
-    }
-    None
-}
-
-// The square with this number, counted from the side's own rank.
-fn from_own_side(side: Colour, number: u8) -> Square
-    requires { number < 64 }
-{
-    match side {
-        Colour::White => Square::at(number),
-        Colour::Black => Square::at(63 - number),
-    }
-}
-
-// Whether a man of this kind of the side to move stands on the square, which is another than `from`.
-fn is_other(p: &Setup, kind: Kind, from: Square, s: Square) -> bool
-    ensures stands { OnTrue result (man_at p.now.board s ≡ Some (man p.now.side kind)) }
-    ensures apart { OnTrue result (s ≡ from → ⊥) }
-{
-    if s == from {
-        return false;
-    }
-    stands(p, kind, s)
-}
-
-// The other men of this kind that can legally go to the target: each square is tried.
-fn search_rivals(p: &Position, setup: &Setup, kind: Kind, m: &Move) -> Rivals
-    requires same { setup.now ≡ p.now }
-    requires sound { Sound p.now }
     ensures found { AreRivals p.now kind m.now result }
 {
     let mut seen = NO_RIVALS;
-    for s in 0..64u8 {
-        seen = with_square(seen, p, setup, kind, m, Square::at(s));
+    let mut left = setup.board.of_man(setup.side, kind);
+    'men: while left != 0 {
+        let s = lowest(left);
+        seen = with_square(seen, p, setup, kind, m, s);
+        left = without(left, s);
     }
     seen
 }
@@ -463,8 +331,7 @@ fn search_rivals(p: &Position, setup: &Setup, kind: Kind, m: &Move) -> Rivals
 // These and the man on one more square, if it is one.
 fn with_square(seen: Rivals, p: &Position, setup: &Setup, kind: Kind, m: &Move, s: Square) -> Rivals
     requires same { setup.now ≡ p.now }
-    requires before { RivalsBelow p.now kind m.now s seen }
-    ensures after { RivalsBelow p.now kind m.now (s + 1) result }
+    ensures tried { (left after : ℕ) → Drops s left after → RivalsBut p.now kind m.now left seen → RivalsBut p.now kind m.now after result }
 {
     if !is_rival(p, setup, kind, m, s) {
         return seen;
@@ -495,6 +362,17 @@ fn either(a: bool, b: bool) -> bool
     ensures { result ≡ a || b }
 {
     a || b
+}
+
+// Whether a man of this kind of the side to move stands on the square.
+fn stands(p: &Setup, kind: Kind, s: Square) -> bool
+    ensures stands { IsTrue result ↔ (man_at p.now.board s ≡ Some (man p.now.side kind)) }
+{
+    let man = Man {
+        colour: p.side,
+        kind,
+    };
+    p.board.at(s) == Some(man)
 }
 
 // Whether another man of this kind stands on the square and can legally go to the target.

@@ -1,9 +1,9 @@
 -- The first games of a base in a draft: what it stands for, and one game more.
-use Rattle.std.proofs.Common.{◌≡◌, ◌≤◌, ◌<◌, ◌+◌, ℕ, true, false, not, List, [], ◌∷◌, ◌++◌, length, map, filter, take, slice_get, replicate, Option, Some, Result, Err, refl, sym, ap, ◌∙◌, subst, arith}
-use Rattle.std.proofs.lemmas.List.{length-append, length_push, length-replicate, length-take-le, take_all}
+use Rattle.std.proofs.Common.{◌≡◌, ◌≤◌, ◌<◌, ◌+◌, ℕ, true, false, not, List, [], ◌∷◌, ◌++◌, length, map, filter, take, slice_get, Option, Some, Result, Err, refl, sym, ap, ◌∙◌, subst, arith}
+use Rattle.std.proofs.lemmas.List.{length_push, length-take-le, take_all}
 use Rattle.std.proofs.lemmas.Option.{none-some, slice_get_within}
 use Rattle.base_files.specs.Extents.{record_in}
-use Rattle.block_store.specs.Placing.{end_after, longest_file, padded, padding}
+use Rattle.block_store.specs.Placing.{end_after, longest_file, padded}
 use Rattle.game_tree.specs.declared.head.Head.{Head}
 use Rattle.game_tree.specs.declared.head.Tag.{Tag}
 use Rattle.index_entry.specs.declared.entry.Entry.{Entry}
@@ -19,7 +19,7 @@ use Rattle.base_core.specs.Represents.{Kept, Keeps, Represents, heads_of}
 use Rattle.base_core.proofs.GamesLaws.{head-at}
 use Rattle.base_core.proofs.KeptLaws.{settled-rest}
 use Rattle.base_core.proofs.Lists.{get_some}
-use Rattle.base_core.proofs.TakeLaws.{record-long}
+use Rattle.base_core.proofs.OnlyLaws.{only-more, placed-long}
 use Rattle.compact_base.specs.declared.fault.CompactError.{CompactError}
 use Rattle.compact_base.specs.declared.fault.CompactError.TheVariants as error
 use Rattle.compact_base.specs.Compacting.{new_end, new_games, records_from, staying}
@@ -27,7 +27,7 @@ use Rattle.base_core.specs.declared.fault.DraftError.{DraftError}
 use Rattle.base_core.specs.declared.fault.DraftError.TheVariants as refused
 use Rattle.compact_base.specs.Drafting.{HasFirst, StandsForFirst, WhyNotDrafted}
 use Rattle.compact_base.specs.Errors.{draft_error}
-use Rattle.compact_base.proofs.ListLaws.{filter-goes, filter-stays, filter-short, new-end-stays, new-end-within, new-games-stays, only-more, staying-goes, staying-stays}
+use Rattle.compact_base.proofs.ListLaws.{filter-goes, filter-stays, filter-short, new-end-stays, new-end-within, new-games-stays, staying-goes, staying-stays}
 
 -- ---- whether a game stays.
 
@@ -102,20 +102,6 @@ has-gone i kept draft e at goes has =
 
 len_here : (i : ℕ) (kept : Kept) (e : Entry) → slice_get kept.entries i ≡ Some e → length_at i kept ≡ e.len
 len_here i kept e at = ap length_in at
-
-padded-long : (end : ℕ) (bytes : List ℕ) → length (padded end bytes) ≡ padding end (length bytes) + length bytes
-padded-long end bytes =
-    let nil : ℕ = 0 in
-    length-append (replicate (padding end (length bytes)) nil) bytes ∙ ap (λ (n : ℕ). n + length bytes) (length-replicate (padding end (length bytes)) nil)
-
--- A games file with the record of an entry placed behind it.
-pub placed-long : (games fresh : List ℕ) (end : ℕ) (e : Entry) → length fresh ≡ end → e.offset + e.len ≤ length games → length (fresh ++ padded end (record_in games (extent_of e))) ≡ end_after end e.len
-placed-long games fresh end e long within =
-    let bytes = record_in games (extent_of e) in
-    let size : length bytes ≡ e.len = record-long games e within in
-    let P : ℕ → Type 0 = λ n. length (fresh ++ padded end bytes) ≡ end_after end n in
-    let all = length-append fresh (padded end bytes) in
-    subst P size (omega (arith, all, padded-long end bytes, long))
 
 stand-stays : (i : ℕ) (kept old new : Kept) (e : Entry) → slice_get kept.entries i ≡ Some e → e.deleted ≡ false → old.end ≡ new_end (take i kept.entries) → new.end ≡ end_after old.end e.len →
     TakesOver i kept old new → StandsForFirst i kept old → StandsForFirst (i + 1) kept new

@@ -9,12 +9,10 @@ use Rattle.base_files.specs.Extents.{record_in}
 use Rattle.block_store.specs.Placing.{end_after, padded}
 use Rattle.game_filter.specs.Renumbering.{Numbering}
 use Rattle.index_entry.specs.declared.entry.Entry.{Entry}
-use Rattle.name_base.specs.NameLists.{NameLists, no_names}
-use Rattle.base_core.specs.Base.{Base, Held}
-use Rattle.base_core.specs.Compacted.{end_of, names_used, only}
-use Rattle.base_core.specs.Edits.{names_with, with_game}
+use Rattle.base_core.specs.Compacted.{end_of}
 use Rattle.base_core.specs.Entries.{extent_of}
 use Rattle.base_core.proofs.Lists.{take_next}
+use Rattle.base_core.proofs.OnlyLaws.{end_more}
 use Rattle.compact_base.specs.Compacting.{kept_len, new_end, new_games, numbering, numbers_from, records_from, staying}
 use Rattle.compact_base.specs.Drafting.{len_if_kept}
 
@@ -39,10 +37,6 @@ filter-short p (x ∷ xs) =
     ]
 
 -- ---- where the records end.
-
-end_more : (end : ℕ) (lens : List ℕ) (len : ℕ) → end_of end (lens ++ len ∷ []) ≡ end_after (end_of end lens) len
-end_more end [] len = refl
-end_more end (l ∷ lens) len = end_more (end_after end l) lens len
 
 end_behind : (end : ℕ) (lens : List ℕ) → end ≤ end_of end lens
 end_behind end [] = omega arith
@@ -157,20 +151,3 @@ kept_suc (x ∷ entries) (suc i) e at = kept_suc entries i e at
 
 pub kept-next : (entries : List Entry) (i : ℕ) (e : Entry) → slice_get entries i ≡ Some e → kept_len (drop i entries) ≡ len_if_kept e + kept_len (drop (i + 1) entries)
 kept-next entries i e at = kept_suc entries i e at ∙ ap (λ (k : ℕ). len_if_kept e + kept_len (drop k entries)) (sym (add-one i))
-
--- ---- a base of games alone.
-
-names_more : (names : NameLists) (games : List Held) (held : Held) → names_used names (games ++ held ∷ []) ≡ names_with held.head (names_used names games)
-names_more names [] held = refl
-names_more names (x ∷ games) held = names_more (names_with x.head names) games held
-
-pub only-more : (games : List Held) (held : Held) (whole : Base) → with_game held (only games whole) ≡ only (games ++ held ∷ []) whole
-unfolding only
-only-more games held whole =
-    let made : ℕ → NameLists → ℕ → Base = λ n names end. record { header = record whole.header { games = n }; names = names; games = games ++ held ∷ []; end = end } in
-    let end : end_of 0 (map (λ (h : Held). h.len) (games ++ held ∷ [])) ≡ end_after (end_of 0 (map (λ (h : Held). h.len) games)) held.len =
-    ap (λ (lens : List ℕ). end_of 0 lens) (map-append (λ (h : Held). h.len) games (held ∷ [])) ∙ end_more 0 (map (λ (h : Held). h.len) games) held.len in
-    let names = names_more no_names games held in
-    ap (λ (n : ℕ). made n (names_with held.head (names_used no_names games)) (end_after (end_of 0 (map (λ (h : Held). h.len) games)) held.len)) (sym (length_push games held))
-    ∙ (ap (λ (m : NameLists). made (length (games ++ held ∷ [])) m (end_after (end_of 0 (map (λ (h : Held). h.len) games)) held.len)) (sym names)
-    ∙ ap (λ (n : ℕ). made (length (games ++ held ∷ [])) (names_used no_names (games ++ held ∷ [])) n) (sym end))

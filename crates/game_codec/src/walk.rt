@@ -1,16 +1,17 @@
 //! The main line of a record, without its tree.
-ghost use Rattle.std.specs.Prelude.{◌≡◌, ◌+◌, ◌<◌, ◌≤◌, ◌^◌, ℕ, List, [], ◌∷◌, length, drop, IfOk, IfErr, MatchOption};
+ghost use Rattle.std.specs.Prelude.{◌≡◌, ◌+◌, ◌-◌, ◌<◌, ◌≤◌, ◌^◌, ℕ, List, [], ◌∷◌, length, drop, IfOk, IfErr, MatchOption};
 ghost use Rattle.cell_core.specs.declared.step.Move.{Move as Step'};
 ghost use Rattle.chess_laws.specs.Step.{Step};
 ghost use Rattle.game_tree.specs.Game.{GameTree};
 ghost use Rattle.game_tree.specs.Replay.{next_at, plies_of, position_at};
 ghost use Rattle.game_tree.specs.declared.head.Tag.{Tag as TagValue};
 ghost use Rattle.game_codec.specs.Breach.{Tells};
-ghost use Rattle.game_codec.specs.Fault.{Breaks, IsRecordFault};
+ghost use Rattle.game_codec.specs.Fault.{Breaks, IsRecordFault, place_of};
 ghost use Rattle.game_codec.specs.Record.{IsRecord, IsSomeRecord};
 ghost use Rattle.game_codec.specs.Start.{BeginsStart};
 ghost use Rattle.game_codec.specs.TagSpelling.{BeginsTags};
-ghost use Rattle.game_codec.specs.Walking.{GoesOn, IsBehind};
+ghost use Rattle.game_codec.specs.Walk.{IsMet};
+ghost use Rattle.game_codec.specs.Walking.{GoesOn, IsBehind, MetIn};
 
 use super::breach::Breach;
 use super::decoding::place_of;
@@ -96,6 +97,8 @@ impl<'a> Walk<'a> {
             (λ m. Step self.old.position m self.new.position × ((self.new.ply ≡ self.old.ply + 1) × (self.new.bytes ≡ self.old.bytes)))) }
         ensures fault { IfErr result (λ _. IsSomeRecord self.old.bytes → ⊥) }
         ensures place { IfErr result (λ fault. fault.place ≤ length self.old.bytes) }
+        // What the fault tells stands at its place, and a bad move is one of the position that was reached.
+        ensures met { IfErr result (IsMet self.old.bytes self.old.position) }
         ensures unchanged { IfErr result (λ _. self.new ≡ self.old) }
     {
         match next_move(&mut self.here, self.ahead) {
@@ -140,7 +143,9 @@ fn next_move<'a>(here: &mut Numbered, bytes: &'a [u8]) -> Result<Option<NextMove
         ((here.new ≡ here.old) × ((moves : List Step') → GoesOn here.old moves bytes.now → moves ≡ []))
         (λ next. Step here.old.position next.mv here.new.position × ((length next.ahead.now < length bytes.now)
         × ((moves : List Step') → GoesOn here.old moves bytes.now → (later : List Step') × ((moves ≡ next.mv ∷ later) × GoesOn here.new later next.ahead.now))))) }
+    ensures tail { IfOk result (λ found. MatchOption found (Unit {0}) (λ next. next.ahead.now ≡ drop (length bytes.now - length next.ahead.now) bytes.now)) }
     ensures fault { IfErr result (λ _. (moves : List Step') → GoesOn here.old moves bytes.now → ⊥) }
+    ensures met { IfErr result (MetIn here.old.position bytes.now) }
     ensures unchanged { IfErr result (λ _. here.new ≡ here.old) }
 {
     let Some(used) = before_move(bytes)? else {
@@ -164,6 +169,8 @@ pub(crate) fn fault_at(bytes: &[u8], breach: Breach) -> RecordFault
     requires few { length bytes.now < 2 ^ 32 }
     ensures first { Tells (Breaks bytes.now) breach → IsRecordFault bytes.now result }
     ensures within { result.place ≤ length bytes.now }
+    ensures what { result.what ≡ breach.what }
+    ensures place { (rest : List ℕ) → length rest ≡ breach.left → result.place ≡ place_of (length bytes.now) rest breach.what }
 {
     RecordFault {
         place: place_of(bytes.len(), breach.left, breach.what),

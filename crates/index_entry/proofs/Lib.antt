@@ -5,3 +5,4 @@ pub mod WrittenLemmas
 pub mod SoundLemmas
 pub mod IndexLemmas
 pub mod KeptLemmas
+pub mod HeaderLemmas

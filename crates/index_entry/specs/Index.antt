@@ -25,6 +25,15 @@ head_in bytes = record {
   custom = take 54 (drop 128 bytes);
 }
 
+-- The header of an index, of which entries may be cut off, or the first fault of it.
+unfoldable pub header_read : List ℕ → Result IndexHead IndexFault
+header_read bytes =
+    if nat_lt (length bytes) 182 then Err (Short (length bytes))
+    else if not (bytes_eq (take 8 bytes) magic) then Err Magic
+    else if not (nat_eq (number_in 8 2 bytes) 400) then Err (Version (number_in 8 2 bytes))
+    else if nat_lt 16777214 (number_in 14 3 bytes) then Err (Games (number_in 14 3 bytes))
+    else Ok (head_in bytes)
+
 -- The first fault of an index, or else its header.
 unfoldable pub index_read : List ℕ → Result IndexHead IndexFault
 index_read bytes =

@@ -1,7 +1,7 @@
 //! The index file: its header, and where the entries stand.
 ghost use Rattle.std.specs.Prelude.{◌≡◌, ◌≤◌, ◌<◌, ◌+◌, ◌*◌, ◌++◌, ◌^◌, IfOk, OnOk, Ok, length, take, drop};
 ghost use Rattle.byteorder.specs.Endian.{big_bytes};
-ghost use Rattle.index_entry.specs.Index.{number_in, head_in, index_read, entry_bytes, IsIndexHead, index_bytes};
+ghost use Rattle.index_entry.specs.Index.{number_in, head_in, header_read, index_read, entry_bytes, IsIndexHead, index_bytes};
 
 use crate::IndexFault;
 use byteorder::{BigEndian, ByteOrder};
@@ -42,12 +42,33 @@ pub struct IndexHead {
 /// # Errors
 ///
 /// The first of `Short`, `Magic`, `Version`, `Games` and `Length` that the bytes give rise to.
-#[tactic(auto, unfolding(crate::specs::Index::index_read, crate::specs::Index::head_in))]
+#[tactic(auto, unfolding(crate::specs::Index::header_read, crate::specs::Index::index_read, crate::specs::Index::head_in))]
 pub fn read_index(bytes: &[u8]) -> Result<IndexHead, IndexFault>
     ensures exact { result ≡ index_read bytes.now }
     ensures head { IfOk result (λ head. head ≡ head_in bytes.now) }
     // The entries of all games are there.
     ensures whole { IfOk result (λ head. 182 + 47 * head.games ≤ length bytes.now) }
+    ensures sound { IfOk result IsIndexHead }
+{
+    let head = match read_header(bytes) {
+        Ok(head) => head,
+        Err(fault) => return Err(fault),
+    };
+    if bytes.len() < HEADER_LEN + ENTRY_LEN * head.games as usize {
+        return Err(IndexFault::Length(bytes.len() as u64));
+    }
+    Ok(head)
+}
+
+/// The header of an index, of which entries may be cut off.
+///
+/// # Errors
+///
+/// The first of `Short`, `Magic`, `Version` and `Games` that the bytes give rise to.
+#[tactic(auto, unfolding(crate::specs::Index::header_read, crate::specs::Index::head_in))]
+pub fn read_header(bytes: &[u8]) -> Result<IndexHead, IndexFault>
+    ensures exact { result ≡ header_read bytes.now }
+    ensures head { IfOk result (λ head. head ≡ head_in bytes.now) }
     ensures sound { IfOk result IsIndexHead }
 {
     if bytes.len() < HEADER_LEN {
@@ -63,9 +84,6 @@ pub fn read_index(bytes: &[u8]) -> Result<IndexHead, IndexFault>
     let games = three(bytes, 14);
     if MAX_GAMES < games {
         return Err(IndexFault::Games(games));
-    }
-    if bytes.len() < HEADER_LEN + ENTRY_LEN * games as usize {
-        return Err(IndexFault::Length(bytes.len() as u64));
     }
     Ok(IndexHead {
         kind: BigEndian::read_u32(&bytes[10..]),

@@ -18,6 +18,6 @@ pub use fields::{
     material_in, nags_in, outcome_in, plies_in, round_in, site_in, variations_in, white_in,
     white_rating_in,
 };
-pub use index::{ENTRY_LEN, HEADER_LEN, IndexHead, entry_of, read_index, write_index};
+pub use index::{ENTRY_LEN, HEADER_LEN, IndexHead, entry_of, read_header, read_index, write_index};
 pub use packing::pack;
 pub use unpacking::{place_of, unpack};

@@ -4,4 +4,6 @@
 #[cfg(test)]
 mod slot_tests;
 #[cfg(test)]
+mod standing;
+#[cfg(test)]
 mod watch_tests;

@@ -9,7 +9,7 @@ use tree_live::{TableView, TreeView, Watch};
 use tree_rows::GameHit;
 
 // A game that goes on with a move from this square to that two ranks above.
-fn played(from: u8, mover: u16) -> Option<GameHit>
+pub(crate) fn played(from: u8, mover: u16) -> Option<GameHit>
     requires { from < 48 }
 {
     Some(GameHit {

@@ -1,12 +1,13 @@
 //! The search of all games.
-ghost use Rattle.std.specs.Prelude.{◌≡◌, ◌≤◌, ◌<◌, ◌+◌, ℕ, if◌then◌else◌, List, Option, None, Some, length, slice_get, slice_index_or, slice_set, IfOk, IfErr, OnOk, OnErr};
-ghost use Rattle.game_filter.specs.Search.{entry_after, searched};
+ghost use Rattle.std.specs.Prelude.{◌≡◌, ◌≤◌, ◌<◌, ◌+◌, ℕ, false, if◌then◌else◌, List, Option, None, Some, length, slice_get, slice_index_or, slice_set, take, IfOk, IfErr, OnOk, OnErr};
+ghost use Rattle.game_filter.specs.Search.{entry_after, looks_at, searched};
 ghost use Rattle.game_tree.specs.Game.{GameTree};
+ghost use Rattle.sig_index.specs.Costs.{EndsAt, KeepsOthers, LeavesRest};
 ghost use Rattle.sig_index.specs.Games.{AreWithin, HasFetchCause, Holds, Names, extent_in};
 ghost use Rattle.sig_index.specs.declared.signature.Sig.{Sig};
 ghost use Rattle.mat_search.specs.Matching.{first_of, firsts_of};
 ghost use Rattle.mat_search.specs.Passing.{passes};
-ghost use Rattle.mat_search.specs.Searching.{EndsAt, LeavesRest, cost_of, price};
+ghost use Rattle.mat_search.specs.Searching.{cost_of, price};
 
 use crate::first_ply::first_ply;
 use crate::matching::passes;
@@ -31,8 +32,10 @@ pub fn search<G: Games, F: Files>(
     requires within { AreWithin (F.seen files.old).known (G.extents games.now) }
     // Over a games file that is told and holds the records of these games.
     ensures found { (told : List ℕ) (list : List GameTree) → (F.seen files.old).games ≡ Some told → Holds told (G.extents games.now) (G.sigs games.now) list → OnOk result (filter.new ≡ searched op (firsts_of q.now list) filter.old) }
-    ensures ended { (told : List ℕ) (list : List GameTree) → (F.seen files.old).games ≡ Some told → Holds told (G.extents games.now) (G.sigs games.now) list → IfErr result (λ e. EndsAt e op (firsts_of q.now list) filter.old filter.new) }
+    ensures ended { (told : List ℕ) (list : List GameTree) → (F.seen files.old).games ≡ Some told → Holds told (G.extents games.now) (G.sigs games.now) list → IfErr result (λ e. EndsAt e (λ n. searched op (take n (firsts_of q.now list)) filter.old) filter.old filter.new) }
     ensures rest { IfErr result (λ e. LeavesRest e filter.old filter.new) }
+    // Whatever the files hold and however the search ends, a game that `op` does not look at keeps its entry.
+    ensures kept { KeepsOthers (looks_at op) filter.old filter.new }
     ensures entries { length filter.new ≡ length filter.old }
     ensures room { length buf.new ≡ 131072 }
     ensures unchanged { F.seen files.new ≡ F.seen files.old }
@@ -67,6 +70,7 @@ fn search_game<G: Games, F: Files>(
     ensures joined { (told : List ℕ) (list : List GameTree) (game : GameTree) → (F.seen files.old).games ≡ Some told → Holds told (G.extents games.now) (G.sigs games.now) list → slice_get list i ≡ Some game
         → OnOk result (filter.new ≡ slice_set filter.old i (entry_after op (slice_index_or filter.old i None) (first_of q.now game))) }
     ensures entry { OnOk result ((ply : Option ℕ) × (filter.new ≡ slice_set filter.old i ply)) }
+    ensures passed { looks_at op (slice_index_or filter.old i None) ≡ false → filter.new ≡ filter.old }
     ensures left { OnErr result (filter.new ≡ filter.old) }
     ensures room { length buf.new ≡ 131072 }
     ensures unchanged { F.seen files.new ≡ F.seen files.old }

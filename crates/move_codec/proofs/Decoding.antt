@@ -1,6 +1,6 @@
 -- What is decoded, from what is named and whether it is legal.
-use Rattle.std.proofs.Common.{suc, ◌<◌, ◌≤◌, ◌-◌, length, arith, ◌≡◌, ℕ, ◌/◌, ◌%◌, Bool, true, false, ◌&&◌, cond, eqb, leb, ltb, refl, subst, List, [], ◌∷◌, Option, Some, None, Ok, Err, ◌⊎◌, inl, inr, sym, ◌∙◌, ap}
-use Rattle.std.specs.Prelude.{Result, slice_get, slice_index_or}
+use Rattle.std.proofs.Common.{◌<◌, ◌≤◌, ◌-◌, length, arith, ◌≡◌, ℕ, ◌/◌, ◌%◌, Bool, true, false, ◌&&◌, cond, eqb, leb, ltb, refl, subst, List, [], ◌∷◌, Option, Some, None, Ok, Err, ◌⊎◌, inl, inr, sym, ◌∙◌, ap}
+use Rattle.std.specs.Prelude.{Result, slice_get}
 use Rattle.std.proofs.lemmas.Bool.Decides.{nat_tests}
 use Rattle.std.proofs.lemmas.Option.{same_Some, slice_get_within}
 use Rattle.cell_core.specs.declared.man.Colour.{Colour}
@@ -125,8 +125,7 @@ named-second n (first ∷ rest) decoded h byte two at =
       | inr (same, second) ↦ subst (λ b. 64 ≤ b) (same_Some second.0 byte (sym second.1.0 ∙ at)) second.1.1
     ]
 
--- the man with the number of the first byte stands where the move begins
-pub named-number : (n : Numbered) (bytes : List ℕ) (decoded : Move × ℕ) → named n bytes ≡ Ok decoded
-    → slice_get (squares_of n.position.side n.numbers) (slice_index_or bytes 0 0 / 16) ≡ Some decoded.0.from
-named-number n [] decoded h = absurd (cc)
-named-number n (byte ∷ rest) decoded h = (named_first n byte rest).moves decoded h
+-- a move begins on the square of the man that makes it
+pub named-from : (kind : Kind) (side : Colour) (a value : ℕ) (rest : List ℕ) (decoded : Move × ℕ) → named_value kind side a value rest ≡ Ok decoded
+    → decoded.0.from ≡ a
+named-from kind side a value rest decoded h = sym (same_Some a decoded.0.from ((named_kind kind side a value rest).moves decoded h))

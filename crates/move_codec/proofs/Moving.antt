@@ -1,5 +1,5 @@
 -- A number is that of its square, and where no man stands none is captured.
-use Rattle.std.proofs.Common.{◌≡◌, ℕ, ◌<◌, Bool, true, false, List, Option, Some, None, length, refl, sym, inl, inr, arith}
+use Rattle.std.proofs.Common.{◌≡◌, ℕ, ◌<◌, Bool, true, false, List, Option, Some, None, length, refl, sym, ap, ◌∙◌, inl, inr, arith}
 use Rattle.std.specs.Prelude.{IsTrue, slice_get, is_some, nat_lt}
 use Rattle.std.specs.Bool.{OnFalse}
 use Rattle.std.proofs.lemmas.Bool.{cases_Bool, false≢true}
@@ -7,9 +7,18 @@ use Rattle.std.proofs.lemmas.Bool.Decides.{nat_tests}
 use Rattle.cell_core.specs.declared.man.Colour.{Colour}
 use Rattle.cell_core.specs.declared.man.Man.{Man}
 use Rattle.cell_core.specs.Board.{Men, man_at}
-use Rattle.cell_core.specs.Man.{is_of}
+use Rattle.cell_core.specs.Man.{is_of, man, same_colour}
+use Rattle.cell_core.proofs.Same.{same_colour-Decides}
 use Rattle.move_codec.specs.Numbers.{IsNumbering, number_of, without}
 use Rattle.move_codec.proofs.Lists.{found-within}
+
+-- the man with a number is of its side
+pub numbered-man : (men : Men) (side : Colour) (squares : List ℕ) (number square : ℕ) (m : Man) → IsNumbering men side squares
+    → slice_get squares number ≡ Some square → man_at men square ≡ Some m → man_at men square ≡ Some (man side m.kind)
+numbered-man men side squares number square m h at stands =
+    let own : same_colour m.colour side ≡ true = rw stands at (h.held number square at) in
+    let same : m.colour ≡ side = (same_colour-Decides m.colour side).0 own in
+    stands ∙ ap (λ c. Some (man c m.kind)) same
 
 -- a number of a square is its number
 pub number-is : (men : Men) (side : Colour) (squares : List ℕ) (number square : ℕ) → IsNumbering men side squares

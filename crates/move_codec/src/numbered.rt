@@ -1,6 +1,8 @@
 //! A position with the numbers of its men: packed moves decoded, played and encoded.
-ghost use Rattle.std.specs.Prelude.{◌≡◌, ◌↔◌, ℕ, ◌+◌, ◌*◌, ◌<◌, ◌≤◌, false, List, ◌∷◌, ◌++◌, Ok, IsTrue, IfOk, IfErr, Some, length, slice_get, slice_index_or, ◌/◌};
+ghost use Rattle.std.specs.Prelude.{◌≡◌, ◌↔◌, ℕ, ◌+◌, ◌*◌, ◌<◌, ◌≤◌, false, List, ◌∷◌, ◌++◌, Ok, IsTrue, IfOk, IfErr, Some, length, slice_get, slice_index_or, ◌/◌, ◌%◌};
 ghost use Rattle.std.specs.Bool.{OnTrue, OnFalse};
+ghost use Rattle.cell_core.specs.Board.{man_at};
+ghost use Rattle.cell_core.specs.Man.{man};
 ghost use Rattle.chess_laws.specs.Position.{start_setup};
 ghost use Rattle.chess_laws.specs.Step.{Legal, Step};
 ghost use Rattle.move_codec.specs.Numbers.{numbers_after, squares_of, standard_numbers, text_numbers};
@@ -108,16 +110,100 @@ impl Numbered {
         ensures numbers { IfOk result (λ decoded. self.new.numbers ≡ numbers_after self.old.position decoded.0 self.old.numbers) }
         ensures kept { IfErr result (λ _. self.new ≡ self.old) }
     {
-        let (m, used) = self.named(bytes)?;
-        if self.follow_legal(&m, first_number(bytes)) {
+        let [byte, rest @ ..] = bytes else {
+            return Err(MoveFault::Short);
+        };
+        let side = self.position.side();
+        let Some(from) = self.numbers.of(side).get(*byte / 16) else {
+            return Err(MoveFault::NoMan);
+        };
+        let Some(man) = self.position.board().at(from) else {
+            return Err(MoveFault::NoMan);
+        };
+        self.advance_by(man.kind, from, bytes, rest)
+    }
+
+    /// `advance` of a man of this kind: the code is compiled for each kind apart, so that the kind is told once.
+    #[inline(always)]
+    fn advance_by(
+        &mut self,
+        kind: Kind,
+        from: Square,
+        bytes: &[u8],
+        rest: &[u8],
+    ) -> Result<(Move, u8), MoveFault>
+        requires stands { man_at self.old.position.board from ≡ Some (man self.old.position.side kind) }
+        requires number { slice_get (squares_of self.old.position.side self.old.numbers) (slice_index_or bytes.now 0 0 / 16) ≡ Some from }
+        requires named { named self.old bytes.now ≡ named_value kind self.old.position.side from (slice_index_or bytes.now 0 0 % 16) rest.now }
+        ensures decodes { Decodes self.old bytes.now result }
+        ensures used { IfOk result (λ decoded. (0 < decoded.1) × ((decoded.1 ≤ 2) × (decoded.1 ≤ length bytes.now))) }
+        ensures second { IfOk result (λ decoded. HasHighSecond bytes.now decoded.1) }
+        ensures step { IfOk result (λ decoded. Step self.old.position decoded.0 self.new.position) }
+        ensures numbers { IfOk result (λ decoded. self.new.numbers ≡ numbers_after self.old.position decoded.0 self.old.numbers) }
+        ensures kept { IfErr result (λ _. self.new ≡ self.old) }
+    {
+        match kind {
+            Kind::King => self.advance_man(Kind::King, from, bytes, rest),
+            Kind::Queen => self.advance_man(Kind::Queen, from, bytes, rest),
+            Kind::Rook => self.advance_man(Kind::Rook, from, bytes, rest),
+            Kind::Bishop => self.advance_man(Kind::Bishop, from, bytes, rest),
+            Kind::Knight => self.advance_man(Kind::Knight, from, bytes, rest),
+            Kind::Pawn => self.advance_man(Kind::Pawn, from, bytes, rest),
+        }
+    }
+
+    /// The same, for a kind that is a constant.
+    #[inline(always)]
+    fn advance_man(
+        &mut self,
+        kind: Kind,
+        from: Square,
+        bytes: &[u8],
+        rest: &[u8],
+    ) -> Result<(Move, u8), MoveFault>
+        requires stands { man_at self.old.position.board from ≡ Some (man self.old.position.side kind) }
+        requires number { slice_get (squares_of self.old.position.side self.old.numbers) (slice_index_or bytes.now 0 0 / 16) ≡ Some from }
+        requires named { named self.old bytes.now ≡ named_value kind self.old.position.side from (slice_index_or bytes.now 0 0 % 16) rest.now }
+        ensures decodes { Decodes self.old bytes.now result }
+        ensures used { IfOk result (λ decoded. (0 < decoded.1) × ((decoded.1 ≤ 2) × (decoded.1 ≤ length bytes.now))) }
+        ensures second { IfOk result (λ decoded. HasHighSecond bytes.now decoded.1) }
+        ensures step { IfOk result (λ decoded. Step self.old.position decoded.0 self.new.position) }
+        ensures numbers { IfOk result (λ decoded. self.new.numbers ≡ numbers_after self.old.position decoded.0 self.old.numbers) }
+        ensures kept { IfErr result (λ _. self.new ≡ self.old) }
+    {
+        let (m, used) = self.named_by(kind, from, bytes, rest)?;
+        if self.follow_legal(kind, &m, first_byte(bytes) / 16) {
             Ok((m, used))
         } else {
             Err(MoveFault::Illegal)
         }
     }
 
-    /// Plays a move of the man with this number where it is legal, and answers whether it is.
-    fn follow_legal(&mut self, m: &Move, number: u8) -> bool
+    /// `named`, of the man of this kind on this square.
+    #[inline(always)]
+    fn named_by(
+        &self,
+        kind: Kind,
+        from: Square,
+        bytes: &[u8],
+        rest: &[u8],
+    ) -> Result<(Move, u8), MoveFault>
+        requires named { named self.now bytes.now ≡ named_value kind self.now.position.side from (slice_index_or bytes.now 0 0 % 16) rest.now }
+        ensures { result ≡ named self.now bytes.now }
+    {
+        named_value(
+            kind,
+            self.position.side(),
+            from,
+            first_byte(bytes) % 16,
+            rest,
+        )
+    }
+
+    /// Plays a move of the man of this kind with this number where it is legal, and answers whether it is.
+    #[inline(always)]
+    fn follow_legal(&mut self, kind: Kind, m: &Move, number: u8) -> bool
+        requires stands { man_at self.old.position.board m.now.from ≡ Some (man self.old.position.side kind) }
         requires number { slice_get (squares_of self.old.position.side self.old.numbers) number ≡ Some m.now.from }
         ensures legal { IsTrue result ↔ Legal self.old.position m.now }
         ensures step { OnTrue result (Step self.old.position m.now self.new.position) }
@@ -125,13 +211,13 @@ impl Numbered {
         ensures kept { OnFalse result (self.new ≡ self.old) }
     {
         let mover = self.position.setup().side;
-        let effect = self.position.effect(m);
+        let effect = self.position.effect_as(kind, m);
         let taken = self
             .position
             .board()
             .at(capture_square(m, effect))
             .is_some();
-        let legal = self.position.advance(m);
+        let legal = self.position.advance_as(kind, m, effect);
         if legal {
             self.numbers
                 .follow_by(mover, m, effect, number as usize, taken);
@@ -205,12 +291,13 @@ impl Numbered {
     }
 }
 
-/// The number of the man that the first byte names.
-fn first_number(bytes: &[u8]) -> u8
-    ensures number { result ≡ slice_index_or bytes.now 0 0 / 16 }
+/// The first byte, or 0 where there is none.
+#[inline(always)]
+fn first_byte(bytes: &[u8]) -> u8
+    ensures byte { result ≡ slice_index_or bytes.now 0 0 }
 {
     match bytes {
-        [byte, ..] => *byte / 16,
+        [byte, ..] => *byte,
         [] => 0,
     }
 }
@@ -231,6 +318,7 @@ fn packed(number: usize, kind: Kind, m: &Move) -> ArrayVec<u8, 2>
 }
 
 /// The move of a man of this kind and side, by its value and the bytes after it.
+#[inline(always)]
 #[tactic(auto, unfolding(crate::specs::Packed::named_value))]
 fn named_value(
     kind: Kind,
@@ -259,6 +347,7 @@ fn named_value(
 }
 
 /// A queen's diagonal move, by the bytes after its first.
+#[inline(always)]
 fn diagonal_move(from: Square, rest: &[u8]) -> Result<(Move, u8), MoveFault>
     ensures { result ≡ diagonal_move from rest.now }
 {
@@ -269,6 +358,7 @@ fn diagonal_move(from: Square, rest: &[u8]) -> Result<(Move, u8), MoveFault>
 }
 
 /// A move to the square that a value names, with the number of its bytes.
+#[inline(always)]
 fn to_square(
     from: Square,
     promo: Option<Kind>,

@@ -108,6 +108,7 @@ impl NumberedMen {
     }
 
     /// The man on a square goes to another, and keeps its number, which is this one.
+    #[inline(always)]
     fn go_by(&mut self, number: usize, from: Square, to: Square)
         requires number { number ≡ number_of self.old from }
         ensures after { self.new ≡ went self.old from to }
@@ -126,6 +127,7 @@ impl NumberedMen {
     }
 
     /// The mover's squares after a move of this effect by the man with this number: castling takes the rook along.
+    #[inline(always)]
     fn follow(&mut self, side: Colour, m: &Move, effect: Effect, number: usize)
         requires number { number ≡ number_of self.old m.now.from }
         ensures after { self.new ≡ movers_after side m.now effect self.old }
@@ -147,6 +149,7 @@ impl NumberedMen {
     }
 
     /// `remove`, which is left out where no man is captured.
+    #[inline(always)]
     fn remove_taken(&mut self, captured: Square, taken: bool)
         requires none { OnFalse taken (without self.old captured ≡ self.old) }
         ensures after { self.new ≡ without self.old captured }
@@ -200,6 +203,7 @@ impl Numbers {
 
     /// The numbers after a move of this side and effect by the man with this number. Where no man is taken, the other
     /// side's stay as they are.
+    #[inline(always)]
     pub(crate) fn follow_by(
         &mut self,
         side: Colour,
@@ -282,6 +286,7 @@ fn start_ranks(back: u8, pawns: u8) -> [Square; 16]
 }
 
 /// The square on which a move captures, if it captures.
+#[inline(always)]
 pub(crate) fn capture_square(m: &Move, effect: Effect) -> Square
     ensures { result ≡ capture_square m.now effect }
 {

@@ -162,7 +162,7 @@ header_takes bytes x fits e =
     } in
     subst (HeaderTakes bytes) (ok_is made x b.2) whole
 
-header_again : (stamp : List ℕ) (h : Header) (rest : List ℕ) → length stamp ≡ 4 → AreCounts h.counts → AreSmall h.greatest → header_at (header_bytes stamp h rest) ≡ Ok (h, rest)
+pub header_again : (stamp : List ℕ) (h : Header) (rest : List ℕ) → length stamp ≡ 4 → AreCounts h.counts → AreSmall h.greatest → header_at (header_bytes stamp h rest) ≡ Ok (h, rest)
 unfolding header_at header_bytes
 header_again stamp h rest stamped counts greatest =
     rw (

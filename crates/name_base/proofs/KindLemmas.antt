@@ -101,7 +101,7 @@ entries_again kind shape (s ∷ stored) met rest le fit ids once =
     ∙ ap (λ before. entries_at kind shape (length stored) (met ++ one ∷ []) (kind_bytes shape before stored rest)) (sym last)
     ∙ others ∙ ap (λ es. Ok (es, rest)) regrouped
 
-length-entries : (before : Option (List ℕ)) (stored : List Stored) → length (entries before stored) ≡ length stored
+pub length-entries : (before : Option (List ℕ)) (stored : List Stored) → length (entries before stored) ≡ length stored
 length-entries before [] = refl
 length-entries before (s ∷ stored) = ap suc (length-entries (Some (name_after before s)) stored)
 
@@ -109,11 +109,11 @@ pub AreMet-none : (count : ℕ) → AreMet count []
 unfolding IsDistinct
 AreMet-none count = record { ids = tt; once = tt; below = tt; each = tt }
 
-all_below : (shape : Shape) (before : Option (List ℕ)) (stored : List Stored) → AllFit shape before stored → AllByRecursion (λ e. e.id < shape.count) (entries before stored)
+pub all_below : (shape : Shape) (before : Option (List ℕ)) (stored : List Stored) → AllFit shape before stored → AllByRecursion (λ e. e.id < shape.count) (entries before stored)
 all_below shape before [] fit = tt
 all_below shape before (s ∷ stored) fit = (fit.0.id, all_below shape (Some (name_after before s)) stored fit.1)
 
-all_names : (shape : Shape) (before : Option (List ℕ)) (stored : List Stored) → AllFit shape before stored → AllByRecursion (λ e. IsName e.name) (entries before stored)
+pub all_names : (shape : Shape) (before : Option (List ℕ)) (stored : List Stored) → AllFit shape before stored → AllByRecursion (λ e. IsName e.name) (entries before stored)
 all_names shape before [] fit = tt
 all_names shape before (s ∷ stored) fit = (fit.0.name, all_names shape (Some (name_after before s)) stored fit.1)
 

@@ -9,3 +9,4 @@ pub mod FileLemmas
 pub mod TextLemmas
 pub mod AgainLemmas
 pub mod OneTextLemmas
+pub mod PartLemmas

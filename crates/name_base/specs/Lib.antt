@@ -4,3 +4,4 @@ pub mod Reading
 pub mod KindRead
 pub mod KindReading
 pub mod NamesText
+pub mod PartNames

@@ -1,15 +1,17 @@
 //! Reading the names of one kind.
-ghost use Rattle.std.specs.Prelude.{ℕ, ◌≡◌, ◌≤◌, ◌<◌, ◌++◌, ◌∷◌, [], false, Some, unwrap_or, length, map, take, replicate, IfOk, IfErr, OnOk};
+ghost use Rattle.std.specs.Prelude.{ℕ, ◌≡◌, ◌≢◌, ◌≤◌, ◌<◌, ◌++◌, ◌∷◌, [], false, Some, unwrap_or, length, map, take, replicate, IfOk, IfErr, OnOk};
 ghost use Rattle.std.specs.Option.{option_copied};
 ghost use Rattle.name_base.specs.NameLists.{AreNames, is_in};
 ghost use Rattle.name_base.specs.NamesFile.{id_width, frequency_width};
 ghost use Rattle.name_base.specs.Reading.{Gives, Answers, blamed, has_id, last_name, names_of, id_at, piece_at, entry_at, entries_at, by_id, kind_at};
 ghost use Rattle.name_base.specs.KindRead.{KindRead, AreMet};
+ghost use Rattle.name_base.specs.PartNames.{entries_in_part, kind_in_part, known};
 ghost use Rattle.std.specs.List.{AllByRecursion};
 
 use crate::field::{byte_at, number_at, own_at, shared_at, skip_at};
 use crate::header::Shape;
 use crate::name_set::NameSet;
+use crate::part_names::PartKind;
 use crate::{NameFault, NameKind, NameWhat, NamesError};
 use indexmap::IndexMap;
 use std::alloc::{AllocError, Global};
@@ -185,6 +187,16 @@ impl KindReader {
         NameSet::from_names(alloc, names)
     }
 
+    // The names by id as far as they were read.
+    fn into_part(self, alloc: Global) -> Result<PartKind, AllocError>
+        requires met { AreMet self.count self.entries }
+        ensures names { IfOk result (λ part. part ≡ known self.count self.entries) }
+    {
+        let KindReader { taken, met } = self;
+        let names = by_id(alloc, taken.as_slice().len(), met)?;
+        Ok(PartKind::new(names, taken))
+    }
+
     /// Reads the next name, the one with this index, and gives the bytes after it.
     #[tactic(auto, unfolding(crate::specs::Reading::entry_at))]
     pub(crate) fn read<'a>(
@@ -200,6 +212,8 @@ impl KindReader {
         ensures gives { Answers (λ rest. (self.new.entries, rest.now)) result
             (blamed (Some kind) index (entry_at shape self.old.entries bytes.now)) }
         ensures count { self.new.count ≡ self.old.count }
+        // A faulty name leaves those before it as they are.
+        ensures unchanged { IfErr result (λ e. e ≢ NamesError.Memory → self.new.entries ≡ self.old.entries) }
     {
         let parts = match self.parts_at(shape, bytes) {
             Ok(parts) => parts,
@@ -290,4 +304,69 @@ pub(crate) fn read_kind<'a>(
     let mut reader = KindReader::new(alloc, shape.count)?;
     let rest = read_all(&mut reader, alloc, kind, shape, bytes)?;
     Ok((reader.into_set(alloc)?, rest))
+}
+
+/// Reads the names of a kind up to the first fault, and gives the bytes after them where there is none. Behind a fault, where there are
+/// no bytes to read, it has no names.
+pub(crate) fn read_part<'a>(
+    alloc: Global,
+    kind: NameKind,
+    shape: Shape,
+    bytes: Option<&'a [u8]>,
+) -> Result<(PartKind, Option<&'a [u8]>), AllocError>
+    requires { shape.count ≤ 1048576 }
+    ensures names { IfOk result (λ x. x.0 ≡ known shape.count (kind_in_part shape (option_copied bytes.entry)).0) }
+    ensures rest { IfOk result (λ x. option_copied x.1 ≡ (kind_in_part shape (option_copied bytes.entry)).1) }
+{
+    let mut reader = KindReader::new(alloc, shape.count)?;
+    let rest = read_if_there(&mut reader, alloc, kind, shape, bytes)?;
+    Ok((reader.into_part(alloc)?, rest))
+}
+
+// Reads the names of a kind up to the first fault, where there are bytes to read.
+#[tactic(auto, unfolding(crate::specs::PartNames::kind_in_part))]
+fn read_if_there<'a>(
+    reader: &mut KindReader,
+    alloc: Global,
+    kind: NameKind,
+    shape: Shape,
+    bytes: Option<&'a [u8]>,
+) -> Result<Option<&'a [u8]>, AllocError>
+    requires count { shape.count ≡ reader.old.count }
+    requires none { reader.old.entries ≡ [] }
+    ensures names { OnOk result (reader.new.entries ≡ (kind_in_part shape (option_copied bytes.entry)).0) }
+    ensures rest { IfOk result (λ rest. option_copied rest ≡ (kind_in_part shape (option_copied bytes.entry)).1) }
+    ensures count { reader.new.count ≡ shape.count }
+    ensures met { OnOk result (AreMet shape.count reader.new.entries) }
+{
+    match bytes {
+        Some(bytes) => read_as_far(reader, alloc, kind, shape, bytes),
+        None => Ok(None),
+    }
+}
+
+// Reads the names of a kind up to the first fault, and gives the bytes after them where there is none.
+fn read_as_far<'a>(
+    reader: &mut KindReader,
+    alloc: Global,
+    kind: NameKind,
+    shape: Shape,
+    bytes: &'a [u8],
+) -> Result<Option<&'a [u8]>, AllocError>
+    requires count { shape.count ≡ reader.old.count }
+    requires none { reader.old.entries ≡ [] }
+    ensures names { OnOk result (reader.new.entries ≡ (entries_in_part shape shape.count [] bytes.now).0) }
+    ensures rest { IfOk result (λ rest. option_copied rest ≡ (entries_in_part shape shape.count [] bytes.now).1) }
+    ensures count { reader.new.count ≡ shape.count }
+    ensures met { OnOk result (AreMet shape.count reader.new.entries) }
+{
+    let mut rest = bytes;
+    for index in 0..shape.count {
+        match reader.read(alloc, kind, index, shape, rest) {
+            Ok(after) => rest = after,
+            Err(NamesError::Bad(_)) => return Ok(None),
+            Err(NamesError::Memory) => return Err(AllocError),
+        }
+    }
+    Ok(Some(rest))
 }

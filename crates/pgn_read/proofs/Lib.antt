@@ -14,6 +14,7 @@ pub mod DecimalLaws
 pub mod TokenLaws
 pub mod SanLaws
 pub mod MovetextLaws
+pub mod SpellingLaws
 pub mod ReadableLaws
 pub mod TagTextLaws
 pub mod TagSpellingLaws
@@ -23,3 +24,4 @@ pub mod HeadsAgainLaws
 pub mod TakenLaws
 pub mod RoundTripLaws
 pub mod CountLaws
+pub mod MeantLaws

@@ -45,7 +45,7 @@ pub white_then : (a b : List ℕ) → are_white a ≡ true → are_white b ≡ t
 white_then [] b p q = q
 white_then (byte ∷ a) b p q = let both = and_parts (is_white byte) (are_white a) p in rw both.0 (white_then a b both.1 q)
 
-no_next : (a b c : Bool) → c ≡ false → (a && (b && c)) ≡ false
+pub no_next : (a b c : Bool) → c ≡ false → (a && (b && c)) ≡ false
 no_next a b c is = rw is rw (and_right b false refl) (and_right a false refl)
 
 -- The next token has this effect, and the others stand behind it.
@@ -128,7 +128,7 @@ closed_outer : (o round : Open) (outer bs : List Open) → bs ≡ round ∷ oute
 closed_outer o round outer bs is = ap (λ l. (closed o l).outer) is
 
 -- A movetext opens as many lines as it closes.
-outer_kept : (s : Movetext) (b : Building) → (built (items_of s) b).outer ≡ b.outer
+pub outer_kept : (s : Movetext) (b : Building) → (built (items_of s) b).outer ≡ b.outer
 outer_kept end b = refl
 outer_kept (move m s) b = outer_kept s (added (item.move m) b)
 outer_kept (nag n s) b = outer_kept s (added (item.nag n) b)
@@ -139,11 +139,11 @@ outer_kept (variation inner s) b =
     ∙ outer_kept s (added item.closes inside)
     ∙ closed_outer inside.current b.current b.outer inside.outer (outer_kept inner (added item.opens b))
 
-nag_kept : (n : ℕ) (o : Option Played) → is_some (with_nag_on n o) ≡ is_some o
+pub nag_kept : (n : ℕ) (o : Option Played) → is_some (with_nag_on n o) ≡ is_some o
 nag_kept n None = refl
 nag_kept n (Some x) = refl
 
-comment_kept : (t lead : Option (List ℕ)) (done : List Played) (last : Option Played) → is_some (with_comment_on t lead done last).last ≡ is_some last
+pub comment_kept : (t lead : Option (List ℕ)) (done : List Played) (last : Option Played) → is_some (with_comment_on t lead done last).last ≡ is_some last
 comment_kept t lead done None = refl
 comment_kept t lead done (Some x) = refl
 
@@ -153,19 +153,19 @@ variation_kept v (Some x) = refl
 
 -- ---- effects
 
-number_effect : (r : Reading) → effect token.number r ≡ goes_on (moving r)
+pub number_effect : (r : Reading) → effect token.number r ≡ goes_on (moving r)
 unfolding effect
 number_effect r = refl
 
-moved_effect : (r : Reading) (m : Move) (text : List ℕ) → san_answer r.turn.now_at text ≡ Ok m → effect (token.move text) r ≡ goes_on (played m r)
+pub moved_effect : (r : Reading) (m : Move) (text : List ℕ) → san_answer r.turn.now_at text ≡ Ok m → effect (token.move text) r ≡ goes_on (played m r)
 unfolding effect
 moved_effect r m text is = ap (move_effect r) is
 
-nag_effect_is : (r : Reading) (n : ℕ) → has_move r ≡ true → effect (token.nag n) r ≡ goes_on (record (moving r) { moves = added (item.nag n) r.moves })
+pub nag_effect_is : (r : Reading) (n : ℕ) → has_move r ≡ true → effect (token.nag n) r ≡ goes_on (record (moving r) { moves = added (item.nag n) r.moves })
 unfolding effect
 nag_effect_is r n moved = rw moved refl
 
-comment_effect : (r : Reading) (text : List ℕ) → effect (token.comment text) r ≡ goes_on (commented text r)
+pub comment_effect : (r : Reading) (text : List ℕ) → effect (token.comment text) r ≡ goes_on (commented text r)
 unfolding effect
 comment_effect r text = refl
 
@@ -175,19 +175,19 @@ opens_if c d x y s p q = rw p rw q refl
 not_deepest : (n : ℕ) → n < 200 → nat_le 200 n ≡ false
 not_deepest n under = search (arith, under)
 
-opens_effect_is : (r : Reading) → length r.outer < 200 → has_move r ≡ true → effect token.opens r ≡ goes_on (opened r)
+pub opens_effect_is : (r : Reading) → length r.outer < 200 → has_move r ≡ true → effect token.opens r ≡ goes_on (opened r)
 unfolding effect
 opens_effect_is r under moved = opens_if (nat_le 200 (length r.outer)) (has_move r) _ _ (goes_on (opened r)) (not_deepest (length r.outer) under) moved
 
 abbrev pub closing : Reading → Turn → List Turn → Reading
 closing r turn outer = record (moving r) { moves = added item.closes r.moves; turn = turn; outer = outer }
 
-closes_effect : (r : Reading) (turn : Turn) (outer : List Turn) → r.outer ≡ turn ∷ outer → effect token.closes r ≡ goes_on (closing r turn outer)
+pub closes_effect : (r : Reading) (turn : Turn) (outer : List Turn) → r.outer ≡ turn ∷ outer → effect token.closes r ≡ goes_on (closing r turn outer)
 unfolding effect
 closes_effect r turn outer is = ap (closed_to r) is
 
 -- A line has a move behind a variation where it had one before.
-around_kept : (inner : Movetext) (b : Building)
+pub around_kept : (inner : Movetext) (b : Building)
     → is_some (added item.closes (built (items_of inner) (added item.opens b))).current.last ≡ is_some b.current.last
 around_kept inner b =
     let inside : Building = built (items_of inner) (added item.opens b) in
@@ -368,7 +368,7 @@ variation_opens r inner rest ts others a under moved stands =
     token_goes r (opened r) written.opens token.opens ((inner ++ (written.closes ∷ rest)) ++ ts) others a opens_read (opens_effect_is r under moved) stands in
     record { at = one.at; same = one.same; stands = subst (λ l. Stands l others one.at) (append_assoc inner (written.closes ∷ rest) ts) one.stands }
 
-opened_at : (level : ℕ) (before here : Setup) (moved : Bool) (r : Reading) → IsAt level before here moved r → IsAt (suc level) before before false (opened r)
+pub opened_at : (level : ℕ) (before here : Setup) (moved : Bool) (r : Reading) → IsAt level before here moved r → IsAt (suc level) before before false (opened r)
 opened_at level before here moved r is =
     record { turn = ap (λ (t : Turn). turn_at t.before) is.turn; inside = ap suc is.inside; has_move = refl }
 

@@ -13,6 +13,7 @@ use Rattle.game_tree.specs.declared.head.Tag.{Tag}
 use Rattle.game_tree.specs.Date.{unknown_date, date_read}
 use Rattle.game_tree.specs.Decimal.{decimal_read}
 use Rattle.game_tree.specs.Eco.{eco_read}
+use Rattle.game_tree.specs.Marks.{mark_letters}
 use Rattle.game_tree.specs.Outcome.{outcome_read}
 use Rattle.game_tree.specs.Settle.{settled}
 use Rattle.game_tree.specs.TagList.{is_named}
@@ -106,9 +107,6 @@ marks_of flags (letter ∷ letters) = (if has_letter flags letter then 1 else 0)
 abbrev pub all_marks : List ℕ → ℕ
 all_marks [] = 0
 all_marks (letter ∷ letters) = 1 + 2 * all_marks letters
-
-abbrev pub mark_letters : List ℕ
-mark_letters = codes "WBMENPTKQ!?U123456"
 
 -- The head before it is settled: the event date stands in its tag.
 abbrev pub head_told : List Tag → Option Outcome → Head

@@ -1,5 +1,6 @@
 pub mod Place
 pub mod Bytes
+pub mod Classes
 pub mod Clear
 pub mod Token
 pub mod TagText
@@ -10,6 +11,7 @@ pub mod Text
 pub mod Heads
 pub mod Reading
 pub mod ReadingCode
+pub mod MovetextSpelling
 pub mod Items
 pub mod Causes
 pub mod Readers
@@ -17,3 +19,4 @@ pub mod Window
 pub mod Fit
 pub mod Legality
 pub mod RoundTrip
+pub mod Meant

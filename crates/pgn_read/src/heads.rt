@@ -3,18 +3,17 @@ ghost use Rattle.std.specs.Prelude.{◌≡◌, ◌++◌, ◌≤◌, ◌<◌, ◌
 ghost use Rattle.cell_core.specs.Text.{IsZeroFree};
 ghost use Rattle.game_tree.specs.Date.{IsDate};
 ghost use Rattle.game_tree.specs.Head.{IsName, IsRating, IsTag, IsBounded};
+ghost use Rattle.game_tree.specs.Marks.{mark_letters};
 ghost use Rattle.game_tree.specs.Settle.{IsSettled};
 ghost use Rattle.game_tree.specs.TagName.{is_reserved, free_of};
-ghost use Rattle.pgn_read.specs.Heads.{value_of, name_from, date_from, result_told, result_from, rated, rating_as, rating_told, rating_from, eco_told, eco_from, flags_of, has_letter, marks_of, all_marks, mark_letters, head_told, head_from, IsReadTag};
+ghost use Rattle.pgn_read.specs.Heads.{value_of, name_from, date_from, result_told, result_from, rated, rating_as, rating_told, rating_from, eco_told, eco_from, flags_of, has_letter, marks_of, all_marks, head_told, head_from, IsReadTag};
 
 use cell_core::{Colour, Text};
 use game_tree::{
-    Date, Head, Outcome, Rating, Tag, Tags, is_reserved, rating_of, read_decimal, read_eco, settle,
+    Date, Head, Outcome, Rating, Tag, Tags, is_reserved, mark_letters, rating_of, read_decimal,
+    read_eco, settle,
 };
 use std::alloc::{AllocError, Global};
-
-// The letters of the marks from the lowest bit on.
-const MARK_LETTERS: &[u8; 18] = b"WBMENPTKQ!?U123456";
 
 /// The head of a game with these tags and this end mark.
 #[tactic(auto, unfolding(crate::specs::Heads::head_from))]
@@ -62,7 +61,7 @@ fn head_told(alloc: Global, tags: Vec<Tag>, mark: Option<Outcome>) -> Result<Hea
         white_rating,
         black_rating,
         eco,
-        marks: marks_of(flags.as_slice(), MARK_LETTERS),
+        marks: marks_told(flags.as_slice()),
         deleted: has_letter(flags.as_slice(), b'D'),
         tags: free_of(tags),
     })
@@ -214,6 +213,18 @@ fn has_letter(flags: &[u8], letter: u8) -> bool
     ensures letter { result ≡ has_letter flags.now letter }
 {
     flags.iter().any(|flag| *flag == letter)
+}
+
+// The marks of these letters. Most games have none.
+fn marks_told(flags: &[u8]) -> u32
+    ensures marks { result ≡ marks_of flags.now mark_letters }
+    ensures most { result ≤ all_marks mark_letters }
+{
+    if flags.is_empty() {
+        0
+    } else {
+        marks_of(flags, mark_letters())
+    }
 }
 
 // The marks of these letters, the first letter's bit being the lowest.

@@ -1,11 +1,36 @@
 //! Runs of bytes of one kind.
-ghost use Rattle.std.specs.Prelude.{◌≡◌, ◌==◌, ◌∷◌, false, ℕ, List, MatchOption};
+ghost use Rattle.std.specs.Prelude.{◌≡◌, ◌==◌, ◌∷◌, true, false, ℕ, Bool, List, MatchOption};
 ghost use Rattle.std.specs.List.{list_any};
 ghost use Rattle.pgn_read.specs.declared.run.Run.TheVariants as run;
+ghost use Rattle.pgn_read.specs.Classes.{tells};
 ghost use Rattle.pgn_read.specs.Clear.{BeginsWith};
 ghost use Rattle.pgn_read.specs.Bytes.{is_of, is_white, is_letter, is_move_byte, is_glyph, front, behind, begins, has_zero};
 
-use game_tree::is_tag_byte;
+// The classes of bytes, as they are summed up in the table.
+const WHITE: u8 = 1;
+
+const TAG_NAME: u8 = 2;
+
+const DIGITS: u8 = 4;
+
+const DOTS: u8 = 8;
+
+const GLYPHS: u8 = 16;
+
+const MOVE: u8 = 32;
+
+// The classes of each byte.
+const CLASSES: [u8; 256] = [
+    0, 0, 0, 0, 0, 0, 0, 0, 0, 1, 1, 1, 1, 1, 0, 0, 0, 0, 0, 0, 0, 0, 0, 0, 0, 0, 0, 0, 0, 0, 0, 0,
+    1, 18, 0, 34, 2, 2, 2, 2, 2, 2, 2, 34, 2, 34, 10, 2, 38, 38, 38, 38, 38, 38, 38, 38, 38, 38,
+    34, 2, 2, 34, 2, 18, 2, 34, 34, 34, 34, 34, 34, 34, 34, 34, 34, 34, 34, 34, 34, 34, 34, 34, 34,
+    34, 34, 34, 34, 34, 34, 34, 34, 2, 2, 0, 2, 2, 2, 34, 34, 34, 34, 34, 34, 34, 34, 34, 34, 34,
+    34, 34, 34, 34, 34, 34, 34, 34, 34, 34, 34, 34, 34, 34, 34, 2, 2, 2, 2, 0, 0, 0, 0, 0, 0, 0, 0,
+    0, 0, 0, 0, 0, 0, 0, 0, 0, 0, 0, 0, 0, 0, 0, 0, 0, 0, 0, 0, 0, 0, 0, 0, 0, 0, 0, 0, 0, 0, 0, 0,
+    0, 0, 0, 0, 0, 0, 0, 0, 0, 0, 0, 0, 0, 0, 0, 0, 0, 0, 0, 0, 0, 0, 0, 0, 0, 0, 0, 0, 0, 0, 0, 0,
+    0, 0, 0, 0, 0, 0, 0, 0, 0, 0, 0, 0, 0, 0, 0, 0, 0, 0, 0, 0, 0, 0, 0, 0, 0, 0, 0, 0, 0, 0, 0, 0,
+    0, 0, 0, 0, 0, 0, 0, 0, 0, 0, 0, 0, 0, 0, 0, 0, 0, 0, 0, 0, 0, 0, 0, 0, 0,
+];
 
 /// The kinds of bytes of which runs are made.
 #[derive(Clone, Copy, Debug, PartialEq, Eq)]
@@ -29,17 +54,24 @@ impl Run {
         ensures has { result ≡ is_of self byte }
     {
         match self {
-            Run::White => is_white(byte),
-            Run::TagName => is_tag_byte(byte),
-            Run::Digits => byte.is_ascii_digit(),
-            Run::Dots => byte == b'.',
-            Run::Glyphs => is_glyph(byte),
-            Run::Move => is_move_byte(byte),
+            Run::White => is_in(&CLASSES, WHITE, byte),
+            Run::TagName => is_in(&CLASSES, TAG_NAME, byte),
+            Run::Digits => is_in(&CLASSES, DIGITS, byte),
+            Run::Dots => is_in(&CLASSES, DOTS, byte),
+            Run::Glyphs => is_in(&CLASSES, GLYPHS, byte),
+            Run::Move => is_in(&CLASSES, MOVE, byte),
             Run::ToBrace => byte != b'}',
             Run::ToFeed => byte != b'\n',
             Run::ToZero => byte != 0,
         }
     }
+}
+
+// Whether the table has the byte in the class.
+fn is_in(table: &[u8; 256], class: u8, byte: u8) -> bool
+    ensures told { (test : ℕ → Bool) → tells table.now class test ≡ true → result ≡ test byte }
+{
+    table[byte as usize] & class != 0
 }
 
 /// The longest run at the beginning of the bytes, and what stands behind it.

@@ -120,7 +120,7 @@ fn escapes(escaped: bool, byte: u8) -> bool
 pub(crate) fn unescaped(alloc: Global, raw: &[u8]) -> Result<Vec<u8>, AllocError>
     ensures value { IfOk result (λ value. value.items ≡ unescaped raw.now) }
 {
-    let mut value = Vec::new(alloc);
+    let mut value = Vec::with_capacity(alloc, raw.len())?;
     let mut escaped = false;
     for byte in raw {
         push_meant(&mut value, escaped, *byte)?;

@@ -234,6 +234,24 @@ impl Window {
         Some(remark && byte != b'\n')
     }
 
+    // Passes over a gap that is one space, as most are, and says whether there was one.
+    fn pass_space(&mut self) -> bool
+        ensures passed { OnTrue result ((more : List ℕ) → gap_behind false (with_more self.old more) ≡ with_more self.new more) }
+        ensures there { OnTrue result (1 ≤ length self.new.unread) }
+        ensures shorter { OnTrue result (length self.new.unread < length self.old.unread) }
+        ensures ended { self.new.ended ≡ self.old.ended }
+        ensures kept { OnFalse result (self.new ≡ self.old) }
+    {
+        let [b' ', next, ..] = self.unread() else {
+            return false;
+        };
+        if is_white(*next) || *next == b'%' {
+            return false;
+        }
+        self.pass_byte(b' ');
+        true
+    }
+
     /// Skips white space and lines that are skipped, up to the next token or the end of the text.
     pub(crate) fn skip_gap<S: Source>(&mut self, source: &mut S) -> Result<(), PgnError>
         requires told { IsTrue self.old.ended → Tells (S.left source.old) [] }
@@ -246,6 +264,9 @@ impl Window {
         ensures same { S.origin source.new ≡ S.origin source.old }
         ensures cause { IfErr result (λ e. HasCause e (S.faults source.old) (S.faults source.new)) }
     {
+        if self.pass_space() {
+            return Ok(());
+        }
         let mut inside = false;
         'gap: loop {
             if let Err(error) = self.look(source, 1) {

@@ -201,6 +201,11 @@ node-put t r node w own last wrote varied =
     ∙ ap (λ (ts : List Token). put_all ts w)
     (append_assoc first (nags ++ comment) variations ∙ ap (λ (ts : List Token). first ++ ts) (append_assoc nags comment variations))
 
+-- Where there is no variation, nothing is written of one.
+pub no-branches : (t : Turn) (b : Branches) (w : Writing) → has_variations b ≡ false → w ≡ put_all (branch_tokens t b) w
+no-branches t none w without = refl
+no-branches t (more lead line others) w without = absurd (cc)
+
 pub legal-more : (p q : Setup) (line : List Played) (i : ℕ) (node : Played) → drop i line ≡ node ∷ drop (i + 1) line
     → q ≡ stepped p node.mv → IsLegalLine p (line_of (drop i line)) → IsLegalLine q (line_of (drop (i + 1) line))
 legal-more p q line i node left played legal =

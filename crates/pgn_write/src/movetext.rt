@@ -58,6 +58,10 @@ fn put_node(
     ensures tokens { OnOk result (writer.new ≡ put_all (node_tokens (turn position.old number) resumed node.now) writer.old) }
     ensures played { OnOk result (position.new ≡ stepped position.old node.now.mv) }
 {
+    if !has_variations(node.variations.as_slice()) {
+        put_own(writer, position, number, resumed, node)?;
+        return Ok(());
+    }
     let start = *position;
     put_own(writer, position, number, resumed, node)?;
     put_branches(writer, &start, number, node.variations.as_slice())?;

@@ -12,6 +12,9 @@ use crate::writer::Writer;
 use game_tree::{Game, HeadRef, Outcome, Tag};
 use std::alloc::{AllocError, Global};
 
+// How many bytes are taken at first for the text of a game.
+const USUAL: usize = 2_048;
+
 /// Adds a legal game to `into` in Portable Game Notation (PGN standard, section 8): the tags one a line, an empty line, the
 /// movetext on lines of at most 79 bytes, and an empty line. The head and its tags are within their bounds. The game's moves
 /// are numbered from 1, also from a start of its own. It fails only for want of memory, and then `into` is as before.
@@ -42,7 +45,7 @@ fn game_text(
     requires bounded { IsBounded (head_of head.now tags.now) }
     ensures text { IfOk result (λ text. text.items ≡ pgn_of (head_of head.now tags.now) g.now) }
 {
-    let mut out = Vec::new(alloc);
+    let mut out = Vec::with_capacity(alloc, USUAL)?;
     put_tags(alloc, &mut out, head, tags, g)?;
     out.push(b'\n')?;
     let mut text = with_movetext(alloc, out, g, head.result)?;

@@ -29,7 +29,7 @@ stands_renumbered depth to rows games is = ap (renumbered to) is ∙ sym (map-re
 
 -- ---- how long rows are
 
-length-range : (a n : ℕ) → length (range_with_len a n) ≡ n
+pub length-range : (a n : ℕ) → length (range_with_len a n) ≡ n
 length-range a zero = refl
 length-range a (suc n) = ap suc (length-range (a + 1) n)
 
@@ -71,11 +71,3 @@ pub put_last : (old now : List (List Place)) (i : ℕ) (places : List Place) →
 put_last old now i places last is =
     is ∙ ap (λ (r : List Place). with_row (old ++ [] ∷ []) i (r ++ places)) (get_or_push {X = List Place} old [] [] i (sym last))
     ∙ set_at {A = List Place} old [] [] places i (sym last)
-
-pub put_other : (old now new : List (List Place)) (i count : ℕ) (places : List Place) → i < length old → count ≡ length (row_in old i) → now ≡ with_row old i (row_in old i ++ places)
-    → new ≡ with_row now i (drop count (row_in now i)) → new ≡ set old i places
-put_other old now new i count places lt is put dropped =
-    dropped ∙ ap (λ (l : List (List Place)). with_row l i (drop count (row_in l i))) put
-    ∙ set-set old i (row_in old i ++ places) (drop count (row_in (with_row old i (row_in old i ++ places)) i))
-    ∙ ap (λ (r : List Place). with_row old i (drop count r)) (get_or-set_same old i (row_in old i ++ places) [] lt)
-    ∙ ap (with_row old i) (drop_at (row_in old i) places count (sym is))

@@ -3,12 +3,13 @@ use Rattle.std.proofs.Common.{◌≡◌, ◌≤◌, ◌<◌, ◌+◌, ◌-◌, �
 use Rattle.std.specs.Prelude.{All}
 use Rattle.std.proofs.lemmas.Bool.{cases_eq, cases_lt}
 use Rattle.std.proofs.lemmas.Option.{get_or_from_slice_get, slice_get-get_or}
-use Rattle.std.proofs.lemmas.List.{append-nil, append_assoc, get_or-map, get_or-set_other, get_or-set_same, get_or_append_left, get_or_push, length-map, drop_more, length-set, length_push, set-get_or, set-set, take_at, take_more}
+use Rattle.std.proofs.lemmas.List.{append-nil, append_assoc, get_or-map, get_or-set_other, get_or-set_same, get_or_append_left, get_or_push, length-map, drop_more, length-set, length_push, set-get_or, set-set, set_split, take_at, take_more}
 use Rattle.std.proofs.lemmas.List.Elements.{All-append, All-cons, All-get_or, All-nil, All-push, All-set, All-tail, All-head, All-weaker}
 use Rattle.game_filter.specs.Renumbering.{Rises, renumbered}
+use Rattle.cell_core.specs.declared.step.Move.{Move}
 use Rattle.pos_index.specs.declared.hit.Hit.{Hit}
 use Rattle.pos_index.specs.declared.spot.Spot.{Spot}
-use Rattle.pos_index.specs.Keeping.{AreListed, AreOn, hits_at, hits_by, moved, row_in, with_row}
+use Rattle.pos_index.specs.Keeping.{AreListed, AreOn, hits_at, hits_by, moved, next_set, row_in, spot_in, with_row}
 use Rattle.pos_index.proofs.SpotLemmas.{around, around_own, before, before-below, behind, behind-above, hit_of, hits_at-append, hits_at-here, hits_at-own, hits_at-there, hits_by-append, hits_by-below, moved_rows, none_by}
 
 -- The list of a board.
@@ -134,27 +135,66 @@ on_moved boards (Some number ∷ to) (row ∷ rows) on =
     All-cons (All (λ (s : Spot). s.board < boards)) row (renumbered to rows) (All-head (All (λ (s : Spot). s.board < boards)) row rows on)
     (on_moved boards to rows (All-tail (All (λ (s : Spot). s.board < boards)) row rows on))
 
--- One spot less of a game: at the front of those that are left.
-pub listed_first : (lists : List (List Hit)) (rows : List (List Spot)) (i board : ℕ) (spot : Spot) (rest : List Spot) (list : List Hit)
-    → AreListed lists (with_row rows i (spot ∷ rest)) → i < length rows → board ≡ spot.board → board < length lists
-    → ((front back : List Hit) (hit : Hit) → get_or lists board [] ≡ front ++ hit ∷ back → All (λ (h : Hit). h.game < i) front → All (λ (h : Hit). i ≤ h.game) (hit ∷ back) → list ≡ front ++ back)
-    → AreListed (set lists board list) (with_row rows i rest)
-listed_first lists rows i board spot rest list all lt is within taken =
-    let A = before board i rows in
-    let B = behind board i rows in
-    let R = hits_at board i rest in
-    let from_i : All (λ (h : Hit). i ≤ h.game) (hit_of i spot ∷ (R ++ B)) =
-    All-cons (λ (h : Hit). i ≤ h.game) (hit_of i spot) (R ++ B) (let here : i ≤ i = omega arith in here) (All-append (λ (h : Hit). i ≤ h.game) R B
-    (All-weaker (λ (h : Hit). h.game ≡ i) (λ (h : Hit). i ≤ h.game) (λ h same. omega (arith, same)) R (hits_at-own board i rest))
-    (All-weaker (λ (h : Hit). i < h.game) (λ (h : Hit). i ≤ h.game) (λ h less. omega (arith, less)) B (behind-above board i rows))) in
-    let now = taken A (R ++ B) (hit_of i spot)
-    (list_is lists (with_row rows i (spot ∷ rest)) board [] all within ∙ around board i rows (spot ∷ rest) lt ∙ ap (λ (l : List Hit). A ++ (l ++ B)) (with_spot board i [] rest spot is))
-    (before-below board i rows lt) from_i in
-    changed lists (with_row rows i (spot ∷ rest)) (with_row rows i rest) board list all within (now ∙ sym (around board i rows rest lt))
-    (λ other differs. same_others rows i other rest (spot ∷ rest) lt (sym (without_spot other i [] rest spot (λ same. differs (same ∙ sym is)))))
-    (on_less rows i (spot ∷ rest) rest (length lists) lt all.known (λ known. All-tail (λ (s : Spot). s.board < length lists) spot rest known))
+own_from : (board i : ℕ) (row : List Spot) → All (λ (h : Hit). i ≤ h.game) (hits_at board i row)
+own_from board i row = All-weaker (λ (h : Hit). h.game ≡ i) (λ (h : Hit). i ≤ h.game) (λ h same. omega (arith, same)) (hits_at board i row) (hits_at-own board i row)
 
--- And at the end of those that are left.
+all_without : (P : Spot → Type 0) (front : List Spot) (spot : Spot) (rest : List Spot) → All P (front ++ spot ∷ rest) → All P (front ++ rest)
+all_without P [] spot rest all = All-tail P spot rest all
+all_without P (s ∷ front) spot rest all =
+    All-cons P s (front ++ rest) (All-head P s (front ++ spot ∷ rest) all) (all_without P front spot rest (All-tail P s (front ++ spot ∷ rest) all))
+
+all_other : (P : Spot → Type 0) (front : List Spot) (spot other : Spot) (rest : List Spot) → (P spot → P other) → All P (front ++ spot ∷ rest) → All P (front ++ other ∷ rest)
+all_other P [] spot other rest keeps all = All-cons P other rest (keeps (All-head P spot rest all)) (All-tail P spot rest all)
+all_other P (s ∷ front) spot other rest keeps all =
+    All-cons P s (front ++ other ∷ rest) (All-head P s (front ++ spot ∷ rest) all) (all_other P front spot other rest keeps (All-tail P s (front ++ spot ∷ rest) all))
+
+-- The hits on the board of a spot in the middle of a row.
+module _ (lists : List (List Hit)) (rows : List (List Spot)) (i board : ℕ) (front : List Spot) (spot : Spot) (rest : List Spot)
+    (all : AreListed lists (with_row rows i (front ++ spot ∷ rest))) (lt : i < length rows) (is : board ≡ spot.board) (within : board < length lists) where
+  whole : get_or lists board [] ≡ before board i rows ++ (hits_at board i front ++ hit_of i spot ∷ (hits_at board i rest ++ behind board i rows))
+  whole =
+      list_is lists (with_row rows i (front ++ spot ∷ rest)) board [] all within ∙ around board i rows (front ++ spot ∷ rest) lt
+      ∙ ap (λ (l : List Hit). before board i rows ++ (l ++ behind board i rows)) (with_spot board i front rest spot is)
+      ∙ ap (λ (l : List Hit). before board i rows ++ l) (append_assoc (hits_at board i front) (hit_of i spot ∷ hits_at board i rest) (behind board i rows))
+
+  from_game : All (λ (h : Hit). i ≤ h.game) (hits_at board i front ++ hit_of i spot ∷ (hits_at board i rest ++ behind board i rows))
+  from_game =
+      All-append (λ (h : Hit). i ≤ h.game) (hits_at board i front) (hit_of i spot ∷ (hits_at board i rest ++ behind board i rows)) (own_from board i front)
+      (All-cons (λ (h : Hit). i ≤ h.game) (hit_of i spot) (hits_at board i rest ++ behind board i rows) (let here : i ≤ i = omega arith in here)
+      (All-append (λ (h : Hit). i ≤ h.game) (hits_at board i rest) (behind board i rows) (own_from board i rest)
+      (All-weaker (λ (h : Hit). i < h.game) (λ (h : Hit). i ≤ h.game) (λ h less. omega (arith, less)) (behind board i rows) (behind-above board i rows))))
+
+  -- One spot less of a game.
+  pub listed_without : (list : List Hit) (rank : ℕ) → rank ≡ length (hits_at board i front)
+      → ((front own back : List Hit) (hit : Hit) → get_or lists board [] ≡ front ++ (own ++ hit ∷ back) → All (λ (h : Hit). h.game < i) front → All (λ (h : Hit). i ≤ h.game) (own ++ hit ∷ back)
+      → rank ≡ length own → list ≡ front ++ (own ++ back))
+      → AreListed (set lists board list) (with_row rows i (front ++ rest))
+  listed_without list rank own taken =
+      changed lists (with_row rows i (front ++ spot ∷ rest)) (with_row rows i (front ++ rest)) board list all within
+      (taken (before board i rows) (hits_at board i front) (hits_at board i rest ++ behind board i rows) (hit_of i spot) whole (before-below board i rows lt) from_game own
+      ∙ ap (λ (l : List Hit). before board i rows ++ l) (sym (append_assoc (hits_at board i front) (hits_at board i rest) (behind board i rows)))
+      ∙ ap (λ (l : List Hit). before board i rows ++ (l ++ behind board i rows)) (sym (hits_at-append board i front rest)) ∙ sym (around board i rows (front ++ rest) lt))
+      (λ other differs. same_others rows i other (front ++ rest) (front ++ spot ∷ rest) lt (sym (without_spot other i front rest spot (λ same. differs (same ∙ sym is)))))
+      (on_less rows i (front ++ spot ∷ rest) (front ++ rest) (length lists) lt all.known (all_without (λ (s : Spot). s.board < length lists) front spot rest))
+
+  -- Another move after it.
+  pub listed_next : (other : Spot) (list : List Hit) (rank : ℕ) → board ≡ other.board → rank ≡ length (hits_at board i front)
+      → ((front own back : List Hit) (hit : Hit) → get_or lists board [] ≡ front ++ (own ++ hit ∷ back) → All (λ (h : Hit). h.game < i) front → All (λ (h : Hit). i ≤ h.game) (own ++ hit ∷ back)
+      → rank ≡ length own → list ≡ front ++ (own ++ record hit { next = other.next } ∷ back)) → other.ply ≡ spot.ply
+      → AreListed (set lists board list) (with_row rows i (front ++ other ∷ rest))
+  listed_next other list rank at own put ply =
+      let hit : record (hit_of i spot) { next = other.next } ≡ hit_of i other = λ j. record { game = i; ply = sym ply j; next = other.next } in
+      changed lists (with_row rows i (front ++ spot ∷ rest)) (with_row rows i (front ++ other ∷ rest)) board list all within
+      (put (before board i rows) (hits_at board i front) (hits_at board i rest ++ behind board i rows) (hit_of i spot) whole (before-below board i rows lt) from_game own
+      ∙ ap (λ (h : Hit). before board i rows ++ (hits_at board i front ++ h ∷ (hits_at board i rest ++ behind board i rows))) hit
+      ∙ ap (λ (l : List Hit). before board i rows ++ l) (sym (append_assoc (hits_at board i front) (hit_of i other ∷ hits_at board i rest) (behind board i rows)))
+      ∙ ap (λ (l : List Hit). before board i rows ++ (l ++ behind board i rows)) (sym (with_spot board i front rest other at)) ∙ sym (around board i rows (front ++ other ∷ rest) lt))
+      (λ apart differs. same_others rows i apart (front ++ other ∷ rest) (front ++ spot ∷ rest) lt
+      (without_spot apart i front rest other (λ same. differs (same ∙ sym at)) ∙ sym (without_spot apart i front rest spot (λ same. differs (same ∙ sym is)))))
+      (on_less rows i (front ++ spot ∷ rest) (front ++ other ∷ rest) (length lists) lt all.known
+      (all_other (λ (s : Spot). s.board < length lists) front spot other rest (λ below. omega (arith, below, is, at))))
+
+-- One spot less of a game at the end of those that are left.
 pub listed_last : (lists : List (List Hit)) (rows : List (List Spot)) (i board : ℕ) (spot : Spot) (rest : List Spot) (list : List Hit)
     → AreListed lists (with_row rows i (rest ++ spot ∷ [])) → i < length rows → board ≡ spot.board → board < length lists
     → ((front back : List Hit) (hit : Hit) → get_or lists board [] ≡ front ++ hit ∷ back → All (λ (h : Hit). h.game ≤ i) (front ++ hit ∷ []) → All (λ (h : Hit). i < h.game) back → list ≡ front ++ back)
@@ -199,18 +239,20 @@ popped {T = T} xs new rows is rest =
     rest ∙ ap (λ (l : List (List T)). take (length l - 1) l) is
     ∙ take_at rows ([] ∷ []) (length (rows ++ [] ∷ []) - 1) (omega (arith, length_push {X = List T} rows []))
 
--- The hits of the first spots that are left, one after the other.
-pub firsts_step : (lists : List (List Hit)) (rows : List (List Spot)) (game k board : ℕ) (spots behind : List Spot) (spot : Spot) (list : List Hit)
-    → AreListed lists (with_row rows game (drop k spots ++ behind)) → game < length rows → k < length spots → spot ≡ get_or spots k spot → board ≡ spot.board → board < length lists
-    → ((front back : List Hit) (hit : Hit) → get_or lists board [] ≡ front ++ hit ∷ back → All (λ (h : Hit). h.game < game) front → All (λ (h : Hit). game ≤ h.game) (hit ∷ back) → list ≡ front ++ back)
-    → AreListed (set lists board list) (with_row rows game (drop (k + 1) spots ++ behind))
-firsts_step lists rows game k board spots behind spot list all lt within is at on taken =
-    let row : drop k spots ++ behind ≡ spot ∷ (drop (k + 1) spots ++ behind) =
-    ap (λ (l : List Spot). l ++ behind) (drop_more spots k spot within ∙ ap (λ (s : Spot). s ∷ drop (k + 1) spots) (sym is)) in
-    listed_first lists rows game board spot (drop (k + 1) spots ++ behind) list
-    (subst (λ (l : List Spot). AreListed lists (with_row rows game l)) row all) lt at on taken
+-- The hits of the spots behind those in front, one after the other.
+pub middle_step : (lists : List (List Hit)) (rows : List (List Spot)) (game k board rank : ℕ) (front spots behind : List Spot) (spot : Spot) (list : List Hit)
+    → AreListed lists (with_row rows game (front ++ (drop k spots ++ behind))) → game < length rows → k < length spots → spot ≡ get_or spots k spot → board ≡ spot.board → board < length lists
+    → rank ≡ length (hits_at board game front)
+    → ((before own back : List Hit) (hit : Hit) → get_or lists board [] ≡ before ++ (own ++ hit ∷ back) → All (λ (h : Hit). h.game < game) before → All (λ (h : Hit). game ≤ h.game) (own ++ hit ∷ back)
+    → rank ≡ length own → list ≡ before ++ (own ++ back))
+    → AreListed (set lists board list) (with_row rows game (front ++ (drop (k + 1) spots ++ behind)))
+middle_step lists rows game k board rank front spots behind spot list all lt within is at on own taken =
+    let row : front ++ (drop k spots ++ behind) ≡ front ++ spot ∷ (drop (k + 1) spots ++ behind) =
+    ap (λ (l : List Spot). front ++ (l ++ behind)) (drop_more spots k spot within ∙ ap (λ (s : Spot). s ∷ drop (k + 1) spots) (sym is)) in
+    listed_without lists rows game board front spot (drop (k + 1) spots ++ behind)
+    (subst (λ (l : List Spot). AreListed lists (with_row rows game l)) row all) lt at on list rank own taken
 
--- And of the last ones.
+-- The hits of the last spots that are left, one after the other.
 pub lasts_step : (lists : List (List Hit)) (rows : List (List Spot)) (game k board : ℕ) (spots front_row : List Spot) (spot : Spot) (list : List Hit)
     → AreListed lists (with_row rows game (front_row ++ take (length spots - k) spots)) → game < length rows → k < length spots → spot ≡ get_or spots (length spots - 1 - k) spot
     → board ≡ spot.board → board < length lists
@@ -234,3 +276,23 @@ none_taken lists rows game row is all = subst (AreListed lists) (sym (ap (with_r
 -- A list that was written back whole.
 pub written_back : {T : Type 0} (new old : List T) (len : ℕ) → len ≡ length new → take len (new ++ drop (length new) old) ≡ new
 written_back new old len same = take_at new (drop (length new) old) len (sym same)
+
+-- Another move after a spot of a game.
+pub listed_set : (lists : List (List Hit)) (rows : List (List Spot)) (i k board rank : ℕ) (row after : List Spot) (next : Option Move) (list : List Hit)
+    → AreListed lists rows → i < length rows → row ≡ row_in rows i → k < length row → board ≡ (spot_in row k).board → rank ≡ length (hits_at board i (take k row))
+    → ((front own back : List Hit) (hit : Hit) → get_or lists board [] ≡ front ++ (own ++ hit ∷ back) → All (λ (h : Hit). h.game < i) front → All (λ (h : Hit). i ≤ h.game) (own ++ hit ∷ back)
+    → rank ≡ length own → list ≡ front ++ (own ++ record hit { next = next } ∷ back))
+    → after ≡ set row k (next_set next (spot_in row k)) → AreListed (set lists board list) (with_row rows i after)
+listed_set lists rows i k board rank row after next list all lt is within at own put put_is =
+    let spot = spot_in row k in
+    let whole : row ≡ take k row ++ spot ∷ drop (suc k) row = sym (set-get_or row k (spot_in [] 0)) ∙ set_split row k spot within in
+    let known : spot.board < length lists =
+    subst (λ (l : List Spot). (spot_in l k).board < length lists) (sym is) (row_known (length lists) i rows all.known lt k (spot_in [] 0) (omega (arith, within, ap length is))) in
+    subst (λ (r : List Spot). AreListed (set lists board list) (with_row rows i r)) (sym (put_is ∙ set_split row k (next_set next spot) within))
+    (listed_next lists rows i board (take k row) spot (drop (suc k) row) (none_taken lists rows i (take k row ++ spot ∷ drop (suc k) row) (sym is ∙ whole) all) lt at (omega (arith, at, known))
+    (next_set next spot) list rank at own put refl)
+
+pub board_known : (lists : List (List Hit)) (rows : List (List Spot)) (i k : ℕ) (spot : Spot) → AreListed lists rows → i < length rows → k < length (row_in rows i) → spot ≡ get_or (row_in rows i) k spot
+    → spot.board < length lists
+board_known lists rows i k spot all lt within is =
+    subst (λ (s : Spot). s.board < length lists) (sym is) (row_known (length lists) i rows all.known lt k spot within)

@@ -1,15 +1,17 @@
 -- The places that spots stand for.
-use Rattle.std.proofs.Common.{◌≡◌, ◌≤◌, ◌<◌, ◌+◌, ◌-◌, ℕ, zero, suc, Bool, true, false, eqb, cond, List, [], ◌∷◌, ◌++◌, None, Some, Option, length, get_or, set, map, take, drop, refl, sym, ap, ◌∙◌, subst, arith, inl, inr}
+use Rattle.std.proofs.Common.{◌≡◌, ◌≤◌, ◌<◌, ◌+◌, ◌-◌, ℕ, zero, suc, Bool, true, false, eqb, cond, List, [], ◌∷◌, ◌++◌, None, Some, Option, length, get_or, set, map, take, drop, slice_get, refl, sym, ap, ◌∙◌, subst, arith, inl, inr}
 use Rattle.std.specs.Prelude.{All, Result, Ok, Err, OnErr, OnOk}
 use Rattle.std.proofs.lemmas.Bool.{cases_lt}
-use Rattle.std.proofs.lemmas.List.{drop-map, get_or-map, get_or_append_left, length-append, length-map, length-set, map-set, map_push, take-map}
+use Rattle.std.proofs.lemmas.Option.{get_or_from_slice_get}
+use Rattle.cell_core.specs.declared.step.Move.{Move}
+use Rattle.std.proofs.lemmas.List.{drop-map, get_or-map, map-append, get_or_append_left, length-append, length-map, length-set, map-set, map_push, take-map}
 use Rattle.std.proofs.lemmas.List.Elements.{All-append, All-cons, All-drop, All-head, All-nil, All-push, All-set, All-tail, All-take, All-weaker}
 use Rattle.cell_core.specs.Packed.{Packed}
 use Rattle.game_filter.specs.Renumbering.{renumbered}
 use Rattle.pos_index.specs.declared.hit.Hit.{Hit}
 use Rattle.pos_index.specs.declared.spot.Spot.{Spot}
 use Rattle.pos_index.specs.Hits.{Place, hits_from, hits_in, same_packed}
-use Rattle.pos_index.specs.Keeping.{AreOn, EndsEmpty, board_in, hits_at, hits_by, place_of, places_by, row_in, row_places, with_row}
+use Rattle.pos_index.specs.Keeping.{AreOn, EndsEmpty, IsPlaceOn, board_in, hits_at, hits_by, next_put, next_set, place_in, place_of, places_by, row_in, row_places, spot_in, with_row}
 use Rattle.pos_index.proofs.ListedLemmas.{on_row, row_known}
 use Rattle.pos_index.proofs.SpotLemmas.{hit_of}
 
@@ -80,12 +82,39 @@ placed keys rows new i spot place lt is at =
     ∙ ap (λ (r : List Place). with_row (places_by keys rows) i r)
     (map_push (place_of keys) (row_in rows i) spot ∙ (λ j. sym (row_of_places keys rows i lt) j ++ at j ∷ []))
 
-pub dropped : (keys : List Packed) (rows new : List (List Spot)) (i count : ℕ) → i < length rows → new ≡ with_row rows i (drop count (row_in rows i))
-    → places_by keys new ≡ with_row (places_by keys rows) i (drop count (row_in (places_by keys rows) i))
-dropped keys rows new i count lt is =
-    ap (places_by keys) is ∙ with_row_places keys rows i (drop count (row_in rows i))
+pub dropped : (keys : List Packed) (rows new : List (List Spot)) (i from count : ℕ) → i < length rows → new ≡ with_row rows i (take from (row_in rows i) ++ drop (from + count) (row_in rows i))
+    → places_by keys new ≡ with_row (places_by keys rows) i (take from (row_in (places_by keys rows) i) ++ drop (from + count) (row_in (places_by keys rows) i))
+dropped keys rows new i from count lt is =
+    ap (places_by keys) is ∙ with_row_places keys rows i (take from (row_in rows i) ++ drop (from + count) (row_in rows i))
     ∙ ap (λ (r : List Place). with_row (places_by keys rows) i r)
-    (sym (drop-map (place_of keys) count (row_in rows i)) ∙ ap (drop count) (sym (row_of_places keys rows i lt)))
+    (map-append (place_of keys) (take from (row_in rows i)) (drop (from + count) (row_in rows i))
+    ∙ (λ j. sym (take-map (place_of keys) from (row_in rows i)) j ++ sym (drop-map (place_of keys) (from + count) (row_in rows i)) j)
+    ∙ ap (λ (r : List Place). take from r ++ drop (from + count) r) (sym (row_of_places keys rows i lt)))
+
+-- The place of a spot in a row.
+place_of_spot : (keys : List Packed) (row : List Spot) (k : ℕ) → k < length row → place_in (row_places keys row) k ≡ place_of keys (spot_in row k)
+place_of_spot keys row k lt = get_or-map (place_of keys) row k (spot_in [] 0) (place_in [] 0) lt
+
+pub next_placed : (keys : List Packed) (rows new : List (List Spot)) (i k : ℕ) (next : Option Move) → i < length rows → k < length (row_in rows i)
+    → new ≡ with_row rows i (set (row_in rows i) k (next_set next (spot_in (row_in rows i) k)))
+    → places_by keys new ≡ with_row (places_by keys rows) i (set (row_in (places_by keys rows) i) k (next_put next (place_in (row_in (places_by keys rows) i) k)))
+next_placed keys rows new i k next lt within is =
+    let row = row_in rows i in
+    ap (places_by keys) is ∙ with_row_places keys rows i (set row k (next_set next (spot_in row k)))
+    ∙ ap (λ (r : List Place). with_row (places_by keys rows) i r)
+    (map-set (place_of keys) row k (next_set next (spot_in row k))
+    ∙ ap (λ (p : Place). set (row_places keys row) k (next_put next p)) (sym (place_of_spot keys row k within))
+    ∙ ap (λ (r : List Place). set r k (next_put next (place_in r k))) (sym (row_of_places keys rows i lt)))
+
+pub stands_on : (keys : List Packed) (rows : List (List Spot)) (seen : List (List Place)) (i k : ℕ) (board : Packed) → places_by keys rows ≡ seen → i < length rows → k < length (row_in rows i)
+    → slice_get keys (spot_in (row_in rows i) k).board ≡ Some board → (spot_in (row_in rows i) k).ply ≡ k → IsPlaceOn board k (place_in (row_in seen i) k)
+stands_on keys rows seen i k board view lt within there ply =
+    let place : place_in (row_in seen i) k ≡ place_of keys (spot_in (row_in rows i) k) =
+    ap (λ (l : List (List Place)). place_in (row_in l i) k) (sym view) ∙ ap (λ (r : List Place). place_in r k) (row_of_places keys rows i lt) ∙ place_of_spot keys (row_in rows i) k within in
+    record {
+      board_is = ap (λ (p : Place). p.board) place ∙ get_or_from_slice_get keys (spot_in (row_in rows i) k).board board (board_in [] 0) there;
+      ply_is = ap (λ (p : Place). p.ply) place ∙ ply;
+    }
 
 pub taken : (keys : List Packed) (rows new : List (List Spot)) (i count : ℕ) → i < length rows → new ≡ with_row rows i (take count (row_in rows i))
     → places_by keys new ≡ with_row (places_by keys rows) i (take count (row_in (places_by keys rows) i))

@@ -1,10 +1,11 @@
 -- Where a test that holds of the front of a list alone ends to hold.
-use Rattle.std.proofs.Common.{◌≡◌, ◌≤◌, ◌<◌, ◌+◌, ◌-◌, ℕ, Bool, true, false, zero, List, [], ◌∷◌, ◌++◌, length, insert, remove, refl, sym, ap, ◌∙◌, subst, arith, true≢false, length-append, inl, inr, get_or, leb, ltb}
+use Rattle.std.proofs.Common.{◌≡◌, ◌≤◌, ◌<◌, ◌+◌, ◌-◌, ℕ, Bool, true, false, zero, List, [], ◌∷◌, ◌++◌, length, insert, remove, refl, sym, ap, ◌∙◌, subst, arith, true≢false, length-append, inl, inr, get_or, leb, ltb, set, append_assoc, Option}
 use Rattle.std.specs.Prelude.{All}
 use Rattle.pos_index.specs.declared.hit.Hit.{Hit}
 use Rattle.std.specs.List.Sorted.{IsPartitionedBy, IsPartitionPoint}
 use Rattle.std.proofs.lemmas.Bool.{cases_lt, cases_order}
-use Rattle.std.proofs.lemmas.List.{get_or_append_left, get_or-append_right}
+use Rattle.cell_core.specs.declared.step.Move.{Move}
+use Rattle.std.proofs.lemmas.List.{get_or_append_left, get_or-append_right, set_at}
 use Rattle.std.proofs.lemmas.List.Edits.{insert-append_right, remove-append_right}
 
 module _ {X : Type 0} (p : X → Bool) (before behind : List X) (front : All (λ x. p x ≡ true) before) (back : All (λ x. p x ≡ false) behind) where
@@ -62,3 +63,26 @@ end_upto game at xs before behind d is le gt within point =
     let found = point (subst (IsPartitionedBy p) (sym is) (parted p before behind front back)) in
     point_is p before behind front back at d (omega (arith, within, ap length is))
     (subst (λ (l : List Hit). IsPartitionPoint (λ h. p h ≡ true) (λ h. p h ≡ false) l at) is found)
+
+-- A hit behind those of the games before and so many others of its game.
+apart : (xs before own behind : List Hit) (hit : Hit) → xs ≡ before ++ (own ++ hit ∷ behind) → xs ≡ (before ++ own) ++ hit ∷ behind
+apart xs before own behind hit is = is ∙ sym (append_assoc before own (hit ∷ behind))
+
+pub taken_apart : (xs new before own behind : List Hit) (hit : Hit) (first rank : ℕ) → xs ≡ before ++ (own ++ hit ∷ behind) → first ≡ length before → rank ≡ length own
+    → new ≡ remove xs (first + rank) → new ≡ before ++ (own ++ behind)
+taken_apart xs new before own behind hit first rank is at behind_others taken =
+    taken_there xs new (before ++ own) behind (first + rank) hit (apart xs before own behind hit is) (omega (arith, at, behind_others, length-append before own)) taken
+    ∙ append_assoc before own behind
+
+pub next_apart : (xs before own behind : List Hit) (hit d : Hit) (first rank : ℕ) (next : Option Move) → xs ≡ before ++ (own ++ hit ∷ behind) → first ≡ length before → rank ≡ length own
+    → set xs (first + rank) (record { game = (get_or xs (first + rank) d).game; ply = (get_or xs (first + rank) d).ply; next = next }) ≡ before ++ (own ++ record hit { next = next } ∷ behind)
+next_apart xs before own behind hit d first rank next is at behind_others =
+    let front = before ++ own in
+    let place : length front ≡ first + rank = omega (arith, at, behind_others, length-append before own) in
+    let there : get_or xs (first + rank) d ≡ hit =
+    ap (λ (l : List Hit). get_or l (first + rank) d) (apart xs before own behind hit is)
+    ∙ get_or-append_right front (hit ∷ behind) (length front) (first + rank) d refl (omega (arith, place))
+    ∙ ap (λ (n : ℕ). get_or (hit ∷ behind) n d) (let none : first + rank - length front ≡ 0 = omega (arith, place) in none) in
+    ap (λ (h : Hit). set xs (first + rank) (record { game = h.game; ply = h.ply; next = next })) there
+    ∙ ap (λ (l : List Hit). set l (first + rank) (record hit { next = next })) (apart xs before own behind hit is)
+    ∙ set_at {A = Hit} front hit behind (record hit { next = next }) (first + rank) place ∙ append_assoc before own (record hit { next = next } ∷ behind)

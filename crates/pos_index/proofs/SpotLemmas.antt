@@ -2,7 +2,7 @@
 use Rattle.std.proofs.Common.{◌≡◌, ◌≤◌, ◌<◌, ◌+◌, ℕ, zero, suc, Bool, true, false, cond, eqb, List, [], ◌∷◌, ◌++◌, None, Some, Option, length, get_or, set, take, drop, refl, sym, ap, ◌∙◌, subst, arith, inl, inr, ◌⊎◌}
 use Rattle.std.specs.Prelude.{All}
 use Rattle.std.proofs.lemmas.Bool.{cases_Bool}
-use Rattle.std.proofs.lemmas.List.{append-nil, append_assoc, length-take-le, set-get_or, set_split}
+use Rattle.std.proofs.lemmas.List.{append-nil, append_assoc, length-append, length-take-le, take_more, set-get_or, set_split}
 use Rattle.std.proofs.lemmas.List.Elements.{All-append, All-cons, All-head, All-nil, All-tail, All-weaker}
 use Rattle.game_filter.specs.Renumbering.{Rises, renumbered}
 use Rattle.pos_index.specs.declared.hit.Hit.{Hit}
@@ -34,6 +34,26 @@ hits_at-there board game spot other = ap (λ (t : Bool). cond t (hit_of game spo
     fails : (eqb board spot.board ≡ true) ⊎ (eqb board spot.board ≡ false) → eqb board spot.board ≡ false
     fails (inl same) = absurd (other (grind (arith, same)))
     fails (inr is) = is
+
+-- One spot more.
+pub rank_here : (board game k found : ℕ) (spots : List Spot) (spot : Spot) → k < length spots → spot ≡ get_or spots k spot → board ≡ spot.board
+    → found ≡ length (hits_at board game (take k spots)) → found + 1 ≡ length (hits_at board game (take (k + 1) spots))
+rank_here board game k found spots spot lt is here so =
+    omega (
+      arith,
+      so,
+      ap (λ (l : List Spot). length (hits_at board game l)) (take_more spots k spot lt ∙ ap (λ (s : Spot). take k spots ++ s ∷ []) (sym is)),
+      ap length (hits_at-append board game (take k spots) (spot ∷ [])),
+      ap (λ (l : List Hit). length (hits_at board game (take k spots) ++ l)) (hits_at-here board game spot here),
+      length-append (hits_at board game (take k spots)) (hit_of game spot ∷ []),
+    )
+
+pub rank_there : (board game k found : ℕ) (spots : List Spot) (spot : Spot) → k < length spots → spot ≡ get_or spots k spot → (board ≡ spot.board → ⊥)
+    → found ≡ length (hits_at board game (take k spots)) → found ≡ length (hits_at board game (take (k + 1) spots))
+rank_there board game k found spots spot lt is there so =
+    so ∙ ap length (sym (append-nil (hits_at board game (take k spots))) ∙ ap (λ (l : List Hit). hits_at board game (take k spots) ++ l) (sym (hits_at-there board game spot there))
+    ∙ sym (hits_at-append board game (take k spots) (spot ∷ []))
+    ∙ ap (hits_at board game) (sym (take_more spots k spot lt ∙ ap (λ (s : Spot). take k spots ++ s ∷ []) (sym is))))
 
 -- All its hits are of the game.
 pub hits_at-own : (board game : ℕ) (row : List Spot) → All (λ (h : Hit). h.game ≡ game) (hits_at board game row)

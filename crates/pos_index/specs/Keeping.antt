@@ -1,12 +1,15 @@
 -- What the parts of an index keep. Only models and private functions cite these words.
 use Rattle.std.specs.Prelude.{◌≡◌, ℕ, ◌+◌, ◌<◌, ◌≤◌, ◌^◌, ◌==◌, if◌then◌else◌, All, Bool, List, [], ◌∷◌, ◌++◌, Option, Some, None, length, map, slice_get, slice_index_or, slice_set}
+use Rattle.std.specs.List.{range_with_len}
 use Rattle.indexmap.specs.IndexSet.{IndexSet, IsUnique}
 use Rattle.cell_core.specs.declared.man.Colour.TheVariants.{White}
 use Rattle.cell_core.specs.Packed.{Packed}
 use Rattle.cell_core.specs.contracts.packed.PackedBoardPartialEq.TheImpl as packed_impl
 use Rattle.pos_index.specs.declared.hit.Hit.{Hit}
 use Rattle.pos_index.specs.declared.spot.Spot.{Spot}
-use Rattle.pos_index.specs.Hits.{Place}
+use Rattle.game_tree.specs.Game.{GameTree}
+use Rattle.cell_core.specs.declared.step.Move.{Move}
+use Rattle.pos_index.specs.Hits.{Place, place_at}
 
 -- The hits of a game with this number on a board, by its number; and those of all games, the first of which has this number.
 abbrev pub hits_at : ℕ → ℕ → List Spot → List Hit
@@ -35,6 +38,33 @@ row_in rows i = slice_index_or rows i []
 
 abbrev pub with_row : {T : Type 0} → List (List T) → ℕ → List T → List (List T)
 with_row rows i row = slice_set rows i row
+
+-- The spot and the place at a number, and the same with another move after it.
+abbrev pub spot_in : List Spot → ℕ → Spot
+spot_in row k = slice_index_or row k (record { board = 0; ply = 0; next = None })
+
+abbrev pub next_set : Option Move → Spot → Spot
+next_set next spot = record { board = spot.board; ply = spot.ply; next = next }
+
+abbrev pub place_in : List Place → ℕ → Place
+place_in row k = slice_index_or row k (record { board = record { cells = []; side = White }; ply = 0; next = None })
+
+abbrev pub next_put : Option Move → Place → Place
+next_put next place = record { board = place.board; ply = place.ply; next = next }
+
+-- A place is on this board and after so many half-moves.
+pub record IsPlaceOn (board : Packed) (ply : ℕ) (place : Place) : Type 0 where
+  pub board_is : place.board ≡ board
+  pub ply_is : place.ply ≡ ply
+
+-- The first places of a game, so many, whatever its plies.
+abbrev pub first_places : GameTree → ℕ → List Place
+first_places game n = map (place_at game) (range_with_len 0 n)
+
+-- The first places of a row, so many, are those of a game but for the moves after them.
+pub record AreAlike (row : List Place) (game : GameTree) (n : ℕ) : Type 0 where
+  pub within : n ≤ length row
+  pub each : (k : ℕ) → k < n → IsPlaceOn (place_at game k).board k (place_in row k)
 
 -- The last list is empty.
 pub record EndsEmpty {T : Type 0} (rows : List (List T)) : Type 0 where

@@ -4,6 +4,7 @@ ghost use Rattle.pos_index.specs.declared.hit.Hit.{Hit as Standing};
 ghost use Rattle.pos_index.specs.Keeping.{moved};
 
 use crate::hit::Hit;
+use cell_core::Move;
 use smallvec::SmallVec;
 use std::alloc::{AllocError, Global};
 use std::marker::Model;
@@ -54,17 +55,35 @@ impl Hits {
         Ok(())
     }
 
-    /// Takes the first hit of a game out.
-    pub(crate) fn take_first(&mut self, game: u32)
-        ensures { (before behind : List Standing) (hit : Standing) → self.old ≡ before ++ hit ∷ behind → All (λ h. h.game < game) before → All (λ h. game ≤ h.game) (hit ∷ behind)
-            → self.new ≡ before ++ behind }
+    // Where the hits of a game begin.
+    fn first_of(&self, game: u32) -> usize
+        ensures first { (before behind : List Standing) → self.now ≡ before ++ behind → All (λ h. h.game < game) before → All (λ h. game ≤ h.game) behind → result ≡ length before }
+        ensures within { result ≤ length self.now }
     {
-        let place = self
-            .hits
+        self.hits
             .as_slice()
-            .partition_point(|other| other.game < game);
-        if place < self.hits.len() {
-            self.hits.remove(place);
+            .partition_point(|other| other.game < game)
+    }
+
+    /// Takes a hit of a game out, the one behind so many others of the game.
+    pub(crate) fn take(&mut self, game: u32, rank: usize)
+        ensures { (before own behind : List Standing) (hit : Standing) → self.old ≡ before ++ (own ++ hit ∷ behind) → All (λ h. h.game < game) before → All (λ h. game ≤ h.game) (own ++ hit ∷ behind)
+            → rank ≡ length own → self.new ≡ before ++ (own ++ behind) }
+    {
+        let first = self.first_of(game);
+        if rank < self.hits.len() - first {
+            self.hits.remove(first + rank);
+        }
+    }
+
+    /// Sets the move after a hit of a game, the one behind so many others of the game.
+    pub(crate) fn set_next(&mut self, game: u32, rank: usize, next: &Option<Move>)
+        ensures { (before own behind : List Standing) (hit : Standing) → self.old ≡ before ++ (own ++ hit ∷ behind) → All (λ h. h.game < game) before → All (λ h. game ≤ h.game) (own ++ hit ∷ behind)
+            → rank ≡ length own → self.new ≡ before ++ (own ++ record hit { next = next.now } ∷ behind) }
+    {
+        let first = self.first_of(game);
+        if rank < self.hits.len() - first {
+            self.hits.as_mut_slice()[first + rank].next = *next;
         }
     }
 

@@ -3,7 +3,7 @@ use crate::building::read_places;
 use crate::fault::BuildError;
 use crate::hit::Hit;
 use crate::places::Places;
-use crate::placing::put_game;
+use crate::placing::{common, put_game, set_nexts};
 use base_files::Files;
 use cell_core::PackedBoard;
 use game_filter::Renumbering;
@@ -121,7 +121,7 @@ impl PosIndex {
         ensures unchanged { OnErr result (self.new ≡ self.old) }
     {
         self.places.add_row(alloc, usize::from(self.depth) + 1)?;
-        match put_game(alloc, &mut self.places, i, g, self.depth) {
+        match put_game(alloc, &mut self.places, i, g, 0, self.depth) {
             Ok(()) => Ok(()),
             Err(refused) => {
                 self.places.pop_row();
@@ -130,7 +130,8 @@ impl PosIndex {
         }
     }
 
-    /// Puts a legal game in the place of game `i`: the hits of the old one go. After want of memory the index is as it was.
+    /// Puts a legal game in the place of game `i`: the hits of the old one go, but for those on the boards with which both begin, which get the
+    /// moves of the new one. After want of memory the index is as it was.
     pub fn replace(&mut self, alloc: Global, i: u32, new: &Game) -> Result<(), AllocError>
         requires game { i < length self.old.rows }
         requires legal { IsLegalGame new.now }
@@ -139,8 +140,11 @@ impl PosIndex {
         ensures unchanged { OnErr result (self.new ≡ self.old) }
     {
         let old = self.places.count(i);
-        put_game(alloc, &mut self.places, i, new, self.depth)?;
-        self.places.drop_front(i, old);
+        let kept = common(&self.places, i, new, self.depth);
+        put_game(alloc, &mut self.places, i, new, kept, self.depth)?;
+        self.places
+            .drop_middle(i, usize::from(kept), old - usize::from(kept));
+        set_nexts(&mut self.places, i, new, kept);
         Ok(())
     }
 

@@ -1,7 +1,7 @@
 //! The hits by the numbers of boards, and the boards of each game.
-ghost use Rattle.std.specs.Prelude.{◌≡◌, ◌+◌, ◌≤◌, ◌<◌, ◌^◌, [], ◌∷◌, ◌++◌, All, List, length, drop, map, take, OnOk, OnErr};
+ghost use Rattle.std.specs.Prelude.{◌≡◌, ◌+◌, ◌≤◌, ◌<◌, ◌^◌, ℕ, [], ◌∷◌, ◌++◌, All, List, length, drop, map, slice_set, take, OnOk, OnErr};
 ghost use Rattle.game_filter.specs.Renumbering.{renumbered};
-ghost use Rattle.pos_index.specs.Keeping.{AreListed, EndsEmpty, hits_by, moved, row_in, with_row};
+ghost use Rattle.pos_index.specs.Keeping.{AreListed, EndsEmpty, hits_at, hits_by, moved, next_set, row_in, spot_in, with_row};
 ghost use Rattle.pos_index.specs.declared.hit.Hit.{Hit as Hitting};
 ghost use Rattle.pos_index.specs.declared.spot.Spot.{Spot as Standing};
 
@@ -9,6 +9,7 @@ use crate::hit::Hit;
 use crate::hits::Hits;
 use crate::row::Row;
 use crate::spot::Spot;
+use cell_core::Move;
 use game_filter::Renumbering;
 use std::alloc::{AllocError, Global};
 use std::marker::Model;
@@ -103,15 +104,28 @@ impl Lists {
         Ok(())
     }
 
-    /// The first spots of game `i` go, so many.
-    pub(crate) fn drop_front(&mut self, i: u32, count: usize)
+    /// The spots of game `i` from a place on go, so many.
+    pub(crate) fn drop_middle(&mut self, i: u32, from: usize, count: usize)
         requires game { i < length self.old.rows }
-        requires spots { count ≤ length (row_in self.old.rows i) }
-        ensures { self.new ≡ record self.old { rows = with_row self.old.rows i (drop count (row_in self.old.rows i)) } }
+        requires spots { from + count ≤ length (row_in self.old.rows i) }
+        ensures { self.new ≡ record self.old { rows = with_row self.old.rows i (take from (row_in self.old.rows i) ++ drop (from + count) (row_in self.old.rows i)) } }
+    {
+        let (front, rest) = self.rows[i as usize].spots().split_at(from);
+        take_middle(self.lists.as_mut_slice(), front, rest.split_at(count).0, i);
+        self.rows[i as usize].drop_middle(from, count);
+    }
+
+    /// Sets the move after spot `k` of game `i`.
+    pub(crate) fn set_next(&mut self, i: u32, k: usize, next: &Option<Move>)
+        requires game { i < length self.old.rows }
+        requires spot { k < length (row_in self.old.rows i) }
+        ensures { self.new ≡ record self.old { rows = with_row self.old.rows i (slice_set (row_in self.old.rows i) k (next_set next.now (spot_in (row_in self.old.rows i) k))) } }
     {
         let spots = self.rows[i as usize].spots();
-        take_firsts(self.lists.as_mut_slice(), spots.split_at(count).0, i);
-        self.rows[i as usize].drop_front(count);
+        let board = spots[k].board;
+        let before = rank(spots.split_at(k).0, board);
+        self.lists[board as usize].set_next(i, before, next);
+        self.rows[i as usize].set_next(k, next);
     }
 
     /// The first spots of game `i` stay, so many.
@@ -159,15 +173,29 @@ fn put_in(row: &mut Row, hits: &mut Hits, game: u32, spot: &Spot) -> Result<(), 
     }
 }
 
-// Takes the hits of the first spots of game `game` out.
-fn take_firsts(lists: &mut [Hits], spots: &[Spot], game: u32)
+// How many of these spots are on a board.
+fn rank(spots: &[Spot], board: u32) -> usize
+    ensures rank { (game : ℕ) → result ≡ length (hits_at board game spots.now) }
+    ensures within { result ≤ length spots.now }
+{
+    let mut found = 0;
+    for spot in spots {
+        if spot.board == board {
+            found += 1;
+        }
+    }
+    found
+}
+
+// Takes the hits of the spots of game `game` out that stand behind those in front.
+fn take_middle(lists: &mut [Hits], front: &[Spot], spots: &[Spot], game: u32)
     requires { All (λ spot. spot.board < length lists.old) spots.now }
     ensures len { length lists.new ≡ length lists.old }
-    ensures taken { (rows : List (List Standing)) (behind : List Standing) → game < length rows → row_in rows game ≡ spots.now ++ behind → AreListed lists.old rows
-        → AreListed lists.new (with_row rows game behind) }
+    ensures taken { (rows : List (List Standing)) (behind : List Standing) → game < length rows → row_in rows game ≡ front.now ++ (spots.now ++ behind) → AreListed lists.old rows
+        → AreListed lists.new (with_row rows game (front.now ++ behind)) }
 {
     for spot in spots {
-        lists[spot.board as usize].take_first(game);
+        lists[spot.board as usize].take(game, rank(front, spot.board));
     }
 }
 

@@ -1,9 +1,9 @@
 //! The places of games, by their boards and by their games.
-ghost use Rattle.std.specs.Prelude.{◌≡◌, ◌+◌, ◌≤◌, ◌<◌, [], ◌∷◌, ◌++◌, List, length, drop, take, IfOk, OnOk, OnErr};
+ghost use Rattle.std.specs.Prelude.{◌≡◌, ◌+◌, ◌≤◌, ◌<◌, [], ◌∷◌, ◌++◌, List, Some, length, drop, take, slice_set, IfOk, IsTrue, OnOk, OnErr};
 ghost use Rattle.cell_core.specs.Packed.{Packed};
 ghost use Rattle.game_filter.specs.Renumbering.{renumbered};
 ghost use Rattle.pos_index.specs.Hits.{Place, hits_from};
-ghost use Rattle.pos_index.specs.Keeping.{AreKept, EndsEmpty, IsNumber, row_in, with_row};
+ghost use Rattle.pos_index.specs.Keeping.{AreKept, EndsEmpty, IsNumber, IsPlaceOn, next_put, place_in, row_in, with_row};
 
 use crate::hit::Hit;
 use crate::lists::Lists;
@@ -109,13 +109,35 @@ impl Places {
         self.lists.put(i, &spot)
     }
 
-    /// The first places of game `i` go, so many.
-    pub(crate) fn drop_front(&mut self, i: u32, count: usize)
-        requires game { i < length self.old }
-        requires places { count ≤ length (row_in self.old i) }
-        ensures { self.new ≡ with_row self.old i (drop count (row_in self.old i)) }
+    /// Whether place `k` of game `i` is after `k` half-moves and on this board.
+    pub(crate) fn is_at(&self, i: u32, k: u8, board: &PackedBoard) -> bool
+        requires game { i < length self.now }
+        requires place { k < length (row_in self.now i) }
+        ensures at { IsTrue result → IsPlaceOn board.now k (place_in (row_in self.now i) k) }
     {
-        self.lists.drop_front(i, count);
+        let spot = &self.lists.rows()[i as usize].spots()[usize::from(k)];
+        match self.boards.get_index(spot.board as usize) {
+            Some(other) => other == board && spot.ply == k,
+            None => false,
+        }
+    }
+
+    /// The places of game `i` from a place on go, so many.
+    pub(crate) fn drop_middle(&mut self, i: u32, from: usize, count: usize)
+        requires game { i < length self.old }
+        requires places { from + count ≤ length (row_in self.old i) }
+        ensures { self.new ≡ with_row self.old i (take from (row_in self.old i) ++ drop (from + count) (row_in self.old i)) }
+    {
+        self.lists.drop_middle(i, from, count);
+    }
+
+    /// Sets the move after place `k` of game `i`.
+    pub(crate) fn set_next(&mut self, i: u32, k: usize, next: &Option<Move>)
+        requires game { i < length self.old }
+        requires place { k < length (row_in self.old i) }
+        ensures { self.new ≡ with_row self.old i (slice_set (row_in self.old i) k (next_put next.now (place_in (row_in self.old i) k))) }
+    {
+        self.lists.set_next(i, k, next);
     }
 
     /// The first places of game `i` stay, so many.

@@ -1,5 +1,5 @@
 //! The places of one game, from the game in memory or from its record.
-ghost use Rattle.std.specs.Prelude.{◌≡◌, ◌+◌, ◌≤◌, ◌<◌, ◌^◌, ◌++◌, false, true, List, length, IfOk, OnOk, OnErr};
+ghost use Rattle.std.specs.Prelude.{◌≡◌, ◌+◌, ◌≤◌, ◌<◌, ◌^◌, [], ◌∷◌, ◌++◌, false, true, nat_lt, if◌then◌else◌, List, drop, length, IfOk, OnOk, OnErr};
 ghost use Rattle.cell_core.specs.Packed.{packed_of};
 ghost use Rattle.game_codec.specs.Record.{IsRecord, IsSomeRecord};
 ghost use Rattle.game_tree.specs.Game.{GameTree};
@@ -7,7 +7,7 @@ ghost use Rattle.game_tree.specs.Legal.{IsLegalGame};
 ghost use Rattle.game_tree.specs.Replay.{next_at};
 ghost use Rattle.game_tree.specs.declared.head.Tag.{Tag};
 ghost use Rattle.pos_index.specs.Hits.{places_of};
-ghost use Rattle.pos_index.specs.Keeping.{HasPut, HasPutAtMost, row_in, with_row};
+ghost use Rattle.pos_index.specs.Keeping.{AreAlike, HasPut, HasPutAtMost, first_places, row_in, with_row};
 
 use crate::places::Places;
 use cell_core::{Move, PackedBoard, pack};
@@ -16,22 +16,24 @@ use game_codec::Walk;
 use game_tree::Game;
 use std::alloc::{AllocError, Global};
 
-/// Puts the places of a legal game, up to a depth, behind those that number `i` has. After want of memory all is as it was.
+/// Puts the places of a legal game, up to a depth, behind those that number `i` has, but for the first ones, so many. After want of memory
+/// all is as it was.
 pub(crate) fn put_game(
     alloc: Global,
     places: &mut Places,
     i: u32,
     game: &Game,
+    from: u8,
     depth: u8,
 ) -> Result<(), AllocError>
     requires number { i < length places.old }
     requires legal { IsLegalGame game.now }
     requires depth { depth ≤ 40 }
-    ensures put { OnOk result (places.new ≡ with_row places.old i (row_in places.old i ++ places_of depth game.now)) }
+    ensures put { OnOk result (places.new ≡ with_row places.old i (row_in places.old i ++ drop from (places_of depth game.now))) }
     ensures unchanged { OnErr result (places.new ≡ places.old) }
 {
     let old = places.count(i);
-    match try_game(alloc, places, i, game, depth) {
+    match try_game(alloc, places, i, game, from, depth) {
         Ok(()) => Ok(()),
         Err(refused) => {
             places.truncate(i, old);
@@ -46,24 +48,78 @@ fn try_game(
     places: &mut Places,
     i: u32,
     game: &Game,
+    from: u8,
     depth: u8,
 ) -> Result<(), AllocError>
     requires number { i < length places.old }
     requires legal { IsLegalGame game.now }
     requires depth { depth ≤ 40 }
-    ensures put { OnOk result (places.new ≡ with_row places.old i (row_in places.old i ++ places_of depth game.now)) }
+    ensures put { OnOk result (places.new ≡ with_row places.old i (row_in places.old i ++ drop from (places_of depth game.now))) }
     ensures some { OnErr result (HasPut places.old i places.new) }
 {
     let mut position = game.start;
     for ply in 0..depth + 1 {
         let next = next_in(game, ply);
-        places.put(alloc, i, packed(&position), ply, &next)?;
+        put_from(alloc, places, i, packed(&position), from, ply, &next)?;
         match next {
             Some(m) => position.play(m),
             None => return Ok(()),
         }
     }
     Ok(())
+}
+
+// Puts a place, if it is none of the first ones.
+fn put_from(
+    alloc: Global,
+    places: &mut Places,
+    i: u32,
+    board: PackedBoard,
+    from: u8,
+    ply: u8,
+    next: &Option<Move>,
+) -> Result<(), AllocError>
+    requires number { i < length places.old }
+    ensures put { OnOk result (places.new ≡ with_row places.old i (row_in places.old i ++ (if nat_lt ply from then [] else record { board = board; ply = ply; next = next.now } ∷ []))) }
+    ensures unchanged { OnErr result (places.new ≡ places.old) }
+{
+    if ply < from {
+        return Ok(());
+    }
+    places.put(alloc, i, board, ply, next)
+}
+
+/// How many of the first places of number `i` are those of a legal game, but for the moves after them.
+pub(crate) fn common(places: &Places, i: u32, game: &Game, depth: u8) -> u8
+    requires number { i < length places.now }
+    requires legal { IsLegalGame game.now }
+    requires depth { depth ≤ 40 }
+    ensures alike { AreAlike (row_in places.now i) game.now result }
+    ensures few { result ≤ length (places_of depth game.now) }
+{
+    let count = places.count(i);
+    let mut position = game.start;
+    for ply in 0..depth + 1 {
+        if usize::from(ply) >= count || !places.is_at(i, ply, &packed(&position)) {
+            return ply;
+        }
+        match next_in(game, ply) {
+            Some(m) => position.play(m),
+            None => return ply + 1,
+        }
+    }
+    depth + 1
+}
+
+/// Sets the moves after the first places of number `i`, so many, which are those of the game but for them.
+pub(crate) fn set_nexts(places: &mut Places, i: u32, game: &Game, count: u8)
+    requires number { i < length places.old }
+    requires alike { AreAlike (row_in places.old i) game.now count }
+    ensures { places.new ≡ with_row places.old i (first_places game.now count ++ drop count (row_in places.old i)) }
+{
+    for k in 0..count {
+        places.set_next(i, usize::from(k), &next_in(game, k));
+    }
 }
 
 // The move of the main line after so many half-moves, if there is one.

@@ -1,5 +1,6 @@
 //! Where one game stands.
-ghost use Rattle.std.specs.Prelude.{◌≡◌, ◌-◌, ◌≤◌, [], ◌∷◌, ◌++◌, length, drop, take, IfOk, OnOk, OnErr};
+ghost use Rattle.std.specs.Prelude.{◌≡◌, ◌+◌, ◌-◌, ◌≤◌, ◌<◌, [], ◌∷◌, ◌++◌, length, drop, take, slice_set, IfOk, OnOk, OnErr};
+ghost use Rattle.pos_index.specs.Keeping.{next_set, spot_in};
 
 use crate::spot::Spot;
 use cell_core::Move;
@@ -70,11 +71,19 @@ impl Row {
         self.spots.pop();
     }
 
-    /// The first spots go, so many or all.
-    pub(crate) fn drop_front(&mut self, count: usize)
-        requires { count ≤ length self.old }
-        ensures { self.new ≡ drop count self.old }
+    /// The spots from a place on go, so many.
+    pub(crate) fn drop_middle(&mut self, from: usize, count: usize)
+        requires { from + count ≤ length self.old }
+        ensures { self.new ≡ take from self.old ++ drop (from + count) self.old }
     {
-        self.spots.drain(..count);
+        self.spots.drain(from..from + count);
+    }
+
+    /// Sets the move after a spot.
+    pub(crate) fn set_next(&mut self, k: usize, next: &Option<Move>)
+        requires { k < length self.old }
+        ensures { self.new ≡ slice_set self.old k (next_set next.now (spot_in self.old k)) }
+    {
+        self.spots[k].next = *next;
     }
 }

@@ -8,13 +8,13 @@ use Rattle.cell_core.specs.declared.step.Move.{Move}
 use Rattle.chess_laws.specs.Step.{stepped}
 use Rattle.chess_laws.specs.declared.setup.Setup.{Setup}
 use Rattle.game_codec.specs.AllWalk.{AllWalked}
-use Rattle.game_codec.specs.Visits.{Visit, all_visits, branch_visits, line_visits, place_of_visit, places}
+use Rattle.game_codec.specs.Visits.{Visit, all_visits, branch_visits, line_visits, place_of_visit}
 use Rattle.game_tree.specs.Game.{GameTree}
 use Rattle.game_tree.specs.Replay.{next_at, plies_of}
 use Rattle.game_tree.specs.Tree.{Line, ends, goes, Branches, more, moves_of}
 use Rattle.game_tree.specs.Tree.{none as bare}
 use Rattle.sig_index.specs.declared.pos_query.PosQuery.{PosQuery}
-use Rattle.pos_search.specs.Matching.{IsLegalFrom, first_aside, first_if_aside, first_on_main, hit_aside, hit_of, hit_on_main, is_sought, matches, matches_at}
+use Rattle.pos_search.specs.Matching.{first_of, IsLegalFrom, first_aside, first_if_aside, first_on_main, hit_aside, hit_of, hit_on_main, is_sought, matches, matches_at}
 use Rattle.pos_search.specs.Sought.{found_aside}
 use Rattle.pos_search.proofs.FirstLemmas.{found_main}
 use Rattle.pos_search.proofs.WalkLemmas.{none_of}
@@ -212,6 +212,15 @@ plain_hit query game plain =
     ∙ ap (λ (t : Bool). option_or (hit_on_main query game) (option_map hit_aside (cond t (first_aside query game) None))) (sym plain)
   where
     or_none : (a : Option (ℕ × Option Move)) → option_or a None ≡ a
+    or_none None = refl
+    or_none (Some x) = refl
+
+pub plain_first : (query : PosQuery) (game : GameTree) → query.vars ≡ false → first_on_main query game ≡ first_of query game
+plain_first query game plain =
+    sym (or_none (first_on_main query game))
+    ∙ ap (λ (t : Bool). option_or (first_on_main query game) (cond t (first_aside query game) None)) (sym plain)
+  where
+    or_none : (a : Option ℕ) → option_or a None ≡ a
     or_none None = refl
     or_none (Some x) = refl
 

@@ -1,10 +1,11 @@
 -- What a position that is sought has in common with the query.
-use Rattle.std.proofs.Common.{◌≡◌, ℕ, ◌+◌, ◌<◌, Bool, true, false, cond, ◌&&◌, List, Option, None, Some, refl, sym, ap, ◌∙◌, arith, inl, inr}
+use Rattle.std.proofs.Common.{◌≡◌, ℕ, ◌+◌, ◌-◌, ◌<◌, leb, get_or, Bool, true, false, cond, ◌&&◌, List, Option, None, Some, refl, sym, ap, ◌∙◌, arith, inl, inr}
 use Rattle.std.specs.Prelude.{nat_eq}
 use Rattle.std.specs.Bool.{Decides}
 use Rattle.std.specs.Cmp.Lexicographic.{pointwise}
 use Rattle.std.specs.Option.{option_eq}
 use Rattle.std.proofs.lemmas.Bool.{and_parts, cases_eq}
+use Rattle.std.proofs.lemmas.Bool.Decides.{nat_tests, same_from_decides}
 use Rattle.std.proofs.lemmas.Slice.Eq.{bytes_eq-Decides}
 use Rattle.cell_core.specs.declared.man.Colour.{Colour}
 use Rattle.cell_core.specs.declared.man.Kind.TheVariants.{Pawn}
@@ -14,14 +15,14 @@ use Rattle.cell_core.specs.Man.{is_man, same_colour, same_kind}
 use Rattle.cell_core.proofs.Same.{same_colour-Decides, same_men-Decides}
 use Rattle.chess_laws.specs.Counts.{counts_of, home_colour, home_square, is_home}
 use Rattle.chess_laws.specs.declared.setup.Setup.{Setup}
+use Rattle.sig_index.specs.Coming.{can_come}
 use Rattle.sig_index.specs.declared.pos_query.Mode.{Mode}
 use Rattle.sig_index.specs.declared.pos_query.Mode.TheVariants.{Exact, Pawns, Files, Material}
 use Rattle.sig_index.specs.declared.pos_query.PosQuery.{PosQuery}
 use Rattle.sig_index.proofs.HomeLemmas.{home_fits}
 use Rattle.sig_index.proofs.Ranges.{all_each, all_from, all_not}
 use Rattle.pos_search.specs.Matching.{alike, matches, pawn_on, same_counts, same_file, same_files, same_pawn, same_pawns}
-use Rattle.pos_search.specs.Passing.{fixes_pawns}
-use Rattle.pos_search.specs.Sought.{alike_beside}
+use Rattle.pos_search.specs.Passing.{fixes_pawns, just}
 
 -- ---- two boards
 
@@ -29,26 +30,11 @@ counts-Decides : (a b : Men) → Decides (same_counts a b) (counts_of a ≡ coun
 unfolding same_counts
 counts-Decides a b = bytes_eq-Decides (counts_of a) (counts_of b)
 
-with_counts : (s t : Bool) → (t ≡ true → s ≡ true) → t ≡ (s && t)
-with_counts true t h = refl
-with_counts false true h = sym (h refl)
-with_counts false false h = refl
-
--- What a mode asks is that the counts are the same, and what it asks beside them.
-pub alike_is : (mode : Mode) (a b : Men) → alike mode a b ≡ (same_counts a b && alike_beside mode a b)
-alike_is Exact a b =
-    with_counts (same_counts a b) (same_men a b) (λ same. (counts-Decides a b).1 (ap counts_of ((same_men-Decides a b).0 same)))
-alike_is Pawns a b = refl
-alike_is Files a b = refl
-alike_is Material a b = and_true (same_counts a b)
-  where
-    and_true : (t : Bool) → t ≡ (t && true)
-    and_true true = refl
-    and_true false = refl
-
 alike_counts : (mode : Mode) (a b : Men) → alike mode a b ≡ true → counts_of a ≡ counts_of b
-alike_counts mode a b holds =
-    (counts-Decides a b).0 (and_parts (same_counts a b) (alike_beside mode a b) (sym (alike_is mode a b) ∙ holds)).0
+alike_counts Exact a b holds = ap counts_of ((same_men-Decides a b).0 holds)
+alike_counts Pawns a b holds = (counts-Decides a b).0 (and_parts (same_counts a b) (same_pawns a b) holds).0
+alike_counts Files a b holds = (counts-Decides a b).0 (and_parts (same_counts a b) (same_files a b) holds).0
+alike_counts Material a b holds = (counts-Decides a b).0 holds
 
 -- ---- pawns
 
@@ -121,21 +107,19 @@ files_all a b each = sym (all_from (same_file a b) 0 8 (λ file from less. each 
 
 -- ---- a position that is sought
 
-tested : (mode : Mode) (a b : Men) (counts sought : List ℕ) (t : Bool) → t ≡ pointwise nat_eq counts sought → counts ≡ counts_of a → sought ≡ counts_of b
-    → (t && alike_beside mode a b) ≡ alike mode a b
-unfolding same_counts
-tested mode a b counts sought t is count count' =
-    ap (λ (s : Bool). s && alike_beside mode a b) (is ∙ (λ i. pointwise nat_eq (count i) (count' i))) ∙ sym (alike_is mode a b)
+-- the ten counts are compared
+pub counts_same : (a b : Men) (counts sought : List ℕ) (t : Bool) → Decides t (counts ≡ sought) → counts ≡ counts_of a → sought ≡ counts_of b → t ≡ same_counts a b
+counts_same a b counts sought t is count count' = same_from_decides t (same_counts a b) (rw (count, count') at is) (counts-Decides a b)
 
-pub alike_then : (mode : Mode) (a b : Men) (counts sought : List ℕ) (t beside : Bool) → t ≡ pointwise nat_eq counts sought → counts ≡ counts_of a → sought ≡ counts_of b
-    → t ≡ true → beside ≡ alike_beside mode a b → beside ≡ alike mode a b
-alike_then mode a b counts sought t beside is count count' passes besides =
-    besides ∙ ap (λ (s : Bool). s && alike_beside mode a b) (sym passes) ∙ tested mode a b counts sought t is count count'
+-- the same men can come
+enough : (a b d e p : ℕ) → leb (a - a + (b - b + (d - d) + (e - e)) + p) p ≡ true
+enough a b d e p = grind (arith, nat_tests)
 
-pub alike_else : (mode : Mode) (a b : Men) (counts sought : List ℕ) (t : Bool) → t ≡ pointwise nat_eq counts sought → counts ≡ counts_of a → sought ≡ counts_of b
-    → t ≡ false → t ≡ alike mode a b
-alike_else mode a b counts sought t is count count' fails =
-    fails ∙ ap (λ (s : Bool). s && alike_beside mode a b) (sym fails) ∙ tested mode a b counts sought t is count count'
+pub comes_same : (counts : List ℕ) → can_come (just counts) counts ≡ true
+unfolding can_come
+comes_same counts =
+    let at = λ (place : ℕ). get_or counts place 0 in
+    rw (enough (at 0) (at 1) (at 2) (at 3) (at 4), enough (at 5) (at 6) (at 7) (at 8) (at 9)) refl
 
 pub record Matched (query : PosQuery) (p : Setup) : Type 0 where
   pub side : p.side ≡ query.side

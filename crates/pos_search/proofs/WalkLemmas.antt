@@ -32,12 +32,16 @@ at_next query game ply next at here is = record {
 }
 
 -- The game matches here.
-pub found_here : (query : PosQuery) (game : GameTree) (ply : ℕ) (next : Option Move) → IsAt query game ply → ply ≤ plies_of game
-    → matches_at query game ply ≡ true → next ≡ next_at game ply → Some (ply, next) ≡ hit_on_main query game
-found_here query game ply next at within holds is =
-    ap (λ (m : Option Move). Some (ply, m)) is
-    ∙ ap (λ (first : Option ℕ). option_map (λ (k : ℕ). (k, next_at game k)) first)
-    (sym (find_first (matches_at query game) 0 (plies_of game + 1) ply (omega arith) (omega (arith, within)) holds at.before))
+pub found_here : (query : PosQuery) (game : GameTree) (ply : ℕ) → IsAt query game ply → ply ≤ plies_of game
+    → matches_at query game ply ≡ true → Some ply ≡ first_on_main query game
+found_here query game ply at within holds =
+    sym (find_first (matches_at query game) 0 (plies_of game + 1) ply (omega arith) (omega (arith, within)) holds at.before)
+
+-- The hit there.
+pub hit_here : (query : PosQuery) (game : GameTree) (ply : ℕ) (next : Option Move) → Some ply ≡ first_on_main query game → next ≡ next_at game ply
+    → Some (ply, next) ≡ hit_on_main query game
+hit_here query game ply next first is =
+    ap (λ (m : Option Move). Some (ply, m)) is ∙ ap (λ (found : Option ℕ). option_map (λ (k : ℕ). (k, next_at game k)) found) first
 
 -- It matches nowhere.
 pub none_of : (query : PosQuery) (game : GameTree) → ((k : ℕ) → k ≤ plies_of game → matches_at query game k ≡ false) → None ≡ first_on_main query game
@@ -48,21 +52,21 @@ no_hit query game none = ap (λ (first : Option ℕ). option_map (λ (k : ℕ). 
 
 -- No sought position can follow this one.
 pub none_later : (query : PosQuery) (game : GameTree) (ply : ℕ) → IsAt query game ply → Sound game.start → IsLegalGame game
-    → can_follow query (position_at game ply) ≡ false → None ≡ hit_on_main query game
-none_later query game ply at sound legal not = no_hit query game (none_of query game (λ k within.
+    → can_follow query (position_at game ply) ≡ false → None ≡ first_on_main query game
+none_later query game ply at sound legal not = none_of query game (λ k within.
     elim (cases_lt k ply) [
       | inl before ↦ at.before k before
       | inr behind ↦ none_follows query game ply k sound legal behind within not
-    ]))
+    ])
 
 -- The line ends here.
 pub none_at_end : (query : PosQuery) (game : GameTree) (ply : ℕ) → IsAt query game ply → matches_at query game ply ≡ false → plies_of game ≤ ply
-    → None ≡ hit_on_main query game
-none_at_end query game ply at here last = no_hit query game (none_of query game (λ k within.
+    → None ≡ first_on_main query game
+none_at_end query game ply at here last = none_of query game (λ k within.
     elim (cases_lt k ply) [
       | inl before ↦ at.before k before
       | inr behind ↦ subst (λ (n : ℕ). matches_at query game n ≡ false) (let same : ply ≡ k = omega (arith, behind, within, last) in same) here
-    ]))
+    ])
 
 -- The move after a match of an exact search is legal from the position that was reached.
 pub legal_hit : (query : PosQuery) (p q : Setup) (ply : ℕ) (next : Option Move) → Sound p → matches query p ≡ true

@@ -2,31 +2,24 @@
 use Rattle.std.specs.Prelude.{◌≡◌, ℕ, Bool, true, not, ◌&&◌, ◌||◌, if◌then◌else◌, Option, Some, None}
 use Rattle.std.specs.List.{list_all}
 use Rattle.std.specs.Option.{option_or}
-use Rattle.cell_core.specs.Board.{Men, same_men}
+use Rattle.cell_core.specs.Board.{Men}
 use Rattle.chess_laws.specs.Counts.{counts_of, is_home}
 use Rattle.chess_laws.specs.declared.setup.Setup.{Setup}
+use Rattle.chess_laws.specs.Position.{Sound}
 use Rattle.game_codec.specs.AllWalk.{AllWalked}
+use Rattle.game_codec.specs.Walk.{Walked}
 use Rattle.sig_index.specs.declared.mat_query.MatRange.{MatRange}
-use Rattle.sig_index.specs.declared.pos_query.Mode.{Mode}
-use Rattle.sig_index.specs.declared.pos_query.Mode.TheVariants.{Exact, Pawns, Files, Material}
 use Rattle.sig_index.specs.declared.pos_query.PosQuery.{PosQuery}
 use Rattle.sig_index.specs.Coming.{can_come}
 use Rattle.sig_index.specs.Homes.{home_set}
 use Rattle.sig_index.specs.Signature.{all_homes}
-use Rattle.pos_search.specs.Matching.{matches, same_files, same_pawns}
+use Rattle.pos_search.specs.Matching.{matches}
 use Rattle.pos_search.specs.Passing.{fixes_pawns, just}
 
 -- What is counted on the board of a query: its ten counts, as the only ones of a range, and its pawns at home.
 pub record IsCounted (query : PosQuery) (range : MatRange) (homes : ℕ) : Type 0 where
   pub counted : range ≡ just (counts_of query.board)
   pub at_home : homes ≡ home_set query.board
-
--- What a mode asks of two boards beside the ten counts.
-abbrev pub alike_beside : Mode → Men → Men → Bool
-alike_beside Exact a b = same_men a b
-alike_beside Pawns a b = same_pawns a b
-alike_beside Files a b = same_files a b
-alike_beside Material a b = true
 
 -- Each pawn at home on the first board stands at home on the second.
 unfoldable pub has_homes : Men → Men → Bool
@@ -39,3 +32,9 @@ can_follow query p = can_come (just (counts_of query.board)) (counts_of p.board)
 -- The ply of the first place in a variation that was found so far: this one, where none was found before it.
 abbrev pub found_aside : PosQuery → Option ℕ → AllWalked → Option ℕ
 found_aside query found walk = option_or found (if not walk.on_main && matches query walk.position then Some walk.ply else None)
+
+-- A walk stands at this ply, and the position there is one that is sought.
+pub record Met (query : PosQuery) (walk : Walked) (ply : ℕ) : Type 0 where
+  pub at : walk.ply ≡ ply
+  pub sound : Sound walk.position
+  pub here : matches query walk.position ≡ true

@@ -1,5 +1,5 @@
 //! What two boards have in common.
-ghost use Rattle.std.specs.Prelude.{◌≡◌, ◌≤◌, ◌<◌};
+ghost use Rattle.std.specs.Prelude.{◌≡◌, ◌↔◌, ◌≤◌, ◌<◌, IsTrue};
 ghost use Rattle.cell_core.specs.Man.{is_man};
 ghost use Rattle.chess_laws.specs.Counts.{count_of, counts_of, is_home};
 ghost use Rattle.sig_index.specs.Homes.{home_set};
@@ -23,6 +23,18 @@ pub(crate) fn counts(board: &Board) -> [u8; 10]
         count(board, Colour::Black, Kind::Knight),
         count(board, Colour::Black, Kind::Pawn),
     ]
+}
+
+// Whether ten numbers are the same.
+pub(crate) fn same_numbers(a: &[u8; 10], b: &[u8; 10]) -> bool
+    ensures { IsTrue result ↔ (a.now ≡ b.now) }
+{
+    for place in 0..10u8 {
+        if a[place as usize] != b[place as usize] {
+            return false;
+        }
+    }
+    true
 }
 
 // How many men of this colour and kind there are.

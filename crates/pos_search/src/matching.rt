@@ -1,12 +1,14 @@
 //! What a search of a position asks of one position, and of a signature.
 ghost use Rattle.std.specs.Prelude.{◌≡◌};
+ghost use Rattle.chess_laws.specs.Counts.{counts_of};
 ghost use Rattle.chess_laws.specs.Position.{Sound};
+ghost use Rattle.sig_index.specs.Coming.{can_come};
 ghost use Rattle.sig_index.specs.Homes.{IsHomeList};
-ghost use Rattle.pos_search.specs.Matching.{alike, matches};
-ghost use Rattle.pos_search.specs.Passing.{fixes_pawns, passes};
-ghost use Rattle.pos_search.specs.Sought.{alike_beside, can_follow, has_homes};
+ghost use Rattle.pos_search.specs.Matching.{alike, matches, same_counts};
+ghost use Rattle.pos_search.specs.Passing.{fixes_pawns, just, passes};
+ghost use Rattle.pos_search.specs.Sought.{can_follow, has_homes};
 
-use crate::boards::{counts, home_set, same_files, same_pawns};
+use crate::boards::{counts, home_set, same_files, same_numbers, same_pawns};
 use cell_core::{Board, Colour};
 use chess_laws::Position;
 use sig_index::{MatRange, Mode, PosQuery, Sig, can_come, can_stand, home_allows};
@@ -86,7 +88,7 @@ impl<'a> Sought<'a> {
         self.query.vars
     }
 
-    // Whether a position is one that is sought. The 64 squares are looked at only where the ten counts agree.
+    // Whether a position is one that is sought.
     #[tactic(auto, unfolding(crate::specs::Matching::matches))]
     pub(crate) fn matches(&self, p: &Position) -> bool
         ensures matches { result ≡ matches self.now p.now }
@@ -101,19 +103,20 @@ impl<'a> Sought<'a> {
     fn is_alike(&self, p: &Position) -> bool
         ensures { result ≡ alike self.now.mode p.now.board self.now.board }
     {
-        p.counts() == self.range.lo && self.is_alike_beside(p.board())
-    }
-
-    // Whether a board has in common with the sought one what the mode asks beside the ten counts.
-    fn is_alike_beside(&self, board: &Board) -> bool
-        ensures { result ≡ alike_beside self.now.mode board.now self.now.board }
-    {
+        let board = p.board();
         match self.query.mode {
             Mode::Exact => board.is_same(&self.query.board),
-            Mode::Pawns => same_pawns(board, &self.query.board),
-            Mode::Files => same_files(board, &self.query.board),
-            Mode::Material => true,
+            Mode::Pawns => self.has_counts(p) && same_pawns(board, &self.query.board),
+            Mode::Files => self.has_counts(p) && same_files(board, &self.query.board),
+            Mode::Material => self.has_counts(p),
         }
+    }
+
+    // Whether its board has as many men of each kind as the sought one.
+    fn has_counts(&self, p: &Position) -> bool
+        ensures { result ≡ same_counts p.now.board self.now.board }
+    {
+        same_numbers(&p.counts(), &self.range.lo)
     }
 
     // Whether a position that is sought can still come after this one.
@@ -121,7 +124,18 @@ impl<'a> Sought<'a> {
     pub(crate) fn can_follow(&self, p: &Position) -> bool
         ensures { result ≡ can_follow self.now p.now }
     {
-        can_come(&self.range, &p.counts()) && (!fixes_pawns(self.query.mode) || self.has_homes(p))
+        self.men_can_come(p) && (!fixes_pawns(self.query.mode) || self.has_homes(p))
+    }
+
+    // Whether the men of the sought board that are missing can still be made. Where none is, it is seen at once.
+    fn men_can_come(&self, p: &Position) -> bool
+        ensures { result ≡ can_come (just (counts_of self.now.board)) (counts_of p.now.board) }
+    {
+        let counts = p.counts();
+        if !same_numbers(&counts, &self.range.lo) {
+            return can_come(&self.range, &counts);
+        }
+        true
     }
 
     // Whether each pawn at home on the sought board stands at home.

@@ -1,16 +1,16 @@
 //! The search of all games.
-ghost use Rattle.std.specs.Prelude.{◌≡◌, ◌≤◌, ◌<◌, ◌+◌, ℕ, if◌then◌else◌, List, Option, None, Some, length, slice_get, slice_index_or, slice_set, take, IfOk, IfErr, OnOk, OnErr};
-ghost use Rattle.game_filter.specs.Search.{entry_after, searched};
+ghost use Rattle.std.specs.Prelude.{◌≡◌, ◌≤◌, ◌<◌, ◌+◌, ℕ, false, if◌then◌else◌, List, Option, None, Some, length, slice_get, slice_index_or, slice_set, take, IfOk, IfErr, OnOk, OnErr};
+ghost use Rattle.game_filter.specs.Search.{entry_after, looks_at, searched};
 ghost use Rattle.game_tree.specs.Game.{GameTree};
-ghost use Rattle.sig_index.specs.Costs.{EndsAt, LeavesRest, price_by};
+ghost use Rattle.sig_index.specs.Costs.{EndsAt, KeepsOthers, LeavesRest, price_by};
 ghost use Rattle.sig_index.specs.Games.{AreWithin, HasFetchCause, Holds, Names, extent_in};
 ghost use Rattle.sig_index.specs.declared.signature.Sig.{Sig};
 ghost use Rattle.pos_search.specs.Matching.{first_of, firsts_of, hit_of, IsLegalFrom};
 ghost use Rattle.pos_search.specs.Passing.{passes};
-ghost use Rattle.pos_search.specs.Searching.{cost_of, ply_of};
+ghost use Rattle.pos_search.specs.Searching.{cost_of};
 
 use crate::matching::Sought;
-use crate::walking::first_sought;
+use crate::walking::{first_sought, ply_sought};
 use base_files::Files;
 use cell_core::Move;
 use game_filter::{Filter, Op};
@@ -58,8 +58,10 @@ pub fn search<G: Games, F: Files>(
     requires within { AreWithin (F.seen files.old).known (G.extents games.now) }
     // Over a games file that is told and holds the records of these games.
     ensures found { (told : List ℕ) (list : List GameTree) → (F.seen files.old).games ≡ Some told → Holds told (G.extents games.now) (G.sigs games.now) list → OnOk result (filter.new ≡ searched op (firsts_of q.now list) filter.old) }
-    ensures ended { (told : List ℕ) (list : List GameTree) → (F.seen files.old).games ≡ Some told → Holds told (G.extents games.now) (G.sigs games.now) list → IfErr result (λ e. EndsAt e (λ n. searched op (take n (firsts_of q.now list)) filter.old) filter.new) }
+    ensures ended { (told : List ℕ) (list : List GameTree) → (F.seen files.old).games ≡ Some told → Holds told (G.extents games.now) (G.sigs games.now) list → IfErr result (λ e. EndsAt e (λ n. searched op (take n (firsts_of q.now list)) filter.old) filter.old filter.new) }
     ensures rest { IfErr result (λ e. LeavesRest e filter.old filter.new) }
+    // Whatever the files hold and however the search ends, a game that `op` does not look at keeps its entry.
+    ensures kept { KeepsOthers (looks_at op) filter.old filter.new }
     ensures entries { length filter.new ≡ length filter.old }
     ensures room { length buf.new ≡ 131072 }
     ensures unchanged { F.seen files.new ≡ F.seen files.old }
@@ -94,6 +96,7 @@ fn search_game<G: Games, F: Files>(
     ensures joined { (told : List ℕ) (list : List GameTree) (game : GameTree) → (F.seen files.old).games ≡ Some told → Holds told (G.extents games.now) (G.sigs games.now) list → slice_get list i ≡ Some game
         → OnOk result (filter.new ≡ slice_set filter.old i (entry_after op (slice_index_or filter.old i None) (first_of q.now game))) }
     ensures entry { OnOk result ((ply : Option ℕ) × (filter.new ≡ slice_set filter.old i ply)) }
+    ensures passed { looks_at op (slice_index_or filter.old i None) ≡ false → filter.new ≡ filter.old }
     ensures left { OnErr result (filter.new ≡ filter.old) }
     ensures room { length buf.new ≡ 131072 }
     ensures unchanged { F.seen files.new ≡ F.seen files.old }
@@ -106,22 +109,12 @@ fn search_game<G: Games, F: Files>(
     if !op.looks_at(old) {
         return Ok(());
     }
-    match hit_sought(games, i, q, files, buf) {
-        Ok(hit) => {
-            filter.set(i, op.entry(old, ply_of(hit)));
+    match ply_in(games, i, q, files, buf) {
+        Ok(ply) => {
+            filter.set(i, op.entry(old, ply));
             Ok(())
         }
         Err(error) => Err(error),
-    }
-}
-
-// The ply of a hit.
-fn ply_of(hit: Option<(u32, Option<Move>)>) -> Option<u32>
-    ensures { result ≡ ply_of hit }
-{
-    match hit {
-        Some((ply, _)) => Some(ply),
-        None => None,
     }
 }
 
@@ -145,11 +138,10 @@ pub fn hit_sought<G: Games, F: Files>(
     ensures cause { IfErr result (λ e. HasFetchCause e (G.sigs games.now) (G.extents games.now) (F.seen files.old).games buf.new (F.faults files.old) (F.faults files.new)) }
     ensures own { IfErr result (λ e. Names e i) }
 {
-    if q.passes(&games.sig(i)) {
-        hit_read(games, i, q, files, buf)
-    } else {
-        Ok(None)
+    if !q.passes(&games.sig(i)) {
+        return Ok(None);
     }
+    hit_read(games, i, q, files, buf)
 }
 
 // The hit of one game, whose record is read into `buf`.
@@ -179,6 +171,66 @@ fn hit_read<G: Games, F: Files>(
     }
     match first_sought(buf.split_at(len).0, q) {
         Ok(hit) => Ok(hit),
+        Err(_) => Err(FetchError::Changed {
+            game: i,
+            kept: games.sig(i),
+            found: None,
+        }),
+    }
+}
+
+// The first matching ply of one game, which is read if it can match.
+fn ply_in<G: Games, F: Files>(
+    games: &G,
+    i: u32,
+    q: &Sought<'_>,
+    files: &mut F,
+    buf: &mut [u8],
+) -> Result<Option<u32>, FetchError>
+    requires game { i < length (G.sigs games.now) }
+    requires room { length buf.old ≡ 131072 }
+    requires within { AreWithin (F.seen files.old).known (G.extents games.now) }
+    ensures found { (told : List ℕ) (list : List GameTree) (game : GameTree) → (F.seen files.old).games ≡ Some told → Holds told (G.extents games.now) (G.sigs games.now) list → slice_get list i ≡ Some game → IfOk result (λ ply. ply ≡ first_of q.now game) }
+    ensures room { length buf.new ≡ 131072 }
+    ensures unchanged { F.seen files.new ≡ F.seen files.old }
+    ensures asks { (sig : Sig) → slice_get (G.sigs games.now) i ≡ Some sig → F.asked files.new ≤ F.asked files.old + (if passes sig q.now then (extent_in (G.extents games.now) i).len else 0) }
+    ensures counts { F.faults files.old ≤ F.faults files.new }
+    ensures cause { IfErr result (λ e. HasFetchCause e (G.sigs games.now) (G.extents games.now) (F.seen files.old).games buf.new (F.faults files.old) (F.faults files.new)) }
+    ensures own { IfErr result (λ e. Names e i) }
+{
+    if q.passes(&games.sig(i)) {
+        ply_read(games, i, q, files, buf)
+    } else {
+        Ok(None)
+    }
+}
+
+// The first matching ply of one game, whose record is read into `buf`.
+fn ply_read<G: Games, F: Files>(
+    games: &G,
+    i: u32,
+    q: &Sought<'_>,
+    files: &mut F,
+    buf: &mut [u8],
+) -> Result<Option<u32>, FetchError>
+    requires game { i < length (G.sigs games.now) }
+    requires room { length buf.old ≡ 131072 }
+    requires within { AreWithin (F.seen files.old).known (G.extents games.now) }
+    ensures found { (told : List ℕ) (list : List GameTree) (game : GameTree) → (F.seen files.old).games ≡ Some told → Holds told (G.extents games.now) (G.sigs games.now) list → slice_get list i ≡ Some game → IfOk result (λ ply. ply ≡ first_of q.now game) }
+    ensures room { length buf.new ≡ 131072 }
+    ensures unchanged { F.seen files.new ≡ F.seen files.old }
+    ensures asks { F.asked files.new ≤ F.asked files.old + (extent_in (G.extents games.now) i).len }
+    ensures counts { F.faults files.old ≤ F.faults files.new }
+    ensures cause { IfErr result (λ e. HasFetchCause e (G.sigs games.now) (G.extents games.now) (F.seen files.old).games buf.new (F.faults files.old) (F.faults files.new)) }
+    ensures own { IfErr result (λ e. Names e i) }
+{
+    let len = games.extent(i).len as usize;
+    match games.fetch(i, files, buf) {
+        Ok(_) => {}
+        Err(error) => return Err(error),
+    }
+    match ply_sought(buf.split_at(len).0, q) {
+        Ok(ply) => Ok(ply),
         Err(_) => Err(FetchError::Changed {
             game: i,
             kept: games.sig(i),

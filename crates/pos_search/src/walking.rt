@@ -1,10 +1,11 @@
 //! The walk over a record to its first match.
-ghost use Rattle.std.specs.Prelude.{◌≡◌, ◌^◌, ◌<◌, ◌&&◌, List, length, IsTrue, IfOk, IfErr, option_map};
+ghost use Rattle.std.specs.Prelude.{◌≡◌, ◌^◌, ◌<◌, ◌&&◌, List, length, IsTrue, Some, IfOk, IfErr, OnOk, MatchOption, option_map};
 ghost use Rattle.game_codec.specs.Record.{IsRecord, IsSomeRecord};
 ghost use Rattle.game_tree.specs.Game.{GameTree};
 ghost use Rattle.game_tree.specs.declared.head.Tag.{Tag};
-ghost use Rattle.pos_search.specs.Matching.{IsLegalFrom, hit_aside, hit_of, hit_on_main, matches};
-ghost use Rattle.pos_search.specs.Sought.{found_aside};
+ghost use Rattle.pos_search.specs.Matching.{IsLegalFrom, first_of, first_on_main, hit_aside, hit_of, hit_on_main, matches};
+ghost use Rattle.pos_search.specs.Searching.{ply_of};
+ghost use Rattle.pos_search.specs.Sought.{Met, found_aside};
 
 use crate::matching::Sought;
 use cell_core::Move;
@@ -99,7 +100,43 @@ fn hit_aside(found: Option<u32>) -> Option<(u32, Option<Move>)>
     }
 }
 
-// The first place of the main line.
+// The ply alone, for which the move after it is not played.
+pub(crate) fn ply_sought(bytes: &[u8], q: &Sought<'_>) -> Result<Option<u32>, RecordFault>
+    requires few { length bytes.now < 2 ^ 32 }
+    ensures first { IfOk result (λ ply. (tags : List Tag) (game : GameTree) → IsRecord bytes.now tags game → ply ≡ first_of q.now game) }
+    ensures fault { IfErr result (λ _. IsSomeRecord bytes.now → ⊥) }
+{
+    if q.looks_aside() {
+        match first_in_lines(bytes, q) {
+            Ok(hit) => Ok(ply_of(hit)),
+            Err(fault) => Err(fault),
+        }
+    } else {
+        ply_on_main(bytes, q)
+    }
+}
+
+// The ply of a hit.
+fn ply_of(hit: Option<(u32, Option<Move>)>) -> Option<u32>
+    ensures { result ≡ ply_of hit }
+{
+    match hit {
+        Some((ply, _)) => Some(ply),
+        None => None,
+    }
+}
+
+// The ply of the first place of the main line.
+fn ply_on_main(bytes: &[u8], q: &Sought<'_>) -> Result<Option<u32>, RecordFault>
+    requires few { length bytes.now < 2 ^ 32 }
+    ensures first { IfOk result (λ ply. (tags : List Tag) (game : GameTree) → IsRecord bytes.now tags game → ply ≡ first_on_main q.now game) }
+    ensures fault { IfErr result (λ _. IsSomeRecord bytes.now → ⊥) }
+{
+    let mut walk = Walk::new(bytes)?;
+    walk_to(&mut walk, q)
+}
+
+// The first place of the main line, with the move after it.
 fn first_on_main(bytes: &[u8], q: &Sought<'_>) -> Result<Option<(u32, Option<Move>)>, RecordFault>
     requires few { length bytes.now < 2 ^ 32 }
     ensures first { IfOk result (λ hit. (tags : List Tag) (game : GameTree) → IsRecord bytes.now tags game → hit ≡ hit_on_main q.now game) }
@@ -107,13 +144,43 @@ fn first_on_main(bytes: &[u8], q: &Sought<'_>) -> Result<Option<(u32, Option<Mov
     ensures fault { IfErr result (λ _. IsSomeRecord bytes.now → ⊥) }
 {
     let mut walk = Walk::new(bytes)?;
+    match walk_to(&mut walk, q) {
+        Ok(Some(ply)) => with_next(&mut walk, ply, q),
+        Ok(None) => Ok(None),
+        Err(fault) => Err(fault),
+    }
+}
+
+// The hit at this ply, where the walk stands.
+fn with_next(
+    walk: &mut Walk<'_>,
+    ply: u32,
+    q: &Sought<'_>,
+) -> Result<Option<(u32, Option<Move>)>, RecordFault>
+    requires met { Met q.now walk.old ply }
+    requires first { (tags : List Tag) (game : GameTree) → IsRecord walk.old.bytes tags game → Some ply ≡ first_on_main q.now game }
+    ensures first { IfOk result (λ hit. (tags : List Tag) (game : GameTree) → IsRecord walk.old.bytes tags game → hit ≡ hit_on_main q.now game) }
+    ensures legal { IfOk result (λ hit. IsLegalFrom q.now hit) }
+    ensures fault { IfErr result (λ _. IsSomeRecord walk.old.bytes → ⊥) }
+{
+    match walk.step() {
+        Ok(next) => Ok(Some((ply, next))),
+        Err(fault) => Err(fault),
+    }
+}
+
+// Goes on with a walk that has just begun, to the first place that matches, and gives its ply.
+fn walk_to(walk: &mut Walk<'_>, q: &Sought<'_>) -> Result<Option<u32>, RecordFault>
+    requires start { walk.old.ply ≡ 0 }
+    ensures first { IfOk result (λ ply. (tags : List Tag) (game : GameTree) → IsRecord walk.old.bytes tags game → ply ≡ first_on_main q.now game) }
+    ensures met { IfOk result (λ ply. MatchOption ply (Unit {0}) (λ k. Met q.now walk.new k)) }
+    ensures bytes { OnOk result (walk.new.bytes ≡ walk.old.bytes) }
+    ensures fault { IfErr result (λ _. IsSomeRecord walk.old.bytes → ⊥) }
+{
     loop {
         let ply = walk.ply();
         if q.matches(walk.position()) {
-            return match walk.step() {
-                Ok(next) => Ok(Some((ply, next))),
-                Err(fault) => Err(fault),
-            };
+            return Ok(Some(ply));
         }
         if !q.can_follow(walk.position()) {
             return Ok(None);

@@ -1,106 +1,12 @@
-//! Names files that were written down by hand: what is read of them, which fault is the first, and what is written.
+//! Names files that were written down by hand: which fault of each is the first.
 use name_base::*;
 use std::alloc::Global;
-use std::process::Abort;
 use std::test::Fail;
 
 /// The names file of one game of Karpov and Kasparov with no other names.
 const ONE_GAME: [u8; 72] =
     *b"Scid.sn\0\0\0\0\0\0\0\x02\0\0\x01\0\0\x01\0\0\x01\0\0\x01\0\0\x01\0\0\x01\0\0\x01\
 \0\0\x01\x06Karpov\0\x01\x01\x08\x02sparov\0\0\x01\x01?\0\0\x01\x01?\0\0\x01\x01?";
-
-/// The same names with a time stamp, other frequencies of each width, the players in another order, a shorter shared prefix,
-/// and a byte after the last name.
-const OTHERWISE: [u8; 81] =
-    *b"Scid.sn\0\xff\xff\xff\x01\0\0\x02\0\0\x01\0\0\x01\0\0\x01\x01\0\0\0\x01\0\0\0\0\xff\xff\xff\
-\0\x01\0\0\0\x08Kasparov\0\0\x07\x07\x07\x06\x01arpov\0\0\0\0\x01?\0\0\0\x01?\0\0\xff\0\xff\x01?!";
-
-/// The names of both files, with their ids.
-const NAMES: [(NameKind, u32, &[u8]); 5] = [
-    (NameKind::Player, 0, b"Karpov"),
-    (NameKind::Player, 1, b"Kasparov"),
-    (NameKind::Event, 0, b"?"),
-    (NameKind::Site, 0, b"?"),
-    (NameKind::Round, 0, b"?"),
-];
-
-/// How many names of each kind both files have.
-const COUNTS: [(NameKind, u32); 4] = [
-    (NameKind::Player, 2),
-    (NameKind::Event, 1),
-    (NameKind::Site, 1),
-    (NameKind::Round, 1),
-];
-
-fn expect_the_names(rt: &impl Abort, names: &Names) {
-    for (kind, count) in COUNTS {
-        assert_eq!(rt; names.count(kind), count);
-    }
-    for (kind, id, name) in NAMES {
-        assert_eq!(rt; names.id_of(kind, name), Some(id));
-    }
-}
-
-#[test]
-fn reads_one_game(rt: HostRuntime) -> Result<(), Fail> {
-    let names = read_names(rt.alloc(), &ONE_GAME)?;
-    expect_the_names(&rt, &names);
-    Ok(())
-}
-
-/// The names file of names that are used so often.
-fn write(
-    rt: &impl Abort,
-    alloc: Global,
-    names: &Names,
-    players: &[u32],
-    others: &[u32],
-) -> Result<Vec<u8>, Fail> {
-    assert_eq!(rt; names.count(NameKind::Player) as usize, players.len());
-    assert_eq!(rt; names.count(NameKind::Event) as usize, others.len());
-    assert_eq!(rt; names.count(NameKind::Site) as usize, others.len());
-    assert_eq!(rt; names.count(NameKind::Round) as usize, others.len());
-    let small = players.iter().all(|uses| *uses < 16_777_216);
-    assert!(rt; small);
-    let small = others.iter().all(|uses| *uses < 16_777_216);
-    assert!(rt; small);
-    Ok(write_names(alloc, names, players, others, others, others)?)
-}
-
-/// What was read is written in the one form, which has the prefixes and the widths of its own.
-#[test]
-fn writes_one_game(rt: HostRuntime) -> Result<(), Fail> {
-    let names = read_names(rt.alloc(), &OTHERWISE)?;
-    expect_the_names(&rt, &names);
-    let text = write(&rt, rt.alloc(), &names, &[1, 1], &[1])?;
-    assert_eq!(rt; text.as_slice(), ONE_GAME.as_slice());
-    Ok(())
-}
-
-/// The id of a name that is added.
-fn add(
-    rt: &impl Abort,
-    alloc: Global,
-    names: &mut Names,
-    kind: NameKind,
-    name: &[u8],
-) -> Result<u32, Fail> {
-    let has_zero = name.contains(&0);
-    assert!(rt; !has_zero);
-    assert!(rt; name.len() <= 255);
-    Ok(names.add(alloc, kind, name)?)
-}
-
-#[test]
-fn adds_each_name_once(rt: HostRuntime) -> Result<(), Fail> {
-    let mut names = Names::new(rt.alloc());
-    for (kind, id, name) in NAMES {
-        assert_eq!(rt; add(&rt, rt.alloc(), &mut names, kind, name)?, id);
-        assert_eq!(rt; add(&rt, rt.alloc(), &mut names, kind, name)?, id);
-    }
-    expect_the_names(&rt, &names);
-    Ok(())
-}
 
 /// The first fault of some bytes.
 fn fault_of(alloc: Global, bytes: &[u8]) -> Option<(Option<NameKind>, u32, NameWhat)> {
@@ -136,7 +42,7 @@ const HEADERS: [(&[u8], NameWhat); 10] = [
 #[test]
 fn names_the_fault_of_a_header(rt: HostRuntime) {
     for (bytes, what) in HEADERS {
-        assert_eq!(rt; fault_of(rt.alloc(), bytes), Some((None, 0, what)));
+        assert!(rt; fault_of(rt.alloc(), bytes) == Some((None, 0, what)));
     }
 }
 
@@ -190,7 +96,7 @@ fn names_the_fault_of_a_player(rt: HostRuntime) -> Result<(), Fail> {
     for (count, players, index, what) in PLAYERS {
         let bytes = file_of(rt.alloc(), count, players)?;
         let found = fault_of(rt.alloc(), bytes.as_slice());
-        assert_eq!(rt; found, Some((Some(NameKind::Player), index, what)));
+        assert!(rt; found == Some((Some(NameKind::Player), index, what)));
     }
     Ok(())
 }
@@ -209,6 +115,6 @@ fn names_the_place_of_an_early_end(rt: HostRuntime) {
     for (len, kind, index) in ENDS {
         let (bytes, _) = ONE_GAME.split_at(len.min(72));
         let found = fault_of(rt.alloc(), bytes);
-        assert_eq!(rt; found, Some((Some(kind), index, NameWhat::Short)));
+        assert!(rt; found == Some((Some(kind), index, NameWhat::Short)));
     }
 }

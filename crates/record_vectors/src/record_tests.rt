@@ -7,9 +7,8 @@ use cell_core::Text;
 use chess_laws::Position;
 use game_codec::{
     DecodeError, EncodeError, Reading, RecordFault, RecordWhat, Walk, decode_game, encode_game,
-    first_fault,
 };
-use game_tree::{Game, Node, Tag};
+use game_tree::{Game, Tag};
 use move_codec::MoveFault;
 use std::alloc::{AllocError, Global};
 use std::test::Fail;
@@ -33,72 +32,6 @@ fn again(alloc: Global, bytes: &[u8]) -> Option<Vec<u8>> {
 // `{Start} 1. e4 $1 $14 {Best}} (1. d4 d5 (1... Nf6)) 1... e5`.
 const NESTED: &[u8] =
     b"\x00\x00\x0c\xcf\x0b\x01\x0b\x0e\x0c\x0d\xbf\xbf\x0d\x61\x0e\x0e\xcf\x0f\x53\x74\x61\x72\x74\x00\x42\x65\x73\x74\x7d\x00";
-
-// Whether a move goes from the one square to the other.
-fn goes(node: &Node, from: u8, to: u8) -> bool {
-    node.mv.from.index() == from && node.mv.to.index() == to
-}
-
-// Whether a comment is this text.
-fn says(comment: &Option<Text>, text: &[u8]) -> bool {
-    match comment {
-        None => false,
-        Some(comment) => comment.as_bytes() == text,
-    }
-}
-
-#[test]
-fn main_line_of_a_record(rt: HostRuntime) {
-    let Ok((game, tags)) = decoded(rt.alloc(), NESTED) else {
-        assert!(rt; false, "it is a record");
-        return;
-    };
-    assert!(rt; tags.is_empty(), "no tags");
-    assert!(rt;
-        says(&game.lead, b"Start"),
-        "the comment before the first move"
-    );
-    let [first, second] = game.line.as_slice() else {
-        assert!(rt; false, "two moves");
-        return;
-    };
-    assert!(rt; goes(first, 12, 28), "e4");
-    assert!(rt; first.nags.as_slice() == b"\x01\x0e".as_slice(), "two NAGs");
-    assert!(rt; says(&first.comment, b"Best}"), "a comment");
-    assert!(rt; goes(second, 52, 36), "e5");
-    assert!(rt; second.variations.is_empty(), "no variation");
-}
-
-#[test]
-fn variations_of_a_record(rt: HostRuntime) {
-    let Ok((game, _)) = decoded(rt.alloc(), NESTED) else {
-        assert!(rt; false, "it is a record");
-        return;
-    };
-    let [first, _] = game.line.as_slice() else {
-        assert!(rt; false, "two moves");
-        return;
-    };
-    let [variation] = first.variations.as_slice() else {
-        assert!(rt; false, "one variation");
-        return;
-    };
-    let [instead, answer] = variation.line.as_slice() else {
-        assert!(rt; false, "two moves in it");
-        return;
-    };
-    assert!(rt; goes(instead, 11, 27), "d4");
-    assert!(rt; goes(answer, 51, 35), "d5");
-    let [inner] = answer.variations.as_slice() else {
-        assert!(rt; false, "one variation in it");
-        return;
-    };
-    let [knight] = inner.line.as_slice() else {
-        assert!(rt; false, "one move in that");
-        return;
-    };
-    assert!(rt; goes(knight, 62, 45), "Nf6");
-}
 
 // Records as they are written: of whole games, of starts of their own with promotions, of nested variations, with NAGs
 // that look like marks, and with a tag.
@@ -125,32 +58,19 @@ fn written_records_are_written_again(rt: HostRuntime) {
     }
 }
 
-// The marks of 1. e4 $1 {x} (1. d4) in every order but the written one.
-const ORDERS: [&[u8]; 5] = [
-    b"\x00\x00\xcf\x0b\x01\x0d\xbf\x0e\x0c\x0fx\x00",
-    b"\x00\x00\xcf\x0c\x0b\x01\x0d\xbf\x0e\x0fx\x00",
-    b"\x00\x00\xcf\x0c\x0d\xbf\x0e\x0b\x01\x0fx\x00",
-    b"\x00\x00\xcf\x0d\xbf\x0e\x0b\x01\x0c\x0fx\x00",
-    b"\x00\x00\xcf\x0d\xbf\x0e\x0c\x0b\x01\x0fx\x00",
-];
+// The written form of 1. e4 $1 {x} (1. d4).
+const ONE_NOTE: &[u8] = b"\x00\x00\xcf\x0b\x01\x0c\x0d\xbf\x0e\x0fx\x00";
 
-#[test]
-fn marks_stand_in_any_order(rt: HostRuntime) {
-    for record in ORDERS {
-        match again(rt.alloc(), record) {
-            Some(bytes) => assert!(rt;
-                bytes.as_slice() == b"\x00\x00\xcf\x0b\x01\x0c\x0d\xbf\x0e\x0fx\x00".as_slice(),
-                "the written order"
-            ),
-            None => assert!(rt; false, "it is a record"),
-        }
-    }
-}
-
-// Records in another form, and their written form: NAGs before and behind a variation; comments of a move and of its
-// variation; comments without a text; every coded name, two of them reserved, and a packed date; a tag of a reserved name;
-// the FEN of the initial position, with the numbers of its order; flags that are not looked at.
-const OTHERWISE: [(&[u8], &[u8]); 9] = [
+// Records in another form, and their written form: the marks of that game in every other order; NAGs before and behind a
+// variation; comments of a move and of its variation; comments without a text; every coded name, two of them reserved, and a
+// packed date; a tag of a reserved name; the FEN of the initial position, with the numbers of its order; flags that are not
+// looked at.
+const OTHERWISE: [(&[u8], &[u8]); 14] = [
+    (b"\x00\x00\xcf\x0b\x01\x0d\xbf\x0e\x0c\x0fx\x00", ONE_NOTE),
+    (b"\x00\x00\xcf\x0c\x0b\x01\x0d\xbf\x0e\x0fx\x00", ONE_NOTE),
+    (b"\x00\x00\xcf\x0c\x0d\xbf\x0e\x0b\x01\x0fx\x00", ONE_NOTE),
+    (b"\x00\x00\xcf\x0d\xbf\x0e\x0b\x01\x0c\x0fx\x00", ONE_NOTE),
+    (b"\x00\x00\xcf\x0d\xbf\x0e\x0c\x0b\x01\x0fx\x00", ONE_NOTE),
     (
         b"\x00\x00\xcf\x0c\x0b\x01\x0d\xbf\x0e\x0b\x0e\x0fx\x00",
         b"\x00\x00\xcf\x0b\x01\x0b\x0e\x0c\x0d\xbf\x0e\x0fx\x00",
@@ -313,16 +233,6 @@ fn nested(alloc: Global, depth: usize) -> Result<Vec<u8>, AllocError> {
 }
 
 #[test]
-fn two_hundred_variations_one_in_the_other(rt: HostRuntime) -> Result<(), Fail> {
-    let bytes = nested(rt.alloc(), 200)?;
-    match again(rt.alloc(), bytes.as_slice()) {
-        Some(written) => assert!(rt; written.as_slice() == bytes.as_slice(), "the same bytes"),
-        None => assert!(rt; false, "it is a record"),
-    }
-    Ok(())
-}
-
-#[test]
 fn one_variation_too_deep(rt: HostRuntime) -> Result<(), Fail> {
     let bytes = nested(rt.alloc(), 201)?;
     let fault = RecordFault {
@@ -461,18 +371,6 @@ fn walks_along_main_lines(rt: HostRuntime) {
     }
 }
 
-#[test]
-fn walk_passes_two_hundred_variations(rt: HostRuntime) -> Result<(), Fail> {
-    let bytes = nested(rt.alloc(), 200)?;
-    assert!(rt; walks(bytes.as_slice(), &[(12, 28)], None), "one move");
-    Ok(())
-}
-
-// The first fault of at most a thousand bytes.
-fn checked(bytes: &[u8]) -> Option<RecordFault> {
-    first_fault(bytes.split_at(bytes.len().min(1000)).0)
-}
-
 // The first fault that a reading of at most a thousand bytes tells.
 fn read_through(bytes: &[u8]) -> Option<RecordFault> {
     match Reading::new(bytes.split_at(bytes.len().min(1000)).0) {
@@ -492,19 +390,6 @@ fn read_through_without_a_tree(rt: HostRuntime) {
     for (bytes, place, what) in FAULTY {
         assert!(rt;
             read_through(bytes) == Some(RecordFault { place, what }),
-            "the fault"
-        );
-    }
-}
-
-#[test]
-fn check_without_a_tree(rt: HostRuntime) {
-    for record in WRITTEN {
-        assert!(rt; checked(record) == None, "it is a record");
-    }
-    for (bytes, place, what) in FAULTY {
-        assert!(rt;
-            checked(bytes) == Some(RecordFault { place, what }),
             "the fault"
         );
     }

@@ -45,6 +45,26 @@ impl<'a, S: Source, B: Begins> Body<'a, S, B> {
     }
 }
 
+/// The body of a command that has none.
+#[derive(Drop)]
+pub struct NoBody;
+
+impl Source for NoBody {
+    ghost use Rattle.std.specs.Prelude.{[], Some};
+
+    ghost left = { λ _. Some [] };
+
+    ghost budget = { λ _. 0 };
+
+    ghost faults = { λ _. 0 };
+
+    ghost origin = { λ _. [] };
+
+    fn read(&mut self, _into: &mut [u8]) -> Result<usize, Failed> {
+        Ok(0)
+    }
+}
+
 impl<'a, S: Source, B: Begins> Source for Body<'a, S, B> {
     ghost left = { λ body. left_of body.place.now (S.left body.input.now) };
 

@@ -7,6 +7,7 @@ use Rattle.cell_core.specs.declared.man.Colour.{Colour}
 use Rattle.cell_core.specs.declared.man.Colour.TheVariants as colour
 use Rattle.game_filter.specs.declared.op.Op.{Op}
 use Rattle.game_filter.specs.declared.op.Op.TheVariants.{Ignore, And, Or}
+use Rattle.game_tree.specs.Marks.{mark_letters}
 use Rattle.sig_index.specs.declared.pos_query.Mode.{Mode}
 use Rattle.sig_index.specs.declared.pos_query.Mode.TheVariants.{Exact, Pawns, Files, Material}
 use Rattle.script_text.specs.declared.forms.SearchKind.{SearchKind}
@@ -62,10 +63,7 @@ answer word =
     else if bytes_eq word (codes "no") then Some false
     else None
 
--- LETTER of a mark, as the bit of the marks that it names: the user marks from 0 on, then the custom marks.
-abbrev pub mark_letters : List ℕ
-mark_letters = codes "WBMENPTKQ!?U123456"
-
+-- LETTER of a mark, as the bit of the marks that it names: the user marks from 0 on, then the custom marks. The letters are those of ScidFlags.
 abbrev pub mark_bit : List ℕ → Option ℕ
 mark_bit [] = None
 mark_bit (byte ∷ []) = position_from (λ letter. letter == byte) 0 mark_letters

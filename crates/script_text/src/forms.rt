@@ -11,6 +11,7 @@ ghost use Rattle.script_text.specs.Forms.{side, op, search_kind, mode, switch, v
 use cell_core::{Board, Colour};
 use chess_text::read_board;
 use game_filter::Op;
+use game_tree::mark_letters;
 use sig_index::Mode;
 
 /// The board of a placement, the first field of a FEN.
@@ -142,7 +143,7 @@ pub(crate) fn mark_bit(word: &[u8]) -> Option<u8>
     let [byte] = word else {
         return None;
     };
-    place_of(*byte, b"WBMENPTKQ!?U123456")
+    place_of(*byte, mark_letters())
 }
 
 // The place of the first byte of `bytes` that is `byte`.

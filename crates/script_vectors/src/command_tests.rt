@@ -344,7 +344,7 @@ fn misplaced(alloc: Global, rows: &'static [Placed]) -> Result<Option<&'static s
 
 #[test]
 fn arguments_in_their_places(rt: HostRuntime) -> Result<(), Fail> {
-    assert_eq!(rt; misplaced(rt.alloc(), &PLACED)?, None);
+    assert!(rt; misplaced(rt.alloc(), &PLACED)? == None);
     Ok(())
 }
 
@@ -394,7 +394,7 @@ const TABLES: [&[Row]; 11] = [
 #[test]
 fn lines_and_their_first_faults(rt: HostRuntime) -> Result<(), Fail> {
     for rows in &TABLES {
-        assert_eq!(rt; misread(rt.alloc(), *rows)?, None);
+        assert!(rt; misread(rt.alloc(), *rows)? == None);
     }
     Ok(())
 }
@@ -405,11 +405,11 @@ fn quoted_parts(rt: HostRuntime) -> Result<(), Fail> {
     let Command::Keep(name) = read_command(rt.alloc(), b"k\"ee\"p a\"\"b\"c\"")? else {
         return Err(Fail::from("keep"));
     };
-    assert_eq!(rt; name.as_bytes(), b"abc".as_slice());
+    assert!(rt; name.as_bytes() == b"abc".as_slice());
     let Command::Import(end) = read_command(rt.alloc(), b"import \"<<\"E\"N\"D")? else {
         return Err(Fail::from("import"));
     };
-    assert_eq!(rt; end.as_bytes(), b"END".as_slice());
+    assert!(rt; end.as_bytes() == b"END".as_slice());
     Ok(())
 }
 
@@ -421,20 +421,20 @@ fn heads(rt: HostRuntime) -> Result<(), Fail> {
     let Command::SearchHeader(op, query) = read_command(rt.alloc(), line)? else {
         return Err(Fail::from("search"));
     };
-    assert_eq!(rt; op, Op::Or);
+    assert!(rt; op == Op::Or);
     let white = query.white.ok_or("white")?;
-    assert_eq!(rt; white.as_bytes(), br#"a "b" \ \c"#.as_slice());
-    assert_eq!(rt;
-        query.eco,
-        Some(Span {
-            lo: 15_066,
-            hi: 15_592
-        })
+    assert!(rt; white.as_bytes() == br#"a "b" \ \c"#.as_slice());
+    assert!(rt;
+        query.eco
+            == Some(Span {
+                lo: 15_066,
+                hi: 15_592
+            })
     );
-    assert_eq!(rt; query.result, Some(Outcome::Draw));
-    assert_eq!(rt; query.deleted, Some(false));
-    assert_eq!(rt; query.mark, Some(14));
-    assert_eq!(rt; query.year, None);
+    assert!(rt; query.result == Some(Outcome::Draw));
+    assert!(rt; query.deleted == Some(false));
+    assert!(rt; query.mark == Some(14));
+    assert!(rt; query.year == None);
     Ok(())
 }
 
@@ -444,13 +444,10 @@ fn material(rt: HostRuntime) -> Result<(), Fail> {
     let Command::SearchMaterial(op, query) = read_command(rt.alloc(), line)? else {
         return Err(Fail::from("search"));
     };
-    assert_eq!(rt; op, Op::And);
-    assert_eq!(rt; query.range.lo, [0, 0, 0, 0, 0, 0, 0, 0, 0, 1]);
-    assert_eq!(rt; query.range.hi, [16, 16, 16, 16, 16, 16, 16, 16, 16, 8]);
-    assert_eq!(rt;
-        (query.ply_lo, query.ply_hi, query.streak, query.swap),
-        (4, 9, 5, true)
-    );
+    assert!(rt; op == Op::And);
+    assert!(rt; query.range.lo == [0, 0, 0, 0, 0, 0, 0, 0, 0, 1]);
+    assert!(rt; query.range.hi == [16, 16, 16, 16, 16, 16, 16, 16, 16, 8]);
+    assert!(rt; (query.ply_lo, query.ply_hi, query.streak, query.swap) == (4, 9, 5, true));
     Ok(())
 }
 
@@ -460,9 +457,9 @@ fn positions(rt: HostRuntime) -> Result<(), Fail> {
     let Command::SearchPosition(op, query) = read_command(rt.alloc(), line)? else {
         return Err(Fail::from("search"));
     };
-    assert_eq!(rt; op, Op::Ignore);
-    assert_eq!(rt; query.mode, Mode::Files);
-    assert_eq!(rt; (query.side, query.vars), (Colour::Black, true));
+    assert!(rt; op == Op::Ignore);
+    assert!(rt; query.mode == Mode::Files);
+    assert!(rt; (query.side, query.vars) == (Colour::Black, true));
     Ok(())
 }
 
@@ -470,14 +467,14 @@ fn positions(rt: HostRuntime) -> Result<(), Fail> {
 #[test]
 fn long_lines(rt: HostRuntime) -> Result<(), Fail> {
     let mut line = vec![in rt.alloc(); b'x'; 65_537]?;
-    assert_eq!(rt;
-        read_command(rt.alloc(), line.as_slice()).err(),
-        Some(CommandError::Bad(ScriptFault::TooLong))
+    assert!(rt;
+        read_command(rt.alloc(), line.as_slice()).err()
+            == Some(CommandError::Bad(ScriptFault::TooLong))
     );
     line[65_536] = b'\r';
-    assert_eq!(rt;
-        read_command(rt.alloc(), line.as_slice()).err(),
-        Some(CommandError::Bad(ScriptFault::Unknown))
+    assert!(rt;
+        read_command(rt.alloc(), line.as_slice()).err()
+            == Some(CommandError::Bad(ScriptFault::Unknown))
     );
     line[65_536] = b'x';
     line[0] = b'#';

@@ -105,7 +105,7 @@ fn misrated(alloc: Global, rows: &'static [Rated]) -> Result<Option<&'static str
 
 #[test]
 fn ratings_of_each_name(rt: HostRuntime) -> Result<(), Fail> {
-    assert_eq!(rt; misrated(rt.alloc(), &RATED)?, None);
+    assert!(rt; misrated(rt.alloc(), &RATED)? == None);
     Ok(())
 }
 
@@ -157,7 +157,7 @@ const TABLES: [&[Row]; 4] = [&TAG_WORDS, &TAGS, &RATINGS_ABOVE, &TAG_VALUES];
 #[test]
 fn tags_and_their_first_faults(rt: HostRuntime) -> Result<(), Fail> {
     for rows in &TABLES {
-        assert_eq!(rt; misread(rt.alloc(), *rows)?, None);
+        assert!(rt; misread(rt.alloc(), *rows)? == None);
     }
     Ok(())
 }
@@ -220,7 +220,7 @@ fn misnamed(alloc: Global, rows: &'static [Named]) -> Result<Option<&'static str
 
 #[test]
 fn edits_of_tags(rt: HostRuntime) -> Result<(), Fail> {
-    assert_eq!(rt; misnamed(rt.alloc(), &NAMED)?, None);
+    assert!(rt; misnamed(rt.alloc(), &NAMED)? == None);
     Ok(())
 }
 
@@ -245,12 +245,12 @@ fn long_tags(rt: HostRuntime) -> Result<(), Fail> {
     let value = Some(CommandError::Bad(Argument(3)));
     let name = Some(CommandError::Bad(Argument(2)));
     let line = long_line(rt.alloc(), "tag 0 White ", 255, "")?;
-    assert_eq!(rt; read_command(rt.alloc(), line.as_slice()).err(), None);
+    assert!(rt; read_command(rt.alloc(), line.as_slice()).err() == None);
     let line = long_line(rt.alloc(), "tag 0 White ", 256, "")?;
-    assert_eq!(rt; read_command(rt.alloc(), line.as_slice()).err(), value);
+    assert!(rt; read_command(rt.alloc(), line.as_slice()).err() == value);
     let line = long_line(rt.alloc(), "tag 0 ", 240, " y")?;
-    assert_eq!(rt; read_command(rt.alloc(), line.as_slice()).err(), None);
+    assert!(rt; read_command(rt.alloc(), line.as_slice()).err() == None);
     let line = long_line(rt.alloc(), "tag 0 ", 241, "")?;
-    assert_eq!(rt; read_command(rt.alloc(), line.as_slice()).err(), name);
+    assert!(rt; read_command(rt.alloc(), line.as_slice()).err() == name);
     Ok(())
 }

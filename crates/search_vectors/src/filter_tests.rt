@@ -30,7 +30,7 @@ fn filter_of(rt: &impl Abort, alloc: Global, plies: &[Option<u32>]) -> Result<Fi
 }
 
 fn make(rt: &impl Abort, filter: &mut Filter, change: Change, other: &Filter) {
-    assert_eq!(rt; filter.len(), other.len());
+    assert!(rt; filter.len() == other.len());
     match change {
         Change::And => filter.and(other),
         Change::Or => filter.or(other),
@@ -46,12 +46,11 @@ fn make(rt: &impl Abort, filter: &mut Filter, change: Change, other: &Filter) {
 }
 
 fn expect(rt: &impl Abort, change: Change, filter: &Filter, plies: [Option<u32>; 4], count: u32) {
-    assert_eq!(rt; filter.len(), 4, "after {change:?}");
-    assert_eq!(rt; filter.count(), count, "after {change:?}");
+    assert!(rt; filter.len() == 4, "after {change:?}");
+    assert!(rt; filter.count() == count, "after {change:?}");
     for i in 0..4u32 {
-        assert_eq!(rt;
-            filter.get(i),
-            plies[i as usize],
+        assert!(rt;
+            filter.get(i) == plies[i as usize],
             "game {i} after {change:?}"
         );
     }
@@ -101,10 +100,9 @@ fn each_way_of_searching_joins_the_match(rt: HostRuntime) {
         (Op::Or, None, Some(7), true, Some(7)),
         (Op::Or, None, None, true, None),
     ] {
-        assert_eq!(rt; op.looks_at(old), looks, "{op:?} at {old:?}");
-        assert_eq!(rt;
-            op.entry(old, first),
-            entry,
+        assert!(rt; op.looks_at(old) == looks, "{op:?} at {old:?}");
+        assert!(rt;
+            op.entry(old, first) == entry,
             "{op:?} at {old:?} and {first:?}"
         );
     }
@@ -118,10 +116,10 @@ fn games_that_stay_keep_their_plies(rt: HostRuntime) -> Result<(), Fail> {
     renumbering.keep()?;
     renumbering.keep()?;
     renumbering.remove()?;
-    assert_eq!(rt; renumbering.to(), [None, Some(0), Some(1), None].as_slice());
-    assert_eq!(rt; filter.plies().len(), renumbering.to().len());
+    assert!(rt; renumbering.to() == [None, Some(0), Some(1), None].as_slice());
+    assert!(rt; filter.plies().len() == renumbering.to().len());
     filter.renumber(&renumbering);
-    assert_eq!(rt; filter.plies(), [Some(5), None].as_slice());
-    assert_eq!(rt; filter.count(), 1);
+    assert!(rt; filter.plies() == [Some(5), None].as_slice());
+    assert!(rt; filter.count() == 1);
     Ok(())
 }

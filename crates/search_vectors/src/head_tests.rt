@@ -1,4 +1,6 @@
 //! The three ways of a search, over games in memory.
+ghost use Rattle.std.specs.Prelude.{◌≡◌, []};
+
 use cell_core::Text;
 use game_codec::decode_game;
 use game_filter::{Filter, Op};
@@ -24,17 +26,12 @@ fn text(alloc: Global, bytes: &[u8]) -> Result<Text, Fail> {
     }
 }
 
-// Adds the game 1. e4 of this player.
-fn add(
-    rt: &impl Abort,
-    alloc: Global,
-    games: &mut MemGames,
-    file: &mut Vec<u8>,
-    white: &[u8],
-) -> Result<(), Fail> {
-    let (game, _) = decode_game(alloc, b"\x00\x00\xcf\x0f")?;
-    let head = Head {
-        white: text(alloc, white)?,
+// A head of which only the name of White may be known.
+pub(crate) fn head_of(alloc: Global, white: Text) -> Head
+    ensures tags { result.tags ≡ [] }
+{
+    Head {
+        white,
         black: Text::new(alloc),
         event: Text::new(alloc),
         site: Text::new(alloc),
@@ -48,7 +45,19 @@ fn add(
         marks: 0,
         deleted: false,
         tags: Tags::new(alloc),
-    };
+    }
+}
+
+// Adds the game 1. e4 of this player.
+fn add(
+    rt: &impl Abort,
+    alloc: Global,
+    games: &mut MemGames,
+    file: &mut Vec<u8>,
+    white: &[u8],
+) -> Result<(), Fail> {
+    let (game, _) = decode_game(alloc, b"\x00\x00\xcf\x0f")?;
+    let head = head_of(alloc, text(alloc, white)?);
     assert!(rt; games.len() < 4);
     games.add(alloc, head, &game, file)?;
     Ok(())
@@ -68,9 +77,9 @@ fn left(
         assert!(rt; i < filter.len());
         filter.set(i, entries[i as usize]);
     }
-    assert_eq!(rt; filter.len(), games.len());
+    assert!(rt; filter.len() == games.len());
     search(games, query, op, &mut filter);
-    assert_eq!(rt; filter.len(), 4);
+    assert!(rt; filter.len() == 4);
     Ok([filter.get(0), filter.get(1), filter.get(2), filter.get(3)])
 }
 
@@ -84,17 +93,14 @@ fn each_way_of_searching(rt: HostRuntime) -> Result<(), Fail> {
     let mut query = HeadQuery::any();
     query.white = Some(text(rt.alloc(), b"A")?);
     let old = [Some(3), Some(5), None, None];
-    assert_eq!(rt;
-        left(&rt, rt.alloc(), &games, &query, Op::Ignore, old)?,
-        [Some(0), None, Some(0), None]
+    assert!(rt;
+        left(&rt, rt.alloc(), &games, &query, Op::Ignore, old)? == [Some(0), None, Some(0), None]
     );
-    assert_eq!(rt;
-        left(&rt, rt.alloc(), &games, &query, Op::And, old)?,
-        [Some(0), None, None, None]
+    assert!(rt;
+        left(&rt, rt.alloc(), &games, &query, Op::And, old)? == [Some(0), None, None, None]
     );
-    assert_eq!(rt;
-        left(&rt, rt.alloc(), &games, &query, Op::Or, old)?,
-        [Some(3), Some(5), Some(0), None]
+    assert!(rt;
+        left(&rt, rt.alloc(), &games, &query, Op::Or, old)? == [Some(3), Some(5), Some(0), None]
     );
     Ok(())
 }

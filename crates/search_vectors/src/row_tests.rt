@@ -11,7 +11,7 @@ const NO_ROWS: &str =
 fn the_text_of_no_rows(rt: HostRuntime) -> Result<(), Fail> {
     let mut text = Vec::new(rt.alloc());
     lines(rt.alloc(), &[], &Board::empty(), Colour::White, &mut text)?;
-    assert_eq!(rt; text.as_slice(), NO_ROWS.as_bytes());
+    assert!(rt; text.as_slice() == NO_ROWS.as_bytes());
     Ok(())
 }
 
@@ -52,21 +52,21 @@ fn the_sums_of_rows(rt: HostRuntime) -> Result<(), Fail> {
         castled(Outcome::Draw, 0, 2000),
     ];
     let rows = Rows::from_scratch(rt.alloc(), &hits)?;
-    assert_eq!(rt; rows.len(), 2);
-    assert_eq!(rt;
+    assert!(rt; rows.len() == 2);
+    assert!(rt;
         rows.get(Some(castling()))
-            .map(|row| (row.games, row.white, row.draws)),
-        Some((2, 1, 1))
+            .map(|row| (row.games, row.white, row.draws))
+            == Some((2, 1, 1))
     );
-    assert_eq!(rt;
+    assert!(rt;
         rows.get(Some(castling()))
-            .map(|row| (row.mover_sum, row.mover_rated)),
-        Some((2500, 1))
+            .map(|row| (row.mover_sum, row.mover_rated))
+            == Some((2500, 1))
     );
-    assert_eq!(rt;
+    assert!(rt;
         rows.get(Some(castling()))
-            .map(|row| (row.year_sum, row.dated)),
-        Some((3999, 2))
+            .map(|row| (row.year_sum, row.dated))
+            == Some((3999, 2))
     );
     Ok(())
 }

@@ -190,9 +190,9 @@ fn plies_of(alloc: Global, plies: u32) -> Result<Option<u16>, Fail> {
 
 #[test]
 fn plies_up_to_their_greatest(rt: HostRuntime) -> Result<(), Fail> {
-    assert_eq!(rt; plies_of(rt.alloc(), 1022)?, Some(1022));
-    assert_eq!(rt; plies_of(rt.alloc(), 1023)?, Some(1023));
-    assert_eq!(rt; plies_of(rt.alloc(), 1024)?, Some(1023));
-    assert_eq!(rt; plies_of(rt.alloc(), 1100)?, Some(1023));
+    assert!(rt; plies_of(rt.alloc(), 1022)? == Some(1022));
+    assert!(rt; plies_of(rt.alloc(), 1023)? == Some(1023));
+    assert!(rt; plies_of(rt.alloc(), 1024)? == Some(1023));
+    assert!(rt; plies_of(rt.alloc(), 1100)? == Some(1023));
     Ok(())
 }

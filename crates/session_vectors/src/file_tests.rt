@@ -60,6 +60,31 @@ const FOUND_BOTH: &[u8] = b"base 2 games 2 mended\n0 3\n1 3\nfilter 2 of 2\n";
 
 const OPENING: &[u8] = b"base 1 games 0 mended\n";
 
+/// Commands that read a whole record and compare its signature.
+const READERS: [&[u8]; 4] = [b"show 0\n", b"export\n", b"tag 0 White A\n", b"compact\n"];
+
+/// Black's queen goes to b5 at the seventh move and takes no pawn: a record of another legal game.
+const ANOTHER: Swap = Swap {
+    before: 5,
+    place: 16,
+    byte: 0x41,
+};
+
+/// Commands that go along a main line.
+const WALKERS: [&[u8]; 4] = [
+    FIND,
+    b"search ignore position pawns rnbqkbnr/pppppppp/8/8/4P3/8/PPPP1PPP/RNBQKBNR b\n",
+    b"search ignore material wq=0..0\n",
+    TREE,
+];
+
+/// The first byte of the moves names no legal one.
+const BROKEN: Swap = Swap {
+    before: 5,
+    place: 2,
+    byte: 0xce,
+};
+
 const FOUND_ONCE: &[u8] = b"base 1 games 0 mended\n0 1\nfilter 1 of 1\n";
 
 const ONE_OF_TWO: &[u8] = b"base 2 games 0 mended\n\
@@ -107,17 +132,41 @@ fn again(alloc: Global, files: &MemFiles) -> Result<MemFiles, AllocError> {
 
 /// The files of the one game, of which the third byte of the record changes before a call.
 fn changing(alloc: Global, before: u64, byte: u8) -> Result<MemFiles, AllocError> {
-    let swap = Swap {
-        before,
-        place: 2,
-        byte,
-    };
+    swapping(
+        alloc,
+        Swap {
+            before,
+            place: 2,
+            byte,
+        },
+    )
+}
+
+/// The files of the one game, of which a byte of the record changes before a call.
+fn swapping(alloc: Global, swap: Swap) -> Result<MemFiles, AllocError> {
     Ok(MemFiles::changing(
         index(alloc)?,
         Vec::from_slice(alloc, NAMES)?,
         Vec::from_slice(alloc, RECORD)?,
         Vec::from_slice(alloc, &[swap])?,
     ))
+}
+
+/// Whether a command ends with a change where a byte of the record changes behind the opening, writes nothing, and leaves the index as it
+/// was. A record that is none any more has no signature.
+fn ends_changed(
+    alloc: Global,
+    swap: Swap,
+    script: &[u8],
+    is_record: bool,
+) -> Result<bool, AllocError> {
+    let mut files = swapping(alloc, swap)?;
+    let (status, written) = run_over(alloc, &mut files, false, script)?;
+    let told = match &status {
+        Status::Changed { game, found, .. } => *game == 0 && found.is_some() == is_record,
+        _ => false,
+    };
+    Ok(told && written.as_slice() == OPENING && files.index() == index(alloc)?.as_slice())
 }
 
 /// Puts a byte into an index.
@@ -185,20 +234,18 @@ fn ends_where_a_shown_record_has_changed(rt: HostRuntime) -> Result<(), Fail> {
 }
 
 #[test]
-fn ends_where_a_searched_record_has_changed(rt: HostRuntime) -> Result<(), Fail> {
-    let mut files = changing(rt.alloc(), 5, 0xce)?;
-    let (status, written) = run_over(rt.alloc(), &mut files, false, FIND)?;
-    assert!(rt; is_changed(&status));
-    assert!(rt; written.as_slice() == OPENING);
+fn ends_where_a_record_is_one_of_another_game(rt: HostRuntime) -> Result<(), Fail> {
+    for script in READERS {
+        assert!(rt; ends_changed(rt.alloc(), ANOTHER, script, true)?);
+    }
     Ok(())
 }
 
 #[test]
-fn ends_where_a_counted_record_has_changed(rt: HostRuntime) -> Result<(), Fail> {
-    let mut files = changing(rt.alloc(), 5, 0xce)?;
-    let (status, written) = run_over(rt.alloc(), &mut files, false, TREE)?;
-    assert!(rt; is_changed(&status));
-    assert!(rt; written.as_slice() == OPENING);
+fn ends_where_a_searched_record_has_changed(rt: HostRuntime) -> Result<(), Fail> {
+    for script in WALKERS {
+        assert!(rt; ends_changed(rt.alloc(), BROKEN, script, false)?);
+    }
     Ok(())
 }
 

@@ -1,61 +1,44 @@
--- Laws of lines with their bodies: a line that has none is done alone.
-use Rattle.std.proofs.Common.{◌≡◌, ℕ, List, [], Option, None, Result, Ok, Err, refl, sym, ap, ◌∙◌, subst}
+-- Laws of tasks: what a command owes is what its task owes.
+use Rattle.std.proofs.Common.{◌≡◌, ◌≤◌, ◌+◌, ℕ, false, [], List, Option, None, Result, Ok, Err, refl, sym, subst}
 use Rattle.base_files.specs.Seen.{Seen}
-use Rattle.base_files.specs.Told.{adds}
-use Rattle.base_files.specs.declared.faults.Stop.TheVariants as stop
-use Rattle.command_runs.specs.Endings.{Halted, Serves}
-use Rattle.script_text.specs.Tasks.{Task, body_word, task, word_of}
+use Rattle.command_runs.specs.Endings.{Serves}
+use Rattle.script_text.specs.Tasks.{Task, body_word, word_of}
 use Rattle.script_text.specs.declared.command.Command.{Command}
-use Rattle.script_text.specs.declared.command.Command.TheVariants.{Import, Replace, Eco}
-use Rattle.shell_commands.specs.declared.halt.Halt.{Halt}
-use Rattle.shell_commands.specs.declared.halt.Halt.TheVariants as halt
-use Rattle.shell_commands.specs.Do.{Order, after_order, plain, text_of_order}
-use Rattle.shell_commands.specs.Stands.{Broken, Holding, Stands}
-use Rattle.shell_commands.specs.State.{State}
-use Rattle.shell_commands.specs.Tasks.{BrokenTask, after_with, tasks, text_with}
+use Rattle.script_text.specs.declared.command.Command.TheVariants.{Demo, Import, Replace, Eco}
+use Rattle.intake_commands.specs.Demo.{demo_price}
+use Rattle.shell_state.proofs.PriceLaws.{asked_told}
+use Rattle.shell_state.specs.Stands.{Asks, AsksBy, Broken, Holding, Stands}
+use Rattle.shell_state.specs.State.{State}
+use Rattle.shell_state.specs.Work.{Look, Price, Work, price_by, works}
+use Rattle.shell_state.specs.Work.Price.{by_looks}
+use Rattle.shell_state.specs.declared.halt.Halt.{Halt}
+use Rattle.shell_commands.specs.Tasks.{BrokenTask, Order, order_price, command_work, order_work, task_work, tasks}
 
--- What a command without a body makes of a state, and its text.
-command_after : (s : State) (command : Command) (body : List ℕ) → word_of command ≡ None → after_order s (Ok command) ≡ after_with s (Ok command) body
-command_after s (Import word) body none = cc
-command_after s (Replace game word) body none = cc
-command_after s (Eco word) body none = cc
-command_after s _ body none = refl
+pub task_serves : {A : Type 0} (r : Result A Halt) (new : Holding) (seen : Seen) (s : State) (t : Task) (told told' : Option (List ℕ))
+    → Serves works (Stands new seen) Broken s (task_work t) told told' r → Serves tasks (Stands new seen) BrokenTask s t told told' r
+task_serves (Ok x) new seen s t told told' done = record { stands = done.stands; written = done.written }
+task_serves (Err e) new seen s t told told' cut = record { wrote = cut.wrote; broken = cut.broken }
 
-command_text : (s : State) (command : Command) (body : List ℕ) → word_of command ≡ None → text_of_order s (Ok command) ≡ text_with s (Ok command) body
-command_text s (Import word) body none = cc
-command_text s (Replace game word) body none = cc
-command_text s (Eco word) body none = cc
-command_text s _ body none = refl
+-- A line without a body reads none.
+alone-command : (command : Command) (body : List ℕ) → word_of command ≡ None → (command_work command body).body ≡ false
+alone-command (Import word) body none = cc
+alone-command (Replace game word) body none = cc
+alone-command (Eco word) body none = cc
+alone-command _ body none = refl
 
-alone_after : (s : State) (order : Order) (body : List ℕ) → body_word order ≡ None → after_order s order ≡ after_with s order body
-alone_after s (Ok command) body none = command_after s command body none
-alone_after s (Err fault) body none = refl
+pub alone : (order : Order) (body : List ℕ) → body_word order ≡ None → (order_work order body).body ≡ false
+alone (Ok command) body none = alone-command command body none
+alone (Err fault) body none = refl
 
-alone_text : (s : State) (order : Order) (body : List ℕ) → body_word order ≡ None → text_of_order s order ≡ text_with s order body
-alone_text s (Ok command) body none = command_text s command body none
-alone_text s (Err fault) body none = refl
+-- What is asked where the files are told.
+asks_so : (work : Work) (price : List Look → List (Option ℕ) → ℕ) (holding : Holding) (seen : Seen) (s : State) (old new : ℕ) → work.price ≡ by_looks price → Stands holding seen s → Asks holding work old new → new ≤ old + price_by work.price s
+asks_so work price holding seen s old new is st asked =
+    let P : Price → Type 0 = λ p. AsksBy p holding old new in
+    let Q : Price → Type 0 = λ p. new ≤ old + price_by p s in
+    let here : AsksBy (by_looks price) holding old new = subst P is asked in
+    subst Q (sym is) (asked_told price holding seen s old new st here)
 
--- What breaks a line off breaks it off with its body.
-broken_with : (s : State) (t : Task) (e : Halt) → Broken s t.order e → BrokenTask s t e
-broken_with s t (halt.Device stop.Files) broken = broken
-broken_with s t (halt.Device stop.Write) broken = tt
-broken_with s t (halt.Device stop.Memory) broken = tt
-broken_with s t (halt.Device stop.Read) broken = absurd broken
-broken_with s t (halt.Changed game kept found) broken = absurd broken
-
-pub alone_serves : {A : Type 0} (r : Result A Halt) (new : Holding) (seen : Seen) (s : State) (order : Order) (text : List ℕ) (before after : Option (List ℕ)) → body_word order ≡ None
-    → Serves plain (Stands new seen) Broken s order before after r → Serves tasks (Stands new seen) BrokenTask s (task order text) before after r
-alone_serves (Ok x) new seen s order text before after none done = record {
-  stands = subst (Stands new seen) (alone_after s order text none) done.stands;
-  written = done.written ∙ ap (adds before) (alone_text s order text none);
-}
-alone_serves (Err e) new seen s order text before after none cut =
-    let P : List ℕ → Type 0 = λ l. Halted [] l before after in
-    record { wrote = subst P (alone_text s order text none) cut.wrote; broken = broken_with s (task order text) e cut.broken }
-
--- What a line that says this command owes with its body.
-pub task_serves : {A : Type 0} (r : Result A Halt) (new : Holding) (seen : Seen) (s : State) (order : Order) (command : Command) (text : List ℕ) (before after : Option (List ℕ)) → order ≡ Ok command
-    → Serves tasks (Stands new seen) BrokenTask s (task (Ok command) text) before after r → Serves tasks (Stands new seen) BrokenTask s (task order text) before after r
-task_serves r new seen s order command text before after is serves =
-    let P : Order → Type 0 = λ o. Serves tasks (Stands new seen) BrokenTask s (task o text) before after r in
-    subst P (sym is) serves
+pub asked_by : (holding : Holding) (seen : Seen) (s : State) (command : Command) (old new : ℕ) → Stands holding seen s → Asks holding (command_work command []) old new
+    → ((seed games : ℕ) → command ≡ Demo seed games → new ≤ old + demo_price s seed games) → new ≤ old + order_price s (Ok command)
+asked_by holding seen s (Demo seed games) old new st asked demo = demo seed games refl
+asked_by holding seen s command old new st asked demo = asks_so (command_work command []) _ holding seen s old new refl st asked

@@ -1,34 +1,93 @@
--- The plain machine over the tasks of a script: its lines with their bodies. This project's own.
-use Rattle.std.specs.Prelude.{ℕ, List, Ok, is_some, IsTrue}
-use Rattle.base_files.specs.declared.faults.Stop.TheVariants as stop
+-- The plain machine over the tasks of a script, its lines with their bodies: what each command does. This project's own.
+use Rattle.std.specs.Prelude.{ℕ, Bool, List, [], Option, Result, Ok, Err}
+use Rattle.base_core.specs.Base.{Base}
 use Rattle.command_runs.specs.Plain.{Plain}
-use Rattle.script_text.specs.Tasks.{Task, body_word}
-use Rattle.script_text.specs.declared.command.Command.TheVariants.{Import, Replace, Eco}
-use Rattle.shell_commands.specs.Classifying.{eco_after, eco_text}
-use Rattle.shell_commands.specs.Do.{Order, after_order, text_of_order}
-use Rattle.shell_commands.specs.Importing.{import_after, import_text, replace_after, replace_text}
-use Rattle.shell_commands.specs.Stands.{Broken}
-use Rattle.shell_commands.specs.State.{State}
-use Rattle.shell_commands.specs.declared.halt.Halt.{Halt}
-use Rattle.shell_commands.specs.declared.halt.Halt.TheVariants as halt
+use Rattle.script_text.specs.Tasks.{Task}
+use Rattle.script_text.specs.declared.command.Command.{Command}
+use Rattle.script_text.specs.declared.command.Command.TheVariants.{Nothing, Find, SearchPosition, SearchMaterial, SearchHeader, Reset, Clear, Negate, Restrict, Keep, Take, And, Or, Drop, Hits, List as Listing, Show, Export, Import, Replace, Eco, Tag, Delete, Undelete, Mark, Tree, Cross, Twins, Save, Info, Demo, Quit, Compact}
+use Rattle.script_text.specs.declared.fault.ScriptFault.{ScriptFault}
+use Rattle.edit_commands.specs.Compacting.{compact_work}
+use Rattle.edit_commands.specs.Editing.{delete_work, mark_work, tag_work, undelete_work}
+use Rattle.edit_commands.specs.Saving.{save_work}
+use Rattle.filter_commands.specs.Filters.{and_work, clear_work, drop_work, keep_work, negate_work, or_work, reset_work, restrict_work, use_work}
+use Rattle.intake_commands.specs.Demo.{demo_work}
+use Rattle.intake_commands.specs.Importing.{import_work, replace_work}
+use Rattle.report_commands.specs.Classifying.{eco_work}
+use Rattle.report_commands.specs.Crosstables.{cross_work}
+use Rattle.report_commands.specs.Twins.{twins_work}
+use Rattle.search_commands.specs.Searching.{find_work, hits_work, search_header_work, search_material_work, search_position_work}
+use Rattle.search_commands.specs.Trees.{tree_work}
+use Rattle.shell_state.specs.Lines.{fault_line}
+use Rattle.shell_state.specs.Stands.{Broken}
+use Rattle.shell_state.specs.State.{State}
+use Rattle.shell_state.specs.Work.{Work, price, quiet}
+use Rattle.shell_state.specs.declared.halt.Halt.{Halt}
+use Rattle.text_commands.specs.GameTexts.{export_work, show_work}
+use Rattle.text_commands.specs.Listing.{list_work}
+use Rattle.text_commands.specs.Showing.{info_work, quit_work}
 
-abbrev pub after_with : State → Order → List ℕ → State
-after_with s (Ok (Import word)) body = import_after s body
-after_with s (Ok (Replace game word)) body = replace_after s game body
-after_with s (Ok (Eco word)) body = eco_after s body
-after_with s order body = after_order s order
+-- A line of a script: the command that it says, or its first fault.
+abbrev pub Order : Type 0
+Order = Result Command ScriptFault
 
-abbrev pub text_with : State → Order → List ℕ → List ℕ
-text_with s (Ok (Import word)) body = import_text s body
-text_with s (Ok (Replace game word)) body = replace_text s game body
-text_with s (Ok (Eco word)) body = eco_text s body
-text_with s order body = text_of_order s order
+-- What a command does with its body, where it has one.
+abbrev pub command_work : Command → List ℕ → Work
+command_work Nothing body = quiet (λ s. s) (λ s. [])
+command_work (Find board side) body = find_work board side
+command_work (SearchPosition op query) body = search_position_work op query
+command_work (SearchMaterial op query) body = search_material_work op query
+command_work (SearchHeader op query) body = search_header_work op query
+command_work Reset body = reset_work
+command_work Clear body = clear_work
+command_work Negate body = negate_work
+command_work (Restrict first last) body = restrict_work first last
+command_work (Keep name) body = keep_work name
+command_work (Take name) body = use_work name
+command_work (And name) body = and_work name
+command_work (Or name) body = or_work name
+command_work (Drop name) body = drop_work name
+command_work Hits body = hits_work
+command_work Listing body = list_work
+command_work (Show game) body = show_work game
+command_work Export body = export_work
+command_work (Import word) body = import_work body
+command_work (Replace game word) body = replace_work game body
+command_work (Eco word) body = eco_work body
+command_work (Tag game edit) body = tag_work game edit
+command_work (Delete game) body = delete_work game
+command_work (Undelete game) body = undelete_work game
+command_work (Mark game bit on) body = mark_work game bit on
+command_work (Tree board side) body = tree_work board side
+command_work (Cross event) body = cross_work event
+command_work (Twins depth) body = twins_work depth
+command_work Save body = save_work
+command_work Info body = info_work
+command_work (Demo seed games) body = demo_work seed games
+command_work Quit body = quit_work
+command_work Compact body = compact_work
+
+-- A faulty line changes nothing, and its text is its error line.
+abbrev pub order_work : Order → List ℕ → Work
+order_work (Ok command) body = command_work command body
+order_work (Err fault) body = quiet (λ s. s) (λ s. fault_line fault)
+
+abbrev pub task_work : Task → Work
+task_work t = order_work t.order t.body
 
 -- The plain machine.
 abbrev pub tasks : Plain State Task
-tasks = record { after = λ s t. after_with s t.order t.body; text = λ s t. text_with s t.order t.body }
+tasks = record { after = λ s t. (task_work t).after s; text = λ s t. (task_work t).text s }
 
--- What is known of a task that was broken off: the input fails only at one that has a body.
+-- What is known of a task that was broken off.
 abbrev pub BrokenTask : State → Task → Halt → Type 0
-BrokenTask s t (halt.Device stop.Read) = IsTrue (is_some (body_word t.order))
-BrokenTask s t e = Broken s t.order e
+BrokenTask s t e = Broken s (task_work t) e
+
+-- Whatever its body: whether a line may change the files, the base that it leaves in their place, and what it asks at most.
+abbrev pub order_writes : Order → Bool
+order_writes order = (order_work order []).writes
+
+abbrev pub order_left : Order → Option (Base → Base)
+order_left order = (order_work order []).left
+
+abbrev pub order_price : State → Order → ℕ
+order_price s order = price s (order_work order [])

@@ -13,8 +13,8 @@ use Rattle.base_core.specs.Base.{Base}
 use Rattle.base_core.specs.Opening.{IfTold, is_created}
 use Rattle.command_runs.specs.Counts.{Why, counts}
 use Rattle.command_runs.specs.Endings.{Halted}
-use Rattle.shell_commands.specs.Stands.{Holding, Stands}
-use Rattle.shell_commands.specs.State.{State, begin}
+use Rattle.shell_state.specs.Stands.{Holding, Stands}
+use Rattle.shell_state.specs.State.{State, begin}
 use Rattle.shell_session.specs.Running.{Interrupts, Opening, OpeningRefused}
 use Rattle.shell_session.specs.Session.{Answers, AreGiven, Chooses, ChoosesBase, Reads, WhyStatus, Due, Given, Inlet, Opened, RanAll, RanPart, begun, given, opening_line, opening_text}
 use Rattle.shell_session.specs.Stops.{status_of}

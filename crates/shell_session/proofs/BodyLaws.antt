@@ -39,15 +39,16 @@ use Rattle.script_text.specs.Sound.{IsSoundLine}
 use Rattle.script_text.specs.Tasks.{Task, body_word, task, word_of}
 use Rattle.script_text.specs.declared.command.Command.{Command}
 use Rattle.script_text.specs.declared.command.Command.TheVariants.{Import, Replace, Eco, Quit}
-use Rattle.shell_commands.specs.Classifying.{state_by}
-use Rattle.shell_commands.specs.Do.{Order, price}
-use Rattle.shell_commands.specs.Importing.{Intake, intake, item_after, none_taken, not_added, state_with, the_new, unless_not_added}
-use Rattle.shell_commands.specs.Stands.{Holding, Stands, StillCarry, WhyHalt}
-use Rattle.shell_commands.specs.State.{State}
+use Rattle.report_commands.specs.Classifying.{state_by}
+use Rattle.shell_commands.specs.Tasks.{order_left, order_work, Order, order_price}
+use Rattle.intake_commands.specs.Importing.{Intake, intake, item_after, none_taken, not_added, state_with, the_new, unless_not_added}
+use Rattle.shell_state.specs.Stands.{Holding, Stands, WhyHalt}
+use Rattle.shell_state.specs.Carrying.{StillCarry}
+use Rattle.shell_state.specs.State.{State}
 use Rattle.shell_commands.specs.Tasks.{BrokenTask, tasks}
-use Rattle.shell_commands.specs.declared.halt.Halt.{Halt}
-use Rattle.shell_commands.specs.declared.halt.Halt.TheVariants as halt
-use Rattle.shell_commands.proofs.CarryLaws.{carry_later, carry_of}
+use Rattle.shell_state.specs.declared.halt.Halt.{Halt}
+use Rattle.shell_state.specs.declared.halt.Halt.TheVariants as halt
+use Rattle.shell_state.proofs.CarryLaws.{carry_later, carry_of}
 use Rattle.shell_session.specs.Running.{BehindDone, BodyDone, Finished, GoneOn, Halts, Interrupted, Interrupts, LastDid, LastDone, LastHalts, Stops, WentOn, WentOut, behind_at}
 use Rattle.shell_session.specs.Session.{Breaks, WhyStatus, price_all}
 use Rattle.shell_session.specs.Stops.{status_in_body, status_of_reading}
@@ -70,6 +71,12 @@ command_body _ word is = cc
 pub has_body : (order : Order) (word : List ℕ) → body_word order ≡ Some word → HasBody order word
 has_body (Ok command) word is = command_body command word is
 has_body (Err fault) word is = cc
+
+-- They read it.
+reads_body : (order : Order) (word body : List ℕ) → HasBody order word → (order_work order body).body ≡ true
+reads_body order word body (inl is) = ap (λ (o : Order). (order_work o body).body) is
+reads_body order word body (inr (inl (game, is))) = ap (λ (o : Order). (order_work o body).body) is
+reads_body order word body (inr (inr is)) = ap (λ (o : Order). (order_work o body).body) is
 
 -- The word of a line that has one.
 pub worded : {A : Type 0} (found : Option A) (f : A → List ℕ) (word : Option (List ℕ)) (none : Bool) → option_map f found ≡ word → is_some found ≡ not none → none ≡ false
@@ -126,9 +133,9 @@ carried_of order word s body (inr (inr is)) =
     let P : Order → Option Base = λ o. (tasks.after s (task o body)).carried in
     ap P is ∙ table_carried s (table_of body)
 
-pub body_carries : (order : Order) (word body : List ℕ) (holding : Holding) (seen : Seen) (s : State) → body_word order ≡ Some word → Stands holding seen (tasks.after s (task order body)) → StillCarry seen s order
+pub body_carries : (order : Order) (word body : List ℕ) (holding : Holding) (seen : Seen) (s : State) → body_word order ≡ Some word → Stands holding seen (tasks.after s (task order body)) → StillCarry seen s (order_left order)
 body_carries order word body holding seen s is stands =
-    carry_later holding seen s (tasks.after s (task order body)) order (carried_of order word s body (has_body order word is)) stands
+    carry_later holding seen s (tasks.after s (task order body)) (order_left order) (carried_of order word s body (has_body order word is)) stands
 
 -- ---- what is said behind a line
 
@@ -189,7 +196,7 @@ longer (Some line) order word ahead m end is none more =
 -- ---- a line without a body
 
 pub line_on : (order : Order) (s : State) (ahead : List ℕ) (reader : Reader) (holding' : Holding) (seen' : Seen) (l t t' : Option (List ℕ)) (a a' : ℕ) → is_quit order ≡ false → body_word order ≡ None
-    → before reader.unread l ≡ Some ahead → Done (Stands holding' seen') (tasks.after s (task order [])) (tasks.text s (task order [])) t t' → a' ≤ a + price s order
+    → before reader.unread l ≡ Some ahead → Done (Stands holding' seen') (tasks.after s (task order [])) (tasks.text s (task order [])) t t' → a' ≤ a + order_price s order
     → WentOn order s ahead reader.used holding' seen' reader l t t' a a'
 line_on order s ahead reader holding' seen' l t t' a a' goes none known did asked = record {
   body = [];
@@ -203,7 +210,7 @@ line_on order s ahead reader holding' seen' l t t' a a' goes none known did aske
 
 pub line_finished : (order : Order) (s : State) (ahead : List ℕ) (reader : Reader) (holding' : Holding) (seen' : Seen) (l t t' : Option (List ℕ)) (a a' : ℕ) → is_quit order ≡ true
     → before reader.unread l ≡ Some ahead → reader.used ≤ longest_script → length reader.unread ≤ piece_len
-    → Done (Stands holding' seen') (tasks.after s (task order [])) (tasks.text s (task order [])) t t' → a' ≤ a + price s order
+    → Done (Stands holding' seen') (tasks.after s (task order [])) (tasks.text s (task order [])) t t' → a' ≤ a + order_price s order
     → Finished order s ahead reader.used holding' seen' l t t' a a'
 line_finished order s ahead reader holding' seen' l t t' a a' quit known used few did asked = record {
   lasts = task order [] ∷ [];
@@ -219,7 +226,7 @@ line_finished order s ahead reader holding' seen' l t t' a a' quit known used fe
 }
 
 pub line_halts : (order : Order) (s : State) (ahead : List ℕ) (used : ℕ) (seen' : Seen) (l t t' : Option (List ℕ)) (a a' : ℕ) (status : Status) → body_word order ≡ None
-    → Interrupted status seen' s (task order []) t t' → a' ≤ a + price s order → Halts status seen' order s ahead used l t t' a a'
+    → Interrupted status seen' s (task order []) t t' → a' ≤ a + order_price s order → Halts status seen' order s ahead used l t t' a a'
 line_halts order s ahead used seen' l t t' a a' status none cut asked =
     let led = led_alone (is_quit order) order ahead refl none in
     record {
@@ -233,7 +240,7 @@ line_halts order s ahead used seen' l t t' a a' status none cut asked =
 pub out_finished : (order : Order) (s : State) (ahead : List ℕ) (used : ℕ) (holding holding' : Holding) (seen seen' : Seen) (l t t' t'' : Option (List ℕ)) (a a' a'' : ℕ) → is_quit order ≡ false
     → (out : WentOut order s ahead used holding seen l t t' a a')
     → Done (Stands holding' seen') (tasks.after (tasks.after s (task order out.body)) (task (Ok Quit) [])) (tasks.text (tasks.after s (task order out.body)) (task (Ok Quit) [])) t' t''
-    → a'' ≤ a' + price (tasks.after s (task order out.body)) (Ok Quit) → Finished order s ahead used holding' seen' l t t'' a a''
+    → a'' ≤ a' + order_price (tasks.after s (task order out.body)) (Ok Quit) → Finished order s ahead used holding' seen' l t t'' a a''
 out_finished order s ahead used holding holding' seen seen' l t t' t'' a a' a'' goes out did asked = record {
   lasts = then_quit (task order out.body);
   size = length ahead;
@@ -249,7 +256,7 @@ out_finished order s ahead used holding holding' seen seen' l t t' t'' a a' a'' 
 
 pub out_halts : (order : Order) (s : State) (ahead : List ℕ) (used : ℕ) (holding : Holding) (seen seen' : Seen) (l t t' t'' : Option (List ℕ)) (a a' a'' : ℕ) (status : Status) → is_quit order ≡ false
     → (out : WentOut order s ahead used holding seen l t t' a a') → Interrupted status seen' (tasks.after s (task order out.body)) (task (Ok Quit) []) t' t''
-    → a'' ≤ a' + price (tasks.after s (task order out.body)) (Ok Quit) → Halts status seen' order s ahead used l t t'' a a''
+    → a'' ≤ a' + order_price (tasks.after s (task order out.body)) (Ok Quit) → Halts status seen' order s ahead used l t t'' a a''
 out_halts order s ahead used holding seen seen' l t t' t'' a a' a'' status goes out cut asked =
     let stops : Stops status seen' s (then_quit (task order out.body)) t t'' = quit_stops (Stands holding seen) seen' s (task order out.body) t t' t'' status goes out.did cut in
     let all : then_quit (task order out.body) ≡ (led_on then_quit order ahead).tasks = sym (ap (λ (x : Script). x.tasks) (out.says then_quit)) in
@@ -302,7 +309,7 @@ count_fits order word ahead reader l b f p l' b' f' at = let h : p.reader.used �
 -- A line ended the body.
 went_on : (order : Order) (word ahead : List ℕ) (reader : Reader) (l : Option (List ℕ)) (b f : ℕ) (p : Place) (l' : Option (List ℕ)) (b' f' : ℕ) (s : State) (holding' : Holding) (seen' : Seen) (t t' : Option (List ℕ)) (a a' line : ℕ)
     → InBody order word ahead reader l b f p l' b' f' → p.at ≡ Behind line
-    → Done (Stands holding' seen') (tasks.after s (task order (body_of word true ahead).bytes)) (tasks.text s (task order (body_of word true ahead).bytes)) t t' → a' ≤ a + price s order
+    → Done (Stands holding' seen') (tasks.after s (task order (body_of word true ahead).bytes)) (tasks.text s (task order (body_of word true ahead).bytes)) t t' → a' ≤ a + order_price s order
     → WentOn order s ahead reader.used holding' seen' p.reader l' t t' a a'
 went_on order word ahead reader l b f p l' b' f' s holding' seen' t t' a a' line at is did asked =
     let n : ℕ = p.reader.used - reader.used in
@@ -330,7 +337,7 @@ went_on order word ahead reader l b f p l' b' f' s holding' seen' t t' a a' line
 -- The input did.
 went_out : (order : Order) (word ahead : List ℕ) (reader : Reader) (l : Option (List ℕ)) (b f : ℕ) (p : Place) (l' : Option (List ℕ)) (b' f' : ℕ) (s : State) (holding' : Holding) (seen' : Seen) (t t' : Option (List ℕ)) (a a' : ℕ)
     → InBody order word ahead reader l b f p l' b' f' → p.at ≡ End
-    → Done (Stands holding' seen') (tasks.after s (task order (body_of word true ahead).bytes)) (tasks.text s (task order (body_of word true ahead).bytes)) t t' → a' ≤ a + price s order
+    → Done (Stands holding' seen') (tasks.after s (task order (body_of word true ahead).bytes)) (tasks.text s (task order (body_of word true ahead).bytes)) t t' → a' ≤ a + order_price s order
     → WentOut order s ahead reader.used holding' seen' l' t t' a a'
 went_out order word ahead reader l b f p l' b' f' s holding' seen' t t' a a' at is did asked =
     let n : ℕ = p.reader.used - reader.used in
@@ -363,7 +370,7 @@ at_end End reader P shut on out = out refl
 
 pub body_done : (order : Order) (word ahead : List ℕ) (reader : Reader) (l : Option (List ℕ)) (b f : ℕ) (p : Place) (l' : Option (List ℕ)) (b' f' : ℕ) (s : State) (holding' : Holding) (seen' : Seen) (t t' : Option (List ℕ)) (a a' : ℕ)
     → is_open p.at ≡ false → InBody order word ahead reader l b f p l' b' f'
-    → Done (Stands holding' seen') (tasks.after s (task order (body_of word true ahead).bytes)) (tasks.text s (task order (body_of word true ahead).bytes)) t t' → a' ≤ a + price s order
+    → Done (Stands holding' seen') (tasks.after s (task order (body_of word true ahead).bytes)) (tasks.text s (task order (body_of word true ahead).bytes)) t t' → a' ≤ a + order_price s order
     → BodyDone order s ahead reader.used holding' seen' (behind_at p.at p.reader) l' t t' a a'
 body_done order word ahead reader l b f p l' b' f' s holding' seen' t t' a a' shut at did asked =
     at_end p.at p.reader (λ back. BodyDone order s ahead reader.used holding' seen' back l' t t' a a') shut
@@ -386,7 +393,7 @@ body_cut order word ahead s seen' t t' status is cut =
     let led = led_body (body_of word true ahead).end order word ahead refl is in
     front_stops seen' s (task order (body_of word true ahead).bytes) (led_on then_quit order ahead).tasks led.0 t t' status led.1 cut
 
-body_paid : (order : Order) (word ahead : List ℕ) (s : State) (a a' : ℕ) → body_word order ≡ Some word → a' ≤ a + price s order → a' ≤ a + price_all s (led_on then_quit order ahead).tasks
+body_paid : (order : Order) (word ahead : List ℕ) (s : State) (a a' : ℕ) → body_word order ≡ Some word → a' ≤ a + order_price s order → a' ≤ a + price_all s (led_on then_quit order ahead).tasks
 body_paid order word ahead s a a' is asked =
     let led = led_body (body_of word true ahead).end order word ahead refl is in
     price_front s (led_on then_quit order ahead).tasks led.0 order (body_of word true ahead).bytes a a' led.1 asked
@@ -405,7 +412,7 @@ read_front order word ahead reader l b f p l' b' f' at =
     ap (λ (x : List ℕ). Some x) (sym all) ∙ ap (before (take (n + m) ahead)) (sym rest.is)
 
 halts_stuck : (e : ReadError) (order : Order) (word ahead : List ℕ) (reader : Reader) (l : Option (List ℕ)) (b f : ℕ) (p : Place) (l' : Option (List ℕ)) (b' f' : ℕ) (s : State) (seen' : Seen) (t t' : Option (List ℕ)) (a a' : ℕ)
-    → p.stuck ≡ Some e → InBody order word ahead reader l b f p l' b' f' → Halted [] (tasks.text s (task order (body_of word true ahead).bytes)) t t' → StillCarry seen' s order → a' ≤ a + price s order
+    → p.stuck ≡ Some e → InBody order word ahead reader l b f p l' b' f' → Halted [] (tasks.text s (task order (body_of word true ahead).bytes)) t t' → StillCarry seen' s (order_left order) → a' ≤ a + order_price s order
     → Halts (status_of_reading e) seen' order s ahead reader.used l' t t' a a'
 halts_stuck error.Failed order word ahead reader l b f p l' b' f' s seen' t t' a a' is at wrote carries asked =
     let q = body_cut order word ahead s seen' t t' ReadFault at.has (record { wrote = wrote; broken = record { broken = tt; carries = carries } }) in
@@ -444,7 +451,7 @@ must_stick word reader l b f p l' b' f' r st is rose = none_rose r (subst (λ (n
 
 pub body_halts : (end : Halt) (stuck : Option ReadError) (order : Order) (word ahead : List ℕ) (reader : Reader) (l : Option (List ℕ)) (b f : ℕ) (p : Place) (l' : Option (List ℕ)) (b' f' : ℕ) (s : State) (seen' : Seen) (t t' : Option (List ℕ)) (a a' x x' r k k' : ℕ)
     → p.stuck ≡ stuck → InBody order word ahead reader l b f p l' b' f' → Halted [] (tasks.text s (task order (body_of word true ahead).bytes)) t t'
-    → BrokenTask s (task order (body_of word true ahead).bytes) end → StillCarry seen' s order → WhyHalt end (counts x r k) (counts x' p.refused k') → a' ≤ a + price s order
+    → BrokenTask s (task order (body_of word true ahead).bytes) end → StillCarry seen' s (order_left order) → WhyHalt end (counts x r k) (counts x' p.refused k') → a' ≤ a + order_price s order
     → Halts (status_in_body end stuck) seen' order s ahead reader.used l' t t' a a'
 body_halts (halt.Device stop.Read) (Some e) order word ahead reader l b f p l' b' f' s seen' t t' a a' x x' r k k' is at wrote broken carries why asked =
     halts_stuck e order word ahead reader l b f p l' b' f' s seen' t t' a a' is at wrote carries asked
@@ -473,7 +480,7 @@ pub body_short : (order : Order) (word ahead : List ℕ) (holding : Holding) (se
 body_short order word ahead holding seen s used l t a is stands = record {
   stopped =
       (body_cut order word ahead s seen t t Memory is
-      (record { wrote = halted_none (tasks.text s (task order (body_of word true ahead).bytes)) t; broken = record { broken = tt; carries = carry_of holding seen s order stands } })).0;
+      (record { wrote = halted_none (tasks.text s (task order (body_of word true ahead).bytes)) t; broken = record { broken = tt; carries = carry_of holding seen s (order_left order) stands } })).0;
   lines = tt;
   asks = omega arith;
 }
@@ -482,15 +489,14 @@ body_short order word ahead holding seen s used l t a is stands = record {
 pub drain_halts : (stuck : Option ReadError) (order : Order) (word ahead : List ℕ) (reader : Reader) (l : Option (List ℕ)) (b f : ℕ) (p : Place) (l' : Option (List ℕ)) (b' f' : ℕ) (s : State) (holding' : Holding) (seen' : Seen) (t t' : Option (List ℕ)) (a a' r : ℕ)
     → p.stuck ≡ stuck → InBody order word ahead reader l b f p l' b' f'
     → Done (Stands holding' seen') (tasks.after s (task order (body_of word true ahead).bytes)) (tasks.text s (task order (body_of word true ahead).bytes)) t t'
-    → Rose r p.refused → a' ≤ a + price s order
+    → Rose r p.refused → a' ≤ a + order_price s order
     → Halts (status_in_body (halt.Device stop.Read) stuck) seen' order s ahead reader.used l' t t' a a'
 drain_halts stuck order word ahead reader l b f p l' b' f' s holding' seen' t t' a a' r is at did rose asked =
     let text : List ℕ = tasks.text s (task order (body_of word true ahead).bytes) in
-    let P : Option (List ℕ) → Type 0 = λ o. IsTrue (is_some o) in
     let Q : List ℕ → Type 0 = λ x. Halted [] x t t' in
     body_halts (halt.Device stop.Read) stuck order word ahead reader l b f p l' b' f' s seen' t t' a a' 0 0 r 0 0 is at
     (subst Q (append-nil text) (halted_within [] text text [] t t' (halted_all text t t' did.written)))
-    (subst P (sym at.has) refl) (body_carries order word (body_of word true ahead).bytes holding' seen' s at.has did.stands) rose asked
+    (reads_body order word (body_of word true ahead).bytes (has_body order word at.has)) (body_carries order word (body_of word true ahead).bytes holding' seen' s at.has did.stands) rose asked
 
 -- ---- for every files, input and output
 

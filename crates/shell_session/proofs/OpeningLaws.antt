@@ -8,8 +8,8 @@ use Rattle.base_core.specs.Opening.{IfBad, IfTold, Opens, Refuses, are_empty, is
 use Rattle.base_core.specs.Represents.{Kept}
 use Rattle.base_core.specs.declared.fault.OpenError.{OpenError}
 use Rattle.base_core.specs.declared.fault.OpenError.TheVariants as error
-use Rattle.shell_commands.specs.Saving.{AreEmpty, Contents}
-use Rattle.shell_commands.specs.Stands.{Begins, Holding}
+use Rattle.shell_state.specs.Carrying.{AreEmpty, Contents}
+use Rattle.shell_state.specs.Stands.{Begins, Holding}
 use Rattle.shell_session.specs.Running.{Opening, OpeningRefused}
 use Rattle.shell_session.specs.Stops.{status_of_opening}
 use Rattle.shell_session.specs.declared.status.Status.TheVariants.{FilesFault}

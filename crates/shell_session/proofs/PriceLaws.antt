@@ -6,9 +6,9 @@ use Rattle.command_runs.specs.Plain.{after_all}
 use Rattle.script_lines.specs.Script.{is_quit, script_of, then_quit}
 use Rattle.script_text.specs.Tasks.{Task, task}
 use Rattle.script_text.specs.declared.command.Command.TheVariants.{Quit}
-use Rattle.shell_commands.specs.Do.{Order, price}
-use Rattle.shell_commands.specs.Stands.{Holding, Stands}
-use Rattle.shell_commands.specs.State.{State, begin}
+use Rattle.shell_commands.specs.Tasks.{Order, order_price}
+use Rattle.shell_state.specs.Stands.{Holding, Stands}
+use Rattle.shell_state.specs.State.{State, begin}
 use Rattle.shell_commands.specs.Tasks.{tasks}
 use Rattle.shell_session.specs.Running.{Opening}
 use Rattle.shell_session.specs.Session.{Asks, Given, given, price_all}
@@ -23,10 +23,10 @@ price_all-append s (x ∷ xs) ys =
     omega (arith, rest)
 
 -- One task of some that are left.
-pub paid_one : (s : State) (done : List Task) (next : Task) (a₀ a a' : ℕ) → a ≤ a₀ + price_all s done → a' ≤ a + price (after_all tasks s done) next.order
+pub paid_one : (s : State) (done : List Task) (next : Task) (a₀ a a' : ℕ) → a ≤ a₀ + price_all s done → a' ≤ a + order_price (after_all tasks s done) next.order
     → a' ≤ a₀ + price_all s (done ++ next ∷ [])
 paid_one s done next a₀ a a' paid asked =
-    let all : price_all s (done ++ next ∷ []) ≡ price_all s done + (price (after_all tasks s done) next.order + 0) = price_all-append s done (next ∷ []) in
+    let all : price_all s (done ++ next ∷ []) ≡ price_all s done + (order_price (after_all tasks s done) next.order + 0) = price_all-append s done (next ∷ []) in
     omega (arith, paid, asked, all)
 
 -- All that are left.
@@ -38,19 +38,19 @@ paid_all s all done lasts a₀ a a' is paid asked =
     omega (arith, paid, asked, parts, whole)
 
 -- Of some tasks the first one.
-pub price_front : (s : State) (all left : List Task) (order : Order) (body : List ℕ) (a a' : ℕ) → all ≡ task order body ∷ left → a' ≤ a + price s order → a' ≤ a + price_all s all
+pub price_front : (s : State) (all left : List Task) (order : Order) (body : List ℕ) (a a' : ℕ) → all ≡ task order body ∷ left → a' ≤ a + order_price s order → a' ≤ a + price_all s all
 price_front s all left order body a a' is asked =
-    let whole : price_all s all ≡ price s order + price_all (tasks.after s (task order body)) left = ap (price_all s) is in
+    let whole : price_all s all ≡ order_price s order + price_all (tasks.after s (task order body)) left = ap (price_all s) is in
     omega (arith, asked, whole)
 
 -- Of a last task and then `quit`, the first, and both.
-pub price_first : (s : State) (last : Task) (a a' : ℕ) → a' ≤ a + price s last.order → a' ≤ a + price_all s (then_quit last)
+pub price_first : (s : State) (last : Task) (a a' : ℕ) → a' ≤ a + order_price s last.order → a' ≤ a + price_all s (then_quit last)
 price_first s last a a' asked = by_test (is_quit last.order) s last a a' asked where
-  by_test : (test : Bool) (s : State) (last : Task) (a a' : ℕ) → a' ≤ a + price s last.order → a' ≤ a + price_all s (cond test (last ∷ []) (last ∷ task (Ok Quit) [] ∷ []))
+  by_test : (test : Bool) (s : State) (last : Task) (a a' : ℕ) → a' ≤ a + order_price s last.order → a' ≤ a + price_all s (cond test (last ∷ []) (last ∷ task (Ok Quit) [] ∷ []))
   by_test true s last a a' asked = omega (arith, asked)
   by_test false s last a a' asked = omega (arith, asked)
 
-pub price_both : (s : State) (last : Task) (a a' a'' : ℕ) → is_quit last.order ≡ false → a' ≤ a + price s last.order → a'' ≤ a' + price (tasks.after s last) (Ok Quit)
+pub price_both : (s : State) (last : Task) (a a' a'' : ℕ) → is_quit last.order ≡ false → a' ≤ a + order_price s last.order → a'' ≤ a' + order_price (tasks.after s last) (Ok Quit)
     → a'' ≤ a + price_all s (then_quit last)
 price_both s last a a' a'' other first second = rw other (omega (arith, first, second))
 

@@ -22,13 +22,15 @@ use Rattle.script_text.specs.Reading.{reading, shorn}
 use Rattle.script_text.specs.Tasks.{Task, body_word, task}
 use Rattle.script_text.specs.Words.{cut}
 use Rattle.script_text.specs.declared.command.Command.TheVariants.{Quit}
-use Rattle.shell_commands.specs.Do.{Order, order_writes}
-use Rattle.shell_commands.specs.Stands.{Holding, Stands, StillCarry, WhyHalt}
-use Rattle.shell_commands.specs.State.{State}
+use Rattle.shell_commands.proofs.TaskLaws.{alone}
+use Rattle.shell_commands.specs.Tasks.{order_left, Order, order_writes}
+use Rattle.shell_state.specs.Stands.{Holding, Stands, WhyHalt}
+use Rattle.shell_state.specs.Carrying.{StillCarry}
+use Rattle.shell_state.specs.State.{State}
 use Rattle.shell_commands.specs.Tasks.{BrokenTask, tasks}
-use Rattle.shell_commands.specs.declared.halt.Halt.{Halt}
-use Rattle.shell_commands.specs.declared.halt.Halt.TheVariants as halt
-use Rattle.shell_commands.proofs.CarryLaws.{carry_of, left_of}
+use Rattle.shell_state.specs.declared.halt.Halt.{Halt}
+use Rattle.shell_state.specs.declared.halt.Halt.TheVariants as halt
+use Rattle.shell_state.proofs.CarryLaws.{carry_of, left_of}
 use Rattle.shell_session.specs.Running.{BehindDone, Finished, Halts, InLine, Interrupted, Interrupts, LastDid, LastDone, LastHalts, Ran, Stops, WentOn, joined}
 use Rattle.shell_session.specs.Session.{Breaks, LinesDone, RanAll, RanPart, WhyStatus, price_all}
 use Rattle.shell_session.specs.Stops.{status_of_halt, status_of_reading}
@@ -405,7 +407,7 @@ ran_failed s bytes t₀ holding seen reader reader' l l' t a₀ a ran took none 
       left = some.1;
       all = ap (λ (x : Script). x.tasks) says ∙ ap (λ ts. ran.done ++ ts) some.2;
       wrote = unwritten s ran.done some.0 t₀ t ran.written;
-      broken = record { broken = tt; carries = carry_of holding seen (after_all tasks s ran.done) some.0.order ran.stands };
+      broken = record { broken = tt; carries = carry_of holding seen (after_all tasks s ran.done) (order_left some.0.order) ran.stands };
       lines = (
         ran.front ++ took.front,
         read ∙ ap (λ u. before (ran.front ++ took.front) (before u l')) none ∙ ap (before (ran.front ++ took.front)) (before-nil l'),
@@ -437,7 +439,7 @@ ran_too_long s bytes t₀ holding seen reader reader' l l' t a₀ a ran took ful
       left = some.1;
       all = ap (λ (x : Script). x.tasks) says ∙ ap (λ ts. ran.done ++ ts) some.2;
       wrote = unwritten s ran.done some.0 t₀ t ran.written;
-      broken = record { broken = tt; carries = carry_of holding seen (after_all tasks s ran.done) some.0.order ran.stands };
+      broken = record { broken = tt; carries = carry_of holding seen (after_all tasks s ran.done) (order_left some.0.order) ran.stands };
       lines = (
         omega (arith, size, bigger, n, exact),
         sym (lines_taken ran.done ran.front took.front reader'.line ran.says took.feeds) ∙ ap whole_lines (sym within),
@@ -457,7 +459,7 @@ ran_short s bytes t₀ holding seen reader l l' t a₀ a ran =
       left = some.1;
       all = ap (λ (x : Script). x.tasks) says ∙ ap (λ ts. ran.done ++ ts) some.2;
       wrote = unwritten s ran.done some.0 t₀ t ran.written;
-      broken = record { broken = tt; carries = carry_of holding seen (after_all tasks s ran.done) some.0.order ran.stands };
+      broken = record { broken = tt; carries = carry_of holding seen (after_all tasks s ran.done) (order_left some.0.order) ran.stands };
       lines = tt;
     }
 
@@ -479,12 +481,13 @@ paid_done s bytes t₀ holding seen reader l t a₀ a ran =
 -- ---- one line
 
 -- A command without a body that was broken off.
-pub interrupted : (halt : Halt) (seen' : Seen) (s : State) (next : Task) (t t' : Option (List ℕ)) → body_word next.order ≡ None → Cut (BrokenTask s next halt) (tasks.text s next) t t' → StillCarry seen' s next.order
+pub interrupted : (halt : Halt) (seen' : Seen) (s : State) (next : Task) (t t' : Option (List ℕ)) → body_word next.order ≡ None → Cut (BrokenTask s next halt) (tasks.text s next) t t' → StillCarry seen' s (order_left next.order)
     → Interrupted (status_of_halt halt) seen' s next t t'
 interrupted (halt.Device stop.Files) seen' s next t t' none broken_off carries = record { cut = record { wrote = broken_off.wrote; broken = record { broken = broken_off.broken; carries = carries } }; line = tt }
 interrupted (halt.Device stop.Write) seen' s next t t' none broken_off carries = record { cut = record { wrote = broken_off.wrote; broken = record { broken = tt; carries = carries } }; line = tt }
 interrupted (halt.Device stop.Memory) seen' s next t t' none broken_off carries = record { cut = record { wrote = broken_off.wrote; broken = record { broken = tt; carries = carries } }; line = tt }
-interrupted (halt.Device stop.Read) seen' s next t t' none broken_off carries = let e : false ≡ true = subst (λ (w : Option (List ℕ)). IsTrue (is_some w)) none broken_off.broken in cc
+interrupted (halt.Device stop.Read) seen' s next t t' none broken_off carries =
+    let e : false ≡ true = sym (alone next.order next.body none) ∙ broken_off.broken in cc
 interrupted (halt.Changed game kept found) seen' s next t t' none broken_off carries = absurd broken_off.broken
 
 none_rose : Rose 0 0 → ⊥

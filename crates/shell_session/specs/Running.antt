@@ -10,9 +10,9 @@ use Rattle.command_runs.specs.Endings.{Cut, Done}
 use Rattle.command_runs.specs.Plain.{after_all, run}
 use Rattle.command_runs.specs.Runs.{Stopped}
 use Rattle.script_text.specs.Tasks.{Task, task}
-use Rattle.shell_commands.specs.Do.{Order, price}
-use Rattle.shell_commands.specs.Stands.{Holding, Stands}
-use Rattle.shell_commands.specs.State.{State, begin}
+use Rattle.shell_commands.specs.Tasks.{Order, order_price}
+use Rattle.shell_state.specs.Stands.{Holding, Stands}
+use Rattle.shell_state.specs.State.{State, begin}
 use Rattle.shell_commands.specs.Tasks.{tasks}
 use Rattle.script_lines.specs.Reading.{Reader, grown, led_on}
 use Rattle.script_lines.specs.declared.place.At.{At}
@@ -88,7 +88,7 @@ pub record WentOn (order : Order) (s : State) (ahead : List ℕ) (used : ℕ) (h
   pub left : Some ahead ≡ before front (before reader'.unread l')
   pub taken : reader'.used ≡ used + length front
   pub says : (last : Task → List Task) (more : List ℕ) → led_on last order (front ++ more) ≡ grown (length front) (led_by (task order body) (script_from last 0 [] more))
-  pub asks : a' ≤ a + price s order
+  pub asks : a' ≤ a + order_price s order
 
 -- The command is done, and the input ended its body.
 pub record WentOut (order : Order) (s : State) (ahead : List ℕ) (used : ℕ) (holding' : Holding) (seen' : Seen) (l' : Option (List ℕ)) (t t' : Option (List ℕ)) (a a' : ℕ) : Type 0 where
@@ -97,7 +97,7 @@ pub record WentOut (order : Order) (s : State) (ahead : List ℕ) (used : ℕ) (
   pub says : (last : Task → List Task) → led_on last order ahead ≡ script (last (task order body)) (length ahead)
   pub left : l' ≡ Some []
   pub within : used + length ahead ≤ longest_script
-  pub asks : a' ≤ a + price s order
+  pub asks : a' ≤ a + order_price s order
 
 -- The script is at its end: its last tasks are done.
 pub record Finished (order : Order) (s : State) (ahead : List ℕ) (used : ℕ) (holding' : Holding) (seen' : Seen) (l' : Option (List ℕ)) (t t' : Option (List ℕ)) (a a' : ℕ) : Type 0 where

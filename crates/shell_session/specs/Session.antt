@@ -13,10 +13,10 @@ use Rattle.command_runs.specs.Counts.{Counts}
 use Rattle.command_runs.specs.Endings.{Halted}
 use Rattle.command_runs.specs.Plain.{after_all, run}
 use Rattle.script_text.specs.Tasks.{Task}
-use Rattle.shell_commands.specs.Do.{order_asks, price}
-use Rattle.shell_commands.specs.Saving.{AreLeft}
-use Rattle.shell_commands.specs.Stands.{StillCarry}
-use Rattle.shell_commands.specs.State.{State, begin}
+use Rattle.shell_commands.specs.Tasks.{order_left, task_work, order_price}
+use Rattle.shell_state.specs.Carrying.{AreLeft}
+use Rattle.shell_state.specs.Carrying.{StillCarry}
+use Rattle.shell_state.specs.State.{State, begin}
 use Rattle.shell_commands.specs.Tasks.{tasks}
 use Rattle.script_lines.specs.Script.{longest_script, script_len, script_of, whole_lines}
 use Rattle.shell_session.specs.Words.{Wanted, words_read}
@@ -96,7 +96,7 @@ pub record RanAll (s : State) (script : List ℕ) (told : Option (List ℕ)) (to
 abbrev pub BrokenBy : Status → Task → Type 0
 BrokenBy ReadFault next = ⊤
 BrokenBy WriteFault next = ⊤
-BrokenBy FilesFault next = IsTrue (order_asks next.order)
+BrokenBy FilesFault next = IsTrue (task_work next).files
 BrokenBy InputTooLong next = ⊤
 BrokenBy Memory next = ⊤
 BrokenBy _ next = ⊥
@@ -104,7 +104,7 @@ BrokenBy _ next = ⊥
 -- The same, with what the files carry then.
 pub record Breaks (status : Status) (seen' : Seen) (s : State) (next : Task) : Type 0 where
   pub broken : BrokenBy status next
-  pub carries : StillCarry seen' s next.order
+  pub carries : StillCarry seen' s (order_left next.order)
 
 -- The commands that are done at a fault of the input are those whose lines were read with their line feed; at a script that is too long
 -- those whose lines end within the limit.
@@ -185,7 +185,7 @@ Due given _ = ⊥
 -- What some lines ask at most, one after the other.
 abbrev pub price_all : State → List Task → ℕ
 price_all s [] = 0
-price_all s (next ∷ later) = price s next.order + price_all (tasks.after s next) later
+price_all s (next ∷ later) = order_price s next.order + price_all (tasks.after s next) later
 
 -- A session asks at most the records of all games, to open the base, and where it is open what the lines of its script ask.
 abbrev pub Asks : Given → ℕ → ℕ → Type 0

@@ -7,7 +7,7 @@ ghost use Rattle.base_files.specs.Told.{adds};
 ghost use Rattle.base_core.specs.Opening.{IfTold, open_cost};
 ghost use Rattle.command_runs.specs.Counts.{Causes, Why, counts};
 ghost use Rattle.command_runs.specs.Endings.{Halted};
-ghost use Rattle.shell_commands.specs.Stands.{Sound};
+ghost use Rattle.shell_state.specs.Stands.{Sound};
 ghost use Rattle.shell_session.specs.Running.{Opening, OpeningRefused};
 ghost use Rattle.shell_session.specs.Session.{opening_text, opening_words};
 
@@ -16,7 +16,7 @@ use crate::words::Wanted;
 use base_core::Base;
 use base_files::{Files, Sink, Stop};
 use command_runs::write_text;
-use shell_commands::Machine;
+use shell_state::Machine;
 use std::alloc::{AllocError, Global};
 
 /// How long a record may be, and one byte more.

@@ -11,9 +11,10 @@ ghost use Rattle.script_lines.specs.Script.{is_quit, longest_script, script_of, 
 ghost use Rattle.script_text.specs.Sound.{IsSoundLine};
 ghost use Rattle.script_text.specs.Tasks.{body_word, task};
 ghost use Rattle.script_text.specs.declared.command.Command.TheVariants as command;
-ghost use Rattle.shell_commands.specs.Do.{is_demo, order_writes, price};
-ghost use Rattle.shell_commands.specs.Stands.{Sound, Stands, StillCarry, WhyHalt, cost};
-ghost use Rattle.shell_commands.specs.State.{State};
+ghost use Rattle.shell_commands.specs.Tasks.{order_left, order_price, order_writes};
+ghost use Rattle.shell_state.specs.Stands.{Sound, Stands, WhyHalt};
+ghost use Rattle.shell_state.specs.Carrying.{StillCarry};
+ghost use Rattle.shell_state.specs.State.{State};
 ghost use Rattle.shell_commands.specs.Tasks.{BrokenTask, tasks};
 ghost use Rattle.shell_session.specs.Running.{BodyDone, GoneOn, Halts, Interrupted, Interrupts, LastDid, LastHalts, Stops, TaskDone, behind_at};
 ghost use Rattle.shell_session.specs.Session.{RanAll, RanPart, WhyStatus, price_all};
@@ -22,9 +23,10 @@ ghost use Rattle.shell_session.specs.Stops.{status_in_body};
 use crate::status::Status;
 use base_files::{Failed, Files, Sink, Source, Stop};
 use cell_core::Text;
-use script_lines::{At, Begins, Body, LineReader, Order, Place, Taken, body_word, is_quit};
+use script_lines::{At, Begins, Body, LineReader, NoBody, Order, Place, Taken, body_word, is_quit};
 use script_text::Command;
-use shell_commands::{Halt, Machine, serve, serve_body};
+use shell_commands::serve;
+use shell_state::{Halt, Machine};
 use std::alloc::Global;
 use std::marker::Brand;
 
@@ -121,7 +123,7 @@ fn run_quit<F: Files, K: Sink>(
     ensures done { OnOk result ((s : State) → Stands machine.old (F.seen files.old) s → Done (Stands machine.new (F.seen files.new)) (tasks.after s (task (Ok command.Quit) [])) (tasks.text s (task (Ok command.Quit) [])) (K.taken out.old) (K.taken out.new)) }
     ensures none { IfOk result (λ back. back ≡ None) }
     ensures interrupted { IfErr result (λ status. (s : State) → Stands machine.old (F.seen files.old) s → Interrupted status (F.seen files.new) s (task (Ok command.Quit) []) (K.taken out.old) (K.taken out.new)) }
-    ensures asks { (s : State) → Stands machine.old (F.seen files.old) s → F.asked files.new ≤ F.asked files.old + price s (Ok command.Quit) }
+    ensures asks { (s : State) → Stands machine.old (F.seen files.old) s → F.asked files.new ≤ F.asked files.old + order_price s (Ok command.Quit) }
     ensures sound { OnOk result (Sound machine.new (F.seen files.new)) }
     ensures unchanged { F.seen files.new ≡ F.seen files.old }
     ensures choices { (F.seen files.new).choices ≡ (F.seen files.old).choices }
@@ -243,15 +245,14 @@ fn serve_in<B: Begins, F: Files, S: Source, K: Sink>(
     ensures serves { (s : State) (text : List ℕ) → Stands machine.old (F.seen files.old) s → left_of place.old (S.left input.old) ≡ Some text → Serves tasks (Stands machine.new (F.seen files.new)) BrokenTask s (task order.now text) (K.taken out.old) (K.taken out.new) result }
     ensures stands { Standing B.start place.new (S.left input.new) (S.budget input.new) (S.faults input.new) }
     ensures sound { OnOk result (Sound machine.new (F.seen files.new)) }
-    ensures carries { (s : State) → Stands machine.old (F.seen files.old) s → IfErr result (λ _. StillCarry (F.seen files.new) s order.now) }
+    ensures carries { (s : State) → Stands machine.old (F.seen files.old) s → IfErr result (λ _. StillCarry (F.seen files.new) s (order_left order.now)) }
     ensures unchanged { order_writes order.now ≡ false → F.seen files.new ≡ F.seen files.old }
     ensures choices { (F.seen files.new).choices ≡ (F.seen files.old).choices }
-    ensures asks { is_demo order.now ≡ false → F.asked files.new ≤ F.asked files.old + cost machine.old order.now }
-    ensures asks_demo { (s : State) (seed games : ℕ) → Stands machine.old (F.seen files.old) s → order.now ≡ Ok (command.Demo seed games) → F.asked files.new ≤ F.asked files.old + price s order.now }
+    ensures asks { (s : State) → Stands machine.old (F.seen files.old) s → F.asked files.new ≤ F.asked files.old + order_price s order.now }
     ensures causes { Causes WhyHalt result (counts (F.faults files.old) place.old.refused (K.faults out.old)) (counts (F.faults files.new) place.new.refused (K.faults out.new)) }
 {
     let mut body: Body<'_, S, B> = Body::new(input, place);
-    serve_body(alloc, machine, files, &mut body, out, order)
+    serve(alloc, machine, files, &mut body, out, order)
 }
 
 // How a command ends that was broken off with its body at this place.
@@ -310,7 +311,7 @@ fn run_line<F: Files, K: Sink>(
     ensures done { OnOk result ((s : State) → Stands machine.old (F.seen files.old) s → Done (Stands machine.new (F.seen files.new)) (tasks.after s (task order [])) (tasks.text s (task order [])) (K.taken out.old) (K.taken out.new)) }
     ensures quit { IfOk result (λ quit. quit ≡ is_quit order) }
     ensures interrupted { IfErr result (λ status. (s : State) → Stands machine.old (F.seen files.old) s → Interrupted status (F.seen files.new) s (task order []) (K.taken out.old) (K.taken out.new)) }
-    ensures asks { (s : State) → Stands machine.old (F.seen files.old) s → F.asked files.new ≤ F.asked files.old + price s order }
+    ensures asks { (s : State) → Stands machine.old (F.seen files.old) s → F.asked files.new ≤ F.asked files.old + order_price s order }
     ensures sound { OnOk result (Sound machine.new (F.seen files.new)) }
     ensures choices { (F.seen files.new).choices ≡ (F.seen files.old).choices }
     ensures unchanged { order_writes order ≡ false → F.seen files.new ≡ F.seen files.old }
@@ -341,7 +342,7 @@ fn run_order<F: Files, K: Sink>(
     requires alone { body_word order.now ≡ None }
     ensures done { OnOk result ((s : State) → Stands machine.old (F.seen files.old) s → Done (Stands machine.new (F.seen files.new)) (tasks.after s (task order.now [])) (tasks.text s (task order.now [])) (K.taken out.old) (K.taken out.new)) }
     ensures interrupted { IfErr result (λ status. (s : State) → Stands machine.old (F.seen files.old) s → Interrupted status (F.seen files.new) s (task order.now []) (K.taken out.old) (K.taken out.new)) }
-    ensures asks { (s : State) → Stands machine.old (F.seen files.old) s → F.asked files.new ≤ F.asked files.old + price s order.now }
+    ensures asks { (s : State) → Stands machine.old (F.seen files.old) s → F.asked files.new ≤ F.asked files.old + order_price s order.now }
     ensures sound { OnOk result (Sound machine.new (F.seen files.new)) }
     ensures choices { (F.seen files.new).choices ≡ (F.seen files.old).choices }
     ensures unchanged { order_writes order.now ≡ false → F.seen files.new ≡ F.seen files.old }
@@ -350,7 +351,7 @@ fn run_order<F: Files, K: Sink>(
     ensures why { IfErr result (λ status. (i : ℕ) (i' : ℕ) → WhyStatus status (counts (F.faults files.old) i (K.faults out.old)) (counts (F.faults files.new) i' (K.faults out.new))) }
     ensures no_input { IfErr result (λ status. status ≡ Status.InputTooLong → ⊥) }
 {
-    match serve(alloc, machine, files, out, order) {
+    match serve(alloc, machine, files, &mut NoBody, out, order) {
         Ok(()) => Ok(()),
         Err(halt) => Err(Status::from(halt)),
     }

@@ -7,7 +7,7 @@ ghost use Rattle.shell_session.specs.declared.status.Status.TheVariants as statu
 use base_core::{BaseFault, OpenError};
 use base_files::Stop;
 use script_lines::ReadError;
-use shell_commands::Halt;
+use shell_state::Halt;
 use sig_index::Sig;
 use std::alloc::AllocError;
 

@@ -1,10 +1,12 @@
 -- The search through the games, one after the other: what it asks, and the entries that it leaves.
-use Rattle.std.proofs.Common.{◌≡◌, ℕ, ◌+◌, ◌<◌, ◌≤◌, zero, suc, List, [], ◌∷◌, Option, None, Some, get_or, length, set, take, ap, ◌∙◌, arith, add-one}
+use Rattle.std.proofs.Common.{◌≡◌, ◌≢◌, ℕ, ◌+◌, ◌<◌, ◌≤◌, zero, suc, Bool, true, false, List, [], ◌∷◌, Option, None, Some, get_or, length, set, take, sym, ap, ◌∙◌, inl, inr, arith, add-one, true≢false}
 use Rattle.std.specs.Prelude.{slice_get}
+use Rattle.std.proofs.lemmas.Bool.{cases_order}
 use Rattle.std.proofs.lemmas.List.{get_or-set_other}
+use Rattle.std.proofs.lemmas.Option.{get_or_from_slice_get}
 use Rattle.base_files.specs.declared.extent.Extent.{Extent}
 use Rattle.sig_index.specs.declared.signature.Sig.{Sig}
-use Rattle.sig_index.specs.Costs.{price_by}
+use Rattle.sig_index.specs.Costs.{KeepsOthers, price_by}
 use Rattle.sig_index.specs.Games.{extent_in}
 
 -- ---- the price
@@ -67,3 +69,24 @@ untouched_more old now new i ply is before k behind =
     ap (λ (l : List (Option ℕ)). get_or l k None) is
     ∙ get_or-set_other now i k ply None (λ same. omega (arith, same, behind))
     ∙ before k (omega (arith, behind))
+
+other_kept : (old now new : List (Option ℕ)) (i k : ℕ) (ply : Option ℕ) → new ≡ set now i ply → k ≢ i → get_or now k None ≡ get_or old k None → get_or new k None ≡ get_or old k None
+other_kept old now new i k ply is other before =
+    ap (λ (l : List (Option ℕ)). get_or l k None) is ∙ (get_or-set_other now i k ply None other ∙ before)
+
+-- Who is not looked at keeps its entry over one game more.
+pub kept_more : (looks : Option ℕ → Bool) (old now new : List (Option ℕ)) (i : ℕ) (ply : Option ℕ) → new ≡ set now i ply → (looks (get_or now i None) ≡ false → new ≡ now)
+    → Untouched old now i → KeepsOthers looks old now → KeepsOthers looks old new
+kept_more looks old now new i ply is passed rest kept k not =
+    elim (cases_order k i) [
+      | inl same ↦
+          let here : get_or now k None ≡ get_or old k None = rest k (omega (arith, same)) in
+          let not_now : looks (get_or now i None) ≡ false = ap (λ (n : ℕ). looks (get_or now n None)) (sym same) ∙ (ap looks here ∙ not) in
+          ap (λ (l : List (Option ℕ)). get_or l k None) (passed not_now) ∙ here
+      | inr (inl less) ↦ other_kept old now new i k ply is (λ same. omega (arith, same, less)) (kept k not)
+      | inr (inr more) ↦ other_kept old now new i k ply is (λ same. omega (arith, same, more)) (kept k not)
+    ]
+
+-- A game that is looked at is not passed over.
+pub not_passed : (looks : Option ℕ → Bool) (plies : List (Option ℕ)) (i : ℕ) (old : Option ℕ) → slice_get plies i ≡ Some old → looks old ≡ true → looks (get_or plies i None) ≡ false → ⊥
+not_passed looks plies i old there looked passed = true≢false (sym looked ∙ (ap looks (sym (get_or_from_slice_get plies i old None there)) ∙ passed))

@@ -18,3 +18,4 @@ pub mod CostLemmas
 pub mod LookingLemmas
 pub mod ReadLemmas
 pub mod SignedLemmas
+pub mod SigOf

@@ -9,7 +9,7 @@ use Rattle.cell_core.specs.Board.{Men}
 use Rattle.chess_laws.specs.Counts.{count_of, is_home}
 use Rattle.chess_laws.specs.declared.setup.Setup.{Setup}
 use Rattle.chess_laws.specs.Position.{start_setup}
-use Rattle.game_tree.specs.Game.{GameTree}
+use Rattle.game_tree.specs.Game.{GameTree, has_own_start}
 use Rattle.game_tree.specs.Replay.{plies_of, position_at}
 use Rattle.game_tree.specs.Promotions.{has_promotion, has_underpromotion}
 use Rattle.game_tree.specs.Counts.{variations_of, comments_of, nags_of}
@@ -63,6 +63,20 @@ pub record IsSig (game : GameTree) (s : Sig) : Type 0 where
   pub vars : s.vars ≡ count_code (variations_of game)
   pub comments : s.comments ≡ count_code (comments_of game)
   pub nags : s.nags ≡ count_code (nags_of game)
+
+-- The signature of a game, as a function.
+unfoldable pub sig_of : GameTree → Sig
+sig_of game = record {
+  material = material_of (position_at game (plies_of game)).board;
+  home = home_list (if has_own_start game then [] else left_of game);
+  plies = min (plies_of game) 1023;
+  promo = has_promotion game;
+  under = has_underpromotion game;
+  own_start = has_own_start game;
+  vars = count_code (variations_of game);
+  comments = count_code (comments_of game);
+  nags = count_code (nags_of game);
+}
 
 -- The bounds of a signature, which are those of the fields of an entry: at most 16 home values, each below 16.
 pub record IsSigBounded (sig : Sig) : Type 0 where

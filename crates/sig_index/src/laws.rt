@@ -8,7 +8,7 @@ ghost use Rattle.game_tree.specs.Replay.{plies_of};
 ghost use Rattle.sig_index.specs.declared.signature.Sig.{Sig};
 ghost use Rattle.sig_index.specs.Games.{HasChanged, Holds};
 ghost use Rattle.sig_index.specs.Left.{left_from};
-ghost use Rattle.sig_index.specs.Signature.{IsSig, left_of};
+ghost use Rattle.sig_index.specs.Signature.{IsSig, left_of, sig_of};
 
 /// A law: no pawn leaves its own square twice; and the home values that left, in a legal game from the initial position, are for each
 /// move of the main line in turn those of the pawns that stood at home before it and do not after it.
@@ -22,4 +22,10 @@ pub fn held_records_stay()
     ensures one_signature { (game : GameTree) (a b : Sig) → IsSig game a → IsSig game b → a ≡ b }
     ensures unchanged { (games : List ℕ) (extents : List Extent) (sigs : List Sig) (list : List GameTree) (buffer : List ℕ) (game : ℕ) (kept : Sig)
         (found : Option Sig) → Holds games extents sigs list → HasChanged sigs extents (Some games) buffer game kept found → ⊥ }
+{}
+
+/// A law: the signature of a game is the one that is computed.
+pub fn games_have_a_signature()
+    ensures signed { (game : GameTree) → IsSig game (sig_of game) }
+    ensures alone { (game : GameTree) (sig : Sig) → IsSig game sig → sig ≡ sig_of game }
 {}

@@ -47,6 +47,19 @@ pub fn open_all<R: FileSystem<File = File>>(
     Ok(files)
 }
 
+/// Opens the three files of a base that is to be read alone. One of which a compaction was broken off is an error, since it is put right by
+/// renaming its files.
+pub fn open_whole<R: FileSystem<File = File>>(
+    system: &R,
+    places: &Places,
+) -> Result<Trio<Held>, Trouble> {
+    let set_aside = Kind::Index.old();
+    if !is_there(system, places, Kind::Index.current())? && is_there(system, places, set_aside)? {
+        return Err(Trouble::new(set_aside, Why::SetAside));
+    }
+    open_all(system, places, false)
+}
+
 /// Puts the files of a compaction that was broken off back in their places, where exactly those are there that it leaves, and says
 /// whether it did.
 pub fn put_right<R: FileSystem<File = File>>(

@@ -6,7 +6,7 @@ ghost use Rattle.base_files.specs.Seen.{chose, measured, appended, replaced, App
 ghost use Rattle.std_devices.specs.Meters.{seen_of};
 
 use crate::ahead::Ahead;
-use crate::disk_base::{DiskBase, open_all, put_right};
+use crate::disk_base::{DiskBase, open_all, open_whole, put_right};
 use crate::held::Held;
 use crate::places::{Form, Kind, Places, Spot, Trio};
 use crate::renames::{Found, is_there};
@@ -18,12 +18,22 @@ use std::io::Eprint;
 use std::marker::Model;
 use std::rt::Files as FileSystem;
 
+// What may be done with the files of a base.
+#[derive(Clone, Copy, PartialEq, Eq, Drop)]
+enum Access {
+    // They are read, and nothing of them is changed.
+    Reading,
+    // They are changed too.
+    Changing,
+}
+
 /// The files `BASE.si4`, `BASE.sn4` and `BASE.sg4` on the disks of the host. It tells nothing of their contents.
 /// All three are opened once, by `choose`. Why a file can't be used is said on standard error.
 #[derive(Drop)]
 pub struct DiskFiles<'r> {
     system: &'r HostRuntime,
     alloc: Global,
+    access: Access,
     base: Option<DiskBase>,
     choices: Choices,
     known: u64,
@@ -46,9 +56,23 @@ impl<'r> DiskFiles<'r> {
     pub fn new(alloc: Global, system: &'r HostRuntime) -> DiskFiles<'r>
         ensures { result ≡ record { choices = []; known = 0; added = 0; asked = 0; faults = 0 } }
     {
+        DiskFiles::with(alloc, system, Access::Changing)
+    }
+
+    /// The same of a base that is to be read alone: choosing it changes nothing, also where a compaction of it was broken off.
+    pub fn read_only(alloc: Global, system: &'r HostRuntime) -> DiskFiles<'r>
+        ensures { result ≡ record { choices = []; known = 0; added = 0; asked = 0; faults = 0 } }
+    {
+        DiskFiles::with(alloc, system, Access::Reading)
+    }
+
+    fn with(alloc: Global, system: &'r HostRuntime, access: Access) -> DiskFiles<'r>
+        ensures { result ≡ record { choices = []; known = 0; added = 0; asked = 0; faults = 0 } }
+    {
         DiskFiles {
             system,
             alloc,
+            access,
             base: None,
             choices: Choices::new(alloc),
             known: 0,
@@ -98,7 +122,11 @@ impl<'r> Files for DiskFiles<'r> {
         if self.choices.add(name, create).is_err() {
             return Err(DeviceError::Memory);
         }
-        match open(&mut self.base, self.system, places, ahead, create) {
+        let opened = match self.access {
+            Access::Reading => open_to_read(&mut self.base, self.system, places, ahead),
+            Access::Changing => open(&mut self.base, self.system, places, ahead, create),
+        };
+        match opened {
             Ok(()) => Ok(()),
             Err(_) => Err(DeviceError::from(self.faults.fault())),
         }
@@ -312,6 +340,26 @@ impl<'r> Files for DiskFiles<'r> {
                 tell(self.system, base, &trouble);
                 Err(self.faults.error(trouble.kind()))
             }
+        }
+    }
+}
+
+// Opens a base to be read alone in the place of the one that is there, and says why that fails. Then there is none.
+fn open_to_read<R: FileSystem<File = File> + Eprint>(
+    base: &mut Option<DiskBase>,
+    system: &R,
+    places: Places,
+    ahead: Ahead,
+) -> Result<(), Failed> {
+    *base = None;
+    match open_whole(system, &places) {
+        Ok(files) => {
+            *base = Some(DiskBase::new(places, files, ahead));
+            Ok(())
+        }
+        Err(trouble) => {
+            say(system, &places, &trouble);
+            Err(Failed)
         }
     }
 }

@@ -5,6 +5,7 @@ mod ahead;
 mod disk_base;
 mod disk_files;
 mod held;
+mod new_base;
 mod new_games;
 mod places;
 mod renames;
@@ -13,5 +14,6 @@ mod std_source;
 mod trouble;
 
 pub use disk_files::DiskFiles;
+pub use new_base::{make_base, unmake_base};
 pub use std_sink::StdSink;
 pub use std_source::StdSource;

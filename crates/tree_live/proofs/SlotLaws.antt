@@ -1,11 +1,11 @@
 -- A change that is brought to one slot after the other.
-use Rattle.std.proofs.Common.{◌≡◌, ℕ, ◌+◌, ◌<◌, ◌≤◌, ◌==◌, Bool, true, false, List, Option, Some, None, length, option_map, get_or, set, IfSome, refl, sym, ap, subst, ◌∙◌, arith}
-use Rattle.std.proofs.lemmas.Bool.{eqb-true, eqb-false}
+use Rattle.std.proofs.Common.{◌≡◌, ℕ, ◌+◌, ◌<◌, ◌≤◌, ◌==◌, Bool, true, false, zero, suc, nat_lt, List, [], ◌∷◌, Option, Some, None, length, option_map, get_or, replicate, set, IfSome, refl, sym, ap, subst, ◌∙◌, arith}
+use Rattle.std.proofs.lemmas.Bool.{eqb-true, eqb-false, ltb-true, ltb-false}
 use Rattle.std.proofs.lemmas.List.{get_or_past, get_or-set_same, get_or-set_other, length-set}
 use Rattle.tree_rows.specs.declared.row.Row.{Row}
 use Rattle.tree_live.specs.declared.change.Change.{Change}
 use Rattle.tree_live.specs.Watching.{Watched}
-use Rattle.tree_live.specs.Slots.{in_slot, IsShown, IsTold, changed, most_told, Fits}
+use Rattle.tree_live.specs.Slots.{AreBelow, in_slot, IsShown, IsTold, changed, most_told, Fits}
 use Rattle.tree_live.specs.Bringing.{ToldAt, DoneAt, ToldAll, Brought}
 
 -- what was told to a slot of which the slot is the same
@@ -85,6 +85,48 @@ brought-more rows told change first k w0 w w1 v0 v v1 brought at done = record {
         subst (λ (o : Option Watched). IsShown rows o (in_slot v1 (first + j))) (sym (at.other_watches j (eqb-false j k e)))
         (subst (λ (slot : Option _). IsShown rows (in_slot w j) slot) (sym (at.other_views (first + j) other)) (brought.shown j (below-k j below e)))
 
+-- a slot that is not watched stays so, also where memory runs out
+pub still-none : {B : Type 0} (rows : B → List Row) (told : B → ℕ) (change : Change) (first k : ℕ) (w0 w w1 : List (Option Watched)) (v0 v v1 : List (Option B))
+    → Brought rows told change first k w0 w v0 v → ToldAt told change first k w w1 v v1 → (j : ℕ) → in_slot w0 j ≡ None → in_slot w1 j ≡ None
+still-none rows told change first k w0 w w1 v0 v v1 brought at j none = by (j == k) refl (nat_lt j k) refl
+  where
+    by : (same : Bool) → (j == k) ≡ same → (below : Bool) → nat_lt j k ≡ below → in_slot w1 j ≡ None
+    by true e below f =
+        subst (λ (n : ℕ). in_slot w1 n ≡ None) (sym (eqb-true j k e))
+        (at.none (brought.left k (omega arith) ∙ subst (λ (n : ℕ). in_slot w0 n ≡ None) (eqb-true j k e) none))
+    by false e true f = at.other_watches j (eqb-false j k e) ∙ brought.watch j (ltb-true j k f) ∙ ap (option_map (changed change j)) none
+    by false e false f = at.other_watches j (eqb-false j k e) ∙ brought.left j (ltb-false j k f) ∙ none
+
+pub all-none : {B : Type 0} (rows : B → List Row) (told : B → ℕ) (change : Change) (first k : ℕ) (w0 w : List (Option Watched)) (v0 v : List (Option B))
+    → Brought rows told change first k w0 w v0 v → length w0 ≤ k → (j : ℕ) → in_slot w0 j ≡ None → in_slot w j ≡ None
+all-none rows told change first k w0 w v0 v brought past j none = by (nat_lt j k) refl
+  where
+    by : (below : Bool) → nat_lt j k ≡ below → in_slot w j ≡ None
+    by true f = brought.watch j (ltb-true j k f) ∙ ap (option_map (changed change j)) none
+    by false f = brought.left j (ltb-false j k f) ∙ none
+
+-- where a slot is watched, or is watched no more
+pub below-set : (count k : ℕ) (watches : List (Option Watched)) (watch : Option Watched) → k < count → AreBelow count watches → AreBelow count (set watches k watch)
+below-set count k watches watch lt are j past = get_or-set_other watches k j watch None (λ e. omega (arith, lt, past, e)) ∙ are j past
+
+pub below-gone : (count k : ℕ) (watches : List (Option Watched)) → AreBelow count watches → AreBelow count (set watches k None)
+below-gone count k watches are j past = gone watches k j (are j past)
+  where
+    gone : (xs : List (Option Watched)) (n i : ℕ) → in_slot xs i ≡ None → in_slot (set xs n None) i ≡ None
+    gone [] n i none = none
+    gone (x ∷ xs) zero zero none = refl
+    gone (x ∷ xs) zero (suc i) none = none
+    gone (x ∷ xs) (suc n) zero none = none
+    gone (x ∷ xs) (suc n) (suc i) none = gone xs n i none
+
+pub below-none : (count : ℕ) → AreBelow count (replicate 8 None)
+below-none count k past = none-in 8 k
+  where
+    none-in : (n i : ℕ) → in_slot {T = Watched} (replicate n None) i ≡ None
+    none-in zero i = refl
+    none-in (suc n) zero = refl
+    none-in (suc n) (suc i) = none-in n i
+
 -- a slot that is no place of the list of views
 pub past-done : {B : Type 0} (rows : B → List Row) (change : Change) (first k : ℕ) (watches : List (Option Watched)) (views : List (Option B))
     → length views ≤ first + k → IsShown rows (in_slot watches k) (in_slot views (first + k)) → DoneAt rows change first k watches watches views
@@ -104,6 +146,7 @@ pub past-told : {B : Type 0} (rows : B → List Row) (told : B → ℕ) (change 
     → IsShown rows (in_slot watches k) (in_slot views (first + k)) → ToldAt told change first k watches watches views views
 past-told rows told change first k watches views shown = record {
   own = told-nothing rows told (most_told change k) (in_slot watches k) (in_slot views (first + k)) shown;
+  none = λ is. is;
   other_watches = λ j other. refl;
   other_views = λ i other. refl;
   number = refl;
@@ -112,12 +155,13 @@ past-told rows told change first k watches views shown = record {
 
 -- a slot that is written back
 pub set-told : {B : Type 0} (told : B → ℕ) (change : Change) (first k : ℕ) (watches : List (Option Watched)) (views : List (Option B))
-    (watch : Option Watched) (slot : Option B) → first + k < length views
+    (watch : Option Watched) (slot : Option B) → k < length watches → first + k < length views → (in_slot watches k ≡ None → watch ≡ None)
     → IsTold told (option_map (most_told change k) (in_slot watches k)) (in_slot views (first + k)) slot
     → ToldAt told change first k watches (set watches k watch) views (set views (first + k) slot)
-set-told told change first k watches views watch slot below h = record {
+set-told told change first k watches views watch slot within below stays h = record {
   own = told-to told (option_map (most_told change k) (in_slot watches k)) (in_slot views (first + k)) slot (in_slot (set views (first + k) slot) (first + k))
       (get_or-set_same views (first + k) slot None below) h;
+  none = λ is. get_or-set_same watches k watch None within ∙ stays is;
   other_watches = λ j other. get_or-set_other watches k j watch None other;
   other_views = λ i other. get_or-set_other views (first + k) i slot None other;
   number = length-set watches k watch;

@@ -1,14 +1,16 @@
 -- What the loop over the slots keeps on its way.
-use Rattle.std.specs.Prelude.{◌≡◌, ℕ, ◌+◌, ◌<◌, ◌≤◌, List, Option, length, option_map}
+use Rattle.std.specs.Prelude.{◌≡◌, ℕ, ◌+◌, ◌<◌, ◌≤◌, List, Option, None, length, option_map}
 use Rattle.tree_rows.specs.declared.row.Row.{Row}
 use Rattle.tree_live.specs.declared.change.Change.{Change}
 use Rattle.tree_live.specs.Watching.{Watched}
 use Rattle.tree_live.specs.Slots.{in_slot, IsShown, IsTold, changed, most_told}
 
--- A change was brought to the slot k, whether or not it went well: its view was told so much, and every other slot is as before.
+-- A change was brought to the slot k, whether or not it went well: its view was told so much, it is not watched where it was not, and every
+-- other slot is as before.
 pub record ToldAt {B : Type 0} (told : B → ℕ) (change : Change) (first k : ℕ) (watches watches_after : List (Option Watched))
     (views views_after : List (Option B)) : Type 0 where
   pub own : IsTold told (option_map (most_told change k) (in_slot watches k)) (in_slot views (first + k)) (in_slot views_after (first + k))
+  pub none : in_slot watches k ≡ None → in_slot watches_after k ≡ None
   pub other_watches : (j : ℕ) → (j ≡ k → ⊥) → in_slot watches_after j ≡ in_slot watches j
   pub other_views : (i : ℕ) → (i ≡ first + k → ⊥) → in_slot views_after i ≡ in_slot views i
   pub number : length watches_after ≡ length watches

@@ -17,6 +17,10 @@ pub record Slotted : Type 0 where
 abbrev pub in_slot : {T : Type 0} → List (Option T) → ℕ → Option T
 in_slot list k = slice_index_or list k None
 
+-- No slot from a number on is watched.
+abbrev pub AreBelow : ℕ → List (Option Watched) → Type 0
+AreBelow count watches = (k : ℕ) → count ≤ k → in_slot watches k ≡ None
+
 -- A slot that is watched holds a view, which shows the rows of the hits that are in.
 abbrev pub IsShown : {B : Type 0} → (B → List Row) → Option Watched → Option B → Type 0
 IsShown rows None slot = Unit {0}

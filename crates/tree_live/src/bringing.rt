@@ -1,5 +1,5 @@
 //! A change that is brought to all slots.
-ghost use Rattle.std.specs.Prelude.{◌≡◌, ℕ, ◌+◌, ◌<◌, ◌≤◌, length, IfSome, OnOk};
+ghost use Rattle.std.specs.Prelude.{◌≡◌, ℕ, ◌+◌, ◌<◌, ◌≤◌, None, length, IfSome, OnOk};
 ghost use Rattle.tree_live.specs.Slots.{Fits, IsShown, in_slot};
 ghost use Rattle.tree_live.specs.Bringing.{Brought, DoneAt, ToldAll, ToldAt};
 
@@ -23,6 +23,7 @@ pub(crate) fn bring_all(
     requires shown { (k : ℕ) → IsShown (λ b. rows b) (in_slot watches.old k) (in_slot views.old (first + k)) }
     ensures brought { OnOk result (Brought (λ b. rows b) (λ b. told b) change.now first (length watches.old) watches.old watches.new views.old views.new) }
     ensures told { ToldAll (λ b. told b) change.now first watches.old views.old views.new }
+    ensures none { (k : ℕ) → in_slot watches.old k ≡ None → in_slot watches.new k ≡ None }
     ensures number { length watches.new ≡ length watches.old }
 {
     for k in 0..watches.len() {

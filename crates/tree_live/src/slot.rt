@@ -26,6 +26,7 @@ pub(crate) fn bring(
     ensures watched { OnOk result (watch.new ≡ option_map (changed change.now k) watch.old) }
     ensures shown { OnOk result (IsShown (λ b. rows b) watch.new slot.new) }
     ensures told { IsTold (λ b. told b) (option_map (most_told change.now k) watch.old) slot.old slot.new }
+    ensures none { watch.old ≡ None → watch.new ≡ None }
 {
     match watch {
         None => Ok(()),

@@ -26,20 +26,20 @@ pub struct Slots {
 
 impl Model for Slots {
     ghost use Rattle.std.specs.Prelude.{◌≡◌, ◌+◌, ◌≤◌, length};
-    ghost use Rattle.tree_live.specs.Slots.{Slotted};
+    ghost use Rattle.tree_live.specs.Slots.{AreBelow, Slotted};
 
     ghost Value = { Slotted };
 
     ghost view = { λ s. record { first = s.first; count = s.count; watches = s.watches } };
 
-    ghost invariant = { λ s. (s.first + s.count ≤ 8) × (length s.watches ≡ 8) };
+    ghost invariant = { λ s. (s.first + s.count ≤ 8) × ((length s.watches ≡ 8) × AreBelow s.count s.watches) };
 }
 
 impl Slots {
     ghost use Rattle.std.specs.Prelude.{◌≡◌, ◌+◌, ◌<◌, ◌≤◌, ◌&&◌, ℕ, Some, None, nat_lt, is_some, length, option_copied, option_map, replicate, slice_set, IfSome, IsSome, OnOk, OnErr, MatchResult};
     ghost use Rattle.game_filter.specs.Renumbering.{renumbered};
     ghost use Rattle.tree_live.specs.Watching.{all_changes, all_out, hits_in, staying, under, with_game};
-    ghost use Rattle.tree_live.specs.Slots.{AreChanged, AreShown, AreTold, EachWatch, Fits, IsTold, changed, in_slot, most_told};
+    ghost use Rattle.tree_live.specs.Slots.{AreBelow, AreChanged, AreShown, AreTold, EachWatch, Fits, IsTold, changed, in_slot, most_told};
 
     /// None of the slots is watched. There are `count` of them, and the last is below 8.
     pub fn new(first: u8, count: u8) -> Slots
@@ -61,9 +61,10 @@ impl Slots {
         k < self.count && place < views.len() && views[place].is_some()
     }
 
-    /// The board and side that slot `k` shows, or none where it is not watched.
+    /// The board and side that slot `k` shows, or none where it is not watched, as no slot from their count on is.
     pub fn watched(&self, k: u8) -> Option<&PackedBoard>
         ensures board { option_copied result ≡ option_map (λ watch. watch.board) (in_slot self.now.watches k) }
+        ensures below { AreBelow self.now.count self.now.watches }
     {
         let watches = self.watches.as_slice();
         let place = usize::from(k);

@@ -10,3 +10,4 @@ mod SameBoard
 mod NeededLaws
 mod SharedSigns
 mod SharedTexts
+mod SameText

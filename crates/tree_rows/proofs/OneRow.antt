@@ -12,7 +12,7 @@ use Rattle.tree_rows.specs.Keeping.{no_hits, grown, added}
 use Rattle.tree_rows.proofs.KeyLaws.{one-key, is-greater}
 use Rattle.tree_rows.proofs.RowLaws.{grown-key, row-key}
 use Rattle.tree_rows.proofs.Adding.{Rises, rises-more}
-use Rattle.tree_rows.proofs.Dropping.{any-order, first, less, tied, greater}
+use Rattle.tree_rows.proofs.Dropping.{any-order, less, tied, greater}
 
 -- a row of another key is passed over
 passed : (row : Row) (rows : List Row) (key : Option Move) → same_key row.key key ≡ false → row_at key (row ∷ rows) ≡ row_at key rows

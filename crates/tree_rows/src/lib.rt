@@ -16,7 +16,7 @@ pub use hit::GameHit;
 pub use key::same_key;
 pub use laws::{
     a_hit_changes_its_own_row_alone, keys_are_told_apart, rows_have_different_keys,
-    texts_of_moves_are_shared,
+    rows_of_hits_have_one_text, texts_of_moves_are_shared,
 };
 pub use row::Row;
 pub use rows::Rows;

@@ -1,5 +1,5 @@
 //! The text of a tree.
-ghost use Rattle.std.specs.Prelude.{◌≡◌, ◌++◌, All, OnOk, replicate};
+ghost use Rattle.std.specs.Prelude.{◌≡◌, ◌++◌, All, OnOk, OnErr, replicate};
 ghost use Rattle.std.specs.Fmt.{decimal};
 ghost use Rattle.tree_rows.specs.MoveText.{IsKey};
 ghost use Rattle.tree_rows.specs.TreeText.{averages_text, counts_text, left_in, line_of, quotient, right_in, row_line, row_lines, tree_text};
@@ -16,7 +16,7 @@ use std::alloc::{AllocError, Global};
 /// Adds the text of a tree of this board and side to move: a line for each row, by games falling and then by key, and one for the sums of
 /// all rows. Each key is a move that is legal from some position of this board and side, or none.
 ///
-/// It fails only for want of memory, and a part of the text may then have been added.
+/// It fails only for want of memory, and then nothing was added.
 #[tactic(auto, using(std::proofs::Common::append_assoc), unfolding(crate::specs::TreeText::tree_text))]
 pub fn lines(
     alloc: Global,
@@ -27,10 +27,14 @@ pub fn lines(
 ) -> Result<(), AllocError>
     requires keys { All (λ row. IsKey board.now side row.key) rows.now }
     ensures text { OnOk result (into.new.items ≡ into.old.items ++ tree_text board.now side rows.now) }
+    ensures unchanged { OnErr result (into.new.items ≡ into.old.items) }
 {
     let sorted = in_order(alloc, rows)?;
-    push_rows(into, sorted.as_slice(), board, side)?;
-    push_line(into, b"total", &Numbers::total(rows))
+    let mut text = Vec::new(alloc);
+    push_rows(&mut text, sorted.as_slice(), board, side)?;
+    push_line(&mut text, b"total", &Numbers::total(rows))?;
+    into.extend_from_slice(text.as_slice())?;
+    Ok(())
 }
 
 // Adds the lines of rows.

@@ -1,22 +1,20 @@
-use Rattle.std.proofs.Common.{◌≡◌, List, ℕ, Result, Err, sym, ap, ◌∙◌, subst}
-use Rattle.name_base.specs.declared.name_lists.AddError.{AddError}
-use Rattle.name_base.specs.declared.name_lists.AddError.TheVariants.{Full}
-use Rattle.name_base.specs.NameLists.{IsName, of_kind, limit_of}
-use Rattle.base_core.proofs.NamingLaws.{added-at, base-name, full-more}
+use Rattle.std.proofs.Common.{◌≡◌, ◌<◌, List, ℕ, Some, OnOk, IfOk, IfErr, length, slice_get, sym, subst}
+use Rattle.name_base.specs.NameLists.{IsName, limit_of, of_kind, with_kind, with_name}
+use Rattle.base_core.specs.Placing.{IfFull, names_of}
+use Rattle.base_core.proofs.NamingLaws.{base-name}
 use Rattle.base_core.proofs.naming.add_name.Goals as goal
 
-pub add-added-requires : goal.add-added-requires
-add-added-requires c = record { name = subst (λ (n : List ℕ). IsName n) (sym c.as_bytes.ensures.bytes) (base-name c.args.name.now c.requires.name) }
+pub add_bytes-requires-clause-name : goal.add_bytes-requires-clause-name
+add_bytes-requires-clause-name c = subst (λ (n : List ℕ). IsName n) (sym c.as_bytes.ensures.bytes) (base-name c.args.name.now c.requires.name)
 
-pub returns-in-Ok-clause-id : goal.returns-in-Ok-clause-id
-returns-in-Ok-clause-id c =
-    added-at c.args.kind c.args.names.now c.add-added.new.self c.as_bytes.result.now c.args.name.now c.in-Ok.id c.as_bytes.ensures.bytes c.in-Ok.ensures.id c.in-Ok.ensures.names
+pub returns-clause-names : goal.returns-clause-names
+returns-clause-names c =
+    subst (λ (n : List ℕ). OnOk c.add_bytes.result (c.add_bytes.new.names ≡ with_kind c.args.kind c.args.names.now (with_name (of_kind c.args.kind c.args.names.now) n))) c.as_bytes.ensures.bytes c.add_bytes.ensures.names
 
-pub returns-in-Err-Full-clause-why : goal.returns-in-Err-Full-clause-why
-returns-in-Err-Full-clause-why c =
-    let E : AddError → Result ℕ AddError = λ e. Err e in
-    let full : c.in-Err-Full.field-0 ≡ Full = rw c.in-Err-Full.is at c.in-Err-Full.field-0-is in (
-      c.names_of.ensures.what,
-      full-more (of_kind c.args.kind c.args.names.now) c.as_bytes.result.now c.args.name.now (limit_of c.args.kind) c.as_bytes.ensures.bytes
-          (c.add-added.ensures.full.0 (c.in-Err-Full.is ∙ ap E full)),
-    )
+pub returns-clause-id : goal.returns-clause-id
+returns-clause-id c =
+    subst (λ (n : List ℕ). IfOk c.add_bytes.result (λ id. slice_get (of_kind c.args.kind c.add_bytes.new.names) id ≡ Some n)) c.as_bytes.ensures.bytes c.add_bytes.ensures.id
+
+pub returns-clause-why : goal.returns-clause-why
+returns-clause-why c =
+    subst (λ (n : List ℕ). IfErr c.add_bytes.result (IfFull (λ what. (what ≡ names_of c.args.kind) × (limit_of c.args.kind < length (with_name (of_kind c.args.kind c.args.names.now) n))))) c.as_bytes.ensures.bytes c.add_bytes.ensures.why

@@ -15,7 +15,7 @@ pub returns-clause-check : goal.returns-clause-check
 returns-clause-check c =
     let p = c.args.p.now in
     let m = c.args.m.now in
-    let next : c.change.new.p ≡ after p m (effect_of p m) = c.change.ensures ∙ ap (after p m) c.requires.effect in
+    let next : c.change_as-come.new.p ≡ after p m (effect_of p m) = c.change_as-come.ensures.becomes ∙ ap (after p m) c.requires.effect in
     let told =
     subst (λ q. IsTrue c.gives_check.result ↔ (Hits q.board p.side m.to c.args.resting ⊎ ((c.may_open-opened.result ≡ true) × Attacks q.board p.side c.args.resting)))
     next c.gives_check.ensures in
@@ -27,7 +27,7 @@ pub returns-clause-census : goal.returns-clause-census
 returns-clause-census c =
     let p = c.args.p.now in
     let m = c.args.m.now in
-    let next : c.change.new.p ≡ after p m (effect_of p m) = c.change.ensures ∙ ap (after p m) c.requires.effect in
+    let next : c.change_as-come.new.p ≡ after p m (effect_of p m) = c.change_as-come.ensures.becomes ∙ ap (after p m) c.requires.effect in
     let one = rw (c.requires.census, c.at-taken.ensures.man) at c.recount.ensures.one in
     let all = subst (λ q. OnFalse c.takes_alone.result (c.recount.new.counts ≡ counts_of q.board)) next c.recount.ensures.all in
     counts-after p m c.takes_alone.result c.recount.new.counts c.requires.sound c.requires.legal (rw c.requires.effect at c.takes_alone.ensures) one all

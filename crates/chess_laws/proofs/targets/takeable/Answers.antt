@@ -1,6 +1,5 @@
 -- An enemy's square, or the en passant square.
 use Rattle.std.proofs.Common.{◌≡◌, inl, inr, Some, sym, ap, ◌∙◌}
-use Rattle.cell_core.specs.Man.{other}
 use Rattle.chess_laws.specs.Targets.{MayTake}
 use Rattle.chess_laws.proofs.Sets.{enemy-bit, none-some, some-same}
 use Rattle.chess_laws.proofs.targets.takeable.Goals as goal

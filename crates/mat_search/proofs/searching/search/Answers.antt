@@ -4,7 +4,9 @@ use Rattle.base_files.specs.Seen.{Seen}
 use Rattle.sig_index.specs.Games.{extent_in}
 use Rattle.sig_index.proofs.ReadLemmas.{some_at}
 use Rattle.mat_search.specs.Searching.{cost_of, price}
-use Rattle.mat_search.proofs.SearchLemmas.{all_searched, asked_all, asked_more, game_more, price_front, price_more, untouched_more}
+use Rattle.sig_index.proofs.CostLemmas.{asked_all, asked_more, kept_more, price_front, price_more, untouched_more}
+use Rattle.mat_search.proofs.SearchLemmas.{all_searched, game_more}
+use Rattle.game_filter.specs.Search.{looks_at}
 use Rattle.mat_search.proofs.searching.search.Goals as goal
 
 pub returns-in-Err-clause-asks : goal.returns-in-Err-clause-asks
@@ -23,8 +25,8 @@ returns-in-Err-clause-asks g c =
     (asked_more (g.F.Files.asked c.args.files.now) (g.F.Files.asked c.loop-i.files) (g.F.Files.asked c.search_game.new.files) (price op q (take i sigs) extents old)
     (cost (get_or c.loop-i.filter i None)) (cost (get_or old i None)) (price op q (take (i + 1) sigs) extents old)
     c.loop-i.invariant.asks (c.search_game.ensures.asks sig.0 sig.1) (ap cost (c.loop-i.invariant.rest i (omega arith)))
-    (price_more op q sigs extents old i sig.0 sig.1 inside here))
-    (price_front op q sigs extents old (i + 1))
+    (price_more (cost_of op q) sigs extents old i sig.0 sig.1 inside here))
+    (price_front (cost_of op q) sigs extents old (i + 1))
 
 pub loop-i-preserved : goal.loop-i-preserved
 loop-i-preserved g c =
@@ -47,13 +49,14 @@ loop-i-preserved g c =
           game_more op q list old c.loop-i.filter c.search_game.new.filter i game.0 (c.loop-i.invariant.done told list same holds) in_list here game.1
           (c.in-Ok.ensures.joined told list game.0 told_now holds game.1);
       rest = untouched_more old c.loop-i.filter c.search_game.new.filter i entry.0 entry.1 c.loop-i.invariant.rest;
+      kept = kept_more (looks_at op) old c.loop-i.filter c.search_game.new.filter i entry.0 entry.1 c.search_game.ensures.passed c.loop-i.invariant.rest c.loop-i.invariant.kept;
       entries = ap (λ (f : List (Option ℕ)). length f) entry.1 ∙ (length-set c.loop-i.filter i entry.0 ∙ c.loop-i.invariant.entries);
       room = c.search_game.ensures.room;
       unchanged = c.search_game.ensures.unchanged ∙ c.loop-i.invariant.unchanged;
       asks = asked_more (g.F.Files.asked c.args.files.now) (g.F.Files.asked c.loop-i.files) (g.F.Files.asked c.search_game.new.files) (price op q (take i sigs) extents old)
           (cost (get_or c.loop-i.filter i None)) (cost (get_or old i None)) (price op q (take (i + 1) sigs) extents old)
           c.loop-i.invariant.asks (c.search_game.ensures.asks sig.0 sig.1) (ap cost (c.loop-i.invariant.rest i (omega arith)))
-          (price_more op q sigs extents old i sig.0 sig.1 inside here);
+          (price_more (cost_of op q) sigs extents old i sig.0 sig.1 inside here);
       counts = omega (arith, c.loop-i.invariant.counts, c.search_game.ensures.counts);
     }
 

@@ -4,6 +4,7 @@ use Rattle.std.proofs.lemmas.List.{set-get_or}
 use Rattle.game_filter.specs.Search.{looks_at}
 use Rattle.game_filter.proofs.Searches.{joined, not_looked_at}
 use Rattle.sig_index.specs.Games.{extent_in}
+use Rattle.sig_index.proofs.CostLemmas.{not_passed}
 use Rattle.mat_search.specs.Matching.{first_of as first_ply_of}
 use Rattle.mat_search.proofs.SearchLemmas.{looked, looked_cost}
 use Rattle.mat_search.proofs.searching.search_game.Goals as goal
@@ -35,3 +36,8 @@ returns-in-Err-clause-asks g c = λ sig kept.
     subst (λ (n : ℕ). g.F.Files.asked c.first_in.new.files ≤ g.F.Files.asked c.args.files.now + n)
     (looked_cost c.args.op c.args.q.now sig (extent_in (g.G.Games.extents c.args.games.now) c.args.i) c.args.filter.now c.args.i c.get-old.result c.get-old.ensures.entry
     (looked c.looks_at.result (looks_at c.args.op c.get-old.result) c.looks_at.ensures.looks yes)) (c.first_in.ensures.asks sig kept)
+
+pub returns-in-Ok-clause-passed : goal.returns-in-Ok-clause-passed
+returns-in-Ok-clause-passed g c = λ no.
+    let yes : c.looks_at.result ≡ true = search (rules, not-false c.looks_at.result) in
+    absurd (not_passed (looks_at c.args.op) c.args.filter.now c.args.i c.get-old.result c.get-old.ensures.entry (looked c.looks_at.result (looks_at c.args.op c.get-old.result) c.looks_at.ensures.looks yes) no)

@@ -1,12 +1,12 @@
-use Rattle.std.proofs.Common.{◌≡◌, ℕ, ◌+◌, Bool, List, true, drop, ap, ◌∙◌, arith}
+use Rattle.std.proofs.Common.{◌≡◌, ℕ, ◌+◌, Bool, List, true, false, drop, sym, ap, ◌∙◌, arith}
 use Rattle.cell_core.specs.declared.man.Colour.{Colour}
 use Rattle.chess_laws.specs.declared.setup.Setup.{Setup}
 use Rattle.chess_laws.specs.Step.{stepped}
 use Rattle.game_tree.specs.Tree.{Branches, Played, Variation, line_of, branches_of}
 use Rattle.game_tree.specs.Written.{comment_before, movetext_of}
 use Rattle.pgn_write.specs.Tokens.{Turn, tokens_from, number_behind}
-use Rattle.pgn_write.specs.Writing.{Writing, put_all, size, turn, branch_tokens, node_tokens}
-use Rattle.pgn_write.proofs.WritingLaws.{left_more, low-put_all, low-bound, low-next, line-more, legal-more, node-put, one_branch, branch-put, branches-more, branches_legal-more}
+use Rattle.pgn_write.specs.Writing.{Writing, put_all, size, turn, branch_tokens, has_variations, node_tokens}
+use Rattle.pgn_write.proofs.WritingLaws.{left_more, low-put_all, low-bound, low-next, line-more, legal-more, node-put, no-branches, one_branch, branch-put, branches-more, branches_legal-more}
 use Rattle.pgn_write.proofs.movetext.+lines.Goals as goal
 
 pub put_line-loop-node-preserved : goal.put_line-loop-node-preserved
@@ -61,13 +61,26 @@ put_branches-loop-branch-preserved t c =
       tokens = branches-more here c.args.branches.now c.loop-branch.branch-index v c.loop-branch.writer c.close.new.self _ left wrote c.loop-branch.invariant.tokens;
     }
 
+pub put_node-returns-then-not-has_variations : goal.put_node-returns-then-not-has_variations
+put_node-returns-then-not-has_variations t c =
+    let here : Turn = turn c.args.position.now c.args.number in
+    let variations = ap branches_of c.as_slice.ensures.value ∙ ap (λ (x : Played). x.variations) c.node.view_is in
+    let alone : has_variations c.args.node.now.variations ≡ false =
+    ap (λ (b : Branches). has_variations b) (sym variations) ∙ sym c.has_variations.ensures ∙ c.if-not-has_variations.true in
+    record {
+      tokens =
+          node-put here c.args.resumed c.args.node.now c.args.writer.now c.put_own.new.writer c.put_own.new.writer c.in_ok-put_own.ensures.tokens
+          (no-branches here c.args.node.now.variations c.put_own.new.writer alone);
+      played = c.in_ok-put_own.ensures.played;
+    }
+
 pub put_node-returns : goal.put_node-returns
 put_node-returns t c =
     let here : Turn = turn c.args.position.now c.args.number in
-    let variations = ap branches_of c.as_slice.ensures.value ∙ ap (λ (x : Played). x.variations) c.node.view_is in
+    let variations = ap branches_of c.as_slice-2.ensures.value ∙ ap (λ (x : Played). x.variations) c.node.view_is in
     record {
       tokens =
-          node-put here c.args.resumed c.args.node.now c.args.writer.now c.put_own.new.writer c.put_branches.new.writer c.in_ok-put_own.ensures.tokens
-          (c.in_ok-put_branches.ensures.tokens ∙ ap (λ (b : Branches). put_all (branch_tokens here b) c.put_own.new.writer) variations);
-      played = c.in_ok-put_own.ensures.played;
+          node-put here c.args.resumed c.args.node.now c.args.writer.now c.put_own-2.new.writer c.put_branches.new.writer c.in_ok-put_own-2.ensures.tokens
+          (c.in_ok-put_branches.ensures.tokens ∙ ap (λ (b : Branches). put_all (branch_tokens here b) c.put_own-2.new.writer) variations);
+      played = c.in_ok-put_own-2.ensures.played;
     }

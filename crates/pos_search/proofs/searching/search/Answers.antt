@@ -1,12 +1,12 @@
 use Rattle.std.proofs.Common.{◌≡◌, ◌<◌, ◌≤◌, ℕ, ◌+◌, List, None, Option, get_or, length, take, subst, ap, ◌∙◌, arith}
 use Rattle.std.proofs.lemmas.List.{length-set}
 use Rattle.base_files.specs.Seen.{Seen}
-use Rattle.game_filter.specs.Search.{searched}
+use Rattle.game_filter.specs.Search.{looks_at, searched}
 use Rattle.sig_index.specs.Games.{extent_in}
 use Rattle.sig_index.specs.declared.pos_query.PosQuery.{PosQuery}
 use Rattle.sig_index.proofs.ReadLemmas.{some_at}
 use Rattle.sig_index.specs.Costs.{price_by}
-use Rattle.sig_index.proofs.CostLemmas.{asked_all, asked_more, price_front, price_more, untouched_more}
+use Rattle.sig_index.proofs.CostLemmas.{asked_all, asked_more, kept_more, price_front, price_more, untouched_more}
 use Rattle.pos_search.specs.Matching.{firsts_of}
 use Rattle.pos_search.specs.Searching.{cost_of}
 use Rattle.pos_search.proofs.SearchLemmas.{all_searched, game_more}
@@ -57,6 +57,7 @@ loop-i-preserved g c =
           game_more op q list old c.loop-i.filter c.search_game.new.filter i game.0 (c.loop-i.invariant.done told list same holds) in_list here game.1
           (c.in-Ok.ensures.joined told list game.0 told_now holds game.1);
       rest = untouched_more old c.loop-i.filter c.search_game.new.filter i entry.0 entry.1 c.loop-i.invariant.rest;
+      kept = kept_more (looks_at op) old c.loop-i.filter c.search_game.new.filter i entry.0 entry.1 c.search_game.ensures.passed c.loop-i.invariant.rest c.loop-i.invariant.kept;
       entries = ap (λ (f : List (Option ℕ)). length f) entry.1 ∙ (length-set c.loop-i.filter i entry.0 ∙ c.loop-i.invariant.entries);
       room = c.search_game.ensures.room;
       unchanged = c.search_game.ensures.unchanged ∙ c.loop-i.invariant.unchanged;

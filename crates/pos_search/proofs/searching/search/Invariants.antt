@@ -1,9 +1,9 @@
 use Rattle.std.proofs.Common.{◌≡◌, ◌≤◌, ℕ, ◌+◌, List, length, take, Some}
-use Rattle.game_filter.specs.Search.{searched}
+use Rattle.game_filter.specs.Search.{looks_at, searched}
 use Rattle.game_tree.specs.Game.{GameTree}
 use Rattle.sig_index.specs.Games.{Holds}
 use Rattle.pos_search.specs.Matching.{firsts_of}
-use Rattle.sig_index.specs.Costs.{price_by}
+use Rattle.sig_index.specs.Costs.{KeepsOthers, price_by}
 use Rattle.pos_search.specs.Searching.{cost_of}
 use Rattle.sig_index.proofs.CostLemmas.{Untouched}
 use Rattle.pos_search.proofs.searching.search.Given as goal
@@ -14,6 +14,7 @@ invariant-loop-i g l = record {
   done : (told : List ℕ) (list : List GameTree) → (g.F.Files.seen l.fn.files).games ≡ Some told
       → Holds told (g.G.Games.extents l.games) (g.G.Games.sigs l.games) list → l.filter ≡ searched l.op (take l.i (firsts_of l.sought list)) l.fn.filter;
   rest : Untouched l.fn.filter l.filter l.i;
+  kept : KeepsOthers (looks_at l.op) l.fn.filter l.filter;
   entries : length l.filter ≡ length l.fn.filter;
   room : length l.buf ≡ 131072;
   unchanged : g.F.Files.seen l.files ≡ g.F.Files.seen l.fn.files;

@@ -1,10 +1,12 @@
 use Rattle.std.proofs.Common.{◌≡◌, ◌+◌, ◌≤◌, ℕ, true, false, None, get_or, rules, sym, subst, ◌∙◌}
 use Rattle.std.proofs.lemmas.Bool.{not-false, not-true}
 use Rattle.std.proofs.lemmas.List.{set-get_or}
+use Rattle.game_filter.specs.Search.{looks_at}
 use Rattle.game_filter.proofs.Searches.{joined, not_looked_at}
 use Rattle.sig_index.specs.Games.{extent_in}
+use Rattle.sig_index.proofs.CostLemmas.{not_passed}
 use Rattle.pos_search.specs.Matching.{first_of as first_ply_of}
-use Rattle.pos_search.proofs.SearchLemmas.{looked_cost, ply_is}
+use Rattle.pos_search.proofs.SearchLemmas.{looked_cost}
 use Rattle.pos_search.proofs.searching.search_game.Goals as goal
 
 pub returns-then-not-looks_at-clause-joined : goal.returns-then-not-looks_at-clause-joined
@@ -18,19 +20,24 @@ returns-then-not-looks_at-clause-entry g c = (get_or c.args.filter.now c.args.i 
 
 pub returns-in-Ok-clause-joined : goal.returns-in-Ok-clause-joined
 returns-in-Ok-clause-joined g c = λ told list game same holds there.
-    joined c.args.op c.args.filter.now c.set.new.self c.args.i c.get-old.result (first_ply_of c.args.q.now game) c.ply_of.result c.entry.result
-    c.get-old.ensures.entry (ply_is c.args.q.now game c.in-Ok.hit c.ply_of.result (c.in-Ok.ensures.found told list game same holds there) c.ply_of.ensures) c.entry.ensures.entry c.set.ensures.changed
+    joined c.args.op c.args.filter.now c.set.new.self c.args.i c.get-old.result (first_ply_of c.args.q.now game) c.in-Ok.ply c.entry.result
+    c.get-old.ensures.entry (c.in-Ok.ensures.found told list game same holds there) c.entry.ensures.entry c.set.ensures.changed
 
 pub returns-in-Ok-clause-asks : goal.returns-in-Ok-clause-asks
 returns-in-Ok-clause-asks g c = λ sig kept.
     let yes : c.looks_at.result ≡ true = search (rules, not-false c.looks_at.result) in
-    subst (λ (n : ℕ). g.F.Files.asked c.hit_sought.new.files ≤ g.F.Files.asked c.args.files.now + n)
+    subst (λ (n : ℕ). g.F.Files.asked c.ply_in.new.files ≤ g.F.Files.asked c.args.files.now + n)
     (looked_cost c.args.op c.args.q.now sig (extent_in (g.G.Games.extents c.args.games.now) c.args.i) c.args.filter.now c.args.i c.get-old.result c.get-old.ensures.entry
-    (sym c.looks_at.ensures.looks ∙ yes)) (c.hit_sought.ensures.asks sig kept)
+    (sym c.looks_at.ensures.looks ∙ yes)) (c.ply_in.ensures.asks sig kept)
 
 pub returns-in-Err-clause-asks : goal.returns-in-Err-clause-asks
 returns-in-Err-clause-asks g c = λ sig kept.
     let yes : c.looks_at.result ≡ true = search (rules, not-false c.looks_at.result) in
-    subst (λ (n : ℕ). g.F.Files.asked c.hit_sought.new.files ≤ g.F.Files.asked c.args.files.now + n)
+    subst (λ (n : ℕ). g.F.Files.asked c.ply_in.new.files ≤ g.F.Files.asked c.args.files.now + n)
     (looked_cost c.args.op c.args.q.now sig (extent_in (g.G.Games.extents c.args.games.now) c.args.i) c.args.filter.now c.args.i c.get-old.result c.get-old.ensures.entry
-    (sym c.looks_at.ensures.looks ∙ yes)) (c.hit_sought.ensures.asks sig kept)
+    (sym c.looks_at.ensures.looks ∙ yes)) (c.ply_in.ensures.asks sig kept)
+
+pub returns-in-Ok-clause-passed : goal.returns-in-Ok-clause-passed
+returns-in-Ok-clause-passed g c = λ no.
+    let yes : c.looks_at.result ≡ true = search (rules, not-false c.looks_at.result) in
+    absurd (not_passed (looks_at c.args.op) c.args.filter.now c.args.i c.get-old.result c.get-old.ensures.entry (sym c.looks_at.ensures.looks ∙ yes) no)

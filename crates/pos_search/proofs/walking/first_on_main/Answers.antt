@@ -1,72 +1,28 @@
-use Rattle.std.proofs.Common.{◌≡◌, ℕ, true, false, List, Some, sym, ap, subst, ◌∙◌, rules}
-use Rattle.std.proofs.lemmas.Bool.{not-true}
-use Rattle.chess_laws.specs.Position.{Sound}
-use Rattle.game_codec.specs.Record.{IsRecord, IsSomeRecord}
-use Rattle.game_tree.specs.Replay.{position_at}
-use Rattle.sig_index.proofs.RecordLemmas.{game_legal, game_sound, no_next}
-use Rattle.pos_search.specs.Matching.{matches, matches_at}
-use Rattle.pos_search.specs.Sought.{can_follow}
-use Rattle.pos_search.proofs.WalkLemmas.{at_next, at_start, found_here, legal_hit, none_at_end, none_later}
+-- The walk goes on along the same bytes.
+use Rattle.std.proofs.Common.{◌≡◌, List, Option, ℕ, subst, sym, ◌∙◌}
+use Rattle.std.specs.Prelude.{IfOk}
+use Rattle.cell_core.specs.declared.step.Move.{Move}
+use Rattle.game_codec.specs.Record.{IsRecord}
+use Rattle.game_tree.specs.Game.{GameTree}
+use Rattle.game_tree.specs.declared.head.Tag.{Tag}
+use Rattle.pos_search.specs.Matching.{hit_on_main}
+use Rattle.pos_search.proofs.WalkLemmas.{no_hit}
 use Rattle.pos_search.proofs.walking.first_on_main.Goals as goal
 
-pub loop-walk-init : goal.loop-walk-init
-loop-walk-init c = record {
-  bytes = c.in_ok-walk.ensures.bytes;
-  at = λ tags game is. at_start c.args.q.now game _ c.in_ok-walk.ensures.start;
+pub with_next-requires : goal.with_next-requires
+with_next-requires c = record {
+  met = rw c.in-Ok-Some.field-0-is at c.in-Ok-Some.ensures.met;
+  first = λ tags game is.
+      sym c.in-Ok-Some.field-0-is ∙ c.in-Ok-Some.ensures.first tags game (subst (λ (b : List ℕ). IsRecord b tags game) c.in-Ok-Some.ensures.bytes is);
 }
 
-pub returns-in-Ok-clause-first : goal.returns-in-Ok-clause-first
-returns-in-Ok-clause-first c = λ tags game is.
+pub returns-in-Ok-Some-clause-first : goal.returns-in-Ok-Some-clause-first
+returns-in-Ok-Some-clause-first c =
     let q = c.args.q.now in
-    let on : IsRecord c.loop-walk.walk.bytes tags game = subst (λ (b : List ℕ). IsRecord b tags game) (sym c.loop-walk.invariant.bytes) is in
-    let holds : matches_at q game c.loop-walk.walk.ply ≡ true =
-    ap (matches q) (sym (c.position.ensures.replay tags game on)) ∙ (sym c.matches.ensures.matches ∙ c.if-matches.true) in
-    ap (λ (k : ℕ). Some (k, c.in-Ok.next)) c.ply-ply.ensures.ply
-    ∙ found_here q game c.loop-walk.walk.ply c.in-Ok.next (c.loop-walk.invariant.at tags game is)
-    (rw (← c.ply-ply.ensures.ply) (c.ply-ply.ensures.within tags game on)) holds (c.in-Ok.ensures.next tags game on)
-
-pub returns-in-Ok-clause-legal : goal.returns-in-Ok-clause-legal
-returns-in-Ok-clause-legal c =
-    let q = c.args.q.now in
-    let p = c.loop-walk.walk.position in
-    let holds : matches q p ≡ true = ap (matches q) (sym c.position.ensures.position) ∙ (sym c.matches.ensures.matches ∙ c.if-matches.true) in
-    legal_hit q p c.step.new.self.position c.ply-ply.result c.in-Ok.next (subst Sound c.position.ensures.position c.matches.ensures.sound) holds
-    (λ m is. (rw is at c.in-Ok.ensures.played).0)
-
-pub returns-then-not-can_follow-clause-first : goal.returns-then-not-can_follow-clause-first
-returns-then-not-can_follow-clause-first c = λ tags game is.
-    let q = c.args.q.now in
-    let on : IsRecord c.loop-walk.walk.bytes tags game = subst (λ (b : List ℕ). IsRecord b tags game) (sym c.loop-walk.invariant.bytes) is in
-    let none : c.can_follow.result ≡ false = search (rules, not-true c.can_follow.result) in
-    let over : can_follow q (position_at game c.loop-walk.walk.ply) ≡ false =
-    ap (can_follow q) (sym (c.position-in-loop-walk.ensures.replay tags game on)) ∙ (sym c.can_follow.ensures ∙ none) in
-    none_later q game c.loop-walk.walk.ply (c.loop-walk.invariant.at tags game is)
-    (game_sound c.args.bytes.now tags game is) (game_legal c.args.bytes.now tags game is) over
+    subst (λ (b : List ℕ). IfOk c.with_next.result (λ (hit : Option (ℕ × Option Move)). (tags : List Tag) (game : GameTree) → IsRecord b tags game → hit ≡ hit_on_main q game))
+    (c.in-Ok-Some.ensures.bytes ∙ c.in_ok-walk.ensures.bytes) c.with_next.ensures.first
 
 pub returns-in-Ok-None-clause-first : goal.returns-in-Ok-None-clause-first
 returns-in-Ok-None-clause-first c = λ tags game is.
-    let q = c.args.q.now in
-    let on : IsRecord c.loop-walk.walk.bytes tags game = subst (λ (b : List ℕ). IsRecord b tags game) (sym c.loop-walk.invariant.bytes) is in
-    let other : matches_at q game c.loop-walk.walk.ply ≡ false =
-    ap (matches q) (sym (c.position.ensures.replay tags game on)) ∙ (sym c.matches.ensures.matches ∙ c.if-matches.false) in
-    none_at_end q game c.loop-walk.walk.ply (c.loop-walk.invariant.at tags game is) other
-    (no_next game c.loop-walk.walk.ply (sym (c.in-Ok-None.ensures.next tags game on) ∙ c.in-Ok-None.field-0-is))
-
-pub loop-walk-preserved : goal.loop-walk-preserved
-loop-walk-preserved c =
-    let q = c.args.q.now in
-    let played = rw c.in-Ok-Some.field-0-is at c.in-Ok-Some.ensures.played in
-    record {
-      bytes = played.1.1 ∙ c.loop-walk.invariant.bytes;
-      at = λ tags game is.
-          let on : IsRecord c.loop-walk.walk.bytes tags game = subst (λ (b : List ℕ). IsRecord b tags game) (sym c.loop-walk.invariant.bytes) is in
-          let other : matches_at q game c.loop-walk.walk.ply ≡ false =
-          ap (matches q) (sym (c.position.ensures.replay tags game on)) ∙ (sym c.matches.ensures.matches ∙ c.if-matches.false) in
-          at_next q game c.loop-walk.walk.ply _ (c.loop-walk.invariant.at tags game is) other played.1.0;
-    }
-
-pub returns-in-Err-clause-fault : goal.returns-in-Err-clause-fault
-returns-in-Err-clause-fault c = λ some. c.in-Err.ensures.fault (subst IsSomeRecord (sym c.loop-walk.invariant.bytes) some)
-
-pub returns-in-Err-step-clause-fault : goal.returns-in-Err-step-clause-fault
-returns-in-Err-step-clause-fault c = λ some. c.in-Err-step.ensures.fault (subst IsSomeRecord (sym c.loop-walk.invariant.bytes) some)
+    no_hit c.args.q.now game
+    (sym c.in-Ok-None.field-0-is ∙ c.in-Ok-None.ensures.first tags game (subst (λ (b : List ℕ). IsRecord b tags game) (sym c.in_ok-walk.ensures.bytes) is))

@@ -4,12 +4,11 @@ use Rattle.base_files.specs.declared.faults.Stop.TheVariants as stop
 use Rattle.script_lines.specs.Bodies.{body_of}
 use Rattle.script_lines.specs.Reading.{Reader}
 use Rattle.script_lines.specs.Standing.{IsBegun}
-use Rattle.shell_commands.specs.declared.halt.Halt.TheVariants as halt
+use Rattle.shell_state.specs.declared.halt.Halt.TheVariants as halt
 use Rattle.shell_session.specs.Running.{BodyDone, GoneOn, Halts}
 use Rattle.shell_session.specs.Session.{WhyStatus}
 use Rattle.shell_session.specs.declared.status.Status.{Status}
 use Rattle.shell_session.proofs.BodyLaws.{body_done, body_gone, body_halts, body_short, body_too_long, body_why, drain_halts, in_body, short_word, standing_first, standing_from, text_left}
-use Rattle.shell_commands.proofs.Prices.{asked_by}
 use Rattle.shell_session.proofs.running.run_body.Goals as goal
 
 pub returns-in_default-clause-halts : goal.returns-in_default-clause-halts
@@ -31,7 +30,7 @@ returns-in-Err-clause-halts g c = λ s ahead stands told.
     subst P (sym c.broken.ensures.status)
     (body_halts c.in-Err.halt c.serve_in.new.place.stuck c.args.order.now c.args.word.now ahead c.args.reader (g.S.Source.left c.args.input.now) (g.S.Source.budget c.args.input.now) (g.S.Source.faults c.args.input.now) c.serve_in.new.place (g.S.Source.left c.serve_in.new.input) (g.S.Source.budget c.serve_in.new.input) (g.S.Source.faults c.serve_in.new.input) s (g.F.Files.seen c.serve_in.new.files) (g.K.Sink.taken c.args.out.now) (g.K.Sink.taken c.serve_in.new.out) (g.F.Files.asked c.args.files.now) (g.F.Files.asked c.serve_in.new.files) (g.F.Files.faults c.args.files.now) (g.F.Files.faults c.serve_in.new.files) c.in-Ok.place.refused (g.K.Sink.faults c.args.out.now) (g.K.Sink.faults c.serve_in.new.out)
     refl at cut.wrote cut.broken (c.in-Err.ensures.carries s stands) c.in-Err.ensures.causes.why
-    (asked_by c.args.machine.now (g.F.Files.seen c.args.files.now) s c.args.order.now _ _ stands c.serve_in.ensures.asks (λ seed games is. c.serve_in.ensures.asks_demo s seed games stands is)))
+    (c.serve_in.ensures.asks s stands))
 
 pub returns-in-Err-clause-counts : goal.returns-in-Err-clause-counts
 returns-in-Err-clause-counts g c =
@@ -54,7 +53,7 @@ returns-in-Err-drain-clause-halts g c = λ s ahead stands told.
     let P : Status → Type 0 = λ status. Halts status (g.F.Files.seen c.serve_in.new.files) c.args.order.now s ahead c.args.reader.used (g.S.Source.left c.drain.new.input) (g.K.Sink.taken c.args.out.now) (g.K.Sink.taken c.serve_in.new.out) (g.F.Files.asked c.args.files.now) (g.F.Files.asked c.serve_in.new.files) in
     subst P (sym c.broken-in-Err-drain.ensures.status)
     (drain_halts c.drain.new.self.stuck c.args.order.now c.args.word.now ahead c.args.reader (g.S.Source.left c.args.input.now) (g.S.Source.budget c.args.input.now) (g.S.Source.faults c.args.input.now) c.drain.new.self (g.S.Source.left c.drain.new.input) (g.S.Source.budget c.drain.new.input) (g.S.Source.faults c.drain.new.input) s c.serve_in.new.machine (g.F.Files.seen c.serve_in.new.files) (g.K.Sink.taken c.args.out.now) (g.K.Sink.taken c.serve_in.new.out) (g.F.Files.asked c.args.files.now) (g.F.Files.asked c.serve_in.new.files) c.serve_in.new.place.refused
-    refl at did c.in-Err-drain.ensures.cause (asked_by c.args.machine.now (g.F.Files.seen c.args.files.now) s c.args.order.now _ _ stands c.serve_in.ensures.asks (λ seed games is. c.serve_in.ensures.asks_demo s seed games stands is)))
+    refl at did c.in-Err-drain.ensures.cause (c.serve_in.ensures.asks s stands))
 
 pub returns-in-Err-drain-clause-counts : goal.returns-in-Err-drain-clause-counts
 returns-in-Err-drain-clause-counts g c =
@@ -86,7 +85,7 @@ returns-clause-done g c = λ s ahead stands told.
     let P : Option Reader → Type 0 = λ back. BodyDone c.args.order.now s ahead c.args.reader.used c.serve_in.new.machine (g.F.Files.seen c.serve_in.new.files) back (g.S.Source.left c.drain.new.input) (g.K.Sink.taken c.args.out.now) (g.K.Sink.taken c.serve_in.new.out) (g.F.Files.asked c.args.files.now) (g.F.Files.asked c.serve_in.new.files) in
     subst P (sym c.reader_behind.ensures.behind)
     (body_done c.args.order.now c.args.word.now ahead c.args.reader (g.S.Source.left c.args.input.now) (g.S.Source.budget c.args.input.now) (g.S.Source.faults c.args.input.now) c.drain.new.self (g.S.Source.left c.drain.new.input) (g.S.Source.budget c.drain.new.input) (g.S.Source.faults c.drain.new.input) s c.serve_in.new.machine (g.F.Files.seen c.serve_in.new.files) (g.K.Sink.taken c.args.out.now) (g.K.Sink.taken c.serve_in.new.out) (g.F.Files.asked c.args.files.now) (g.F.Files.asked c.serve_in.new.files) c.in_default-drain.ensures.over at did
-    (asked_by c.args.machine.now (g.F.Files.seen c.args.files.now) s c.args.order.now _ _ stands c.serve_in.ensures.asks (λ seed games is. c.serve_in.ensures.asks_demo s seed games stands is)))
+    (c.serve_in.ensures.asks s stands))
 
 pub returns-clause-counts : goal.returns-clause-counts
 returns-clause-counts g c =

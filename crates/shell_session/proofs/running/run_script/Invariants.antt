@@ -1,7 +1,7 @@
 use Rattle.std.proofs.Common.{◌≡◌, ◌+◌, ℕ, List, Some, length}
 use Rattle.command_runs.specs.Counts.{NoneFell, counts}
-use Rattle.shell_commands.specs.Stands.{Sound, Stands}
-use Rattle.shell_commands.specs.State.{State}
+use Rattle.shell_state.specs.Stands.{Sound, Stands}
+use Rattle.shell_state.specs.State.{State}
 use Rattle.shell_session.specs.Running.{Ran}
 use Rattle.shell_session.proofs.running.run_script.Given as goal
 

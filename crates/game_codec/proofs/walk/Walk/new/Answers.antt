@@ -1,5 +1,6 @@
 use Rattle.std.proofs.Common.{ℕ, List, length, sym, ap, subst, length-drop, arith}
 use Rattle.game_codec.specs.Walking.{IsBehind}
+use Rattle.game_codec.proofs.MetLaws.{behind_is}
 use Rattle.game_codec.proofs.walk.Walk.new.Goals as goal
 
 pub invariant_of-result : goal.invariant_of-result
@@ -8,5 +9,6 @@ invariant_of-result c =
     record {
       few = c.requires.few;
       left = omega (arith, size, length-drop c.in-Ok.read.used c.args.bytes.now);
+      tail = behind_is c.args.bytes.now c.split_at.result.1.now c.in-Ok.read.used c.in-Ok.ensures.used c.split_at.ensures.back;
       follows = λ tags game r. subst (IsBehind game c.in-Ok.read.start 0) (sym c.split_at.ensures.back) (c.in-Ok.ensures.begun tags game r);
     }

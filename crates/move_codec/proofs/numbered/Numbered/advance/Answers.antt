@@ -1,22 +1,18 @@
-use Rattle.std.proofs.Common.{◌∙◌, sym}
-use Rattle.std.proofs.lemmas.Result.{err_from_is_err_and}
-use Rattle.move_codec.proofs.Decoding.{Decodes-fault, named-number, named-used, named-second}
+-- The man with the number of the first byte is the mover's.
+use Rattle.std.proofs.Common.{◌≡◌, ◌/◌, Some, slice_get, slice_index_or, subst}
+use Rattle.cell_core.specs.Board.{man_at}
+use Rattle.cell_core.specs.Man.{man}
+use Rattle.move_codec.specs.Numbers.{Numbered, squares_of}
+use Rattle.move_codec.proofs.Moving.{numbered-man}
+use Rattle.move_codec.proofs.RoundTrip.{numbering_of}
 use Rattle.move_codec.proofs.numbered.Numbered.advance.Goals as goal
 
-pub returns-in_err-m-clause-decodes : goal.returns-in_err-m-clause-decodes
-returns-in_err-m-clause-decodes c =
-    let p = err_from_is_err_and c.from_residual.result c.from_residual.ensures.1 in
-    rw (p.1, p.2) (Decodes-fault c.args.self.now c.args.bytes.now c.in_err-m.field-0.0 (sym c.named.ensures ∙ c.in_err-m.was))
-
-pub returns-then-follow_legal-clause-used : goal.returns-then-follow_legal-clause-used
-returns-then-follow_legal-clause-used c =
-    named-used c.args.self.now c.args.bytes.now (c.in_ok-m.m, c.in_ok-m.used) (sym c.named.ensures ∙ c.in_ok-m.was)
-
-pub returns-then-follow_legal-clause-second : goal.returns-then-follow_legal-clause-second
-returns-then-follow_legal-clause-second c =
-    named-second c.args.self.now c.args.bytes.now (c.in_ok-m.m, c.in_ok-m.used) (sym c.named.ensures ∙ c.in_ok-m.was)
-
-pub follow_legal-requires : goal.follow_legal-requires
-follow_legal-requires c =
-    rw c.first_number.ensures.number
-    (record { number = named-number c.args.self.now c.args.bytes.now (c.in_ok-m.m, c.in_ok-m.used) (sym c.named.ensures ∙ c.in_ok-m.was) })
+pub advance_by-requires-clause-stands : goal.advance_by-requires-clause-stands
+advance_by-requires-clause-stands c =
+    let p = c.self.inside.position in
+    let squares = squares_of p.side c.self.inside.numbers in
+    let here : slice_get squares (slice_index_or c.args.bytes.now 0 0 / 16) ≡ Some c.in-Some.from = cc in
+    let there : man_at p.board c.in-Some.from ≡ Some c.in-Some-at.man = cc in
+    subst (λ (n : Numbered). man_at n.position.board c.in-Some.from ≡ Some (man n.position.side c.in-Some-at.man.kind)) c.self.view_is
+    (numbered-man p.board p.side squares (slice_index_or c.args.bytes.now 0 0 / 16) c.in-Some.from c.in-Some-at.man
+    (numbering_of p.board c.self.inside.numbers c.self.invariant p.side) here there)

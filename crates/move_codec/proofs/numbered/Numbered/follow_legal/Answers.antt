@@ -21,7 +21,7 @@ follow_by-requires-clause-number c =
 pub follow_by-requires-clause-none : goal.follow_by-requires-clause-none
 follow_by-requires-clause-none c =
     let p = c.self.inside.position in
-    let s = capture_square c.args.m.now c.effect-effect.result in
+    let s = capture_square c.args.m.now c.effect_as-effect.result in
     let taken : c.is_some-taken.result ≡ is_some (man_at p.board s) =
     c.is_some-taken.ensures ∙ ap is_some (c.at.ensures.man ∙ rw (c.board.ensures.board, c.capture_square.ensures) refl) in
     rw c.setup.ensures.setup
@@ -30,5 +30,5 @@ follow_by-requires-clause-none c =
 
 pub invariant_of-self : goal.invariant_of-self
 invariant_of-self c =
-    rw (c.follow_by.ensures.after, c.effect-effect.ensures.effect, c.setup.ensures.setup)
-    (AreNumbers-step c.self.inside.position c.args.m.now c.advance-legal.new.self c.self.inside.numbers c.setup.ensures.sound c.if-legal.ensures.step c.self.invariant)
+    rw (c.follow_by.ensures.after, c.effect_as-effect.ensures.effect, c.setup.ensures.setup)
+    (AreNumbers-step c.self.inside.position c.args.m.now c.advance_as-legal.new.self c.self.inside.numbers c.setup.ensures.sound c.if-legal.ensures.step c.self.invariant)

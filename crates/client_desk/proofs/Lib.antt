@@ -1,0 +1,4 @@
+pub mod GameLaws
+pub mod SeatLaws
+pub mod EchoLaws
+pub mod DeskLaws

@@ -1,0 +1,265 @@
+-- Laws of `compact`.
+use Rattle.std.proofs.Common.{◌≡◌, ℕ, List, slice_get, Some, zero, suc, Bool, [], ◌∷◌, length, map, refl, sym, ap₂, inl, inr, filter, ◌∙◌, ap, ◌≤◌, true, subst, ◌<◌, false, Option, option_map, if◌then◌else◌, None, Ok, IfSome, Err, arith}
+use Rattle.std.proofs.lemmas.Bool.{cases_Bool, le-leb, lt-leb}
+use Rattle.std.proofs.lemmas.List.{length-map}
+use Rattle.std.proofs.lemmas.List.Elements.{All-map}
+use Rattle.std.proofs.lemmas.List.Sums.{sum_by-cons}
+use Rattle.std.specs.Prelude.{All, get_or, sum_by, ◌+◌, not}
+use Rattle.base_core.specs.Base.{Held, Base}
+use Rattle.base_core.specs.Compacted.{stays, compacted, end_of, only}
+use Rattle.base_core.specs.Entries.{head_of}
+use Rattle.base_core.specs.Represents.{Kept, Represents}
+use Rattle.base_core.specs.Saved.{MeansIt, OpensAgain}
+use Rattle.base_core.specs.declared.fault.What.TheVariants.{File}
+use Rattle.base_files.specs.Seen.{Seen, told_instead, FreshAlone}
+use Rattle.base_files.specs.declared.faults.Stop.TheVariants as stop
+use Rattle.block_store.specs.Placing.{longest_file}
+use Rattle.compact_base.proofs.FirstLaws.{held-deleted}
+use Rattle.compact_base.specs.Compacting.{staying, new_end, numbering, numbers_from, Compacts, IsCommitted, new_games, WhyNotCompacted, IfChanged, kept_len}
+use Rattle.compact_base.specs.declared.fault.CompactError.{CompactError}
+use Rattle.compact_base.specs.declared.fault.CompactError.TheVariants as compacting
+use Rattle.game_filter.proofs.Renumberings.{length-renumbered}
+use Rattle.game_filter.specs.Renumbering.{renumbered, Rises}
+use Rattle.index_entry.specs.declared.entry.Entry.{Entry}
+use Rattle.name_base.specs.NameLists.{NameLists}
+use Rattle.edit_commands.proofs.SaveLaws.{contents_of, known_told}
+use Rattle.edit_commands.specs.Compacting.{numbers_of, is_within, compacted_state, compact_after, compact_text, compacted_line}
+use Rattle.edit_commands.specs.Ends.{uncompacted}
+use Rattle.filter_seat.specs.SavedFilters.{kept_renumbered}
+use Rattle.filter_seat.specs.declared.saved.SavedFilter.{SavedFilter}
+use Rattle.shell_state.proofs.CarryLaws.{beside_meant, carry_of}
+use Rattle.shell_state.proofs.PriceLaws.{look_at}
+use Rattle.shell_state.proofs.Quietly.{held_by}
+use Rattle.shell_state.specs.Carrying.{Contents, AreBeside, Beside, StillCarry, MayCarry}
+use Rattle.shell_state.specs.Ends.{IsDevice, EndsAs}
+use Rattle.shell_state.specs.Refusing.{full_line}
+use Rattle.shell_state.specs.Stands.{Stands, Holding, Fits, looks_in}
+use Rattle.shell_state.specs.State.{State}
+use Rattle.shell_state.specs.Work.{Look}
+use Rattle.shell_state.specs.declared.halt.Halt.{Halt}
+use Rattle.shell_state.specs.declared.halt.Halt.TheVariants as halt
+
+-- ---- what is kept and the base are left with the same games.
+
+-- An entry and its game have the same length and go together.
+abbrev Pairs : List Entry → List Held → Type 0
+Pairs es all = (i : ℕ) (e : Entry) (held : Held) → slice_get es i ≡ Some e → slice_get all i ≡ Some held → (held.len ≡ e.len) × (held.head.deleted ≡ e.deleted)
+
+pairs : (kept : Kept) (games : List ℕ) (base : Base) → Represents kept games base → Pairs kept.entries base.games
+pairs kept games base is = λ i e held at there. let keeps = is.each i e held at there in (keeps.says.len, held-deleted kept.names games e held keeps)
+
+same_flags : (es : List Entry) (all : List Held) → length es ≡ length all → Pairs es all → map (λ (x : Entry). x.deleted) es ≡ map (λ (x : Held). x.head.deleted) all
+same_flags [] [] count each = refl
+same_flags [] (held ∷ all) count each = cc
+same_flags (e ∷ es) [] count each = cc
+same_flags (e ∷ es) (held ∷ all) count each =
+    let count' : length es ≡ length all = cc in
+    ap₂ (λ (b : Bool) (l : List Bool). b ∷ l) (sym (each zero e held refl refl).1) (same_flags es all count' (λ i e' held' there here. each (suc i) e' held' there here))
+
+same_lens : (es : List Entry) (all : List Held) → length es ≡ length all → Pairs es all → map (λ (x : Entry). x.len) (staying es) ≡ map (λ (x : Held). x.len) (filter stays all)
+same_lens [] [] count each = refl
+same_lens [] (held ∷ all) count each = cc
+same_lens (e ∷ es) [] count each = cc
+same_lens (e ∷ es) (held ∷ all) count each =
+    let count' : length es ≡ length all = cc in
+    let here = each zero e held refl refl in
+    let rest = same_lens es all count' (λ i e' held' there here'. each (suc i) e' held' there here') in
+    elim (cases_Bool e.deleted) [
+      | inl goes ↦ rw (goes, here.1 ∙ goes) rest
+      | inr stay ↦ rw (stay, here.1 ∙ stay) (ap₂ (λ (n : ℕ) (l : List ℕ). n ∷ l) (sym here.0) rest)
+    ]
+
+end_compacted : (base : Base) → (compacted base).end ≡ end_of 0 (map (λ (x : Held). x.len) (filter stays base.games))
+unfolding compacted only
+end_compacted base = refl
+
+games_compacted : (base : Base) → (compacted base).games ≡ filter stays base.games
+unfolding compacted only
+games_compacted base = refl
+
+same_end : (kept : Kept) (games : List ℕ) (base : Base) → Represents kept games base → (compacted base).end ≡ new_end kept.entries
+same_end kept games base is = end_compacted base ∙ ap (λ (lens : List ℕ). end_of 0 lens) (sym (same_lens kept.entries base.games is.count (pairs kept games base is)))
+
+pub numbers_same : (kept : Kept) (games : List ℕ) (base : Base) → Represents kept games base → (numbering kept.entries).to ≡ numbers_of base
+numbers_same kept games base is = ap (λ (flags : List Bool). numbers_from 0 flags) (same_flags kept.entries base.games is.count (pairs kept games base is))
+
+pub kept_same : (kept : Kept) (games : List ℕ) (base : Base) → Represents kept games base → (numbering kept.entries).kept ≡ length (compacted base).games
+kept_same kept games base is =
+    let lens = same_lens kept.entries base.games is.count (pairs kept games base is) in
+    sym (length-map (staying kept.entries) (λ (x : Entry). x.len)) ∙ (ap (λ (l : List ℕ). length l) lens
+    ∙ (length-map (filter stays base.games) (λ (x : Held). x.len) ∙ ap (λ (l : List Held). length l) (sym (games_compacted base))))
+
+within_true : (kept : Kept) (games : List ℕ) (base : Base) → Represents kept games base → new_end kept.entries ≤ longest_file → is_within base ≡ true
+within_true kept games base is room = le-leb (compacted base).end longest_file (subst (λ (n : ℕ). n ≤ longest_file) (sym (same_end kept games base is)) room)
+
+within_false : (kept : Kept) (games : List ℕ) (base : Base) → Represents kept games base → longest_file < new_end kept.entries → is_within base ≡ false
+within_false kept games base is over = lt-leb (compacted base).end longest_file (subst (λ (n : ℕ). longest_file < n) (sym (same_end kept games base is)) over)
+
+-- ---- it was done.
+
+-- What a compaction says where both games files are told.
+known_games : (old new : Kept) (told now : Option (List ℕ)) (games fresh : List ℕ) (base : Base) → Compacts old new told now → told ≡ Some games → now ≡ Some fresh → Represents old games base → Represents new fresh (compacted base)
+known_games old new told now games fresh base compacts is there represents =
+    let T : Option (List ℕ) → Type 0 = λ o. Compacts old new o now in
+    let N : Option (List ℕ) → Type 0 = λ o. Compacts old new (Some games) o in
+    subst N there (subst T is compacts) base represents
+
+done_stands : (old new : Kept) (filter : List (Option ℕ)) (saved : List SavedFilter) (seen seen' : Seen) (s : State) → Stands (held_by old filter saved) seen s → IsCommitted old new seen seen' → MeansIt new seen'
+    → Compacts old new seen.games seen'.games → new.unsaved ≡ false
+    → Stands (held_by new (renumbered (numbering old.entries).to filter) (map (kept_renumbered (numbering old.entries).to) saved)) seen' (compacted_state s)
+done_stands old new filter saved seen seen' s st is means compacts clean =
+    let before : Contents seen = contents_of old seen s.unsaved s.carried st.games st.carried st.told in
+    let fresh : List ℕ = new_games old.entries st.games in
+    let told : seen'.games ≡ Some fresh = ap (λ (x : Seen). x.games) is.put ∙ ap (λ (o : Option (List ℕ)). option_map (new_games old.entries) o) st.told in
+    let there : Represents new fresh (compacted s.base) = known_games old new seen.games seen'.games st.games fresh s.base compacts st.told told st.base in
+    let now : Contents seen' = record {
+      index = is.index;
+      names = is.names;
+      games = fresh;
+      index_told = ap (λ (x : Seen). x.index) is.put ∙ ap (told_instead is.index) before.index_told;
+      names_told = ap (λ (x : Seen). x.names) is.put ∙ ap (told_instead is.names) before.names_told;
+      games_told = told;
+    } in
+    let again : OpensAgain now.index now.names now.games (compacted s.base) =
+    (known_told seen' (λ index names games. (base : Base) → Represents new games base → OpensAgain index names games base) now means) (compacted s.base) there in
+    let to = numbers_same old st.games s.base st.base in
+    record {
+      games = fresh;
+      told = told;
+      base = there;
+      filter = ap (λ (p : List (Option ℕ)). renumbered (numbering old.entries).to p) st.filter ∙ ap (λ (t : List (Option ℕ)). renumbered t s.filter) to;
+      saved = ap (λ (f : List SavedFilter). map (kept_renumbered (numbering old.entries).to) f) st.saved ∙ ap (λ (t : List (Option ℕ)). map (kept_renumbered t) s.saved) to;
+      unsaved = clean;
+      carried = beside_meant new seen' (compacted s.base) now there.names again.means;
+    }
+
+pub compact_stands : (old new : Kept) (filter : List (Option ℕ)) (saved : List SavedFilter) (seen seen' : Seen) (s : State) → Stands (held_by old filter saved) seen s → IsCommitted old new seen seen' → MeansIt new seen'
+    → Compacts old new seen.games seen'.games → new.unsaved ≡ false → new_end old.entries ≤ longest_file
+    → Stands (held_by new (renumbered (numbering old.entries).to filter) (map (kept_renumbered (numbering old.entries).to) saved)) seen' (compact_after s)
+compact_stands old new filter saved seen seen' s st is means compacts clean room =
+    let P : Bool → Type 0 = λ b. Stands (held_by new (renumbered (numbering old.entries).to filter) (map (kept_renumbered (numbering old.entries).to) saved)) seen' (if b then compacted_state s else s) in
+    subst P (sym (within_true old st.games s.base st.base room)) (done_stands old new filter saved seen seen' s st is means compacts clean)
+
+pub compact_says : (old : Kept) (filter : List (Option ℕ)) (saved : List SavedFilter) (seen : Seen) (s : State) (line : List ℕ) (games kept : ℕ) → Stands (held_by old filter saved) seen s → new_end old.entries ≤ longest_file
+    → games ≡ length old.entries → kept ≡ (numbering old.entries).kept → line ≡ compacted_line games kept → line ≡ compact_text s
+compact_says old filter saved seen s line games kept st room all left is =
+    let P : Bool → Type 0 = λ b. line ≡ (if b then compacted_line (length s.base.games) (length (compacted s.base).games) else full_line File) in
+    subst P (sym (within_true old st.games s.base st.base room))
+    (is ∙ (ap (λ (n : ℕ). compacted_line n kept) (all ∙ st.base.count) ∙ ap (λ (n : ℕ). compacted_line (length s.base.games) n) (left ∙ kept_same old st.games s.base st.base)))
+
+-- ---- it was not done.
+
+fresh_contents : (seen seen' : Seen) → FreshAlone seen seen' → Contents seen → Contents seen'
+fresh_contents seen seen' left c = record {
+  index = c.index;
+  names = c.names;
+  games = c.games;
+  index_told = ap (λ (x : Seen). x.index) left ∙ c.index_told;
+  names_told = ap (λ (x : Seen). x.names) left ∙ c.names_told;
+  games_told = ap (λ (x : Seen). x.games) left ∙ c.games_told;
+}
+
+fresh_beside : (kept : Kept) (seen seen' : Seen) (unsaved : Bool) (carried : Option Base) → FreshAlone seen seen' → AreBeside kept seen unsaved carried → AreBeside kept seen' unsaved carried
+unfolding fresh_contents
+fresh_beside kept seen seen' unsaved (Some base) left b =
+    record { contents = fresh_contents seen seen' left b.contents; carries = b.carries; names = b.names; means = b.means }
+fresh_beside kept seen seen' unsaved None left b = (ap (λ (x : Seen). x.index) left ∙ b.0, ap (λ (x : Seen). x.names) left ∙ b.1)
+
+-- The new games file is no part of a state.
+pub fresh_stands : (holding : Holding) (seen seen' : Seen) (s : State) → FreshAlone seen seen' → Stands holding seen s → Stands holding seen' s
+fresh_stands holding seen seen' s left st = record {
+  games = st.games;
+  told = ap (λ (x : Seen). x.games) left ∙ st.told;
+  base = st.base;
+  filter = st.filter;
+  saved = st.saved;
+  unsaved = st.unsaved;
+  carried = fresh_beside holding.kept seen seen' s.unsaved s.carried left st.carried;
+}
+
+-- An error line comes where the new games file would be too long, and nothing changed.
+over_by : (e : CompactError) (kept : Kept) (told : Option (List ℕ)) (buf line : List ℕ) → WhyNotCompacted kept told buf e → uncompacted e ≡ Ok line → (longest_file < new_end kept.entries) × (line ≡ full_line File)
+over_by compacting.Full kept told buf line why ends = let same : full_line File ≡ line = cc in (why, sym same)
+over_by compacting.Failed kept told buf line why ends = cc
+over_by compacting.Memory kept told buf line why ends = cc
+over_by (compacting.Changed game sig found) kept told buf line why ends = cc
+
+pub full_stands : (old : Kept) (filter : List (Option ℕ)) (saved : List SavedFilter) (seen seen' : Seen) (s : State) (e : CompactError) (told : Option (List ℕ)) (buf line : List ℕ) → Stands (held_by old filter saved) seen s
+    → FreshAlone seen seen' → WhyNotCompacted old told buf e → uncompacted e ≡ Ok line → Stands (held_by old filter saved) seen' (compact_after s)
+full_stands old filter saved seen seen' s e told buf line st left why ends =
+    let over = over_by e old told buf line why ends in
+    let P : Bool → Type 0 = λ b. Stands (held_by old filter saved) seen' (if b then compacted_state s else s) in
+    subst P (sym (within_false old st.games s.base st.base over.0)) (fresh_stands (held_by old filter saved) seen seen' s left st)
+
+pub full_says : (old : Kept) (filter : List (Option ℕ)) (saved : List SavedFilter) (seen : Seen) (s : State) (e : CompactError) (told : Option (List ℕ)) (buf line : List ℕ) → Stands (held_by old filter saved) seen s
+    → WhyNotCompacted old told buf e → uncompacted e ≡ Ok line → line ≡ compact_text s
+full_says old filter saved seen s e told buf line st why ends =
+    let over = over_by e old told buf line why ends in
+    let P : Bool → Type 0 = λ b. line ≡ (if b then compacted_line (length s.base.games) (length (compacted s.base).games) else full_line File) in
+    subst P (sym (within_false old st.games s.base st.base over.0)) over.1
+
+-- Told files end it by a device alone.
+none_changed : (kept : Kept) (games : List ℕ) (told : Option (List ℕ)) (base : Base) → told ≡ Some games → Represents kept games base → IfSome told (λ bytes. (other : Base) → Represents kept bytes other → ⊥) → ⊥
+none_changed kept games told base same is none =
+    let P : Option (List ℕ) → Type 0 = λ o. IfSome o (λ bytes. (other : Base) → Represents kept bytes other → ⊥) in
+    (subst P same none) base is
+
+device_so : (e : CompactError) (h : Halt) (kept : Kept) (games : List ℕ) (told : Option (List ℕ)) (base : Base) → told ≡ Some games → Represents kept games base
+    → IfChanged e (IfSome told (λ bytes. (other : Base) → Represents kept bytes other → ⊥)) → uncompacted e ≡ Err h → IsDevice h
+device_so compacting.Full h kept games told base same is changed ends = cc
+device_so compacting.Failed h kept games told base same is changed ends = let e : halt.Device stop.Files ≡ h = cc in subst IsDevice e tt
+device_so compacting.Memory h kept games told base same is changed ends = let e : halt.Device stop.Memory ≡ h = cc in subst IsDevice e tt
+device_so (compacting.Changed g sig found) h kept games told base same is changed ends = absurd (none_changed kept games told base same is changed)
+
+pub compact_device : (e : CompactError) (h : Halt) (kept : Kept) (filter : List (Option ℕ)) (saved : List SavedFilter) (seen : Seen) (s : State) → Stands (held_by kept filter saved) seen s
+    → IfChanged e (IfSome seen.games (λ bytes. (other : Base) → Represents kept bytes other → ⊥)) → EndsAs (uncompacted e) h → IsDevice h
+compact_device e h kept filter saved seen s st changed (inl memory) = subst IsDevice (sym memory) tt
+compact_device e h kept filter saved seen s st changed (inr ends) = device_so e h kept st.games seen.games s.base st.told st.base changed ends
+
+-- ---- what the files carry where it is broken off.
+
+pub fresh_carry : (holding : Holding) (seen seen' : Seen) (s : State) (leaves : Option (Base → Base)) → FreshAlone seen seen' → Stands holding seen s → StillCarry seen' s leaves
+fresh_carry holding seen seen' s leaves left st = carry_of holding seen' s leaves (fresh_stands holding seen seen' s left st)
+
+done_may : (kept : Kept) (seen : Seen) (carried : Option Base) (base : Base) → Beside kept seen false (compacted base) → MayCarry seen carried (Some compacted) base
+done_may kept seen (Some own) base b = inr (b.contents, b.carries)
+done_may kept seen None base b = tt
+
+-- It was done, and its text was not written.
+pub done_carry : (old new : Kept) (filter : List (Option ℕ)) (saved : List SavedFilter) (seen seen' : Seen) (s : State) → Stands (held_by old filter saved) seen s → IsCommitted old new seen seen' → MeansIt new seen'
+    → Compacts old new seen.games seen'.games → new.unsaved ≡ false → StillCarry seen' s (Some compacted)
+done_carry old new filter saved seen seen' s st is means compacts clean =
+    done_may new seen' s.carried s.base (done_stands old new filter saved seen seen' s st is means compacts clean).carried
+
+-- ---- the filters.
+
+-- They fit what is left.
+pub compact_fits : (new : Kept) (filter : List (Option ℕ)) (saved made : List SavedFilter) (kept : ℕ) → length new.entries ≡ kept → length filter ≡ kept → made ≡ saved → All (λ (f : SavedFilter). length f.plies ≡ kept) saved → Fits (held_by new filter made)
+compact_fits new filter saved made kept count long same fits =
+    let P : List SavedFilter → Type 0 = λ l. All (λ (f : SavedFilter). length f.plies ≡ kept) l in
+    let Q : ℕ → Type 0 = λ n. All (λ (f : SavedFilter). length f.plies ≡ n) made in
+    record { filter = long ∙ sym count; saved = subst Q (sym count) (subst P (sym same) fits) }
+
+pub saved_moved : (to : List (Option ℕ)) (kept games : ℕ) (saved : List SavedFilter) → Rises 0 to kept → length to ≡ games → All (λ (f : SavedFilter). length f.plies ≡ games) saved → All (λ (f : SavedFilter). length f.plies ≡ kept) (map (kept_renumbered to) saved)
+saved_moved to kept games saved rises all fits =
+    All-map (λ (f : SavedFilter). length f.plies ≡ kept) (kept_renumbered to) saved
+    (λ k d within. let long : length to ≡ length (get_or saved k d).plies = all ∙ sym (fits k d within) in
+    let rest = length-renumbered 0 kept to (get_or saved k d).plies rises long in omega (arith, rest))
+
+-- ---- what it asks.
+
+staying_lens : (names : NameLists) (es : List Entry)
+    → sum_by (λ (x : Entry). x.len) (staying es) ≡ sum_by (λ (x : Look). x.len) (filter (λ (x : Look). not x.head.deleted) (map (look_at names) es))
+unfolding head_of
+staying_lens names [] = refl
+staying_lens names (e ∷ es) =
+    let rest = staying_lens names es in
+    elim (cases_Bool e.deleted) [
+      | inl goes ↦ rw goes rest
+      | inr stay ↦ rw stay
+          (sum_by-cons (λ (x : Entry). x.len) e (staying es) ∙ (ap (λ (n : ℕ). e.len + n) rest
+          ∙ sym (sum_by-cons (λ (x : Look). x.len) (look_at names e) (filter (λ (x : Look). not x.head.deleted) (map (look_at names) es)))))
+    ]
+
+pub compact_price : (kept : Kept) → kept_len kept.entries ≡ sum_by (λ (x : Look). x.len) (filter (λ (x : Look). not x.head.deleted) (looks_in kept))
+compact_price kept = staying_lens kept.names kept.entries

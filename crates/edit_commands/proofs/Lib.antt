@@ -1,0 +1,4 @@
+pub mod CompactLaws
+pub mod EditLaws
+pub mod SaveLaws
+pub mod TagLaws

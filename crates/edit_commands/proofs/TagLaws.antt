@@ -1,0 +1,180 @@
+-- Laws of `tag`.
+use Rattle.std.proofs.Common.{◌≡◌, ℕ, List, Option, Some, IfSome, subst, sym, ap, ◌∙◌, ◌<◌, true, ◌++◌, length, None, arith, Ok, Err, inl, inr, refl, OnOk, Result, [], ◌≤◌}
+use Rattle.std.proofs.lemmas.Option.{slice_get_past}
+use Rattle.std.specs.Prelude.{IfErr, slice_get, unwrap_or, codes}
+use Rattle.base_core.proofs.Lists.{get_some}
+use Rattle.base_core.specs.Base.{Base, Held}
+use Rattle.base_core.specs.Edits.{tagged}
+use Rattle.base_core.specs.GameAt.{IsGameAt, IfChanged}
+use Rattle.base_core.specs.Means.{HoldsNames}
+use Rattle.base_core.specs.Represents.{Kept, Represents}
+use Rattle.base_core.specs.Tagged.{Tags, IsTagged, IsNotPlaced, WhyNotTagged}
+use Rattle.base_core.specs.declared.fault.EditError.{EditError}
+use Rattle.base_core.specs.declared.fault.EditError.TheVariants as edit
+use Rattle.base_files.specs.Seen.{Seen}
+use Rattle.base_files.specs.Told.{adds}
+use Rattle.base_files.specs.declared.faults.Stop.TheVariants as stop
+use Rattle.block_store.specs.Placing.{padded}
+use Rattle.command_runs.specs.Endings.{Halted, Serves}
+use Rattle.game_codec.specs.Written.{written_record}
+use Rattle.game_tree.specs.Game.{GameTree}
+use Rattle.game_tree.specs.TagEdit.{edited}
+use Rattle.game_tree.specs.declared.head.Head.{Head}
+use Rattle.game_tree.specs.declared.tag_edit.TagEdit.{TagEdit}
+use Rattle.edit_commands.specs.Editing.{tag_after, tagged_there, unless_refused, tag_line_there, tag_text, tag_work}
+use Rattle.filter_seat.specs.declared.saved.SavedFilter.{SavedFilter}
+use Rattle.shell_state.proofs.CarryLaws.{beside_grown}
+use Rattle.shell_state.proofs.EditedLaws.{kept_refusal, kept-refusal, none_refused, refused_so}
+use Rattle.shell_state.proofs.PriceLaws.{len_looks, look_at}
+use Rattle.shell_state.proofs.Quietly.{held_by}
+use Rattle.shell_state.proofs.Served.{line_serves}
+use Rattle.shell_state.specs.Ends.{refused_edit, IsThere, IsDevice, EndsAs, IsOutput}
+use Rattle.shell_state.specs.Lines.{game_line, no_game_line}
+use Rattle.shell_state.specs.Passing.{len_in}
+use Rattle.shell_state.specs.Refusing.{refusal_of}
+use Rattle.shell_state.specs.Stands.{len_at, Stands, looks_in, Broken, Holding}
+use Rattle.shell_state.specs.State.{State}
+use Rattle.shell_state.specs.Work.{Look, works}
+use Rattle.shell_state.specs.declared.halt.Halt.{Halt}
+use Rattle.shell_state.specs.declared.halt.Halt.TheVariants as halt
+
+-- The game that was read is that of the base.
+read-is : (kept : Kept) (games : List ℕ) (told : Option (List ℕ)) (i : ℕ) (head : Head) (game : GameTree) (base : Base) (held : Held) → told ≡ Some games → IfSome told (λ bytes. IsGameAt kept bytes i head game)
+    → Represents kept games base → slice_get base.games i ≡ Some held → (head ≡ held.head) × (game ≡ held.game)
+read-is kept games told i head game base held same read is at =
+    let P : Option (List ℕ) → Type 0 = λ o. IfSome o (λ bytes. IsGameAt kept bytes i head game) in
+    (subst P same read) base held is at
+
+refusal-read : (kept : Kept) (games : List ℕ) (base : Base) (held : Held) (tag : TagEdit) (head : Head) (game : GameTree) (answer : Option (List ℕ)) → Represents kept games base
+    → (head ≡ held.head) × (game ≡ held.game) → kept_refusal kept (edited head tag) game ≡ answer → refusal_of base (edited held.head tag) held.game ≡ answer
+refusal-read kept games base held tag head game answer is same refused =
+    sym (kept-refusal kept games base (edited held.head tag) held.game is)
+    ∙ sym (ap (λ (h : Head). kept_refusal kept (edited h tag) held.game) same.0)
+    ∙ sym (ap (λ (g : GameTree). kept_refusal kept (edited head tag) g) same.1)
+    ∙ refused
+
+-- The tag was set.
+base_tagged : (old new : Kept) (i : ℕ) (tag : TagEdit) (told now : Option (List ℕ)) (games after : List ℕ) (base : Base) → Tags i tag old new told now → told ≡ Some games → now ≡ Some after → Represents old games base
+    → Represents new after (tagged i tag base)
+base_tagged old new i tag told now games after base tags is then there =
+    let P : Option (List ℕ) → Type 0 = λ t. IfSome t (λ games. IfSome now (λ after. (base : Base) → Represents old games base → Represents new after (tagged i tag base))) in
+    let Q : Option (List ℕ) → Type 0 = λ n. IfSome n (λ after. (base : Base) → Represents old games base → Represents new after (tagged i tag base)) in
+    (subst Q then (subst P is tags)) base there
+
+pub tag_stands : (old new : Kept) (filter : List (Option ℕ)) (saved : List SavedFilter) (seen seen' : Seen) (buf : List ℕ) (s : State) (i : ℕ) (tag : TagEdit) → Stands (held_by old filter saved) seen s → i < length old.entries
+    → IsTagged i tag old new seen seen' buf → Tags i tag old new seen.games seen'.games → new.unsaved ≡ true → HoldsNames new.names old.names
+    → Stands (held_by new filter saved) seen' (tag_after s i tag)
+tag_stands old new filter saved seen seen' buf s i tag st there is tags unsaved names =
+    let held = get_some s.base.games i (omega (arith, there, st.base.count)) in
+    let bytes : List ℕ = padded old.end (written_record (edited is.head tag).tags is.game) in
+    let same = read-is old st.games seen.games i is.head is.game s.base held.0 st.told is.read st.base held.1 in
+    let none : refusal_of s.base (edited held.0.head tag) held.0.game ≡ None =
+    refusal-read old st.games s.base held.0 tag is.head is.game None st.base same (none_refused _ _ is.room) in
+    let later : seen'.games ≡ Some (st.games ++ bytes) = ap (λ (x : Seen). x.games) is.appended ∙ ap (λ (g : Option (List ℕ)). adds g bytes) st.told in
+    let standing : Stands (held_by new filter saved) seen' (unless_refused None s (tagged i tag s.base)) = record {
+      games = st.games ++ bytes;
+      told = later;
+      base = base_tagged old new i tag seen.games seen'.games st.games (st.games ++ bytes) s.base tags st.told later st.base;
+      filter = st.filter;
+      saved = st.saved;
+      unsaved = unsaved;
+      carried = beside_grown old new seen seen' bytes s.unsaved s.carried is.appended names st.carried;
+    } in
+    subst (Stands (held_by new filter saved) seen') (ap (λ (r : Option (List ℕ)). unless_refused r s (tagged i tag s.base)) (sym none) ∙ ap (tagged_there i tag s) (sym held.1)) standing
+
+pub tag_says : (old new : Kept) (filter : List (Option ℕ)) (saved : List SavedFilter) (seen seen' : Seen) (buf : List ℕ) (s : State) (i : ℕ) (tag : TagEdit) (line : List ℕ) → Stands (held_by old filter saved) seen s → i < length old.entries
+    → IsTagged i tag old new seen seen' buf → line ≡ game_line (codes "tagged ") i → line ≡ tag_text s i tag
+tag_says old new filter saved seen seen' buf s i tag line st there is written =
+    let held = get_some s.base.games i (omega (arith, there, st.base.count)) in
+    let same = read-is old st.games seen.games i is.head is.game s.base held.0 st.told is.read st.base held.1 in
+    let none : refusal_of s.base (edited held.0.head tag) held.0.game ≡ None =
+    refusal-read old st.games s.base held.0 tag is.head is.game None st.base same (none_refused _ _ is.room) in
+    written ∙ ap (λ (r : Option (List ℕ)). unwrap_or r (game_line (codes "tagged ") i)) (sym none) ∙ ap (tag_line_there i tag s) (sym held.1)
+
+-- It was refused.
+not_placed : (e : EditError) (kept : Kept) (told : Option (List ℕ)) (i : ℕ) (tag : TagEdit) (buf : List ℕ) (line : List ℕ) → WhyNotTagged kept told i tag buf e → i < length kept.entries → refused_edit e ≡ Ok line
+    → IsNotPlaced kept told i tag e
+not_placed (edit.TooLong n) kept told i tag buf line why there ends = why
+not_placed (edit.Full what) kept told i tag buf line why there ends = why
+not_placed (edit.NoGame n) kept told i tag buf line why there ends = absurd (omega (arith, why.1, there))
+not_placed (edit.Changed g sig found) kept told i tag buf line why there ends = cc
+not_placed edit.Failed kept told i tag buf line why there ends = cc
+not_placed edit.Memory kept told i tag buf line why there ends = cc
+
+refused_line : (kept : Kept) (filter : List (Option ℕ)) (saved : List SavedFilter) (seen : Seen) (s : State) (i : ℕ) (tag : TagEdit) (e : EditError) (buf line : List ℕ) → (st : Stands (held_by kept filter saved) seen s)
+    → i < length kept.entries → WhyNotTagged kept seen.games i tag buf e → refused_edit e ≡ Ok line
+    → (held : Held) × (slice_get s.base.games i ≡ Some held) × (refusal_of s.base (edited held.head tag) held.game ≡ Some line)
+refused_line kept filter saved seen s i tag e buf line st there why ends =
+    let held = get_some s.base.games i (omega (arith, there, st.base.count)) in
+    let is = not_placed e kept seen.games i tag buf line why there ends in
+    let same = read-is kept st.games seen.games i is.head is.game s.base held.0 st.told is.read st.base held.1 in
+    (held.0, held.1, refusal-read kept st.games s.base held.0 tag is.head is.game (Some line) st.base same (refused_so e _ _ line is.why ends))
+
+pub refused_stands : (kept : Kept) (filter : List (Option ℕ)) (saved : List SavedFilter) (seen seen' : Seen) (s : State) (i : ℕ) (tag : TagEdit) (e : EditError) (buf line : List ℕ)
+    → Stands (held_by kept filter saved) seen s → i < length kept.entries → WhyNotTagged kept seen.games i tag buf e → refused_edit e ≡ Ok line → seen' ≡ seen
+    → Stands (held_by kept filter saved) seen' (tag_after s i tag)
+refused_stands kept filter saved seen seen' s i tag e buf line st there why ends same =
+    let refused = refused_line kept filter saved seen s i tag e buf line st there why ends in
+    let after : s ≡ tag_after s i tag = ap (λ (r : Option (List ℕ)). unless_refused r s (tagged i tag s.base)) (sym refused.2) ∙ ap (tagged_there i tag s) (sym refused.1) in
+    subst (Stands (held_by kept filter saved) seen') after (subst (λ (x : Seen). Stands (held_by kept filter saved) x s) (sym same) st)
+
+pub refused_says : (kept : Kept) (filter : List (Option ℕ)) (saved : List SavedFilter) (seen : Seen) (s : State) (i : ℕ) (tag : TagEdit) (e : EditError) (buf line : List ℕ)
+    → Stands (held_by kept filter saved) seen s → i < length kept.entries → WhyNotTagged kept seen.games i tag buf e → refused_edit e ≡ Ok line → line ≡ tag_text s i tag
+refused_says kept filter saved seen s i tag e buf line st there why ends =
+    let refused = refused_line kept filter saved seen s i tag e buf line st there why ends in
+    ap (λ (r : Option (List ℕ)). unwrap_or r (game_line (codes "tagged ") i)) (sym refused.2) ∙ ap (tag_line_there i tag s) (sym refused.1)
+
+pub is_there : (e : EditError) (kept : Kept) (told : Option (List ℕ)) (i : ℕ) (tag : TagEdit) (buf : List ℕ) → WhyNotTagged kept told i tag buf e → i < length kept.entries → IsThere e
+is_there (edit.NoGame n) kept told i tag buf why there = absurd (omega (arith, why.1, there))
+is_there (edit.TooLong n) kept told i tag buf why there = tt
+is_there (edit.Full what) kept told i tag buf why there = tt
+is_there (edit.Changed g sig found) kept told i tag buf why there = tt
+is_there edit.Failed kept told i tag buf why there = tt
+is_there edit.Memory kept told i tag buf why there = tt
+
+-- Told files end it by a device alone.
+unchanged_told : (kept : Kept) (games : List ℕ) (told : Option (List ℕ)) (base : Base) → told ≡ Some games → Represents kept games base
+    → IfSome told (λ bytes. (other : Base) → Represents kept bytes other → ⊥) → ⊥
+unchanged_told kept games told base same is none =
+    let P : Option (List ℕ) → Type 0 = λ o. IfSome o (λ bytes. (other : Base) → Represents kept bytes other → ⊥) in
+    (subst P same none) base is
+
+device_so : (e : EditError) (h : Halt) (kept : Kept) (games : List ℕ) (told : Option (List ℕ)) (base : Base) → told ≡ Some games → Represents kept games base
+    → IfChanged e (IfSome told (λ bytes. (other : Base) → Represents kept bytes other → ⊥)) → refused_edit e ≡ Err h → IsDevice h
+device_so (edit.TooLong n) h kept games told base same is changed ends = cc
+device_so (edit.Full what) h kept games told base same is changed ends = cc
+device_so (edit.NoGame n) h kept games told base same is changed ends = let e : halt.Device stop.Memory ≡ h = cc in subst IsDevice e tt
+device_so (edit.Changed g sig found) h kept games told base same is changed ends = absurd (unchanged_told kept games told base same is changed)
+device_so edit.Failed h kept games told base same is changed ends = let e : halt.Device stop.Files ≡ h = cc in subst IsDevice e tt
+device_so edit.Memory h kept games told base same is changed ends = let e : halt.Device stop.Memory ≡ h = cc in subst IsDevice e tt
+
+pub tag_device : (e : EditError) (h : Halt) (kept : Kept) (filter : List (Option ℕ)) (saved : List SavedFilter) (seen : Seen) (s : State) → Stands (held_by kept filter saved) seen s
+    → IfChanged e (IfSome seen.games (λ bytes. (other : Base) → Represents kept bytes other → ⊥)) → EndsAs (refused_edit e) h → IsDevice h
+tag_device e h kept filter saved seen s st changed (inl memory) = subst IsDevice (sym memory) tt
+tag_device e h kept filter saved seen s st changed (inr ends) = device_so e h kept st.games seen.games s.base st.told st.base changed ends
+
+-- ---- what the files carry then
+
+unless_carried : (r : Option (List ℕ)) (s : State) (base : Base) → (unless_refused r s base).carried ≡ s.carried
+unless_carried (Some line) s base = refl
+unless_carried None s base = refl
+
+there_carried : (i : ℕ) (tag : TagEdit) (s : State) (held : Option Held) → (tagged_there i tag s held).carried ≡ s.carried
+there_carried i tag s (Some held) = unless_carried (refusal_of s.base (edited held.head tag) held.game) s (tagged i tag s.base)
+there_carried i tag s None = refl
+
+pub tag_carried : (s : State) (i : ℕ) (tag : TagEdit) → (tag_after s i tag).carried ≡ s.carried
+tag_carried s i tag = there_carried i tag s (slice_get s.base.games i)
+
+-- What the command asks is what it costs.
+pub tag_price : (kept : Kept) (game : ℕ) → len_at kept.entries game ≡ len_in (λ (x : Look). x.len) (slice_get (looks_in kept) game)
+tag_price kept game = len_looks (look_at kept.names) kept.entries game
+
+-- A game that is not there: its line was written or broken off.
+pub no_game_serves : {A : Type 0} (r : Result A Halt) (holding : Holding) (seen : Seen) (s : State) (number : ℕ) (tag : TagEdit) (line : List ℕ) (told told' : Option (List ℕ)) → Stands holding seen s
+    → length holding.kept.entries ≤ number → line ≡ no_game_line number → OnOk r (told' ≡ adds told line) → Halted [] line told told' → IfErr r IsOutput → Serves works (Stands holding seen) Broken s (tag_work number tag) told told' r
+no_game_serves r holding seen s number tag line told told' st past is written halted output =
+    let none : slice_get s.base.games number ≡ None = slice_get_past s.base.games number (omega (arith, past, st.base.count)) in
+    let text : line ≡ tag_text s number tag = is ∙ ap (tag_line_there number tag s) (sym none) in
+    let state : s ≡ tag_after s number tag = ap (tagged_there number tag s) (sym none) in
+    line_serves r holding (tag_work number tag) line seen s told told' (subst (Stands holding seen) state st) text written halted output

@@ -1,0 +1,4 @@
+pub mod Compacting
+pub mod Editing
+pub mod Ends
+pub mod Saving

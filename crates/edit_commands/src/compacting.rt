@@ -1,0 +1,95 @@
+//! The command that compacts the base.
+ghost use Rattle.std.specs.Prelude.{◌≡◌, ◌≤◌, ◌+◌, Ok, IfOk, IfErr, OnOk};
+ghost use Rattle.base_core.specs.Compacted.{compacted};
+ghost use Rattle.command_runs.specs.Counts.{Causes, counts};
+ghost use Rattle.command_runs.specs.Endings.{Serves};
+ghost use Rattle.compact_base.specs.Compacting.{kept_len};
+ghost use Rattle.edit_commands.specs.Compacting.{compact_after, compact_text, compacted_line, compact_work};
+ghost use Rattle.edit_commands.specs.Ends.{uncompacted};
+ghost use Rattle.shell_state.specs.Carrying.{StillCarry};
+ghost use Rattle.shell_state.specs.Ends.{EndsAs, IsDevice};
+ghost use Rattle.shell_state.specs.Stands.{Stands, Sound, Broken, WhyHalt, Asks};
+ghost use Rattle.shell_state.specs.State.{State};
+ghost use Rattle.shell_state.specs.Work.{works};
+
+use base_core::What;
+use base_files::{Files, Sink, Stop};
+use compact_base::CompactError;
+use filter_seat::renumber_all;
+use shell_state::{Halt, Machine, error_line, full_words, write_line};
+use std::alloc::{AllocError, Global};
+
+/// compact
+pub fn compact<F: Files, K: Sink>(
+    alloc: Global,
+    machine: &mut Machine,
+    files: &mut F,
+    out: &mut K,
+) -> Result<(), Halt>
+    requires sound { Sound machine.old (F.seen files.old) }
+    ensures serves { (s : State) → Stands machine.old (F.seen files.old) s → Serves works (Stands machine.new (F.seen files.new)) Broken s compact_work (K.taken out.old) (K.taken out.new) result }
+    ensures sound { OnOk result (Sound machine.new (F.seen files.new)) }
+    ensures carries { (s : State) → Stands machine.old (F.seen files.old) s → IfErr result (λ _. StillCarry (F.seen files.new) s (Some compacted)) }
+    ensures choices { (F.seen files.new).choices ≡ (F.seen files.old).choices }
+    ensures asks { Asks machine.old compact_work (F.asked files.old) (F.asked files.new) }
+    ensures causes { Causes WhyHalt result (counts (F.faults files.old) 0 (K.faults out.old)) (counts (F.faults files.new) 0 (K.faults out.new)) }
+{
+    match compact_files(alloc, machine, files) {
+        Ok(line) => write_line(out, line.as_slice()),
+        Err(halt) => Err(halt),
+    }
+}
+
+// Leaves the games that are not deleted and moves the filters with them, and gives the line for it.
+fn compact_files<F: Files>(
+    alloc: Global,
+    machine: &mut Machine,
+    files: &mut F,
+) -> Result<Vec<u8>, Halt>
+    requires sound { Sound machine.old (F.seen files.old) }
+    ensures line { (s : State) → Stands machine.old (F.seen files.old) s → IfOk result (λ line. line.items ≡ compact_text s) }
+    ensures stands { (s : State) → Stands machine.old (F.seen files.old) s → OnOk result (Stands machine.new (F.seen files.new) (compact_after s)) }
+    ensures devices { (s : State) → Stands machine.old (F.seen files.old) s → IfErr result IsDevice }
+    ensures sound { OnOk result (Sound machine.new (F.seen files.new)) }
+    ensures carries { (s : State) → Stands machine.old (F.seen files.old) s → StillCarry (F.seen files.new) s (Some compacted) }
+    ensures choices { (F.seen files.new).choices ≡ (F.seen files.old).choices }
+    ensures asks { F.asked files.new ≤ F.asked files.old + kept_len machine.old.kept.entries }
+    ensures causes { Causes WhyHalt result (counts (F.faults files.old) 0 0) (counts (F.faults files.new) 0 0) }
+{
+    let games = machine.games();
+    let block = machine.block.as_mut_slice();
+    let compacted = compact_base::compact(alloc, &mut machine.base, files, block);
+    machine.keeps_sound();
+    match compacted {
+        Ok(renumbering) => {
+            renumber_all(
+                &mut machine.filter,
+                machine.saved.as_mut_slice(),
+                &renumbering,
+            );
+            Ok(compacted_line(alloc, games, renumbering.kept())?)
+        }
+        Err(error) => uncompacted(alloc, error),
+    }
+}
+
+// The error line of a base that is not compacted, or how the command ends.
+fn uncompacted(alloc: Global, error: CompactError) -> Result<Vec<u8>, Halt>
+    ensures line { IfOk result (λ line. uncompacted error ≡ Ok line.items) }
+    ensures halt { IfErr result (EndsAs (uncompacted error)) }
+{
+    match error {
+        CompactError::Full => Ok(error_line(alloc, full_words(What::File))?),
+        CompactError::Failed => Err(Halt::Device(Stop::Files)),
+        CompactError::Memory => Err(Halt::Device(Stop::Memory)),
+        CompactError::Changed { game, kept, found } => Err(Halt::Changed { game, kept, found }),
+    }
+}
+
+// `compacted A to B`.
+fn compacted_line(alloc: Global, games: u32, kept: u32) -> Result<Vec<u8>, AllocError>
+    ensures line { IfOk result (λ line. line.items ≡ compacted_line games kept) }
+{
+    let line = format!(in alloc; "compacted {games} to {kept}\n")?;
+    Ok(line.into_bytes())
+}

@@ -1,0 +1,55 @@
+-- FilterLaws
+use Rattle.std.proofs.Common.{◌≡◌, ℕ, suc, ◌+◌, [], ◌∷◌, length, refl, ap, Option, ◌<◌, arith, ◌≤◌, List, All, sym, subst}
+use Rattle.std.proofs.lemmas.Bool.Decides.{nat_tests}
+use Rattle.std.specs.Prelude.{nat_le, min}
+use Rattle.base_core.specs.Represents.{Kept}
+use Rattle.game_filter.specs.Filter.{restricted_from, restricted, entry_within}
+use Rattle.filter_commands.specs.Filters.{drop_line, drop_work}
+use Rattle.filter_seat.specs.SavedFilters.{dropped_in}
+use Rattle.filter_seat.specs.declared.saved.SavedFilter.{SavedFilter}
+use Rattle.shell_state.proofs.Quietly.{Plies, quiet_by, fits_saved}
+use Rattle.shell_state.specs.Stands.{Holding, Fits, Quiet}
+
+pub length_restricted_from : (i first last : ℕ) (plies : Plies) → length (restricted_from i first last plies) ≡ length plies
+length_restricted_from i first last [] = refl
+length_restricted_from i first last (ply ∷ plies) = ap (λ (n : ℕ). suc n) (length_restricted_from (i + 1) first last plies)
+
+pub length_restricted : (first last : ℕ) (plies : Plies) → length (restricted first last plies) ≡ length plies
+length_restricted first last plies = length_restricted_from 0 first last plies
+
+-- The numbers of `restrict` may be cut to the number of games.
+within_cut : (m i first last : ℕ) (ply : Option ℕ) → i < m → entry_within (min first m) (min last m) i ply ≡ entry_within first last i ply
+within_cut m i first last ply less =
+    let low : nat_le (min first m) i ≡ nat_le first i = grind (arith, nat_tests) in
+    let high : nat_le i (min last m) ≡ nat_le i last = grind (arith, nat_tests) in
+    rw (low, high) refl
+
+cut_from : (m i first last : ℕ) (plies : Plies) → i + length plies ≤ m → restricted_from i (min first m) (min last m) plies ≡ restricted_from i first last plies
+cut_from m i first last [] within = refl
+cut_from m i first last (ply ∷ plies) within =
+    let here : entry_within (min first m) (min last m) i ply ≡ entry_within first last i ply = within_cut m i first last ply (omega arith) in
+    let later : restricted_from (i + 1) (min first m) (min last m) plies ≡ restricted_from (i + 1) first last plies = cut_from m (i + 1) first last plies (omega arith) in
+    cc
+
+pub restricted_cut : (m first last : ℕ) (plies : Plies) → m ≡ length plies → restricted (min first m) (min last m) plies ≡ restricted first last plies
+restricted_cut m first last plies games = cut_from m 0 first last plies (omega arith)
+
+-- `drop`, whether a filter of the name was kept or not.
+drop_in : (kept : Kept) (filter : Plies) (saved later : List SavedFilter) (name line : List ℕ) → later ≡ dropped_in saved name → line ≡ drop_line saved name
+    → ((games : ℕ) → All (λ (f : SavedFilter). length f.plies ≡ games) saved → All (λ (f : SavedFilter). length f.plies ≡ games) later)
+    → Fits (record { kept = kept; filter = filter; saved = saved })
+    → Quiet (record { kept = kept; filter = filter; saved = saved }) (drop_work name) (record { kept = kept; filter = filter; saved = later }) line
+drop_in kept filter saved later name line dropped written all fits =
+    let old : Holding = record { kept = kept; filter = filter; saved = saved } in
+    let new : Holding = record { kept = kept; filter = filter; saved = later } in
+    quiet_by (λ f s. f) (λ f s. dropped_in s name) (λ f s. drop_line s name) old new (drop_work name) line (λ s. refl) (λ s. refl) refl refl dropped written
+    (fits_saved old new refl refl (all (length kept.entries) fits.saved) fits)
+
+pub drop_quiet : (old : Holding) (kept : Kept) (filter : Plies) (saved later : List SavedFilter) (name line : List ℕ)
+    → old ≡ record { kept = kept; filter = filter; saved = saved } → later ≡ dropped_in saved name → line ≡ drop_line saved name
+    → ((games : ℕ) → All (λ (f : SavedFilter). length f.plies ≡ games) saved → All (λ (f : SavedFilter). length f.plies ≡ games) later)
+    → Fits old → Quiet old (drop_work name) (record { kept = kept; filter = filter; saved = later }) line
+drop_quiet old kept filter saved later name line view dropped written all fits =
+    let new : Holding = record { kept = kept; filter = filter; saved = later } in
+    let P : Holding → Type 0 = λ o. Quiet o (drop_work name) new line in
+    subst P (sym view) (drop_in kept filter saved later name line dropped written all (subst Fits view fits))

@@ -1,0 +1,10 @@
+use Rattle.std.proofs.Common.{arith, get_or}
+use Rattle.std.proofs.lemmas.List.{get_or_default}
+use Rattle.std.proofs.lemmas.List.Edits.{map_over_more}
+use Rattle.filter_seat.proofs.saved.leave_out.Goals as goal
+use Rattle.filter_seat.specs.SavedFilters.{without_last}
+
+pub loop-kept-preserved : goal.loop-kept-preserved
+loop-kept-preserved c =
+    rw c.in_ok-leave_one_out.ensures.left_out
+    (map_over_more without_last c.args.saved.now c.loop-kept.saved c.loop-kept.kept-index (get_or c.loop-kept.saved c.loop-kept.kept-index c.kept-item.result) (omega (arith, c.loop-kept-test.true, c.loop-kept.auto.kept-index-end)) c.loop-kept.invariant (get_or_default c.loop-kept.saved c.loop-kept.kept-index c.kept-item.result (get_or c.loop-kept.saved c.loop-kept.kept-index c.kept-item.result) (omega (arith, c.loop-kept-test.true, c.loop-kept.auto.kept-index-end, c.loop-kept.auto.saved))))

@@ -1,0 +1,8 @@
+//! Filters that are kept by name, beside the current one: what one user of an open base has of his own. Nothing here knows a base.
+#![tactic(auto)]
+
+mod saved;
+
+pub use saved::{
+    SavedFilter, forget, keep, leave_out, meet, named, put_at_start, renumber_all, take_from, unite,
+};

@@ -1,0 +1,71 @@
+-- Laws of commands that have a body: what they owe a state, and what breaks them off.
+use Rattle.std.proofs.Common.{◌≡◌, ℕ, sym, ap, ◌∙◌, List, [], ◌++◌, Option, Result, Ok, Err, OnOk, subst, refl}
+use Rattle.std.specs.Prelude.{IfErr}
+use Rattle.base_files.specs.Seen.{Seen}
+use Rattle.base_files.specs.Told.{adds}
+use Rattle.base_files.specs.declared.faults.Stop.TheVariants as stop
+use Rattle.command_runs.proofs.Joining.{halted_after, halted_unsure, written_after, halted_all, halted_more}
+use Rattle.command_runs.specs.Endings.{Done, Halted, Serves, Cut}
+use Rattle.command_runs.specs.Plain.{after_all, run}
+use Rattle.pgn_read.specs.Items.{items_of}
+use Rattle.intake_commands.specs.Importing.{Intake, imported_line, intake, none_taken, taken_in, import_text, import_work}
+use Rattle.intake_commands.specs.Intakes.{IsIntake}
+use Rattle.shell_state.proofs.Causing.{broken_by_output}
+use Rattle.shell_state.proofs.Served.{broken_by_body}
+use Rattle.shell_state.specs.Ends.{IsOutput, IsBodyFault}
+use Rattle.shell_state.specs.Stands.{Holding, Stands, Broken}
+use Rattle.shell_state.specs.State.{State}
+use Rattle.shell_state.specs.Work.{works}
+use Rattle.shell_state.specs.declared.halt.Halt.{Halt}
+use Rattle.shell_state.specs.declared.halt.Halt.TheVariants as halt
+
+-- Its last line is that of the items.
+last_line : (holding : Holding) (seen : Seen) (i : Intake) (added refused : ℕ) → IsIntake holding seen added refused i → imported_line added refused ≡ imported_line i.added i.refused
+last_line holding seen i added refused is =
+    ap (λ (n : ℕ). imported_line n refused) (sym is.added) ∙ ap (λ (n : ℕ). imported_line i.added n) (sym is.refused)
+
+pub import_line : {A : Type 0} (r : Result A Halt) (holding : Holding) (seen : Seen) (s : State) (text line : List ℕ) (added refused : ℕ) (told told' told'' : Option (List ℕ))
+    → Done (IsIntake holding seen added refused) (after_all intake (none_taken s) (items_of text)) (run intake (none_taken s) (items_of text)) told told'
+    → line ≡ imported_line added refused → OnOk r (told'' ≡ adds told' line) → Halted [] line told' told'' → IfErr r IsOutput
+    → Serves works (Stands holding seen) Broken s (import_work text) told told'' r
+import_line (Ok x) holding seen s text line added refused told told' told'' done is written halted output =
+    let front : List ℕ = run intake (none_taken s) (items_of text) in
+    let all : line ≡ imported_line (taken_in s text).added (taken_in s text).refused = is ∙ last_line holding seen (taken_in s text) added refused done.stands in
+    record {
+      stands = done.stands.stands;
+      written = written_after front line told told' told'' done.written written ∙ ap (λ (l : List ℕ). adds told (front ++ l)) all;
+    }
+import_line (Err e) holding seen s text line added refused told told' told'' done is written halted output =
+    let front : List ℕ = run intake (none_taken s) (items_of text) in
+    let all : line ≡ imported_line (taken_in s text).added (taken_in s text).refused = is ∙ last_line holding seen (taken_in s text) added refused done.stands in
+    let P : List ℕ → Type 0 = λ l. Halted [] (front ++ l) told told'' in
+    record {
+      wrote = subst P all (halted_unsure (front ++ []) (front ++ line) told told'' (halted_after front [] line told told' told'' done.written halted));
+      broken = broken_by_output s (import_work text) e output;
+    }
+
+-- Memory ran out behind the items.
+pub import_short : (holding : Holding) (seen : Seen) (s : State) (text : List ℕ) (added refused : ℕ) (told told' : Option (List ℕ)) (e : Halt)
+    → Done (IsIntake holding seen added refused) (after_all intake (none_taken s) (items_of text)) (run intake (none_taken s) (items_of text)) told told' → IsBodyFault e
+    → Cut (Broken s (import_work text) e) (import_text s text) told told'
+import_short holding seen s text added refused told told' e done fault =
+    let front : List ℕ = run intake (none_taken s) (items_of text) in
+    record {
+      wrote = halted_more [] front (imported_line (taken_in s text).added (taken_in s text).refused) told told' (halted_unsure front front told told' (halted_all front told told' done.written));
+      broken = broken_by_body s (import_work text) e refl refl fault;
+    }
+
+pub import_memory : {A : Type 0} (r : Result A Halt) (holding : Holding) (seen : Seen) (s : State) (text : List ℕ) (added refused : ℕ) (told told' : Option (List ℕ)) → r ≡ Err (halt.Device stop.Memory)
+    → Done (IsIntake holding seen added refused) (after_all intake (none_taken s) (items_of text)) (run intake (none_taken s) (items_of text)) told told'
+    → Serves works (Stands holding seen) Broken s (import_work text) told told' r
+import_memory {A} r holding seen s text added refused told told' is done =
+    let P : Result A Halt → Type 0 = λ x. Serves works (Stands holding seen) Broken s (import_work text) told told' x in
+    subst P (sym is) (import_short holding seen s text added refused told told' (halt.Device stop.Memory) done tt)
+
+-- It was broken off among them.
+pub import_cut : (s : State) (text : List ℕ) (told told' : Option (List ℕ)) (e : Halt) → Halted [] (run intake (none_taken s) (items_of text)) told told' → IsBodyFault e
+    → Cut (Broken s (import_work text) e) (import_text s text) told told'
+import_cut s text told told' e halted fault = record {
+  wrote = halted_more [] (run intake (none_taken s) (items_of text)) (imported_line (taken_in s text).added (taken_in s text).refused) told told' halted;
+  broken = broken_by_body s (import_work text) e refl refl fault;
+}

@@ -1,0 +1,5 @@
+pub mod AddLaws
+pub mod BodyLaws
+pub mod DemoLaws
+pub mod IntakeLaws
+pub mod OneGameLaws

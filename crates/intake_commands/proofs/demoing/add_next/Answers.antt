@@ -1,0 +1,19 @@
+use Rattle.std.proofs.Common.{None, ◌∙◌}
+use Rattle.intake_commands.proofs.DemoLaws.{adding_more, refused_here}
+use Rattle.intake_commands.proofs.demoing.add_next.Goals as goal
+use Rattle.shell_state.proofs.CarryLaws.{carry_of}
+
+pub returns-in_err-head-clause-carries : goal.returns-in_err-head-clause-carries
+returns-in_err-head-clause-carries g c = λ s st. carry_of c.args.machine.now (g.F.Files.seen c.args.files.now) s None st
+
+pub returns-in-Ok-None-clause-adds : goal.returns-in-Ok-None-clause-adds
+returns-in-Ok-None-clause-adds g c = λ sum a so_far.
+    let put = rw c.in-Ok-None.field-0-is at (c.in-Ok-None.ensures.put a.state so_far.stands) in
+    adding_more c.args.machine.now c.add_made.new.machine (g.F.Files.seen c.args.files.now) (g.F.Files.seen c.add_made.new.files) c.args.generator.now sum a c.args.number _ c.from-more.result so_far
+    c.in_ok-head.ensures.made put.0 put.1 (c.from-more.ensures ∙ c.plies.ensures.plies)
+
+pub returns-in-Ok-Some-clause-adds : goal.returns-in-Ok-Some-clause-adds
+returns-in-Ok-Some-clause-adds g c = λ sum a so_far.
+    let put = rw c.in-Ok-Some.field-0-is at (c.in-Ok-Some.ensures.put a.state so_far.stands) in
+    refused_here c.args.machine.now (g.F.Files.seen c.args.files.now) c.args.generator.now sum a c.args.number _ c.add_made.new.machine (g.F.Files.seen c.add_made.new.files) c.in-Ok-Some.line.items so_far
+    c.in_ok-head.ensures.made put.0 put.1

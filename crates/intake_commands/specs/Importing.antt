@@ -1,0 +1,163 @@
+-- The commands that take games in: `import` and `replace`. This project's own.
+use Rattle.std.specs.Fmt.{decimal}
+use Rattle.std.specs.Prelude.{ℕ, ◌+◌, List, [], ◌∷◌, ◌++◌, codes, nat_lt, if◌then◌else◌, Option, Some, option_map, length, map, None, Result, Err, Ok, slice_get, true}
+use Rattle.base_core.specs.Base.{Base, Held}
+use Rattle.base_core.specs.Edited.{first_full}
+use Rattle.base_core.specs.Edits.{end_with, names_with, added, game_replaced}
+use Rattle.base_core.specs.declared.fault.What.{What}
+use Rattle.command_runs.specs.Plain.{Plain, after_all, run}
+use Rattle.game_codec.specs.Written.{longest, written_record}
+use Rattle.game_tree.specs.Game.{GameTree}
+use Rattle.game_tree.specs.declared.head.Head.{Head}
+use Rattle.pgn_read.specs.Items.{items_of}
+use Rattle.pgn_read.specs.declared.item.GameFault.{GameFault}
+use Rattle.pgn_read.specs.declared.item.GameWhat.{GameWhat}
+use Rattle.pgn_read.specs.declared.item.GameWhat.TheVariants as what
+use Rattle.pgn_read.specs.declared.item.Item.{Item}
+use Rattle.pgn_read.specs.declared.item.Item.TheVariants.{Good, Bad}
+use Rattle.filter_seat.specs.SavedFilters.{without_last, to_start, kept_to_start}
+use Rattle.shell_state.specs.Lines.{san_words, game_line, line_of, no_game_line}
+use Rattle.shell_state.specs.Refusing.{full_words, too_long_words, refusal_of}
+use Rattle.shell_state.specs.State.{State, with_base}
+use Rattle.shell_state.specs.Work.{writing, Work}
+use Rattle.shell_state.specs.Work.Price.{by_looks}
+
+-- ---- the lines of items
+
+-- `error: game K ..`: a line that names an item of a body, the first being 1.
+abbrev pub item_line : ℕ → List ℕ → List ℕ
+item_line number words = codes "error: game " ++ decimal number ++ words ++ 10 ∷ []
+
+-- What is wrong with a token of a game's text.
+abbrev pub what_words : GameWhat → List ℕ
+what_words what.Tag = codes "bad tag"
+what_words what.TagTooLong = codes "tag too long"
+what_words (what.San fault) = san_words fault
+what_words (what.Fen fault) = codes "bad position"
+what_words what.Brace = codes "open comment"
+what_words what.Paren = codes "unbalanced variation"
+what_words what.Depth = codes "variation too deep"
+what_words what.Token = codes "bad token"
+what_words what.TooLong = codes "game too long"
+
+-- `error: game K line L column C: WHAT`
+abbrev pub fault_words : GameFault → List ℕ
+fault_words fault = codes " line " ++ decimal fault.line ++ codes " column " ++ decimal fault.column ++ codes ": " ++ what_words fault.what
+
+abbrev pub faulty_line : ℕ → GameFault → List ℕ
+faulty_line number fault = item_line number (fault_words fault)
+
+-- Why a game is not added, if it is not: its record is too long, or this would be full.
+abbrev pub refused_words : ℕ → Option What → Option (List ℕ)
+refused_words len full = if nat_lt longest len then Some too_long_words else option_map full_words full
+
+abbrev pub not_added : Base → Head → GameTree → Option (List ℕ)
+not_added base head game =
+    refused_words (length (written_record head.tags game)) (first_full (length base.games + 1) (names_with head base.names) (end_with head game base.end))
+
+-- ---- import <<WORD
+
+-- The state, and how many games were added and how many items refused.
+pub record Intake : Type 0 where
+  pub state : State
+  pub added : ℕ
+  pub refused : ℕ
+
+abbrev pub none_taken : State → Intake
+none_taken s = record { state = s; added = 0; refused = 0 }
+
+-- The number of the next item.
+abbrev pub next_number : Intake → ℕ
+next_number i = i.added + i.refused + 1
+
+-- A game is added: it is in at ply 0, and in no filter that is kept.
+abbrev pub with_game : State → Head → GameTree → State
+with_game s head game = record (with_base s (added head game s.base)) { filter = s.filter ++ Some 0 ∷ []; saved = map without_last s.saved }
+
+abbrev pub one_refused : Intake → Intake
+one_refused i = record i { refused = i.refused + 1 }
+
+abbrev pub unless_not_added : Option (List ℕ) → Intake → Head → GameTree → Intake
+unless_not_added (Some words) i head game = one_refused i
+unless_not_added None i head game = record i { state = with_game i.state head game; added = i.added + 1 }
+
+abbrev pub added_line : Option (List ℕ) → Intake → List ℕ
+added_line (Some words) i = item_line (next_number i) (codes ": " ++ words)
+added_line None i = game_line (codes "added ") (length i.state.base.games)
+
+abbrev pub item_after : Intake → Item → Intake
+item_after i (Good head game) = unless_not_added (not_added i.state.base head game) i head game
+item_after i (Bad fault) = one_refused i
+
+abbrev pub item_text : Intake → Item → List ℕ
+item_text i (Good head game) = added_line (not_added i.state.base head game) i
+item_text i (Bad fault) = faulty_line (next_number i) fault
+
+-- The command is a run of the items of its body.
+abbrev pub intake : Plain Intake Item
+intake = record { after = item_after; text = item_text }
+
+abbrev pub taken_in : State → List ℕ → Intake
+taken_in s body = after_all intake (none_taken s) (items_of body)
+
+-- `imported A refused R`
+abbrev pub imported_line : ℕ → ℕ → List ℕ
+imported_line added refused = codes "imported " ++ decimal added ++ codes " refused " ++ decimal refused ++ 10 ∷ []
+
+abbrev pub import_after : State → List ℕ → State
+import_after s body = (taken_in s body).state
+
+abbrev pub import_text : State → List ℕ → List ℕ
+import_text s body = run intake (none_taken s) (items_of body) ++ imported_line (taken_in s body).added (taken_in s body).refused
+
+-- ---- replace G <<WORD
+
+abbrev pub with_other_game : State → ℕ → Head → GameTree → State
+with_other_game s game head tree =
+    record (with_base s (game_replaced game head tree s.base)) { filter = to_start game s.filter; saved = map (kept_to_start game) s.saved }
+
+abbrev pub one_game_line : List ℕ
+one_game_line = line_of (codes "error: one game expected")
+
+-- The line of the first faulty item, the first item having this number.
+abbrev pub first_faulty : ℕ → List Item → Option (List ℕ)
+first_faulty number [] = None
+first_faulty number (Good head game ∷ items) = first_faulty (number + 1) items
+first_faulty number (Bad fault ∷ items) = Some (faulty_line number fault)
+
+-- A game that can take the place of another one, or the error line.
+abbrev pub unless_line : Option (List ℕ) → Result (Head × GameTree) (List ℕ) → Result (Head × GameTree) (List ℕ)
+unless_line (Some line) game = Err line
+unless_line None game = game
+
+abbrev pub the_one : Base → List Item → Result (Head × GameTree) (List ℕ)
+the_one base (Good head game ∷ []) = unless_line (refusal_of base head game) (Ok (head, game))
+the_one base _ = Err one_game_line
+
+abbrev pub new_game : State → ℕ → Option Held → List Item → Result (Head × GameTree) (List ℕ)
+new_game s game None items = Err (no_game_line game)
+new_game s game (Some held) items = unless_line (first_faulty 1 items) (the_one s.base items)
+
+abbrev pub the_new : State → ℕ → List ℕ → Result (Head × GameTree) (List ℕ)
+the_new s game body = new_game s game (slice_get s.base.games game) (items_of body)
+
+abbrev pub state_with : State → ℕ → Result (Head × GameTree) (List ℕ) → State
+state_with s game (Ok new) = with_other_game s game new.0 new.1
+state_with s game (Err line) = s
+
+abbrev pub line_with : ℕ → Result (Head × GameTree) (List ℕ) → List ℕ
+line_with game (Ok new) = game_line (codes "replaced ") game
+line_with game (Err line) = line
+
+abbrev pub replace_after : State → ℕ → List ℕ → State
+replace_after s game body = state_with s game (the_new s game body)
+
+abbrev pub replace_text : State → ℕ → List ℕ → List ℕ
+replace_text s game body = line_with game (the_new s game body)
+
+-- What the two do with a body.
+abbrev pub import_work : List ℕ → Work
+import_work body = record (writing (λ s. import_after s body) (λ s. import_text s body) (by_looks (λ looks plies. 0))) { body = true }
+
+abbrev pub replace_work : ℕ → List ℕ → Work
+replace_work game body = record (writing (λ s. replace_after s game body) (λ s. replace_text s game body) (by_looks (λ looks plies. 0))) { body = true }

@@ -1,0 +1,5 @@
+pub mod Demo
+pub mod Demoing
+pub mod Ends
+pub mod Importing
+pub mod Intakes

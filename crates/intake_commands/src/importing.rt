@@ -1,0 +1,249 @@
+//! The command that takes the games of a body in.
+ghost use Rattle.std.specs.Prelude.{◌≡◌, ◌<◌, ℕ, ◌+◌, ◌++◌, [], false, codes, List, Option, None, Some, Ok, IfOk, IfErr, OnOk};
+ghost use Rattle.base_files.specs.Told.{adds};
+ghost use Rattle.command_runs.specs.Counts.{Causes, counts};
+ghost use Rattle.command_runs.specs.Endings.{Halted, Serves};
+ghost use Rattle.pgn_read.specs.Fit.{IsFit, IsFitGame};
+ghost use Rattle.pgn_read.specs.Items.{items_of};
+ghost use Rattle.pgn_read.specs.Readers.{told};
+ghost use Rattle.pgn_read.specs.declared.item.Item.TheVariants as item;
+ghost use Rattle.intake_commands.specs.Ends.{refused_item, unread_halt};
+ghost use Rattle.intake_commands.specs.Importing.{Intake, intake, item_after, item_line, item_text, next_number, import_work};
+ghost use Rattle.intake_commands.specs.Intakes.{Counted, StandsLater, TakesIn, TookIn, TookNext};
+ghost use Rattle.shell_state.specs.Carrying.{StillCarry};
+ghost use Rattle.shell_state.specs.Ends.{EndsAs, IsDevice, IsFault, IsOutput, IsThere};
+ghost use Rattle.shell_state.specs.Refusing.{full_words};
+ghost use Rattle.shell_state.specs.Stands.{Stands, Sound, WhyHalt, Broken};
+ghost use Rattle.shell_state.specs.State.{State};
+ghost use Rattle.shell_state.specs.Work.{works};
+
+use crate::item_lines::{faulty_line, imported_line, item_line};
+use base_core::{EditError, What};
+use base_files::{Files, Sink, Source, Stop};
+use filter_seat::leave_out;
+use game_tree::{Game, Head};
+use pgn_read::{Item, PgnError, Reader};
+use shell_state::{Halt, Machine, full_words, game_line, halt_of, write_line};
+use std::alloc::{AllocError, Global};
+
+/// import <<WORD
+pub fn import<F: Files, B: Source, K: Sink>(
+    alloc: Global,
+    machine: &mut Machine,
+    files: &mut F,
+    body: &mut B,
+    out: &mut K,
+) -> Result<(), Halt>
+    requires sound { Sound machine.old (F.seen files.old) }
+    ensures serves { (s : State) (text : List ℕ) → Stands machine.old (F.seen files.old) s → B.left body.old ≡ Some text → Serves works (Stands machine.new (F.seen files.new)) Broken s (import_work text) (K.taken out.old) (K.taken out.new) result }
+    ensures sound { OnOk result (Sound machine.new (F.seen files.new)) }
+    ensures carries { (s : State) → Stands machine.old (F.seen files.old) s → IfErr result (λ _. StillCarry (F.seen files.new) s None) }
+    ensures choices { (F.seen files.new).choices ≡ (F.seen files.old).choices }
+    ensures none_asked { F.asked files.new ≡ F.asked files.old }
+    ensures same { B.origin body.new ≡ B.origin body.old }
+    ensures causes { Causes WhyHalt result (counts (F.faults files.old) (B.faults body.old) (K.faults out.old)) (counts (F.faults files.new) (B.faults body.new) (K.faults out.new)) }
+{
+    let (added, refused) = match take_in(alloc, machine, files, body, out) {
+        Ok(counts) => counts,
+        Err(halt) => return Err(halt),
+    };
+    let line = imported_line(alloc, added, refused)?;
+    write_line(out, line.as_slice())
+}
+
+// Takes the items of the body in, and says how many games were added and how many items refused.
+fn take_in<F: Files, B: Source, K: Sink>(
+    alloc: Global,
+    machine: &mut Machine,
+    files: &mut F,
+    body: &mut B,
+    out: &mut K,
+) -> Result<(u64, u64), Halt>
+    requires sound { Sound machine.old (F.seen files.old) }
+    ensures takes { (s : State) (text : List ℕ) → Stands machine.old (F.seen files.old) s → B.left body.old ≡ Some text → TakesIn machine.new (F.seen files.new) s (items_of text) (K.taken out.old) (K.taken out.new) result }
+    ensures sound { OnOk result (Sound machine.new (F.seen files.new)) }
+    ensures carries { (s : State) → Stands machine.old (F.seen files.old) s → StillCarry (F.seen files.new) s None }
+    ensures choices { (F.seen files.new).choices ≡ (F.seen files.old).choices }
+    ensures none_asked { F.asked files.new ≡ F.asked files.old }
+    ensures same { B.origin body.new ≡ B.origin body.old }
+    ensures causes { Causes WhyHalt result (counts (F.faults files.old) (B.faults body.old) (K.faults out.old)) (counts (F.faults files.new) (B.faults body.new) (K.faults out.new)) }
+{
+    let mut reader = Reader::new(alloc)?;
+    let mut added = 0u64;
+    for taken in 0..u64::MAX {
+        match take_next(alloc, machine, files, body, out, &mut reader, taken + 1) {
+            Ok(Some(was_added)) => added += u64::from(was_added),
+            Ok(None) => return Ok((added, taken - added)),
+            Err(halt) => return Err(halt),
+        }
+    }
+    Err(Halt::Device(Stop::Memory))
+}
+
+// Takes the next item of the body in, which has this number, and says whether its game was added; none where there is no more item.
+fn take_next<F: Files, B: Source, K: Sink>(
+    alloc: Global,
+    machine: &mut Machine,
+    files: &mut F,
+    body: &mut B,
+    out: &mut K,
+    reader: &mut Reader,
+    number: u64,
+) -> Result<Option<bool>, Halt>
+    requires from_one { 0 < number }
+    requires free { reader.old.stuck ≡ None }
+    requires sound { Sound machine.old (F.seen files.old) }
+    ensures took { (s : State) (text : List ℕ) (start : Option (List ℕ)) (added refused : ℕ) → TookIn machine.old (F.seen files.old) s text (told reader.old (B.left body.old)) start (K.taken out.old) added refused → added + refused + 1 ≡ number → TookNext machine.new (F.seen files.new) s text (told reader.new (B.left body.new)) start (K.taken out.new) added refused result }
+    ensures stays { (s : State) → Stands machine.old (F.seen files.old) s → OnOk result (StandsLater machine.new (F.seen files.new) s) }
+    ensures sound { OnOk result (Sound machine.new (F.seen files.new)) }
+    ensures free { OnOk result (reader.new.stuck ≡ None) }
+    ensures carries { (s : State) → Stands machine.old (F.seen files.old) s → StillCarry (F.seen files.new) s None }
+    ensures choices { (F.seen files.new).choices ≡ (F.seen files.old).choices }
+    ensures none_asked { F.asked files.new ≡ F.asked files.old }
+    ensures same { B.origin body.new ≡ B.origin body.old }
+    ensures causes { Causes WhyHalt result (counts (F.faults files.old) (B.faults body.old) (K.faults out.old)) (counts (F.faults files.new) (B.faults body.new) (K.faults out.new)) }
+{
+    let item = match reader.next(alloc, body) {
+        Ok(Some(item)) => item,
+        Ok(None) => return Ok(None),
+        Err(error) => return Err(unread(error)),
+    };
+    match take_item(alloc, machine, files, out, number, &item) {
+        Ok(added) => Ok(Some(added)),
+        Err(halt) => Err(halt),
+    }
+}
+
+// How a command ends whose body is not read.
+pub(crate) fn unread(error: PgnError) -> Halt
+    ensures halt { result ≡ unread_halt error }
+{
+    match error {
+        PgnError::Failed => Halt::Device(Stop::Read),
+        PgnError::Memory => Halt::Device(Stop::Memory),
+    }
+}
+
+// Takes an item in and writes its line, and says whether its game was added.
+fn take_item<F: Files, K: Sink>(
+    alloc: Global,
+    machine: &mut Machine,
+    files: &mut F,
+    out: &mut K,
+    number: u64,
+    item: &Item,
+) -> Result<bool, Halt>
+    requires fit { IsFit item.now }
+    requires sound { Sound machine.old (F.seen files.old) }
+    ensures serves { (i : Intake) → Stands machine.old (F.seen files.old) i.state → next_number i ≡ number → Serves intake (λ later. Stands machine.new (F.seen files.new) later.state) (λ _ _. IsFault) i item.now (K.taken out.old) (K.taken out.new) result }
+    ensures counted { (i : Intake) → Stands machine.old (F.seen files.old) i.state → IfOk result (λ added. Counted added i (item_after i item.now)) }
+    ensures sound { OnOk result (Sound machine.new (F.seen files.new)) }
+    ensures carries { (s : State) → Stands machine.old (F.seen files.old) s → StillCarry (F.seen files.new) s None }
+    ensures choices { (F.seen files.new).choices ≡ (F.seen files.old).choices }
+    ensures none_asked { F.asked files.new ≡ F.asked files.old }
+    ensures causes { Causes WhyHalt result (counts (F.faults files.old) 0 (K.faults out.old)) (counts (F.faults files.new) 0 (K.faults out.new)) }
+{
+    match add_item(alloc, machine, files, number, item) {
+        Ok(taken) => write_item(out, taken.0.as_slice(), taken.1),
+        Err(halt) => Err(halt),
+    }
+}
+
+// Writes the line of an item, and says whether its game was added.
+fn write_item<K: Sink>(out: &mut K, line: &[u8], added: bool) -> Result<bool, Halt>
+    ensures written { OnOk result (K.taken out.new ≡ adds (K.taken out.old) line.now) }
+    ensures halted { Halted [] line.now (K.taken out.old) (K.taken out.new) }
+    ensures added { IfOk result (λ told. told ≡ added) }
+    ensures output { IfErr result IsOutput }
+    ensures causes { Causes WhyHalt result (counts 0 0 (K.faults out.old)) (counts 0 0 (K.faults out.new)) }
+{
+    match write_line(out, line) {
+        Ok(()) => Ok(added),
+        Err(halt) => Err(halt),
+    }
+}
+
+// Takes an item in, and gives its line, and whether its game was added.
+fn add_item<F: Files>(
+    alloc: Global,
+    machine: &mut Machine,
+    files: &mut F,
+    number: u64,
+    item: &Item,
+) -> Result<(Vec<u8>, bool), Halt>
+    requires fit { IsFit item.now }
+    requires sound { Sound machine.old (F.seen files.old) }
+    ensures line { (i : Intake) → Stands machine.old (F.seen files.old) i.state → next_number i ≡ number → IfOk result (λ given. given.0.items ≡ item_text i item.now) }
+    ensures stands { (i : Intake) → Stands machine.old (F.seen files.old) i.state → OnOk result (Stands machine.new (F.seen files.new) (item_after i item.now).state) }
+    ensures counted { (i : Intake) → Stands machine.old (F.seen files.old) i.state → IfOk result (λ given. Counted given.1 i (item_after i item.now)) }
+    ensures devices { IfErr result IsDevice }
+    ensures sound { OnOk result (Sound machine.new (F.seen files.new)) }
+    ensures carries { (s : State) → Stands machine.old (F.seen files.old) s → StillCarry (F.seen files.new) s None }
+    ensures choices { (F.seen files.new).choices ≡ (F.seen files.old).choices }
+    ensures none_asked { F.asked files.new ≡ F.asked files.old }
+    ensures causes { Causes WhyHalt result (counts (F.faults files.old) 0 0) (counts (F.faults files.new) 0 0) }
+{
+    match item {
+        Item::Good(head, game) => add_game(alloc, machine, files, number, head, game),
+        Item::Bad(fault) => {
+            let line = faulty_line(alloc, number, *fault)?;
+            Ok((line, false))
+        }
+    }
+}
+
+// Adds a game, and gives its line, and whether it was added.
+fn add_game<F: Files>(
+    alloc: Global,
+    machine: &mut Machine,
+    files: &mut F,
+    number: u64,
+    head: &Head,
+    game: &Game,
+) -> Result<(Vec<u8>, bool), Halt>
+    requires fit { IsFitGame head.now game.now }
+    requires sound { Sound machine.old (F.seen files.old) }
+    ensures line { (i : Intake) → Stands machine.old (F.seen files.old) i.state → next_number i ≡ number → IfOk result (λ given. given.0.items ≡ item_text i (item.Good head.now game.now)) }
+    ensures stands { (i : Intake) → Stands machine.old (F.seen files.old) i.state → OnOk result (Stands machine.new (F.seen files.new) (item_after i (item.Good head.now game.now)).state) }
+    ensures counted { (i : Intake) → Stands machine.old (F.seen files.old) i.state → IfOk result (λ given. Counted given.1 i (item_after i (item.Good head.now game.now))) }
+    ensures devices { IfErr result IsDevice }
+    ensures sound { OnOk result (Sound machine.new (F.seen files.new)) }
+    ensures carries { (s : State) → Stands machine.old (F.seen files.old) s → StillCarry (F.seen files.new) s None }
+    ensures choices { (F.seen files.new).choices ≡ (F.seen files.old).choices }
+    ensures none_asked { F.asked files.new ≡ F.asked files.old }
+    ensures causes { Causes WhyHalt result (counts (F.faults files.old) 0 0) (counts (F.faults files.new) 0 0) }
+{
+    let added = machine.base.add(alloc, files, head, game);
+    machine.keeps_sound();
+    match added {
+        Ok(i) => {
+            let line = game_line(alloc, b"added ", u64::from(i))?;
+            machine.filter.push(alloc, Some(0))?;
+            leave_out(alloc, machine.saved.as_mut_slice())?;
+            Ok((line, true))
+        }
+        Err(error) => refused_item(alloc, number, error),
+    }
+}
+
+// The line of a game that is not added, and that it was not, or how the command ends.
+fn refused_item(alloc: Global, number: u64, error: EditError) -> Result<(Vec<u8>, bool), Halt>
+    requires there { IsThere error }
+    ensures line { IfOk result (λ given. (refused_item number error ≡ Ok given.0.items) × (given.1 ≡ false)) }
+    ensures halt { IfErr result (EndsAs (refused_item number error)) }
+{
+    match error {
+        EditError::TooLong(_) => Ok((item_line(alloc, number, b": record too long")?, false)),
+        EditError::Full(what) => Ok((full_item(alloc, number, what)?, false)),
+        other => Err(halt_of(other)),
+    }
+}
+
+// The line of a game for which something would be full.
+fn full_item(alloc: Global, number: u64, what: What) -> Result<Vec<u8>, AllocError>
+    ensures line { IfOk result (λ line. line.items ≡ item_line number (codes ": " ++ full_words what)) }
+{
+    let mut words = Vec::from_slice(alloc, b": ")?;
+    words.extend_from_slice(full_words(what))?;
+    item_line(alloc, number, words.as_slice())
+}

@@ -1,0 +1,48 @@
+use Rattle.std.proofs.Common.{◌≡◌, List, ℕ, [], Option, Some, IfSome, length, take, refl, sym, ap, subst}
+use Rattle.base_files.specs.Seen.{Seen}
+use Rattle.block_store.specs.Placing.{end_after}
+use Rattle.name_base.specs.PartNames.{filled_names}
+use Rattle.base_core.specs.Edited.{full_names, or_file}
+use Rattle.base_core.specs.Edits.{names_with}
+use Rattle.base_core.specs.Entries.{head_of}
+use Rattle.mend_base.specs.Finding.{Finds, KeepsWhole}
+use Rattle.mend_base.specs.Keeping.{FillsNext, MendsNext}
+use Rattle.mend_base.specs.Notes.{with_notes}
+use Rattle.mend_base.specs.Places.{note_of, note_of_missing}
+use Rattle.mend_base.specs.declared.finding.Find.TheVariants as find
+use Rattle.mend_base.proofs.DeviceLaws.{on-ok-so, stopped-weaker}
+use Rattle.mend_base.proofs.MendLaws.{filled-told, kept-told, left-out-told}
+use Rattle.mend_base.proofs.keeping.mend_game.Goals as goal
+
+pub returns-in-Err-keep_game-clause-why : goal.returns-in-Err-keep_game-clause-why
+returns-in-Err-keep_game-clause-why g c =
+    let index = c.args.source.now.index.now in
+    let names = c.args.source.now.names.now in
+    let told = (g.F.Files.seen c.args.old.now).games in
+    let found : Finds index names told c.args.game c.find_game.new.buf (find.Whole c.in-Ok-Whole.kept c.in-Ok-Whole.missing) = rw c.in-Ok-Whole.field-0-is at c.in-Ok-Whole.ensures.found in
+    stopped-weaker _ _
+    (λ what full. filled-told told c.args.game index names (g.R.Report.told c.args.report.now) c.args.draft.now (g.N.Files.seen c.args.new.now).fresh c.in-Ok-Whole.kept c.in-Ok-Whole.missing what found.1 full)
+    c.in-Err-keep_game.error c.in-Err-keep_game.ensures.why
+
+pub returns-in_default-clause-mended : goal.returns-in_default-clause-mended
+returns-in_default-clause-mended g c =
+    let index = c.args.source.now.index.now in
+    let names = c.args.source.now.names.now in
+    let told = (g.F.Files.seen c.args.old.now).games in
+    let kept = c.in-Ok-Whole.kept in
+    let found : Finds index names told c.args.game c.find_game.new.buf (find.Whole kept c.in-Ok-Whole.missing) = rw c.in-Ok-Whole.field-0-is at c.in-Ok-Whole.ensures.found in
+    let added = ap (λ (s : Seen). s.fresh) c.in_default.ensures.added in
+    on-ok-so _ _ c.tell_missing.result
+    (λ tells. kept-told told c.args.game index names (g.R.Report.told c.args.report.now) (g.R.Report.told c.tell_missing.new.report) c.args.draft.now c.keep_game.new.draft (g.N.Files.seen c.args.new.now).fresh
+    (g.N.Files.seen c.keep_game.new.new).fresh kept c.in-Ok-Whole.missing (take kept.len c.find_game.new.buf) found.1 found.0 c.in_default.ensures.taken c.in_default.ensures.grown c.in_default.ensures.names added tells)
+    c.tell_missing.ensures.told
+
+pub returns-in-Ok-Broken-clause-mended : goal.returns-in-Ok-Broken-clause-mended
+returns-in-Ok-Broken-clause-mended g c =
+    let index = c.args.source.now.index.now in
+    let names = c.args.source.now.names.now in
+    let told = (g.F.Files.seen c.args.old.now).games in
+    let found : Finds index names told c.args.game c.find_game.new.buf (find.Broken c.in-Ok-Broken.fault) = rw c.in-Ok-Broken.field-0-is at c.in-Ok-Broken.ensures.found in
+    on-ok-so _ _ c.tell.result
+    (λ tells. left-out-told told c.args.game index names (g.R.Report.told c.args.report.now) _ c.args.draft.now (g.N.Files.seen c.args.new.now).fresh c.in-Ok-Broken.fault found tells)
+    c.tell.ensures.told

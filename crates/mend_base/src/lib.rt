@@ -1,0 +1,15 @@
+//! Mending a base that has faults: a new base of all games that are whole.
+#![tactic(auto)]
+
+mod devices;
+mod fault;
+mod finding;
+mod keeping;
+mod laws;
+mod mending;
+mod report;
+
+pub use fault::MendError;
+pub use laws::{every_game_has_a_place, one_place_each, sound_bases_come_over};
+pub use mending::{Mended, mend};
+pub use report::{Fate, Note, Report};

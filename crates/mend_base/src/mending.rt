@@ -1,0 +1,177 @@
+//! Mending a base.
+ghost use Rattle.std.specs.Prelude.{◌≡◌, ◌≤◌, ◌+◌, length, IfOk, IfErr, IfSome, OnOk, OnErr};
+ghost use Rattle.base_files.specs.Seen.{FreshAlone, measured};
+ghost use Rattle.base_files.specs.Told.{TellsLength};
+ghost use Rattle.index_entry.specs.Index.{IsIndexHead};
+ghost use Rattle.name_base.specs.PartNames.{names_in_part};
+ghost use Rattle.base_core.specs.Opening.{IfTold};
+ghost use Rattle.mend_base.specs.Devices.{IsNew};
+ghost use Rattle.mend_base.specs.Finding.{entries_cost, mend_cost};
+ghost use Rattle.mend_base.specs.Keeping.{PutsIt, WhyStopped};
+ghost use Rattle.mend_base.specs.Mending.{BeganTelling, HasMended, HasRisen, IsMade, IsTooMuch, Mends, WhyNotMended};
+
+use crate::devices::{Loaded, begin, commit, load};
+use crate::fault::MendError;
+use crate::finding::Source;
+use crate::keeping::mend_game;
+use crate::report::Report;
+use base_core::Draft;
+use base_files::Files;
+use index_entry::{IndexHead, read_header};
+use name_base::read_part_names;
+use std::alloc::Global;
+
+/// How many games came over, of how many.
+#[derive(Clone, Copy, Debug, Drop, PartialEq, Eq)]
+pub struct Mended {
+    pub came: u32,
+    pub of: u32,
+}
+
+/// Makes new files of every game of the old ones whose entry and record are whole, in order, with its names as far as the names file goes
+/// and `?` for each that is missing, and tells of each game that is left out or changed. Each record is read once, into `buf`.
+///
+/// # Errors
+///
+/// `Bad` exactly where the header of the old index is faulty; `Full` where the new base would pass a limit; `OldFailed`, `NewFailed` and
+/// `ReportFailed` where a device fails, and `Memory`. The current files of the new base are then as they were.
+pub fn mend<F: Files, N: Files, R: Report>(
+    alloc: Global,
+    old: &mut F,
+    new: &mut N,
+    report: &mut R,
+    buf: &mut [u8],
+) -> Result<Mended, MendError>
+    requires room { 131072 ≤ length buf.old }
+    // The new files mean the base of the whole games, in order, and each other game is told of with its first fault.
+    ensures mended { IfOk result (λ mended. IfTold (F.seen old.old) (λ index names games.
+        Mends index names games (R.told report.old) (R.told report.new) (N.seen new.new) mended)) }
+    ensures why { IfErr result (λ error. IfTold (F.seen old.old) (λ index names games. WhyNotMended index names games error)) }
+    // Whatever happens, the old files are as they were.
+    ensures untouched { F.seen old.new ≡ measured (F.seen old.new).known (F.seen old.old) }
+    // All three new files are made at once, or none.
+    ensures made { OnOk result (IsMade (N.seen new.old) (N.seen new.new)) }
+    ensures left { OnErr result (FreshAlone (N.seen new.old) (N.seen new.new)) }
+    ensures began { OnErr result (IfTold (F.seen old.old) (λ index names games.
+        BeganTelling index (names_in_part names) games (R.told report.old) (R.told report.new))) }
+    // Each record is asked for once at most.
+    ensures asks { IfSome (F.seen old.old).index (λ index. F.asked old.new ≤ F.asked old.old + mend_cost index) }
+    ensures none_asked { N.asked new.new ≡ N.asked new.old }
+    ensures old_counts { F.faults old.old ≤ F.faults old.new }
+    ensures new_counts { N.faults new.old ≤ N.faults new.new }
+    ensures report_counts { R.faults report.old ≤ R.faults report.new }
+    ensures cause { IfErr result (HasRisen (record { old = F.faults old.old; new = N.faults new.old; report = R.faults report.old })
+        (record { old = F.faults old.new; new = N.faults new.new; report = R.faults report.new })) }
+{
+    let loaded = match load(alloc, old) {
+        Ok(loaded) => loaded,
+        Err(error) => return Err(error),
+    };
+    mend_loaded(alloc, &loaded, old, new, report, buf)
+}
+
+// Mends the base of which this is loaded.
+fn mend_loaded<F: Files, N: Files, R: Report>(
+    alloc: Global,
+    loaded: &Loaded,
+    old: &mut F,
+    new: &mut N,
+    report: &mut R,
+    buf: &mut [u8],
+) -> Result<Mended, MendError>
+    requires room { 131072 ≤ length buf.old }
+    requires known { loaded.now.end ≡ (F.seen old.old).known }
+    requires told { TellsLength (F.seen old.old).games loaded.now.end }
+    ensures mended { IfOk result (λ mended. IfSome (F.seen old.old).games (λ games.
+        Mends loaded.now.index.items loaded.now.names.items games (R.told report.old) (R.told report.new) (N.seen new.new) mended)) }
+    ensures why { IfErr result (λ error. IfSome (F.seen old.old).games (λ games. WhyNotMended loaded.now.index.items loaded.now.names.items games error)) }
+    ensures made { OnOk result (IsMade (N.seen new.old) (N.seen new.new)) }
+    ensures left { OnErr result (FreshAlone (N.seen new.old) (N.seen new.new)) }
+    ensures began { OnErr result (IfSome (F.seen old.old).games (λ games.
+        BeganTelling loaded.now.index.items (names_in_part loaded.now.names.items) games (R.told report.old) (R.told report.new))) }
+    ensures unchanged { F.seen old.new ≡ F.seen old.old }
+    ensures asks { F.asked old.new ≤ F.asked old.old + mend_cost loaded.now.index.items }
+    ensures none_asked { N.asked new.new ≡ N.asked new.old }
+    ensures old_counts { F.faults old.old ≤ F.faults old.new }
+    ensures new_counts { N.faults new.old ≤ N.faults new.new }
+    ensures report_counts { R.faults report.old ≤ R.faults report.new }
+    ensures cause { IfErr result (HasRisen (record { old = F.faults old.old; new = N.faults new.old; report = R.faults report.old })
+        (record { old = F.faults old.new; new = N.faults new.new; report = R.faults report.new })) }
+{
+    let header = match read_header(loaded.index.as_slice()) {
+        Ok(header) => header,
+        Err(fault) => return Err(MendError::Bad(fault)),
+    };
+    let names = read_part_names(alloc, loaded.names.as_slice())?;
+    let source = Source {
+        index: loaded.index.as_slice(),
+        names: &names,
+        end: loaded.end,
+    };
+    let draft = match mend_games(alloc, &source, &header, old, new, report, buf) {
+        Ok(draft) => draft,
+        Err(error) => return Err(error),
+    };
+    let came = draft.len();
+    if let Err(error) = put(alloc, &draft, new) {
+        return Err(error);
+    }
+    Ok(Mended {
+        came,
+        of: header.games,
+    })
+}
+
+// The draft of all games that are whole, whose records are added to the new games file.
+fn mend_games<F: Files, N: Files, R: Report>(
+    alloc: Global,
+    source: &Source<'_>,
+    header: &IndexHead,
+    old: &mut F,
+    new: &mut N,
+    report: &mut R,
+    buf: &mut [u8],
+) -> Result<Draft, MendError>
+    requires room { 131072 ≤ length buf.old }
+    requires known { source.now.end ≤ (F.seen old.old).known }
+    requires told { TellsLength (F.seen old.old).games source.now.end }
+    requires header { IsIndexHead header.now }
+    ensures mended { IfOk result (λ draft. IfSome (F.seen old.old).games (λ games.
+        HasMended header.now.games header.now source.now.index.now source.now.names.now games (R.told report.old) (R.told report.new) draft (N.seen new.new).fresh)) }
+    ensures began { OnErr result (IfSome (F.seen old.old).games (λ games.
+        BeganTelling source.now.index.now source.now.names.now games (R.told report.old) (R.told report.new))) }
+    ensures why { IfErr result (WhyStopped (λ what. IfSome (F.seen old.old).games (λ games. IsTooMuch source.now.index.now source.now.names.now games what))) }
+    ensures alone { FreshAlone (N.seen new.old) (N.seen new.new) }
+    ensures unchanged { F.seen old.new ≡ F.seen old.old }
+    ensures asks { F.asked old.new ≤ F.asked old.old + entries_cost source.now.index.now header.now.games }
+    ensures none_asked { N.asked new.new ≡ N.asked new.old }
+    ensures old_counts { F.faults old.old ≤ F.faults old.new }
+    ensures new_counts { N.faults new.old ≤ N.faults new.new }
+    ensures report_counts { R.faults report.old ≤ R.faults report.new }
+    ensures cause { IfErr result (HasRisen (record { old = F.faults old.old; new = N.faults new.old; report = R.faults report.old })
+        (record { old = F.faults old.new; new = N.faults new.new; report = R.faults report.new })) }
+{
+    if let Err(error) = begin(new) {
+        return Err(error);
+    }
+    let mut draft = Draft::begin(alloc, header);
+    for game in 0..header.games {
+        if let Err(error) = mend_game(alloc, source, game, old, &mut draft, new, report, buf) {
+            return Err(error);
+        }
+    }
+    Ok(draft)
+}
+
+// Makes the new games file and the names and the index of the draft the files of the new base.
+fn put<N: Files>(alloc: Global, draft: &Draft, new: &mut N) -> Result<(), MendError>
+    ensures made { OnOk result (IsMade (N.seen new.old) (N.seen new.new)) }
+    ensures means { OnOk result (PutsIt draft.now (N.seen new.old) (N.seen new.new)) }
+    ensures left { OnErr result (FreshAlone (N.seen new.old) (N.seen new.new)) }
+    ensures none_asked { N.asked new.new ≡ N.asked new.old }
+    ensures counts { N.faults new.old ≤ N.faults new.new }
+    ensures cause { IfErr result (IsNew (N.faults new.old) (N.faults new.new)) }
+{
+    let (names, index) = draft.write(alloc)?;
+    commit(new, names.as_slice(), index.as_slice())
+}

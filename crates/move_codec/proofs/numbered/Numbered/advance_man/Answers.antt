@@ -1,0 +1,32 @@
+-- What is named is what the bytes decode to, where it is legal.
+use Rattle.std.proofs.Common.{◌≡◌, ◌∙◌, ◌/◌, sym, subst, Some, slice_get}
+use Rattle.std.specs.Prelude.{slice_index_or}
+use Rattle.std.proofs.lemmas.Result.{err_from_is_err_and}
+use Rattle.cell_core.specs.Board.{man_at}
+use Rattle.cell_core.specs.Man.{man}
+use Rattle.move_codec.specs.Numbers.{squares_of}
+use Rattle.move_codec.proofs.Decoding.{Decodes-fault, named-from, named-used, named-second}
+use Rattle.move_codec.proofs.numbered.Numbered.advance_man.Goals as goal
+
+pub returns-in_err-m-clause-decodes : goal.returns-in_err-m-clause-decodes
+returns-in_err-m-clause-decodes c =
+    let p = err_from_is_err_and c.from_residual.result c.from_residual.ensures.1 in
+    rw (p.1, p.2) (Decodes-fault c.args.self.now c.args.bytes.now c.in_err-m.field-0.0 (sym c.named_by.ensures ∙ c.in_err-m.was))
+
+pub returns-then-follow_legal-clause-used : goal.returns-then-follow_legal-clause-used
+returns-then-follow_legal-clause-used c =
+    named-used c.args.self.now c.args.bytes.now (c.in_ok-m.m, c.in_ok-m.used) (sym c.named_by.ensures ∙ c.in_ok-m.was)
+
+pub returns-then-follow_legal-clause-second : goal.returns-then-follow_legal-clause-second
+returns-then-follow_legal-clause-second c =
+    named-second c.args.self.now c.args.bytes.now (c.in_ok-m.m, c.in_ok-m.used) (sym c.named_by.ensures ∙ c.in_ok-m.was)
+
+pub follow_legal-requires : goal.follow_legal-requires
+follow_legal-requires c =
+    let n = c.args.self.now in
+    let here : c.in_ok-m.m.from ≡ c.args.from =
+    named-from c.args.kind n.position.side c.args.from _ c.args.rest.now (c.in_ok-m.m, c.in_ok-m.used) (sym c.requires.named ∙ sym c.named_by.ensures ∙ c.in_ok-m.was) in
+    record {
+      stands = subst (λ s. man_at n.position.board s ≡ Some (man n.position.side c.args.kind)) (sym here) c.requires.stands;
+      number = rw c.first_byte.ensures.byte (subst (λ s. slice_get (squares_of n.position.side n.numbers) (slice_index_or c.args.bytes.now 0 0 / 16) ≡ Some s) (sym here) c.requires.number);
+    }

@@ -1,0 +1,4 @@
+pub mod CrossLaws
+pub mod EcoLaws
+pub mod TwinLaws
+pub mod UntaggedLaws

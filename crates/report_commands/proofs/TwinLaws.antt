@@ -1,0 +1,150 @@
+-- Laws of `twins`.
+use Rattle.std.proofs.Common.{◌≡◌, ◌+◌, ℕ, List, [], ◌∷◌, ◌++◌, refl, ◌∙◌, sym, subst, filter, Option, ap, suc, length, map, sum_by, ap₂, inl, inr, arith, Some}
+use Rattle.std.proofs.lemmas.Bool.{cases_Bool}
+use Rattle.std.proofs.lemmas.List.{length-map}
+use Rattle.std.proofs.lemmas.List.Sums.{sum_by-cons}
+use Rattle.std.specs.List.{range_with_len}
+use Rattle.base_core.proofs.GamesLaws.{heads-are}
+use Rattle.base_core.specs.Base.{Base}
+use Rattle.base_core.specs.Edited.{ChangedHeads, Does}
+use Rattle.base_core.specs.Edits.{deleted}
+use Rattle.base_core.specs.Entries.{extent_of, head_of}
+use Rattle.base_core.specs.Represents.{Kept, Represents, extents_of, heads_of}
+use Rattle.base_files.specs.Seen.{Seen}
+use Rattle.base_files.specs.declared.extent.Extent.{Extent}
+use Rattle.command_runs.specs.Counts.{counts}
+use Rattle.game_tree.specs.Game.{GameTree}
+use Rattle.game_tree.specs.declared.head.Head.{Head}
+use Rattle.index_entry.specs.declared.entry.Entry.{Entry}
+use Rattle.name_base.specs.NameLists.{NameLists}
+use Rattle.sig_index.specs.Games.{extent_in, head_in, Holds}
+use Rattle.sig_index.specs.declared.signature.Sig.{Sig}
+use Rattle.twin_games.specs.Asking.{is_shared, price}
+use Rattle.twin_games.specs.Causes.{HasTwinCause}
+use Rattle.twin_games.specs.Twins.{twins_of}
+use Rattle.twin_games.specs.declared.fault.TwinError.{TwinError}
+use Rattle.twin_games.specs.declared.fault.TwinError.TheVariants as twins
+use Rattle.filter_seat.specs.declared.saved.SavedFilter.{SavedFilter}
+use Rattle.report_commands.proofs.UntaggedLaws.{twins_untagged}
+use Rattle.report_commands.specs.Ends.{Marked, halt_of_twins}
+use Rattle.report_commands.specs.Twins.{all_deleted, with_deleted, is_read, shared_len, found_twins, twins_price}
+use Rattle.shell_state.proofs.CarryLaws.{beside_edited}
+use Rattle.shell_state.proofs.EditedLaws.{fits_count, same_count}
+use Rattle.shell_state.proofs.HoldingLaws.{fetch_device, fetch_why}
+use Rattle.shell_state.proofs.PriceLaws.{look_at}
+use Rattle.shell_state.proofs.Quietly.{held_by}
+use Rattle.shell_state.specs.Ends.{IsDevice}
+use Rattle.shell_state.specs.Stands.{Stands, Fits, WhyHalt, looks_in}
+use Rattle.shell_state.specs.State.{State, games_of}
+use Rattle.shell_state.specs.Work.{Look}
+
+-- Marking one game more.
+one_more : (games : List ℕ) (game : ℕ) (base : Base) → all_deleted (games ++ game ∷ []) base ≡ deleted game (all_deleted games base)
+one_more [] game base = refl
+one_more (first ∷ games) game base = one_more games game (deleted first base)
+
+heads_join : (old mid new : Kept) → ChangedHeads old mid → ChangedHeads mid new → ChangedHeads old new
+heads_join old mid new a b = record {
+  header = b.header ∙ a.header;
+  names = b.names ∙ a.names;
+  extents = b.extents ∙ a.extents;
+  sigs = b.sigs ∙ a.sigs;
+  end = b.end ∙ a.end;
+  unsaved = b.unsaved;
+}
+
+pub marked_more : (games : List ℕ) (game : ℕ) (old mid new : Kept) → Marked games old mid → Does (deleted game) mid new → ChangedHeads mid new → Marked (games ++ game ∷ []) old new
+marked_more [] game old mid new same does heads = (subst (λ (k : Kept). Does (deleted game) k new) same does, subst (λ (k : Kept). ChangedHeads k new) same heads)
+marked_more (first ∷ games) game old mid new marked does heads = (
+  λ (told : List ℕ) (base : Base) is.
+      subst (λ (b : Base). Represents new told b) (sym (one_more (first ∷ games) game base)) (does told (all_deleted (first ∷ games) base) (marked.0 told base is)),
+  heads_join old mid new marked.1 heads,
+)
+
+-- Where the games are marked the machine stands for the state in which they are.
+pub deleted_stands : (games : List ℕ) (old new : Kept) (filter : List (Option ℕ)) (saved : List SavedFilter) (seen : Seen) (s : State)
+    → Marked games old new → Stands (held_by old filter saved) seen s → Stands (held_by new filter saved) seen (with_deleted s games)
+deleted_stands [] old new filter saved seen s same st = subst (λ (k : Kept). Stands (held_by k filter saved) seen s) (sym same) st
+deleted_stands (game ∷ games) old new filter saved seen s marked st = record {
+  games = st.games;
+  told = st.told;
+  base = marked.0 st.games s.base st.base;
+  filter = st.filter;
+  saved = st.saved;
+  unsaved = marked.1.unsaved;
+  carried = beside_edited old new seen s.unsaved s.carried marked.1.names st.carried;
+}
+
+pub marked_fits : (games : List ℕ) (old new : Kept) (filter : List (Option ℕ)) (saved : List SavedFilter) → Marked games old new → Fits (held_by old filter saved) → Fits (held_by new filter saved)
+marked_fits [] old new filter saved same fits = subst (λ (k : Kept). Fits (held_by k filter saved)) (sym same) fits
+marked_fits (game ∷ games) old new filter saved marked fits = fits_count old new filter saved (same_count old new marked.1) fits
+
+pub marked_end : (games : List ℕ) (old new : Kept) → Marked games old new → new.end ≡ old.end
+marked_end [] old new same = ap (λ (k : Kept). k.end) same
+marked_end (game ∷ games) old new marked = marked.1.end
+
+-- ---- what is read.
+
+-- Of games whose heads and extents are those of the base from a number on.
+price_from : (heads : List Head) (extents : List Extent) (first : ℕ) (later : List Head) (rest : List Extent) → length later ≡ length rest
+    → ((i j : ℕ) → j ≡ first + i → head_in heads j ≡ head_in later i) → ((i j : ℕ) → j ≡ first + i → extent_in extents j ≡ extent_in rest i)
+    → sum_by (λ (i : ℕ). (extent_in extents i).len) (filter (is_shared heads) (range_with_len first (length later))) ≡ shared_len heads later (map (λ (x : Extent). x.len) rest)
+price_from heads extents first [] rest count head extent = refl
+price_from heads extents first (h ∷ later) [] count head extent = absurd (cc)
+price_from heads extents first (h ∷ later) (e ∷ rest) count head extent =
+    let count' : length later ≡ length rest = cc in
+    let more = price_from heads extents (first + 1) later rest count' (λ i j is. head (suc i) j (omega (arith, is))) (λ i j is. extent (suc i) j (omega (arith, is))) in
+    let same : is_shared heads first ≡ is_read heads h = ap (is_read heads) (head 0 first (omega arith)) in
+    let len : (extent_in extents first).len ≡ e.len = ap (λ (x : Extent). x.len) (extent 0 first (omega arith)) in
+    elim (cases_Bool (is_read heads h)) [
+      | inl is ↦
+          rw (same ∙ is, is) (sum_by-cons (λ (i : ℕ). (extent_in extents i).len) first (filter (is_shared heads) (range_with_len (first + 1) (length later)))
+          ∙ ap₂ (λ (m n : ℕ). m + n) len more)
+      | inr out ↦
+          let asked = sum_by (λ (i : ℕ). (extent_in extents i).len) (filter (is_shared heads) (range_with_len (first + 1) (length later))) in
+          let sum : asked ≡ 0 + shared_len heads later (map (λ (x : Extent). x.len) rest) = omega (arith, more) in
+          rw (same ∙ out, out) sum
+    ]
+
+lens_of : (entries : List Entry) → map (λ (x : Extent). x.len) (map extent_of entries) ≡ map (λ (e : Entry). e.len) entries
+lens_of [] = refl
+lens_of (e ∷ entries) = ap (λ (lens : List ℕ). e.len ∷ lens) (lens_of entries)
+
+twins-price : (kept : Kept) → price (heads_of kept) (extents_of kept) ≡ shared_len (heads_of kept) (heads_of kept) (map (λ (e : Entry). e.len) kept.entries)
+twins-price kept =
+    let count : length (heads_of kept) ≡ length (extents_of kept) = length-map kept.entries (λ (e : Entry). head_of kept.names e []) ∙ sym (length-map kept.entries extent_of) in
+    price_from (heads_of kept) (extents_of kept) 0 (heads_of kept) (extents_of kept) count
+    (λ i j is. ap (head_in (heads_of kept)) (let same : j ≡ i = omega (arith, is) in same)) (λ i j is. ap (extent_in (extents_of kept)) (let same : j ≡ i = omega (arith, is) in same))
+    ∙ ap (shared_len (heads_of kept) (heads_of kept)) (lens_of kept.entries)
+
+heads_looked : (names : NameLists) (entries : List Entry) → map (λ (e : Entry). head_of names e []) entries ≡ map (λ (x : Look). x.head) (map (look_at names) entries)
+heads_looked names [] = refl
+heads_looked names (e ∷ entries) = ap (λ (heads : List Head). head_of names e [] ∷ heads) (heads_looked names entries)
+
+lens_looked : (names : NameLists) (entries : List Entry) → map (λ (e : Entry). e.len) entries ≡ map (λ (x : Look). x.len) (map (look_at names) entries)
+lens_looked names [] = refl
+lens_looked names (e ∷ entries) = ap (λ (lens : List ℕ). e.len ∷ lens) (lens_looked names entries)
+
+-- The search for twins asks what the command costs.
+pub price_is : (kept : Kept) (plies : List (Option ℕ)) → price (heads_of kept) (extents_of kept) ≡ twins_price (looks_in kept) plies
+price_is kept plies =
+    twins-price kept ∙ ap₂ (λ (heads : List Head) (lens : List ℕ). shared_len heads heads lens) (heads_looked kept.names kept.entries) (lens_looked kept.names kept.entries)
+
+-- ---- why it ends.
+
+pub twins_device : (e : TwinError) (games : Option (List ℕ)) (told : List ℕ) (extents : List Extent) (sigs : List Sig) (list : List GameTree) (buffer : List ℕ) (f f' : ℕ)
+    → games ≡ Some told → Holds told extents sigs list → HasTwinCause e sigs extents games buffer f f' → IsDevice (halt_of_twins e)
+twins_device (twins.Fetch error) games told extents sigs list buffer f f' same holds cause = fetch_device error games told extents sigs list buffer f f' same holds cause
+twins_device twins.Memory games told extents sigs list buffer f f' same holds cause = tt
+
+pub twins_why : (e : TwinError) (games : Option (List ℕ)) (extents : List Extent) (sigs : List Sig) (buffer : List ℕ) (f f' : ℕ)
+    → HasTwinCause e sigs extents games buffer f f' → WhyHalt (halt_of_twins e) (counts f 0 0) (counts f' 0 0)
+twins_why (twins.Fetch error) games extents sigs buffer f f' cause = fetch_why error games extents sigs buffer f f' cause
+twins_why twins.Memory games extents sigs buffer f f' cause = tt
+
+-- ---- what is found.
+
+pub found_are : (kept : Kept) (games : List ℕ) (s : State) (found : List ℕ) (depth : ℕ) → Represents kept games s.base
+    → found ≡ twins_of (heads_of kept) (games_of s) depth → found ≡ found_twins s depth
+found_are kept games s found depth represents is =
+    is ∙ (ap (λ (heads : List Head). twins_of heads (games_of s) depth) (heads-are kept games s.base represents) ∙ twins_untagged s.base.games (games_of s) depth)

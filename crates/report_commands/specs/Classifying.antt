@@ -1,0 +1,73 @@
+-- The command that gives games their opening codes by a table. This project's own.
+use Rattle.std.specs.Fmt.{decimal}
+use Rattle.std.specs.List.{list_any}
+use Rattle.std.specs.Prelude.{ℕ, List, map, Option, Some, None, ◌||◌, is_some, [], ◌∷◌, ◌++◌, codes, length, count_by, Result, Ok, Err, true, sum_by}
+use Rattle.base_core.specs.Base.{Held, Base}
+use Rattle.eco_class.specs.Reading.{table_of}
+use Rattle.eco_class.specs.Table.{Opening, eco_of}
+use Rattle.eco_class.specs.declared.fault.EcoFault.{EcoFault}
+use Rattle.eco_class.specs.declared.fault.EcoWhat.{EcoWhat}
+use Rattle.eco_class.specs.declared.fault.EcoWhat.TheVariants as what
+use Rattle.shell_state.specs.Lines.{san_words, line_of}
+use Rattle.shell_state.specs.State.{State, games_of}
+use Rattle.shell_state.specs.Work.{reading, Work}
+
+-- The codes that a table gives to the games, one for each: none where it gives none.
+abbrev pub codes_of : List Opening → State → List (Option ℕ)
+codes_of table s = map (eco_of table) (games_of s)
+
+-- A game with a code; where there is none it keeps its own.
+abbrev pub with_code : Option ℕ → Held → Held
+with_code None held = held
+with_code (Some code) held = record held { head = record held.head { eco = code } }
+
+-- The base in which each game has the code that a table gives it.
+abbrev pub classified_base : List Opening → Base → Base
+classified_base table base = record base { games = map (λ held. with_code (eco_of table held.game) held) base.games }
+
+-- The state with this base, which is unsaved where a game got a code.
+abbrev pub classified_by : State → List Opening → State
+classified_by s table = record s { base = classified_base table s.base; unsaved = list_any is_some (codes_of table s) || s.unsaved }
+
+-- `classified C of N`: how many games got a code, and how many there are.
+abbrev pub of_games : ℕ → List ℕ
+of_games games = codes " of " ++ decimal games ++ 10 ∷ []
+
+abbrev pub classified_line : ℕ → ℕ → List ℕ
+classified_line count games = codes "classified " ++ decimal count ++ of_games games
+
+abbrev pub classified_text : State → List Opening → List ℕ
+classified_text s table = classified_line (count_by is_some (codes_of table s)) (length s.base.games)
+
+-- What is wrong with a line of a table.
+abbrev pub eco_words : EcoWhat → List ℕ
+eco_words what.Lines = codes "too many lines"
+eco_words what.Code = codes "bad code"
+eco_words (what.San fault) = san_words fault
+eco_words (what.Twice earlier) = codes "repeated position"
+
+-- `error: eco line L: WHAT`
+abbrev pub fault_words : EcoFault → List ℕ
+fault_words fault = codes "error: eco line " ++ decimal fault.line ++ codes ": " ++ eco_words fault.what
+
+abbrev pub no_table_line : EcoFault → List ℕ
+no_table_line fault = line_of (fault_words fault)
+
+-- eco <<WORD: a body that is no table changes nothing.
+abbrev pub state_by : State → Result (List Opening) EcoFault → State
+state_by s (Ok table) = classified_by s table
+state_by s (Err fault) = s
+
+abbrev pub text_by : State → Result (List Opening) EcoFault → List ℕ
+text_by s (Ok table) = classified_text s table
+text_by s (Err fault) = no_table_line fault
+
+abbrev pub eco_after : State → List ℕ → State
+eco_after s body = state_by s (table_of body)
+
+abbrev pub eco_text : State → List ℕ → List ℕ
+eco_text s body = text_by s (table_of body)
+
+-- The records of all games are read, where the body is a table.
+abbrev pub eco_work : List ℕ → Work
+eco_work body = record (reading (λ s. eco_after s body) (λ s. eco_text s body) (λ looks plies. sum_by (λ look. look.len) looks)) { body = true }

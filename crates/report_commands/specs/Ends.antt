@@ -1,0 +1,48 @@
+-- Ends
+use Rattle.std.specs.List.{list_any}
+use Rattle.std.specs.Prelude.{ℕ, ◌≤◌, IfSome, Option, ◌≡◌, Some, None, codes, List, [], ◌∷◌, length, ◌||◌, is_some}
+use Rattle.base_core.specs.Base.{Held}
+use Rattle.base_core.specs.Edited.{ChangedHeads, Does}
+use Rattle.base_core.specs.Edits.{classified}
+use Rattle.base_core.specs.Represents.{Kept}
+use Rattle.base_files.specs.declared.faults.Stop.TheVariants as stop
+use Rattle.twin_games.specs.declared.fault.TwinError.{TwinError}
+use Rattle.twin_games.specs.declared.fault.TwinError.TheVariants as twins
+use Rattle.report_commands.specs.Classifying.{with_code}
+use Rattle.report_commands.specs.Twins.{all_deleted}
+use Rattle.shell_state.specs.Ends.{halt_of_fetch}
+use Rattle.shell_state.specs.declared.halt.Halt.{Halt}
+use Rattle.shell_state.specs.declared.halt.Halt.TheVariants as halt
+
+-- How a command ends whose twins are not known.
+abbrev pub halt_of_twins : TwinError → Halt
+halt_of_twins (twins.Fetch error) = halt_of_fetch error
+halt_of_twins twins.Memory = halt.Device stop.Memory
+
+-- An opening code, if it is one.
+abbrev pub IsCode : Option ℕ → Type 0
+IsCode code = IfSome code (λ eco. eco ≤ 65500)
+
+-- The game of this number got a code, where there is one.
+abbrev pub IsCoded : ℕ → Option ℕ → Kept → Kept → Type 0
+IsCoded i None old new = new ≡ old
+IsCoded i (Some code) old new = Does (classified i code) old new × ChangedHeads old new
+
+-- The games with these codes, one after the other; behind the last code they stay as they are.
+abbrev pub coded : List (Option ℕ) → List Held → List Held
+coded [] games = games
+coded (code ∷ codes) [] = []
+coded (code ∷ codes) (held ∷ games) = with_code code held ∷ coded codes games
+
+-- The games got these codes, and nothing else was changed.
+pub record AreCoded (codes : List (Option ℕ)) (old new : Kept) : Type 0 where
+  pub does : Does (λ base. record base { games = coded codes base.games }) old new
+  pub names : new.names ≡ old.names
+  pub count : length new.entries ≡ length old.entries
+  pub end : new.end ≡ old.end
+  pub unsaved : new.unsaved ≡ list_any is_some codes || old.unsaved
+
+-- All these games were marked as deleted, if there are any.
+abbrev pub Marked : List ℕ → Kept → Kept → Type 0
+Marked [] old new = new ≡ old
+Marked (game ∷ games) old new = Does (all_deleted (game ∷ games)) old new × ChangedHeads old new

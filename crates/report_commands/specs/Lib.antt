@@ -1,0 +1,4 @@
+pub mod Classifying
+pub mod Crosstables
+pub mod Ends
+pub mod Twins

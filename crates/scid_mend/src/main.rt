@@ -1,0 +1,122 @@
+//! `scid_mend OLD NEW`: makes the Scid base NEW of every game of OLD that is whole, and says on standard output what becomes of the others.
+#![tactic(auto)]
+
+ghost use Rattle.std.specs.Prelude.{◌≡◌, MatchResult};
+ghost use Rattle.scid_mend.specs.declared.status.Status.TheVariants as done;
+
+mod messages;
+mod printer;
+mod status;
+
+use base_files::Files;
+use mend_base::mend;
+use messages::{HELP, VERSION, message};
+use printer::Printer;
+use status::Status;
+use std::io::{BufWriter, ErrorKind};
+use std::process::ExitCode;
+use std::{env, io};
+use std_devices::{DiskFiles, make_base, unmake_base};
+
+/// The bytes of the longest record and of a block of the games file.
+const BLOCK_LEN: usize = 131_072;
+
+fn main(rt: HostRuntime) -> ExitCode {
+    match words(&rt) {
+        Ok(words) => end(&rt, answer(&rt, words.as_slice())),
+        Err(status) => end(&rt, status),
+    }
+}
+
+/// The words after the program's name. A word that is no text is a faulty command line.
+fn words(rt: &HostRuntime) -> Result<Vec<String>, Status> {
+    match env::args(rt) {
+        Ok(args) => args.skip(1).collect(rt.alloc()).map_err(|_| Status::Memory),
+        Err(error) if error.kind() == ErrorKind::OutOfMemory => Err(Status::Memory),
+        Err(_) => Err(Status::Usage),
+    }
+}
+
+/// Answers the single words `--help` and `--version`, and mends for two names of bases.
+fn answer(rt: &HostRuntime, words: &[String]) -> Status {
+    match words {
+        [word] if word.as_str() == "--help" => printed(print!(rt; "{HELP}")),
+        [word] if word.as_str() == "--version" => printed(print!(rt; "{VERSION}")),
+        [old, new] if is_name(old) && is_name(new) => run(rt, old, new),
+        _ => Status::Usage,
+    }
+}
+
+/// Whether a word may be the name of a base.
+fn is_name(word: &str) -> bool {
+    !word.is_empty() && !word.starts_with('-')
+}
+
+/// The status after a text was printed.
+fn printed(outcome: io::Result<()>) -> Status
+    ensures printed { MatchResult outcome (λ _. result ≡ done.All) (λ _. result ≡ done.WriteFault) }
+{
+    match outcome {
+        Ok(()) => Status::All,
+        Err(_) => Status::WriteFault,
+    }
+}
+
+/// Makes the files of the new base, mends, and takes them away again where that fails.
+fn run(rt: &HostRuntime, old: &str, new: &str) -> Status {
+    let mut old_files = DiskFiles::read_only(rt.alloc(), rt);
+    if let Err(error) = old_files.choose(old, false) {
+        return Status::of_files(error);
+    }
+    if let Err(error) = make_base(rt.alloc(), rt, new) {
+        return Status::of_files(error);
+    }
+    let mut new_files = DiskFiles::new(rt.alloc(), rt);
+    let outcome = mend_files(rt, &mut old_files, &mut new_files, new);
+    new_files.close();
+    match outcome {
+        Ok(status) => status,
+        Err(status) => {
+            unmake_base(rt.alloc(), rt, new);
+            status
+        }
+    }
+}
+
+/// Mends the old base into the new one, and says how many games came over.
+fn mend_files(
+    rt: &HostRuntime,
+    old: &mut DiskFiles<'_>,
+    new: &mut DiskFiles<'_>,
+    name: &str,
+) -> Result<Status, Status> {
+    if let Err(error) = new.choose(name, false) {
+        return Err(Status::of_files(error));
+    }
+    let Ok(mut buf) = vec![in rt.alloc(); 0u8; BLOCK_LEN] else {
+        return Err(Status::Memory);
+    };
+    let Ok(writer) = BufWriter::new(rt.alloc(), io::writer(rt)) else {
+        return Err(Status::Memory);
+    };
+    let mut printer = Printer::new(writer);
+    match mend(rt.alloc(), old, new, &mut printer, buf.as_mut_slice()) {
+        Ok(mended) => Ok(Status::of_mended(mended, printer.end(mended))),
+        Err(error) => {
+            let _ = printer.flush();
+            Err(Status::from(error))
+        }
+    }
+}
+
+/// Says on standard error how the run ended, unless it is done, and gives the exit code.
+fn end(rt: &HostRuntime, status: Status) -> ExitCode {
+    let line = message(&status);
+    let _ = match status {
+        Status::All | Status::Some => Ok(()),
+        Status::BadIndex(fault) => eprintln!(rt; "{line}{fault}"),
+        Status::Full(what) => eprintln!(rt; "{line}{what}"),
+        _ => eprintln!(rt; "{line}"),
+    };
+    ExitCode::from(status.exit_code())
+}

@@ -1,0 +1,45 @@
+//! What the program says besides its report.
+ghost use Rattle.std.specs.Prelude.{◌≡◌};
+ghost use Rattle.scid_mend.specs.Messages.{line_of};
+
+use crate::status::Status;
+
+/// The answer to `--help`.
+pub const HELP: &str = "\
+usage: scid_mend OLD NEW
+
+Makes the Scid base NEW.si4, NEW.sn4, NEW.sg4 of every game of the base OLD
+that is whole, in order. OLD is read, and nothing of it is changed. NEW is
+refused where one of its files is there.
+
+A game is whole where its entry in the index and its record have no fault. A
+game of which a name is missing comes over with ? in its place. What becomes of
+the others stands on standard output, a line a game, with its first fault:
+
+  left out G: FAULT   the game G does not come over
+  changed G: FAULT    it comes over with ? for a name
+
+and at the end `mended G of N games`.
+
+Exit status: 0 all games came over, 1 some did not, 2 no index, 4 write fault,
+5 files fault, 8 out of memory, 9 usage, 10 a limit of the new base. What it was
+is told on standard error.
+";
+
+/// The answer to `--version`.
+pub const VERSION: &str = "scid_mend 0.1.0\n";
+
+/// The line on standard error for a status; of a faulty index and of a limit its beginning, which the fault or the limit follows.
+pub fn message(status: &Status) -> &'static str
+    ensures line { result.now ≡ line_of status.now }
+{
+    match status {
+        Status::All | Status::Some => "",
+        Status::BadIndex(_) => "bad base: index file: ",
+        Status::WriteFault => "write fault",
+        Status::FilesFault => "files fault",
+        Status::Memory => "out of memory",
+        Status::Usage => "usage: scid_mend OLD NEW",
+        Status::Full(_) => "full ",
+    }
+}

@@ -1,0 +1,124 @@
+-- Laws of `tree`.
+use Rattle.std.proofs.Common.{◌≡◌, ℕ, Option, Some, None, refl, ◌+◌, List, [], ◌∷◌, ◌++◌, All, map, option_map, ap, ◌∙◌, Bool, true, false, cond, ◌≤◌, sym, subst, zero, suc, take, append_assoc, append-nil, add-one, length, drop, ap₂}
+use Rattle.std.proofs.lemmas.List.{take_all}
+use Rattle.std.proofs.lemmas.List.Elements.{All-push, All-same}
+use Rattle.std.proofs.lemmas.Option.{slice_get-map, get_or_from_slice_get, same_Some}
+use Rattle.std.specs.Prelude.{slice_get}
+use Rattle.base_core.proofs.GamesLaws.{heads-are, at-map, extent-at}
+use Rattle.base_core.specs.Base.{Held, Base}
+use Rattle.base_core.specs.Entries.{sig_in}
+use Rattle.base_core.specs.Represents.{Kept, Represents, heads_of, extents_of, sigs_of}
+use Rattle.base_files.specs.declared.extent.Extent.{Extent}
+use Rattle.cell_core.specs.declared.man.Colour.{Colour}
+use Rattle.cell_core.specs.declared.man.Colour.TheVariants.{White, Black}
+use Rattle.cell_core.specs.declared.step.Move.{Move}
+use Rattle.game_tree.specs.Head.{without_tags}
+use Rattle.game_tree.specs.declared.head.Head.{Head}
+use Rattle.index_entry.specs.declared.entry.Entry.{Entry}
+use Rattle.pos_search.specs.Matching.{IsLegalFrom, hit_of as found_of}
+use Rattle.pos_search.specs.Passing.{passes}
+use Rattle.sig_index.specs.Games.{head_in, extent_in}
+use Rattle.sig_index.specs.declared.pos_query.Mode.TheVariants.{Exact}
+use Rattle.sig_index.specs.declared.pos_query.PosQuery.{PosQuery}
+use Rattle.sig_index.specs.declared.signature.Sig.{Sig}
+use Rattle.tree_rows.specs.Hits.{hit_of}
+use Rattle.tree_rows.specs.MoveText.{IsKey}
+use Rattle.tree_rows.specs.declared.hit.GameHit.{GameHit}
+use Rattle.search_commands.specs.Trees.{hit_of_game, hit_if_in, listed_hit, tree_hits, hit_len, tree_len}
+use Rattle.shell_state.specs.Passing.{len_if}
+
+-- The move after an exact match is a key of the tree.
+pub key-from : (query : PosQuery) (ply : ℕ) (next : Option Move) → query.mode ≡ Exact → IsLegalFrom query (Some (ply, next)) → IsKey query.board query.side next
+key-from query ply None exact legal = tt
+key-from query ply (Some m) exact legal =
+    let from = legal ply m exact refl in
+    record { position = from.position; sound = from.sound; board = from.board; to_move = from.side; legal = from.legal }
+
+-- What is counted of a game does not look at its tags.
+untagged : (next : Option Move) (side : Colour) (head : Head) → hit_of next side (without_tags head) ≡ hit_of next side head
+untagged next White head = refl
+untagged next Black head = refl
+
+-- The keys of hits, one more.
+pub keys-push : (query : PosQuery) (hits later : List GameHit) (hit : GameHit) → later ≡ hits ++ hit ∷ []
+    → All (λ (h : GameHit). IsKey query.board query.side h.next) hits → IsKey query.board query.side hit.next
+    → All (λ (h : GameHit). IsKey query.board query.side h.next) later
+keys-push query hits later hit same keys key =
+    let P : GameHit → Type 0 = λ h. IsKey query.board query.side h.next in
+    All-same P later (hits ++ hit ∷ []) same (All-push P hits hit keys key)
+
+-- The game at a place.
+pub game-at : (games : List Held) (i : ℕ) (held : Held) → slice_get games i ≡ Some held → slice_get (map (λ (h : Held). h.game) games) i ≡ Some held.game
+game-at games i held at = slice_get-map (λ (h : Held). h.game) games i ∙ ap (option_map (λ (h : Held). h.game)) at
+
+-- The hit of a game, by the head that the base keeps and by what the search found.
+pub hit-read : (kept : Kept) (games : List ℕ) (base : Base) (held : Held) (i : ℕ) (query : PosQuery) (ply : ℕ) (next : Option Move) (hit : GameHit)
+    → Represents kept games base → slice_get base.games i ≡ Some held → Some (ply, next) ≡ found_of query held.game
+    → hit ≡ hit_of next query.side (head_in (heads_of kept) i) → Some hit ≡ hit_of_game query held
+hit-read kept games base held i query ply next hit is at found counted =
+    let bare : Held → Head = λ h. without_tags h.head in
+    let there : slice_get (heads_of kept) i ≡ Some (bare held) =
+    ap (λ (heads : List Head). slice_get heads i) (heads-are kept games base is) ∙ (slice_get-map bare base.games i ∙ ap (option_map bare) at) in
+    let same : head_in (heads_of kept) i ≡ bare held = get_or_from_slice_get (heads_of kept) i (bare held) _ there in
+    ap (λ (h : GameHit). Some h) (counted ∙ (ap (hit_of next query.side) same ∙ untagged next query.side held.head))
+    ∙ ap (λ (f : Option (ℕ × Option Move)). option_map (λ (x : ℕ × Option Move). hit_of x.1 query.side held.head) f) found
+
+-- A game that the search did not find has none.
+pub none-read : (held : Held) (query : PosQuery) → None ≡ found_of query held.game → None ≡ hit_of_game query held
+none-read held query found = ap (λ (f : Option (ℕ × Option Move)). option_map (λ (x : ℕ × Option Move). hit_of x.1 query.side held.head) f) found
+
+-- What was asked for the hit of one game.
+len-of : (b : Bool) (long other : ℕ) → other ≡ long → (cond b other 0) ≡ len_if b long
+len-of true long other same = same
+len-of false long other same = refl
+
+pub hit-asked : (kept : Kept) (i : ℕ) (e : Entry) (query : PosQuery) (old new : ℕ) → slice_get kept.entries i ≡ Some e
+    → ((sig : Sig) → slice_get (sigs_of kept) i ≡ Some sig → new ≤ old + cond (passes sig query) (extent_in (extents_of kept) i).len 0)
+    → new ≤ old + len_if (passes (sig_in e) query) e.len
+hit-asked kept i e query old new at asks =
+    let here = asks (sig_in e) (at-map sig_in kept.entries i e at) in
+    let P : ℕ → Type 0 = λ n. new ≤ old + n in
+    subst P (len-of (passes (sig_in e) query) e.len (extent_in (extents_of kept) i).len (sym (ap (λ (x : Extent). x.len) (extent-at kept.entries i e at)))) here
+
+-- The hits of the games that are in, one game more.
+more : (query : PosQuery) (i : ℕ) (plies : List (Option ℕ)) (games : List Held) (ply : Option ℕ) (held : Held) → slice_get plies i ≡ Some ply → slice_get games i ≡ Some held
+    → tree_hits query (take (suc i) plies) (take (suc i) games) ≡ tree_hits query (take i plies) (take i games) ++ listed_hit (hit_if_in query ply held)
+more query i [] games ply held p x = absurd cc
+more query i (q ∷ plies) [] ply held p x = absurd cc
+more query zero (q ∷ plies) (y ∷ games) ply held p x =
+    append-nil (listed_hit (hit_if_in query q y))
+    ∙ ap (λ (r : Option ℕ). listed_hit (hit_if_in query r y)) (same_Some q ply p)
+    ∙ ap (λ (h : Held). listed_hit (hit_if_in query ply h)) (same_Some y held x)
+more query (suc i) (q ∷ plies) (y ∷ games) ply held p x =
+    ap (λ (l : List GameHit). listed_hit (hit_if_in query q y) ++ l) (more query i plies games ply held p x)
+    ∙ sym (append_assoc (listed_hit (hit_if_in query q y)) (tree_hits query (take i plies) (take i games)) (listed_hit (hit_if_in query ply held)))
+
+pub hits-more : (query : PosQuery) (i : ℕ) (plies : List (Option ℕ)) (games : List Held) (ply : Option ℕ) (held : Held) (before after : List GameHit)
+    → slice_get plies i ≡ Some ply → slice_get games i ≡ Some held
+    → before ≡ tree_hits query (take i plies) (take i games) → after ≡ before ++ listed_hit (hit_if_in query ply held)
+    → after ≡ tree_hits query (take (i + 1) plies) (take (i + 1) games)
+hits-more query i plies games ply held before after p x so_far now =
+    now ∙ ap (λ (l : List GameHit). l ++ listed_hit (hit_if_in query ply held)) so_far
+    ∙ sym (more query i plies games ply held p x)
+    ∙ ap (λ (k : ℕ). tree_hits query (take k plies) (take k games)) (sym (add-one i))
+
+-- No game more.
+pub hits-all : (query : PosQuery) (i : ℕ) (plies : List (Option ℕ)) (games : List Held) (hits : List GameHit) → length plies ≤ i → length games ≤ i
+    → hits ≡ tree_hits query (take i plies) (take i games) → hits ≡ tree_hits query plies games
+hits-all query i plies games hits all every so_far =
+    so_far ∙ ap (λ (l : List (Option ℕ)). tree_hits query l (take i games)) (take_all i plies all) ∙ ap (λ (l : List Held). tree_hits query plies l) (take_all i games every)
+
+-- The bytes of the records of the games that are left, one game after the other.
+len-suc : (query : PosQuery) (i : ℕ) (plies : List (Option ℕ)) (entries : List Entry) (ply : Option ℕ) (e : Entry) → slice_get plies i ≡ Some ply → slice_get entries i ≡ Some e
+    → tree_len query (drop i plies) (drop i entries) ≡ hit_len query ply e + tree_len query (drop (suc i) plies) (drop (suc i) entries)
+len-suc query i [] entries ply e p x = absurd cc
+len-suc query i (q ∷ plies) [] ply e p x = absurd cc
+len-suc query zero (q ∷ plies) (y ∷ entries) ply e p x =
+    ap₂ (λ (r : Option ℕ) (z : Entry). hit_len query r z + tree_len query plies entries) (same_Some q ply p) (same_Some y e x)
+len-suc query (suc i) (q ∷ plies) (y ∷ entries) ply e p x = len-suc query i plies entries ply e p x
+
+pub len-more : (query : PosQuery) (i : ℕ) (plies : List (Option ℕ)) (entries : List Entry) (ply : Option ℕ) (e : Entry) → slice_get plies i ≡ Some ply → slice_get entries i ≡ Some e
+    → tree_len query (drop i plies) (drop i entries) ≡ hit_len query ply e + tree_len query (drop (i + 1) plies) (drop (i + 1) entries)
+len-more query i plies entries ply e p x =
+    len-suc query i plies entries ply e p x
+    ∙ ap (λ (k : ℕ). hit_len query ply e + tree_len query (drop k plies) (drop k entries)) (sym (add-one i))

@@ -1,0 +1,61 @@
+-- The command that writes the opening tree of the games that are in. This project's own.
+use Rattle.std.specs.Prelude.{ℕ, ◌&&◌, Option, List, option_map, Some, None, [], ◌∷◌, ◌++◌}
+use Rattle.base_core.specs.Base.{Held}
+use Rattle.base_core.specs.Entries.{sig_in}
+use Rattle.cell_core.specs.Board.{Men}
+use Rattle.cell_core.specs.declared.man.Colour.{Colour}
+use Rattle.cell_core.specs.declared.step.Move.{Move}
+use Rattle.game_filter.specs.Search.{looks_at}
+use Rattle.game_filter.specs.declared.op.Op.TheVariants.{And}
+use Rattle.index_entry.specs.declared.entry.Entry.{Entry}
+use Rattle.pos_search.specs.Matching as position
+use Rattle.pos_search.specs.Passing.{passes}
+use Rattle.sig_index.specs.declared.pos_query.PosQuery.{PosQuery}
+use Rattle.tree_rows.specs.Hits.{hit_of}
+use Rattle.tree_rows.specs.Rows.{rows_of}
+use Rattle.tree_rows.specs.TreeText.{tree_text}
+use Rattle.tree_rows.specs.declared.hit.GameHit.{GameHit}
+use Rattle.search_commands.specs.Searching.{exactly, position_len}
+use Rattle.shell_state.specs.Passing.{len_if, searched_len}
+use Rattle.shell_state.specs.State.{State}
+use Rattle.shell_state.specs.Work.{Work, reading}
+
+-- The bytes of the record of a game that a tree counts, which is read where it can meet the position, and of all such games.
+abbrev pub hit_len : PosQuery → Option ℕ → Entry → ℕ
+hit_len query ply e = len_if (looks_at And ply && passes (sig_in e) query) e.len
+
+abbrev pub tree_len : PosQuery → List (Option ℕ) → List Entry → ℕ
+tree_len query plies entries = searched_len (λ e. e.len) (λ e. passes (sig_in e) query) And plies entries
+
+-- What a tree counts of a game: its first match with the move after it, where its main line meets the position.
+abbrev pub hit_of_game : PosQuery → Held → Option GameHit
+hit_of_game query held = option_map (λ (found : ℕ × Option Move). hit_of found.1 query.side held.head) (position.hit_of query held.game)
+
+-- Of a game that is in; one that is out is not counted.
+abbrev pub hit_if_in : PosQuery → Option ℕ → Held → Option GameHit
+hit_if_in query (Some ply) held = hit_of_game query held
+hit_if_in query None held = None
+
+-- The hits of the games that are in, in their order.
+abbrev pub listed_hit : Option GameHit → List GameHit
+listed_hit (Some hit) = hit ∷ []
+listed_hit None = []
+
+abbrev pub tree_hits : PosQuery → List (Option ℕ) → List Held → List GameHit
+tree_hits query [] games = []
+tree_hits query (ply ∷ plies) [] = []
+tree_hits query (ply ∷ plies) (held ∷ games) = listed_hit (hit_if_in query ply held) ++ tree_hits query plies games
+
+-- The text of the rows of hits.
+abbrev pub hits_tree : PosQuery → List GameHit → List ℕ
+hits_tree query hits = tree_text query.board query.side (rows_of hits)
+
+-- tree BOARD SIDE: the rows of the games that are in and meet the board on all squares.
+abbrev pub tree_of : PosQuery → List (Option ℕ) → List Held → List ℕ
+tree_of query plies games = hits_tree query (tree_hits query plies games)
+
+abbrev pub tree_said : State → Men → Colour → List ℕ
+tree_said s board side = tree_of (exactly board side) s.filter s.base.games
+
+abbrev pub tree_work : Men → Colour → Work
+tree_work board side = reading (λ s. s) (λ s. tree_said s board side) (position_len And (exactly board side))

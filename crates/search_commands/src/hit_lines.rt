@@ -1,0 +1,110 @@
+//! Writing the games of a filter.
+ghost use Rattle.std.specs.Prelude.{◌≡◌, ◌≤◌, [], ◌∷◌, ◌++◌, ◌^◌, ◌<◌, length, count_by, is_some, string_bytes, Ok, OnOk, IfErr};
+ghost use Rattle.base_files.specs.Causes.{HasCause};
+ghost use Rattle.base_files.specs.Seen.{Seen};
+ghost use Rattle.base_files.specs.Told.{Grew, adds};
+ghost use Rattle.command_runs.specs.Counts.{Causes, Why, counts};
+ghost use Rattle.command_runs.specs.Endings.{Halted, Serves};
+ghost use Rattle.search_commands.specs.Searching.{hits_work};
+ghost use Rattle.shell_state.specs.Lines.{count_line, hit_line, hit_lines, hits_text};
+ghost use Rattle.shell_state.specs.Stands.{Stands, Broken, WhyHalt};
+ghost use Rattle.shell_state.specs.State.{State};
+ghost use Rattle.shell_state.specs.Work.{works};
+
+use base_files::{DeviceError, Sink, Stop, write_all};
+use game_filter::Filter;
+use shell_state::{Halt, Machine, PIECE};
+use std::alloc::AllocError;
+
+/// hits
+pub fn hits<K: Sink>(machine: &mut Machine, out: &mut K) -> Result<(), Halt>
+    ensures same { machine.new ≡ machine.old }
+    ensures serves { (seen : Seen) (s : State) → Stands machine.old seen s → Serves works (Stands machine.new seen) Broken s hits_work (K.taken out.old) (K.taken out.new) result }
+    ensures causes { Causes WhyHalt result (counts 0 0 (K.faults out.old)) (counts 0 0 (K.faults out.new)) }
+{
+    match write_hits(&machine.filter, &mut machine.page, out) {
+        Ok(()) => Ok(()),
+        Err(stop) => Err(Halt::Device(stop)),
+    }
+}
+
+// Writes a line for each game that is in, and then how many of how many there are. The text goes out in pieces, by way of `page`.
+#[tactic(auto, using(command_runs::proofs::Joining::halted_by))]
+pub(crate) fn write_hits<K: Sink>(
+    filter: &Filter,
+    page: &mut String,
+    out: &mut K,
+) -> Result<(), Stop>
+    ensures written { OnOk result (K.taken out.new ≡ adds (K.taken out.old) (hits_text filter.now)) }
+    ensures halted { Halted [] (hits_text filter.now) (K.taken out.old) (K.taken out.new) }
+    ensures causes { Causes Why result (counts 0 0 (K.faults out.old)) (counts 0 0 (K.faults out.new)) }
+{
+    page.clear();
+    match put_hits(filter.plies(), filter.count(), page, out) {
+        Ok(()) => Ok(()),
+        Err(error) => Err(error.of_output()),
+    }
+}
+
+// Writes the lines of a filter with so many games in. `text` is empty.
+fn put_hits<K: Sink>(
+    hits: &[Option<u32>],
+    count: u32,
+    text: &mut String,
+    out: &mut K,
+) -> Result<(), DeviceError>
+    requires few { length hits.now < 2 ^ 32 }
+    requires counted { count ≡ count_by is_some hits.now }
+    requires empty { string_bytes text.old ≡ [] }
+    ensures written { OnOk result (K.taken out.new ≡ adds (K.taken out.old) (hits_text hits.now)) }
+    ensures none_lost { Grew (K.taken out.old) (K.taken out.new) }
+    ensures no_more { Grew (K.taken out.new) (adds (K.taken out.old) (hits_text hits.now)) }
+    ensures counts { K.faults out.old ≤ K.faults out.new }
+    ensures cause { IfErr result (λ e. HasCause e (K.faults out.old) (K.faults out.new)) }
+{
+    let mut game = 0;
+    for hit in hits {
+        put_game(text, game, *hit, out)?;
+        game += 1;
+    }
+    put_count(text, count, game)?;
+    write_all(out, text.as_bytes())
+}
+
+// Puts the line of a game behind the text, if it is in, and writes the text where it is long enough.
+fn put_game<K: Sink>(
+    text: &mut String,
+    game: u32,
+    hit: Option<u32>,
+    out: &mut K,
+) -> Result<(), DeviceError>
+    ensures put { OnOk result (adds (K.taken out.new) (string_bytes text.new) ≡ adds (K.taken out.old) (string_bytes text.old ++ hit_lines game (hit ∷ []))) }
+    ensures none_lost { Grew (K.taken out.old) (K.taken out.new) }
+    ensures no_more { Grew (K.taken out.new) (adds (K.taken out.old) (string_bytes text.old ++ hit_lines game (hit ∷ []))) }
+    ensures counts { K.faults out.old ≤ K.faults out.new }
+    ensures cause { IfErr result (λ e. HasCause e (K.faults out.old) (K.faults out.new)) }
+{
+    let Some(ply) = hit else {
+        return Ok(());
+    };
+    push_hit(text, game, ply)?;
+    if text.len() >= PIECE {
+        write_all(out, text.as_bytes())?;
+        text.clear();
+    }
+    Ok(())
+}
+
+// Puts the line of a game that is in behind the text.
+fn push_hit(text: &mut String, game: u32, ply: u32) -> Result<(), AllocError>
+    ensures { OnOk result (string_bytes text.new ≡ string_bytes text.old ++ hit_line game ply) }
+{
+    write!(text, "{game} {ply}\n")
+}
+
+// Puts the line that counts the games that are in behind the text.
+fn put_count(text: &mut String, count: u32, games: u32) -> Result<(), AllocError>
+    ensures { OnOk result (string_bytes text.new ≡ string_bytes text.old ++ count_line count games) }
+{
+    write!(text, "filter {count} of {games}\n")
+}

@@ -1,0 +1,109 @@
+//! The commands that search the games for a position.
+ghost use Rattle.std.specs.Prelude.{◌≡◌, ◌≤◌, ◌+◌, ℕ, List, Some, Ok, length, IfErr, OnOk};
+ghost use Rattle.command_runs.specs.Counts.{Causes, counts};
+ghost use Rattle.command_runs.specs.Endings.{Serves};
+ghost use Rattle.game_filter.specs.Search.{searched};
+ghost use Rattle.game_tree.specs.Game.{GameTree};
+ghost use Rattle.pos_search.specs.Matching.{firsts_of};
+ghost use Rattle.pos_search.specs.Searching.{cost_of};
+ghost use Rattle.sig_index.specs.Costs.{price_by};
+ghost use Rattle.sig_index.specs.Games.{AreWithin, Holds};
+ghost use Rattle.search_commands.specs.Searching.{search_position_work, find_work};
+ghost use Rattle.shell_state.specs.Ends.{IsDevice};
+ghost use Rattle.shell_state.specs.Stands.{Stands, Sound, Broken, WhyHalt, Asks};
+ghost use Rattle.shell_state.specs.State.{State};
+ghost use Rattle.shell_state.specs.Work.{works};
+
+use crate::hit_lines::hits;
+use base_files::{Files, Sink};
+use cell_core::{Board, Colour};
+use game_filter::{Filter, Op};
+use pos_search::search;
+use shell_state::{Halt, Machine, write_filter};
+use sig_index::{Games, Mode, PosQuery};
+use std::alloc::Global;
+
+/// find BOARD SIDE
+pub fn find<F: Files, K: Sink>(
+    machine: &mut Machine,
+    files: &mut F,
+    out: &mut K,
+    board: &Board,
+    side: Colour,
+) -> Result<(), Halt>
+    requires sound { Sound machine.old (F.seen files.old) }
+    ensures serves { (s : State) → Stands machine.old (F.seen files.old) s → Serves works (Stands machine.new (F.seen files.new)) Broken s (find_work board.now side) (K.taken out.old) (K.taken out.new) result }
+    ensures sound { OnOk result (Sound machine.new (F.seen files.new)) }
+    ensures unchanged { F.seen files.new ≡ F.seen files.old }
+    ensures asks { Asks machine.old (find_work board.now side) (F.asked files.old) (F.asked files.new) }
+    ensures causes { Causes WhyHalt result (counts (F.faults files.old) 0 (K.faults out.old)) (counts (F.faults files.new) 0 (K.faults out.new)) }
+{
+    let query = PosQuery {
+        mode: Mode::Exact,
+        board: *board,
+        side,
+        vars: false,
+    };
+    let block = machine.block.as_mut_slice();
+    match search_games(
+        &machine.base,
+        &query,
+        Op::Ignore,
+        &mut machine.filter,
+        files,
+        block,
+    ) {
+        Ok(()) => hits(machine, out),
+        Err(halt) => Err(halt),
+    }
+}
+
+/// search OP position MODE BOARD SIDE, and the same with vars
+pub fn search_position<F: Files, K: Sink>(
+    alloc: Global,
+    machine: &mut Machine,
+    files: &mut F,
+    out: &mut K,
+    op: Op,
+    query: &PosQuery,
+) -> Result<(), Halt>
+    requires sound { Sound machine.old (F.seen files.old) }
+    ensures serves { (s : State) → Stands machine.old (F.seen files.old) s → Serves works (Stands machine.new (F.seen files.new)) Broken s (search_position_work op query.now) (K.taken out.old) (K.taken out.new) result }
+    ensures sound { OnOk result (Sound machine.new (F.seen files.new)) }
+    ensures unchanged { F.seen files.new ≡ F.seen files.old }
+    ensures asks { Asks machine.old (search_position_work op query.now) (F.asked files.old) (F.asked files.new) }
+    ensures causes { Causes WhyHalt result (counts (F.faults files.old) 0 (K.faults out.old)) (counts (F.faults files.new) 0 (K.faults out.new)) }
+{
+    let block = machine.block.as_mut_slice();
+    match search_games(&machine.base, query, op, &mut machine.filter, files, block) {
+        Ok(()) => {}
+        Err(halt) => return Err(halt),
+    }
+    write_filter(alloc, &machine.filter, out)
+}
+
+// Leaves in the filter what its entries become by the search. The records of the games that can match are read into `block`.
+fn search_games<G: Games, F: Files>(
+    games: &G,
+    query: &PosQuery,
+    op: Op,
+    filter: &mut Filter,
+    files: &mut F,
+    block: &mut [u8],
+) -> Result<(), Halt>
+    requires room { length block.old ≡ 131072 }
+    requires within { AreWithin (F.seen files.old).known (G.extents games.now) }
+    requires entries { length filter.old ≡ length (G.sigs games.now) }
+    ensures found { (told : List ℕ) (list : List GameTree) → (F.seen files.old).games ≡ Some told → Holds told (G.extents games.now) (G.sigs games.now) list → OnOk result (filter.new ≡ searched op (firsts_of query.now list) filter.old) }
+    ensures devices { (told : List ℕ) (list : List GameTree) → (F.seen files.old).games ≡ Some told → Holds told (G.extents games.now) (G.sigs games.now) list → IfErr result IsDevice }
+    ensures entries { length filter.new ≡ length filter.old }
+    ensures room { length block.new ≡ 131072 }
+    ensures unchanged { F.seen files.new ≡ F.seen files.old }
+    ensures asks { F.asked files.new ≤ F.asked files.old + price_by (cost_of op query.now) (G.sigs games.now) (G.extents games.now) filter.old }
+    ensures causes { Causes WhyHalt result (counts (F.faults files.old) 0 0) (counts (F.faults files.new) 0 0) }
+{
+    match search(games, query, op, filter, files, block) {
+        Ok(()) => Ok(()),
+        Err(error) => Err(Halt::from(error)),
+    }
+}

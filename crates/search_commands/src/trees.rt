@@ -1,0 +1,215 @@
+//! The command that writes the opening tree of the games that are in.
+ghost use Rattle.std.specs.Prelude.{◌≡◌, ◌≤◌, ◌<◌, ◌+◌, ◌++◌, ℕ, List, Some, Ok, All, length, slice_get, IfOk, IfErr, IfSome, OnOk};
+ghost use Rattle.base_core.specs.Base.{Base as PlainBase, Held};
+ghost use Rattle.base_core.specs.Entries.{sig_in};
+ghost use Rattle.base_core.specs.Represents.{IsSound, Represents, heads_of};
+ghost use Rattle.command_runs.specs.Counts.{Causes, counts};
+ghost use Rattle.command_runs.specs.Endings.{Serves};
+ghost use Rattle.index_entry.specs.declared.entry.Entry.{Entry};
+ghost use Rattle.pos_search.specs.Passing.{passes};
+ghost use Rattle.sig_index.specs.Games.{head_in};
+ghost use Rattle.sig_index.specs.declared.pos_query.Mode.TheVariants.{Exact};
+ghost use Rattle.tree_rows.specs.Hits.{hit_of};
+ghost use Rattle.tree_rows.specs.MoveText.{IsKey};
+ghost use Rattle.search_commands.specs.Trees.{hit_len, tree_len, hit_if_in, hit_of_game, hits_tree, listed_hit, tree_hits, tree_of, tree_work};
+ghost use Rattle.shell_state.specs.Ends.{IsDevice};
+ghost use Rattle.shell_state.specs.Passing.{len_if};
+ghost use Rattle.shell_state.specs.Stands.{Stands, Sound, Broken, WhyHalt, Asks};
+ghost use Rattle.shell_state.specs.State.{State};
+ghost use Rattle.shell_state.specs.Work.{works};
+
+use base_core::Base;
+use base_files::{Files, Sink, Stop};
+use cell_core::{Board, Colour, Move};
+use game_filter::Filter;
+use pos_search::{Sought, hit_sought};
+use shell_state::{Halt, Machine, write_line};
+use sig_index::{Games, Mode, PosQuery};
+use std::alloc::{AllocError, Global};
+use tree_rows::{GameHit, Rows, lines};
+
+/// tree BOARD SIDE
+pub fn tree<F: Files, K: Sink>(
+    alloc: Global,
+    machine: &mut Machine,
+    files: &mut F,
+    out: &mut K,
+    board: &Board,
+    side: Colour,
+) -> Result<(), Halt>
+    requires sound { Sound machine.old (F.seen files.old) }
+    ensures same { machine.new ≡ machine.old }
+    ensures serves { (s : State) → Stands machine.old (F.seen files.old) s → Serves works (Stands machine.new (F.seen files.new)) Broken s (tree_work board.now side) (K.taken out.old) (K.taken out.new) result }
+    ensures unchanged { F.seen files.new ≡ F.seen files.old }
+    ensures asks { Asks machine.old (tree_work board.now side) (F.asked files.old) (F.asked files.new) }
+    ensures causes { Causes WhyHalt result (counts (F.faults files.old) 0 (K.faults out.old)) (counts (F.faults files.new) 0 (K.faults out.new)) }
+{
+    let query = PosQuery {
+        mode: Mode::Exact,
+        board: *board,
+        side,
+        vars: false,
+    };
+    let block = machine.block.as_mut_slice();
+    match read_tree(alloc, &machine.base, &machine.filter, &query, files, block) {
+        Ok(text) => write_line(out, text.as_slice()),
+        Err(halt) => Err(halt),
+    }
+}
+
+// The text of the tree of a position over the games that are in. Their records are read into `block`.
+fn read_tree<F: Files>(
+    alloc: Global,
+    base: &Base,
+    filter: &Filter,
+    query: &PosQuery,
+    files: &mut F,
+    block: &mut [u8],
+) -> Result<Vec<u8>, Halt>
+    requires exact { query.now.mode ≡ Exact }
+    requires games { length filter.now ≡ length base.now.entries }
+    requires sound { IsSound base.now }
+    requires room { length block.old ≡ 131072 }
+    requires within { base.now.end ≤ (F.seen files.old).known }
+    ensures text { (told : List ℕ) (all : PlainBase) → (F.seen files.old).games ≡ Some told → Represents base.now told all → IfOk result (λ text. text.items ≡ tree_of query.now filter.now all.games) }
+    ensures devices { (told : List ℕ) (all : PlainBase) → (F.seen files.old).games ≡ Some told → Represents base.now told all → IfErr result IsDevice }
+    ensures room { length block.new ≡ 131072 }
+    ensures unchanged { F.seen files.new ≡ F.seen files.old }
+    ensures asks { F.asked files.new ≤ F.asked files.old + tree_len query.now filter.now base.now.entries }
+    ensures causes { Causes WhyHalt result (counts (F.faults files.old) 0 0) (counts (F.faults files.new) 0 0) }
+{
+    let hits = match read_hits(alloc, base, filter, &Sought::new(query), files, block) {
+        Ok(hits) => hits,
+        Err(halt) => return Err(halt),
+    };
+    match text_of(alloc, hits.as_slice(), query) {
+        Ok(text) => Ok(text),
+        Err(AllocError) => Err(Halt::Device(Stop::Memory)),
+    }
+}
+
+// The text of the rows of hits of a position.
+fn text_of(alloc: Global, hits: &[GameHit], query: &PosQuery) -> Result<Vec<u8>, AllocError>
+    requires few { length hits.now ≤ 16777214 }
+    requires keys { All (λ hit. IsKey query.now.board query.now.side hit.next) hits.now }
+    ensures text { IfOk result (λ text. text.items ≡ hits_tree query.now hits.now) }
+{
+    let rows = Rows::from_scratch(alloc, hits)?;
+    let mut text = Vec::new(alloc);
+    lines(alloc, rows.as_slice(), &query.board, query.side, &mut text)?;
+    Ok(text)
+}
+
+// The hits of the games that are in, in their order.
+fn read_hits<F: Files>(
+    alloc: Global,
+    base: &Base,
+    filter: &Filter,
+    query: &Sought<'_>,
+    files: &mut F,
+    block: &mut [u8],
+) -> Result<Vec<GameHit>, Halt>
+    requires exact { query.now.mode ≡ Exact }
+    requires games { length filter.now ≡ length base.now.entries }
+    requires sound { IsSound base.now }
+    requires room { length block.old ≡ 131072 }
+    requires within { base.now.end ≤ (F.seen files.old).known }
+    ensures hits { (told : List ℕ) (all : PlainBase) → (F.seen files.old).games ≡ Some told → Represents base.now told all → IfOk result (λ hits. hits.items ≡ tree_hits query.now filter.now all.games) }
+    ensures devices { (told : List ℕ) (all : PlainBase) → (F.seen files.old).games ≡ Some told → Represents base.now told all → IfErr result IsDevice }
+    ensures few { IfOk result (λ hits. length hits.items ≤ length filter.now) }
+    ensures keys { IfOk result (λ hits. All (λ hit. IsKey query.now.board query.now.side hit.next) hits.items) }
+    ensures room { length block.new ≡ 131072 }
+    ensures unchanged { F.seen files.new ≡ F.seen files.old }
+    ensures asks { F.asked files.new ≤ F.asked files.old + tree_len query.now filter.now base.now.entries }
+    ensures causes { Causes WhyHalt result (counts (F.faults files.old) 0 0) (counts (F.faults files.new) 0 0) }
+{
+    let mut hits = Vec::new(alloc);
+    for i in 0..filter.len() {
+        match add_hit(&mut hits, base, i, filter.get(i), query, files, block) {
+            Ok(()) => {}
+            Err(halt) => return Err(halt),
+        }
+    }
+    Ok(hits)
+}
+
+// Puts the hit of a game behind the others, if the game is in and meets the position.
+fn add_hit<F: Files>(
+    hits: &mut Vec<GameHit>,
+    base: &Base,
+    i: u32,
+    ply: Option<u32>,
+    query: &Sought<'_>,
+    files: &mut F,
+    block: &mut [u8],
+) -> Result<(), Halt>
+    requires exact { query.now.mode ≡ Exact }
+    requires there { i < length base.now.entries }
+    requires sound { IsSound base.now }
+    requires room { length block.old ≡ 131072 }
+    requires within { base.now.end ≤ (F.seen files.old).known }
+    ensures added { (told : List ℕ) (all : PlainBase) (held : Held) → (F.seen files.old).games ≡ Some told → Represents base.now told all → slice_get all.games i ≡ Some held → OnOk result (hits.new.items ≡ hits.old.items ++ listed_hit (hit_if_in query.now ply held)) }
+    ensures devices { (told : List ℕ) (all : PlainBase) → (F.seen files.old).games ≡ Some told → Represents base.now told all → IfErr result IsDevice }
+    ensures few { OnOk result (length hits.new.items ≤ length hits.old.items + 1) }
+    ensures keys { All (λ hit. IsKey query.now.board query.now.side hit.next) hits.old.items → OnOk result (All (λ hit. IsKey query.now.board query.now.side hit.next) hits.new.items) }
+    ensures room { length block.new ≡ 131072 }
+    ensures unchanged { F.seen files.new ≡ F.seen files.old }
+    ensures asks { (e : Entry) → slice_get base.now.entries i ≡ Some e → F.asked files.new ≤ F.asked files.old + hit_len query.now ply e }
+    ensures causes { Causes WhyHalt result (counts (F.faults files.old) 0 0) (counts (F.faults files.new) 0 0) }
+{
+    let Some(_) = ply else {
+        return Ok(());
+    };
+    let found = match read_hit(base, i, query, files, block) {
+        Ok(Some(found)) => found,
+        Ok(None) => return Ok(()),
+        Err(halt) => return Err(halt),
+    };
+    match hits.push(found) {
+        Ok(()) => Ok(()),
+        Err(_) => Err(Halt::Device(Stop::Memory)),
+    }
+}
+
+// The hit of a game, if it meets the position. Its record is read into `block` if it can.
+fn read_hit<F: Files>(
+    base: &Base,
+    i: u32,
+    query: &Sought<'_>,
+    files: &mut F,
+    block: &mut [u8],
+) -> Result<Option<GameHit>, Halt>
+    requires exact { query.now.mode ≡ Exact }
+    requires there { i < length base.now.entries }
+    requires sound { IsSound base.now }
+    requires room { length block.old ≡ 131072 }
+    requires within { base.now.end ≤ (F.seen files.old).known }
+    ensures hit { (told : List ℕ) (all : PlainBase) (held : Held) → (F.seen files.old).games ≡ Some told → Represents base.now told all → slice_get all.games i ≡ Some held → IfOk result (λ hit. hit ≡ hit_of_game query.now held) }
+    ensures devices { (told : List ℕ) (all : PlainBase) → (F.seen files.old).games ≡ Some told → Represents base.now told all → IfErr result IsDevice }
+    ensures key { IfOk result (λ hit. IfSome hit (λ found. IsKey query.now.board query.now.side found.next)) }
+    ensures room { length block.new ≡ 131072 }
+    ensures unchanged { F.seen files.new ≡ F.seen files.old }
+    ensures asks { (e : Entry) → slice_get base.now.entries i ≡ Some e → F.asked files.new ≤ F.asked files.old + len_if (passes (sig_in e) query.now) e.len }
+    ensures causes { Causes WhyHalt result (counts (F.faults files.old) 0 0) (counts (F.faults files.new) 0 0) }
+{
+    match hit_sought(base, i, query, files, block) {
+        Ok(Some((_, next))) => Ok(Some(counted(base, i, next, query.side()))),
+        Ok(None) => Ok(None),
+        Err(error) => Err(Halt::from(error)),
+    }
+}
+
+// What is counted of a game that goes on with this move behind the match, if with any. Of its head only that is read.
+fn counted(base: &Base, i: u32, next: Option<Move>, side: Colour) -> GameHit
+    requires there { i < length base.now.entries }
+    ensures counted { result ≡ hit_of next side (head_in (heads_of base.now) i) }
+{
+    GameHit::of(
+        next,
+        side,
+        base.outcome(i),
+        base.white_rating(i).value,
+        base.black_rating(i).value,
+        base.date(i).year,
+    )
+}

@@ -1,5 +1,0 @@
-use Rattle.shell_commands.proofs.ListingLaws.{three}
-use Rattle.shell_commands.proofs.listing.push_game.Goals as goal
-
-pub returns : goal.returns
-returns c = three c.push_players.result _ _ _ _ _ _ _ c.in_ok-push_numbers.ensures c.in_ok-push_facts.ensures c.push_players.ensures

@@ -1,0 +1,9 @@
+pub mod Quietly
+pub mod PassingLaws
+pub mod PriceLaws
+pub mod CarryLaws
+pub mod Causing
+pub mod EditedLaws
+pub mod HoldingLaws
+pub mod Beginning
+pub mod Served

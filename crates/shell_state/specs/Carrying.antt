@@ -1,0 +1,60 @@
+-- What the files carry while a script runs. This project's own.
+use Rattle.std.specs.Prelude.{◌≡◌, ℕ, List, Some, Bool, false, [], Option, None, ◌⊎◌, ⊤}
+use Rattle.base_core.specs.Base.{Base}
+use Rattle.base_core.specs.Means.{Carries, Means, HoldsNames}
+use Rattle.base_core.specs.Represents.{Kept}
+use Rattle.base_files.specs.Seen.{Seen}
+use Rattle.shell_state.specs.State.{State}
+
+-- The three contents that files tell.
+pub record Contents (seen : Seen) : Type 0 where
+  pub index : List ℕ
+  pub names : List ℕ
+  pub games : List ℕ
+  pub index_told : seen.index ≡ Some index
+  pub names_told : seen.names ≡ Some names
+  pub games_told : seen.games ≡ Some games
+
+-- The files tell that they carry this base, or that they mean it.
+abbrev pub CarryIt : Seen → Base → Type 0
+CarryIt seen base = (c : Contents seen) × Carries c.index c.names c.games base
+
+abbrev pub MeanIt : Seen → Base → Type 0
+MeanIt seen base = (c : Contents seen) × Means c.index c.names c.games base
+
+-- The files beside a base that is open: they carry this base, whose names have the same ids in what is kept, and they mean it where nothing
+-- is unsaved.
+pub record Beside (kept : Kept) (seen : Seen) (unsaved : Bool) (base : Base) : Type 0 where
+  pub contents : Contents seen
+  pub carries : Carries contents.index contents.names contents.games base
+  pub names : HoldsNames kept.names carries.all_names
+  pub means : unsaved ≡ false → Means contents.index contents.names contents.games base
+
+-- The index and the names file are empty.
+abbrev pub AreEmpty : Seen → Type 0
+AreEmpty seen = (seen.index ≡ Some []) × (seen.names ≡ Some [])
+
+-- Where there is a base that they carry; those of a base that was created and neither saved nor compacted are empty.
+abbrev pub AreBeside : Kept → Seen → Bool → Option Base → Type 0
+AreBeside kept seen unsaved (Some base) = Beside kept seen unsaved base
+AreBeside kept seen unsaved None = AreEmpty seen
+
+-- The files after the commands of a script: they carry the base that was opened, or saved or compacted last, and mean it where no edit came
+-- after. Those of a base that was created and neither saved nor compacted are empty.
+abbrev pub AreLeft : Seen → Option Base → Bool → Type 0
+AreLeft seen (Some base) unsaved = CarryIt seen base × (unsaved ≡ false → MeanIt seen base)
+AreLeft seen None unsaved = AreEmpty seen
+
+-- The files carry what a command leaves of a base that replaces them, if it does.
+abbrev pub CarryLeft : Seen → Option (Base → Base) → Base → Type 0
+CarryLeft seen (Some left) base = CarryIt seen (left base)
+CarryLeft seen None base = ⊥
+
+-- What the files carry where a command was broken off: what they carried before it, or perhaps what it leaves of the base. Nothing is said
+-- where the base was created and neither saved nor compacted.
+abbrev pub MayCarry : Seen → Option Base → Option (Base → Base) → Base → Type 0
+MayCarry seen (Some carried) left base = CarryIt seen carried ⊎ CarryLeft seen left base
+MayCarry seen None left base = ⊤
+
+abbrev pub StillCarry : Seen → State → Option (Base → Base) → Type 0
+StillCarry seen s left = MayCarry seen s.carried left s.base

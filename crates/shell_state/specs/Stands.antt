@@ -1,0 +1,99 @@
+-- How the machine stands for a plain state, beside the files of its base. This project's own.
+use Rattle.std.specs.Bool.{MatchBool}
+use Rattle.std.specs.Prelude.{ℕ, List, Option, ◌≡◌, Some, All, length, ⊤, IsTrue, slice_get, [], Bool, false, ◌+◌, map, ◌≤◌}
+use Rattle.base_core.specs.Base.{Base}
+use Rattle.base_core.specs.Entries.{head_of, sig_in}
+use Rattle.base_core.specs.Means.{Means}
+use Rattle.base_core.specs.Represents.{Kept, Represents, IsSound}
+use Rattle.base_files.specs.Seen.{Seen}
+use Rattle.base_files.specs.declared.faults.Stop.TheVariants as stop
+use Rattle.block_store.specs.Placing.{IsEnd}
+use Rattle.command_runs.specs.Counts.{Counts, Why}
+use Rattle.index_entry.specs.declared.entry.Entry.{Entry}
+use Rattle.filter_seat.specs.declared.saved.SavedFilter.{SavedFilter}
+use Rattle.shell_state.specs.Carrying.{AreBeside, AreEmpty, Contents}
+use Rattle.shell_state.specs.Passing.{len_in}
+use Rattle.shell_state.specs.State.{State, begin}
+use Rattle.shell_state.specs.Work.{Look, Work, price, Price}
+use Rattle.shell_state.specs.Work.Price.{by_looks, by_state}
+use Rattle.shell_state.specs.declared.halt.Halt.{Halt}
+use Rattle.shell_state.specs.declared.halt.Halt.TheVariants as halt
+
+-- What a machine holds: what the open base keeps, the filter, and the filters that are kept by name.
+pub record Holding : Type 0 where
+  pub kept : Kept
+  pub filter : List (Option ℕ)
+  pub saved : List SavedFilter
+
+-- The machine stands for this state, where the files are told: for none where they are not.
+pub record Stands (holding : Holding) (seen : Seen) (s : State) : Type 0 where
+  pub games : List ℕ
+  pub told : seen.games ≡ Some games
+  pub base : Represents holding.kept games s.base
+  pub filter : holding.filter ≡ s.filter
+  pub saved : holding.saved ≡ s.saved
+  pub unsaved : holding.kept.unsaved ≡ s.unsaved
+  pub carried : AreBeside holding.kept seen s.unsaved s.carried
+
+-- Each filter of a machine has an entry for each game.
+pub record Fits (holding : Holding) : Type 0 where
+  pub filter : length holding.filter ≡ length holding.kept.entries
+  pub saved : All (λ kept. length kept.plies ≡ length holding.kept.entries) holding.saved
+
+-- What every machine keeps, whatever the files tell: its filters fit, its base is sound, and the base ends where the games file ends, within
+-- its known length.
+pub record Sound (holding : Holding) (seen : Seen) : Type 0 where
+  pub fits : Fits holding
+  pub base : IsSound holding.kept
+  pub at_end : IsEnd holding.kept.end seen
+
+-- A line that uses no file did what it says, and this is its text. The base keeps its end.
+pub record Quiet (old : Holding) (work : Work) (new : Holding) (line : List ℕ) : Type 0 where
+  pub stands : (seen : Seen) (s : State) → Stands old seen s → Stands new seen (work.after s)
+  pub text : (seen : Seen) (s : State) → Stands old seen s → line ≡ work.text s
+  pub fits : Fits new
+  pub base : IsSound old.kept → IsSound new.kept
+  pub end : new.kept.end ≡ old.kept.end
+
+-- What is known of a command that was broken off in a state: the input fails only at one that reads a body, the files only at one that uses
+-- them, and told files never change.
+abbrev pub Broken : State → Work → Halt → Type 0
+Broken s work (halt.Device stop.Read) = IsTrue work.body
+Broken s work (halt.Device stop.Files) = IsTrue work.files
+Broken s work (halt.Device stop.Write) = ⊤
+Broken s work (halt.Device stop.Memory) = ⊤
+Broken s work (halt.Changed game kept found) = ⊥
+
+-- The cause of an early end: a device counted a fault, or a record has another signature than the kept one, or none.
+abbrev pub WhyHalt : Halt → Counts → Counts → Type 0
+WhyHalt (halt.Device stop) old new = Why stop old new
+WhyHalt (halt.Changed game kept found) old new = found ≡ Some kept → ⊥
+
+-- The bytes of the record of one game; past the last game there are none.
+abbrev pub len_at : List Entry → ℕ → ℕ
+len_at entries game = len_in (λ e. e.len) (slice_get entries game)
+
+-- What the price of a command looks at, of what the machine holds.
+abbrev pub looks_in : Kept → List Look
+looks_in kept = map (λ e. record { len = e.len; sig = sig_in e; head = head_of kept.names e [] }) kept.entries
+
+-- A command asks no more bytes of the games file than its price by what the machine holds before it.
+abbrev pub AsksBy : Price → Holding → ℕ → ℕ → Type 0
+AsksBy (by_looks price) holding old new = new ≤ old + price (looks_in holding.kept) holding.filter
+AsksBy (by_state price) holding old new = ⊤
+
+abbrev pub Asks : Holding → Work → ℕ → ℕ → Type 0
+Asks holding work old new = AsksBy work.price holding old new
+
+-- A base was opened or created, beside files that are told: what is kept stands for it, without changes, and the files mean it or are empty.
+pub record IsOpen (kept : Kept) (seen : Seen) (created : Bool) (base : Base) : Type 0 where
+  pub contents : Contents seen
+  pub represents : Represents kept contents.games base
+  pub saved : kept.unsaved ≡ false
+  pub means : MatchBool created (AreEmpty seen) (Means contents.index contents.names contents.games base)
+
+-- A machine begins with what an open base keeps: it is sound where the base ends with the games file, and where a base was opened or created
+-- it stands for the state in which a script begins.
+pub record Begins (kept : Kept) (holding : Holding) : Type 0 where
+  pub sound : (seen : Seen) → IsEnd kept.end seen → Sound holding seen
+  pub stands : (seen : Seen) (created : Bool) (base : Base) → IsOpen kept seen created base → Stands holding seen (begin created base)

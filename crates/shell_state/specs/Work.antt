@@ -1,0 +1,56 @@
+-- What a command does, whichever it is. This project's own.
+use Rattle.std.specs.Prelude.{ℕ, Bool, true, false, List, map, Option, None}
+use Rattle.base_core.specs.Base.{Base}
+use Rattle.command_runs.specs.Plain.{Plain}
+use Rattle.game_tree.specs.Head.{without_tags}
+use Rattle.game_tree.specs.declared.head.Head.{Head}
+use Rattle.sig_index.specs.declared.signature.Sig.{Sig}
+use Rattle.shell_state.specs.Passing.{sig_of}
+use Rattle.shell_state.specs.State.{State}
+
+-- What the price of a command looks at in a game: the length of its record, its signature, and its head.
+pub record Look : Type 0 where
+  pub len : ℕ
+  pub sig : Sig
+  pub head : Head
+
+abbrev pub looks_of : Base → List Look
+looks_of base = map (λ held. record { len = held.len; sig = sig_of held.game; head = without_tags held.head }) base.games
+
+-- How many bytes of the games file a command asks at most: by the games and the filter before it, or by the state behind the games that it
+-- adds first.
+pub data Price : Type 0 where
+  by_looks : (List Look → List (Option ℕ) → ℕ) → Price
+  by_state : (State → ℕ) → Price
+
+abbrev pub price_by : Price → State → ℕ
+price_by (by_looks price) s = price (looks_of s.base) s.filter
+price_by (by_state price) s = price s
+
+-- What a command makes of a state, and the text that it writes; whether it uses the files, may change them, and reads a body; the base that it
+-- leaves in their place, if it replaces them; and its price.
+pub record Work : Type 0 where
+  pub after : State → State
+  pub text : State → List ℕ
+  pub files : Bool
+  pub writes : Bool
+  pub body : Bool
+  pub left : Option (Base → Base)
+  pub price : Price
+
+-- The plain machine over what commands do.
+abbrev pub works : Plain State Work
+works = record { after = λ s work. work.after s; text = λ s work. work.text s }
+
+abbrev pub price : State → Work → ℕ
+price s work = price_by work.price s
+
+-- A command that uses no file, one that reads games, and one that adds to the games file.
+abbrev pub quiet : (State → State) → (State → List ℕ) → Work
+quiet after text = record { after = after; text = text; files = false; writes = false; body = false; left = None; price = by_looks (λ looks plies. 0) }
+
+abbrev pub reading : (State → State) → (State → List ℕ) → (List Look → List (Option ℕ) → ℕ) → Work
+reading after text price = record { after = after; text = text; files = true; writes = false; body = false; left = None; price = by_looks price }
+
+abbrev pub writing : (State → State) → (State → List ℕ) → Price → Work
+writing after text price = record { after = after; text = text; files = true; writes = true; body = false; left = None; price = price }

@@ -1,0 +1,15 @@
+//! The state that the commands of a script change: the machine, what it stands for, and what commands have in common.
+#![tactic(auto)]
+
+mod halt;
+mod lines;
+mod machine;
+mod writing;
+
+pub use halt::{Halt, halt_of};
+pub use lines::{
+    error_line, fault_line, filter_line, full_words, game_line, line_of, name_line, no_game_line,
+    refused_line, san_words,
+};
+pub use machine::Machine;
+pub use writing::{PIECE, write_filter, write_line};

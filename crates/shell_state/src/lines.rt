@@ -1,0 +1,128 @@
+//! The lines that commands write.
+ghost use Rattle.std.specs.Prelude.{◌≡◌, IfOk, ◌<◌, Ok, Err, IfErr};
+ghost use Rattle.shell_state.specs.Ends.{EndsAs, IsThere, refused_edit};
+ghost use Rattle.shell_state.specs.Lines.{error_line, game_line, no_game_line, filter_line, name_line, line_of, fault_line, argument_line, san_words};
+ghost use Rattle.shell_state.specs.Refusing.{full_words};
+
+use crate::halt::{Halt, halt_of};
+use base_core::{EditError, What};
+use cell_core::Text;
+use chess_text::SanFault;
+use game_filter::Filter;
+use script_text::ScriptFault;
+use std::alloc::{AllocError, Global};
+
+/// `filter N of M`.
+pub fn filter_line(alloc: Global, filter: &Filter) -> Result<Vec<u8>, AllocError>
+    ensures { IfOk result (λ line. line.items ≡ filter_line filter.now) }
+{
+    let count = filter.count();
+    let games = filter.len();
+    let line = format!(in alloc; "filter {count} of {games}\n")?;
+    Ok(line.into_bytes())
+}
+
+/// A line of these words.
+pub fn line_of(alloc: Global, words: &[u8]) -> Result<Vec<u8>, AllocError>
+    ensures { IfOk result (λ line. line.items ≡ line_of words.now) }
+{
+    let mut line = Vec::from_slice(alloc, words)?;
+    line.push(b'\n')?;
+    Ok(line)
+}
+
+/// A line of words and a name.
+pub fn name_line(alloc: Global, words: &[u8], name: &Text) -> Result<Vec<u8>, AllocError>
+    ensures { IfOk result (λ line. line.items ≡ name_line words.now name.now) }
+{
+    let mut line = Vec::from_slice(alloc, words)?;
+    line.extend_from_slice(name.as_bytes())?;
+    line.push(b'\n')?;
+    Ok(line)
+}
+
+/// An error line of these words.
+pub fn error_line(alloc: Global, words: &[u8]) -> Result<Vec<u8>, AllocError>
+    ensures { IfOk result (λ line. line.items ≡ error_line words.now) }
+{
+    let mut line = Vec::from_slice(alloc, b"error: ")?;
+    line.extend_from_slice(words)?;
+    line.push(b'\n')?;
+    Ok(line)
+}
+
+/// What would be full.
+pub fn full_words(what: What) -> &'static [u8]
+    ensures { result.now ≡ full_words what }
+{
+    match what {
+        What::Games => b"full games",
+        What::Players => b"full players",
+        What::Events => b"full events",
+        What::Sites => b"full sites",
+        What::Rounds => b"full rounds",
+        What::File => b"full file",
+    }
+}
+
+/// The error line of a line that is no command.
+pub fn fault_line(alloc: Global, fault: ScriptFault) -> Result<Vec<u8>, AllocError>
+    ensures { IfOk result (λ line. line.items ≡ fault_line fault) }
+{
+    match fault {
+        ScriptFault::TooLong => line_of(alloc, b"error: line too long"),
+        ScriptFault::Unknown => line_of(alloc, b"error: unknown command"),
+        ScriptFault::Argument(n) => argument_line(alloc, n),
+        ScriptFault::Extra => line_of(alloc, b"error: extra argument"),
+    }
+}
+
+// The error line of a word that is not of its form.
+fn argument_line(alloc: Global, n: u32) -> Result<Vec<u8>, AllocError>
+    ensures { IfOk result (λ line. line.items ≡ argument_line n) }
+{
+    let line = format!(in alloc; "error: argument {n}\n")?;
+    Ok(line.into_bytes())
+}
+
+/// The error line of a game that is not there.
+pub fn no_game_line(alloc: Global, game: u64) -> Result<Vec<u8>, AllocError>
+    ensures { IfOk result (λ line. line.items ≡ no_game_line game) }
+{
+    let line = format!(in alloc; "error: no game {game}\n")?;
+    Ok(line.into_bytes())
+}
+
+/// A line of words and the number of a game.
+pub fn game_line(alloc: Global, words: &[u8], game: u64) -> Result<Vec<u8>, AllocError>
+    ensures { IfOk result (λ line. line.items ≡ game_line words.now game) }
+{
+    let mut line = Vec::from_slice(alloc, words)?;
+    let digits = format!(in alloc; "{game}\n")?;
+    line.extend_from_slice(digits.as_bytes())?;
+    Ok(line)
+}
+
+/// What is wrong with the text of a move.
+pub fn san_words(fault: SanFault) -> &'static str
+    ensures words { result.now ≡ san_words fault }
+{
+    match fault {
+        SanFault::Shape => "bad move text",
+        SanFault::NoMove => "no legal move",
+        SanFault::Two => "ambiguous move",
+    }
+}
+
+/// The error line of a game whose record is not placed, or how the command ends.
+pub fn refused_line(alloc: Global, error: EditError) -> Result<Vec<u8>, Halt>
+    requires there { IsThere error }
+    ensures line { IfOk result (λ line. refused_edit error ≡ Ok line.items) }
+    ensures halt { IfErr result (EndsAs (refused_edit error)) }
+{
+    match error {
+        EditError::TooLong(_) => Ok(error_line(alloc, b"record too long")?),
+        EditError::Full(what) => Ok(error_line(alloc, full_words(what))?),
+        other => Err(halt_of(other)),
+    }
+}

@@ -1,0 +1,82 @@
+//! The machine that runs commands.
+ghost use Rattle.std.specs.Prelude.{◌≡◌, ◌≤◌, ◌<◌, [], length, IfOk, MatchOption};
+ghost use Rattle.base_core.specs.Represents.{IsSound};
+ghost use Rattle.game_filter.specs.Filter.{all_in};
+ghost use Rattle.shell_state.specs.Stands.{Stands, Begins};
+
+use base_core::Base;
+use filter_seat::SavedFilter;
+use game_filter::Filter;
+use std::alloc::{AllocError, Global};
+use std::marker::Model;
+
+/// An open base with a filter and the filters that are kept by name, and the memory that its commands need.
+#[derive(Drop)]
+pub struct Machine {
+    /// The open base.
+    pub base: Base,
+    /// The filter, with an entry for each game.
+    pub filter: Filter,
+    /// The filters that are kept by name.
+    pub saved: Vec<SavedFilter>,
+    /// A record is read into it: as long as the longest one may be.
+    pub block: Vec<u8>,
+    /// Text that is put together before it is written.
+    pub page: String,
+}
+
+impl Model for Machine {
+    ghost use Rattle.std.specs.Prelude.{◌≡◌, length};
+    ghost use Rattle.shell_state.specs.Stands.{Holding};
+
+    ghost Value = { Holding };
+
+    ghost view = { λ machine. record { kept = machine.base; filter = machine.filter; saved = machine.saved.items } };
+
+    ghost invariant = { λ machine. length machine.block.items ≡ 131072 };
+}
+
+impl Machine {
+    /// The machine over a base that was opened: every game is in, and no filter is kept. `block` holds 131,072 bytes.
+    pub fn new(alloc: Global, base: Base, block: Vec<u8>) -> Result<Machine, AllocError>
+        requires room { length block.items ≡ 131072 }
+        ensures holds { IfOk result (λ machine. machine ≡ record { kept = base; filter = all_in (length base.entries); saved = [] }) }
+
+        // Where its base was opened without changes, it stands for the state in which a script begins.
+        ensures begins { IfOk result (Begins base) }
+    {
+        let filter = Filter::new(alloc, base.header().games)?;
+        Ok(Machine {
+            base,
+            filter,
+            saved: Vec::new(alloc),
+            block,
+            page: String::new(alloc),
+        })
+    }
+
+    /// What every open base keeps, this one too. Nothing is done.
+    pub fn keeps_sound(&self)
+        ensures sound { IsSound self.now.kept }
+    {
+        let _header = self.base.header();
+    }
+
+    /// The game of a number, where there is one.
+    pub fn game_at(&self, number: u64) -> Option<u32>
+        ensures at { MatchOption result (length self.now.kept.entries ≤ number) (λ i. (i ≡ number) × (i < length self.now.kept.entries)) }
+    {
+        if number < u64::from(self.games()) {
+            Some(number as u32)
+        } else {
+            None
+        }
+    }
+
+    /// The number of games of its base.
+    pub fn games(&self) -> u32
+        ensures games { result ≡ length self.now.kept.entries }
+    {
+        self.base.header().games
+    }
+}

@@ -1,0 +1,44 @@
+//! Writing lines.
+ghost use Rattle.std.specs.Prelude.{◌≡◌, ◌<◌, [], Ok, IfErr, OnOk};
+ghost use Rattle.base_files.specs.Told.{adds};
+ghost use Rattle.command_runs.specs.Counts.{Causes, counts};
+ghost use Rattle.command_runs.specs.Endings.{Halted};
+ghost use Rattle.shell_state.specs.Ends.{IsOutput};
+ghost use Rattle.shell_state.specs.Lines.{filter_line};
+ghost use Rattle.shell_state.specs.Stands.{WhyHalt};
+
+use crate::halt::Halt;
+use crate::lines::filter_line;
+use base_files::{Sink, Stop};
+use command_runs::write_text;
+use game_filter::Filter;
+use std::alloc::{AllocError, Global};
+
+/// How many bytes of text are put together before they are written.
+pub const PIECE: usize = 32_768;
+
+/// Writes `filter N of M`.
+pub fn write_filter<K: Sink>(alloc: Global, filter: &Filter, out: &mut K) -> Result<(), Halt>
+    ensures written { OnOk result (K.taken out.new ≡ adds (K.taken out.old) (filter_line filter.now)) }
+    ensures halted { Halted [] (filter_line filter.now) (K.taken out.old) (K.taken out.new) }
+    ensures output { IfErr result IsOutput }
+    ensures causes { Causes WhyHalt result (counts 0 0 (K.faults out.old)) (counts 0 0 (K.faults out.new)) }
+{
+    match filter_line(alloc, filter) {
+        Ok(line) => write_line(out, line.as_slice()),
+        Err(AllocError) => Err(Halt::Device(Stop::Memory)),
+    }
+}
+
+/// Writes a line whose work is done.
+pub fn write_line<K: Sink>(out: &mut K, line: &[u8]) -> Result<(), Halt>
+    ensures written { OnOk result (K.taken out.new ≡ adds (K.taken out.old) line.now) }
+    ensures halted { Halted [] line.now (K.taken out.old) (K.taken out.new) }
+    ensures output { IfErr result IsOutput }
+    ensures causes { Causes WhyHalt result (counts 0 0 (K.faults out.old)) (counts 0 0 (K.faults out.new)) }
+{
+    match write_text(out, line) {
+        Ok(()) => Ok(()),
+        Err(stop) => Err(Halt::Device(stop)),
+    }
+}

@@ -1,0 +1,155 @@
+-- Laws of `show` and `export`.
+use Rattle.std.proofs.Common.{◌≡◌, ◌≤◌, ℕ, List, length, Ok, refl, sym, ap, ◌∙◌, arith, subst, [], Option, Result, Err, OnOk, ◌<◌, Some, ◌+◌, ◌++◌, take, append-nil, drop, zero, suc, ◌∷◌, add-one}
+use Rattle.std.proofs.lemmas.List.{take_all}
+use Rattle.std.proofs.lemmas.Option.{slice_get_past, same_Some}
+use Rattle.std.specs.Prelude.{IfErr, slice_get, IfSome}
+use Rattle.base_core.proofs.Lists.{get_some}
+use Rattle.base_core.specs.Base.{Held, Base}
+use Rattle.base_core.specs.GameAt.{IsGameAt}
+use Rattle.base_core.specs.Represents.{Kept, Represents}
+use Rattle.base_files.proofs.Telling.{adds-nil}
+use Rattle.base_files.specs.Seen.{Seen}
+use Rattle.base_files.specs.Told.{adds}
+use Rattle.base_files.specs.declared.faults.Stop.TheVariants as stop
+use Rattle.command_runs.proofs.Joining.{halted_none, written_after, halted_after, halted_more, halted_unsure}
+use Rattle.command_runs.specs.Endings.{Halted, Serves}
+use Rattle.game_tree.specs.Game.{GameTree}
+use Rattle.game_tree.specs.declared.head.Head.{Head}
+use Rattle.index_entry.specs.declared.entry.Entry.{Entry}
+use Rattle.pgn_write.specs.Pgn.{pgn_of}
+use Rattle.shell_state.proofs.Causing.{fault_of_output, fault_of_device, broken_by_fault}
+use Rattle.shell_state.proofs.PriceLaws.{filtered_looks, len_looks, look_at}
+use Rattle.shell_state.proofs.Served.{line_serves}
+use Rattle.shell_state.specs.Ends.{IsOutput, IsDevice, IsFault}
+use Rattle.shell_state.specs.Lines.{no_game_line, texts_from}
+use Rattle.shell_state.specs.Passing.{len_if_in, len_in, filtered_len}
+use Rattle.shell_state.specs.Stands.{Holding, Stands, Broken, len_at, looks_in}
+use Rattle.shell_state.specs.State.{State}
+use Rattle.shell_state.specs.Work.{works, Look}
+use Rattle.shell_state.specs.declared.halt.Halt.{Halt}
+use Rattle.shell_state.specs.declared.halt.Halt.TheVariants as halt
+use Rattle.text_commands.proofs.TextLaws.{texts-more, texts-split}
+use Rattle.text_commands.specs.Cuts.{GameEnds, GameCut, GamesEnd}
+use Rattle.text_commands.specs.GameTexts.{show_text, shown, game_text, exported_first, text_if_in, exported, ExportCut, exported_len, export_work, show_work}
+
+no_files : (e : Halt) → IsOutput e → e ≡ halt.Device stop.Files → ⊥
+no_files e output is = subst IsOutput is output
+
+-- A game's text was written, or broken off.
+pub game_written : {A : Type 0} (r : Result A Halt) (line text : List ℕ) (told told' : Option (List ℕ)) → line ≡ text → OnOk r (told' ≡ adds told line) → Halted [] line told told' → IfErr r IsOutput
+    → GameEnds r text told told'
+game_written (Ok x) line text told told' same written halted output = written ∙ ap (adds told) same
+game_written (Err e) line text told told' same written halted output =
+    let P : List ℕ → Type 0 = λ l. Halted [] l told told' in
+    record { wrote = subst P same halted; whole = λ is. absurd (no_files e output is); fault = fault_of_output e output }
+
+-- A game was not read.
+pub game_unread : (e : Halt) (text : List ℕ) (told : Option (List ℕ)) → IsDevice e → GameCut e text told told
+game_unread e text told device = record { wrote = halted_none text told; whole = λ is. refl; fault = fault_of_device e device }
+
+-- A game that is out has no text.
+pub game_out : (told : Option (List ℕ)) → told ≡ adds told []
+game_out told = sym (adds-nil told)
+
+-- `show` of a game that is there.
+pub show_serves : {A : Type 0} (r : Result A Halt) (holding : Holding) (seen : Seen) (s : State) (i : ℕ) (told told' : Option (List ℕ)) → i < length holding.kept.entries → Stands holding seen s
+    → ((held : Held) → slice_get s.base.games i ≡ Some held → GameEnds r (game_text held) told told') → Serves works (Stands holding seen) Broken s (show_work i) told told' r
+show_serves (Ok x) holding seen s i told told' below st ends =
+    let held = get_some s.base.games i (omega (arith, below, st.base.count)) in
+    record { stands = st; written = ends held.0 held.1 ∙ ap (λ (h : Option Held). adds told (shown i h)) (sym held.1) }
+show_serves (Err e) holding seen s i told told' below st ends =
+    let held = get_some s.base.games i (omega (arith, below, st.base.count)) in
+    let cut : GameCut e (game_text held.0) told told' = ends held.0 held.1 in
+    let P : Option Held → Type 0 = λ h. Halted [] (shown i h) told told' in
+    record { wrote = subst P (sym held.1) cut.wrote; broken = broken_by_fault s (show_work i) e refl cut.fault }
+
+-- The text of one game more.
+first_more : (i : ℕ) (plies : List (Option ℕ)) (games : List Held) (ply : Option ℕ) (held : Held) → slice_get plies i ≡ Some ply → slice_get games i ≡ Some held
+    → exported_first (i + 1) plies games ≡ exported_first i plies games ++ text_if_in i ply held
+first_more i plies games ply held p x = texts-more text_if_in i plies games ply held p x
+
+pub export_more : (i : ℕ) (plies : List (Option ℕ)) (games : List Held) (ply : Option ℕ) (held : Held) (told taken taken' : Option (List ℕ)) → slice_get plies i ≡ Some ply → slice_get games i ≡ Some held
+    → taken ≡ adds told (exported_first i plies games) → taken' ≡ adds taken (text_if_in i ply held) → taken' ≡ adds told (exported_first (i + 1) plies games)
+export_more i plies games ply held told taken taken' p x before now =
+    written_after (exported_first i plies games) (text_if_in i ply held) told taken taken' before now ∙ ap (adds told) (sym (first_more i plies games ply held p x))
+
+-- No game more.
+pub export_all : (i : ℕ) (plies : List (Option ℕ)) (games : List Held) (told taken : Option (List ℕ)) → length plies ≤ i → length games ≤ i → taken ≡ adds told (exported_first i plies games)
+    → taken ≡ adds told (exported plies games)
+export_all i plies games told taken all every before =
+    before ∙ ap (λ (l : List (Option ℕ)). adds told (exported l (take i games))) (take_all i plies all) ∙ ap (λ (l : List Held). adds told (exported plies l)) (take_all i games every)
+
+-- A game's text was broken off behind those of the games before.
+pub export_cut : (e : Halt) (i : ℕ) (plies : List (Option ℕ)) (games : List Held) (ply : Option ℕ) (held : Held) (told taken taken' : Option (List ℕ)) → slice_get plies i ≡ Some ply → slice_get games i ≡ Some held
+    → taken ≡ adds told (exported_first i plies games) → GameCut e (text_if_in i ply held) taken taken' → ExportCut plies games e told taken' × IsFault e
+export_cut e i plies games ply held told taken taken' p x before cut =
+    let front : List ℕ = exported_first i plies games in
+    let whole : Halted (front ++ []) (front ++ text_if_in i ply held) told taken' = halted_after front [] (text_if_in i ply held) told taken taken' before cut.wrote in
+    let P : List ℕ → Type 0 = λ l. Halted l (front ++ text_if_in i ply held) told taken' in
+    let Q : List ℕ → Type 0 = λ l. Halted front l told taken' in (
+      record { count = i; wrote = subst Q (sym (first_more i plies games ply held p x)) (subst P (append-nil front) whole); whole = λ is. cut.whole is ∙ before },
+      cut.fault,
+    )
+
+-- The texts of the first games are a front part of all.
+front_of_all : (count : ℕ) (plies : List (Option ℕ)) (games : List Held)
+    → exported plies games ≡ exported_first count plies games ++ texts_from text_if_in (0 + count) (drop count plies) (drop count games)
+front_of_all count plies games = texts-split text_if_in 0 count plies games
+
+-- `export`
+pub export_serves : {A : Type 0} (r : Result A Halt) (holding : Holding) (seen : Seen) (s : State) (told told' : Option (List ℕ)) → Stands holding seen s
+    → GamesEnd r s.filter s.base.games told told' → Serves works (Stands holding seen) Broken s export_work told told' r
+export_serves (Ok x) holding seen s told told' st ends = record { stands = st; written = ends }
+export_serves (Err e) holding seen s told told' st ends =
+    let cut = ends.0 in
+    let n : ℕ = cut.count + 1 in
+    let most : List ℕ = exported_first n s.filter s.base.games in
+    let more : List ℕ = texts_from text_if_in (0 + n) (drop n s.filter) (drop n s.base.games) in
+    let P : List ℕ → Type 0 = λ l. Halted [] l told told' in
+    record {
+      wrote = subst P (sym (front_of_all n s.filter s.base.games))
+          (halted_more [] most more told told' (halted_unsure (exported_first cut.count s.filter s.base.games) most told told' cut.wrote));
+      broken = broken_by_fault s export_work e refl ends.1;
+    }
+
+pub export_breaks : {A : Type 0} (r : Result A Halt) (plies : List (Option ℕ)) (games : List Held) (told told' : Option (List ℕ)) → GamesEnd r plies games told told'
+    → IfErr r (λ e. ExportCut plies games e told told')
+export_breaks (Ok x) plies games told told' ends = tt
+export_breaks (Err e) plies games told told' ends = ends.0
+
+-- The bytes of the records of the games that are left, one game after the other.
+filtered-suc : (i : ℕ) (plies : List (Option ℕ)) (entries : List Entry) (ply : Option ℕ) → i < length entries → slice_get plies i ≡ Some ply
+    → exported_len (drop i plies) (drop i entries) ≡ len_if_in ply (len_at entries i) + exported_len (drop (suc i) plies) (drop (suc i) entries)
+filtered-suc i [] entries ply below p = absurd cc
+filtered-suc i (q ∷ plies) [] ply below p = absurd (omega (arith, below))
+filtered-suc zero (q ∷ plies) (e ∷ entries) ply below p = ap (λ (r : Option ℕ). len_if_in r e.len + exported_len plies entries) (same_Some q ply p)
+filtered-suc (suc i) (q ∷ plies) (e ∷ entries) ply below p = filtered-suc i plies entries ply (omega (arith, below)) p
+
+pub filtered-more : (i : ℕ) (plies : List (Option ℕ)) (entries : List Entry) (ply : Option ℕ) → i < length entries → slice_get plies i ≡ Some ply
+    → exported_len (drop i plies) (drop i entries) ≡ len_if_in ply (len_at entries i) + exported_len (drop (i + 1) plies) (drop (i + 1) entries)
+filtered-more i plies entries ply below p =
+    filtered-suc i plies entries ply below p
+    ∙ ap (λ (k : ℕ). len_if_in ply (len_at entries i) + exported_len (drop k plies) (drop k entries)) (sym (add-one i))
+
+-- The text that was written is that of the game.
+pub text_read : (games : Option (List ℕ)) (told : List ℕ) (kept : Kept) (all : Base) (held : Held) (i : ℕ) (head : Head) (game : GameTree) (text : List ℕ)
+    → games ≡ Some told → Represents kept told all → slice_get all.games i ≡ Some held → IfSome games (λ bytes. IsGameAt kept bytes i head game) → text ≡ pgn_of head game → text ≡ game_text held
+text_read games told kept all held i head game text same is at found written =
+    let P : Option (List ℕ) → Type 0 = λ o. IfSome o (λ bytes. IsGameAt kept bytes i head game) in
+    let here : IsGameAt kept told i head game = subst P same found in
+    let both = here all held is at in
+    written ∙ ap (λ (h : Head). pgn_of h game) both.0 ∙ ap (λ (g : GameTree). pgn_of held.head g) both.1
+
+-- What the two ask is what they cost.
+pub show_price : (kept : Kept) (game : ℕ) → len_at kept.entries game ≡ len_in (λ (x : Look). x.len) (slice_get (looks_in kept) game)
+show_price kept game = len_looks (look_at kept.names) kept.entries game
+
+pub exported_price : (plies : List (Option ℕ)) (kept : Kept) → exported_len plies kept.entries ≡ filtered_len (λ (x : Look). x.len) plies (looks_in kept)
+exported_price plies kept = filtered_looks (look_at kept.names) plies kept.entries
+
+-- `show` of a game that is not there, whose line was written or broken off.
+pub no_game_serves : {A : Type 0} (r : Result A Halt) (holding : Holding) (seen : Seen) (s : State) (number : ℕ) (line : List ℕ) (told told' : Option (List ℕ)) → Stands holding seen s → length holding.kept.entries ≤ number
+    → line ≡ no_game_line number → OnOk r (told' ≡ adds told line) → Halted [] line told told' → IfErr r IsOutput → Serves works (Stands holding seen) Broken s (show_work number) told told' r
+no_game_serves r holding seen s number line told told' st past is written halted output =
+    let text : line ≡ show_text s number = is ∙ ap (shown number) (sym (slice_get_past s.base.games number (omega (arith, past, st.base.count)))) in
+    line_serves r holding (show_work number) line seen s told told' st text written halted output

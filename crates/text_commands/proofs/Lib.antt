@@ -1,0 +1,4 @@
+pub mod GameTextLaws
+pub mod Informing
+pub mod ListingLaws
+pub mod TextLaws

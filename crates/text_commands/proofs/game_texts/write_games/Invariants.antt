@@ -1,0 +1,18 @@
+use Rattle.std.proofs.Common.{◌≡◌, ◌≤◌, ◌+◌, ℕ, List, Some, drop, length}
+use Rattle.base_core.specs.Base.{Base}
+use Rattle.base_core.specs.Represents.{Represents}
+use Rattle.base_files.specs.Told.{adds}
+use Rattle.text_commands.proofs.game_texts.write_games.Given as goal
+use Rattle.text_commands.specs.GameTexts.{exported_first, exported_len}
+
+-- The games before this one are written, and no more than their records was asked.
+abbrev pub invariant-loop-i : goal.invariant-loop-i
+invariant-loop-i g l = record {
+  written : (told : List ℕ) (all : Base) → (g.F.Files.seen l.fn.files).games ≡ Some told → Represents l.base told all
+      → g.K.Sink.taken l.out ≡ adds (g.K.Sink.taken l.fn.out) (exported_first l.i l.filter all.games);
+  room : length l.block ≡ 131072;
+  seen : g.F.Files.seen l.files ≡ g.F.Files.seen l.fn.files;
+  asks : g.F.Files.asked l.files + exported_len (drop l.i l.filter) (drop l.i l.base.entries) ≤ g.F.Files.asked l.fn.files + exported_len l.filter l.base.entries;
+  files : g.F.Files.faults l.fn.files ≤ g.F.Files.faults l.files;
+  output : g.K.Sink.faults l.fn.out ≤ g.K.Sink.faults l.out;
+}

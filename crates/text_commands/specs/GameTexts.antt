@@ -1,0 +1,60 @@
+-- The commands that write games in Portable Game Notation. This project's own.
+use Rattle.std.specs.Prelude.{ℕ, List, Option, Some, None, slice_get, [], take, ◌≡◌, ◌+◌}
+use Rattle.base_core.specs.Base.{Held}
+use Rattle.base_files.specs.Told.{adds}
+use Rattle.base_files.specs.declared.faults.Stop.TheVariants as stop
+use Rattle.command_runs.specs.Endings.{Halted}
+use Rattle.index_entry.specs.declared.entry.Entry.{Entry}
+use Rattle.pgn_write.specs.Pgn.{pgn_of}
+use Rattle.shell_state.specs.Lines.{no_game_line, texts_from}
+use Rattle.shell_state.specs.Passing.{filtered_len, len_in}
+use Rattle.shell_state.specs.State.{State}
+use Rattle.shell_state.specs.Work.{Work, reading}
+use Rattle.shell_state.specs.declared.halt.Halt.{Halt}
+use Rattle.shell_state.specs.declared.halt.Halt.TheVariants as halt
+
+-- The text of a game.
+abbrev pub game_text : Held → List ℕ
+game_text held = pgn_of held.head held.game
+
+-- show G
+abbrev pub shown : ℕ → Option Held → List ℕ
+shown game (Some held) = game_text held
+shown game None = no_game_line game
+
+abbrev pub show_text : State → ℕ → List ℕ
+show_text s game = shown game (slice_get s.base.games game)
+
+-- The text of a game that is in; one that is out has none.
+abbrev pub text_if_in : ℕ → Option ℕ → Held → List ℕ
+text_if_in game (Some ply) held = game_text held
+text_if_in game None held = []
+
+-- export
+abbrev pub exported : List (Option ℕ) → List Held → List ℕ
+exported plies games = texts_from text_if_in 0 plies games
+
+abbrev pub export_text : State → List ℕ
+export_text s = exported s.filter s.base.games
+
+-- The text of those among the first so many games that are in.
+abbrev pub exported_first : ℕ → List (Option ℕ) → List Held → List ℕ
+exported_first count plies games = exported (take count plies) (take count games)
+
+-- An export that was broken off at a game: the texts of the games before it are written whole, and nothing of its own where the files failed,
+-- else a front part.
+pub record ExportCut (plies : List (Option ℕ)) (games : List Held) (e : Halt) (told : Option (List ℕ)) (told' : Option (List ℕ)) : Type 0 where
+  pub count : ℕ
+  pub wrote : Halted (exported_first count plies games) (exported_first (count + 1) plies games) told told'
+  pub whole : e ≡ halt.Device stop.Files → told' ≡ adds told (exported_first count plies games)
+
+-- The bytes of the records of the games that are in.
+abbrev pub exported_len : List (Option ℕ) → List Entry → ℕ
+exported_len plies entries = filtered_len (λ e. e.len) plies entries
+
+-- What the two do: the record of the one game is read, or those of the games that are in.
+abbrev pub show_work : ℕ → Work
+show_work game = reading (λ s. s) (λ s. show_text s game) (λ looks plies. len_in (λ look. look.len) (slice_get looks game))
+
+abbrev pub export_work : Work
+export_work = reading (λ s. s) export_text (λ looks plies. filtered_len (λ look. look.len) plies looks)

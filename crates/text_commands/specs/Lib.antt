@@ -1,0 +1,4 @@
+pub mod Cuts
+pub mod GameTexts
+pub mod Listing
+pub mod Showing

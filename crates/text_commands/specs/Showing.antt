@@ -1,0 +1,39 @@
+-- The commands that show what is there. This project's own.
+use Rattle.std.specs.Fmt.{decimal}
+use Rattle.std.specs.Prelude.{ℕ, count_by, List, ◌++◌, codes, Bool, if◌then◌else◌, length, []}
+use Rattle.shell_state.specs.Lines.{line_of}
+use Rattle.shell_state.specs.State.{State}
+use Rattle.shell_state.specs.Work.{Work, quiet}
+
+-- How many games are marked as deleted.
+abbrev pub deleted_in : State → ℕ
+deleted_in s = count_by (λ held. held.head.deleted) s.base.games
+
+-- info
+abbrev pub counts_line : ℕ → ℕ → ℕ → List ℕ
+counts_line games deleted players = codes "games " ++ decimal games ++ codes " deleted " ++ decimal deleted ++ codes " players " ++ decimal players
+
+abbrev pub numbers_line : ℕ → ℕ → ℕ → ℕ → ℕ → ℕ → List ℕ
+numbers_line games deleted players events sites rounds =
+    counts_line games deleted players ++ (codes " events " ++ decimal events ++ codes " sites " ++ decimal sites ++ codes " rounds " ++ decimal rounds)
+
+abbrev pub unsaved_words : Bool → List ℕ
+unsaved_words unsaved = if unsaved then codes " unsaved yes index off\n" else codes " unsaved no index off\n"
+
+abbrev pub info_line : ℕ → ℕ → ℕ → ℕ → ℕ → ℕ → Bool → List ℕ
+info_line games deleted players events sites rounds unsaved = numbers_line games deleted players events sites rounds ++ unsaved_words unsaved
+
+abbrev pub info_text : State → List ℕ
+info_text s =
+    info_line (length s.base.games) (deleted_in s) (length s.base.names.players) (length s.base.names.events) (length s.base.names.sites) (length s.base.names.rounds) s.unsaved
+
+-- quit, where the script ends
+abbrev pub quit_text : State → List ℕ
+quit_text s = if s.unsaved then line_of (codes "unsaved") else []
+
+-- What the two do.
+abbrev pub info_work : Work
+info_work = quiet (λ s. s) info_text
+
+abbrev pub quit_work : Work
+quit_work = quiet (λ s. s) quit_text

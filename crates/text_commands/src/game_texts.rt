@@ -1,0 +1,201 @@
+//! The commands that write games in Portable Game Notation, each as soon as its record is read.
+ghost use Rattle.std.specs.Prelude.{◌≡◌, ◌≤◌, ◌<◌, ◌+◌, ℕ, List, Some, Ok, length, slice_get, IfOk, IfErr};
+ghost use Rattle.base_core.specs.Base.{Base as PlainBase, Held};
+ghost use Rattle.base_core.specs.Represents.{Represents};
+ghost use Rattle.command_runs.specs.Counts.{Causes, counts};
+ghost use Rattle.command_runs.specs.Endings.{Serves};
+ghost use Rattle.game_tree.specs.Head.{IsBounded};
+ghost use Rattle.game_tree.specs.Legal.{IsLegalGame};
+ghost use Rattle.pgn_write.specs.Pgn.{pgn_of};
+ghost use Rattle.shell_state.specs.Ends.{IsDevice, halt_of};
+ghost use Rattle.shell_state.specs.Passing.{len_if_in};
+ghost use Rattle.shell_state.specs.Stands.{Stands, Sound, Broken, WhyHalt, len_at, Asks};
+ghost use Rattle.shell_state.specs.State.{State};
+ghost use Rattle.shell_state.specs.Work.{works};
+ghost use Rattle.text_commands.specs.Cuts.{GameEnds, GamesEnd};
+ghost use Rattle.text_commands.specs.GameTexts.{ExportCut, game_text, text_if_in, exported_len, export_work, show_work};
+
+use base_core::Base;
+use base_files::{Files, Sink, Stop};
+use game_filter::Filter;
+use game_tree::{Game, Head};
+use pgn_write::write_game;
+use shell_state::{Halt, Machine, halt_of, no_game_line, write_line};
+use std::alloc::{AllocError, Global};
+
+/// show G
+pub fn show<F: Files, K: Sink>(
+    alloc: Global,
+    machine: &mut Machine,
+    files: &mut F,
+    out: &mut K,
+    number: u64,
+) -> Result<(), Halt>
+    requires sound { Sound machine.old (F.seen files.old) }
+    ensures same { machine.new ≡ machine.old }
+    ensures serves { (s : State) → Stands machine.old (F.seen files.old) s → Serves works (Stands machine.new (F.seen files.new)) Broken s (show_work number) (K.taken out.old) (K.taken out.new) result }
+    ensures unchanged { F.seen files.new ≡ F.seen files.old }
+    ensures asks { Asks machine.old (show_work number) (F.asked files.old) (F.asked files.new) }
+    ensures causes { Causes WhyHalt result (counts (F.faults files.old) 0 (K.faults out.old)) (counts (F.faults files.new) 0 (K.faults out.new)) }
+{
+    match machine.game_at(number) {
+        Some(i) => show_there(alloc, machine, files, out, i),
+        None => {
+            let line = no_game_line(alloc, number)?;
+            write_line(out, line.as_slice())
+        }
+    }
+}
+
+// The same of a game that is there.
+fn show_there<F: Files, K: Sink>(
+    alloc: Global,
+    machine: &mut Machine,
+    files: &mut F,
+    out: &mut K,
+    i: u32,
+) -> Result<(), Halt>
+    requires there { i < length machine.old.kept.entries }
+    requires sound { Sound machine.old (F.seen files.old) }
+    ensures same { machine.new ≡ machine.old }
+    ensures serves { (s : State) → Stands machine.old (F.seen files.old) s → Serves works (Stands machine.new (F.seen files.new)) Broken s (show_work i) (K.taken out.old) (K.taken out.new) result }
+    ensures unchanged { F.seen files.new ≡ F.seen files.old }
+    ensures asks { Asks machine.old (show_work i) (F.asked files.old) (F.asked files.new) }
+    ensures causes { Causes WhyHalt result (counts (F.faults files.old) 0 (K.faults out.old)) (counts (F.faults files.new) 0 (K.faults out.new)) }
+{
+    let block = machine.block.as_mut_slice();
+    write_one(alloc, &machine.base, i, files, block, out)
+}
+
+/// export
+pub fn export<F: Files, K: Sink>(
+    alloc: Global,
+    machine: &mut Machine,
+    files: &mut F,
+    out: &mut K,
+) -> Result<(), Halt>
+    requires sound { Sound machine.old (F.seen files.old) }
+    ensures same { machine.new ≡ machine.old }
+    ensures serves { (s : State) → Stands machine.old (F.seen files.old) s → Serves works (Stands machine.new (F.seen files.new)) Broken s export_work (K.taken out.old) (K.taken out.new) result }
+    ensures cut { (s : State) → Stands machine.old (F.seen files.old) s → IfErr result (λ e. ExportCut s.filter s.base.games e (K.taken out.old) (K.taken out.new)) }
+    ensures unchanged { F.seen files.new ≡ F.seen files.old }
+    ensures asks { Asks machine.old export_work (F.asked files.old) (F.asked files.new) }
+    ensures causes { Causes WhyHalt result (counts (F.faults files.old) 0 (K.faults out.old)) (counts (F.faults files.new) 0 (K.faults out.new)) }
+{
+    let block = machine.block.as_mut_slice();
+    write_games(alloc, &machine.base, &machine.filter, files, block, out)
+}
+
+// Writes the games that are in, one after the other. Each record is read into `block`.
+fn write_games<F: Files, K: Sink>(
+    alloc: Global,
+    base: &Base,
+    filter: &Filter,
+    files: &mut F,
+    block: &mut [u8],
+    out: &mut K,
+) -> Result<(), Halt>
+    requires games { length filter.now ≡ length base.now.entries }
+    requires room { length block.old ≡ 131072 }
+    requires within { base.now.end ≤ (F.seen files.old).known }
+    ensures written { (told : List ℕ) (all : PlainBase) → (F.seen files.old).games ≡ Some told → Represents base.now told all → GamesEnd result filter.now all.games (K.taken out.old) (K.taken out.new) }
+    ensures unchanged { F.seen files.new ≡ F.seen files.old }
+    ensures asks { F.asked files.new ≤ F.asked files.old + exported_len filter.now base.now.entries }
+    ensures causes { Causes WhyHalt result (counts (F.faults files.old) 0 (K.faults out.old)) (counts (F.faults files.new) 0 (K.faults out.new)) }
+{
+    for i in 0..filter.len() {
+        match write_if_in(alloc, base, i, filter.get(i), files, block, out) {
+            Ok(()) => {}
+            Err(halt) => return Err(halt),
+        }
+    }
+    Ok(())
+}
+
+// Writes a game, if it is in.
+fn write_if_in<F: Files, K: Sink>(
+    alloc: Global,
+    base: &Base,
+    i: u32,
+    ply: Option<u32>,
+    files: &mut F,
+    block: &mut [u8],
+    out: &mut K,
+) -> Result<(), Halt>
+    requires there { i < length base.now.entries }
+    requires room { length block.old ≡ 131072 }
+    requires within { base.now.end ≤ (F.seen files.old).known }
+    ensures written { (told : List ℕ) (all : PlainBase) (held : Held) → (F.seen files.old).games ≡ Some told → Represents base.now told all → slice_get all.games i ≡ Some held → GameEnds result (text_if_in i ply held) (K.taken out.old) (K.taken out.new) }
+    ensures room { length block.new ≡ 131072 }
+    ensures unchanged { F.seen files.new ≡ F.seen files.old }
+    ensures asks { F.asked files.new ≤ F.asked files.old + len_if_in ply (len_at base.now.entries i) }
+    ensures causes { Causes WhyHalt result (counts (F.faults files.old) 0 (K.faults out.old)) (counts (F.faults files.new) 0 (K.faults out.new)) }
+{
+    match ply {
+        Some(_) => write_one(alloc, base, i, files, block, out),
+        None => Ok(()),
+    }
+}
+
+// Writes a game. Its record is read into `block`.
+fn write_one<F: Files, K: Sink>(
+    alloc: Global,
+    base: &Base,
+    i: u32,
+    files: &mut F,
+    block: &mut [u8],
+    out: &mut K,
+) -> Result<(), Halt>
+    requires there { i < length base.now.entries }
+    requires room { length block.old ≡ 131072 }
+    requires within { base.now.end ≤ (F.seen files.old).known }
+    ensures written { (told : List ℕ) (all : PlainBase) (held : Held) → (F.seen files.old).games ≡ Some told → Represents base.now told all → slice_get all.games i ≡ Some held → GameEnds result (game_text held) (K.taken out.old) (K.taken out.new) }
+    ensures room { length block.new ≡ 131072 }
+    ensures unchanged { F.seen files.new ≡ F.seen files.old }
+    ensures asks { F.asked files.new ≤ F.asked files.old + len_at base.now.entries i }
+    ensures causes { Causes WhyHalt result (counts (F.faults files.old) 0 (K.faults out.old)) (counts (F.faults files.new) 0 (K.faults out.new)) }
+{
+    match read_text(alloc, base, i, files, block) {
+        Ok(text) => write_line(out, text.as_slice()),
+        Err(halt) => Err(halt),
+    }
+}
+
+// The text of a game. Its record is read into `block`.
+fn read_text<F: Files>(
+    alloc: Global,
+    base: &Base,
+    i: u32,
+    files: &mut F,
+    block: &mut [u8],
+) -> Result<Vec<u8>, Halt>
+    requires there { i < length base.now.entries }
+    requires room { length block.old ≡ 131072 }
+    requires within { base.now.end ≤ (F.seen files.old).known }
+    ensures text { (told : List ℕ) (all : PlainBase) (held : Held) → (F.seen files.old).games ≡ Some told → Represents base.now told all → slice_get all.games i ≡ Some held → IfOk result (λ text. text.items ≡ game_text held) }
+    ensures devices { (told : List ℕ) (all : PlainBase) → (F.seen files.old).games ≡ Some told → Represents base.now told all → IfErr result IsDevice }
+    ensures room { length block.new ≡ 131072 }
+    ensures unchanged { F.seen files.new ≡ F.seen files.old }
+    ensures asks { F.asked files.new ≤ F.asked files.old + len_at base.now.entries i }
+    ensures causes { Causes WhyHalt result (counts (F.faults files.old) 0 0) (counts (F.faults files.new) 0 0) }
+{
+    let (head, game) = match base.game(alloc, i, files, block) {
+        Ok(read) => read,
+        Err(error) => return Err(halt_of(error)),
+    };
+    match text_of(alloc, &head, &game) {
+        Ok(text) => Ok(text),
+        Err(AllocError) => Err(Halt::Device(Stop::Memory)),
+    }
+}
+
+// The text of a game with this head.
+fn text_of(alloc: Global, head: &Head, game: &Game) -> Result<Vec<u8>, AllocError>
+    requires legal { IsLegalGame game.now }
+    requires bounded { IsBounded head.now }
+    ensures text { IfOk result (λ text. text.items ≡ pgn_of head.now game.now) }
+{
+    let mut text = Vec::new(alloc);
+    write_game(alloc, head.fields(), head.tags.as_slice(), game, &mut text)?;
+    Ok(text)
+}

@@ -1,0 +1,102 @@
+//! The commands that show what is there. Each answers the line that it writes.
+ghost use Rattle.std.specs.Prelude.{◌≡◌, IfOk, Ok, count_by, string_bytes};
+ghost use Rattle.shell_state.specs.Stands.{Fits, Quiet};
+ghost use Rattle.text_commands.specs.Showing.{info_line, numbers_line, counts_line, unsaved_words, info_work, quit_work};
+
+use name_base::NameKind;
+use shell_state::Machine;
+use sig_index::Games;
+use std::alloc::{AllocError, Global};
+
+/// quit
+pub fn quit(alloc: Global, machine: &Machine) -> Result<Vec<u8>, AllocError>
+    requires fits { Fits machine.now }
+    ensures quiet { IfOk result (λ line. Quiet machine.now quit_work machine.now line.items) }
+{
+    if machine.base.unsaved() {
+        Vec::from_slice(alloc, b"unsaved\n")
+    } else {
+        Ok(Vec::new(alloc))
+    }
+}
+
+/// info
+pub fn info(alloc: Global, machine: &Machine) -> Result<Vec<u8>, AllocError>
+    requires fits { Fits machine.now }
+    ensures quiet { IfOk result (λ line. Quiet machine.now info_work machine.now line.items) }
+{
+    let names = machine.base.names();
+    info_line(
+        alloc,
+        &Numbers {
+            games: machine.base.header().games,
+            deleted: deleted_in(&machine.base),
+            players: names.count(NameKind::Player),
+            events: names.count(NameKind::Event),
+            sites: names.count(NameKind::Site),
+            rounds: names.count(NameKind::Round),
+            unsaved: machine.base.unsaved(),
+        },
+    )
+}
+
+// What `info` tells.
+#[derive(Clone, Copy, Debug)]
+struct Numbers {
+    games: u32,
+    deleted: u32,
+    players: u32,
+    events: u32,
+    sites: u32,
+    rounds: u32,
+    unsaved: bool,
+}
+
+// The line of `info`.
+fn info_line(alloc: Global, n: &Numbers) -> Result<Vec<u8>, AllocError>
+    ensures { IfOk result (λ line. line.items ≡ info_line n.now.games n.now.deleted n.now.players n.now.events n.now.sites n.now.rounds n.now.unsaved) }
+{
+    let mut line = numbers_line(alloc, n)?;
+    line.push_str(unsaved_words(n.unsaved))?;
+    Ok(line.into_bytes())
+}
+
+// The numbers of `info`.
+fn numbers_line(alloc: Global, n: &Numbers) -> Result<String, AllocError>
+    ensures { IfOk result (λ line. string_bytes line ≡ numbers_line n.now.games n.now.deleted n.now.players n.now.events n.now.sites n.now.rounds) }
+{
+    let mut line = counts_line(alloc, n.games, n.deleted, n.players)?;
+    let (events, sites, rounds) = (n.events, n.sites, n.rounds);
+    write!(line, " events {events} sites {sites} rounds {rounds}")?;
+    Ok(line)
+}
+
+// The first of the numbers.
+fn counts_line(alloc: Global, games: u32, deleted: u32, players: u32) -> Result<String, AllocError>
+    ensures { IfOk result (λ line. string_bytes line ≡ counts_line games deleted players) }
+{
+    let line = format!(in alloc; "games {games} deleted {deleted} players {players}")?;
+    Ok(line)
+}
+
+// What `info` says behind the numbers.
+fn unsaved_words(unsaved: bool) -> &'static str
+    ensures { result.now ≡ unsaved_words unsaved }
+{
+    if unsaved {
+        " unsaved yes index off\n"
+    } else {
+        " unsaved no index off\n"
+    }
+}
+
+// How many games are marked as deleted.
+fn deleted_in<G: Games>(games: &G) -> u32
+    ensures { result ≡ count_by (λ head. head.deleted) (G.heads games.now) }
+{
+    let mut count = 0;
+    for i in 0..games.len() {
+        count += u32::from(games.head(i).deleted);
+    }
+    count
+}
