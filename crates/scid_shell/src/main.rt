@@ -7,20 +7,17 @@ ghost use Rattle.shell_session.specs.Stops.{status_of};
 ghost use Rattle.shell_session.specs.declared.status.Status.TheVariants as done;
 
 mod messages;
-mod progress;
 #[cfg(test)]
 mod tests;
-mod watched;
 
 use base_files::DeviceError;
 use messages::{HELP, VERSION, message};
-use progress::ProgressLine;
 use shell_session::{Status, session};
 use std::io::ErrorKind;
 use std::process::ExitCode;
 use std::{env, io};
 use std_devices::{DiskFiles, StdSink, StdSource};
-use watched::Watched;
+use watched_devices::{ProgressLine, Watched};
 
 fn main(rt: HostRuntime) -> ExitCode {
     match words(&rt) {

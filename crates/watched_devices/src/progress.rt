@@ -46,6 +46,9 @@ struct Progress {
     copied: u64,
     // The bytes of the input that were read.
     input: u64,
+    // The pages that were written, and how many there are.
+    written: u64,
+    pages: u64,
 }
 
 /// What a run does.
@@ -56,6 +59,7 @@ enum Work {
     Adding,
     Compacting,
     Saving,
+    Writing,
 }
 
 impl<'r> ProgressLine<'r> {
@@ -75,6 +79,8 @@ impl<'r> ProgressLine<'r> {
             added: 0,
             copied: 0,
             input: 0,
+            written: 0,
+            pages: 0,
         };
         ProgressLine {
             rt,
@@ -151,6 +157,16 @@ impl<'r> ProgressLine<'r> {
     pub fn saving(&self) {
         self.tell(Progress {
             work: Work::Saving,
+            ..self.progress.get()
+        });
+    }
+
+    /// So many of these pages were written.
+    pub fn wrote(&self, written: u64, pages: u64) {
+        self.tell(Progress {
+            work: Work::Writing,
+            written,
+            pages,
             ..self.progress.get()
         });
     }
@@ -249,6 +265,7 @@ impl Display for Progress {
                 self.percent()
             ),
             Work::Saving => f.write_str("saving"),
+            Work::Writing => write!(f, "writing: {} of {} pages", self.written, self.pages),
         }
     }
 }

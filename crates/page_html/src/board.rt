@@ -1,0 +1,97 @@
+//! Boards as pictures.
+ghost use Rattle.std.specs.Prelude.{◌<◌};
+
+use crate::numbers::push_attribute;
+use cell_core::{Board, Colour, Kind, Man, Square};
+use std::alloc::{AllocError, Global};
+
+/// The outlines of the men, and the squares of two by two, each 45 wide.
+const DEFINITIONS: &[u8] = br##"<svg class="defs" width="0" height="0" aria-hidden="true"><defs>
+<path id="K" d="M20.5 4v3.5h-3.5v3.5h3.5v3c-2 1-3 3-3 5.500-5.500-4-11.500-1-11.500 5 0 4 3 6 4.500 9l-.500 4.500h25l-.500-4.500c1.500-3 4.500-5 4.500-9 0-6-6-9-11.500-5 0-2.500-1-4.500-3-5.500v-3h3.500v-3.500h-3.500v-3.500z"/>
+<path id="Q" d="M10.500 38h24l-1-5c1-5 3-9 4.500-17l-6.500 8.500-2-13.500-5 12.500-2-14.500-2 14.500-5-12.500-2 13.500-6.500-8.500c1.500 8 3.500 12 4.500 17z"/>
+<path id="R" d="M10 38h25v-4h-3l-2-14h3v-11h-5v4h-3.500v-4h-4v4h-3.500v-4h-5v11h3l-2 14h-3z"/>
+<path id="B" d="M22.500 5.500a3 3 0 0 0-2 5.200c-5.500 3.800-7.500 8.800-6.500 13.800.600 2.500 2 4 4 5l-1 3c-3 0-6 1.500-7 5.500h25c-1-4-4-5.500-7-5.500l-1-3c2-1 3.400-2.500 4-5 1-5-1-10-6.500-13.800a3 3 0 0 0-2-5.200z"/>
+<path id="N" d="M13 38h22c0-12 0-20-9-27l-1.500-5-3 4.500c-6 2-9.500 7-11.500 14-1 3 2 5 5 3l5-3c1 3-7 6-7 13.500z"/>
+<path id="P" d="M22.500 9a5.500 5.500 0 0 0-3.500 9.500c-3 2-3.500 5-1.500 8-4 2-6.500 5.500-6.500 11.500h23c0-6-2.500-9.500-6.500-11.500 2-3 1.500-6-1.500-8a5.500 5.500 0 0 0-3.500-9.500z"/>
+<pattern id="squares" width="90" height="90" patternUnits="userSpaceOnUse"><rect class="light" width="90" height="90"/><path class="dark" d="M45 0h45v45h-45zM0 45h45v45h-45z"/></pattern>
+</defs></svg>
+"##;
+
+/// Adds a board seen from both sides: that of this side stands in sight, and the other where it is asked for by `#turned`.
+pub(crate) fn push_boards(
+    out: &mut Vec<u8>,
+    board: &Board,
+    side: Colour,
+) -> Result<(), AllocError> {
+    out.extend_from_slice(DEFINITIONS)?;
+    out.extend_from_slice(b"<div class=\"board\" id=\"turned\">\n")?;
+    push_board(out, board, side.other())?;
+    out.extend_from_slice(
+        b"<p><a href=\"#\">turn the board back</a></p>\n</div>\n<div class=\"board\" id=\"facing\">\n",
+    )?;
+    push_board(out, board, side)?;
+    out.extend_from_slice(b"<p><a href=\"#turned\">turn the board</a></p>\n</div>\n")
+}
+
+// Adds a board seen from a side.
+fn push_board(out: &mut Vec<u8>, board: &Board, bottom: Colour) -> Result<(), AllocError> {
+    out.extend_from_slice(
+        b"<svg viewBox=\"0 0 360 360\" role=\"img\"><rect width=\"360\" height=\"360\" fill=\"url(#squares)\"/>",
+    )?;
+    out.extend_from_slice(letters(bottom))?;
+    for s in 0..64u8 {
+        if let Some(man) = board.at(Square::at(s)) {
+            push_man(out, man, seen_at(s, bottom))?;
+        }
+    }
+    out.extend_from_slice(b"</svg>\n")
+}
+
+// The letters of the files and the digits of the ranks.
+fn letters(bottom: Colour) -> &'static [u8] {
+    match bottom {
+        Colour::White => {
+            b"<text x=\"36 81 126 171 216 261 306 351\" y=\"357\">abcdefgh</text><text x=\"2 2 2 2 2 2 2 2\" y=\"11 56 101 146 191 236 281 326\">87654321</text>"
+        }
+        Colour::Black => {
+            b"<text x=\"36 81 126 171 216 261 306 351\" y=\"357\">hgfedcba</text><text x=\"2 2 2 2 2 2 2 2\" y=\"11 56 101 146 191 236 281 326\">12345678</text>"
+        }
+    }
+}
+
+// Where a square stands: from the left and from above, in squares.
+fn seen_at(s: u8, bottom: Colour) -> (u8, u8)
+    requires square { s < 64 }
+{
+    let file = s % 8;
+    let rank = s / 8;
+    match bottom {
+        Colour::White => (file, 7 - rank),
+        Colour::Black => (7 - file, rank),
+    }
+}
+
+// Adds a man on a square, by its outline.
+fn push_man(out: &mut Vec<u8>, man: Man, (left, above): (u8, u8)) -> Result<(), AllocError> {
+    out.extend_from_slice(b"<use href=\"#")?;
+    out.extend_from_slice(outline(man.kind))?;
+    out.extend_from_slice(match man.colour {
+        Colour::White => b"\" class=\"white\"".as_slice(),
+        Colour::Black => b"\" class=\"black\"".as_slice(),
+    })?;
+    push_attribute(out, b"x", 45 * u64::from(left))?;
+    push_attribute(out, b"y", 45 * u64::from(above))?;
+    out.extend_from_slice(b"/>")
+}
+
+// The name of the outline of a kind of men.
+fn outline(kind: Kind) -> &'static [u8] {
+    match kind {
+        Kind::King => b"K",
+        Kind::Queen => b"Q",
+        Kind::Rook => b"R",
+        Kind::Bishop => b"B",
+        Kind::Knight => b"N",
+        Kind::Pawn => b"P",
+    }
+}
