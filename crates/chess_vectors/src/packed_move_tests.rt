@@ -16,7 +16,7 @@ fn play_all(rt: &impl Abort, numbered: &mut Numbered, bytes: &[u8]) -> Result<()
             to: m.to,
             promo: m.promo,
         });
-        assert_eq!(rt; packed.as_slice(), own);
+        assert!(rt; packed.as_slice() == own);
         at += used as usize;
         numbered.play(m);
     }
@@ -40,32 +40,20 @@ fn man(colour: Colour, kind: Kind) -> Option<Man> {
 fn plays_whole_games(rt: HostRuntime) {
     // e4 Nf6 e5 d5 exd6 h6: the pawn of h7 has the number 11 of the one that was captured en passant
     let mut numbered = Numbered::standard();
-    assert_eq!(rt;
-        play_all(&rt, &mut numbered, b"\xcf\x61\xc1\xbf\xc0\xb1"),
-        Ok(())
-    );
-    assert_eq!(rt;
-        numbered.position().board().at(Square::at(43)),
-        man(Colour::White, Kind::Pawn)
-    );
-    assert_eq!(rt; numbered.position().board().at(Square::at(35)), None);
-    assert_eq!(rt;
-        numbered.numbers().of(Colour::Black).get(11),
-        Some(Square::at(47))
-    );
-    assert_eq!(rt; numbered.numbers().of(Colour::Black).get(15), None);
+    assert!(rt; play_all(&rt, &mut numbered, b"\xcf\x61\xc1\xbf\xc0\xb1") == Ok(()));
+    assert!(rt; numbered.position().board().at(Square::at(43)) == man(Colour::White, Kind::Pawn));
+    assert!(rt; numbered.position().board().at(Square::at(35)) == None);
+    assert!(rt; numbered.numbers().of(Colour::Black).get(11) == Some(Square::at(47)));
+    assert!(rt; numbered.numbers().of(Colour::Black).get(15) == None);
     // e4, a null move, d4
     let mut numbered = Numbered::standard();
-    assert_eq!(rt; play_all(&rt, &mut numbered, b"\xcf\x00\xbf"), Ok(()));
+    assert!(rt; play_all(&rt, &mut numbered, b"\xcf\x00\xbf") == Ok(()));
     // Reti against Tartakower, 1910: castling on the queen's side and a queen's diagonal move among them
     let mut numbered = Numbered::standard();
     let game =
         b"\xcf\xa1\xbf\xbf\x28\xb0\x26\x61\x4a\xcf\xb2\x43\x60\x33\x44\x09\x61\x4f\x04\x36\x01\x3b";
-    assert_eq!(rt; play_all(&rt, &mut numbered, game), Ok(()));
-    assert_eq!(rt;
-        numbered.position().board().at(Square::at(59)),
-        man(Colour::White, Kind::Bishop)
-    );
+    assert!(rt; play_all(&rt, &mut numbered, game) == Ok(()));
+    assert!(rt; numbered.position().board().at(Square::at(59)) == man(Colour::White, Kind::Bishop));
 }
 
 #[test]
@@ -73,7 +61,7 @@ fn refuses_with_the_first_fault(rt: HostRuntime) {
     let start: &[u8] = b"";
     let short: [&[u8]; 2] = [b"", b"\x43"];
     for bytes in short {
-        assert_eq!(rt; fault_after(&rt, start, bytes), Some(MoveFault::Short));
+        assert!(rt; fault_after(&rt, start, bytes) == Some(MoveFault::Short));
     }
     // a king's value 11, a queen on her own rank, second bytes below 64 and for d1 and d4, a rook's and a bishop's own
     // square, a bishop and a knight below the board, a knight's value 9
@@ -90,18 +78,15 @@ fn refuses_with_the_first_fault(rt: HostRuntime) {
         b"\x29",
     ];
     for bytes in value {
-        assert_eq!(rt; fault_after(&rt, start, bytes), Some(MoveFault::Value));
+        assert!(rt; fault_after(&rt, start, bytes) == Some(MoveFault::Value));
     }
     // castling, a rook and a bishop through pawns, a pawn round the edge, a promotion on the second rank
     let illegal: [&[u8]; 5] = [b"\x0a", b"\x19", b"\x37", b"\x80", b"\x83"];
     for bytes in illegal {
-        assert_eq!(rt; fault_after(&rt, start, bytes), Some(MoveFault::Illegal));
+        assert!(rt; fault_after(&rt, start, bytes) == Some(MoveFault::Illegal));
     }
     // after e4 d5 exd5 Black has 15 men
-    assert_eq!(rt;
-        fault_after(&rt, b"\xcf\xbf\xc0", b"\xf1"),
-        Some(MoveFault::NoMan)
-    );
+    assert!(rt; fault_after(&rt, b"\xcf\xbf\xc0", b"\xf1") == Some(MoveFault::NoMan));
 }
 
 #[test]
@@ -118,10 +103,9 @@ fn numbers_a_start_by_its_text(rt: HostRuntime) {
     assert!(rt; position.is_ok());
     if let Ok(position) = position {
         let mut numbered = Numbered::from_start(position);
-        assert_eq!(rt; play_all(&rt, &mut numbered, b"\x14"), Ok(()));
-        assert_eq!(rt;
-            numbered.position().board().at(Square::at(56)),
-            man(Colour::White, Kind::Queen)
+        assert!(rt; play_all(&rt, &mut numbered, b"\x14") == Ok(()));
+        assert!(rt;
+            numbered.position().board().at(Square::at(56)) == man(Colour::White, Kind::Queen)
         );
     }
 }
