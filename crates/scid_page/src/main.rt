@@ -1,0 +1,167 @@
+//! `scid_page [--depth D] [--least N] [--from BOARD SIDE] BASE FOLDER`: makes of a Scid base a folder of linked pages.
+#![tactic(auto)]
+
+ghost use Rattle.std.specs.Prelude.{◌≡◌, IfOk, length};
+ghost use Rattle.base_core.specs.Represents.{IsSound, extents_of};
+ghost use Rattle.sig_index.specs.Games.{AreWithin};
+
+mod end;
+mod folder;
+mod messages;
+mod pages;
+mod words;
+
+use base_core::Base;
+use base_files::{Files, Sink, write_all};
+use book_pages::{Book, Reach, find_boards};
+use end::End;
+use folder::Folder;
+use game_filter::Filter;
+use messages::{HELP, VERSION, message};
+use pages::write_pages;
+use sig_index::Games;
+use std::alloc::Global;
+use std::env;
+use std::io::ErrorKind;
+use std::process::ExitCode;
+use std_devices::{DiskFiles, StdSink};
+use watched_devices::{ProgressLine, Watched};
+use words::{Wanted, words_read};
+
+/// How long a record may be, and one byte more.
+const BLOCK: usize = 131_072;
+
+fn main(rt: HostRuntime) -> ExitCode {
+    match answered(&rt) {
+        Ok(()) => ExitCode::from(0),
+        Err(end) => told(&rt, &end),
+    }
+}
+
+// Answers the single words `--help` and `--version`, and makes the pages for all others.
+fn answered(rt: &HostRuntime) -> Result<(), End> {
+    let words = given(rt)?;
+    match words.as_slice() {
+        [word] if word.as_str() == "--help" => Ok(print!(rt; "{HELP}")?),
+        [word] if word.as_str() == "--version" => Ok(print!(rt; "{VERSION}")?),
+        words => match words_read(words) {
+            Some(wanted) => run(rt, &wanted),
+            None => Err(End::Usage),
+        },
+    }
+}
+
+// The words after the program's name.
+fn given(rt: &HostRuntime) -> Result<Vec<String>, End> {
+    match env::args(rt) {
+        Ok(args) => args.skip(1).collect(rt.alloc()).map_err(|_| End::Memory),
+        Err(error) if error.kind() == ErrorKind::OutOfMemory => Err(End::Memory),
+        Err(_) => Err(End::Usage),
+    }
+}
+
+// Makes the pages of the real files, and says how far it is.
+fn run(rt: &HostRuntime, wanted: &Wanted<'_>) -> Result<(), End> {
+    let line = ProgressLine::new(rt);
+    let mut files = Watched::new(DiskFiles::new(rt.alloc(), rt), &line);
+    let mut out = Watched::new(StdSink::new(rt.stdout()), &line);
+    let made = make(rt, wanted, &mut files, &mut out, &line);
+    files.into_device().close();
+    let flushed = out.into_device().flush();
+    line.clear();
+    made?;
+    match flushed {
+        Ok(()) => Ok(()),
+        Err(error) => Err(End::from(error.of_output())),
+    }
+}
+
+// Opens the base, counts, and writes the pages.
+fn make<F: Files, K: Sink>(
+    rt: &HostRuntime,
+    wanted: &Wanted<'_>,
+    files: &mut F,
+    out: &mut K,
+    line: &ProgressLine<'_>,
+) -> Result<(), End> {
+    let alloc = rt.alloc();
+    if let Err(error) = files.choose(wanted.base, false) {
+        return Err(End::from(error.of_files()));
+    }
+    let mut block = vec![in alloc; 0; BLOCK]?;
+    let (base, mended) = open(alloc, files, block.as_mut_slice())?;
+    let games = base.len();
+    say(
+        out,
+        format!(in alloc; "base {games} games {mended} mended\n")?,
+    )?;
+    let folder = Folder::make(rt, alloc, wanted.folder)?;
+    let (book, least) = read_book(alloc, &base, &wanted.reach, files, block.as_mut_slice())?;
+    write_pages(alloc, &folder, wanted.base, &base, &book, line)?;
+    let pages = book.len();
+    say(out, format!(in alloc; "pages {pages} least {least}\n")?)
+}
+
+// Opens the base that was chosen.
+fn open<F: Files>(alloc: Global, files: &mut F, block: &mut [u8]) -> Result<(Base, u32), End>
+    requires room { length block.old ≡ 131072 }
+    ensures sound { IfOk result (λ opened. IsSound opened.0) }
+    ensures within { IfOk result (λ opened. AreWithin (F.seen files.new).known (extents_of opened.0)) }
+    ensures room { length block.new ≡ 131072 }
+{
+    match Base::open_base(alloc, files, false, false, block) {
+        Ok(opened) => Ok(opened),
+        Err(error) => Err(End::from(error)),
+    }
+}
+
+// Counts the pages of a base over all its games.
+fn read_book<F: Files>(
+    alloc: Global,
+    base: &Base,
+    reach: &Reach,
+    files: &mut F,
+    block: &mut [u8],
+) -> Result<(Book, u32), End>
+    requires sound { IsSound base.now }
+    requires within { AreWithin (F.seen files.old).known (extents_of base.now) }
+    requires room { length block.old ≡ 131072 }
+{
+    let filter = Filter::new(alloc, base.len())?;
+    let found = match find_boards(alloc, base, &filter, reach, files, block) {
+        Ok(found) => found,
+        Err(error) => return Err(End::from(error)),
+    };
+    let least = found.least;
+    match Book::read(
+        alloc,
+        base,
+        &filter,
+        found.boards,
+        reach.depth,
+        files,
+        block,
+    ) {
+        Ok(book) => Ok((book, least)),
+        Err(error) => Err(End::from(error)),
+    }
+}
+
+// Writes a line.
+fn say<K: Sink>(out: &mut K, line: String) -> Result<(), End> {
+    match write_all(out, line.as_bytes()) {
+        Ok(()) => Ok(()),
+        Err(error) => Err(End::from(error.of_output())),
+    }
+}
+
+// Says on standard error how the run ended, and gives the exit code.
+fn told(rt: &HostRuntime, end: &End) -> ExitCode {
+    let line = message(end);
+    let _ = match end {
+        End::BadBase(fault) => eprintln!(rt; "{line}{fault}"),
+        End::Changed(game) => eprintln!(rt; "{line}{game}"),
+        _ => eprintln!(rt; "{line}"),
+    };
+    ExitCode::from(end.exit_code())
+}

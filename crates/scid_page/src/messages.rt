@@ -1,0 +1,40 @@
+//! What the program says besides the pages.
+use crate::end::End;
+
+/// The answer to `--help`.
+pub const HELP: &str = "\
+usage: scid_page [--depth D] [--least N] [--from BOARD SIDE] BASE FOLDER
+
+Makes of the Scid base BASE.si4, BASE.sn4, BASE.sg4 a folder of linked pages,
+to be looked at in a browser from FOLDER/index.html on: a page for each
+position that at least N games reach within D half-moves. On a page are the
+board, the moves that were made there with their games and results, each with
+a link to its page, the way that leads there, and the first ten games.
+
+  --depth D          how many half-moves, up to 40; 16 where it is not given
+  --least N          how many games; 10 where it is not given
+  --from BOARD SIDE  from this position on, and not from the initial one;
+                     BOARD is the first field of a FEN, and SIDE is w or b
+
+FOLDER is made; one that is there has to be empty. Until all is written a file
+INCOMPLETE stands in it. There are at most 20,000 pages: where there would be
+more, more games are asked for, and the last line says how many.
+
+Exit status: 0 done, 1 usage, 2 bad base, 4 write fault, 5 files fault,
+6 changed game, 8 out of memory. What it was is told on standard error.
+";
+
+/// The answer to `--version`.
+pub const VERSION: &str = "scid_page 0.1.0\n";
+
+/// The line on standard error for a run that is not done; of a bad base and of a changed game its beginning.
+pub fn message(end: &End) -> &'static str {
+    match end {
+        End::Usage => "usage: scid_page [--depth D] [--least N] [--from BOARD SIDE] BASE FOLDER",
+        End::BadBase(_) => "bad base: ",
+        End::WriteFault => "write fault",
+        End::FilesFault => "files fault",
+        End::Changed(_) => "changed game ",
+        End::Memory => "out of memory",
+    }
+}
