@@ -76,7 +76,7 @@ fn run(rt: &HostRuntime, wanted: &Wanted<'_>) -> Result<(), End> {
     }
 }
 
-// Opens the base, counts, and writes the pages.
+// Opens the base, says what it has, and makes its pages.
 fn make<F: Files, K: Sink>(
     rt: &HostRuntime,
     wanted: &Wanted<'_>,
@@ -90,15 +90,47 @@ fn make<F: Files, K: Sink>(
     }
     let mut block = vec![in alloc; 0; BLOCK]?;
     let (base, mended) = open(alloc, files, block.as_mut_slice())?;
-    let games = base.len();
+    let opened = say_opened(alloc, out, base.len(), mended);
+    if opened.is_err() {
+        return opened;
+    }
+    make_pages(rt, wanted, &base, files, out, line, block.as_mut_slice())
+}
+
+// Says how many games the base has, and how many entries were mended.
+fn say_opened<K: Sink>(alloc: Global, out: &mut K, games: u32, mended: u32) -> Result<(), End> {
     say(
         out,
         format!(in alloc; "base {games} games {mended} mended\n")?,
-    )?;
+    )
+}
+
+// Makes the folder, counts, and writes the pages.
+fn make_pages<F: Files, K: Sink>(
+    rt: &HostRuntime,
+    wanted: &Wanted<'_>,
+    base: &Base,
+    files: &mut F,
+    out: &mut K,
+    line: &ProgressLine<'_>,
+    block: &mut [u8],
+) -> Result<(), End>
+    requires sound { IsSound base.now }
+    requires within { AreWithin (F.seen files.old).known (extents_of base.now) }
+    requires room { length block.old ≡ 131072 }
+{
+    let alloc = rt.alloc();
     let folder = Folder::make(rt, alloc, wanted.folder)?;
-    let (book, least) = read_book(alloc, &base, &wanted.reach, files, block.as_mut_slice())?;
-    write_pages(alloc, &folder, wanted.base, &base, &book, line)?;
-    let pages = book.len();
+    let (book, least) = read_book(alloc, base, &wanted.reach, files, block)?;
+    let written = write_pages(alloc, &folder, wanted.base, base, &book, line);
+    if written.is_err() {
+        return written;
+    }
+    say_made(alloc, out, book.len(), least)
+}
+
+// Says how many pages there are, and how many games reach each at least.
+fn say_made<K: Sink>(alloc: Global, out: &mut K, pages: usize, least: u32) -> Result<(), End> {
     say(out, format!(in alloc; "pages {pages} least {least}\n")?)
 }
 
