@@ -33,7 +33,7 @@ pub set-is : (test : Option Man → Bool) → test None ≡ false → (men : Men
 set-is test none men word bits = same_from_bits word (set_of test men) (λ i. bits i ∙ sym (bit-set_of test none men i))
 
 -- a square is emptied
-left : (test : Option Man → Bool) → test None ≡ false → (men : Men) (s : ℕ) → length men ≡ 64 → s < 64
+pub left : (test : Option Man → Bool) → test None ≡ false → (men : Men) (s : ℕ) → length men ≡ 64 → s < 64
     → bit_and (set_of test men) (18446744073709551615 - 1 * 2 ^ s % 18446744073709551616) ≡ set_of test (put men s None)
 left test none men s squares less =
     set-is test none (put men s None) (bit_and (set_of test men) (18446744073709551615 - 1 * 2 ^ s % 18446744073709551616))

@@ -1,8 +1,8 @@
 -- A walk along a line comes to its end where no man stands between.
-use Rattle.std.proofs.Common.{◌≡◌, ℕ, zero, suc, ◌^◌, ◌<◌, ◌&&◌, ◌⊎◌, not, inl, inr, Bool, true, false, eqb, List, [], Option, Some, None, is_none, is_some, refl, sym, subst, ◌∙◌, ap, arith}
+use Rattle.std.proofs.Common.{◌≡◌, ℕ, zero, suc, ◌^◌, ◌<◌, ◌↔◌, IsTrue, ◌&&◌, ◌⊎◌, ◌==◌, inl, inr, Bool, true, false, eqb, List, [], Option, Some, None, is_none, is_some, refl, sym, subst, ◌∙◌, ap, arith}
 use Rattle.std.specs.Int.{bit_at}
 use Rattle.std.specs.Int.RustNames.{bit_and, bit_or}
-use Rattle.std.proofs.lemmas.Bool.{agree_below, agree_below_at, and_parts, cases_Bool, cases_eq, eqb-true, false≢true}
+use Rattle.std.proofs.lemmas.Bool.{agree_below, agree_below_at, and_parts, cases_Bool, cases_eq, eq-eqb, eqb-true, false≢true}
 use Rattle.std.proofs.lemmas.Nat.Bits.{bit_at-lt, bit_at-pow_same, bit_at-pow_other, bit_at-zero, bit_at_and, bit_at_or, same_from_bits}
 use Rattle.std.specs.Prelude.{Any}
 use Rattle.cell_core.specs.declared.man.Colour.{Colour}
@@ -15,12 +15,12 @@ use Rattle.cell_core.specs.Sets.{set_of}
 use Rattle.cell_core.proofs.Squares.{bit-set_of}
 use Rattle.chess_laws.specs.Geometry.{Offset, shift, Runs}
 use Rattle.chess_laws.specs.LegalTests.{glides, line, run, run_on, slides}
-use Rattle.chess_laws.specs.Between.{between, crossed, crossed_on, is_between, is_seen, names_between, names_seen}
-use Rattle.chess_laws.specs.Rays.{entry, offset_at, SlidesFrom}
+use Rattle.chess_laws.specs.Between.{between, crossed, crossed_on, is_between, is_on, is_seen, names_between, names_seen}
+use Rattle.chess_laws.specs.Rays.{entry, glider, offset_at, sliders, SlidesFrom}
 use Rattle.chess_laws.specs.Leaps.{squares_of}
-use Rattle.chess_laws.proofs.Kings.{is_man-true}
-use Rattle.chess_laws.proofs.Lines.{any-slide, line-walk}
+use Rattle.chess_laws.proofs.Lines.{any-slide, line-walk, slide-any}
 use Rattle.chess_laws.proofs.Running.{walk-ends}
+use Rattle.chess_laws.proofs.Sets.{man-bit, man-has}
 
 -- a square more among those that are to be empty
 one-full : (men : Men) (s set : ℕ) (m : Man) → man_at men s ≡ Some m → eqb (bit_and (bit_or (2 ^ s) set) (set_of is_some men)) 0 ≡ false
@@ -85,29 +85,46 @@ unfolding run crossed
 run-clear men o zero a b = refl
 run-clear men o (suc n) a b = run-step men b (shift o a) (run men o n b) (run [] o n b) (crossed o n b) (λ c. run-clear men o n c b)
 
--- what the table says of two squares on a line
-told-of : (table : List (List ℕ)) (row a b : ℕ) → names_between table ≡ true → Some row ≡ line a b → a < 64 → b < 64 → is_between table (Some row) a b ≡ true
+-- what the table says of two squares
+told-of : (table : List (List ℕ)) (a b : ℕ) → names_between table ≡ true → a < 64 → b < 64
+    → (is_between table (line a b) a b && agree_below (λ row. bit_at (entry table row a) b == 1) (is_on (line a b)) 8) ≡ true
 unfolding names_between
-told-of table row a b all on_line a_less b_less =
-    let rows = agree_below_at (λ a. agree_below (λ b. is_between table (line a b) a b) (λ b. true) 64) (λ a. true) 64 a all a_less in
-    let here : is_between table (line a b) a b ≡ true = agree_below_at (λ b. is_between table (line a b) a b) (λ b. true) 64 b rows b_less in
-    subst (λ x. is_between table x a b ≡ true) (sym on_line) here
+told-of table a b all a_less b_less =
+    let rows = agree_below_at
+    (λ a. agree_below (λ b. is_between table (line a b) a b && agree_below (λ row. bit_at (entry table row a) b == 1) (is_on (line a b)) 8) (λ b. true) 64)
+    (λ a. true) 64 a all a_less in
+    agree_below_at (λ b. is_between table (line a b) a b && agree_below (λ row. bit_at (entry table row a) b == 1) (is_on (line a b)) 8) (λ b. true) 64 b rows b_less
 
--- it has the second among those that the first sees
+-- it has by each row the squares on that line
+seen-is : (table : List (List ℕ)) (row a b : ℕ) → names_between table ≡ true → row < 8 → a < 64 → b < 64 → eqb (bit_at (entry table row a) b) 1 ≡ is_on (line a b) row
+seen-is table row a b all less a_less b_less =
+    let parts = and_parts (is_between table (line a b) a b) (agree_below (λ row. bit_at (entry table row a) b == 1) (is_on (line a b)) 8) (told-of table a b all a_less b_less) in
+    agree_below_at (λ row. bit_at (entry table row a) b == 1) (is_on (line a b)) 8 row parts.1 less
+
 pub seen-run : (table : List (List ℕ)) (row a word : ℕ) → names_between table ≡ true → row < 8 → a < 64 → word ≡ entry table row a
     → (men : Men) (b : ℕ) → Runs men a b (offset_at row) → bit_at word b ≡ 1
 seen-run table row a word all less a_less is men b (n, walk) =
-    let on = told-of table row a b all (sym (line-walk men row n a b less walk)) a_less (walk-ends men (offset_at row) n a b walk) in
-    let parts = and_parts (eqb (bit_at (entry table row a) b) 1) (eqb (between table row a b) (crossed (offset_at row) 8 b a) && run [] (offset_at row) 8 b a) on in
-    rw is (eqb-true (bit_at (entry table row a) b) 1 parts.0)
+    let on = seen-is table row a b all less a_less (walk-ends men (offset_at row) n a b walk) in
+    let here : is_on (line a b) row ≡ true = rw (line-walk men row n a b less walk) (eq-eqb row row refl) in
+    rw is (eqb-true (bit_at (entry table row a) b) 1 (on ∙ here))
+
+on-row : (x : Option ℕ) (row : ℕ) → is_on x row ≡ true → x ≡ Some row
+on-row None row h = absurd (false≢true h)
+on-row (Some r) row h = ap Some (eqb-true r row h)
+
+pub seen-line : (table : List (List ℕ)) (row a word : ℕ) → names_between table ≡ true → row < 8 → a < 64 → word ≡ entry table row a
+    → (b : ℕ) → b < 64 → bit_at word b ≡ 1 → line a b ≡ Some row
+seen-line table row a word all less a_less is b b_less set =
+    let one : bit_at (entry table row a) b ≡ 1 = rw (← is) set in
+    on-row (line a b) row (sym (seen-is table row a b all less a_less b_less) ∙ eq-eqb (bit_at (entry table row a) b) 1 one)
 
 -- and tells whether the way is clear
-pub clear-told : (table : List (List ℕ)) (men : Men) (row a b word occupied : ℕ) (test : Bool) → names_between table ≡ true → Some row ≡ line a b → a < 64 → b < 64
-    → word ≡ between table row a b → occupied ≡ set_of is_some men → test ≡ eqb (bit_and word occupied) 0 → test ≡ run men (offset_at row) 8 b a
-clear-told table men row a b word occupied test all on_line a_less b_less is full told =
-    let on = told-of table row a b all on_line a_less b_less in
-    let seen = and_parts (eqb (bit_at (entry table row a) b) 1) (eqb (between table row a b) (crossed (offset_at row) 8 b a) && run [] (offset_at row) 8 b a) on in
-    let parts = and_parts (eqb (between table row a b) (crossed (offset_at row) 8 b a)) (run [] (offset_at row) 8 b a) seen.1 in
+pub clear-told : (table : List (List ℕ)) (row a b word occupied : ℕ) (test : Bool) → names_between table ≡ true → Some row ≡ line a b → a < 64 → b < 64
+    → word ≡ between table row a b → test ≡ eqb (bit_and word occupied) 0 → (men : Men) → occupied ≡ set_of is_some men → test ≡ run men (offset_at row) 8 b a
+clear-told table row a b word occupied test all on_line a_less b_less is told men full =
+    let both = and_parts (is_between table (line a b) a b) (agree_below (λ row. bit_at (entry table row a) b == 1) (is_on (line a b)) 8) (told-of table a b all a_less b_less) in
+    let on : is_between table (Some row) a b ≡ true = subst (λ x. is_between table x a b ≡ true) (sym on_line) both.0 in
+    let parts = and_parts (eqb (between table row a b) (crossed (offset_at row) 8 b a)) (run [] (offset_at row) 8 b a) on in
     let same : between table row a b ≡ crossed (offset_at row) 8 b a = eqb-true (between table row a b) (crossed (offset_at row) 8 b a) parts.0 in
     told ∙ (λ i. eqb (bit_and ((is ∙ same) i) (full i)) 0)
     ∙ sym (run-clear men (offset_at row) 8 a b ∙ ap (λ t. t && eqb (bit_and (crossed (offset_at row) 8 b a) (set_of is_some men)) 0) parts.1)
@@ -122,36 +139,78 @@ seen-told table kind row a b all a_less b_less is on_line =
     let on : is_seen kind (squares_of table a) (Some row) b ≡ true = subst (λ x. is_seen kind (squares_of table a) x b ≡ true) (sym on_line) here in
     eqb-true (bit_at (squares_of table a) b) 1 (rw is at on)
 
--- where no such man stands on one of the squares
+-- who slides stands on a square of the set
 abbrev pub Slider : Men → Colour → Kind → ℕ → Type 0
 Slider men c k a = (man_at men a ≡ Some (man c k)) ⊎ (man_at men a ≡ Some (man c Queen))
 
-in-one : (men : Men) (c : Colour) (k : Kind) (bits a : ℕ) → bits ≡ set_of (is_man c k) men → man_at men a ≡ Some (man c k) → bit_at bits a ≡ 1
-in-one men c k bits a is stands = rw (is, bit-set_of (is_man c k) refl men a, stands, is_man-true c k) refl
+slider-bit : (men : Men) (c : Colour) (k : Kind) (a : ℕ) → (bit_at (sliders men c k) a ≡ 1) ↔ Slider men c k a
+slider-bit men c k a =
+    let either = bit_at_or (set_of (is_man c k) men) (set_of (is_man c Queen) men) a in
+    let one = bit_at-lt (set_of (is_man c k) men) a in
+    let two = bit_at-lt (set_of (is_man c Queen) men) a in (
+      λ set. elim (cases_eq (bit_at (set_of (is_man c k) men) a) 1) [
+        | inl here ↦ inl (man-has men c k a here)
+        | inr other ↦ inr (man-has men c Queen a (omega (arith, either, one, two, set, other)))
+      ],
+      λ stands. elim stands [
+        | inl h ↦ let here = man-bit men c k a h in omega (arith, either, one, two, here)
+        | inr h ↦ let here = man-bit men c Queen a h in omega (arith, either, one, two, here)
+      ],
+    )
 
-pub no-slider : (men : Men) (c : Colour) (k : Kind) (squares own queens : ℕ) (test : Bool) → own ≡ set_of (is_man c k) men → queens ≡ set_of (is_man c Queen) men
-    → test ≡ not (eqb (bit_and squares (bit_or own queens)) 0) → test ≡ false → (a : ℕ) → bit_at squares a ≡ 1 → Slider men c k a → ⊥
-no-slider men c k squares own queens test is are told failed a on stands =
-    let all = bit_at_and squares (bit_or own queens) a in
-    let either = bit_at_or own queens a in
-    let one = bit_at-lt own a in
-    let two = bit_at-lt queens a in
-    let full : bit_at (bit_or own queens) a ≡ 1 = elim stands [
-      | inl h ↦ let here = in-one men c k own a is h in omega (arith, either, one, two, here)
-      | inr h ↦ let here = in-one men c Queen queens a are h in omega (arith, either, one, two, here)
-    ] in
-    elim (cases_Bool (eqb (bit_and squares (bit_or own queens)) 0)) [
-      | inl zero_word ↦
-          let none : bit_at (bit_and squares (bit_or own queens)) a ≡ 0 = rw (eqb-true (bit_and squares (bit_or own queens)) 0 zero_word) (bit_at-zero a) in
-          omega (arith, all, none, full, on)
-      | inr other ↦ false≢true (sym failed ∙ told ∙ ap not other)
-    ]
+-- where steps lead over empty squares to one of those that are on the lines, it slides
+pub slides-told : (men : Men) (c : Colour) (k : Kind) (s on word : ℕ) (Squares : ℕ → Type 0) (test : Bool) → s < 64 → word ≡ sliders men c k
+    → ((a : ℕ) → Squares a ↔ ((bit_at on a ≡ 1) × (bit_at word a ≡ 1))) → ((a : ℕ) → Any (Runs men s a) (slides k) → bit_at on a ≡ 1)
+    → (IsTrue test ↔ ((a : ℕ) × (Squares a × Any (Runs men s a) (slides k)))) → IsTrue test ↔ Any (SlidesFrom men c k s) (slides k)
+slides-told men c k s on word Squares test less is both seen told = (
+  λ h.
+      let found = told.0 h in
+      let any = found.1.1 in
+      let walk : Runs men s found.0 any.1 = any.4 in
+      let stands : Slider men c k found.0 = (slider-bit men c k found.0).0 (rw (← is) ((both found.0).0 found.1.0).1) in (
+        any.0,
+        any.1,
+        any.2,
+        any.3,
+        record { from = found.0; on_board = walk-ends men any.1 walk.0 s found.0 walk.1; stands = stands; target = less; runs = walk },
+      ),
+  λ any.
+      let l = any.4 in
+      let runs : Any (Runs men s l.from) (slides k) = (any.0, any.1, any.2, any.3, l.runs) in
+      told.1 (l.from, ((both l.from).1 (seen l.from runs, rw is ((slider-bit men c k l.from).1 l.stands)), runs)),
+)
 
--- so none slides by one of the steps
-pub unseen : (men : Men) (c : Colour) (k : Kind) (s squares : ℕ) (table : List ℕ) → names_seen table k ≡ true → s < 64 → squares ≡ squares_of table s
-    → ((a : ℕ) → bit_at squares a ≡ 1 → Slider men c k a → ⊥) → Any (SlidesFrom men c k s) (slides k) → ⊥
-unseen men c k s squares table all less is none any =
-    let slide = any-slide k (SlidesFrom men c k s) any in
-    let l = slide.holds in
-    let on = seen-told table k slide.row s l.from all less l.on_board slide.glides (sym (line-walk men slide.row l.runs.0 s l.from slide.less l.runs.1)) in
-    none l.from (rw is on) l.stands
+-- the same along one line
+glider-glides : (row : ℕ) → row < 8 → glides (glider row) row ≡ true
+glider-glides row less = agree_below_at (λ row. glides (glider row) row) (λ row. true) 8 row refl less
+
+pub along-told : (men : Men) (c : Colour) (row s on word : ℕ) (Squares : ℕ → Type 0) (test : Bool) → row < 8 → s < 64 → word ≡ sliders men c (glider row)
+    → ((a : ℕ) → Squares a ↔ ((bit_at on a ≡ 1) × (bit_at word a ≡ 1))) → ((a : ℕ) → Runs men s a (offset_at row) → bit_at on a ≡ 1)
+    → ((a : ℕ) → a < 64 → bit_at on a ≡ 1 → line s a ≡ Some row)
+    → (IsTrue test ↔ ((a : ℕ) × (Squares a × Any (Runs men s a) (slides (glider row))))) → IsTrue test ↔ SlidesFrom men c (glider row) s (offset_at row)
+along-told men c row s on word Squares test row_less less is both seen lies told = (
+  λ h.
+      let found = told.0 h in
+      let slide = any-slide (glider row) (Runs men s found.0) found.1.1 in
+      let bits = (both found.0).0 found.1.0 in
+      let on_line = line-walk men slide.row slide.holds.0 s found.0 slide.less slide.holds.1 in
+      let is_line = lies found.0 (walk-ends men (offset_at slide.row) slide.holds.0 s found.0 slide.holds.1) bits.0 in
+      let same : slide.row ≡ row = cc in
+      let walk : Runs men s found.0 (offset_at row) = rw same at slide.holds in
+      record { from = found.0; on_board = walk-ends men (offset_at row) walk.0 s found.0 walk.1; stands = (slider-bit men c (glider row) found.0).0 (rw (← is) bits.1); target = less; runs = walk },
+  λ l. told.1 (
+    l.from,
+    (
+      (both l.from).1 (seen l.from l.runs, rw is ((slider-bit men c (glider row) l.from).1 l.stands)),
+      slide-any (glider row) (Runs men s l.from) row row_less (glider-glides row row_less) l.runs,
+    ),
+  ),
+)
+
+-- a table has all squares on the lines by which a kind of man slides
+pub seen-slides : (table : List ℕ) (kind : Kind) (s : ℕ) (men : Men) → names_seen table kind ≡ true → s < 64
+    → (a : ℕ) → Any (Runs men s a) (slides kind) → bit_at (squares_of table s) a ≡ 1
+seen-slides table kind s men all less a any =
+    let slide = any-slide kind (Runs men s a) any in
+    seen-told table kind slide.row s a all less (walk-ends men (offset_at slide.row) slide.holds.0 s a slide.holds.1) slide.glides
+    (sym (line-walk men slide.row slide.holds.0 s a slide.less slide.holds.1))

@@ -30,3 +30,4 @@ pub mod Joining
 pub mod PawnMoves
 pub mod Sets
 pub mod Clear
+pub mod Remaining

@@ -1,6 +1,6 @@
 -- Where the kings stand after a move, and what is kept beside the position then.
-use Rattle.std.proofs.Common.{◌≡◌, ℕ, ◌<◌, inl, inr, true, eqb, Some, None, length, count_by, Bool, List, refl, sym, ◌∙◌, ap}
-use Rattle.std.proofs.lemmas.Bool.{eq-eqb, ne_eqb, cases_eq}
+use Rattle.std.proofs.Common.{◌≡◌, ℕ, ◌<◌, inl, inr, ◌↔◌, IsTrue, not, true, false, eqb, Some, None, length, count_by, Bool, List, refl, sym, ◌∙◌, ap}
+use Rattle.std.proofs.lemmas.Bool.{eq-eqb, ne_eqb, cases_eq, false≢true}
 use Rattle.cell_core.specs.declared.man.Colour.{Colour}
 use Rattle.cell_core.specs.declared.man.Colour.TheVariants.{White, Black}
 use Rattle.cell_core.specs.declared.man.Kind.{Kind}
@@ -13,7 +13,7 @@ use Rattle.chess_laws.specs.declared.setup.Wing.{Wing}
 use Rattle.chess_laws.specs.declared.effect.Effect.{Effect}
 use Rattle.chess_laws.specs.declared.effect.Effect.TheVariants.{Plain, Double, Passing, Castle, Null}
 use Rattle.chess_laws.specs.Geometry.{rank_of}
-use Rattle.chess_laws.specs.Attacks.{IsInCheck}
+use Rattle.chess_laws.specs.Attacks.{Attacks, IsInCheck}
 use Rattle.chess_laws.specs.Castling.{rook_home, rook_target}
 use Rattle.chess_laws.specs.Counts.{counts_of}
 use Rattle.chess_laws.specs.Keeps.{Keeps, in_check}
@@ -192,3 +192,11 @@ Keeps-black p m white black checked next counts men side kept legal told counted
       check = told;
       census = counted;
     }
+
+-- the one king of a colour is in check where he is attacked
+pub safe-told : (men : Men) (c : Colour) (s : ℕ) (test : Bool) → IsOnlyKing men c s → (IsTrue test ↔ Attacks men (other c) s) → IsTrue (not test) ↔ (IsInCheck men c → ⊥)
+safe-told men c s true only told = ((λ h. absurd (false≢true h)), (λ none. absurd (none (s, only.stands, told.0 refl))))
+safe-told men c s false only told = (
+  (λ h check. let at : check.0 ≡ s = only.only check.0 check.1 in let attacked : Attacks men (other c) s = rw at at check.2 in false≢true (told.1 attacked)),
+  (λ none. refl),
+)

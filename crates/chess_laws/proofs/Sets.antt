@@ -31,8 +31,11 @@ one-true : (x : Bool) → ◌≡◌ {A = ℕ} (cond x 1 0) 1 → x ≡ true
 one-true true h = refl
 one-true false h = absurd (omega (arith, h))
 
-man-has : (men : Men) (c : Colour) (k : Kind) (s : ℕ) → bit_at (set_of (is_man c k) men) s ≡ 1 → man_at men s ≡ Some (man c k)
+pub man-has : (men : Men) (c : Colour) (k : Kind) (s : ℕ) → bit_at (set_of (is_man c k) men) s ≡ 1 → man_at men s ≡ Some (man c k)
 man-has men c k s set = is_man-Some c k (man_at men s) (one-true (is_man c k (man_at men s)) (sym (bit-set_of (is_man c k) refl men s) ∙ set))
+
+pub man-bit : (men : Men) (c : Colour) (k : Kind) (s : ℕ) → man_at men s ≡ Some (man c k) → bit_at (set_of (is_man c k) men) s ≡ 1
+man-bit men c k s stands = rw (bit-set_of (is_man c k) refl men s, stands, is_man-true c k) refl
 
 -- a man stands on a square of his colour's set
 own-bit : (c : Colour) (k : Kind) → is_of c (Some (man c k)) ≡ true
@@ -126,7 +129,7 @@ leapers men c k bits s steps Squares test is less told each = (
       (any.0, any.1, any.2, any.3, record { from = some.0; on_board = shift-on_board any.1 s some.0 any.4; stands = stands; target = less; leaps = any.4 }),
   λ any.
       let l = any.4 in
-      told.1 (l.from, ((each l.from).1 (any.0, any.1, any.2, any.3, l.leaps), rw (is, bit-set_of (is_man c k) refl men l.from, l.stands, is_man-true c k) refl)),
+      told.1 (l.from, ((each l.from).1 (any.0, any.1, any.2, any.3, l.leaps), rw is (man-bit men c k l.from l.stands))),
 )
 
 -- a table says where steps lead

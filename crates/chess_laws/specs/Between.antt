@@ -1,5 +1,5 @@
 -- The table of lines, which the code reads. No public contract cites these words.
-use Rattle.std.specs.Prelude.{ℕ, zero, suc, ◌-◌, ◌*◌, ◌%◌, ◌^◌, ◌==◌, ◌&&◌, ◌||◌, not, Bool, true, if◌then◌else◌, List, [], Option, Some, None}
+use Rattle.std.specs.Prelude.{ℕ, zero, suc, ◌-◌, ◌*◌, ◌%◌, ◌^◌, ◌==◌, ◌&&◌, ◌||◌, not, Bool, true, false, if◌then◌else◌, List, [], Option, Some, None}
 use Rattle.std.specs.Int.{bit_at}
 use Rattle.std.specs.Int.RustNames.{bit_and, bit_or}
 use Rattle.std.proofs.lemmas.Bool.{agree_below}
@@ -23,16 +23,22 @@ abbrev pub between : List (List ℕ) → ℕ → ℕ → ℕ → ℕ
 between table row a b =
     bit_and (bit_and (entry table row a) (18446744073709551615 - entry table row b)) (18446744073709551615 - 1 * 2 ^ b % 18446744073709551616)
 
--- Whether it says so of two squares on a line, of which it has the second among those that the first sees, and the steps come
--- from the one to the other over a board with no man.
+-- Whether it says so of two squares on a line, and the steps come from the one to the other over a board with no man.
 abbrev pub is_between : List (List ℕ) → Option ℕ → ℕ → ℕ → Bool
 is_between table None a b = true
-is_between table (Some row) a b =
-    (bit_at (entry table row a) b == 1) && ((between table row a b == crossed (offset_at row) 8 b a) && run [] (offset_at row) 8 b a)
+is_between table (Some row) a b = (between table row a b == crossed (offset_at row) 8 b a) && run [] (offset_at row) 8 b a
 
--- Whether it does of any two squares.
+-- Whether this is the row of the line.
+abbrev pub is_on : Option ℕ → ℕ → Bool
+is_on None row = false
+is_on (Some r) row = r == row
+
+-- Whether it says so of any two squares, and has by each row the squares on that line.
 unfoldable pub names_between : List (List ℕ) → Bool
-names_between table = agree_below (λ a. agree_below (λ b. is_between table (line a b) a b) (λ b. true) 64) (λ a. true) 64
+names_between table =
+    agree_below
+    (λ a. agree_below (λ b. is_between table (line a b) a b && agree_below (λ row. bit_at (entry table row a) b == 1) (is_on (line a b)) 8) (λ b. true) 64)
+    (λ a. true) 64
 
 -- Whether a table has, for each square, all on the lines by which a man of this kind slides.
 abbrev pub is_seen : Kind → ℕ → Option ℕ → ℕ → Bool

@@ -1,5 +1,6 @@
--- What the code walks: from the square that is attacked to the attacker. No public contract cites these words.
-use Rattle.std.specs.Prelude.{◌≡◌, ℕ, zero, suc, ◌<◌, ◌⊎◌, Bool, ◌&&◌, ◌==◌, nat_le, nat_lt, if◌then◌else◌, List, [], ◌++◌, slice_index_or, Option, Some, None}
+-- What the code looks for, from the square that is attacked to the attacker. No public contract cites these words.
+use Rattle.std.specs.Prelude.{◌≡◌, ℕ, ◌<◌, ◌⊎◌, Bool, ◌&&◌, ◌==◌, nat_le, nat_lt, if◌then◌else◌, List, [], ◌++◌, slice_index_or, Option, Some, None, is_some}
+use Rattle.std.specs.Int.RustNames.{bit_and, bit_or}
 use Rattle.std.specs.List.{position_or_len}
 use Rattle.std.proofs.Common.{true, eqb, refl}
 use Rattle.std.proofs.lemmas.Bool.{agree_below, agree_below_at, eqb-true}
@@ -8,7 +9,8 @@ use Rattle.cell_core.specs.declared.man.Kind.{Kind}
 use Rattle.cell_core.specs.declared.man.Kind.TheVariants.{Queen, Rook, Bishop}
 use Rattle.cell_core.specs.declared.man.Man.{Man}
 use Rattle.cell_core.specs.Board.{Men, man_at}
-use Rattle.cell_core.specs.Man.{man, other}
+use Rattle.cell_core.specs.Man.{is_man, man, other}
+use Rattle.cell_core.specs.Sets.{is_kind, set_of}
 use Rattle.chess_laws.specs.declared.setup.Setup.{Setup}
 use Rattle.chess_laws.specs.Attacks.{IsInCheck, Reaches}
 use Rattle.chess_laws.specs.LegalTests.{line}
@@ -32,18 +34,9 @@ row_of o = position_or_len (same_offset o) offsets
 pub row_back : (row : ℕ) → row < 16 → row_of (offset_at row) ≡ row
 row_back row less = eqb-true (row_of (offset_at row)) row (agree_below_at (λ n. eqb (row_of (offset_at n)) n) (λ n. true) 16 row refl less)
 
--- The first man that is met from s on, at most so many equal steps away.
-abbrev pub met_on : Option Man → Option Man → Option Man
-met_on None further = further
-met_on (Some m) further = Some m
-
-abbrev pub met_at : Men → Option ℕ → (ℕ → Option Man) → Option Man
-met_at men None further = None
-met_at men (Some a) further = met_on (man_at men a) (further a)
-
-unfoldable pub met : Men → Offset → ℕ → ℕ → Option Man
-met men o zero s = None
-met men o (suc n) s = met_at men (shift o s) (met men o n)
+-- The squares of the men of a colour that slide as this kind of man does: a queen does too.
+abbrev pub sliders : Men → Colour → Kind → ℕ
+sliders men c k = bit_or (set_of (is_man c k) men) (set_of (is_man c Queen) men)
 
 -- This man stands where the step leads from s.
 pub record LeapsFrom (men : Men) (m : Man) (s : ℕ) (o : Offset) : Type 0 where
@@ -104,3 +97,8 @@ pub record Hits (men : Men) (c : Colour) (a b : ℕ) : Type 0 where
   pub kind : Kind
   pub stands : man_at men a ≡ Some (man c kind)
   pub reaches : Reaches men c kind a b
+
+-- Of the men of a colour on one board these squares are left on another, and on these squares some man stands there.
+pub record Leaves (men : Men) (c : Colour) (own full : ℕ) (new : Men) : Type 0 where
+  pub of_kind : (k : Kind) → bit_and own (set_of (is_kind k) men) ≡ set_of (is_man c k) new
+  pub occupied : full ≡ set_of is_some new

@@ -1,58 +1,62 @@
 //! Which squares a side attacks.
-ghost use Rattle.std.specs.Prelude.{◌<◌, ℕ, Some, false, true, ◌≡◌, ◌↔◌, ◌⊎◌, IsTrue, Any};
-ghost use Rattle.std.specs.Int.{bit_at};
+ghost use Rattle.std.specs.Prelude.{◌<◌, ℕ, Some, true, ◌≡◌, ◌↔◌, IsTrue, Any, List, is_some};
 ghost use Rattle.chess_laws.specs.Attacks.{Attacks};
 ghost use Rattle.chess_laws.specs.Between.{names_seen};
 ghost use Rattle.chess_laws.specs.LegalTests.{slides};
-ghost use Rattle.chess_laws.specs.Geometry.{king_steps, knight_steps, pawn_captures};
-ghost use Rattle.chess_laws.specs.Rays.{glider, met, offset_at, LeapsFrom, Opens, SlidesFrom};
-ghost use Rattle.cell_core.specs.Board.{man_at};
-ghost use Rattle.cell_core.specs.Man.{man, other};
-ghost use Rattle.cell_core.specs.declared.man.Kind.TheVariants.{King, Knight, Pawn, Queen};
+ghost use Rattle.chess_laws.specs.Geometry.{Leaps, Offset as Steps, Runs};
+ghost use Rattle.chess_laws.specs.Rays.{glider, offset_at, sliders, Leaves, LeapsFrom, Opens, SlidesFrom};
+ghost use Rattle.chess_laws.specs.Targets.{Has};
+ghost use Rattle.cell_core.specs.Board.{man_at, Men};
+ghost use Rattle.cell_core.specs.Man.{is_man, man};
+ghost use Rattle.cell_core.specs.Sets.{set_of};
+ghost use Rattle.cell_core.specs.declared.man.Colour.{Colour as TheColour};
+ghost use Rattle.cell_core.specs.declared.man.Kind.{Kind as TheKind};
 
-use super::between::seen;
+use super::between::{runs, seen};
 use super::leaps::{capture_squares, king_squares, knight_squares};
-use super::offset::{BISHOP_STEPS, Offset, ROOK_STEPS, line};
+use super::left::Left;
+use super::offset::line;
+use super::targets::SquareSet;
 use cell_core::{Board, Colour, Kind, Man, Square};
 
 /// Whether some man of the colour `by` attacks the square `s`.
 pub fn attacks(board: &Board, by: Colour, s: Square) -> bool
     ensures { IsTrue result ↔ Attacks board.now by s }
 {
-    if slides(board, by, Kind::Rook, &ROOK_LINES, &ROOK_STEPS, s) {
-        return true;
-    }
-    if slides(board, by, Kind::Bishop, &BISHOP_LINES, &BISHOP_STEPS, s) {
-        return true;
-    }
-    if knight_attacks(board, by, s) {
-        return true;
-    }
-    if pawn_attacks(board, by, s) {
-        return true;
-    }
-    king_attacks(board, by, s)
+    attacks_left(board, Left::of(board, by), by, s)
 }
 
-/// Whether a knight of the colour attacks the square.
-fn knight_attacks(board: &Board, by: Colour, s: Square) -> bool
-    ensures { IsTrue result ↔ Any (LeapsFrom board.now (man by Knight) s) knight_steps }
+/// Whether some man of the colour `by` attacks the square `s`, where these of its men are left of the board.
+pub fn attacks_left(board: &Board, left: Left, by: Colour, s: Square) -> bool
+    ensures { (new : Men) → Leaves board.now by left.men left.occupied new → IsTrue result ↔ Attacks new by s }
 {
-    knight_squares(s).meets(board.of_man(by, Kind::Knight))
+    let queens = left.of_kind(board, Kind::Queen);
+    let rooks = left.of_kind(board, Kind::Rook) | queens;
+    if slides(rooks, left.occupied(), Kind::Rook, &ROOK_LINES, s) {
+        return true;
+    }
+    let bishops = left.of_kind(board, Kind::Bishop) | queens;
+    if slides(bishops, left.occupied(), Kind::Bishop, &BISHOP_LINES, s) {
+        return true;
+    }
+    if leaps(knight_squares(s), left.of_kind(board, Kind::Knight)) {
+        return true;
+    }
+    if leaps(
+        capture_squares(by.other(), s),
+        left.of_kind(board, Kind::Pawn),
+    ) {
+        return true;
+    }
+    leaps(king_squares(s), left.of_kind(board, Kind::King))
 }
 
-/// Whether the king of the colour attacks the square.
-fn king_attacks(board: &Board, by: Colour, s: Square) -> bool
-    ensures { IsTrue result ↔ Any (LeapsFrom board.now (man by King) s) king_steps }
+/// Whether one of these men stands on a square to which steps lead from a square.
+#[inline(always)]
+fn leaps(squares: SquareSet, men: u64) -> bool
+    ensures { (new : Men) (c : TheColour) (k : TheKind) (s : ℕ) (steps : List Steps) → men ≡ set_of (is_man c k) new → s < 64 → ((b : ℕ) → Has squares b ↔ Any (Leaps s b) steps) → IsTrue result ↔ Any (LeapsFrom new (man c k) s) steps }
 {
-    king_squares(s).meets(board.of_man(by, Kind::King))
-}
-
-/// Whether a pawn of the colour attacks the square: it stands where a pawn of the other colour would capture from there.
-fn pawn_attacks(board: &Board, by: Colour, s: Square) -> bool
-    ensures { IsTrue result ↔ Any (LeapsFrom board.now (man by Pawn) s) (pawn_captures (other by)) }
-{
-    capture_squares(by.other(), s).meets(board.of_man(by, Kind::Pawn))
+    squares.meets(men)
 }
 
 /// Whether such a man stands on the square.
@@ -62,73 +66,46 @@ pub(crate) fn stands(board: &Board, from: Square, colour: Colour, kind: Kind) ->
     board.at(from) == Some(Man { colour, kind })
 }
 
-/// Whether such a man, or a queen, stands where equal steps lead from `s` over empty squares, all of which are on lines that
-/// a table has of each square.
-fn slides(
-    board: &Board,
-    by: Colour,
-    kind: Kind,
-    lines: &[u64; 64],
-    steps: &[Offset],
-    s: Square,
-) -> bool
+/// Whether one of these men, who slide as this kind of man does, slides to `s`, where men stand on these squares. A table has the
+/// squares on the lines through each square.
+#[inline(always)]
+fn slides(men: u64, occupied: u64, kind: Kind, lines: &[u64; 64], s: Square) -> bool
     requires lines { names_seen lines.now kind ≡ true }
-    requires steps { steps.now ≡ slides kind }
-    ensures { IsTrue result ↔ Any (SlidesFrom board.now by kind s) steps.now }
+    ensures { (new : Men) (by : TheColour) → men ≡ sliders new by kind → occupied ≡ set_of is_some new → IsTrue result ↔ Any (SlidesFrom new by kind s) (slides kind) }
 {
     let from = s.index();
-    if !has_slider(board, by, kind, lines[from as usize]) {
-        return false;
-    }
-    slides_by_one(board, by, kind, steps, s)
+    let there = SquareSet::of_bits(lines[from as usize]).within(men);
+    come(there, occupied, kind, s)
 }
 
-/// Whether such a man, or a queen, stands on one of the squares of these bits.
-#[inline(always)]
-fn has_slider(board: &Board, by: Colour, kind: Kind, squares: u64) -> bool
-    ensures none { result ≡ false → (a : ℕ) → bit_at squares a ≡ 1 → ((man_at board.now a ≡ Some (man by kind)) ⊎ (man_at board.now a ≡ Some (man by Queen))) → ⊥ }
+/// Whether equal steps of this kind of man lead from `s` to one of the squares, where men stand on these.
+fn come(squares: SquareSet, occupied: u64, kind: Kind, s: Square) -> bool
+    ensures { (new : Men) → occupied ≡ set_of is_some new → IsTrue result ↔ ((a : ℕ) × (Has squares a × Any (Runs new s a) (slides kind))) }
 {
-    squares & (board.of_man(by, kind) | board.of_man(by, Kind::Queen)) != 0
-}
-
-/// Whether such a man, or a queen, stands where equal steps of one of these lead from `s` over empty squares.
-fn slides_by_one(board: &Board, by: Colour, kind: Kind, steps: &[Offset], s: Square) -> bool
-    ensures { IsTrue result ↔ Any (SlidesFrom board.now by kind s) steps.now }
-{
-    steps.iter().any(|step| slides_by(board, by, kind, step, s))
-}
-
-/// Whether such a man, or a queen, stands where equal steps of this one lead from `s` over empty squares.
-#[inline(never)]
-fn slides_by(board: &Board, by: Colour, kind: Kind, step: &Offset, s: Square) -> bool
-    ensures { IsTrue result ↔ SlidesFrom board.now by kind s step.now }
-{
-    match first_met(board, step, s) {
-        Some(standing) => is_slider(standing, by, kind),
-        None => false,
-    }
-}
-
-/// Whether this is such a man, or a queen.
-fn is_slider(standing: Man, by: Colour, kind: Kind) -> bool
-    ensures { IsTrue result ↔ ((standing ≡ man by kind) ⊎ (standing ≡ man by Queen)) }
-{
-    standing.colour == by && (standing.kind == kind || standing.kind == Kind::Queen)
-}
-
-/// The first man that is met from `s` on, going by equal steps.
-fn first_met(board: &Board, step: &Offset, s: Square) -> Option<Man>
-    ensures met { result ≡ met board.now step.now 8 s }
-    ensures on_board { s < 64 }
-{
-    let mut at = step.target(s)?;
-    for _i in 0..7u8 {
-        if let Some(standing) = board.at(at) {
-            return Some(standing);
+    let mut at = 0u8;
+    while let Some(a) = squares.next(at) {
+        if runs(occupied, kind, s, a) {
+            return true;
         }
-        at = step.target(at)?;
+        at = a.index() + 1;
     }
-    board.at(at)
+    false
+}
+
+/// What slides by the step of a row besides a queen.
+#[inline(always)]
+fn glider(row: u8) -> Kind
+    ensures { result ≡ glider row }
+{
+    if row < 4 { Kind::Rook } else { Kind::Bishop }
+}
+
+/// The men of this colour and kind, and the queens of the colour.
+#[inline(always)]
+fn sliders(board: &Board, by: Colour, kind: Kind) -> u64
+    ensures { result ≡ sliders board.now by kind }
+{
+    board.of_man(by, kind) | board.of_man(by, Kind::Queen)
 }
 
 // Whether a man that leaves `from` for elsewhere opens the line from a man of this colour to the square `s`.
@@ -148,21 +125,9 @@ fn slides_along(board: &Board, by: Colour, row: u8, s: Square) -> bool
     requires row { row < 8 }
     ensures { IsTrue result ↔ SlidesFrom board.now by (glider row) s (offset_at row) }
 {
-    let kind = if row < 4 { Kind::Rook } else { Kind::Bishop };
-    slides_in_row(board, by, kind, row, s)
-}
-
-// Whether such a man, or a queen, slides to the square from where the step of this row leads. None is looked for where none
-// stands that way.
-#[inline(always)]
-fn slides_in_row(board: &Board, by: Colour, kind: Kind, row: u8, s: Square) -> bool
-    requires row { row < 8 }
-    ensures { IsTrue result ↔ SlidesFrom board.now by kind s (offset_at row) }
-{
-    if !has_slider(board, by, kind, seen(row, s)) {
-        return false;
-    }
-    slides_by(board, by, kind, &Offset::of_row(row), s)
+    let kind = glider(row);
+    let there = SquareSet::of_bits(seen(row, s)).within(sliders(board, by, kind));
+    come(there, board.occupied(), kind, s)
 }
 
 // The files and ranks through each square.

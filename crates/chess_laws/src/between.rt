@@ -1,31 +1,69 @@
 //! Which squares stand between two squares on a line.
-ghost use Rattle.std.specs.Prelude.{◌≡◌, ℕ, ◌<◌, Some, true};
+ghost use Rattle.std.specs.Prelude.{◌≡◌, ◌↔◌, ℕ, ◌<◌, Some, true, is_some, Any, IsTrue};
 ghost use Rattle.std.specs.Int.{bit_at};
 ghost use Rattle.cell_core.specs.Board.{Men};
+ghost use Rattle.cell_core.specs.Sets.{set_of};
 ghost use Rattle.chess_laws.specs.Geometry.{Runs};
-ghost use Rattle.chess_laws.specs.LegalTests.{line, run};
+ghost use Rattle.chess_laws.specs.LegalTests.{glides, line, run, slides};
 ghost use Rattle.chess_laws.specs.Between.{between, names_between};
 ghost use Rattle.chess_laws.specs.Rays.{offset_at};
 
-use cell_core::{Board, Square};
+use super::offset::line;
+use cell_core::{Kind, Square};
 
-/// Whether no man stands between two squares, the step of this row leading from the first towards the second.
-pub fn is_clear(board: &Board, row: u8, from: Square, to: Square) -> bool
-    requires row { row < 8 }
-    requires line { Some row ≡ line from to }
-    ensures { result ≡ run board.now (offset_at row) 8 to from }
+/// Whether equal steps, of this kind of man, lead from one square to the other over empty squares, where men stand on these.
+#[inline(always)]
+pub fn runs(occupied: u64, kind: Kind, from: Square, to: Square) -> bool
+    ensures { (men : Men) → occupied ≡ set_of is_some men → IsTrue result ↔ Any (Runs men from to) (slides kind) }
 {
-    is_clear_in(&RAYS, board, row, from, to)
+    match line(from, to) {
+        None => false,
+        Some(row) => runs_by(occupied, kind, row, from, to),
+    }
 }
 
-// Whether no man stands between the two, by a table of where each step leads.
-fn is_clear_in(table: &[[u64; 64]; 8], board: &Board, row: u8, from: Square, to: Square) -> bool
+// Whether a man of this kind slides by the step of this row from one square to the other over empty squares.
+#[inline(always)]
+fn runs_by(occupied: u64, kind: Kind, row: u8, from: Square, to: Square) -> bool
+    requires row { row < 8 }
+    requires line { Some row ≡ line from to }
+    ensures { (men : Men) → occupied ≡ set_of is_some men → IsTrue result ↔ ((glides kind row ≡ true) × Runs men from to (offset_at row)) }
+{
+    glides(kind, row) && is_clear(occupied, row, from, to)
+}
+
+/// Whether a man of this kind slides by the step of this row.
+#[inline(always)]
+pub fn glides(kind: Kind, row: u8) -> bool
+    ensures { result ≡ glides kind row }
+{
+    match kind {
+        Kind::Queen => row < 8,
+        Kind::Rook => row < 4,
+        Kind::Bishop => 4 <= row && row < 8,
+        Kind::King | Kind::Knight | Kind::Pawn => false,
+    }
+}
+
+// Whether no man stands between two squares, the step of this row leading from the first towards the second.
+#[inline(always)]
+fn is_clear(occupied: u64, row: u8, from: Square, to: Square) -> bool
+    requires row { row < 8 }
+    requires line { Some row ≡ line from to }
+    ensures { (men : Men) → occupied ≡ set_of is_some men → result ≡ run men (offset_at row) 8 to from }
+{
+    is_clear_in(&RAYS, occupied, row, from, to)
+}
+
+// The same, by a table of where each step leads.
+#[inline(always)]
+fn is_clear_in(table: &[[u64; 64]; 8], occupied: u64, row: u8, from: Square, to: Square) -> bool
     requires row { row < 8 }
     requires line { Some row ≡ line from to }
     requires says { names_between table.now ≡ true }
-    ensures { result ≡ run board.now (offset_at row) 8 to from }
+    ensures { (men : Men) → occupied ≡ set_of is_some men → result ≡ run men (offset_at row) 8 to from }
 {
-    between_in(table, row, from, to) & board.occupied() == 0
+    between_in(table, row, from, to) & occupied == 0
 }
 
 // The squares between the two, which are those that the first sees and the second neither is nor sees.
@@ -44,6 +82,8 @@ fn between_in(table: &[[u64; 64]; 8], row: u8, from: Square, to: Square) -> u64
 pub fn seen(row: u8, s: Square) -> u64
     requires row { row < 8 }
     ensures seen { (men : Men) (b : ℕ) → Runs men s b (offset_at row) → bit_at result b ≡ 1 }
+    ensures line { (b : ℕ) → b < 64 → bit_at result b ≡ 1 → line s b ≡ Some row }
+    ensures on_board { s < 64 }
 {
     seen_in(&RAYS, row, s)
 }
@@ -54,6 +94,8 @@ fn seen_in(table: &[[u64; 64]; 8], row: u8, s: Square) -> u64
     requires row { row < 8 }
     requires says { names_between table.now ≡ true }
     ensures seen { (men : Men) (b : ℕ) → Runs men s b (offset_at row) → bit_at result b ≡ 1 }
+    ensures line { (b : ℕ) → b < 64 → bit_at result b ≡ 1 → line s b ≡ Some row }
+    ensures on_board { s < 64 }
 {
     table[row as usize][s.index() as usize]
 }

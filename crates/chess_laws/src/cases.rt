@@ -1,20 +1,19 @@
 //! Which moves the rules of each kind of half-move allow, apart from the safety of the mover's king.
-ghost use Rattle.std.specs.Prelude.{◌≡◌, ◌↔◌, ◌<◌, IsTrue, Any, Some, None, true};
+ghost use Rattle.std.specs.Prelude.{◌≡◌, ◌↔◌, IsTrue, Any, Some, None};
 ghost use Rattle.cell_core.specs.Board.{man_at};
 ghost use Rattle.cell_core.specs.Man.{man, other};
 ghost use Rattle.chess_laws.specs.Geometry.{forward, pawn_captures, rank_of, Leaps, Runs, Walk};
 ghost use Rattle.chess_laws.specs.Attacks.{Reaches, IsInCheck};
-ghost use Rattle.chess_laws.specs.LegalTests.{IsOnlyKing, MayCastle, glides, line, slides, IsEnemyOn};
-ghost use Rattle.chess_laws.specs.Rays.{offset_at};
+ghost use Rattle.chess_laws.specs.LegalTests.{IsOnlyKing, MayCastle, slides, IsEnemyOn};
 ghost use Rattle.chess_laws.specs.Step.{Case, CastleCase, DoubleCase, GoesPlainly, HasNoOwn, NullCase, PassingCase, PlainCase, last_rank, may_become, pawn_rank, promotes_rightly};
 
 use super::attack::{attacks, stands};
-use super::between::is_clear;
+use super::between::runs;
 use super::castling::{has_right, is_path_safe, is_way_free};
 use super::effect::Effect;
 use super::leaps::{is_capture_step, is_king_step, is_knight_step};
 use super::next::passed_square;
-use super::offset::{DOWN, Offset, UP, line};
+use super::offset::{DOWN, Offset, UP};
 use super::setup::{Setup, Wing};
 use cell_core::{Board, Colour, Kind, Man, Move, Square};
 
@@ -235,41 +234,8 @@ pub fn reaches(board: &Board, colour: Colour, kind: Kind, from: Square, to: Squa
 {
     match kind {
         Kind::King => is_king_step(from, to),
-        Kind::Queen | Kind::Rook | Kind::Bishop => runs(board, kind, from, to),
+        Kind::Queen | Kind::Rook | Kind::Bishop => runs(board.occupied(), kind, from, to),
         Kind::Knight => is_knight_step(from, to),
         Kind::Pawn => is_capture_step(colour, from, to),
-    }
-}
-
-/// Whether equal steps, of this kind of man, lead from one square to the other over empty squares.
-#[inline(always)]
-fn runs(board: &Board, kind: Kind, from: Square, to: Square) -> bool
-    ensures { IsTrue result ↔ Any (Runs board.now from to) (slides kind) }
-{
-    match line(from, to) {
-        None => false,
-        Some(row) => runs_by(board, kind, row, from, to),
-    }
-}
-
-/// Whether a man of this kind slides by the step of this row from one square to the other over empty squares.
-#[inline(always)]
-fn runs_by(board: &Board, kind: Kind, row: u8, from: Square, to: Square) -> bool
-    requires row { row < 8 }
-    requires line { Some row ≡ line from to }
-    ensures { IsTrue result ↔ ((glides kind row ≡ true) × Runs board.now from to (offset_at row)) }
-{
-    glides(kind, row) && is_clear(board, row, from, to)
-}
-
-/// Whether a man of this kind slides by the step of this row.
-pub fn glides(kind: Kind, row: u8) -> bool
-    ensures { result ≡ glides kind row }
-{
-    match kind {
-        Kind::Queen => row < 8,
-        Kind::Rook => row < 4,
-        Kind::Bishop => 4 <= row && row < 8,
-        Kind::King | Kind::Knight | Kind::Pawn => false,
     }
 }

@@ -10,10 +10,11 @@ ghost use Rattle.chess_laws.specs.Rays.{Covers, Shut};
 ghost use Rattle.chess_laws.specs.Position.{Sound};
 ghost use Rattle.chess_laws.specs.Step.{board_after, effect_of, Case, Legal};
 
-use super::attack::opens;
-use super::cases::{is_allowed, is_in_check, is_plain_of};
+use super::attack::{attacks_left, opens};
+use super::cases::{is_allowed, is_plain_of};
 use super::effect::Effect;
-use super::next::{change_board, effect_of};
+use super::left::Left;
+use super::next::effect_of;
 use super::setup::Setup;
 use cell_core::{Kind, Move, Square};
 
@@ -103,9 +104,8 @@ fn is_safe_after(p: &Setup, king: Square, m: &Move, effect: Effect) -> bool
     requires allowed { Case p.now m.now effect }
     ensures { IsTrue result ↔ (IsInCheck (board_after p.now m.now effect) p.now.side → ⊥) }
 {
-    let mut next = *p;
-    change_board(&mut next, m, effect);
-    !is_in_check(&next.board, p.side, king_after(king, m))
+    let left = Left::after(p, m, effect);
+    !attacks_left(&p.board, left, p.side.other(), king_after(king, m))
 }
 
 /// Where the king stands after the move: on its target, where the king is what moves.

@@ -10,6 +10,7 @@ mod census;
 mod effect;
 mod fault;
 mod leaps;
+mod left;
 mod legal;
 mod making;
 mod moves;

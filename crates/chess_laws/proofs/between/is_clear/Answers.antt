@@ -8,3 +8,6 @@ use Rattle.chess_laws.proofs.between.is_clear.Goals as goal
 pub is_clear_in-requires : goal.is_clear_in-requires
 unfolding shift line run crossed names_between
 is_clear_in-requires c = record { row = c.requires.row; line = c.requires.line; says = refl }
+
+pub returns : goal.returns
+returns c = c.is_clear_in.ensures

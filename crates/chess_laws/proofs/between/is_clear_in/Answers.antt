@@ -4,5 +4,5 @@ use Rattle.chess_laws.proofs.between.is_clear_in.Goals as goal
 
 pub returns : goal.returns
 returns c =
-    clear-told c.args.table.now c.args.board.now c.args.row c.args.from c.args.to c.between_in.result c.occupied.result _ c.requires.says c.requires.line
-    c.between_in.ensures.on_board.0 c.between_in.ensures.on_board.1 c.between_in.ensures.squares c.occupied.ensures.squares refl
+    clear-told c.args.table.now c.args.row c.args.from c.args.to c.between_in.result c.args.occupied _ c.requires.says c.requires.line
+    c.between_in.ensures.on_board.0 c.between_in.ensures.on_board.1 c.between_in.ensures.squares refl

@@ -1,0 +1,18 @@
+-- Steps lead to none of the squares before this one.
+use Rattle.std.proofs.Common.{ℕ, ◌-◌, ◌<◌, ◌≤◌, ◌≡◌, is_some}
+use Rattle.std.specs.Prelude.{Any}
+use Rattle.cell_core.specs.Board.{Men}
+use Rattle.cell_core.specs.Sets.{set_of}
+use Rattle.chess_laws.specs.Geometry.{Runs}
+use Rattle.chess_laws.specs.LegalTests.{slides}
+use Rattle.chess_laws.specs.Targets.{Has}
+use Rattle.chess_laws.proofs.attack.come.Given as goal
+
+abbrev pub invariant-loop-a : goal.invariant-loop-a
+invariant-loop-a l = record {
+  on_board : l.at ≤ 64;
+  none : (new : Men) → l.occupied ≡ set_of is_some new → (a : ℕ) → a < l.at → Has l.squares a → Any (Runs new l.s a) (slides l.kind) → ⊥;
+}
+
+abbrev pub decreases-loop-a : goal.decreases-loop-a
+decreases-loop-a l = 64 - l.at
