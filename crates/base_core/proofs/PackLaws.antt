@@ -3,12 +3,12 @@ use Rattle.std.proofs.Common.{◌≡◌, ◌<◌, ◌≤◌, ◌+◌, ◌*◌, �
 use Rattle.std.specs.List.{range_with_len}
 use Rattle.std.proofs.lemmas.Bool.{cases_eq, cases_order}
 use Rattle.std.proofs.lemmas.Option.{same_Some, slice_get-get_or, slice_get_within}
-use Rattle.std.proofs.lemmas.List.{drop-append-le, take-append-le, drop_all, take_all, ext_get_or, length-append, length-drop, length-take-le, length-set, get_or-set_same, get_or-set_other, get_or-take, take-append-drop, append_assoc}
+use Rattle.std.proofs.lemmas.List.{drop-append-le, drop-drop, take-append-le, drop_all, take_all, ext_get_or, length-append, length-drop, length-take-le, length-set, get_or-set_same, get_or-set_other, get_or-take, take-append-drop, append_assoc}
 use Rattle.std.proofs.lemmas.Slice.{drop-append-drop}
 use Rattle.std.proofs.lemmas.List.FromFn.{get_or-map-range_with_len, length-map-range_with_len, map-range_with_len_more}
 use Rattle.index_entry.specs.Entry.{IsWritten, entry_in, entry_read}
 use Rattle.index_entry.specs.declared.entry.Entry.{Entry}
-use Rattle.base_core.specs.Packing.{ArePacked, AreWritten, entries_in, packed_at}
+use Rattle.base_core.specs.Packing.{AreFirst, ArePacked, AreWritten, entries_in, packed_at}
 use Rattle.base_core.proofs.CheckLaws.{read_is}
 
 pub entries-length : (bytes : List ℕ) (count : ℕ) → length (entries_in bytes count) ≡ count
@@ -85,9 +85,9 @@ put-length bytes more count i long size below =
     length-append (take (47 * i) bytes) (more ++ drop (47 * i + 47) bytes)
     ∙ (rw (length-append more (drop (47 * i + 47) bytes), length-take-le (47 * i) bytes (omega (arith, long, below)), length-drop (47 * i + 47) bytes) (omega (arith, long, size, below)))
 
-put-same : (bytes more : List ℕ) (count i : ℕ) → length bytes ≡ 47 * count → length more ≡ 47 → i < count → packed_at (put_at bytes i more) i ≡ more
-put-same bytes more count i long size below =
-    let front : length (take (47 * i) bytes) ≡ 47 * i = length-take-le (47 * i) bytes (omega (arith, long, below)) in
+put-same : (bytes more : List ℕ) (i : ℕ) → 47 * i + 47 ≤ length bytes → length more ≡ 47 → packed_at (put_at bytes i more) i ≡ more
+put-same bytes more i long size =
+    let front : length (take (47 * i) bytes) ≡ 47 * i = length-take-le (47 * i) bytes (omega (arith, long)) in
     let at : 47 * i ≤ length (take (47 * i) bytes) = omega (arith, front) in
     ap (λ (b : List ℕ). take 47 b) (drop-append-le (47 * i) (take (47 * i) bytes) (more ++ drop (47 * i + 47) bytes) at ∙ ap (λ (b : List ℕ). b ++ (more ++ drop (47 * i + 47) bytes)) (drop_all (47 * i) (take (47 * i) bytes) (omega (arith, front))))
     ∙ (take-append-le 47 more (drop (47 * i + 47) bytes) (omega (arith, size)) ∙ take_all 47 more (omega (arith, size)))
@@ -98,9 +98,8 @@ front-at bytes rest i j within less =
     let front : length (take (47 * i) bytes) ≡ 47 * i = length-take-le (47 * i) bytes within in
     packed-old (take (47 * i) bytes) rest j (omega (arith, front, less))
 
-put-before : (bytes more : List ℕ) (count i j : ℕ) → length bytes ≡ 47 * count → i < count → j < i → packed_at (put_at bytes i more) j ≡ packed_at bytes j
-put-before bytes more count i j long below less =
-    let in_file : 47 * i ≤ length bytes = omega (arith, long, below) in
+put-before : (bytes more : List ℕ) (i j : ℕ) → 47 * i ≤ length bytes → j < i → packed_at (put_at bytes i more) j ≡ packed_at bytes j
+put-before bytes more i j in_file less =
     front-at bytes (more ++ drop (47 * i + 47) bytes) i j in_file less
     ∙ (sym (front-at bytes (drop (47 * i) bytes) i j in_file less) ∙ ap (λ (b : List ℕ). packed_at b j) (take-append-drop (47 * i) bytes))
 
@@ -117,7 +116,7 @@ put-other bytes more count i j long size below other =
     elim (cases_order j i) [
       | inl same ↦ absurd (other same)
       | inr apart ↦ elim apart [
-        | inl before ↦ put-before bytes more count i j long below before
+        | inl before ↦ put-before bytes more i j (omega (arith, long, below)) before
         | inr behind ↦ put-behind bytes more count i j long size below behind
       ]
     ]
@@ -127,7 +126,7 @@ packed-put bytes more count i e are is below = record {
   size = put-length bytes more count i are.size is.size below;
   each = λ j there.
       elim (cases_eq j i) [
-        | inl same ↦ written-as e (ap (λ (k : ℕ). packed_at (put_at bytes i more) k) same ∙ put-same bytes more count i are.size is.size below) is
+        | inl same ↦ written-as e (ap (λ (k : ℕ). packed_at (put_at bytes i more) k) same ∙ put-same bytes more i (within bytes count i are.size below) is.size) is
         | inr other ↦ subst IsOwn (sym (put-other bytes more count i j are.size is.size below other)) (are.each j there)
       ];
 }
@@ -145,7 +144,7 @@ entries-put bytes more count i e long is below =
     get_or-map-range_with_len g 0 count j j e at (omega arith)
     ∙ (elim (cases_eq j i) [
       | inl same ↦
-          let new : g i ≡ e = ap (λ (b : List ℕ). entry_in b) (put-same bytes more count i long is.size below) ∙ read_is more e is.says in
+          let new : g i ≡ e = ap (λ (b : List ℕ). entry_in b) (put-same bytes more i (within bytes count i long below) is.size) ∙ read_is more e is.says in
           ap g same ∙ (new ∙ sym (ap (λ (k : ℕ). get_or (slice_set (map f (range_with_len 0 count)) i e) k e) same ∙ get_or-set_same (map f (range_with_len 0 count)) i e e (subst (λ n. i < n) (sym fs) below)))
       | inr other ↦
           ap (λ (b : List ℕ). entry_in b) (put-other bytes more count i j long is.size below other)
@@ -189,6 +188,79 @@ none-packed = record { size = refl; each = λ i below. absurd (omega (arith, bel
 pub no-entries : entries_in [] 0 ≡ []
 unfolding entries_in
 no-entries = refl
+
+-- ---- entries of which the first were read.
+
+pub none-first : (bytes : List ℕ) → AreFirst bytes 0
+none-first bytes = record { within = omega arith; each = λ i below. absurd (omega (arith, below)) }
+
+pub none-read : (bytes : List ℕ) → entries_in bytes 0 ≡ []
+unfolding entries_in
+none-read bytes = refl
+
+pub put-size : (bytes more : List ℕ) (i : ℕ) → length more ≡ 47 → 47 * i + 47 ≤ length bytes → length (put_at bytes i more) ≡ length bytes
+put-size bytes more i size there =
+    length-append (take (47 * i) bytes) (more ++ drop (47 * i + 47) bytes)
+    ∙ (rw (length-append more (drop (47 * i + 47) bytes), length-take-le (47 * i) bytes (omega (arith, there)), length-drop (47 * i + 47) bytes) (omega (arith, size, there)))
+
+pub first-put : (bytes more : List ℕ) (count : ℕ) (e : Entry) → AreFirst bytes count → IsWritten more e → 47 * count + 47 ≤ length bytes → AreFirst (put_at bytes count more) (count + 1)
+first-put bytes more count e are is there = record {
+  within =
+      let long : length (put_at bytes count more) ≡ length bytes = put-size bytes more count is.size there in
+      omega (arith, long, there);
+  each = λ i below.
+      let last : i ≤ count = omega (arith, below) in
+      elim (eq-or-lt_of_le last) [
+        | inl same ↦ written-as e (ap (λ (k : ℕ). packed_at (put_at bytes count more) k) same ∙ put-same bytes more count there is.size) is
+        | inr less ↦ subst IsOwn (sym (put-before bytes more count i are.within less)) (are.each i less)
+      ];
+}
+
+pub entries-put-next : (bytes more : List ℕ) (count : ℕ) (e : Entry) → IsWritten more e → 47 * count + 47 ≤ length bytes → entries_in (put_at bytes count more) (count + 1) ≡ entries_in bytes count ++ e ∷ []
+unfolding entries_in
+entries-put-next bytes more count e is there =
+    let f : ℕ → Entry = λ k. entry_in (packed_at bytes k) in
+    let g : ℕ → Entry = λ k. entry_in (packed_at (put_at bytes count more) k) in
+    let in_file : 47 * count ≤ length bytes = omega (arith, there) in
+    let front : map g (range_with_len 0 count) ≡ map f (range_with_len 0 count) =
+    ext_get_or e (map g (range_with_len 0 count)) (map f (range_with_len 0 count)) (length-map-range_with_len g 0 count ∙ sym (length-map-range_with_len f 0 count))
+    (λ i below.
+    let at : i < count = subst (λ n. i < n) (length-map-range_with_len g 0 count) below in
+    get_or-map-range_with_len g 0 count i i e at (omega arith)
+    ∙ (ap (λ (b : List ℕ). entry_in b) (put-before bytes more count i in_file at) ∙ sym (get_or-map-range_with_len f 0 count i i e at (omega arith))))
+    in
+    let last : g count ≡ e = ap (λ (b : List ℕ). entry_in b) (put-same bytes more count there is.size) ∙ read_is more e is.says in
+    map-range_with_len_more g 0 count count (omega arith)
+    ∙ (ap (λ (es : List Entry). es ++ g count ∷ []) front ∙ ap (λ (x : Entry). map f (range_with_len 0 count) ++ x ∷ []) last)
+
+-- What stands behind an entry stays where it is.
+pub ahead-put : (bytes more : List ℕ) (count : ℕ) → length more ≡ 47 → 47 * count + 47 ≤ length bytes → drop (47 * (count + 1)) (put_at bytes count more) ≡ drop 47 (drop (47 * count) bytes)
+ahead-put bytes more count size there =
+    let front : length (take (47 * count) bytes ++ more) ≡ 47 * count + 47 =
+    length-append (take (47 * count) bytes) more ∙ rw (length-take-le (47 * count) bytes (omega (arith, there)), size) refl
+    in
+    let joined : put_at bytes count more ≡ (take (47 * count) bytes ++ more) ++ drop (47 * count + 47) bytes = sym (append_assoc (take (47 * count) bytes) more (drop (47 * count + 47) bytes)) in
+    ap (λ (b : List ℕ). drop (47 * (count + 1)) b) joined
+    ∙ (drop-append-drop (47 * count + 47) bytes (take (47 * count) bytes ++ more) (47 * (count + 1)) (omega arith) front
+    ∙ (ap (λ (n : ℕ). drop n bytes) (omega arith) ∙ sym (drop-drop 47 (47 * count) bytes)))
+
+pub first-packed : (bytes : List ℕ) (count : ℕ) → AreFirst bytes count → ArePacked (take (47 * count) bytes) count
+first-packed bytes count are = record {
+  size = length-take-le (47 * count) bytes are.within;
+  each = λ i below. subst IsOwn (sym (front-own bytes count i are.within below)) (are.each i below);
+}
+
+pub entries-first : (bytes : List ℕ) (count : ℕ) → AreFirst bytes count → entries_in (take (47 * count) bytes) count ≡ entries_in bytes count
+unfolding entries_in
+entries-first bytes count are =
+    let f : ℕ → Entry = λ k. entry_in (packed_at bytes k) in
+    let g : ℕ → Entry = λ k. entry_in (packed_at (take (47 * count) bytes) k) in
+    let e : Entry = entry_in bytes in
+    ext_get_or e (map g (range_with_len 0 count)) (map f (range_with_len 0 count)) (length-map-range_with_len g 0 count ∙ sym (length-map-range_with_len f 0 count))
+    (λ i below.
+    let at : i < count = subst (λ n. i < n) (length-map-range_with_len g 0 count) below in
+    get_or-map-range_with_len g 0 count i i e at (omega arith)
+    ∙ (ap (λ (b : List ℕ). entry_in b) (front-own bytes count i are.within at) ∙ sym (get_or-map-range_with_len f 0 count i i e at (omega arith))))
 
 -- The bytes of the list are the written forms of its entries.
 pub are-written : (bytes : List ℕ) (count : ℕ) → ArePacked bytes count → AreWritten bytes (entries_in bytes count)

@@ -1,37 +1,38 @@
 //! The checks of an entry: its fields, its ids, the place of its record, and its derived fields beside a signature.
-ghost use Rattle.std.specs.Prelude.{◌≡◌, ◌≤◌, ◌+◌, ◌*◌, length, IfOk};
+ghost use Rattle.std.specs.Prelude.{◌≡◌, IfOk};
 ghost use Rattle.index_entry.specs.Entry.{IsEntry};
-ghost use Rattle.index_entry.specs.Index.{entry_bytes};
 ghost use Rattle.base_core.specs.FirstFault.{derived_fault, entry_checked, id_fault, place_fault};
 ghost use Rattle.base_core.specs.Reading.{kept_entry};
 
 use crate::fault::{BaseFault, DerivedField, IdField, PlaceWhat};
 use game_tree::Date;
-use index_entry::{Entry, entry_of, unpack};
+use index_entry::{ENTRY_LEN, Entry, unpack};
 use name_base::{NameKind, Names};
 use sig_index::Sig;
 
 /// The bytes of a block of the games file.
 const BLOCK_LEN: u64 = 131_072;
 
-/// The parts of a base that is opened: the bytes of its index, its names, the end of its games file, and whether derived fields are to
+/// What the entries of a base that is opened are held against: its names, the end of its games file, and whether derived fields are to
 /// be those of the records.
 #[derive(Clone, Copy)]
 pub(crate) struct Opening<'a> {
-    pub(crate) index: &'a [u8],
     pub(crate) names: &'a Names,
     pub(crate) end: u64,
     pub(crate) strict: bool,
 }
 
-/// What the entry of a game says, or its first fault before its record is read.
+/// What the 47 bytes of a game's entry say, or their first fault before its record is read.
 #[tactic(auto, unfolding(crate::specs::FirstFault::entry_checked))]
-pub(crate) fn checked_entry(o: &Opening<'_>, game: u32) -> Result<Entry, BaseFault>
-    requires there { 229 + 47 * game ≤ length o.now.index.now }
-    ensures exact { result ≡ entry_checked o.now.names.now o.now.end game (entry_bytes o.now.index.now game) }
+pub(crate) fn checked_entry(
+    o: &Opening<'_>,
+    game: u32,
+    packed: &[u8; ENTRY_LEN],
+) -> Result<Entry, BaseFault>
+    ensures exact { result ≡ entry_checked o.now.names.now o.now.end game packed.now }
     ensures fields { IfOk result IsEntry }
 {
-    let entry = match unpack(&entry_of(o.index, game)) {
+    let entry = match unpack(packed) {
         Ok(entry) => entry,
         Err(what) => return Err(BaseFault::EntryField { game, what }),
     };

@@ -1,7 +1,7 @@
 //! The entries of the games of an open base.
 ghost use Rattle.std.specs.Prelude.{◌≡◌, ◌≤◌, ◌<◌, ◌+◌, ◌-◌, ◌*◌, ◌^◌, ◌++◌, [], ◌∷◌, Some, length, slice_get, OnOk, OnErr, slice_set, take, drop};
 ghost use Rattle.index_entry.specs.Entry.{IsEntry, IsWritten, entry_in};
-ghost use Rattle.base_core.specs.Packing.{AreWritten, packed_at};
+ghost use Rattle.base_core.specs.Packing.{ArePacked, AreWritten, entries_in, packed_at};
 
 use index_entry::{ENTRY_LEN, Entry, pack, unpack};
 use std::alloc::{AllocError, Global};
@@ -35,6 +35,14 @@ impl Entries {
             bytes: Vec::new(alloc),
             count: 0,
         }
+    }
+
+    /// The entries of these bytes, so many.
+    pub(crate) fn of(bytes: Vec<u8>, count: u32) -> Entries
+        requires packed { ArePacked bytes.items count }
+        ensures entries { result ≡ entries_in bytes.items count }
+    {
+        Entries { bytes, count }
     }
 
     /// The number of entries.
@@ -102,8 +110,8 @@ impl Entries {
     }
 }
 
-// Puts the 47 bytes of an entry into its place.
-fn put_packed(bytes: &mut [u8], i: u32, packed: &[u8; ENTRY_LEN])
+/// Puts the 47 bytes of an entry into its place.
+pub(crate) fn put_packed(bytes: &mut [u8], i: u32, packed: &[u8; ENTRY_LEN])
     requires there { 47 * i + 47 ≤ length bytes.old }
     ensures put { bytes.new ≡ take (47 * i) bytes.old ++ (packed.now ++ drop (47 * i + 47) bytes.old) }
 {
@@ -111,8 +119,8 @@ fn put_packed(bytes: &mut [u8], i: u32, packed: &[u8; ENTRY_LEN])
     bytes[at..at + ENTRY_LEN].copy_from_slice(packed);
 }
 
-// The 47 bytes of an entry.
-fn packed_at(bytes: &[u8], i: u32) -> [u8; ENTRY_LEN]
+/// The 47 bytes of an entry.
+pub(crate) fn packed_at(bytes: &[u8], i: u32) -> [u8; ENTRY_LEN]
     requires there { 47 * i + 47 ≤ length bytes.now }
     ensures packed { result ≡ packed_at bytes.now i }
 {

@@ -12,6 +12,7 @@ mod laws;
 mod marking;
 mod naming;
 mod opening;
+mod part_read;
 mod placing;
 mod reading;
 mod saving;

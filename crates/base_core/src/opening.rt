@@ -72,7 +72,7 @@ impl Base {
         if loaded.is_created(create) {
             return Ok((Base::empty(alloc), 0));
         }
-        open_loaded(alloc, files, &loaded, strict, buf)
+        open_loaded(alloc, files, loaded, strict, buf)
     }
 }
 
@@ -113,41 +113,41 @@ fn load<F: Files>(alloc: Global, files: &mut F) -> Result<Loaded, DeviceError>
 fn open_loaded<F: Files>(
     alloc: Global,
     files: &mut F,
-    loaded: &Loaded,
+    loaded: Loaded,
     strict: bool,
     buf: &mut [u8],
 ) -> Result<(Base, u32), OpenError>
     requires room { 131072 ≤ length buf.old }
-    requires known { loaded.now.end ≡ (F.seen files.old).known }
-    requires told { TellsLength (F.seen files.old).games loaded.now.end }
-    ensures opens { IfOk result (λ opened. IfSome (F.seen files.old).games (λ games. (create : Bool) → is_created create loaded.now.index.items loaded.now.names.items games ≡ false →
-        Opens create strict loaded.now.index.items loaded.now.names.items games opened.0 opened.1)) }
-    ensures refuses { IfErr result (IfBad (λ fault. IfSome (F.seen files.old).games (λ games. FirstFault strict loaded.now.index.items loaded.now.names.items games fault))) }
+    requires known { loaded.end ≡ (F.seen files.old).known }
+    requires told { TellsLength (F.seen files.old).games loaded.end }
+    ensures opens { IfOk result (λ opened. IfSome (F.seen files.old).games (λ games. (create : Bool) → is_created create loaded.index.items loaded.names.items games ≡ false →
+        Opens create strict loaded.index.items loaded.names.items games opened.0 opened.1)) }
+    ensures refuses { IfErr result (IfBad (λ fault. IfSome (F.seen files.old).games (λ games. FirstFault strict loaded.index.items loaded.names.items games fault))) }
     ensures sound { IfOk result (λ opened. IsSound opened.0) }
-    ensures end { IfOk result (λ opened. opened.0.end ≡ loaded.now.end) }
+    ensures end { IfOk result (λ opened. opened.0.end ≡ loaded.end) }
     ensures saved { IfOk result (λ opened. opened.0.unsaved ≡ false) }
     ensures strictly { IfOk result (λ opened. IsTrue strict → opened.1 ≡ 0) }
     ensures few { IfOk result (λ opened. opened.1 ≤ length opened.0.entries) }
     ensures cause { IfErr result (λ error. error ≡ OpenError.Failed → Rose (F.faults files.old) (F.faults files.new)) }
     ensures counts { F.faults files.old ≤ F.faults files.new }
-    ensures asks { F.asked files.new ≤ F.asked files.old + open_cost loaded.now.index.items }
+    ensures asks { F.asked files.new ≤ F.asked files.old + open_cost loaded.index.items }
     ensures unchanged { F.seen files.new ≡ F.seen files.old }
 {
-    let (header, names) = match read_whole(alloc, loaded) {
+    let (header, names) = match read_whole(alloc, &loaded) {
         Ok(whole) => whole,
         Err(error) => return Err(error),
     };
+    let Loaded { index, end, .. } = loaded;
     let opening = Opening {
-        index: loaded.index.as_slice(),
         names: &names,
-        end: loaded.end,
+        end,
         strict,
     };
-    let (entries, mended) = match read_games(alloc, files, &opening, header.games, buf) {
+    let (entries, mended) = match read_games(files, &opening, index, header.games, buf) {
         Ok(read) => read,
         Err(error) => return Err(error),
     };
-    Ok((Base::of(header, names, entries, loaded.end), mended))
+    Ok((Base::of(header, names, entries, end), mended))
 }
 
 // The header of the index and the names.

@@ -9,7 +9,6 @@ ghost use Rattle.game_tree.specs.declared.head.Tag.{Tag as TagValue};
 ghost use Rattle.game_codec.specs.Fault.{IsRecordFault};
 ghost use Rattle.game_codec.specs.Record.{IsRecord};
 ghost use Rattle.index_entry.specs.Entry.{IsEntry, entry_in};
-ghost use Rattle.index_entry.specs.Index.{entry_bytes};
 ghost use Rattle.name_base.specs.NameLists.{NameLists};
 ghost use Rattle.sig_index.specs.Signature.{IsSigBounded};
 ghost use Rattle.base_core.specs.Entries.{head_of};
@@ -21,12 +20,12 @@ ghost use Rattle.base_core.specs.Represents.{IsKept};
 use crate::checking::{Opening, checked_entry, differing, kept_entry};
 use crate::entries::Entries;
 use crate::fault::{BaseFault, OpenError};
+use crate::part_read::PartRead;
 use base_files::Files;
 use game_codec::{RecordFault, event_date_in};
 use game_tree::Date;
-use index_entry::Entry;
+use index_entry::{ENTRY_LEN, Entry};
 use sig_index::{Sig, signed};
-use std::alloc::Global;
 
 // What a record says beside its entry: the signature of its game, and the event date of its settled head.
 #[derive(Clone, Copy, Debug, Drop)]
@@ -51,63 +50,64 @@ impl GameRead {
     }
 }
 
-/// The entries of so many games with their derived fields mended, and how many of them were. Each record is read once, into `buf`.
+/// The entries of so many games with their derived fields mended, in the bytes of their index, and how many of them were. Each record
+/// is read once, into `buf`.
 pub(crate) fn read_games<F: Files>(
-    alloc: Global,
     files: &mut F,
     o: &Opening<'_>,
+    index: Vec<u8>,
     count: u32,
     buf: &mut [u8],
 ) -> Result<(Entries, u32), OpenError>
-    requires there { 182 + 47 * count ≤ length o.now.index.now }
+    requires there { 182 + 47 * count ≤ length index.items }
     requires room { 131072 ≤ length buf.old }
     requires known { o.now.end ≤ (F.seen files.old).known }
     requires told { TellsLength (F.seen files.old).games o.now.end }
-    ensures read { IfOk result (λ opened. IfSome (F.seen files.old).games (λ games. AreRead o.now.strict o.now.index.now o.now.names.now games opened.0 opened.1)) }
+    ensures read { IfOk result (λ opened. IfSome (F.seen files.old).games (λ games. AreRead o.now.strict index.items o.now.names.now games opened.0 opened.1)) }
     ensures count { IfOk result (λ opened. length opened.0 ≡ count) }
     ensures strictly { IfOk result (λ opened. IsTrue o.now.strict → opened.1 ≡ 0) }
     ensures few { IfOk result (λ opened. opened.1 ≤ count) }
     ensures kept { IfOk result (λ opened. All (IsKept o.now.names.now o.now.end) opened.0) }
     ensures fault { IfErr result (IfBad (λ fault. IfSome (F.seen files.old).games (λ games.
-        EntryFails o.now.strict o.now.index.now o.now.names.now games count fault))) }
-    ensures asks { F.asked files.new ≤ F.asked files.old + records_len o.now.index.now count }
+        EntryFails o.now.strict index.items o.now.names.now games count fault))) }
+    ensures asks { F.asked files.new ≤ F.asked files.old + records_len index.items count }
     ensures unchanged { F.seen files.new ≡ F.seen files.old }
     ensures counts { F.faults files.old ≤ F.faults files.new }
     ensures cause { IfErr result (λ error. error ≡ OpenError.Failed → Rose (F.faults files.old) (F.faults files.new)) }
 {
-    let mut entries = Entries::new(alloc);
+    let mut part = PartRead::of(index);
     let mut mended = 0;
     for game in 0..count {
-        let read = read_game(files, o, game, buf)?;
-        entries.push(&read.entry)?;
+        let read = read_game(files, o, game, &part.next(), buf)?;
+        part.put(&read.entry);
         mended += read.count();
     }
-    Ok((entries, mended))
+    Ok((part.into_entries(), mended))
 }
 
-// The entry of a game with its derived fields mended. Its record is read into `buf`.
+// The entry that a game has in these 47 bytes, with its derived fields mended. Its record is read into `buf`.
 fn read_game<F: Files>(
     files: &mut F,
     o: &Opening<'_>,
     game: u32,
+    packed: &[u8; ENTRY_LEN],
     buf: &mut [u8],
 ) -> Result<GameRead, OpenError>
-    requires there { 229 + 47 * game ≤ length o.now.index.now }
     requires room { 131072 ≤ length buf.old }
     requires known { o.now.end ≤ (F.seen files.old).known }
     requires told { TellsLength (F.seen files.old).games o.now.end }
     ensures read { IfOk result (λ read. IfSome (F.seen files.old).games (λ games.
-        IsReadSo o.now.strict o.now.names.now games game (entry_bytes o.now.index.now game) read.entry read.mended)) }
+        IsReadSo o.now.strict o.now.names.now games game packed.now read.entry read.mended)) }
     ensures kept { IfOk result (λ read. IsKept o.now.names.now o.now.end read.entry) }
     ensures strictly { IfOk result (λ read. IsTrue o.now.strict → read.mended ≡ false) }
     ensures fault { IfErr result (IfBad (λ fault. IfSome (F.seen files.old).games (λ games.
-        Fails o.now.strict o.now.names.now games game (entry_bytes o.now.index.now game) fault))) }
-    ensures asks { F.asked files.new ≤ F.asked files.old + (entry_in (entry_bytes o.now.index.now game)).len }
+        Fails o.now.strict o.now.names.now games game packed.now fault))) }
+    ensures asks { F.asked files.new ≤ F.asked files.old + (entry_in packed.now).len }
     ensures unchanged { F.seen files.new ≡ F.seen files.old }
     ensures counts { F.faults files.old ≤ F.faults files.new }
     ensures cause { IfErr result (λ error. error ≡ OpenError.Failed → Rose (F.faults files.old) (F.faults files.new)) }
 {
-    let entry = match checked_entry(o, game) {
+    let entry = match checked_entry(o, game, packed) {
         Ok(entry) => entry,
         Err(fault) => return Err(OpenError::Bad(fault)),
     };

@@ -1,11 +1,12 @@
 //! How often the games of a base use its names.
 ghost use Rattle.std.specs.Prelude.{◌≡◌, ◌<◌, [], All, length, replicate, IfOk};
+ghost use Rattle.index_entry.specs.Entry.{entry_in};
 ghost use Rattle.base_core.specs.Counting.{HasUses, one_more, with_uses};
 ghost use Rattle.base_core.specs.Entries.{HasNames};
 ghost use Rattle.base_core.specs.Uses.{frequencies_of};
 
 use crate::entries::Entries;
-use index_entry::Entry;
+use index_entry::{ENTRY_LEN, black_in, event_in, round_in, site_in, white_in};
 use name_base::{NameKind, Names};
 use std::alloc::{AllocError, Global};
 use std::marker::Model;
@@ -37,7 +38,7 @@ pub(crate) fn uses_of(alloc: Global, names: &Names, entries: &Entries) -> Result
 {
     let mut uses = Uses::none(alloc, names)?;
     for i in 0..entries.len() {
-        uses.add(&entries.get(i));
+        uses.add(&entries.packed(i));
     }
     Ok(uses)
 }
@@ -55,16 +56,16 @@ impl Uses {
         })
     }
 
-    // Counts the names of one game more.
-    fn add(&mut self, e: &Entry)
-        requires ids { HasUses self.old e.now }
-        ensures added { self.new ≡ with_uses self.old e.now }
+    // Counts the names of one game more, by the 47 bytes of its entry.
+    fn add(&mut self, packed: &[u8; ENTRY_LEN])
+        requires ids { HasUses self.old (entry_in packed.now) }
+        ensures added { self.new ≡ with_uses self.old (entry_in packed.now) }
     {
-        one_more(self.players.as_mut_slice(), e.white);
-        one_more(self.players.as_mut_slice(), e.black);
-        one_more(self.events.as_mut_slice(), e.event);
-        one_more(self.sites.as_mut_slice(), e.site);
-        one_more(self.rounds.as_mut_slice(), e.round);
+        one_more(self.players.as_mut_slice(), white_in(packed));
+        one_more(self.players.as_mut_slice(), black_in(packed));
+        one_more(self.events.as_mut_slice(), event_in(packed));
+        one_more(self.sites.as_mut_slice(), site_in(packed));
+        one_more(self.rounds.as_mut_slice(), round_in(packed));
     }
 
     /// Of the players, for both colours.

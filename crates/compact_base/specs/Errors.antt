@@ -16,8 +16,11 @@ abbrev pub files_error : DeviceError → CompactError
 files_error device.Failed = error.Failed
 files_error device.Memory = error.Memory
 
--- Reading a record has no other error than these.
+-- Reading the record of a game that is there has the first three of these errors alone.
 abbrev pub record_error : EditError → CompactError
 record_error (edit.Changed game sig found) = error.Changed game sig found
 record_error edit.Failed = error.Failed
-record_error _ = error.Memory
+record_error edit.Memory = error.Memory
+record_error (edit.NoGame game) = error.Memory
+record_error (edit.TooLong n) = error.Memory
+record_error (edit.Full what) = error.Memory

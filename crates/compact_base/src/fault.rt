@@ -68,6 +68,8 @@ pub(crate) fn record_error(unread: EditError) -> CompactError
     match unread {
         EditError::Changed { game, kept, found } => CompactError::Changed { game, kept, found },
         EditError::Failed => CompactError::Failed,
-        _ => CompactError::Memory,
+        EditError::Memory => CompactError::Memory,
+        // None of these comes of reading the record of a game that is there.
+        EditError::NoGame(_) | EditError::TooLong(_) | EditError::Full(_) => CompactError::Memory,
     }
 }

@@ -22,7 +22,7 @@ use Rattle.game_codec.specs.Texts.{AreTexts, BreaksTexts, ended, texts_of}
 use Rattle.game_codec.specs.declared.breach.Breach.{Breach}
 use Rattle.game_codec.specs.declared.fault.RecordWhat.TheVariants.{Short, Extra}
 use Rattle.game_codec.specs.declared.tally.Tally.{Tally}
-use Rattle.game_codec.proofs.BuildLaws.{ended-push}
+use Rattle.game_codec.proofs.DealLaws.{ended-push}
 use Rattle.game_codec.proofs.TallyLaws.{LineTallied}
 use Rattle.game_codec.proofs.TotalLaws.{dealt_all, full-append, said, said-comments, said-is}
 

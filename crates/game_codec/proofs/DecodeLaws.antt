@@ -1,5 +1,5 @@
 -- A record has one reading, and it is the one that the code makes.
-use Rattle.std.proofs.Common.{◌≡◌, ℕ, List, [], Ok, Err, length, refl, sym, ap, ◌∙◌, subst, inl, inr}
+use Rattle.std.proofs.Common.{◌≡◌, ℕ, List, Ok, Err, length, refl, sym, ap, ◌∙◌, subst, inl, inr}
 use Rattle.game_tree.specs.Game.{GameTree}
 use Rattle.game_tree.specs.Movetext.{Movetext, items_of, meaning}
 use Rattle.game_tree.specs.Building.{opening, built}
@@ -22,7 +22,7 @@ use Rattle.game_codec.proofs.TagLaws.{BeginsTags-one, BeginsTags-unbroken, Break
 use Rattle.game_codec.proofs.StartLaws.{BeginsStart-one, BeginsStart-unbroken, BreaksStart-one}
 use Rattle.game_codec.proofs.TextLaws.{AreTexts-one, AreTexts-unbroken, BreaksTexts-one}
 use Rattle.game_codec.proofs.ScanLaws.{Scans-one}
-use Rattle.game_codec.proofs.MovetextLaws.{movetext-scans, scans-movetext, breaks-scans, scans-breaks}
+use Rattle.game_codec.proofs.MovetextLaws.{movetext-scans, scans-movetext, breaks-scans}
 
 -- What the code reads is in the record, and what is in the record is read so
 
@@ -66,42 +66,6 @@ flattened bytes tags game r =
         count = sym scanned.1.1.1;
       };
       items = scanned.1.1.0;
-    }
-
-pub break-found : (bytes rest : List ℕ) (what : RecordWhat) → FlatBreaks bytes rest what → Breaks bytes rest what
-break-found bytes rest what flat =
-    elim flat [
-      | inl tags ↦ inl tags
-      | inr later ↦ elim later [
-        | inl start ↦ inr (inl start)
-        | inr last ↦ elim last [ inl moves ↦ inr (inr (inl (in_moves moves))) | inr texts ↦ inr (inr (inr (in_texts texts))) ]
-      ]
-    ]
-  where
-    in_moves : IsFlatInMoves bytes rest what → BreaksInMoves bytes rest what
-    in_moves f = let broken = scans-breaks f.start f.tokens f.behind_start rest what f.breaks in record {
-      tags = f.tags;
-      start = f.start;
-      upto = broken.0;
-      behind_tags = f.behind_tags;
-      behind_start = f.behind_start;
-      tags_first = f.tags_first;
-      then_start = f.then_start;
-      breaks = broken.1;
-    }
-
-    in_texts : IsFlatInTexts bytes rest what → BreaksInTexts bytes rest what
-    in_texts f = let movetext = scans-movetext f.start f.tokens f.behind_start f.behind_moves f.then_items [] in record {
-      tags = f.tags;
-      start = f.start;
-      movetext = movetext.0;
-      behind_tags = f.behind_tags;
-      behind_start = f.behind_start;
-      behind_moves = f.behind_moves;
-      tags_first = f.tags_first;
-      then_start = f.then_start;
-      then_moves = movetext.1.0;
-      breaks = subst (λ (due : ℕ). BreaksTexts due f.behind_moves rest what) (sym movetext.1.1.1.0) f.breaks;
     }
 
 flat_break : (bytes rest : List ℕ) (what : RecordWhat) → Breaks bytes rest what → FlatBreaks bytes rest what

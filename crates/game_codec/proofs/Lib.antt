@@ -11,8 +11,7 @@ pub mod ScanLaws
 pub mod MovetextLaws
 pub mod KeptLaws
 pub mod LineLaws
-pub mod FittingLaws
-pub mod BuildLaws
+pub mod DealLaws
 pub mod LegalLaws
 pub mod ShortLaws
 pub mod WrittenLaws

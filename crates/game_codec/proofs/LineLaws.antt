@@ -1,23 +1,20 @@
 -- A line as far as it was read: what follows from there gives the whole.
-use Rattle.std.proofs.Common.{◌≡◌, ℕ, ◌+◌, ◌-◌, ◌≤◌, List, [], ◌∷◌, ◌++◌, Ok, Err, length, drop, refl, sym, ap, subst, ◌∙◌, append_assoc, append-nil, length-drop, inl, inr, arith}
+use Rattle.std.proofs.Common.{◌≡◌, ℕ, ◌+◌, ◌-◌, ◌≤◌, List, [], ◌∷◌, ◌++◌, length, drop, refl, sym, ap, subst, ◌∙◌, append_assoc, append-nil, length-drop, inl, inr, arith}
 use Rattle.std.proofs.lemmas.List.{drop-drop}
 use Rattle.cell_core.specs.declared.step.Move.{Move}
 use Rattle.game_tree.specs.Movetext.{Movetext, end, move, nag, comment, variation}
 use Rattle.move_codec.specs.Numbers.{Numbered}
 use Rattle.game_codec.specs.Token.{Token, Play, Nag, Comment, Open, Close, End}
-use Rattle.game_codec.specs.Place.{Place, Takes, FaultAt, beginning, ending, after_move, after_comment, variation_of}
+use Rattle.game_codec.specs.Place.{Place, Takes, FaultAt, ending, after_move, after_comment, variation_of}
 use Rattle.game_codec.specs.Moves.{SpellsMoves, Upto, here, past_move, past_nag, past_comment, past_variation, inside, BreaksMoves}
-use Rattle.game_codec.specs.Nests.{with_before, IsCalm, IsKept, IsPast, token_of, tokens_of}
+use Rattle.game_codec.specs.Nests.{with_before, IsCalm, IsKept, IsPast, token_of}
 use Rattle.game_codec.specs.Following.{Spelled, HasFollowed}
-use Rattle.game_codec.specs.Scanning.{Scans, nest_of, tokens_then}
-use Rattle.game_codec.specs.Breach.{TellsBad}
-use Rattle.game_codec.specs.declared.breach.Refusal.{Refusal}
-use Rattle.game_codec.specs.declared.breach.Refusal.TheVariants as refusal
+use Rattle.game_codec.specs.Scanning.{tokens_then}
 use Rattle.game_codec.specs.declared.fault.RecordWhat.{RecordWhat}
 use Rattle.game_codec.specs.declared.fault.RecordWhat.TheVariants as what
 use Rattle.game_codec.specs.declared.token.Token.{Token as Read}
 use Rattle.game_codec.specs.declared.token.Token.TheVariants as read
-use Rattle.game_codec.proofs.MovetextLaws.{breaks-scans, ending-inner, ending-main, spelled-scans}
+use Rattle.game_codec.proofs.MovetextLaws.{ending-inner, ending-main}
 
 -- Fewer bytes are left.
 pub left-drop : (bytes rest : List ℕ) (used : ℕ) → length rest ≤ length bytes → used ≤ length rest → rest ≡ drop (length bytes - length rest) bytes
@@ -238,127 +235,3 @@ module _ (start : Place) (bytes : List ℕ) (now : Place) (rest : List ℕ) (tok
   by_end is =
       let ends = taken read.End is in
       by_ending (subst (λ (t : Token). Takes now rest t (drop used rest)) (sym (ending-main now.depth ends.0)) ends)
-
--- These items were added to a list behind others.
-pub record HasAdded (start : Place) (bytes : List ℕ) (now : Place) (rest : List ℕ) (before list : List Read) : Type 0 where
-  pub tokens : List Token
-  pub followed : HasFollowed start bytes now rest tokens
-  pub added : tokens_of list ≡ tokens_of before ++ tokens
-
-pub HasAdded-none : (start : Place) (bytes : List ℕ) (list : List Read) → HasAdded start bytes start bytes list list
-HasAdded-none start bytes list = record { tokens = []; followed = HasFollowed-none start bytes; added = sym (append-nil (tokens_of list)) }
-
--- An item that stands for itself in a line.
-abbrev IsPlain : Read → Type 0
-IsPlain (read.Play m) = Unit {0}
-IsPlain (read.Nag n) = Unit {0}
-IsPlain read.Comment = Unit {0}
-IsPlain read.Open = ⊥
-IsPlain read.Close = ⊥
-IsPlain read.End = ⊥
-
-is_plain : (t : Read) → (t ≡ read.Open → ⊥) → (t ≡ read.Close → ⊥) → (t ≡ read.End → ⊥) → IsPlain t
-is_plain (read.Play m) no_open no_close no_end = tt
-is_plain (read.Nag n) no_open no_close no_end = tt
-is_plain read.Comment no_open no_close no_end = tt
-is_plain read.Open no_open no_close no_end = no_open refl
-is_plain read.Close no_open no_close no_end = no_close refl
-is_plain read.End no_open no_close no_end = no_end refl
-
-tokens_of-append : (a b : List Read) → tokens_of (a ++ b) ≡ tokens_of a ++ tokens_of b
-tokens_of-append [] b = refl
-tokens_of-append (t ∷ a) b = ap (λ (ts : List Token). token_of t ∷ ts) (tokens_of-append a b)
-
--- One more item, and a variation with its brackets.
-module _ (start : Place) (bytes : List ℕ) (now : Place) (rest : List ℕ) (before list : List Read) (has : HasAdded start bytes now rest before list)
-    (used : ℕ) (fits : used ≤ length rest) (t : Read) (takes : Takes now rest (token_of t) (drop used rest))
-    (after : Place) (past : IsPast now (token_of t) after (drop used rest)) (later : List ℕ) (later_is : later ≡ drop used rest) where
-  more : (items : List Read) (next : List ℕ) (longer : List Read) → longer ≡ list ++ items → HasFollowed start bytes after next (has.tokens ++ tokens_of items)
-      → HasAdded start bytes after next before longer
-  more items next longer longer_is followed = record {
-    tokens = has.tokens ++ tokens_of items;
-    followed = followed;
-    added =
-        ap tokens_of longer_is
-        ∙ tokens_of-append list items
-        ∙ ap (λ (ts : List Token). ts ++ tokens_of items) has.added
-        ∙ append_assoc (tokens_of before) has.tokens (tokens_of items);
-  }
-
-  one_more : (u : Read) → t ≡ u → IsPlain u → HasFollowed start bytes after later (has.tokens ++ token_of u ∷ [])
-  one_more (read.Play m) is plain = by_move start bytes now rest has.tokens has.followed used fits t takes after past later later_is m is
-  one_more (read.Nag n) is plain = by_nag start bytes now rest has.tokens has.followed used fits t takes after past later later_is n is
-  one_more read.Comment is plain = by_comment start bytes now rest has.tokens has.followed used fits t takes after past later later_is is
-  one_more read.Open is plain = absurd plain
-  one_more read.Close is plain = absurd plain
-  one_more read.End is plain = absurd plain
-
-  pub add_one : (longer : List Read) → (t ≡ read.Open → ⊥) → (t ≡ read.Close → ⊥) → (t ≡ read.End → ⊥) → longer ≡ list ++ t ∷ []
-      → HasAdded start bytes after later before longer
-  add_one longer no_open no_close no_end longer_is = more (t ∷ []) later longer longer_is (one_more t refl (is_plain t no_open no_close no_end))
-
-  pub add_variation : t ≡ read.Open → (p : Place) → p ≡ variation_of after → (count : ℕ) → count ≤ length later
-      → (last : List ℕ) → last ≡ drop count later → (opened within longer : List Read) → opened ≡ list ++ read.Open ∷ []
-      → (s : Movetext) × (SpellsMoves p s later (drop count later) × (tokens_of within ≡ tokens_of opened ++ tokens_then s []))
-      → longer ≡ within ++ read.Close ∷ [] → HasAdded start bytes after last before longer
-  add_variation is p p_is count fits' last last_is opened within longer opened_is line longer_is =
-      let s = line.0 in
-      let opened_items : tokens_of opened ≡ tokens_of before ++ (has.tokens ++ Open ∷ []) =
-      ap tokens_of opened_is
-      ∙ tokens_of-append list (read.Open ∷ [])
-      ∙ ap (λ (ts : List Token). ts ++ Open ∷ []) has.added
-      ∙ append_assoc (tokens_of before) has.tokens (Open ∷ []) in
-      let sum : ((tokens_of before ++ (has.tokens ++ Open ∷ [])) ++ tokens_then s []) ++ Close ∷ [] ≡ tokens_of before ++ (has.tokens ++ Open ∷ (tokens_then s [] ++ Close ∷ [])) =
-      append_assoc (tokens_of before ++ (has.tokens ++ Open ∷ [])) (tokens_then s []) (Close ∷ [])
-      ∙ append_assoc (tokens_of before) (has.tokens ++ Open ∷ []) (tokens_then s [] ++ Close ∷ [])
-      ∙ ap (λ (ts : List Token). tokens_of before ++ ts) (append_assoc has.tokens (Open ∷ []) (tokens_then s [] ++ Close ∷ [])) in
-      record {
-        tokens = has.tokens ++ Open ∷ (tokens_then s [] ++ Close ∷ []);
-        followed = by_variation start bytes now rest has.tokens has.followed used fits t takes after past later later_is is p p_is count fits' last last_is s line.1.0;
-        added =
-            ap tokens_of longer_is
-            ∙ tokens_of-append within (read.Close ∷ [])
-            ∙ ap (λ (ts : List Token). ts ++ Close ∷ []) (line.1.1 ∙ ap (λ (ts : List Token). ts ++ tokens_then s []) opened_items)
-            ∙ sum;
-      }
-
-  pub add_fault : t ≡ read.Open → (p : Place) → p ≡ variation_of after → (refusal : Refusal)
-      → TellsBad (λ from w. (u : Upto) × BreaksMoves p u later from w) refusal
-      → TellsBad (λ from w. (u : Upto) × BreaksMoves start u bytes from w) refusal
-  add_fault is p p_is (refusal.Bad breach) tells = (
-    tells.0,
-    tells.1,
-    by_fault start bytes now rest has.tokens has.followed used fits t takes after past later later_is is p p_is tells.2.0 tells.0 breach.what tells.2.1,
-  )
-  add_fault is p p_is refusal.Memory tells = tt
-
-  added_line : LineSpelled start bytes (length bytes - length later) has.tokens
-      → (s : Movetext) × (SpellsMoves start s bytes (drop (length bytes - length later) bytes) × (tokens_of list ≡ tokens_of before ++ tokens_then s []))
-  added_line line = (line.0, (line.1.0, has.added ∙ ap (λ (ts : List Token). tokens_of before ++ ts) (sym line.1.1)))
-
-  pub add_close : t ≡ read.Close
-      → (s : Movetext) × (SpellsMoves start s bytes (drop (length bytes - length later) bytes) × (tokens_of list ≡ tokens_of before ++ tokens_then s []))
-  add_close is = added_line (by_close start bytes now rest has.tokens has.followed used fits t takes after past later later_is is)
-
-  pub add_end : t ≡ read.End
-      → (s : Movetext) × (SpellsMoves start s bytes (drop (length bytes - length later) bytes) × (tokens_of list ≡ tokens_of before ++ tokens_then s []))
-  add_end is = added_line (by_end start bytes now rest has.tokens has.followed used fits t takes after past later later_is is)
-
--- What was read of the main line is what the record's items are.
-pub scan_is : (p : Place) (begins : Numbered) (bytes : List ℕ) (used : ℕ) (before list : List Read) → p ≡ beginning 0 begins → before ≡ []
-    → (s : Movetext) × (SpellsMoves p s bytes (drop used bytes) × (tokens_of list ≡ tokens_of before ++ tokens_then s []))
-    → Scans (nest_of begins) bytes (tokens_of list) (Ok (drop used bytes))
-scan_is p begins bytes used before list p_is none line =
-    let spells : SpellsMoves (beginning 0 begins) line.0 bytes (drop used bytes) = subst (λ (q : Place). SpellsMoves q line.0 bytes (drop used bytes)) p_is line.1.0 in
-    let items : tokens_of list ≡ tokens_then line.0 [] = line.1.1 ∙ ap (λ (ts : List Read). tokens_of ts ++ tokens_then line.0 []) none in
-    subst (λ (ts : List Token). Scans (nest_of begins) bytes ts (Ok (drop used bytes))) (sym items) (spelled-scans begins line.0 bytes (drop used bytes) spells)
-
-pub scan_breaks : (p : Place) (begins : Numbered) (bytes : List ℕ) (refusal : Refusal) → p ≡ beginning 0 begins
-    → TellsBad (λ from w. (u : Upto) × BreaksMoves p u bytes from w) refusal
-    → TellsBad (λ from w. (tokens : List Token) × Scans (nest_of begins) bytes tokens (Err (from, w))) refusal
-scan_breaks p begins bytes (refusal.Bad breach) p_is tells = (
-  tells.0,
-  tells.1,
-  breaks-scans begins tells.2.0 bytes tells.0 breach.what (subst (λ (q : Place). BreaksMoves q tells.2.0 bytes tells.0 breach.what) p_is tells.2.1),
-)
-scan_breaks p begins bytes refusal.Memory p_is tells = tt

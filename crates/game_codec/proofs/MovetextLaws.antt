@@ -97,7 +97,7 @@ breaks-scans start u bytes rest w breaks = scanned (beginning 0 start) [] u byte
 -- From the items to a movetext
 
 -- The lines that are open lie one inside the other.
-abbrev pub AreStacked : ℕ → List Place → Type 0
+abbrev AreStacked : ℕ → List Place → Type 0
 AreStacked depth [] = depth ≡ 0
 AreStacked depth (q ∷ outer) = (depth ≡ q.depth + 1) × AreStacked q.depth outer
 
@@ -225,52 +225,3 @@ scans-movetext start tokens bytes rest scans texts =
         let all = append-nil (texts_of s) in
         (s, (spelled, (sym (append-nil (items_of s)) ∙ items, (ap length (sym all) ∙ count, λ e. sym all ∙ dealt_out e))))
     alone s (t ∷ ss) spelled items count dealt_out = absurd spelled
-
--- Some movetexts for the innermost lines that are whole, and then the items of a line up to a fault.
-abbrev BreakAll : Place → List Place → List Movetext → Upto → List ℕ → List ℕ → RecordWhat → Type 0
-BreakAll p outer [] u bytes rest w = BreaksMoves p u bytes rest w
-BreakAll p [] (s ∷ ss) u bytes rest w = ⊥
-BreakAll p (q ∷ outer) (s ∷ ss) u bytes rest w = (middle : List ℕ) × SpellsMoves p s bytes middle × BreakAll q outer ss u middle rest w
-
-abbrev Broken : Place → List Place → List ℕ → List ℕ → RecordWhat → Type 0
-Broken p outer bytes rest w = (ss : List Movetext) × (u : Upto) × BreakAll p outer ss u bytes rest w
-
-Broken-begun : (p p' : Place) (more_movetext : Movetext → Movetext) (more : Upto → Upto) (bytes later rest : List ℕ) (w : RecordWhat) → ((s : Movetext) (last : List ℕ) → SpellsMoves p' s later last → SpellsMoves p (more_movetext s) bytes last) → ((u : Upto) → BreaksMoves p' u later rest w → BreaksMoves p (more u) bytes rest w) → (outer : List Place) (ss : List Movetext) (u : Upto) → BreakAll p' outer ss u later rest w → Broken p outer bytes rest w
-Broken-begun p p' more_movetext more bytes later rest w begun breaks outer [] u all = ([], more u, breaks u all)
-Broken-begun p p' more_movetext more bytes later rest w begun breaks [] (s ∷ ss) u all = absurd all
-Broken-begun p p' more_movetext more bytes later rest w begun breaks (q ∷ outer) (s ∷ ss) u all =
-    (more_movetext s ∷ ss, u, (all.0, begun s all.0 all.1, all.2))
-
-Scans-Broken : (p : Place) (outer : List Place) (bytes : List ℕ) (tokens : List Token) (rest : List ℕ) (w : RecordWhat) → AreStacked p.depth outer → Scans (nest p outer) bytes tokens (Err (rest, w)) → Broken p outer bytes rest w
-Scans-Broken p outer bytes [] rest w stacked scans = ([], here, scans)
-Scans-Broken p outer bytes (Play m ∷ tokens) rest w stacked scans =
-    let on = Scans-Broken (after_move p m) outer scans.1.0 tokens rest w stacked scans.1.2 in
-    Broken-begun p (after_move p m) (move m) (past_move m) bytes scans.1.0 rest w (λ s last spells. (scans.1.0, scans.1.1, spells)) (λ u breaks. (scans.1.0, scans.1.1, breaks)) outer on.0 on.1 on.2
-Scans-Broken p outer bytes (Nag n ∷ tokens) rest w stacked scans =
-    let on = Scans-Broken p outer scans.1.0 tokens rest w stacked scans.1.2 in
-    Broken-begun p p (nag n) (past_nag n) bytes scans.1.0 rest w (λ s last spells. (scans.1.0, scans.1.1, spells)) (λ u breaks. (scans.1.0, scans.1.1, breaks)) outer on.0 on.1 on.2
-Scans-Broken p outer bytes (Comment ∷ tokens) rest w stacked scans =
-    let on = Scans-Broken (after_comment p) outer scans.1.0 tokens rest w stacked scans.1.2 in
-    Broken-begun p (after_comment p) (comment []) past_comment bytes scans.1.0 rest w (λ s last spells. (scans.1.0, scans.1.1, spells)) (λ u breaks. (scans.1.0, scans.1.1, breaks)) outer on.0 on.1 on.2
-Scans-Broken p outer bytes (Open ∷ tokens) rest w stacked scans =
-    let on = Scans-Broken (variation_of p) (p ∷ outer) scans.1.0 tokens rest w (refl, stacked) scans.1.2 in
-    opened on.0 on.1 on.2
-  where
-    opened : (ss : List Movetext) (u : Upto) → BreakAll (variation_of p) (p ∷ outer) ss u scans.1.0 rest w → Broken p outer bytes rest w
-    opened [] u all = ([], inside u, (scans.1.0, scans.1.1, all))
-    opened (s ∷ ss) u all =
-        Broken-begun p p (variation s) (past_variation s) bytes all.0 rest w (λ t last spells. (scans.1.0, scans.1.1, (all.0, all.1, spells))) (λ v breaks. (scans.1.0, scans.1.1, (all.0, all.1, breaks))) outer ss u all.2
-Scans-Broken p [] bytes (Close ∷ tokens) rest w stacked scans = absurd (omega (arith, stacked, scans.1.1.0))
-Scans-Broken p (q ∷ outer) bytes (Close ∷ tokens) rest w stacked scans =
-    let on = Scans-Broken q outer scans.1.0 tokens rest w stacked.1 scans.1.2 in
-    (end ∷ on.0, on.1, (scans.1.0, subst (λ (t : Token). Takes p bytes t scans.1.0) (sym (ending-inner p.depth scans.1.1.0)) scans.1.1, on.2))
-Scans-Broken p outer bytes (End ∷ tokens) rest w stacked scans = absurd scans.0
-
-pub scans-breaks : (start : Numbered) (tokens : List Token) (bytes rest : List ℕ) (w : RecordWhat) → Scans (nest_of start) bytes tokens (Err (rest, w)) → (u : Upto) × BreaksMoves (beginning 0 start) u bytes rest w
-scans-breaks start tokens bytes rest w scans =
-    let found = Scans-Broken (beginning 0 start) [] bytes tokens rest w refl scans in
-    alone found.0 found.1 found.2
-  where
-    alone : (ss : List Movetext) (u : Upto) → BreakAll (beginning 0 start) [] ss u bytes rest w → (u : Upto) × BreaksMoves (beginning 0 start) u bytes rest w
-    alone [] u all = (u, all)
-    alone (s ∷ ss) u all = absurd all

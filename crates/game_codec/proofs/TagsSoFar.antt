@@ -6,10 +6,8 @@ use Rattle.game_tree.specs.declared.head.Tag.{Tag}
 use Rattle.game_tree.specs.TagName.{is_free, free_of}
 use Rattle.game_codec.specs.TagSpelling.{BeginsTag, BeginsTags}
 use Rattle.game_codec.specs.TagReading.{tag_at, BreaksTags}
-use Rattle.game_codec.specs.Breach.{Tells, TellsBad}
+use Rattle.game_codec.specs.Breach.{Tells}
 use Rattle.game_codec.specs.declared.breach.Breach.{Breach}
-use Rattle.game_codec.specs.declared.breach.Refusal.{Refusal}
-use Rattle.game_codec.specs.declared.breach.Refusal.TheVariants.{Bad, Memory}
 use Rattle.game_codec.specs.declared.fault.RecordWhat.{RecordWhat}
 
 -- Behind some tags of the bytes this is left, and those of them without a reserved name are these: whatever is read from
@@ -68,9 +66,3 @@ pub read_told : (bytes rest : List ℕ) (free : List Tag) (breach : Breach) → 
     → Tells (λ from what. (from ≡ rest) × (tag_at rest ≡ Err what)) breach
     → Tells (λ from what. (all : List Tag) × BreaksTags bytes all from what) breach
 read_told bytes rest free breach h (from, left, (here, fault)) = (from, left, rw here (read_fault bytes rest free breach.what h fault))
-
-pub read_refused : (bytes rest : List ℕ) (free : List Tag) (refusal : Refusal) → ReadSoFar bytes rest free
-    → TellsBad (λ from what. (from ≡ rest) × (tag_at rest ≡ Err what)) refusal
-    → TellsBad (λ from what. (all : List Tag) × BreaksTags bytes all from what) refusal
-read_refused bytes rest free (Bad breach) h told = read_told bytes rest free breach h told
-read_refused bytes rest free Memory h told = tt

@@ -4,8 +4,6 @@ use Rattle.cell_core.specs.Text.{IsZeroFree}
 use Rattle.game_tree.specs.Item as item
 use Rattle.game_tree.specs.Building.{Building, added}
 use Rattle.game_codec.specs.Token.{Token, Play, Nag, Comment, Open, Close, End}
-use Rattle.game_codec.specs.declared.fault.RecordWhat.{RecordWhat}
-use Rattle.game_codec.specs.declared.fault.RecordWhat.TheVariants.{Short}
 
 -- A text that the bytes begin with, with the zero byte that ends it.
 pub record BeginsText (text bytes : List ℕ) (used : ℕ) : Type 0 where
@@ -20,10 +18,3 @@ Adds Comment bytes before used after = (text : List ℕ) × (BeginsText text byt
 Adds Open bytes before used after = (used ≡ 0) × (after ≡ added item.opens before)
 Adds Close bytes before used after = (used ≡ 0) × (after ≡ added item.closes before)
 Adds End bytes before used after = (used ≡ 0) × (after ≡ before)
-
--- The item is a comment for which no text stands there.
-pub record LacksText (token : Token) (bytes rest : List ℕ) (what : RecordWhat) : Type 0 where
-  pub is_comment : token ≡ Comment
-  pub rest_is : rest ≡ bytes
-  pub what_is : what ≡ Short
-  pub zero_free : IsZeroFree bytes

@@ -15,6 +15,7 @@ pub mod Writing
 pub mod Nests
 pub mod Adding
 pub mod Fitting
+pub mod Dealing
 pub mod Flat
 pub mod Walk
 pub mod Walking

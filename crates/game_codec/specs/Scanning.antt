@@ -2,7 +2,7 @@
 use Rattle.std.specs.Prelude.{◌≡◌, ℕ, suc, List, [], ◌∷◌, Result, Ok, Err}
 use Rattle.game_tree.specs.Item.{Item}
 use Rattle.game_tree.specs.Item as item
-use Rattle.game_tree.specs.Movetext.{Movetext, end, move, nag, comment, variation, items_of}
+use Rattle.game_tree.specs.Movetext.{Movetext, end, move, nag, comment, variation}
 use Rattle.move_codec.specs.Numbers.{Numbered}
 use Rattle.game_codec.specs.Place.{Place, Takes, FaultAt, beginning, after_move, after_comment, variation_of}
 use Rattle.game_codec.specs.Token.{Token, Play, Nag, Comment, Open, Close, End}
@@ -80,7 +80,3 @@ dealt (Comment ∷ tokens) (text ∷ texts) = item.comment text ∷ dealt tokens
 dealt (Open ∷ tokens) texts = item.opens ∷ dealt tokens texts
 dealt (Close ∷ tokens) texts = item.closes ∷ dealt tokens texts
 dealt (End ∷ tokens) texts = dealt tokens texts
-
--- Whatever the texts are, the items are those of a movetext.
-abbrev pub AreMovetext : List Token → Type 0
-AreMovetext tokens = (texts : List (List ℕ)) → (s : Movetext) × (items_of s ≡ dealt tokens texts)

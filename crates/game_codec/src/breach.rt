@@ -1,7 +1,4 @@
-//! A fault in a part of a record, before its place is known.
-ghost use Rattle.std.specs.Prelude.{◌≡◌};
-ghost use Rattle.game_codec.specs.declared.breach.Refusal.TheVariants as refusal;
-
+//! A fault in a part of a record, before its place is known, and a part that was not read.
 use super::fault::RecordWhat;
 use std::alloc::{AllocError, AllocFailed};
 
@@ -12,35 +9,30 @@ pub struct Breach {
     pub what: RecordWhat,
 }
 
-/// Why a part of a record was not read.
+/// A part of a record was not read, for a fault in it or for want of memory.
 #[derive(Clone, Copy, Debug, PartialEq, Eq)]
-pub enum Refusal {
-    Bad(Breach),
-    Memory,
-}
+pub struct Unread;
 
-impl From<Breach> for Refusal {
-    ghost from_gives = { λ breach refused. refused ≡ refusal.Bad breach };
-
-    fn from(breach: Breach) -> Refusal
-        ensures { result ≡ refusal.Bad breach }
-    {
-        Refusal::Bad(breach)
+impl From<Breach> for Unread {
+    fn from(_breach: Breach) -> Unread {
+        Unread
     }
 }
 
-impl From<AllocError> for Refusal {
-    ghost from_gives = { λ _ refused. refused ≡ refusal.Memory };
-
-    fn from(_refused: AllocError) -> Refusal {
-        Refusal::Memory
+impl From<RecordWhat> for Unread {
+    fn from(_what: RecordWhat) -> Unread {
+        Unread
     }
 }
 
-impl<T: Drop> From<AllocFailed<T>> for Refusal {
-    ghost from_gives = { λ _ refused. refused ≡ refusal.Memory };
+impl From<AllocError> for Unread {
+    fn from(_refused: AllocError) -> Unread {
+        Unread
+    }
+}
 
-    fn from(_refused: AllocFailed<T>) -> Refusal {
-        Refusal::Memory
+impl<T: Drop> From<AllocFailed<T>> for Unread {
+    fn from(_refused: AllocFailed<T>) -> Unread {
+        Unread
     }
 }

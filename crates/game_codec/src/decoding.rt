@@ -6,16 +6,15 @@ ghost use Rattle.game_tree.specs.Legal.{IsLegalGame};
 ghost use Rattle.game_tree.specs.Replay.{plies_of};
 ghost use Rattle.game_tree.specs.declared.head.Tag.{Tag as TagValue};
 ghost use Rattle.game_codec.specs.Record.{IsRecord};
-ghost use Rattle.game_codec.specs.Breach.{TellsBad};
 ghost use Rattle.game_codec.specs.Fault.{IsRecordFault, IfBad, place_of};
-ghost use Rattle.game_codec.specs.Flat.{FlatBreaks, IsRead};
+ghost use Rattle.game_codec.specs.Flat.{IsRead};
 ghost use Rattle.game_codec.specs.declared.fault.RecordFault.{RecordFault as Fault};
 ghost use Rattle.game_codec.specs.declared.fault.DecodeError.TheVariants.{Bad, Memory};
 
-use super::breach::Refusal;
+use super::breach::Unread;
 use super::building::build;
-use super::fault::{DecodeError, RecordFault, RecordWhat};
-use super::scanning::scan;
+use super::checking::first_fault;
+use super::fault::{DecodeError, RecordWhat};
 use super::start::read_start;
 use super::tags::read_tags;
 use game_tree::{Branch, Game, Tag};
@@ -40,27 +39,33 @@ pub fn decode_game(alloc: Global, bytes: &[u8]) -> Result<(Game, Vec<Tag>), Deco
     ensures tags { IfOk result (λ decoded. All IsTag decoded.1.items) }
 {
     match read_record(alloc, bytes) {
-        Ok((game, tags)) => Ok((game, tags)),
-        Err(Refusal::Memory) => Err(DecodeError::Memory),
-        Err(Refusal::Bad(breach)) => Err(DecodeError::Bad(RecordFault {
-            place: place_of(bytes.len(), breach.left, breach.what),
-            what: breach.what,
-        })),
+        Ok(read) => Ok(read),
+        Err(Unread) => Err(why_unread(bytes)),
     }
 }
 
-// The same with a fault by the number of bytes from the faulty item on.
-fn read_record(alloc: Global, bytes: &[u8]) -> Result<(Game, Vec<Tag>), Refusal>
+// Why a record was not read: its first fault, or want of memory where it has none.
+fn why_unread(bytes: &[u8]) -> DecodeError
+    requires few { length bytes.now < 2 ^ 32 }
+    ensures only { (tags : List TagValue) (game : GameTree) → IsRecord bytes.now tags game → result ≡ Memory }
+    ensures fault { IfBad (IsRecordFault bytes.now) result }
+    ensures first { (fault : Fault) → IsRecordFault bytes.now fault → (result ≡ Bad fault) ⊎ (result ≡ Memory) }
+{
+    match first_fault(bytes) {
+        Some(fault) => DecodeError::Bad(fault),
+        None => DecodeError::Memory,
+    }
+}
+
+// The same without a word of what is wrong. The moves and the texts are gone through at once.
+fn read_record(alloc: Global, bytes: &[u8]) -> Result<(Game, Vec<Tag>), Unread>
     ensures ok { IfOk result (λ read. IsRead bytes.now read.1.items read.0) }
-    ensures err { IfErr result (TellsBad (FlatBreaks bytes.now)) }
 {
     let tags = read_tags(alloc, bytes)?;
     let (_, behind_tags) = bytes.split_at(tags.used);
     let start = read_start(behind_tags)?;
     let (_, behind_start) = behind_tags.split_at(start.used);
-    let scanned = scan(alloc, &start.start, behind_start)?;
-    let (_, behind_moves) = behind_start.split_at(scanned.used);
-    let Branch { lead, line } = build(alloc, scanned.tokens.as_slice(), behind_moves)?;
+    let Branch { lead, line } = build(alloc, &start.start, behind_start)?;
     let game = Game {
         start: *start.start.position(),
         lead,

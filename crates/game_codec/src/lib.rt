@@ -16,7 +16,6 @@ mod passing;
 mod place;
 mod reading;
 mod round_trip;
-mod scanning;
 mod start;
 mod tags;
 mod tally;

@@ -5,13 +5,13 @@ ghost use Rattle.std.specs.Bool.{OnTrue};
 ghost use Rattle.cell_core.specs.Text.{IsZeroFree};
 ghost use Rattle.game_tree.specs.TagName.{free_of, is_tag_byte};
 ghost use Rattle.game_tree.specs.declared.head.Tag.{Tag as TagValue};
-ghost use Rattle.game_codec.specs.Breach.{Tells, TellsBad};
+ghost use Rattle.game_codec.specs.Breach.{Tells};
 ghost use Rattle.game_codec.specs.TagSpelling.{BeginsTag, BeginsTags, coded_names};
 ghost use Rattle.game_codec.specs.TagReading.{BreaksTags, part_at, value_at, with_name, with_value, date_at, tag_at, is_value_byte};
 ghost use Rattle.game_codec.specs.TagParts.{IsNext, IsParts, tag_of};
 ghost use Rattle.game_codec.specs.declared.fault.RecordWhat.TheVariants as fault;
 
-use super::breach::{Breach, Refusal};
+use super::breach::{Breach, Unread};
 use super::fault::RecordWhat;
 use cell_core::Text;
 use game_tree::{Date, Tag, is_reserved, is_tag_byte};
@@ -40,11 +40,10 @@ pub(crate) struct TagsRead {
 }
 
 /// Reads the extra tags at the beginning of a record, up to the zero byte that ends them.
-pub(crate) fn read_tags(alloc: Global, bytes: &[u8]) -> Result<TagsRead, Refusal>
+pub(crate) fn read_tags(alloc: Global, bytes: &[u8]) -> Result<TagsRead, Unread>
     ensures ok { IfOk result (λ read. (all : List TagValue) × (BeginsTags bytes.now all (drop read.used bytes.now)
         × (read.tags.items ≡ free_of all))) }
     ensures used { IfOk result (λ read. read.used ≤ length bytes.now) }
-    ensures err { IfErr result (TellsBad (λ rest what. (all : List TagValue) × BreaksTags bytes.now all rest what)) }
 {
     let mut tags = Vec::new(alloc);
     let mut rest = bytes;
@@ -114,9 +113,8 @@ enum Next {
 }
 
 // The next tag.
-fn next_tag(alloc: Global, bytes: &[u8]) -> Result<Next, Refusal>
+fn next_tag(alloc: Global, bytes: &[u8]) -> Result<Next, Unread>
     ensures ok { IfOk result (IsNext bytes.now) }
-    ensures err { IfErr result (TellsBad (λ rest what. (rest ≡ bytes.now) × (tag_at bytes.now ≡ Err what))) }
 {
     match next_parts(bytes) {
         Ok(Parts::End) => Ok(Next::End),
@@ -128,10 +126,7 @@ fn next_tag(alloc: Global, bytes: &[u8]) -> Result<Next, Refusal>
             tag: tag_of(alloc, b"EventDate", date.text().as_slice())?,
             used: 4,
         }),
-        Err(what) => Err(Refusal::Bad(Breach {
-            left: bytes.len(),
-            what,
-        })),
+        Err(_what) => Err(Unread),
     }
 }
 

@@ -472,9 +472,10 @@ fn open_held<R: FileSystem<File = File>>(
     Held::new(file.on(spot)?).on(spot)
 }
 
-// Reads the whole of a file, and notes its state before that.
+// Reads the whole of a file into room for one byte more than its length, so that its end is met there, and notes its state before that.
 fn read_whole(held: &mut Held, bytes: &mut Vec<u8>) -> io::Result<()> {
     held.note()?;
+    bytes.reserve_exact((held.len() as usize).saturating_add(1))?;
     held.file.seek(SeekFrom::Start(0))?;
     held.file.read_to_end(bytes)?;
     Ok(())

@@ -39,10 +39,17 @@ impl NewGames {
 
 /// Writes `pad` zero bytes and then `bytes`.
 pub fn write_padded<F: Write>(file: &mut F, pad: u32, bytes: &[u8]) -> io::Result<()> {
+    if pad > 0 {
+        write_zeros(file, pad)?;
+    }
+    file.write_all(bytes)
+}
+
+// Writes so many zero bytes.
+fn write_zeros<F: Write>(file: &mut F, count: u32) -> io::Result<()> {
     let zeros = [0u8; PIECE as usize];
-    for _ in 0..pad / PIECE {
+    for _ in 0..count / PIECE {
         file.write_all(&zeros)?;
     }
-    file.write_all(&zeros[..(pad % PIECE) as usize])?;
-    file.write_all(bytes)
+    file.write_all(&zeros[..(count % PIECE) as usize])
 }

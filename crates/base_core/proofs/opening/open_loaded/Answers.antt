@@ -1,22 +1,18 @@
-use Rattle.std.proofs.Common.{◌≡◌, Bool, false, List, ℕ, IfSome, sym, subst}
-use Rattle.base_core.specs.FirstFault.{EntryFails}
-use Rattle.base_core.specs.Opening.{IfBad, Opens, is_created}
-use Rattle.base_core.specs.Reading.{AreRead}
+use Rattle.std.proofs.Common.{◌≡◌, Bool, false, IfSome, sym, subst}
+use Rattle.base_core.specs.Opening.{Opens, is_created}
 use Rattle.base_core.specs.Represents.{Kept}
 use Rattle.base_core.proofs.OpenLaws.{entries_refuse, opens_told}
 use Rattle.base_core.proofs.opening.open_loaded.Goals as goal
 
 pub returns-in-Err-read_games-clause-refuses : goal.returns-in-Err-read_games-clause-refuses
 returns-in-Err-read_games-clause-refuses g c =
-    let I : List ℕ → Type 0 = λ index. IfBad (λ fault. IfSome (g.F.Files.seen c.args.files.now).games (λ games. EntryFails c.args.strict index c.in-Ok.whole.1 games c.in-Ok.whole.0.games fault)) c.in-Err-read_games.error in
-    entries_refuse (g.F.Files.seen c.args.files.now).games c.args.strict c.args.loaded.now.index.items c.args.loaded.now.names.items c.in-Ok.whole.0 c.in-Ok.whole.1 c.in-Err-read_games.error
-    c.in-Ok.ensures.header c.in-Ok.ensures.names (subst I c.as_slice.ensures.value c.in-Err-read_games.ensures.fault)
+    entries_refuse (g.F.Files.seen c.args.files.now).games c.args.strict c.args.loaded.index.items c.args.loaded.names.items c.in-Ok.whole.0 c.in-Ok.whole.1 c.in-Err-read_games.error
+    c.in-Ok.ensures.header c.in-Ok.ensures.names c.in-Err-read_games.ensures.fault
 
 pub returns-clause-opens : goal.returns-clause-opens
 returns-clause-opens g c =
-    let I : List ℕ → Type 0 = λ index. IfSome (g.F.Files.seen c.args.files.now).games (λ games. AreRead c.args.strict index c.in-Ok.whole.1 games c.in-Ok-read_games.read.0 c.in-Ok-read_games.read.1) in
-    let K : Kept → Type 0 = λ kept. IfSome (g.F.Files.seen c.args.files.now).games (λ games. (create : Bool) → is_created create c.args.loaded.now.index.items c.args.loaded.now.names.items games ≡ false →
-    Opens create c.args.strict c.args.loaded.now.index.items c.args.loaded.now.names.items games kept c.in-Ok-read_games.read.1) in
+    let K : Kept → Type 0 = λ kept. IfSome (g.F.Files.seen c.args.files.now).games (λ games. (create : Bool) → is_created create c.args.loaded.index.items c.args.loaded.names.items games ≡ false →
+    Opens create c.args.strict c.args.loaded.index.items c.args.loaded.names.items games kept c.in-Ok-read_games.read.1) in
     subst K (sym c.of.ensures.parts)
-    (opens_told (g.F.Files.seen c.args.files.now).games c.args.strict c.args.loaded.now.index.items c.args.loaded.now.names.items c.in-Ok.whole.0 c.in-Ok.whole.1 c.in-Ok-read_games.read.0 c.in-Ok-read_games.read.1 c.args.loaded.now.end
-    c.in-Ok.ensures.header c.in-Ok.ensures.names c.requires.told c.in-Ok-read_games.ensures.count (subst I c.as_slice.ensures.value c.in-Ok-read_games.ensures.read))
+    (opens_told (g.F.Files.seen c.args.files.now).games c.args.strict c.args.loaded.index.items c.args.loaded.names.items c.in-Ok.whole.0 c.in-Ok.whole.1 c.in-Ok-read_games.read.0 c.in-Ok-read_games.read.1 c.args.loaded.end
+    c.in-Ok.ensures.header c.in-Ok.ensures.names c.requires.told c.in-Ok-read_games.ensures.count c.in-Ok-read_games.ensures.read)

@@ -1,14 +1,6 @@
 use Rattle.std.proofs.Common.{refl}
-use Rattle.std.proofs.lemmas.Result.{err_from_is_err_and}
-use Rattle.game_codec.proofs.TagsSoFar.{read_more, read_all, read_refused}
+use Rattle.game_codec.proofs.TagsSoFar.{read_more, read_all}
 use Rattle.game_codec.proofs.tags.read_tags.Goals as goal
-
-pub returns-in_err-next_tag-clause-err : goal.returns-in_err-next_tag-clause-err
-returns-in_err-next_tag-clause-err c =
-    let p = err_from_is_err_and c.from_residual.result c.from_residual.ensures.1 in
-    rw (p.1, p.2)
-    (read_refused c.args.bytes.now c.loop-tags.rest.now c.loop-tags.tags.items _ c.loop-tags.invariant
-    c.in_err-next_tag.ensures.err)
 
 pub returns-in-End-clause-ok : goal.returns-in-End-clause-ok
 returns-in-End-clause-ok c =
