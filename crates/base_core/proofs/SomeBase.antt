@@ -1,4 +1,4 @@
--- Three files have a first fault or mean a base.
+-- Three files have a first fault, or mean a base of which each entry passes.
 use Rattle.std.proofs.Common.{◌≡◌, ◌<◌, ◌≤◌, ◌+◌, ◌⊎◌, ℕ, zero, suc, Bool, true, false, List, [], ◌∷◌, ◌++◌, length, get_or, slice_get, Option, Some, None, Result, Ok, Err, IfOk, IfErr, refl, sym, ap, ◌∙◌, subst, inl, inr, arith, true≢false, eq-or-lt_of_le}
 use Rattle.std.proofs.lemmas.List.{length_push}
 use Rattle.std.proofs.lemmas.Option.{same_Some, none-some, slice_get_within}
@@ -25,7 +25,7 @@ use Rattle.base_core.specs.declared.fault.BaseFault.TheVariants.{Packed, Derived
 use Rattle.base_core.specs.declared.fault.DerivedField.{DerivedField}
 use Rattle.base_core.specs.Base.{Base, Held}
 use Rattle.base_core.specs.Entries.{extent_of, head_of}
-use Rattle.base_core.specs.FirstFault.{entry_checked, derived_fault, Signs, Passes, Fails, EntryFails, FirstFault}
+use Rattle.base_core.specs.FirstFault.{AllPass, entry_checked, derived_fault, Signs, Passes, Fails, EntryFails, FirstFault}
 use Rattle.base_core.specs.Means.{IsEntryOf, Means}
 use Rattle.base_core.specs.Reading.{IsDecided, IsGameDecided}
 use Rattle.base_core.proofs.CheckLaws.{checked, ends_within, has_names}
@@ -144,7 +144,8 @@ games_upto strict names index games (suc n) passes =
 -- A fault or a base, by what the whole base has.
 abbrev pub FaultOrBase : Bool → List ℕ → List ℕ → List ℕ → Type 0
 FaultOrBase strict index names games =
-    ((fault : BaseFault) × FirstFault strict index names games fault) ⊎ ((base : Base) × Means index names games base)
+    ((fault : BaseFault) × FirstFault strict index names games fault)
+    ⊎ ((base : Base) × (Means index names games base × AllPass strict index base.names games base.header.games))
 
 by_entries : (strict : Bool) (index names games : List ℕ) (header : IndexHead) (lists : NameLists) → ((i : ℕ) → get_or names i 0 < 256) → index_read index ≡ Ok header → names_at names ≡ Ok lists →
     Until strict lists index games header.games header.games → FaultOrBase strict index names games
@@ -154,7 +155,7 @@ by_entries strict index names games header lists fit one two (inl passes) =
     let all = games_upto strict lists index games header.games passes in
     inr (
       record { header = header; names = lists; games = all.0; end = length games },
-      record { header = one; lists = names_take names lists fit two; end = refl; held = record { long = all.1.0; each = all.1.1 } },
+      (record { header = one; lists = names_take names lists fit two; end = refl; held = record { long = all.1.0; each = all.1.1 } }, passes),
     )
 
 by_names : (strict : Bool) (index names games : List ℕ) (header : IndexHead) (r : Result NameLists NameFault) → ((i : ℕ) → get_or names i 0 < 256) → index_read index ≡ Ok header → names_at names ≡ r →
@@ -163,7 +164,7 @@ by_names strict index names games header (Err fault) fit one two decided = inl (
 by_names strict index names games header (Ok lists) fit one two decided =
     by_entries strict index names games header lists fit one two (until strict lists index games header.games header.games (omega arith) decided)
 
--- Three files of which each record is decided have a first fault or mean a base.
+-- Three files of which each record is decided have a first fault, or mean a base of which each entry passes.
 pub fault_or_base : (strict : Bool) (index names games : List ℕ) (r : Result IndexHead IndexFault) → ((i : ℕ) → get_or names i 0 < 256) → r ≡ index_read index →
     IfOk r (λ header. (i : ℕ) → i < header.games → IsGameDecided index games i) → FaultOrBase strict index names games
 fault_or_base strict index names games (Err fault) fit one decided = inl (_, inl (index_fails index names fault (sym one)))

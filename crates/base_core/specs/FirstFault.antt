@@ -105,6 +105,10 @@ pub record Passes (strict : Bool) (names : NameLists) (games : List ℕ) (game :
   pub signs : Signs names games game bytes fields sig
   pub derived : IsTrue strict → derived_fault fields sig ≡ None
 
+-- So do the first so many entries.
+abbrev pub AllPass : Bool → List ℕ → NameLists → List ℕ → ℕ → Type 0
+AllPass strict index names games count = (i : ℕ) → i < count → Passes strict names games i (entry_bytes index i)
+
 -- Its record is none, with this first fault.
 pub record BreaksRecord (names : NameLists) (games : List ℕ) (game : ℕ) (bytes : List ℕ) (fault : BaseFault) : Type 0 where
   pub fields : Entry

@@ -3,7 +3,7 @@ ghost use Rattle.std.specs.Prelude.{◌≡◌, ◌≤◌, ◌<◌, ◌+◌, ◌*
 ghost use Rattle.game_tree.specs.Head.{without_tags};
 ghost use Rattle.sig_index.specs.Games.{Holds};
 ghost use Rattle.base_core.specs.Base.{Base as PlainBase};
-ghost use Rattle.base_core.specs.FirstFault.{FirstFault};
+ghost use Rattle.base_core.specs.FirstFault.{AllPass, FirstFault};
 ghost use Rattle.base_core.specs.Means.{Carries, Means};
 ghost use Rattle.base_core.specs.Opening.{Opens, is_created};
 ghost use Rattle.base_core.specs.Reading.{IsDecided, IsGameDecided};
@@ -13,10 +13,11 @@ ghost use Rattle.base_core.specs.declared.fault.BaseFault.{BaseFault as Fault};
 use index_entry::{entry_of, read_index, unpack};
 use sig_index::signed;
 
-/// A law: three files have a first fault or mean a base, however strict the opening is. Each record is looked at, and no memory is taken.
+/// A law: three files have a first fault, or mean a base of which each entry passes, however strict the opening is. Each record is looked at,
+/// and no memory is taken.
 pub fn files_mean_a_base_or_have_a_fault(index: &[u8], names: &[u8], games: &[u8])
-    ensures one_of_both { (strict : Bool)
-        → ((fault : Fault) × FirstFault strict index.now names.now games.now fault) ⊎ ((base : PlainBase) × Means index.now names.now games.now base) }
+    ensures one_of_both { (strict : Bool) → ((fault : Fault) × FirstFault strict index.now names.now games.now fault)
+        ⊎ ((base : PlainBase) × (Means index.now names.now games.now base × AllPass strict index.now base.names games.now base.header.games)) }
 {
     let Ok(header) = read_index(index) else {
         return;

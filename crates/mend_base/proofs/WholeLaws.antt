@@ -1,5 +1,5 @@
 -- A base without a fault comes over whole.
-use Rattle.std.proofs.Common.{◌≡◌, ◌≤◌, ◌<◌, ◌+◌, ◌*◌, ℕ, zero, suc, true, false, not, List, [], ◌∷◌, ◌++◌, length, map, slice_get, unwrap_or, is_some, option_map, Option, Some, None, Result, Ok, Err, refl, sym, ap, ◌∙◌, subst, inl, inr, arith}
+use Rattle.std.proofs.Common.{◌≡◌, ◌≤◌, ◌<◌, ◌+◌, ◌*◌, ℕ, zero, suc, Bool, true, false, true≢false, not, List, [], ◌∷◌, ◌++◌, length, map, slice_get, unwrap_or, is_some, option_map, Option, Some, None, Result, Ok, Err, refl, sym, ap, ◌∙◌, subst, inl, inr, arith}
 use Rattle.std.proofs.lemmas.Bool.{lt-leb}
 use Rattle.std.proofs.lemmas.List.{length-map}
 use Rattle.std.proofs.lemmas.Option.{same_Some, slice_get-map, slice_get_within}
@@ -15,7 +15,7 @@ use Rattle.name_base.proofs.KindLemmas.{stores-AreNames}
 use Rattle.name_base.proofs.PartLemmas.{all-filled, all-met, length-filled, part-whole}
 use Rattle.base_core.specs.Base.{Base, Held}
 use Rattle.base_core.specs.Entries.{HasNames, Says, head_of, name_at}
-use Rattle.base_core.specs.FirstFault.{Passes, entry_checked, id_fault}
+use Rattle.base_core.specs.FirstFault.{FirstFault, Passes, entry_checked, id_fault}
 use Rattle.base_core.specs.Means.{IsEntryOf, Means}
 use Rattle.base_core.specs.declared.fault.BaseFault.{BaseFault}
 use Rattle.base_core.specs.declared.fault.IdField.{IdField}
@@ -24,7 +24,8 @@ use Rattle.base_core.proofs.Lists.{get_some, same_lists}
 use Rattle.base_core.proofs.OneBase.{says-one}
 use Rattle.base_core.proofs.OneFault.{passes_fails}
 use Rattle.base_core.proofs.Results.{same_ok}
-use Rattle.mend_base.specs.Places.{ArePlaces, Found, IsPlace, IsWhole, Place, games_of, missing_in, note_of, notes_from}
+use Rattle.base_core.proofs.SomeBase.{FaultOrBase}
+use Rattle.mend_base.specs.Places.{ArePlaces, ComesOver, Found, IsPlace, IsWhole, Place, games_of, missing_in, note_of, notes_from}
 use Rattle.mend_base.specs.declared.report.Note.{Note}
 
 -- ---- names that are all there.
@@ -149,3 +150,14 @@ games-over index names games base places means passes are = ap games_of (places_
 pub notes-over : (index names games : List ℕ) (base : Base) (places : List Place) → Means index names games base → ((i : ℕ) → i < base.header.games → Passes false base.names games i (entry_bytes index i)) →
     ArePlaces index (names_in_part names) games base.header.games places → notes_from 0 places ≡ []
 notes-over index names games base places means passes are = ap (notes_from 0) (places_whole index names games base places means passes are) ∙ notes_whole 0 base.games
+
+passes_loosely : (strict : Bool) (names : NameLists) (games : List ℕ) (game : ℕ) (bytes : List ℕ) → Passes strict names games game bytes → Passes false names games game bytes
+passes_loosely strict names games game bytes p = record { fields = p.fields; sig = p.sig; signs = p.signs; derived = λ is. absurd (true≢false (sym is)) }
+
+-- Files without a first fault mean a base that comes over as it is.
+pub comes-over : (strict : Bool) (index names games : List ℕ) → FaultOrBase strict index names games → ((fault : BaseFault) → FirstFault strict index names games fault → ⊥) →
+    (base : Base) × ComesOver index names games base
+comes-over strict index names games (inl f) none = absurd (none f.0 f.1)
+comes-over strict index names games (inr b) none =
+    let passes : (i : ℕ) → i < b.0.header.games → Passes false b.0.names games i (entry_bytes index i) = λ i less. passes_loosely strict b.0.names games i (entry_bytes index i) (b.1.1 i less) in
+    (b.0, record { means = b.1.0; all = λ places are. games-over index names games b.0 places b.1.0 passes are; untold = λ places are. notes-over index names games b.0 places b.1.0 passes are })

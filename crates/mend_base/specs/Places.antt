@@ -5,11 +5,12 @@ use Rattle.index_entry.specs.Index.{entry_bytes}
 use Rattle.index_entry.specs.declared.entry.Entry.{Entry}
 use Rattle.index_entry.specs.declared.fault.IndexFault.TheVariants.{Length}
 use Rattle.index_entry.specs.declared.index.IndexHead.{IndexHead}
-use Rattle.name_base.specs.PartNames.{PartLists, filled_names, name_met}
+use Rattle.name_base.specs.PartNames.{PartLists, filled_names, name_met, names_in_part}
 use Rattle.base_core.specs.Base.{Base, Held, empty_base}
 use Rattle.base_core.specs.Compacted.{only}
 use Rattle.base_core.specs.Entries.{Says}
 use Rattle.base_core.specs.FirstFault.{Fails, entry_checked}
+use Rattle.base_core.specs.Means.{Means}
 use Rattle.base_core.specs.declared.fault.BaseFault.{BaseFault}
 use Rattle.base_core.specs.declared.fault.BaseFault.TheVariants.{Id, Index}
 use Rattle.base_core.specs.declared.fault.IdField.{IdField}
@@ -89,3 +90,9 @@ note_of game (Err fault) = record { game = game; fate = fate.LeftOut; fault = fa
 abbrev pub notes_from : ℕ → List Place → List Note
 notes_from game [] = []
 notes_from game (place ∷ places) = note_of game place ++ notes_from (game + 1) places
+
+-- Three files mean this base, and it comes over as it is: every game with its head, in order, and nothing is told.
+pub record ComesOver (index names games : List ℕ) (base : Base) : Type 0 where
+  pub means : Means index names games base
+  pub all : (places : List Place) → ArePlaces index (names_in_part names) games base.header.games places → games_of places ≡ base.games
+  pub untold : (places : List Place) → ArePlaces index (names_in_part names) games base.header.games places → notes_from 0 places ≡ []

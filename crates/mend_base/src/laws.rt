@@ -1,14 +1,16 @@
 //! Each game has one place, and a base without a fault comes over whole.
-ghost use Rattle.std.specs.Prelude.{◌≡◌, ◌<◌, [], false, List, ℕ, length};
+ghost use Rattle.std.specs.Prelude.{◌≡◌, ◌<◌, [], Bool, false, List, ℕ, length};
 ghost use Rattle.index_entry.specs.Index.{entry_bytes};
 ghost use Rattle.name_base.specs.PartNames.{PartLists, names_in_part};
 ghost use Rattle.base_core.specs.Base.{Base as PlainBase};
-ghost use Rattle.base_core.specs.FirstFault.{Passes};
+ghost use Rattle.base_core.specs.FirstFault.{FirstFault, Passes};
 ghost use Rattle.base_core.specs.Means.{Means};
+ghost use Rattle.base_core.specs.declared.fault.BaseFault.{BaseFault as Fault};
 ghost use Rattle.mend_base.specs.Finding.{HasPlace};
-ghost use Rattle.mend_base.specs.Places.{ArePlaces, Place, games_of, notes_from};
+ghost use Rattle.mend_base.specs.Places.{ArePlaces, ComesOver, Place, games_of, notes_from};
 
 use crate::finding::{Source, found_in, is_cut, placed_entry};
+use base_core::files_mean_a_base_or_have_a_fault;
 use name_base::PartNames;
 
 /// A law: a game of three files is whole, or has one first fault, and not both. So there is one list of places at most.
@@ -27,6 +29,15 @@ pub fn sound_bases_come_over()
         → ((i : ℕ) → i < base.header.games → Passes false base.names games i (entry_bytes index i))
         → ArePlaces index (names_in_part names) games base.header.games places → notes_from 0 places ≡ [] }
 {}
+
+/// A law: three files without a first fault, however strict the opening is, mean a base, and it comes over as it is: every game with its head, in
+/// order, and nothing is told. Each record is looked at, and no memory is taken.
+pub fn faultless_files_come_over_whole(index: &[u8], names: &[u8], games: &[u8])
+    ensures whole { (strict : Bool) → ((fault : Fault) → FirstFault strict index.now names.now games.now fault → ⊥)
+        → (base : PlainBase) × ComesOver index.now names.now games.now base }
+{
+    files_mean_a_base_or_have_a_fault(index, names, games);
+}
 
 /// A law: each of so many games of three files has a place, so there is a list of places. Each record is looked at, and no memory is taken.
 pub fn every_game_has_a_place(index: &[u8], names: &PartNames, games: &[u8], count: u32)

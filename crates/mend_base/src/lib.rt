@@ -10,6 +10,8 @@ mod mending;
 mod report;
 
 pub use fault::MendError;
-pub use laws::{every_game_has_a_place, one_place_each, sound_bases_come_over};
+pub use laws::{
+    every_game_has_a_place, faultless_files_come_over_whole, one_place_each, sound_bases_come_over,
+};
 pub use mending::{Mended, mend};
 pub use report::{Fate, Note, Report};
