@@ -3,9 +3,10 @@ mod MovedLemmas
 mod SpotLemmas
 mod ListedLemmas
 mod RowLemmas
-mod KeyLemmas
+pub mod KeyLemmas
 mod PlaceLemmas
 mod GameLemmas
 mod IndexLemmas
 mod BuildLemmas
 mod LegalHits
+mod StandingLemmas

@@ -1,7 +1,7 @@
 -- Where games stand on a board, up to a depth (this project's own).
-use Rattle.std.specs.Prelude.{◌≡◌, ℕ, ◌+◌, ◌*◌, ◌≤◌, ◌&&◌, if◌then◌else◌, nat_eq, All, Bool, List, [], ◌∷◌, ◌++◌, Option, Some, None, length, map, min, sum_by, IfSome}
+use Rattle.std.specs.Prelude.{◌≡◌, ℕ, ◌+◌, ◌*◌, ◌≤◌, ◌&&◌, if◌then◌else◌, nat_eq, All, Bool, List, [], ◌∷◌, ◌++◌, Option, Some, None, length, map, min, option_map, slice_index_or, sum_by, IfSome}
 use Rattle.std.specs.Cmp.Lexicographic.{pointwise}
-use Rattle.std.specs.List.{range_with_len}
+use Rattle.std.specs.List.{find, range_with_len}
 use Rattle.cell_core.specs.declared.step.Move.{Move}
 use Rattle.cell_core.specs.Man.{same_colour}
 use Rattle.chess_laws.specs.declared.setup.Setup.{Setup}
@@ -66,6 +66,17 @@ hits_from board game (row ∷ rows) = hits_in board game row ++ hits_from board 
 -- The hits on a board up to a depth, where each number has a game or none.
 abbrev pub hits_of : ℕ → List (Option GameTree) → Packed → List Hit
 hits_of depth games board = hits_from board 0 (map (row_of depth) games)
+
+-- The places of the game that has a number, and no place past the last.
+abbrev pub places_in : List (List Place) → ℕ → List Place
+places_in rows i = slice_index_or rows i []
+
+-- The first place of a game on a board: after how many half-moves it stands there, and the move then; or none where it has none there.
+abbrev pub ply_and_next : Place → ℕ × Option Move
+ply_and_next place = (place.ply, place.next)
+
+abbrev pub first_on : Packed → List Place → Option (ℕ × Option Move)
+first_on board places = option_map ply_and_next (find (λ (place : Place). same_packed board place.board) places)
 
 -- An index as contracts see it: its depth, and for each number the places of the game that has it.
 pub record Index : Type 0 where

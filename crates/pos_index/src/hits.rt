@@ -60,9 +60,7 @@ impl Hits {
         ensures first { (before behind : List Standing) → self.now ≡ before ++ behind → All (λ h. h.game < game) before → All (λ h. game ≤ h.game) behind → result ≡ length before }
         ensures within { result ≤ length self.now }
     {
-        self.hits
-            .as_slice()
-            .partition_point(|other| other.game < game)
+        first_of(self.hits.as_slice(), game)
     }
 
     /// Takes a hit of a game out, the one behind so many others of the game.
@@ -109,6 +107,14 @@ impl Hits {
         let kept = renumber(self.hits.as_mut_slice(), to);
         self.hits.truncate(kept);
     }
+}
+
+/// Where the hits of a game begin, or would.
+pub(crate) fn first_of(hits: &[Hit], game: u32) -> usize
+    ensures first { (before behind : List Standing) → hits.now ≡ before ++ behind → All (λ h. h.game < game) before → All (λ h. game ≤ h.game) behind → result ≡ length before }
+    ensures within { result ≤ length hits.now }
+{
+    hits.partition_point(|other| other.game < game)
 }
 
 // Moves the hits of the games that stay to the front, with the new numbers, and answers how many they are.

@@ -1,11 +1,12 @@
 //! The position index.
+use crate::board_hits::BoardHits;
 use crate::building::read_places;
 use crate::fault::BuildError;
 use crate::hit::Hit;
 use crate::places::Places;
 use crate::placing::{common, put_game, set_nexts};
 use base_files::Files;
-use cell_core::PackedBoard;
+use cell_core::{Move, PackedBoard};
 use game_filter::Renumbering;
 use game_tree::Game;
 use sig_index::Games;
@@ -37,14 +38,14 @@ impl Model for PosIndex {
 }
 
 impl PosIndex {
-    ghost use Rattle.std.specs.Prelude.{◌≡◌, ◌+◌, ◌≤◌, ◌<◌, ◌↔◌, ℕ, [], ◌∷◌, ◌++◌, List, All, Option, Some, None, IsTrue, length, map, slice_set, IfOk, IfErr, IfSome, OnOk, OnErr};
+    ghost use Rattle.std.specs.Prelude.{◌≡◌, ◌+◌, ◌≤◌, ◌<◌, ◌↔◌, ℕ, [], ◌∷◌, ◌++◌, List, All, Option, Some, None, IsTrue, length, map, slice_get, slice_set, IfOk, IfErr, IfSome, OnOk, OnErr};
     ghost use Rattle.game_filter.specs.Renumbering.{renumbered};
     ghost use Rattle.game_tree.specs.Game.{GameTree};
     ghost use Rattle.game_tree.specs.Legal.{IsLegalGame};
     ghost use Rattle.sig_index.specs.Games.{AreWithin, Holds};
     ghost use Rattle.pos_index.specs.Asking.{price};
     ghost use Rattle.pos_index.specs.Causes.{HasBuildCause};
-    ghost use Rattle.pos_index.specs.Hits.{Fits, Indexes, IsFrom, entries_of, hits_from, hits_of, places_of};
+    ghost use Rattle.pos_index.specs.Hits.{Fits, Indexes, IsFrom, entries_of, first_on, hits_from, hits_of, places_in, places_of};
 
     /// The index of the games of a base, up to a depth of at most 40: their records are read, each once, and so many bytes count as asked.
     /// `buf` has 131,072 bytes.
@@ -111,6 +112,17 @@ impl PosIndex {
         ensures legal { All (λ hit. IfSome hit.next (IsFrom p.now)) result.now }
     {
         self.places.find(p)
+    }
+
+    /// The first hit of game `i` on a board with its side to move, up to the depth: after how many half-moves of its main line the game
+    /// stands there, and the move then. `None` where it has no hit on the board.
+    pub fn first(&self, p: &PackedBoard, i: u32) -> Option<(u32, Option<Move>)>
+        ensures first { result ≡ first_on p.now (places_in self.now.rows i) }
+        ensures indexed { (games : List (Option GameTree)) (game : GameTree) → Indexes self.now games → slice_get games i ≡ Some (Some game) → result ≡ first_on p.now (places_of self.now.depth game) }
+        // Also where the records that were read are of no games.
+        ensures legal { IfSome result (λ first. IfSome first.1 (IsFrom p.now)) }
+    {
+        BoardHits::new(self.find(p)).first(i)
     }
 
     /// Adds a legal game, which gets the number `i`. After want of memory the index is as it was.

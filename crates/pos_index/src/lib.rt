@@ -1,6 +1,7 @@
 //! The position index: under each board with its side to move exactly the places at which the games stand there, up to a depth.
 #![tactic(auto)]
 
+mod board_hits;
 mod building;
 mod fault;
 mod hit;
@@ -12,6 +13,7 @@ mod placing;
 mod row;
 mod spot;
 
+pub use board_hits::BoardHits;
 pub use fault::BuildError;
 pub use hit::Hit;
 pub use index::PosIndex;

@@ -88,7 +88,7 @@ first_is query game = by_main query game (first_on_main query game) refl
 alike_exact : (mode : Mode) (p : Setup) (query : PosQuery) → mode ≡ Exact → p.board ≡ query.board → alike mode p.board query.board ≡ true
 alike_exact mode p query exact board = rw exact ((same_men-Decides p.board query.board).1 board)
 
-matches_from : (query : PosQuery) (p : Setup) → query.mode ≡ Exact → p.board ≡ query.board → p.side ≡ query.side → matches query p ≡ true
+pub matches_from : (query : PosQuery) (p : Setup) → query.mode ≡ Exact → p.board ≡ query.board → p.side ≡ query.side → matches query p ≡ true
 unfolding matches
 matches_from query p exact board side =
     and_from (same_colour p.side query.side) (alike query.mode p.board query.board) ((same_colour-Decides p.side query.side).1 side)

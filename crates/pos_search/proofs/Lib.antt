@@ -5,3 +5,4 @@ pub mod WalkLemmas
 pub mod SearchLemmas
 pub mod FirstLemmas
 pub mod AsideLemmas
+pub mod TellingLemmas

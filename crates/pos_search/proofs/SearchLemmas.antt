@@ -1,5 +1,5 @@
 -- The search through the games, one after the other.
-use Rattle.std.proofs.Common.{◌≡◌, ℕ, ◌+◌, ◌<◌, ◌≤◌, true, false, cond, ◌&&◌, List, Option, None, Some, length, get_or, set, take, refl, sym, ap, ◌∙◌, arith}
+use Rattle.std.proofs.Common.{◌≡◌, ℕ, ◌+◌, ◌<◌, ◌≤◌, Bool, true, false, cond, ◌&&◌, List, Option, None, Some, length, get_or, set, take, refl, sym, ap, ◌∙◌, arith}
 use Rattle.std.specs.Prelude.{option_map, slice_get}
 use Rattle.std.specs.Option.{option_or}
 use Rattle.std.proofs.lemmas.List.{length-map, take_all}
@@ -30,7 +30,7 @@ unread told extents sigs list i sig game query holds kept there not =
     λ j. option_or (option_map (λ (k : ℕ). (k, next_at game k)) (sym main j)) (option_map hit_aside (sym aside j))
 
 -- The ply of a hit is the first.
-ply_by : (first aside : Option ℕ) (next : ℕ → Option Move)
+pub ply_by : (first aside : Option ℕ) (next : ℕ → Option Move)
     → ply_of (option_or (option_map (λ (k : ℕ). (k, next k)) first) (option_map hit_aside aside)) ≡ option_or first aside
 ply_by None None next = refl
 ply_by None (Some k) next = refl
@@ -40,11 +40,11 @@ pub ply_is : (query : PosQuery) (game : GameTree) (hit : Option (ℕ × Option M
 ply_is query game hit ply found is = is ∙ ap ply_of found ∙ ply_by (first_on_main query game) (first_if_aside query game) (next_at game)
 
 -- What a game costs that is looked at.
-pub looked_cost : (op : Op) (query : PosQuery) (sig : Sig) (extent : Extent) (plies : List (Option ℕ)) (i : ℕ) (old : Option ℕ) → slice_get plies i ≡ Some old
-    → looks_at op old ≡ true → cond (passes sig query) extent.len 0 ≡ cost_of op query sig extent (get_or plies i None)
-looked_cost op query sig extent plies i old there looks =
-    (λ j. cond (sym looks j && passes sig query) extent.len 0)
-    ∙ ap (cost_of op query sig extent) (sym (get_or_from_slice_get plies i old None there))
+pub looked_cost : (op : Op) (read other : Bool) (extent : Extent) (plies : List (Option ℕ)) (i : ℕ) (old : Option ℕ) → slice_get plies i ≡ Some old
+    → looks_at op old ≡ true → read ≡ other → cond read extent.len 0 ≡ cost_of op other extent (get_or plies i None)
+looked_cost op read other extent plies i old there looks same =
+    (λ j. cond (sym looks j && same j) extent.len 0)
+    ∙ ap (cost_of op other extent) (sym (get_or_from_slice_get plies i old None there))
 
 first_at : (query : PosQuery) (list : List GameTree) (i : ℕ) (game : GameTree) → slice_get list i ≡ Some game → get_or (firsts_of query list) i None ≡ first_of query game
 first_at query list i game there =

@@ -2,3 +2,4 @@ pub mod Matching
 pub mod Passing
 pub mod Sought
 pub mod Searching
+pub mod Telling

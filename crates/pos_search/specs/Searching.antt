@@ -1,9 +1,16 @@
--- What a search of all games asks of the games file (this project's own).
-use Rattle.std.specs.Prelude.{ℕ, ◌&&◌, if◌then◌else◌, Option, option_map}
+-- What an index tells of games, and what a search of all games asks of the games file (this project's own).
+use Rattle.std.specs.Prelude.{◌≡◌, ℕ, ◌&&◌, if◌then◌else◌, is_none, Bool, true, false, List, [], ◌∷◌, Option, None, Some, map, option_map}
+use Rattle.std.specs.List.{find}
 use Rattle.base_files.specs.declared.extent.Extent.{Extent}
+use Rattle.cell_core.specs.Packed.{packed_of}
 use Rattle.cell_core.specs.declared.step.Move.{Move}
 use Rattle.game_filter.specs.Search.{looks_at}
 use Rattle.game_filter.specs.declared.op.Op.{Op}
+use Rattle.game_tree.specs.Game.{GameTree}
+use Rattle.pos_index.specs.Hits.{Index, Indexes, Place, ply_and_next, same_packed}
+use Rattle.sig_index.specs.Games.{Holds}
+use Rattle.sig_index.specs.declared.pos_query.Mode.{Mode}
+use Rattle.sig_index.specs.declared.pos_query.Mode.TheVariants.{Exact, Pawns, Files, Material}
 use Rattle.sig_index.specs.declared.pos_query.PosQuery.{PosQuery}
 use Rattle.sig_index.specs.declared.signature.Sig.{Sig}
 use Rattle.pos_search.specs.Passing.{passes}
@@ -12,6 +19,41 @@ use Rattle.pos_search.specs.Passing.{passes}
 abbrev pub ply_of : Option (ℕ × Option Move) → Option ℕ
 ply_of hit = option_map (λ (found : ℕ × Option Move). found.0) hit
 
--- The bytes that one game costs, which has this entry in the filter: the length of its record, if it is looked at and can match.
-abbrev pub cost_of : Op → PosQuery → Sig → Extent → Option ℕ → ℕ
-cost_of op query sig extent old = if looks_at op old && passes sig query then extent.len else 0
+-- A mode in which only the board that is sought matches.
+abbrev pub is_exact : Mode → Bool
+is_exact Exact = true
+is_exact Pawns = false
+is_exact Files = false
+is_exact Material = false
+
+-- A place that an index has of a game is one that is sought: the query is an exact one, for the board of this place.
+abbrev pub is_told : PosQuery → Place → Bool
+is_told query place = is_exact query.mode && same_packed (packed_of query.board query.side) place.board
+
+-- The hit of a game by the places that an index has of it: the first that is sought. Where there is none, the index does not decide it.
+abbrev pub hit_told : PosQuery → List Place → Option (ℕ × Option Move)
+hit_told query places = option_map ply_and_next (find (is_told query) places)
+
+-- The places that an index has of each game, and none where there is no index.
+abbrev pub rows_told : Option Index → List (List Place)
+rows_told None = []
+rows_told (Some index) = index.rows
+
+-- The index is one of these games, where the files tell their contents.
+abbrev pub IsIndexOf : Option (List ℕ) → List Extent → List Sig → Index → Type 0
+IsIndexOf told extents sigs index = (games : List ℕ) (list : List GameTree) → told ≡ Some games → Holds games extents sigs list → Indexes index (map Some list)
+
+-- A game has to be read: the index does not decide it, and it can match.
+abbrev pub is_read : PosQuery → List Place → Sig → Bool
+is_read query places sig = is_none (hit_told query places) && passes sig query
+
+-- Whether each game has to be read, by the places that an index has of it, if there is one, and by its signature.
+abbrev pub are_read : PosQuery → List (List Place) → List Sig → List Bool
+are_read query rows [] = []
+are_read query [] (sig ∷ sigs) = is_read query [] sig ∷ are_read query [] sigs
+are_read query (row ∷ rows) (sig ∷ sigs) = is_read query row sig ∷ are_read query rows sigs
+
+-- The bytes that one game costs, which has to be read or not, and has this entry in the filter: the length of its record, if it is looked
+-- at and has to be read.
+abbrev pub cost_of : Op → Bool → Extent → Option ℕ → ℕ
+cost_of op read extent old = if looks_at op old && read then extent.len else 0

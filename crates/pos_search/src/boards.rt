@@ -1,5 +1,5 @@
 //! What two boards have in common.
-ghost use Rattle.std.specs.Prelude.{◌≡◌, ◌↔◌, ◌≤◌, ◌<◌, IsTrue};
+ghost use Rattle.std.specs.Prelude.{◌≡◌, ◌↔◌, ◌≤◌, ◌<◌, IsTrue, length};
 ghost use Rattle.cell_core.specs.Man.{is_man};
 ghost use Rattle.chess_laws.specs.Counts.{count_of, counts_of, is_home};
 ghost use Rattle.sig_index.specs.Homes.{home_set};
@@ -9,7 +9,8 @@ use cell_core::{Board, Colour, Kind, Man, Square};
 
 // How many queens, rooks, bishops, knights and pawns White has, and then Black.
 pub(crate) fn counts(board: &Board) -> [u8; 10]
-    ensures { result ≡ counts_of board.now }
+    ensures counts { result ≡ counts_of board.now }
+    ensures squares { length board.now ≡ 64 }
 {
     [
         count(board, Colour::White, Kind::Queen),
@@ -39,7 +40,8 @@ pub(crate) fn same_numbers(a: &[u8; 10], b: &[u8; 10]) -> bool
 
 // How many men of this colour and kind there are.
 fn count(board: &Board, colour: Colour, kind: Kind) -> u8
-    ensures { result ≡ count_of board.now colour kind }
+    ensures count { result ≡ count_of board.now colour kind }
+    ensures squares { length board.now ≡ 64 }
 {
     let cells = board.cells();
     cells

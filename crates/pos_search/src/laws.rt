@@ -1,17 +1,20 @@
 //! Laws of the definitions.
-ghost use Rattle.std.specs.Prelude.{◌≡◌, ◌≤◌, ◌↔◌, ℕ, true, false, None, IsTrue};
+ghost use Rattle.std.specs.Prelude.{◌≡◌, ◌≤◌, ◌↔◌, ℕ, true, false, None, Some, Option, IsTrue, length};
+ghost use Rattle.cell_core.specs.declared.step.Move.{Move};
 ghost use Rattle.chess_laws.specs.Position.{Sound};
 ghost use Rattle.chess_laws.specs.declared.setup.Setup.{Setup};
 ghost use Rattle.game_tree.specs.Counts.{variations_of};
 ghost use Rattle.game_tree.specs.Game.{GameTree};
 ghost use Rattle.game_tree.specs.Legal.{IsLegalGame};
-ghost use Rattle.game_tree.specs.Replay.{plies_of};
+ghost use Rattle.game_tree.specs.Replay.{next_at, plies_of};
+ghost use Rattle.pos_index.specs.Hits.{places_of};
 ghost use Rattle.sig_index.specs.Signature.{IsSig};
 ghost use Rattle.sig_index.specs.declared.pos_query.Mode.TheVariants.{Exact};
 ghost use Rattle.sig_index.specs.declared.pos_query.PosQuery.{PosQuery};
 ghost use Rattle.sig_index.specs.declared.signature.Sig.{Sig};
-ghost use Rattle.pos_search.specs.Matching.{FirstPly, first_of, matches, matches_at};
+ghost use Rattle.pos_search.specs.Matching.{FirstPly, first_of, first_on_main, hit_of, hit_on_main, matches, matches_at};
 ghost use Rattle.pos_search.specs.Passing.{passes};
+ghost use Rattle.pos_search.specs.Searching.{hit_told};
 
 /// A law: where `passes` is false of its signature, a legal game matches at no ply of its main line and has no first place; and where the
 /// query looks there it has no place in a variation, so that only games without variations are passed over.
@@ -28,4 +31,15 @@ pub fn tests_are_sound()
 pub fn first_plies_are_first()
     ensures first { (query : PosQuery) (game : GameTree) → FirstPly query game (first_of query game) }
     ensures exact { (query : PosQuery) (p : Setup) → query.mode ≡ Exact → (matches query p ≡ true) ↔ ((p.board ≡ query.board) × (p.side ≡ query.side)) }
+{}
+
+/// A law: what the places of a legal game up to a depth tell for a query is the game's hit, on its main line and within the depth; and for
+/// an exact query they tell it wherever the main line first matches within the depth.
+pub fn index_tells_hits()
+    ensures main { (query : PosQuery) (depth : ℕ) (game : GameTree) (hit : ℕ × Option Move) → length query.board ≡ 64 → Sound game.start → IsLegalGame game
+        → hit_told query (places_of depth game) ≡ Some hit → (hit_on_main query game ≡ Some hit) × (hit.0 ≤ depth) }
+    ensures hit { (query : PosQuery) (depth : ℕ) (game : GameTree) (hit : ℕ × Option Move) → length query.board ≡ 64 → Sound game.start → IsLegalGame game
+        → hit_told query (places_of depth game) ≡ Some hit → hit_of query game ≡ Some hit }
+    ensures decides { (query : PosQuery) (depth : ℕ) (game : GameTree) (ply : ℕ) → length query.board ≡ 64 → Sound game.start → IsLegalGame game → query.mode ≡ Exact
+        → first_on_main query game ≡ Some ply → ply ≤ depth → hit_told query (places_of depth game) ≡ Some (ply, next_at game ply) }
 {}

@@ -1,13 +1,14 @@
-//! Search of games by a position: games are passed over by their signatures, and no memory is taken.
+//! Search of games by a position: games that an index decides or whose signatures cannot match are not read, and no memory is taken.
 #![tactic(auto)]
 
 mod boards;
 mod laws;
 mod matching;
 mod searching;
+mod telling;
 mod walking;
 
-pub use laws::{first_plies_are_first, tests_are_sound};
+pub use laws::{first_plies_are_first, index_tells_hits, tests_are_sound};
 pub use matching::{Sought, passes};
 pub use searching::{hit, hit_sought, search};
 pub use sig_index::{Mode, PosQuery};

@@ -1,5 +1,5 @@
 //! What a search of a position asks of one position, and of a signature.
-ghost use Rattle.std.specs.Prelude.{◌≡◌};
+ghost use Rattle.std.specs.Prelude.{◌≡◌, length};
 ghost use Rattle.chess_laws.specs.Counts.{counts_of};
 ghost use Rattle.chess_laws.specs.Position.{Sound};
 ghost use Rattle.sig_index.specs.Coming.{can_come};
@@ -50,6 +50,7 @@ impl<'a> Sought<'a> {
     /// What a query seeks.
     pub fn new(query: &'a PosQuery) -> Sought<'a>
         ensures query { result ≡ query.now }
+        ensures squares { length result.board ≡ 64 }
     {
         let counts = counts(&query.board);
         Sought {

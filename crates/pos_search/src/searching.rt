@@ -1,54 +1,64 @@
 //! The search of all games.
-ghost use Rattle.std.specs.Prelude.{◌≡◌, ◌≤◌, ◌<◌, ◌+◌, ℕ, false, if◌then◌else◌, List, Option, None, Some, length, slice_get, slice_index_or, slice_set, take, IfOk, IfErr, OnOk, OnErr};
+ghost use Rattle.std.specs.Prelude.{◌≡◌, ◌≤◌, ◌<◌, ◌+◌, ◌&&◌, ℕ, false, is_none, if◌then◌else◌, List, Option, None, Some, length, option_copied, slice_get, slice_index_or, slice_set, take, IfOk, IfErr, IfSome, OnOk, OnErr};
 ghost use Rattle.game_filter.specs.Search.{entry_after, looks_at, searched};
 ghost use Rattle.game_tree.specs.Game.{GameTree};
+ghost use Rattle.pos_index.specs.Hits.{Place, places_in};
 ghost use Rattle.sig_index.specs.Costs.{EndsAt, KeepsOthers, LeavesRest, price_by};
 ghost use Rattle.sig_index.specs.Games.{AreWithin, HasFetchCause, Holds, Names, extent_in};
 ghost use Rattle.sig_index.specs.declared.signature.Sig.{Sig};
 ghost use Rattle.pos_search.specs.Matching.{first_of, firsts_of, hit_of, IsLegalFrom};
 ghost use Rattle.pos_search.specs.Passing.{passes};
-ghost use Rattle.pos_search.specs.Searching.{cost_of};
+ghost use Rattle.pos_search.specs.Searching.{IsIndexOf, are_read, cost_of, is_read, rows_told};
+ghost use Rattle.pos_search.specs.Telling.{TellsHit, hits_told};
 
 use crate::matching::Sought;
+use crate::telling::{hit_told, hits_told, ply_told};
 use crate::walking::{first_sought, ply_sought};
 use base_files::Files;
 use cell_core::Move;
 use game_filter::{Filter, Op};
+use pos_index::{BoardHits, PosIndex};
 use sig_index::{FetchError, Games, PosQuery};
 
 /// The first ply at which game `i` matches, with the move after it on the main line and none in a variation, or `None` where it never does.
-/// `i` is below the number of games, and `buf` has 131,072 bytes. The game's record is read if it can match, and so many bytes count as
-/// asked.
+/// `i` is below the number of games, and `buf` has 131,072 bytes. An index, if there is one, is one of these games. The game's record is read
+/// if it can match and the index does not decide it, and so many bytes count as asked.
 pub fn hit<G: Games, F: Files>(
     games: &G,
     i: u32,
     q: &PosQuery,
+    index: Option<&PosIndex>,
     files: &mut F,
     buf: &mut [u8],
 ) -> Result<Option<(u32, Option<Move>)>, FetchError>
     requires game { i < length (G.sigs games.now) }
     requires room { length buf.old ≡ 131072 }
     requires within { AreWithin (F.seen files.old).known (G.extents games.now) }
+    requires index { IfSome (option_copied index) (IsIndexOf (F.seen files.old).games (G.extents games.now) (G.sigs games.now)) }
     // Over a games file that is told and holds the records of these games.
     ensures found { (told : List ℕ) (list : List GameTree) (game : GameTree) → (F.seen files.old).games ≡ Some told → Holds told (G.extents games.now) (G.sigs games.now) list → slice_get list i ≡ Some game → IfOk result (λ hit. hit ≡ hit_of q.now game) }
     ensures legal { IfOk result (λ hit. IsLegalFrom q.now hit) }
     ensures room { length buf.new ≡ 131072 }
     ensures unchanged { F.seen files.new ≡ F.seen files.old }
-    ensures asks { (sig : Sig) → slice_get (G.sigs games.now) i ≡ Some sig → F.asked files.new ≤ F.asked files.old + (if passes sig q.now then (extent_in (G.extents games.now) i).len else 0) }
+    ensures asks { (sig : Sig) → slice_get (G.sigs games.now) i ≡ Some sig → F.asked files.new ≤ F.asked files.old + (if is_read q.now (places_in (rows_told (option_copied index.entry)) i) sig then (extent_in (G.extents games.now) i).len else 0) }
     ensures counts { F.faults files.old ≤ F.faults files.new }
     ensures cause { IfErr result (λ e. HasFetchCause e (G.sigs games.now) (G.extents games.now) (F.seen files.old).games buf.new (F.faults files.old) (F.faults files.new)) }
     ensures own { IfErr result (λ e. Names e i) }
 {
+    if let Some(found) = hit_told(q, index, i) {
+        return Ok(Some(found));
+    }
     hit_sought(games, i, &Sought::new(q), files, buf)
 }
 
 /// Leaves in the filter what its entries become by a search of a position. The filter has one entry per game, and `buf` has 131,072 bytes.
-/// A game is read where `op` looks at it and it can match, and so many bytes count as asked. After an error the games before the refused
-/// one have their new entries, and the others the old.
+/// An index, if there is one, is one of these games. A game is read where `op` looks at it, it can match and the index does not decide it,
+/// and so many bytes count as asked. After an error the games before the refused one have their new entries, and the others the old.
 pub fn search<G: Games, F: Files>(
     games: &G,
     q: &PosQuery,
     op: Op,
+    index: Option<&PosIndex>,
     filter: &mut Filter,
     files: &mut F,
     buf: &mut [u8],
@@ -56,6 +66,7 @@ pub fn search<G: Games, F: Files>(
     requires games { length filter.old ≡ length (G.sigs games.now) }
     requires room { length buf.old ≡ 131072 }
     requires within { AreWithin (F.seen files.old).known (G.extents games.now) }
+    requires index { IfSome (option_copied index) (IsIndexOf (F.seen files.old).games (G.extents games.now) (G.sigs games.now)) }
     // Over a games file that is told and holds the records of these games.
     ensures found { (told : List ℕ) (list : List GameTree) → (F.seen files.old).games ≡ Some told → Holds told (G.extents games.now) (G.sigs games.now) list → OnOk result (filter.new ≡ searched op (firsts_of q.now list) filter.old) }
     ensures ended { (told : List ℕ) (list : List GameTree) → (F.seen files.old).games ≡ Some told → Holds told (G.extents games.now) (G.sigs games.now) list → IfErr result (λ e. EndsAt e (λ n. searched op (take n (firsts_of q.now list)) filter.old) filter.old filter.new) }
@@ -65,13 +76,14 @@ pub fn search<G: Games, F: Files>(
     ensures entries { length filter.new ≡ length filter.old }
     ensures room { length buf.new ≡ 131072 }
     ensures unchanged { F.seen files.new ≡ F.seen files.old }
-    ensures asks { F.asked files.new ≤ F.asked files.old + price_by (cost_of op q.now) (G.sigs games.now) (G.extents games.now) filter.old }
+    ensures asks { F.asked files.new ≤ F.asked files.old + price_by (cost_of op) (are_read q.now (rows_told (option_copied index.entry)) (G.sigs games.now)) (G.extents games.now) filter.old }
     ensures counts { F.faults files.old ≤ F.faults files.new }
     ensures cause { IfErr result (λ e. HasFetchCause e (G.sigs games.now) (G.extents games.now) (F.seen files.old).games buf.new (F.faults files.old) (F.faults files.new)) }
 {
     let sought = Sought::new(q);
+    let mut told = hits_told(q, index);
     for i in 0..games.len() {
-        match search_game(games, i, &sought, op, filter, files, buf) {
+        match search_game(games, i, &sought, &mut told, op, filter, files, buf) {
             Ok(()) => {}
             Err(error) => return Err(error),
         }
@@ -84,6 +96,7 @@ fn search_game<G: Games, F: Files>(
     games: &G,
     i: u32,
     q: &Sought<'_>,
+    told: &mut BoardHits<'_>,
     op: Op,
     filter: &mut Filter,
     files: &mut F,
@@ -93,14 +106,16 @@ fn search_game<G: Games, F: Files>(
     requires games { length filter.old ≡ length (G.sigs games.now) }
     requires room { length buf.old ≡ 131072 }
     requires within { AreWithin (F.seen files.old).known (G.extents games.now) }
-    ensures joined { (told : List ℕ) (list : List GameTree) (game : GameTree) → (F.seen files.old).games ≡ Some told → Holds told (G.extents games.now) (G.sigs games.now) list → slice_get list i ≡ Some game
+    ensures joined { (contents : List ℕ) (list : List GameTree) (game : GameTree) (rows : List (List Place)) → (F.seen files.old).games ≡ Some contents → Holds contents (G.extents games.now) (G.sigs games.now) list → slice_get list i ≡ Some game
+        → told.old ≡ hits_told q.now rows → TellsHit q.now (places_in rows i) game
         → OnOk result (filter.new ≡ slice_set filter.old i (entry_after op (slice_index_or filter.old i None) (first_of q.now game))) }
+    ensures same { told.new ≡ told.old }
     ensures entry { OnOk result ((ply : Option ℕ) × (filter.new ≡ slice_set filter.old i ply)) }
     ensures passed { looks_at op (slice_index_or filter.old i None) ≡ false → filter.new ≡ filter.old }
     ensures left { OnErr result (filter.new ≡ filter.old) }
     ensures room { length buf.new ≡ 131072 }
     ensures unchanged { F.seen files.new ≡ F.seen files.old }
-    ensures asks { (sig : Sig) → slice_get (G.sigs games.now) i ≡ Some sig → F.asked files.new ≤ F.asked files.old + cost_of op q.now sig (extent_in (G.extents games.now) i) (slice_index_or filter.old i None) }
+    ensures asks { (sig : Sig) (rows : List (List Place)) → slice_get (G.sigs games.now) i ≡ Some sig → told.old ≡ hits_told q.now rows → F.asked files.new ≤ F.asked files.old + cost_of op (is_read q.now (places_in rows i) sig) (extent_in (G.extents games.now) i) (slice_index_or filter.old i None) }
     ensures counts { F.faults files.old ≤ F.faults files.new }
     ensures cause { IfErr result (λ e. HasFetchCause e (G.sigs games.now) (G.extents games.now) (F.seen files.old).games buf.new (F.faults files.old) (F.faults files.new)) }
     ensures own { IfErr result (λ e. Names e i) }
@@ -109,7 +124,8 @@ fn search_game<G: Games, F: Files>(
     if !op.looks_at(old) {
         return Ok(());
     }
-    match ply_in(games, i, q, files, buf) {
+    let known = ply_told(told, i);
+    match ply_in(games, i, q, known, files, buf) {
         Ok(ply) => {
             filter.set(i, op.entry(old, ply));
             Ok(())
@@ -179,25 +195,29 @@ fn hit_read<G: Games, F: Files>(
     }
 }
 
-// The first matching ply of one game, which is read if it can match.
+// The first matching ply of one game, which is read if it is not known and can match.
 fn ply_in<G: Games, F: Files>(
     games: &G,
     i: u32,
     q: &Sought<'_>,
+    known: Option<u32>,
     files: &mut F,
     buf: &mut [u8],
 ) -> Result<Option<u32>, FetchError>
     requires game { i < length (G.sigs games.now) }
     requires room { length buf.old ≡ 131072 }
     requires within { AreWithin (F.seen files.old).known (G.extents games.now) }
-    ensures found { (told : List ℕ) (list : List GameTree) (game : GameTree) → (F.seen files.old).games ≡ Some told → Holds told (G.extents games.now) (G.sigs games.now) list → slice_get list i ≡ Some game → IfOk result (λ ply. ply ≡ first_of q.now game) }
+    ensures found { (told : List ℕ) (list : List GameTree) (game : GameTree) → (F.seen files.old).games ≡ Some told → Holds told (G.extents games.now) (G.sigs games.now) list → slice_get list i ≡ Some game → IfSome known (λ ply. Some ply ≡ first_of q.now game) → IfOk result (λ ply. ply ≡ first_of q.now game) }
     ensures room { length buf.new ≡ 131072 }
     ensures unchanged { F.seen files.new ≡ F.seen files.old }
-    ensures asks { (sig : Sig) → slice_get (G.sigs games.now) i ≡ Some sig → F.asked files.new ≤ F.asked files.old + (if passes sig q.now then (extent_in (G.extents games.now) i).len else 0) }
+    ensures asks { (sig : Sig) → slice_get (G.sigs games.now) i ≡ Some sig → F.asked files.new ≤ F.asked files.old + (if is_none known && passes sig q.now then (extent_in (G.extents games.now) i).len else 0) }
     ensures counts { F.faults files.old ≤ F.faults files.new }
     ensures cause { IfErr result (λ e. HasFetchCause e (G.sigs games.now) (G.extents games.now) (F.seen files.old).games buf.new (F.faults files.old) (F.faults files.new)) }
     ensures own { IfErr result (λ e. Names e i) }
 {
+    if known.is_some() {
+        return Ok(known);
+    }
     if q.passes(&games.sig(i)) {
         ply_read(games, i, q, files, buf)
     } else {

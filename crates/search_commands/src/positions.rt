@@ -1,11 +1,11 @@
 //! The commands that search the games for a position.
-ghost use Rattle.std.specs.Prelude.{◌≡◌, ◌≤◌, ◌+◌, ℕ, List, Some, Ok, length, IfErr, OnOk};
+ghost use Rattle.std.specs.Prelude.{◌≡◌, ◌≤◌, ◌+◌, ℕ, List, [], Some, Ok, length, IfErr, OnOk};
 ghost use Rattle.command_runs.specs.Counts.{Causes, counts};
 ghost use Rattle.command_runs.specs.Endings.{Serves};
 ghost use Rattle.game_filter.specs.Search.{searched};
 ghost use Rattle.game_tree.specs.Game.{GameTree};
 ghost use Rattle.pos_search.specs.Matching.{firsts_of};
-ghost use Rattle.pos_search.specs.Searching.{cost_of};
+ghost use Rattle.pos_search.specs.Searching.{are_read, cost_of};
 ghost use Rattle.sig_index.specs.Costs.{price_by};
 ghost use Rattle.sig_index.specs.Games.{AreWithin, Holds};
 ghost use Rattle.search_commands.specs.Searching.{search_position_work, find_work};
@@ -99,10 +99,10 @@ fn search_games<G: Games, F: Files>(
     ensures entries { length filter.new ≡ length filter.old }
     ensures room { length block.new ≡ 131072 }
     ensures unchanged { F.seen files.new ≡ F.seen files.old }
-    ensures asks { F.asked files.new ≤ F.asked files.old + price_by (cost_of op query.now) (G.sigs games.now) (G.extents games.now) filter.old }
+    ensures asks { F.asked files.new ≤ F.asked files.old + price_by (cost_of op) (are_read query.now [] (G.sigs games.now)) (G.extents games.now) filter.old }
     ensures causes { Causes WhyHalt result (counts (F.faults files.old) 0 0) (counts (F.faults files.new) 0 0) }
 {
-    match search(games, query, op, filter, files, block) {
+    match search(games, query, op, None, filter, files, block) {
         Ok(()) => Ok(()),
         Err(error) => Err(Halt::from(error)),
     }

@@ -5,7 +5,6 @@ use Rattle.std.proofs.lemmas.Bool.{cases_order}
 use Rattle.std.proofs.lemmas.List.{get_or-set_other}
 use Rattle.std.proofs.lemmas.Option.{get_or_from_slice_get}
 use Rattle.base_files.specs.declared.extent.Extent.{Extent}
-use Rattle.sig_index.specs.declared.signature.Sig.{Sig}
 use Rattle.sig_index.specs.Costs.{KeepsOthers, price_by}
 use Rattle.sig_index.specs.Games.{extent_in}
 
@@ -17,21 +16,21 @@ plus_none n = omega arith
 regroup : (a b c : ℕ) → a + (b + c) ≡ a + b + c
 regroup a b c = omega arith
 
-price_next : (cost : Sig → Extent → Option ℕ → ℕ) (sigs : List Sig) (extents : List Extent) (plies : List (Option ℕ)) (i : ℕ) (sig : Sig)
+price_next : {T : Type 0} (cost : T → Extent → Option ℕ → ℕ) (sigs : List T) (extents : List Extent) (plies : List (Option ℕ)) (i : ℕ) (sig : T)
     → slice_get sigs i ≡ Some sig → i < length extents → i < length plies
     → price_by cost (take (suc i) sigs) extents plies ≡ price_by cost (take i sigs) extents plies + cost sig (extent_in extents i) (get_or plies i None)
 price_next cost [] extents plies i sig there inside entry = absurd (cc)
 price_next cost (s ∷ sigs) [] plies i sig there inside entry = absurd (omega (arith, inside))
 price_next cost (s ∷ sigs) (x ∷ extents) [] i sig there inside entry = absurd (omega (arith, entry))
-price_next cost (s ∷ sigs) (x ∷ extents) (o ∷ plies) zero sig there inside entry =
+price_next {T} cost (s ∷ sigs) (x ∷ extents) (o ∷ plies) zero sig there inside entry =
     let same : s ≡ sig = cc in
-    ap (λ (z : Sig). cost z x o + 0) same ∙ plus_none (cost sig x o)
+    ap (λ (z : T). cost z x o + 0) same ∙ plus_none (cost sig x o)
 price_next cost (s ∷ sigs) (x ∷ extents) (o ∷ plies) (suc i) sig there inside entry =
     ap (λ (n : ℕ). cost s x o + n) (price_next cost sigs extents plies i sig there (omega (arith, inside)) (omega (arith, entry)))
     ∙ regroup (cost s x o) (price_by cost (take i sigs) extents plies) (cost sig (extent_in extents i) (get_or plies i None))
 
 -- One game more.
-pub price_more : (cost : Sig → Extent → Option ℕ → ℕ) (sigs : List Sig) (extents : List Extent) (plies : List (Option ℕ)) (i : ℕ) (sig : Sig)
+pub price_more : {T : Type 0} (cost : T → Extent → Option ℕ → ℕ) (sigs : List T) (extents : List Extent) (plies : List (Option ℕ)) (i : ℕ) (sig : T)
     → slice_get sigs i ≡ Some sig → i < length extents → i < length plies
     → price_by cost (take (i + 1) sigs) extents plies ≡ price_by cost (take i sigs) extents plies + cost sig (extent_in extents i) (get_or plies i None)
 price_more cost sigs extents plies i sig there inside entry =
@@ -41,7 +40,7 @@ add_both : (a b c : ℕ) → b ≤ c → a + b ≤ a + c
 add_both a b c h = omega arith
 
 -- Those of the first games cost no more than all.
-pub price_front : (cost : Sig → Extent → Option ℕ → ℕ) (sigs : List Sig) (extents : List Extent) (plies : List (Option ℕ)) (k : ℕ)
+pub price_front : {T : Type 0} (cost : T → Extent → Option ℕ → ℕ) (sigs : List T) (extents : List Extent) (plies : List (Option ℕ)) (k : ℕ)
     → price_by cost (take k sigs) extents plies ≤ price_by cost sigs extents plies
 price_front cost [] extents plies zero = omega arith
 price_front cost [] extents plies (suc k) = omega arith

@@ -2,15 +2,14 @@
 use Rattle.std.specs.Prelude.{◌≡◌, ℕ, ◌+◌, ◌<◌, ◌≤◌, Bool, false, None, List, [], ◌∷◌, Option, length, slice_index_or}
 use Rattle.base_files.specs.declared.extent.Extent.{Extent}
 use Rattle.sig_index.specs.declared.games.FetchError.{FetchError}
-use Rattle.sig_index.specs.declared.signature.Sig.{Sig}
 use Rattle.sig_index.specs.Games.{Names}
 
--- The bytes that all games cost, by what each costs: by its signature, its extent and its entry in a filter.
-abbrev pub price_by : (Sig → Extent → Option ℕ → ℕ) → List Sig → List Extent → List (Option ℕ) → ℕ
+-- The bytes that all games cost, by what each costs: by what is known of it, as its signature, by its extent and its entry in a filter.
+abbrev pub price_by : {T : Type 0} → (T → Extent → Option ℕ → ℕ) → List T → List Extent → List (Option ℕ) → ℕ
 price_by cost [] extents plies = 0
-price_by cost (sig ∷ sigs) [] plies = 0
-price_by cost (sig ∷ sigs) (extent ∷ extents) [] = 0
-price_by cost (sig ∷ sigs) (extent ∷ extents) (old ∷ plies) = cost sig extent old + price_by cost sigs extents plies
+price_by cost (known ∷ games) [] plies = 0
+price_by cost (known ∷ games) (extent ∷ extents) [] = 0
+price_by cost (known ∷ games) (extent ∷ extents) (old ∷ plies) = cost known extent old + price_by cost games extents plies
 
 -- The search ended at a game that there is, which the error names if it names one: the games from this one on have their old entries.
 pub record LeavesRest (error : FetchError) (old new : List (Option ℕ)) : Type 0 where
