@@ -53,11 +53,11 @@ not_behind : (c : Colour) (a b : ℕ) → Ahead c a b → (0 < rank_of a) × (ra
 not_behind White a b ahead inside home = omega (arith, ahead, inside.0, home)
 not_behind Black a b ahead inside home = omega (arith, ahead, inside.1, home)
 
-far_ahead : (c : Colour) (men : Men) (a b : ℕ) → rank_of a ≡ pawn_rank c → Walk men (forward c) 1 a b → rank_of b ≡ pawn_rank c → ⊥
+pub far_ahead : (c : Colour) (men : Men) (a b : ℕ) → rank_of a ≡ pawn_rank c → Walk men (forward c) 1 a b → rank_of b ≡ pawn_rank c → ⊥
 far_ahead White men a b own walk home = omega (arith, own, home, forward-ahead White a walk.0 walk.1, forward-ahead White walk.0 b walk.3)
 far_ahead Black men a b own walk home = omega (arith, own, home, forward-ahead Black a walk.0 walk.1, forward-ahead Black walk.0 b walk.3)
 
-plain-ahead : (p : Setup) (m : Move) → GoesPlainly p Pawn m → Ahead p.side m.from m.to
+pub plain-ahead : (p : Setup) (m : Move) → GoesPlainly p Pawn m → Ahead p.side m.from m.to
 plain-ahead p m (inl steps) = forward-ahead p.side m.from m.to steps.0
 plain-ahead p m (inr takes) = captures-ahead p.side m.from m.to takes.0
 

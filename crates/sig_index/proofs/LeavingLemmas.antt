@@ -1,27 +1,29 @@
 -- The pawns that leave their own squares along a main line, move by move.
-use Rattle.std.proofs.Common.{◌≡◌, ℕ, ◌+◌, ◌<◌, zero, suc, Bool, true, false, cond, not, List, [], ◌∷◌, ◌++◌, Some, length, map, get_or, take, drop, refl, sym, ap, ◌∙◌, subst, arith, add-one, append_assoc, eq-eqb}
-use Rattle.std.specs.Prelude.{fold, IsTrue, All, ◌↔◌}
-use Rattle.std.specs.List.{filter, range_with_len}
+use Rattle.std.proofs.Common.{◌≡◌, ℕ, ◌+◌, ◌<◌, ◌≤◌, zero, suc, Bool, true, false, cond, not, List, [], ◌∷◌, ◌++◌, Some, length, map, get_or, take, drop, refl, sym, ap, ◌∙◌, subst, arith, add-one, append_assoc, eq-eqb}
+use Rattle.std.specs.Prelude.{fold, IsTrue, nat_eq, All, ◌↔◌}
+use Rattle.std.specs.List.{filter, list_all, range_with_len}
 use Rattle.std.specs.Int.{bit_at, IsBitSet}
-use Rattle.std.proofs.lemmas.List.{drop_more, take_all, length-append}
+use Rattle.std.proofs.lemmas.List.{append-nil, drop_all, drop_more, length-append}
 use Rattle.std.proofs.lemmas.List.Elements.{All-nil, All-cons, All-head, All-tail}
 use Rattle.std.proofs.lemmas.List.Filters.{length-filter_both}
 use Rattle.std.proofs.lemmas.Nat.{bit_set_by_shift}
 use Rattle.std.proofs.lemmas.Nat.Bits.{shr_and_one}
-use Rattle.std.proofs.lemmas.Bool.{eqb-true}
+use Rattle.std.proofs.lemmas.Bool.{and_parts, eqb-true}
 use Rattle.std.proofs.lemmas.List.FromFn.{get_or-range_with_len}
 use Rattle.cell_core.specs.declared.step.Move.{Move}
 use Rattle.chess_laws.specs.Counts.{is_home}
+use Rattle.chess_laws.specs.Position.{Sound, start_setup}
 use Rattle.chess_laws.specs.declared.setup.Setup.{Setup}
-use Rattle.chess_laws.specs.Step.{Step, stepped}
+use Rattle.chess_laws.specs.Step.{stepped}
 use Rattle.game_tree.specs.Game.{GameTree}
 use Rattle.game_tree.specs.Tree.{Line, Played, line_of, moves_of}
-use Rattle.game_tree.specs.Replay.{main_moves, position_at, plies_of}
+use Rattle.game_tree.specs.Replay.{main_moves, position_at}
 use Rattle.game_tree.specs.Legal.{IsLegalGame, IsLegalLine}
-use Rattle.chess_laws.proofs.Stepping.{Step-stepped}
-use Rattle.sig_index.specs.Leaving.{in_set, staying, gone}
-use Rattle.sig_index.specs.Looking.{KnowsHome}
+use Rattle.chess_laws.proofs.Start.{start-sound}
+use Rattle.sig_index.specs.Leaving.{AreHome, gone, staying}
 use Rattle.sig_index.specs.Signature.{all_homes, leaving, left_of}
+use Rattle.sig_index.proofs.Paying.{stepped-Sound}
+use Rattle.sig_index.proofs.StayLemmas.{filter-home, gone-is, staying-is}
 
 -- ---- the positions after each move
 
@@ -45,6 +47,10 @@ along_is p (m ∷ moves) =
     ap (λ (xs : List Setup). stepped p m ∷ xs) (shifted ∙ rest ∙ along_is (stepped p m) moves)
 
 -- ---- values in a set
+
+-- a value's bit is set
+abbrev pub in_set : ℕ → ℕ → Bool
+in_set set value = nat_eq (bit_at set value) 1
 
 pub same_tests : (a b : Bool) → (a ≡ true → b ≡ true) → (b ≡ true → a ≡ true) → a ≡ b
 same_tests true b f g = sym (f refl)
@@ -83,69 +89,81 @@ All-filter f (x ∷ xs) all = All-cond (f x) x (filter f xs) (All-head (λ v. v 
 -- what is left of a main line from a position on: the values that are still at home leave in it as they do in the game
 pub record Replays (game : GameTree) (line : Line) (position : Setup) (still left : List ℕ) : Type 0 where
   pub legal : IsLegalLine position line
+  pub sound : Sound position
   pub values : All (λ v. v < 16) still
+  pub home : AreHome position still
   pub room : length still + length left ≡ 16
   pub leaves : left ++ leaving still (along position (moves_of line)) ≡ left_of game
-  pub last : fold stepped position (moves_of line) ≡ position_at game (plies_of game)
+
+-- from some position on
+pub record ReplaysOn (game : GameTree) (line : Line) (still left : List ℕ) : Type 0 where
+  pub position : Setup
+  pub replays : Replays game line position still left
 
 pub all_small : All (λ v. v < 16) all_homes
 all_small = λ k d lt. subst (λ n. n < 16) (sym (get_or-range_with_len 0 16 k d lt)) (omega arith)
 
-pub Replays-start : (game : GameTree) (line : List Played) → IsLegalGame game → game.line ≡ line_of line → Replays game (line_of line) game.start all_homes []
-Replays-start game line legal same = record {
-  legal = subst (IsLegalLine game.start) same legal.line;
-  values = all_small;
-  room = refl;
-  leaves = ap (λ (l : Line). leaving all_homes (along game.start (moves_of l))) (sym same) ∙ ap (leaving all_homes) (sym (along_is game.start (main_moves game)));
-  last = ap (λ (l : Line). fold stepped game.start (moves_of l)) (sym same) ∙ ap (λ (moves : List Move). fold stepped game.start moves) (sym (take_all (plies_of game) (main_moves game) (omega arith)));
+all_true : (f : ℕ → Bool) (xs : List ℕ) → list_all f xs ≡ true → All (λ v. f v ≡ true) xs
+all_true f [] h = All-nil (λ v. f v ≡ true)
+all_true f (x ∷ xs) h =
+    let parts = and_parts (f x) (list_all f xs) h in
+    All-cons (λ v. f v ≡ true) x xs parts.0 (all_true f xs parts.1)
+
+-- the pawns of the initial position are at home
+pub start-home : AreHome start_setup all_homes
+start-home = all_true (is_home start_setup.board) all_homes refl
+
+pub Replays-begin : (game : GameTree) (line : List Played) (still left : List ℕ) → IsLegalGame game → game.start ≡ start_setup → game.line ≡ line_of line
+    → still ≡ all_homes → left ≡ [] → ReplaysOn game (line_of line) still left
+Replays-begin game line still left legal start same homes none = record {
+  position = game.start;
+  replays = rw (homes, none) (record {
+    legal = subst (IsLegalLine game.start) same legal.line;
+    sound = subst Sound (sym start) start-sound;
+    values = all_small;
+    home = subst (λ (p : Setup). AreHome p all_homes) (sym start) start-home;
+    room = refl;
+    leaves = ap (λ (l : Line). leaving all_homes (along game.start (moves_of l))) (sym same) ∙ ap (leaving all_homes) (sym (along_is game.start (main_moves game)));
+  });
 }
 
 -- one move more
-pub Replays-more : (game : GameTree) (line : List Played) (i : ℕ) (n : Played) (p q : Setup) (still left still_now left_now : List ℕ)
-    → i < length line → n ≡ get_or line i n → Replays game (line_of (drop i line)) p still left → Step p n.mv q
-    → still_now ≡ filter (λ v. is_home q.board v) still → left_now ≡ left ++ filter (λ v. not (is_home q.board v)) still
-    → Replays game (line_of (drop (i + 1) line)) q still_now left_now
-Replays-more game line i n p q still left still_now left_now under item r step stay go =
-    let rest : drop i line ≡ n ∷ drop (i + 1) line = drop_more line i n under ∙ ap (λ (m : Played). m ∷ drop (i + 1) line) (sym item) in
-    let all = subst (λ (ns : List Played). Replays game (line_of ns) p still left) rest r in
-    let e = Step-stepped p n.mv q step in
-    let moves = moves_of (line_of (drop (i + 1) line)) in
+replays-by : (game : GameTree) (n : Played) (rest : List Played) (p : Setup) (still left still_now left_now : List ℕ) → Replays game (line_of (n ∷ rest)) p still left
+    → still_now ≡ staying n.mv still → left_now ≡ left ++ gone n.mv still → Replays game (line_of rest) (stepped p n.mv) still_now left_now
+replays-by game n rest p still left still_now left_now all stayed went =
+    let q = stepped p n.mv in
+    let step = all.legal.0 in
+    let stay = stayed ∙ staying-is p n.mv q still all.sound step all.values all.home in
+    let go = went ∙ ap (λ (vs : List ℕ). left ++ vs) (gone-is p n.mv q still all.sound step all.values all.home) in
+    let moves = moves_of (line_of rest) in
     let halves = length-filter_both (λ v. is_home q.board v) (λ v. not (is_home q.board v)) (λ _. refl) still in
     let room = all.room in
     record {
-      legal = subst (λ (s : Setup). IsLegalLine s (line_of (drop (i + 1) line))) (sym e) all.legal.1.1.1;
+      legal = all.legal.1.1.1;
+      sound = stepped-Sound p n.mv all.sound step;
       values = subst (All (λ v. v < 16)) (sym stay) (All-filter (λ v. is_home q.board v) still all.values);
+      home = subst (AreHome q) (sym stay) (filter-home (λ v. is_home q.board v) still);
       room = rw (stay, go, length-append left (filter (λ v. not (is_home q.board v)) still)) (omega arith);
       leaves =
           (λ i. go i ++ leaving (stay i) (along q moves))
           ∙ append_assoc left (filter (λ v. not (is_home q.board v)) still) (leaving (filter (λ v. is_home q.board v) still) (along q moves))
-          ∙ ap (λ (s : Setup). left ++ (filter (λ v. not (is_home s.board v)) still ++ leaving (filter (λ v. is_home s.board v) still) (along s moves))) e
           ∙ all.leaves;
-      last = ap (λ (s : Setup). fold stepped s (moves_of (line_of (drop (i + 1) line)))) e ∙ all.last;
     }
 
--- what is known after a look
-pub looked-stay : (p : Setup) (set : ℕ) (still : List ℕ) → All (λ v. v < 16) still → IsHomeSet p set → staying set still ≡ filter (λ v. is_home p.board v) still
-unfolding staying
-looked-stay p set still values home = filter_same (in_set set) (λ v. is_home p.board v) still values (λ v lt. home_is p set v home lt)
+pub Replays-more : (game : GameTree) (line : List Played) (i : ℕ) (n : Played) (still left still_now left_now : List ℕ) → i < length line → n ≡ get_or line i n
+    → ReplaysOn game (line_of (drop i line)) still left → still_now ≡ staying n.mv still → left_now ≡ left ++ gone n.mv still
+    → ReplaysOn game (line_of (drop (i + 1) line)) still_now left_now
+Replays-more game line i n still left still_now left_now under item r stayed went =
+    let rest : drop i line ≡ n ∷ drop (i + 1) line = drop_more line i n under ∙ ap (λ (m : Played). m ∷ drop (i + 1) line) (sym item) in
+    let all = subst (λ (ns : List Played). Replays game (line_of ns) r.position still left) rest r.replays in
+    record {
+      position = stepped r.position n.mv;
+      replays = replays-by game n (drop (i + 1) line) r.position still left still_now left_now all stayed went;
+    }
 
-pub looked-go : (p : Setup) (set : ℕ) (still : List ℕ) → All (λ v. v < 16) still → IsHomeSet p set → gone set still ≡ filter (λ v. not (is_home p.board v)) still
-unfolding gone
-looked-go p set still values home = filter_same (λ v. not (in_set set v)) (λ v. not (is_home p.board v)) still values (λ v lt. ap not (home_is p set v home lt))
-
-All-kept : (f : ℕ → Bool) (t : Bool) (x : ℕ) (xs : List ℕ) → f x ≡ t → All (λ v. f v ≡ true) xs → All (λ v. f v ≡ true) (cond t (x ∷ xs) xs)
-All-kept f true x xs here all = All-cons (λ v. f v ≡ true) x xs here all
-All-kept f false x xs here all = all
-
-All-passed : (f : ℕ → Bool) (xs : List ℕ) → All (λ v. f v ≡ true) (filter f xs)
-All-passed f [] = All-nil (λ v. f v ≡ true)
-All-passed f (x ∷ xs) = All-kept f (f x) x (filter f xs) refl (All-passed f xs)
-
-pub looked-knows : (p : Setup) (set : ℕ) (still now : List ℕ) → IsHomeSet p set → now ≡ staying set still → KnowsHome (Some set) p now
-unfolding staying
-looked-knows p set still now home is =
-    (λ v small there. sym (home_is p set v home small) ∙ there, subst (All (λ v. in_set set v ≡ true)) (sym is) (All-passed (in_set set) still))
-
-pub Replays-begin : (game : GameTree) (line : List Played) (p : Setup) (still left : List ℕ) → IsLegalGame game → game.line ≡ line_of line → p ≡ game.start
-    → still ≡ all_homes → left ≡ [] → Replays game (line_of line) p still left
-Replays-begin game line p still left legal same at homes none = rw (at, homes, none) (Replays-start game line legal same)
+-- at the end of the line
+pub Replays-all : (game : GameTree) (line : List Played) (i : ℕ) (still left : List ℕ) → length line ≤ i → ReplaysOn game (line_of (drop i line)) still left
+    → left ≡ left_of game
+Replays-all game line i still left over r =
+    let all = subst (λ (ns : List Played). Replays game (line_of ns) r.position still left) (drop_all i line over) r.replays in
+    sym (append-nil left) ∙ all.leaves

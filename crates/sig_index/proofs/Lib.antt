@@ -15,7 +15,8 @@ pub mod ComingLemmas
 pub mod HavingLemmas
 pub mod RecordLemmas
 pub mod CostLemmas
-pub mod LookingLemmas
+pub mod StayLemmas
+pub mod EndLemmas
 pub mod ReadLemmas
 pub mod SignedLemmas
 pub mod SigOf

@@ -1,15 +1,22 @@
--- Home values in the bits of a set, as the functions of this crate go through them.
-use Rattle.std.specs.Prelude.{ℕ, not, nat_eq, Bool, List}
+-- Which pawns at home a move takes off their own squares, as the functions of this crate go through them.
+use Rattle.std.specs.Prelude.{◌≡◌, ℕ, not, true, All, Bool, List}
 use Rattle.std.specs.List.{filter}
-use Rattle.std.specs.Int.{bit_at}
+use Rattle.cell_core.specs.declared.step.Move.{Move}
+use Rattle.chess_laws.specs.Castling.{touches}
+use Rattle.chess_laws.specs.Counts.{home_square, is_home}
+use Rattle.chess_laws.specs.declared.setup.Setup.{Setup}
 
--- A value's bit is set.
-abbrev pub in_set : ℕ → ℕ → Bool
-in_set set value = nat_eq (bit_at set value) 1
+-- The move neither begins nor ends at the own square of this value.
+abbrev pub stays : Move → ℕ → Bool
+stays m value = not (touches m (home_square value))
 
--- The values among some that are in the set, and the others.
-unfoldable pub staying : ℕ → List ℕ → List ℕ
-staying set homes = filter (in_set set) homes
+-- The values among some whose pawns stay by a move, and the others.
+unfoldable pub staying : Move → List ℕ → List ℕ
+staying m homes = filter (stays m) homes
 
-unfoldable pub gone : ℕ → List ℕ → List ℕ
-gone set homes = filter (λ value. not (in_set set value)) homes
+unfoldable pub gone : Move → List ℕ → List ℕ
+gone m homes = filter (λ value. not (stays m value)) homes
+
+-- The pawns of all these values are at home.
+abbrev pub AreHome : Setup → List ℕ → Type 0
+AreHome p homes = All (λ value. is_home p.board value ≡ true) homes

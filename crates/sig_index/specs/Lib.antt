@@ -1,7 +1,6 @@
 pub mod Queries
 pub mod Signature
 pub mod Leaving
-pub mod Looking
 pub mod Games
 pub mod MemGames
 pub mod Left

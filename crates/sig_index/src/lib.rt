@@ -25,6 +25,6 @@ pub use mat_query::{MatQuery, MatRange};
 pub use mem_games::MemGames;
 pub use pos_query::{Mode, PosQuery};
 pub use record_sig::signed;
-pub use signature::{HomeList, Sig, sig_of};
+pub use signature::{HomeList, Sig, sig_ending, sig_of};
 pub use skipping::{can_stand, material_skipping_is_sound};
 pub use span::Span;

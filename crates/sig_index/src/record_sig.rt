@@ -1,11 +1,12 @@
 //! The signature of the game of a record, from its bytes.
-ghost use Rattle.std.specs.Prelude.{◌≡◌, ◌<◌, ◌≤◌, ◌^◌, if◌then◌else◌, List, [], length, IfOk, IfErr, OnOk, MatchResult};
+ghost use Rattle.std.specs.Prelude.{◌≡◌, ◌<◌, ◌≤◌, ◌^◌, false, if◌then◌else◌, List, [], length, IfOk, IfErr, OnOk, MatchResult};
+ghost use Rattle.chess_laws.specs.Position.{start_setup};
 ghost use Rattle.game_codec.specs.Fault.{IsRecordFault};
 ghost use Rattle.game_codec.specs.Record.{IsRecord};
 ghost use Rattle.game_tree.specs.Game.{GameTree};
 ghost use Rattle.game_tree.specs.Replay.{plies_of};
 ghost use Rattle.game_tree.specs.declared.head.Tag.{Tag as TagValue};
-ghost use Rattle.sig_index.specs.Signature.{IsSig, IsSigBounded, home_list, left_of};
+ghost use Rattle.sig_index.specs.Signature.{IsSig, IsSigBounded, all_homes, home_list, left_of};
 
 use crate::signature::{HOMES, HomeList, Sig, home_list, is_initial, leave_by, material_of};
 use arrayvec::ArrayVec;
@@ -26,13 +27,13 @@ pub fn signed(bytes: &[u8]) -> Result<Sig, RecordFault>
 {
     let mut reading = Reading::new(bytes)?;
     let own_start = !is_initial(reading.position().setup(), Position::start().setup());
-    let left = left_along(&mut reading)?;
+    let home = left_along(&mut reading, own_start)?;
     let material = material_of(reading.position());
     let plies = reading.ply().min(1023) as u16;
     let totals = reading.finish()?;
     Ok(Sig {
         material,
-        home: home_of(own_start, left),
+        home,
         plies,
         promo: totals.promo,
         under: totals.under,
@@ -43,30 +44,34 @@ pub fn signed(bytes: &[u8]) -> Result<Sig, RecordFault>
     })
 }
 
-// The home values of a game by those that left along its main line: none where it has an own start.
-fn home_of(own_start: bool, left: HomeList) -> HomeList
-    ensures home { result ≡ (if own_start then home_list [] else left) }
-{
-    if own_start { home_list(&[]) } else { left }
-}
-
-// Goes to the end of the main line, and gives the pawns that leave their own squares along it.
-fn left_along(reading: &mut Reading<'_>) -> Result<HomeList, RecordFault>
+// Goes to the end of the main line, and gives the pawns that leave their own squares along it; none where the game has an own start.
+fn left_along(reading: &mut Reading<'_>, own_start: bool) -> Result<HomeList, RecordFault>
     requires begun { reading.old.ply ≡ 0 }
-    ensures left { IfOk result (λ left. (tags : List TagValue) (game : GameTree) → IsRecord reading.old.bytes tags game → left ≡ home_list (left_of game)) }
+    requires initial { own_start ≡ false → reading.old.position ≡ start_setup }
+    ensures left { IfOk result (λ left. (tags : List TagValue) (game : GameTree) → IsRecord reading.old.bytes tags game → left ≡ home_list (if own_start then [] else left_of game)) }
     ensures all { OnOk result ((tags : List TagValue) (game : GameTree) → IsRecord reading.old.bytes tags game → plies_of game ≤ reading.new.ply) }
     ensures bytes { reading.new.bytes ≡ reading.old.bytes }
     ensures fault { IfErr result (IsRecordFault reading.old.bytes) }
 {
-    let mut still = ArrayVec::from(HOMES);
+    let mut still = homes_at_start(own_start);
     let mut left = ArrayVec::new();
-    let mut home = None;
     'moves: loop {
         // The rules of a position bound where pawns stand.
         let _setup = reading.position().setup();
         let Some(m) = reading.step()? else {
             return Ok(home_list(left.as_slice()));
         };
-        leave_by(&m, reading.position(), &mut home, &mut still, &mut left);
+        leave_by(&m, &mut still, &mut left);
+    }
+}
+
+// The home values of the pawns that are looked for along a game.
+fn homes_at_start(own_start: bool) -> ArrayVec<u8, 16>
+    ensures homes { result.items ≡ (if own_start then [] else all_homes) }
+{
+    if own_start {
+        ArrayVec::new()
+    } else {
+        ArrayVec::from(HOMES)
     }
 }

@@ -1,13 +1,11 @@
 //! The signature of a game, by which searches pass it over unread.
-ghost use Rattle.std.specs.Prelude.{◌≡◌, ◌≤◌, ◌<◌, ◌+◌, ◌++◌, ◌↔◌, ℕ, true, not, IsTrue, All, length, min};
-ghost use Rattle.std.specs.List.{filter};
-ghost use Rattle.chess_laws.specs.Counts.{counts_of, home_square, is_home};
+ghost use Rattle.std.specs.Prelude.{◌≡◌, ◌==◌, ◌≤◌, ◌<◌, ◌+◌, ◌++◌, ◌↔◌, ℕ, true, false, IsTrue, All, length, min};
+ghost use Rattle.chess_laws.specs.Counts.{counts_of, home_square};
 ghost use Rattle.chess_laws.specs.Position.{start_setup};
 ghost use Rattle.index_entry.specs.Entry.{AreCounts};
 ghost use Rattle.game_tree.specs.Legal.{IsLegalGame};
 ghost use Rattle.game_tree.specs.Replay.{plies_of, position_at};
-ghost use Rattle.sig_index.specs.Leaving.{in_set, staying, gone};
-ghost use Rattle.sig_index.specs.Looking.{IsUntouched, KnowsHome};
+ghost use Rattle.sig_index.specs.Leaving.{gone, stays, staying};
 ghost use Rattle.sig_index.specs.Signature.{IsSig, IsSigBounded, material_of, left_of, home_list};
 
 use arrayvec::ArrayVec;
@@ -51,18 +49,40 @@ pub struct Sig {
     pub nags: u8,
 }
 
-/// The signature of a legal game. It goes once over the main line and over all lines, and takes no memory.
+/// The signature of a legal game. It plays the main line once, goes once over all lines, and takes no memory.
 pub fn sig_of(g: &Game) -> Sig
     requires { IsLegalGame g.now }
     ensures signature { IsSig g.now result }
     ensures bounded { IsSigBounded result }
 {
+    sig_ending(g, &end_of(g))
+}
+
+// The last position of the main line.
+fn end_of(g: &Game) -> Position
+    requires { IsLegalGame g.now }
+    ensures last { result ≡ position_at g.now (plies_of g.now) }
+{
+    let line = g.line.as_slice();
+    let mut position = g.start;
+    for node in line {
+        position.play(node.mv);
+    }
+    position
+}
+
+/// The signature of a legal game whose main line ends in this position. No move is played, and no memory is taken.
+pub fn sig_ending(g: &Game, last: &Position) -> Sig
+    requires legal { IsLegalGame g.now }
+    requires last { last.now ≡ position_at g.now (plies_of g.now) }
+    ensures signature { IsSig g.now result }
+    ensures bounded { IsSigBounded result }
+{
     let own_start = !is_initial(g.start.setup(), Position::start().setup());
-    let (last, left) = replayed(g);
     let counts = g.counts();
     Sig {
-        material: material_of(&last),
-        home: if own_start { home_list(&[]) } else { left },
+        material: material_of(last),
+        home: if own_start { home_list(&[]) } else { left_along(g) },
         plies: g.line.as_slice().len().min(1023) as u16,
         promo: g.has_promotion(),
         under: g.has_underpromotion(),
@@ -73,99 +93,76 @@ pub fn sig_of(g: &Game) -> Sig
     }
 }
 
-// The last position of the main line, and the pawns that left their own squares along it.
-fn replayed(g: &Game) -> (Position, HomeList)
-    requires { IsLegalGame g.now }
-    ensures last { result.0 ≡ position_at g.now (plies_of g.now) }
-    ensures left { result.1 ≡ home_list (left_of g.now) }
+// The pawns that leave their own squares along the main line of a game that begins at the initial position.
+fn left_along(g: &Game) -> HomeList
+    requires legal { IsLegalGame g.now }
+    requires initial { g.now.start ≡ start_setup }
+    ensures left { result ≡ home_list (left_of g.now) }
 {
     let line = g.line.as_slice();
-    let mut position = g.start;
     let mut still = ArrayVec::from(HOMES);
     let mut left = ArrayVec::new();
-    let mut home = None;
     for node in line {
-        // The rules of a position bound where pawns stand.
-        let _setup = position.setup();
-        position.play(node.mv);
-        leave_by(&node.mv, &position, &mut home, &mut still, &mut left);
+        leave_by(&node.mv, &mut still, &mut left);
     }
-    (position, home_list(left.as_slice()))
+    home_list(left.as_slice())
 }
 
-/// Takes the values of the pawns that are not at home after a move out of `still`, and adds them to `left`. `home` has the values that
-/// were at home at the last look: the sixteen squares are looked at only where the move touches one of these.
-pub(crate) fn leave_by(
-    m: &Move,
-    after: &Position,
-    home: &mut Option<u16>,
-    still: &mut ArrayVec<u8, 16>,
-    left: &mut ArrayVec<u8, 16>,
-)
+/// Takes the values at whose own squares a move begins or ends out of `still`, and adds them to `left`. Of pawns that are at home just
+/// these leave, by moving or by being captured.
+pub(crate) fn leave_by(m: &Move, still: &mut ArrayVec<u8, 16>, left: &mut ArrayVec<u8, 16>)
     requires values { All (λ value. value < 16) still.old.items }
     requires room { length still.old.items + length left.old.items ≤ 16 }
-    requires known { IsUntouched home.old m.now → KnowsHome home.old after.now still.old.items }
-    ensures still { still.new.items ≡ filter (λ value. is_home after.now.board value) still.old.items }
-    ensures left { left.new.items ≡ left.old.items ++ filter (λ value. not (is_home after.now.board value)) still.old.items }
-    ensures known { KnowsHome home.new after.now still.new.items }
+    ensures still { still.new.items ≡ staying m.now still.old.items }
+    ensures left { left.new.items ≡ left.old.items ++ gone m.now still.old.items }
 {
-    if is_untouched(*home, m) {
+    if touches_none(m) {
         return;
     }
-    let set = after.home_set();
-    leave(set, still, left);
-    *home = Some(set);
+    leave(m, still, left)
 }
 
-// Whether a move touches no square of a pawn that was at home at the last look.
-fn is_untouched(home: Option<u16>, m: &Move) -> bool
-    ensures untouched { result ≡ true → IsUntouched home m.now }
+// Whether a move begins and ends on other ranks than the own ones of pawns.
+fn touches_none(m: &Move) -> bool
+    ensures none { result ≡ true → (value : ℕ) → value < 16 → stays m.now value ≡ true }
 {
-    match home {
-        Some(set) => !has_home(set, m.from) && !has_home(set, m.to),
-        None => false,
-    }
+    !is_on_own_rank(m.from) && !is_on_own_rank(m.to)
 }
 
-// Whether this square is the own one of a pawn of the set.
-fn has_home(set: u16, square: Square) -> bool
-    ensures own { (v : ℕ) → v < 16 → home_square v ≡ square → result ≡ in_set set v }
+// Whether a square is the own one of some pawn.
+fn is_on_own_rank(square: Square) -> bool
+    ensures none { result ≡ false → (value : ℕ) → value < 16 → (square == home_square value) ≡ false }
 {
     let n = square.index();
-    if 8 <= n && n < 16 {
-        return is_in(set, 23 - n);
-    }
-    if 48 <= n && n < 56 {
-        return is_in(set, 55 - n);
-    }
-    false
+    (8 <= n && n < 16) || (48 <= n && n < 56)
 }
 
-// Whether a value's bit is set.
-fn is_in(set: u16, value: u8) -> bool
-    requires { value < 16 }
-    ensures { result ≡ in_set set value }
-{
-    set >> value & 1 == 1
-}
-
-// Takes the values that are not in the set out of `still`, and adds them to `left`.
+// The same for any move, one value at a time.
 #[tactic(auto, using(std::proofs::lemmas::List::Elements::filter_more), unfolding(crate::specs::Leaving::staying, crate::specs::Leaving::gone))]
-fn leave(set: u16, still: &mut ArrayVec<u8, 16>, left: &mut ArrayVec<u8, 16>)
+fn leave(m: &Move, still: &mut ArrayVec<u8, 16>, left: &mut ArrayVec<u8, 16>)
     requires values { All (λ value. value < 16) still.old.items }
     requires room { length still.old.items + length left.old.items ≤ 16 }
-    ensures still { still.new.items ≡ staying set still.old.items }
-    ensures left { left.new.items ≡ left.old.items ++ gone set still.old.items }
+    ensures still { still.new.items ≡ staying m.now still.old.items }
+    ensures left { left.new.items ≡ left.old.items ++ gone m.now still.old.items }
 {
     let mut stay = ArrayVec::new();
     for value in still.as_slice() {
-        if is_in(set, *value) {
+        if stays(m, *value) {
             stay.push(*value);
         } else {
             left.push(*value);
         }
     }
     *still = stay;
+}
+
+// Whether a move neither begins nor ends at the own square of a value.
+fn stays(m: &Move, value: u8) -> bool
+    requires { value < 16 }
+    ensures { result ≡ stays m.now value }
+{
+    let own = if value < 8 { 55 - value } else { 23 - value };
+    m.from.index() != own && m.to.index() != own
 }
 
 /// These values with zeros behind them.

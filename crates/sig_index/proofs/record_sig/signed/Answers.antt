@@ -23,13 +23,13 @@ returns-clause-signed c =
         game,
         (
           r,
-          sig-is game _ c.position-2.result.now c.in_ok-left.left c.left_along.new.reading.ply c.in_ok-totals.totals
+          sig-is game _ c.position-2.result.now c.left_along.new.reading.ply c.in_ok-totals.totals
               (own_is c.is_initial-own_start.result c.setup.result.now c.setup-2.result.now game.start _ c.is_initial-own_start.ensures
               (c.setup.ensures.setup ∙ c.position.ensures.replay tags game here ∙ ap (position_at game) c.in_ok-reading.ensures.start)
               (c.setup-2.ensures.setup ∙ c.start.ensures.start))
               c.material_of-material.ensures.material (c.position-2.ensures.replay tags game there)
-              (subst (λ (n : ℕ). n ≤ plies_of game) c.ply.ensures.ply (c.ply.ensures.within tags game there)) (c.in_ok-left.ensures.all tags game here)
-              c.home_of.ensures.home (c.in_ok-left.ensures.left tags game here) (c.min-plies.ensures ∙ ap (λ (n : ℕ). min n 1023) c.ply.ensures.ply) refl refl
+              (subst (λ (n : ℕ). n ≤ plies_of game) c.ply.ensures.ply (c.ply.ensures.within tags game there)) (c.in_ok-home.ensures.all tags game here)
+              (c.in_ok-home.ensures.left tags game here) (c.min-plies.ensures ∙ ap (λ (n : ℕ). min n 1023) c.ply.ensures.ply) refl refl
               c.count_code.ensures.code c.count_code-2.ensures.code c.count_code-3.ensures.code done.1.1.1,
         ),
       ),
@@ -44,13 +44,13 @@ returns-clause-bounded c =
     let r = subst (λ (b : List ℕ). IsRecord b tags game) bytes done.1.1.0 in
     let here = subst (λ (b : List ℕ). IsRecord b tags game) (sym c.in_ok-reading.ensures.bytes) r in
     let there = subst (λ (b : List ℕ). IsRecord b tags game) (sym c.left_along.ensures.bytes) here in
-    sig-bounded game _ (sig-is game _ c.position-2.result.now c.in_ok-left.left c.left_along.new.reading.ply c.in_ok-totals.totals
+    sig-bounded game _ (sig-is game _ c.position-2.result.now c.left_along.new.reading.ply c.in_ok-totals.totals
     (own_is c.is_initial-own_start.result c.setup.result.now c.setup-2.result.now game.start _ c.is_initial-own_start.ensures
     (c.setup.ensures.setup ∙ c.position.ensures.replay tags game here ∙ ap (position_at game) c.in_ok-reading.ensures.start)
     (c.setup-2.ensures.setup ∙ c.start.ensures.start))
     c.material_of-material.ensures.material (c.position-2.ensures.replay tags game there)
-    (subst (λ (n : ℕ). n ≤ plies_of game) c.ply.ensures.ply (c.ply.ensures.within tags game there)) (c.in_ok-left.ensures.all tags game here)
-    c.home_of.ensures.home (c.in_ok-left.ensures.left tags game here) (c.min-plies.ensures ∙ ap (λ (n : ℕ). min n 1023) c.ply.ensures.ply) refl refl
+    (subst (λ (n : ℕ). n ≤ plies_of game) c.ply.ensures.ply (c.ply.ensures.within tags game there)) (c.in_ok-home.ensures.all tags game here)
+    (c.in_ok-home.ensures.left tags game here) (c.min-plies.ensures ∙ ap (λ (n : ℕ). min n 1023) c.ply.ensures.ply) refl refl
     c.count_code.ensures.code c.count_code-2.ensures.code c.count_code-3.ensures.code done.1.1.1)
     c.material_of-material.ensures.bounded c.count_code.ensures.small c.count_code-2.ensures.small c.count_code-3.ensures.small
 
@@ -64,13 +64,13 @@ returns-clause-only c = λ others other r'.
     let here = subst (λ (b : List ℕ). IsRecord b tags game) (sym c.in_ok-reading.ensures.bytes) r in
     let there = subst (λ (b : List ℕ). IsRecord b tags game) (sym c.left_along.ensures.bytes) here in
     let same = record-one c.args.bytes.now tags others game other r r' in
-    rw (sym same.1) (sig-is game _ c.position-2.result.now c.in_ok-left.left c.left_along.new.reading.ply c.in_ok-totals.totals
+    rw (sym same.1) (sig-is game _ c.position-2.result.now c.left_along.new.reading.ply c.in_ok-totals.totals
     (own_is c.is_initial-own_start.result c.setup.result.now c.setup-2.result.now game.start _ c.is_initial-own_start.ensures
     (c.setup.ensures.setup ∙ c.position.ensures.replay tags game here ∙ ap (position_at game) c.in_ok-reading.ensures.start)
     (c.setup-2.ensures.setup ∙ c.start.ensures.start))
     c.material_of-material.ensures.material (c.position-2.ensures.replay tags game there)
-    (subst (λ (n : ℕ). n ≤ plies_of game) c.ply.ensures.ply (c.ply.ensures.within tags game there)) (c.in_ok-left.ensures.all tags game here)
-    c.home_of.ensures.home (c.in_ok-left.ensures.left tags game here) (c.min-plies.ensures ∙ ap (λ (n : ℕ). min n 1023) c.ply.ensures.ply) refl refl
+    (subst (λ (n : ℕ). n ≤ plies_of game) c.ply.ensures.ply (c.ply.ensures.within tags game there)) (c.in_ok-home.ensures.all tags game here)
+    (c.in_ok-home.ensures.left tags game here) (c.min-plies.ensures ∙ ap (λ (n : ℕ). min n 1023) c.ply.ensures.ply) refl refl
     c.count_code.ensures.code c.count_code-2.ensures.code c.count_code-3.ensures.code done.1.1.1)
 
 -- A record has no fault.
@@ -78,10 +78,10 @@ pub returns-in_err-reading-clause-only : goal.returns-in_err-reading-clause-only
 returns-in_err-reading-clause-only c = λ tags game r.
     absurd (record-unbroken c.args.bytes.now tags game c.in_err-reading.field-0.0 r c.in_err-reading.ensures.fault)
 
-pub returns-in_err-left-clause-only : goal.returns-in_err-left-clause-only
-returns-in_err-left-clause-only c = λ tags game r.
-    let fault = subst (λ (b : List ℕ). IsRecordFault b c.in_err-left.field-0.0) c.in_ok-reading.ensures.bytes c.in_err-left.ensures.fault in
-    absurd (record-unbroken c.args.bytes.now tags game c.in_err-left.field-0.0 r fault)
+pub returns-in_err-home-clause-only : goal.returns-in_err-home-clause-only
+returns-in_err-home-clause-only c = λ tags game r.
+    let fault = subst (λ (b : List ℕ). IsRecordFault b c.in_err-home.field-0.0) c.in_ok-reading.ensures.bytes c.in_err-home.ensures.fault in
+    absurd (record-unbroken c.args.bytes.now tags game c.in_err-home.field-0.0 r fault)
 
 pub returns-in_err-totals-clause-only : goal.returns-in_err-totals-clause-only
 returns-in_err-totals-clause-only c = λ tags game r.

@@ -10,19 +10,19 @@ use Rattle.game_tree.proofs.TreeLemmas.{length-moves_of}
 use Rattle.sig_index.specs.Signature.{material_of, left_of, home_list}
 use Rattle.sig_index.proofs.BoundLemmas.{few_homes, few_left, no_homes, small_homes, small_left}
 use Rattle.sig_index.proofs.SigLemmas.{own_is, code_is}
-use Rattle.sig_index.proofs.signature.sig_of.Goals as goal
-use Rattle.sig_index.proofs.signature.sig_of.Goals.{then-own_start, else-own_start}
+use Rattle.sig_index.proofs.signature.sig_ending.Goals as goal
+use Rattle.sig_index.proofs.signature.sig_ending.Goals.{then-own_start, else-own_start}
 
 pub returns : goal.returns
 returns c =
     record {
       signature = record {
-        material = c.material_of.ensures.material ∙ ap (λ (p : Setup). material_of p.board) c.replayed-last.ensures.last;
+        material = c.material_of.ensures.material ∙ ap (λ (p : Setup). material_of p.board) c.requires.last;
         own_start = own_is c.is_initial-own_start.result c.setup.result.now c.setup-2.result.now c.args.g.now.start _ c.is_initial-own_start.ensures
             (c.setup.ensures.setup ∙ ap (λ (g : GameTree). g.start) c.g.view_is) (c.setup-2.ensures.setup ∙ c.start.ensures.start);
         home = elim c.if-own_start.branch [
           | then-own_start w ↦ w.result-is ∙ w.home_list.ensures ∙ ap home_list (sym (cond-true (not c.is_initial-own_start.result) [] (left_of c.args.g.now) (ap not w.if-own_start.true)))
-          | else-own_start w ↦ w.result-is ∙ c.replayed-last.ensures.left ∙ ap home_list (sym (cond-false (not c.is_initial-own_start.result) [] (left_of c.args.g.now) (ap not w.if-own_start.false)))
+          | else-own_start w ↦ w.result-is ∙ w.left_along.ensures.left ∙ ap home_list (sym (cond-false (not c.is_initial-own_start.result) [] (left_of c.args.g.now) (ap not w.if-own_start.false)))
         ];
         plies = c.min.ensures ∙ ap (λ n. min n 1023) (sym (length-moves_of c.as_slice.result.now)
             ∙ ap (λ (l : Line). length (moves_of l)) (ap line_of c.as_slice.ensures.value ∙ ap (λ (g : GameTree). g.line) c.g.view_is));
@@ -36,11 +36,11 @@ returns c =
         material = c.material_of.ensures.bounded;
         home_count = elim c.if-own_start.branch [
           | then-own_start w ↦ few_homes _ [] (w.result-is ∙ w.home_list.ensures) (omega arith)
-          | else-own_start w ↦ few_homes _ (left_of c.args.g.now) (w.result-is ∙ c.replayed-last.ensures.left) (few_left c.args.g.now)
+          | else-own_start w ↦ few_homes _ (left_of c.args.g.now) (w.result-is ∙ w.left_along.ensures.left) (few_left c.args.g.now)
         ];
         home = elim c.if-own_start.branch [
           | then-own_start w ↦ small_homes _ [] (w.result-is ∙ w.home_list.ensures) (omega arith) no_homes
-          | else-own_start w ↦ small_homes _ (left_of c.args.g.now) (w.result-is ∙ c.replayed-last.ensures.left) (few_left c.args.g.now) (small_left c.args.g.now)
+          | else-own_start w ↦ small_homes _ (left_of c.args.g.now) (w.result-is ∙ w.left_along.ensures.left) (few_left c.args.g.now) (small_left c.args.g.now)
         ];
         plies = omega (arith, c.min.ensures);
         vars = c.count_code.ensures.small;
