@@ -1,16 +1,13 @@
 -- A record's marks are told from packed moves by their byte, and bytes decode to one answer.
-use Rattle.std.proofs.Common.{◌≡◌, ℕ, zero, suc, ◌+◌, ◌*◌, ◌/◌, ◌%◌, ◌<◌, ◌≤◌, Bool, true, false, cond, eqb, List, [], ◌∷◌, ◌++◌, Option, Some, None, Ok, Err, length, slice_get, take, inl, inr, refl, sym, ◌∙◌, ap, subst, arith}
+use Rattle.std.proofs.Common.{◌≡◌, ℕ, suc, ◌+◌, ◌*◌, ◌<◌, ◌≤◌, false, List, [], ◌∷◌, Option, Some, None, Ok, Err, length, slice_get, inl, inr, refl, sym, ◌∙◌, ap, subst, arith}
 use Rattle.std.specs.Prelude.{Result, option_and_then}
 use Rattle.std.proofs.lemmas.Bool.Decides.{nat_tests}
 use Rattle.std.proofs.lemmas.Option.{same_Some, slice_get_within}
 use Rattle.cell_core.specs.declared.man.Colour.{Colour}
 use Rattle.cell_core.specs.declared.man.Colour.TheVariants.{White, Black}
-use Rattle.cell_core.specs.declared.man.Kind.{Kind}
-use Rattle.cell_core.specs.declared.man.Kind.TheVariants.{King, Queen, Rook, Bishop, Knight, Pawn}
-use Rattle.cell_core.specs.declared.man.Man.{Man}
+use Rattle.cell_core.specs.declared.man.Kind.TheVariants.{King}
 use Rattle.cell_core.specs.declared.step.Move.{Move}
 use Rattle.cell_core.specs.Board.{Men, man_at}
-use Rattle.chess_laws.specs.Geometry.{file_of}
 use Rattle.chess_laws.specs.Position.{Sound, king_square}
 use Rattle.chess_laws.specs.Step.{Legal, effect_of}
 use Rattle.chess_laws.proofs.Boards.{man-kind}
@@ -19,9 +16,9 @@ use Rattle.move_codec.specs.declared.fault.MoveFault.{MoveFault}
 use Rattle.move_codec.specs.declared.fault.MoveFault.TheVariants.{Short, NoMan, Value, Illegal}
 use Rattle.move_codec.specs.declared.numbers.Numbers.{Numbers}
 use Rattle.move_codec.specs.Numbers.{Numbered, AreNumbers, HasKingFirst, number_of, squares_of}
-use Rattle.move_codec.specs.Packed.{Decodes, at_difference, diagonal_move, diagonal_square, encoding, is_mark, king_differences, named, named_by, named_from, named_value, on_line, rest_of, to_square, value_of}
+use Rattle.move_codec.specs.Packed.{Decodes, at_difference, encoding, is_mark, king_differences, named, named_value, rest_of, to_square, value_of}
 use Rattle.move_codec.proofs.Cases.{Mover, Spelled, mover}
-use Rattle.move_codec.proofs.Decoding.{named-used, same_ok, to_square-takes}
+use Rattle.move_codec.proofs.Decoding.{named-used, same_ok}
 use Rattle.move_codec.proofs.Boards.{first_of}
 use Rattle.move_codec.proofs.Lists.{same_or_not}
 use Rattle.move_codec.proofs.RoundTrip.{encoding-mover, has_number}
