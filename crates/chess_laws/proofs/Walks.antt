@@ -1,4 +1,4 @@
--- A walk read from its end: the same squares by the steps back. What is met on the way from a square is what attacks along it.
+-- A walk read from its end: the same squares by the steps back.
 use Rattle.std.proofs.Common.{◌≡◌, ℕ, zero, suc, ◌<◌, ◌==◌, ◌&&◌, Bool, true, List, subst, Some, None, sym}
 use Rattle.std.specs.Prelude.{Any}
 use Rattle.std.specs.List.{list_all, list_any}
