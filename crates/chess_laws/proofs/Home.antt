@@ -4,16 +4,13 @@ use Rattle.std.specs.Int.{bit_at}
 use Rattle.std.specs.Int.RustNames.{bit_or}
 use lib.Bits.{bit_and}
 use mir.Val.{bits}
-use Rattle.std.proofs.lemmas.Nat.Bits.{bit_at_set_same, bit_at_set_other, and_pow, bit_at-zero}
+use Rattle.std.proofs.lemmas.Nat.Bits.{bit_at_set_same, bit_at_set_other, and_pow}
 use Rattle.std.proofs.lemmas.Bool.{cases_eq, false≢true}
 
 -- bit v is set for each v below k that passes the test, and no bit from k on
 pub record Bits (test : ℕ → Bool) (n k : ℕ) : Type 0 where
   pub done : (v : ℕ) → v < 16 → v < k → bit_at n v ≡ cond (test v) 1 0
   pub rest : (v : ℕ) → v < 16 → k ≤ v → bit_at n v ≡ 0
-
-pub bits_none : (test : ℕ → Bool) → Bits test 0 0
-bits_none test = record { done = λ v less below. absurd (omega arith); rest = λ v less above. bit_at-zero v }
 
 pub bits_yes : (test : ℕ → Bool) (n k : ℕ) → k < 16 → test k ≡ true → Bits test n k → Bits test (bit_or n (1 * 2 ^ k % 2 ^ bits w16)) (k + 1)
 bits_yes test n k less passes b =

@@ -95,9 +95,6 @@ first-within p (x ∷ xs) some =
 pub king-stands : (men : Men) (c : Colour) → count_by (is_man c King) men ≡ 1 → man_at men (king_square men c) ≡ Some (man c King)
 king-stands men c one = is_man-Some c King (man_at men (king_square men c)) (first-passes (is_man c King) men None (omega arith))
 
-pub king-within : (men : Men) (c : Colour) → count_by (is_man c King) men ≡ 1 → king_square men c < length men
-king-within men c one = first-within (is_man c King) men (omega arith)
-
 pub king-only : (men : Men) (c : Colour) (s : ℕ) → count_by (is_man c King) men ≡ 1 → man_at men s ≡ Some (man c King) → s ≡ king_square men c
 king-only men c s one h = only-first (is_man c King) men s None refl one (rw h (is_man-true c King))
 

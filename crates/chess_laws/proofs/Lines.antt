@@ -1,16 +1,18 @@
 -- The line between two squares: the one queen's step by which a walk may lead from one to the other.
-use Rattle.std.proofs.Common.{◌≡◌, ◌↔◌, ℕ, zero, suc, ◌+◌, ◌*◌, ◌<◌, Bool, true, false, ◌&&◌, Some, None, IsTrue, length, get_or, refl, sym, ◌∙◌, subst, arith}
-use Rattle.std.specs.Prelude.{Any}
+use Rattle.std.proofs.Common.{◌≡◌, ◌↔◌, ℕ, zero, suc, ◌+◌, ◌*◌, ◌<◌, Bool, true, false, ◌&&◌, ◌||◌, ◌-◌, not, Some, None, IsTrue, length, refl, sym, ◌∙◌, subst, arith}
+use Rattle.std.specs.Prelude.{Any, nat_lt, slice_index_or}
 use Rattle.std.proofs.lemmas.Bool.Decides.{nat_tests}
-use Rattle.std.proofs.lemmas.Bool.{false≢true}
+use Rattle.std.proofs.lemmas.Bool.{agree_below, agree_below_at, and_parts, false≢true, ltb-true}
+use Rattle.std.proofs.lemmas.List.{get_or_default}
 use Rattle.cell_core.specs.declared.man.Kind.{Kind}
 use Rattle.cell_core.specs.declared.man.Kind.TheVariants.{King, Queen, Rook, Bishop, Knight, Pawn}
 use Rattle.cell_core.specs.Board.{Men}
-use Rattle.chess_laws.specs.Geometry.{Offset, file_of, rank_of, king_steps, Walk, Runs}
+use Rattle.chess_laws.specs.Geometry.{Offset, by, file_of, rank_of, Walk, Runs}
 use Rattle.chess_laws.specs.LegalTests.{line, line_of, glides, run, slides}
-use Rattle.chess_laws.specs.Rays.{offset_at}
+use Rattle.chess_laws.specs.Rays.{offset_at, same_offset}
 use Rattle.chess_laws.proofs.Running.{run_is}
 use Rattle.chess_laws.proofs.Shifts.{shift-Some}
+use Rattle.chess_laws.proofs.Walks.{same-offset}
 
 -- so many equal steps lead from a to b
 record Strides (n : ℕ) (o : Offset) (a b : ℕ) : Type 0 where
@@ -44,39 +46,44 @@ unfolding line
 line-walk men row n a b less walk =
     line-row row n (file_of a) (rank_of a) (file_of b) (rank_of b) a b less refl refl refl refl (walk-strides men (offset_at row) n a b walk)
 
--- the rows of the steps by which a kind of man slides
-record Row (k : Kind) (o : Offset) : Type 0 where
-  row : ℕ
-  glides : glides k row ≡ true
-  less : row < 8
-  is : offset_at row ≡ o
+-- the steps by which a kind of man slides are those of the rows from its first one on; by computing
+first : Kind → ℕ
+first King = 0
+first Queen = 0
+first Rook = 0
+first Bishop = 4
+first Knight = 0
+first Pawn = 0
 
-queen-row : (k : ℕ) (x : Offset) → k < 8 → get_or king_steps k x ≡ x → Row Queen x
-queen-row zero x less is = record { row = 0; glides = refl; less = less; is = is }
-queen-row (suc zero) x less is = record { row = 1; glides = refl; less = less; is = is }
-queen-row (suc (suc zero)) x less is = record { row = 2; glides = refl; less = less; is = is }
-queen-row (suc (suc (suc zero))) x less is = record { row = 3; glides = refl; less = less; is = is }
-queen-row (suc (suc (suc (suc zero)))) x less is = record { row = 4; glides = refl; less = less; is = is }
-queen-row (suc (suc (suc (suc (suc zero))))) x less is = record { row = 5; glides = refl; less = less; is = is }
-queen-row (suc (suc (suc (suc (suc (suc zero)))))) x less is = record { row = 6; glides = refl; less = less; is = is }
-queen-row (suc (suc (suc (suc (suc (suc (suc zero))))))) x less is = record { row = 7; glides = refl; less = less; is = is }
-queen-row (suc (suc (suc (suc (suc (suc (suc (suc row)))))))) x less is = absurd (omega arith)
+abbrev step_at : Kind → ℕ → Offset
+step_at kind k = slice_index_or (slides kind) k (by 0 0 0 0)
 
-slide-row : (kind : Kind) (k : ℕ) (x : Offset) → k < length (slides kind) → get_or (slides kind) k x ≡ x → Row kind x
-slide-row King k x less is = absurd (omega (arith, less))
-slide-row Queen k x less is = queen-row k x less is
-slide-row Rook zero x less is = record { row = 0; glides = refl; less = omega arith; is = is }
-slide-row Rook (suc zero) x less is = record { row = 1; glides = refl; less = omega arith; is = is }
-slide-row Rook (suc (suc zero)) x less is = record { row = 2; glides = refl; less = omega arith; is = is }
-slide-row Rook (suc (suc (suc zero))) x less is = record { row = 3; glides = refl; less = omega arith; is = is }
-slide-row Rook (suc (suc (suc (suc k)))) x less is = absurd (omega arith)
-slide-row Bishop zero x less is = record { row = 4; glides = refl; less = omega arith; is = is }
-slide-row Bishop (suc zero) x less is = record { row = 5; glides = refl; less = omega arith; is = is }
-slide-row Bishop (suc (suc zero)) x less is = record { row = 6; glides = refl; less = omega arith; is = is }
-slide-row Bishop (suc (suc (suc zero))) x less is = record { row = 7; glides = refl; less = omega arith; is = is }
-slide-row Bishop (suc (suc (suc (suc k)))) x less is = absurd (omega arith)
-slide-row Knight k x less is = absurd (omega (arith, less))
-slide-row Pawn k x less is = absurd (omega (arith, less))
+has-row : (kind : Kind) → agree_below (λ k. glides kind (k + first kind) && same_offset (step_at kind k) (offset_at (k + first kind))) (λ k. true) (length (slides kind)) ≡ true
+unfolding first
+has-row King = refl
+has-row Queen = refl
+has-row Rook = refl
+has-row Bishop = refl
+has-row Knight = refl
+has-row Pawn = refl
+
+has-step : (kind : Kind) → agree_below
+    (λ row. not (glides kind row) || (nat_lt (row - first kind) (length (slides kind)) && same_offset (step_at kind (row - first kind)) (offset_at row))) (λ row. true) 8 ≡ true
+unfolding first
+has-step King = refl
+has-step Queen = refl
+has-step Rook = refl
+has-step Bishop = refl
+has-step Knight = refl
+has-step Pawn = refl
+
+pub glides-less : (kind : Kind) (row : ℕ) → glides kind row ≡ true → row < 8
+glides-less King row h = absurd (false≢true h)
+glides-less Queen row h = grind (arith, nat_tests)
+glides-less Rook row h = grind (arith, nat_tests)
+glides-less Bishop row h = grind (arith, nat_tests)
+glides-less Knight row h = absurd (false≢true h)
+glides-less Pawn row h = absurd (false≢true h)
 
 -- what holds of some step of a kind of man holds of a row by which it slides
 pub record Slide (kind : Kind) (P : Offset → Type 0) : Type 0 where
@@ -87,37 +94,22 @@ pub record Slide (kind : Kind) (P : Offset → Type 0) : Type 0 where
 
 pub any-slide : (kind : Kind) (P : Offset → Type 0) → Any P (slides kind) → Slide kind P
 any-slide kind P (k, x, less, is, holds) =
-    let found = slide-row kind k x less is in
-    record { row = found.row; glides = found.glides; less = found.less; holds = subst P (sym found.is) holds }
+    let both = and_parts (glides kind (k + first kind)) (same_offset (step_at kind k) (offset_at (k + first kind)))
+    (agree_below_at (λ k. glides kind (k + first kind) && same_offset (step_at kind k) (offset_at (k + first kind))) (λ k. true) (length (slides kind)) k (has-row kind) less) in
+    let at : x ≡ offset_at (k + first kind) =
+    sym (get_or_default (slides kind) k (by 0 0 0 0) x less ∙ is) ∙ same-offset (step_at kind k) (offset_at (k + first kind)) both.1 in
+    record { row = k + first kind; glides = both.0; less = glides-less kind (k + first kind) both.0; holds = subst P at holds }
 
 -- and the other way round
 pub slide-any : (kind : Kind) (P : Offset → Type 0) (row : ℕ) → row < 8 → glides kind row ≡ true → P (offset_at row) → Any P (slides kind)
-slide-any King P row less is holds = absurd (false≢true is)
-slide-any Queen P zero less is holds = (0, offset_at 0, omega arith, refl, holds)
-slide-any Queen P (suc zero) less is holds = (1, offset_at 1, omega arith, refl, holds)
-slide-any Queen P (suc (suc zero)) less is holds = (2, offset_at 2, omega arith, refl, holds)
-slide-any Queen P (suc (suc (suc zero))) less is holds = (3, offset_at 3, omega arith, refl, holds)
-slide-any Queen P (suc (suc (suc (suc zero)))) less is holds = (4, offset_at 4, omega arith, refl, holds)
-slide-any Queen P (suc (suc (suc (suc (suc zero))))) less is holds = (5, offset_at 5, omega arith, refl, holds)
-slide-any Queen P (suc (suc (suc (suc (suc (suc zero)))))) less is holds = (6, offset_at 6, omega arith, refl, holds)
-slide-any Queen P (suc (suc (suc (suc (suc (suc (suc zero))))))) less is holds = (7, offset_at 7, omega arith, refl, holds)
-slide-any Queen P (suc (suc (suc (suc (suc (suc (suc (suc row)))))))) less is holds = absurd (omega arith)
-slide-any Rook P zero less is holds = (0, offset_at 0, omega arith, refl, holds)
-slide-any Rook P (suc zero) less is holds = (1, offset_at 1, omega arith, refl, holds)
-slide-any Rook P (suc (suc zero)) less is holds = (2, offset_at 2, omega arith, refl, holds)
-slide-any Rook P (suc (suc (suc zero))) less is holds = (3, offset_at 3, omega arith, refl, holds)
-slide-any Rook P (suc (suc (suc (suc row)))) less is holds = absurd (grind (arith, nat_tests))
-slide-any Bishop P zero less is holds = absurd (grind (arith, nat_tests))
-slide-any Bishop P (suc zero) less is holds = absurd (grind (arith, nat_tests))
-slide-any Bishop P (suc (suc zero)) less is holds = absurd (grind (arith, nat_tests))
-slide-any Bishop P (suc (suc (suc zero))) less is holds = absurd (grind (arith, nat_tests))
-slide-any Bishop P (suc (suc (suc (suc zero)))) less is holds = (0, offset_at 4, omega arith, refl, holds)
-slide-any Bishop P (suc (suc (suc (suc (suc zero))))) less is holds = (1, offset_at 5, omega arith, refl, holds)
-slide-any Bishop P (suc (suc (suc (suc (suc (suc zero)))))) less is holds = (2, offset_at 6, omega arith, refl, holds)
-slide-any Bishop P (suc (suc (suc (suc (suc (suc (suc zero))))))) less is holds = (3, offset_at 7, omega arith, refl, holds)
-slide-any Bishop P (suc (suc (suc (suc (suc (suc (suc (suc row)))))))) less is holds = absurd (omega arith)
-slide-any Knight P row less is holds = absurd (false≢true is)
-slide-any Pawn P row less is holds = absurd (false≢true is)
+slide-any kind P row less is holds =
+    let k = row - first kind in
+    let here : (not (glides kind row) || (nat_lt k (length (slides kind)) && same_offset (step_at kind k) (offset_at row))) ≡ true = agree_below_at
+    (λ row. not (glides kind row) || (nat_lt (row - first kind) (length (slides kind)) && same_offset (step_at kind (row - first kind)) (offset_at row))) (λ row. true) 8 row
+    (has-step kind) less in
+    let both = and_parts (nat_lt k (length (slides kind))) (same_offset (step_at kind k) (offset_at row)) (rw is at here) in
+    let within = ltb-true k (length (slides kind)) both.0 in
+    (k, step_at kind k, within, get_or_default (slides kind) k (step_at kind k) (by 0 0 0 0) within, subst P (sym (same-offset (step_at kind k) (offset_at row) both.1)) holds)
 
 -- so a walk by a step of this kind of man is one by the line's step
 pub runs_none : (men : Men) (kind : Kind) (a b : ℕ) → None ≡ line a b → Any (Runs men a b) (slides kind) → ⊥

@@ -183,16 +183,6 @@ lists-many p room ms m h is full = record {
   many = omega (arith, length-append ms (m ∷ []));
 }
 
--- before every move there is none
-pub lists-none : (p : Setup) (room : ℕ) → ListsBelow p room 0 []
-lists-none p room = record {
-  fits = omega arith;
-  only = All-nil (IsMove p);
-  below = All-nil (λ m. place_of m < 0);
-  all = λ m is less. absurd (omega arith);
-  in_order = λ i j d less within. absurd (omega arith);
-}
-
 -- below the last place there are all
 pub lists-all : (p : Setup) (room : ℕ) (ms : List Move) → Sound p → ListsBelow p room (512 * 64) ms → ListsMoves p ms
 lists-all p room ms sound h = record {
@@ -248,14 +238,6 @@ lists-no_king p room f t ms sound less h =
     lists-gap p room (512 * f + (8 * t + 1)) (512 * f + (8 * t + 2)) ms h (omega arith)
     (λ m is low high.
     let squares = among p f t m sound less is (omega arith) (omega arith) in
-    elim (number-cases p m is) [ inl none ↦ omega arith | inr some ↦ omega arith ])
-
--- and none a pawn
-pub lists-no_pawn : (p : Setup) (room f t : ℕ) (ms : List Move) → Sound p → t < 64 → ListsBelow p room (512 * f + (8 * t + 6)) ms → ListsBelow p room (512 * f + 8 * (t + 1)) ms
-lists-no_pawn p room f t ms sound less h =
-    lists-gap p room (512 * f + (8 * t + 6)) (512 * f + 8 * (t + 1)) ms h (omega arith)
-    (λ m is low high.
-    let squares = among p f t m sound less is (omega arith) high in
     elim (number-cases p m is) [ inl none ↦ omega arith | inr some ↦ omega arith ])
 
 -- no move goes to a square that is not among the targets

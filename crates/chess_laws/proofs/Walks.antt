@@ -1,4 +1,4 @@
--- A walk read from its end: the same squares by the steps back. What is met on the way from a square is what attacks along it.
+-- A walk read from its end: the same squares by the steps back.
 use Rattle.std.proofs.Common.{◌≡◌, ℕ, zero, suc, ◌<◌, ◌==◌, ◌&&◌, Bool, true, List, subst, Some, None, sym}
 use Rattle.std.specs.Prelude.{Any}
 use Rattle.std.specs.List.{list_all, list_any}
@@ -35,7 +35,7 @@ walk-back men o (suc n) a b less (c, f, e, w) =
     walk-snoc men (reversed o) n b c a (walk-back men o n c b (shift-on_board o a c f) w) e (back o a c less f)
 
 -- each of these steps has its step back among those
-same-offset : (a b : Offset) → same_offset a b ≡ true → a ≡ b
+pub same-offset : (a b : Offset) → same_offset a b ≡ true → a ≡ b
 same-offset a b h =
     let both = and_parts ((a.right == b.right) && (a.left == b.left)) ((a.up == b.up) && (a.down == b.down)) h in
     let files = and_parts (a.right == b.right) (a.left == b.left) both.0 in

@@ -79,7 +79,19 @@ fn slides(men: u64, occupied: u64, kind: Kind, lines: &[u64; 64], s: Square) -> 
 }
 
 /// Whether equal steps of this kind of man lead from `s` to one of the squares, where men stand on these.
+#[inline(always)]
 fn come(squares: SquareSet, occupied: u64, kind: Kind, s: Square) -> bool
+    ensures { (new : Men) → occupied ≡ set_of is_some new → IsTrue result ↔ ((a : ℕ) × (Has squares a × Any (Runs new s a) (slides kind))) }
+{
+    if squares.is_empty() {
+        return false;
+    }
+    come_along(squares, occupied, kind, s)
+}
+
+// The same, where there are some.
+#[inline(never)]
+fn come_along(squares: SquareSet, occupied: u64, kind: Kind, s: Square) -> bool
     ensures { (new : Men) → occupied ≡ set_of is_some new → IsTrue result ↔ ((a : ℕ) × (Has squares a × Any (Runs new s a) (slides kind))) }
 {
     let mut at = 0u8;

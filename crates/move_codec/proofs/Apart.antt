@@ -1,16 +1,13 @@
 -- A record's marks are told from packed moves by their byte, and bytes decode to one answer.
-use Rattle.std.proofs.Common.{◌≡◌, ℕ, zero, suc, ◌+◌, ◌*◌, ◌/◌, ◌%◌, ◌<◌, ◌≤◌, Bool, true, false, cond, eqb, List, [], ◌∷◌, ◌++◌, Option, Some, None, Ok, Err, length, slice_get, take, inl, inr, refl, sym, ◌∙◌, ap, subst, arith}
+use Rattle.std.proofs.Common.{◌≡◌, ℕ, suc, ◌+◌, ◌*◌, ◌<◌, ◌≤◌, false, List, [], ◌∷◌, Option, Some, None, Ok, Err, length, slice_get, inl, inr, refl, sym, ◌∙◌, ap, subst, arith}
 use Rattle.std.specs.Prelude.{Result, option_and_then}
 use Rattle.std.proofs.lemmas.Bool.Decides.{nat_tests}
 use Rattle.std.proofs.lemmas.Option.{same_Some, slice_get_within}
 use Rattle.cell_core.specs.declared.man.Colour.{Colour}
 use Rattle.cell_core.specs.declared.man.Colour.TheVariants.{White, Black}
-use Rattle.cell_core.specs.declared.man.Kind.{Kind}
-use Rattle.cell_core.specs.declared.man.Kind.TheVariants.{King, Queen, Rook, Bishop, Knight, Pawn}
-use Rattle.cell_core.specs.declared.man.Man.{Man}
+use Rattle.cell_core.specs.declared.man.Kind.TheVariants.{King}
 use Rattle.cell_core.specs.declared.step.Move.{Move}
 use Rattle.cell_core.specs.Board.{Men, man_at}
-use Rattle.chess_laws.specs.Geometry.{file_of}
 use Rattle.chess_laws.specs.Position.{Sound, king_square}
 use Rattle.chess_laws.specs.Step.{Legal, effect_of}
 use Rattle.chess_laws.proofs.Boards.{man-kind}
@@ -19,9 +16,9 @@ use Rattle.move_codec.specs.declared.fault.MoveFault.{MoveFault}
 use Rattle.move_codec.specs.declared.fault.MoveFault.TheVariants.{Short, NoMan, Value, Illegal}
 use Rattle.move_codec.specs.declared.numbers.Numbers.{Numbers}
 use Rattle.move_codec.specs.Numbers.{Numbered, AreNumbers, HasKingFirst, number_of, squares_of}
-use Rattle.move_codec.specs.Packed.{Decodes, at_difference, diagonal_move, diagonal_square, encoding, is_mark, king_differences, named, named_by, named_from, named_value, on_line, rest_of, to_square, value_of}
+use Rattle.move_codec.specs.Packed.{Decodes, at_difference, encoding, is_mark, king_differences, named, named_value, rest_of, to_square, value_of}
 use Rattle.move_codec.proofs.Cases.{Mover, Spelled, mover}
-use Rattle.move_codec.proofs.Decoding.{named-used, same_ok, to_square-takes}
+use Rattle.move_codec.proofs.Decoding.{named-used, same_ok}
 use Rattle.move_codec.proofs.Boards.{first_of}
 use Rattle.move_codec.proofs.Lists.{same_or_not}
 use Rattle.move_codec.proofs.RoundTrip.{encoding-mover, has_number}
@@ -130,50 +127,3 @@ Decodes-one n bytes a b first second =
 pub Decodes-used : (n : Numbered) (bytes : List ℕ) (m : Move) (used : ℕ) → Decodes n bytes (Ok (m, used))
     → (0 < used) × (used ≤ length bytes)
 Decodes-used n bytes m used decodes = let within = named-used n bytes (m, used) decodes.0 in (within.0, within.1.1)
-
--- the bytes after those that a move takes do not count: what it is named by ends with them
-abbrev Shortens : (List ℕ → Result (Move × ℕ) MoveFault) → List ℕ → Type 0
-Shortens by later = (m : Move) (used : ℕ) (rest : List ℕ) → by later ≡ Ok (m, suc used) → by (take used later ++ rest) ≡ Ok (m, suc used)
-
-diagonal-shortens : (from : ℕ) (later : List ℕ) → Shortens (diagonal_move from) later
-diagonal-shortens from [] m used rest h = absurd (cc)
-diagonal-shortens from (byte ∷ later) m used rest h =
-    let two : suc used ≡ 2 = to_square-takes from None 2 (diagonal_square from byte) (m, suc used) h in
-    let one : used ≡ 1 = omega arith in
-    rw one (rw one at h)
-
-queen-shortens : (own : Bool) (from value : ℕ) (later : List ℕ)
-    → Shortens (λ rest. cond own (diagonal_move from rest) (to_square from None 1 (on_line from value))) later
-queen-shortens true from value later m used rest h = diagonal-shortens from later m used rest h
-queen-shortens false from value later m used rest h = h
-
-value-shortens : (kind : Kind) (side : Colour) (from value : ℕ) (later : List ℕ) → Shortens (named_value kind side from value) later
-unfolding named_value
-value-shortens King side from value later m used rest h = h
-value-shortens Queen side from value later m used rest h = queen-shortens (eqb value (file_of from)) from value later m used rest h
-value-shortens Rook side from value later m used rest h = h
-value-shortens Bishop side from value later m used rest h = h
-value-shortens Knight side from value later m used rest h = h
-value-shortens Pawn side from value later m used rest h = h
-
-by-shortens : (o : Option Man) (side : Colour) (from value : ℕ) (later : List ℕ) → Shortens (named_by o side from value) later
-by-shortens None side from value later m used rest h = absurd (cc)
-by-shortens (Some x) side from value later m used rest h = value-shortens x.kind side from value later m used rest h
-
-from-shortens : (n : Numbered) (o : Option ℕ) (value : ℕ) (later : List ℕ) → Shortens (named_from n o value) later
-from-shortens n None value later m used rest h = absurd (cc)
-from-shortens n (Some from) value later m used rest h =
-    by-shortens (man_at n.position.board from) n.position.side from value later m used rest h
-
-named-shortens : (n : Numbered) (bytes : List ℕ) (m : Move) (used : ℕ) (rest : List ℕ) → 0 < used → named n bytes ≡ Ok (m, used)
-    → named n (take used bytes ++ rest) ≡ Ok (m, used)
-named-shortens n [] m used rest some h = absurd (cc)
-named-shortens n (byte ∷ later) m zero rest some h = absurd (omega arith)
-named-shortens n (byte ∷ later) m (suc used) rest some h =
-    from-shortens n (slice_get (squares_of n.position.side n.numbers) (byte / 16)) (byte % 16) later m used rest h
-
--- a move is the same whatever follows the bytes that it takes
-pub Decodes-short : (n : Numbered) (bytes : List ℕ) (m : Move) (used : ℕ) (rest : List ℕ) → Decodes n bytes (Ok (m, used))
-    → Decodes n (take used bytes ++ rest) (Ok (m, used))
-Decodes-short n bytes m used rest decodes =
-    (named-shortens n bytes m used rest (Decodes-used n bytes m used decodes).0 decodes.0, decodes.1)

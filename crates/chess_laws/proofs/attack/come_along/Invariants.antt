@@ -6,7 +6,7 @@ use Rattle.cell_core.specs.Sets.{set_of}
 use Rattle.chess_laws.specs.Geometry.{Runs}
 use Rattle.chess_laws.specs.LegalTests.{slides}
 use Rattle.chess_laws.specs.Targets.{Has}
-use Rattle.chess_laws.proofs.attack.come.Given as goal
+use Rattle.chess_laws.proofs.attack.come_along.Given as goal
 
 abbrev pub invariant-loop-a : goal.invariant-loop-a
 invariant-loop-a l = record {
