@@ -26,10 +26,10 @@ use crate::fault::{EditError, What};
 use crate::naming::{NameIds, add_names, counts_of, cut_names};
 use base_files::Files;
 use block_store::Store;
-use game_codec::encode_game;
+use game_codec::encode_to_end;
 use game_tree::{Game, Head, TagEdit, apply};
 use index_entry::Entry;
-use sig_index::{Sig, sig_of};
+use sig_index::{Sig, sig_ending};
 use std::alloc::Global;
 
 /// The greatest number of games of a base.
@@ -73,19 +73,24 @@ impl Base {
         ensures counts { F.faults files.old ≤ F.faults files.new }
         ensures cause { IfErr result (λ error. error ≡ EditError.Failed → Rose (F.faults files.old) (F.faults files.new)) }
     {
-        let record = encode_game(alloc, g, head.tags.as_slice())?;
+        let encoded = encode_to_end(alloc, g, head.tags.as_slice())?;
         let i = self.entries.len();
         if MOST_GAMES <= i {
             return Err(EditError::Full(What::Games));
         }
         let counts = counts_of(&self.names);
         let ids = add_names(alloc, &mut self.names, head)?;
-        let entry = entry_with(&ids, head, &sig_of(g), record.len() as u32);
+        let entry = entry_with(
+            &ids,
+            head,
+            &sig_ending(g, &encoded.last),
+            encoded.record.len() as u32,
+        );
         if let Err(error) = add_entry(
             &mut self.entries,
             &mut self.store,
             &entry,
-            record.as_slice(),
+            encoded.record.as_slice(),
             files,
         ) {
             cut_names(&mut self.names, &counts);
@@ -137,11 +142,16 @@ impl Base {
         if self.entries.len() <= i {
             return Err(EditError::NoGame(i));
         }
-        let record = encode_game(alloc, g, head.tags.as_slice())?;
+        let encoded = encode_to_end(alloc, g, head.tags.as_slice())?;
         let counts = counts_of(&self.names);
         let ids = add_names(alloc, &mut self.names, head)?;
-        let entry = entry_with(&ids, head, &sig_of(g), record.len() as u32);
-        let offset = match place_record(&mut self.store, record.as_slice(), files) {
+        let entry = entry_with(
+            &ids,
+            head,
+            &sig_ending(g, &encoded.last),
+            encoded.record.len() as u32,
+        );
+        let offset = match place_record(&mut self.store, encoded.record.as_slice(), files) {
             Ok(offset) => offset,
             Err(error) => {
                 cut_names(&mut self.names, &counts);

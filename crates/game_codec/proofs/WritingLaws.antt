@@ -1,19 +1,21 @@
 -- What the code writes part by part is the written form.
-use Rattle.std.proofs.Common.{◌≡◌, ℕ, ◌+◌, ◌<◌, ◌≤◌, List, [], ◌∷◌, ◌++◌, Option, Some, None, length, get_or, drop, refl, sym, ap, subst, ◌∙◌, append_assoc, append-nil, true, false}
-use Rattle.std.proofs.lemmas.List.{drop_more}
+use Rattle.std.proofs.Common.{◌≡◌, ℕ, ◌+◌, ◌<◌, ◌≤◌, List, [], ◌∷◌, ◌++◌, Option, Some, None, length, get_or, take, drop, arith, refl, sym, ap, subst, ◌∙◌, append_assoc, append-nil, true, false}
+use Rattle.std.specs.Prelude.{fold}
+use Rattle.std.proofs.lemmas.List.{drop_all, drop_more, take_all}
 use Rattle.std.proofs.Math.ListN.{drop_of_length-le}
 use Rattle.cell_core.specs.declared.step.Move.{Move}
 use Rattle.chess_laws.specs.declared.setup.Setup.{Setup}
 use Rattle.chess_laws.specs.Position.{start_setup, is_start}
-use Rattle.chess_laws.specs.Step.{Step}
+use Rattle.chess_laws.specs.Step.{Step, stepped}
 use Rattle.game_tree.specs.Movetext.{Movetext, end}
 use Rattle.game_tree.specs.Legal.{IsLegalLine, AreLegalBranches}
-use Rattle.game_tree.specs.Tree.{Line, ends, goes, Branches, none, more, Played, Variation, line_of, branches_of}
+use Rattle.game_tree.specs.Tree.{Line, ends, goes, Branches, none, more, Played, Variation, line_of, branches_of, moves_of}
 use Rattle.game_tree.specs.Written.{movetext_of_game, nags_before, comment_before, movetext_of, variations_before}
 use Rattle.chess_laws.proofs.Stepping.{Step-stepped}
 use Rattle.move_codec.specs.Numbers.{Numbered, numbers_after, text_numbers, standard_numbers}
 use Rattle.move_codec.specs.Packed.{encoding}
 use Rattle.game_tree.specs.Game.{GameTree}
+use Rattle.game_tree.specs.Replay.{main_moves, plies_of, position_at}
 use Rattle.game_tree.specs.declared.head.Tag.{Tag}
 use Rattle.chess_text.specs.Written.{fen_text}
 use Rattle.game_codec.specs.Place.{numbered_after}
@@ -135,6 +137,27 @@ pub legal-more : (n q : Numbered) (line : List Played) (i : ℕ) (node : Played)
 legal-more n q line i node left played legal =
     let all : IsLegalLine n.position (line_of (node ∷ drop (i + 1) line)) = subst (λ (ps : List Played). IsLegalLine n.position (line_of ps)) left legal in
     subst (λ (r : Numbered). IsLegalLine r.position (line_of (drop (i + 1) line))) (sym played) all.1.1.1
+
+-- Where a line ends.
+pub end-more : (n q : Numbered) (line : List Played) (i : ℕ) (node : Played) (last : Setup) → drop i line ≡ node ∷ drop (i + 1) line
+    → q ≡ numbered_after n node.mv → fold stepped n.position (moves_of (line_of (drop i line))) ≡ last
+    → fold stepped q.position (moves_of (line_of (drop (i + 1) line))) ≡ last
+end-more n q line i node last left played before =
+    ap (λ (r : Numbered). fold stepped r.position (moves_of (line_of (drop (i + 1) line)))) played
+    ∙ ap (λ (ps : List Played). fold stepped n.position (moves_of (line_of ps))) (sym left)
+    ∙ before
+
+pub end-all : (n : Numbered) (line : List Played) (i : ℕ) (last : Setup) → length line ≤ i → fold stepped n.position (moves_of (line_of (drop i line))) ≡ last
+    → n.position ≡ last
+end-all n line i last over before = ap (λ (ps : List Played). fold stepped n.position (moves_of (line_of ps))) (sym (drop_all i line over)) ∙ before
+
+pub game-ends : (game : GameTree) (line : List Played) (start : Setup) (last : Numbered) → game.line ≡ line_of line → start ≡ game.start
+    → last.position ≡ fold stepped start (moves_of (line_of line)) → last.position ≡ position_at game (plies_of game)
+game-ends game line start last same at leads =
+    leads
+    ∙ ap (λ (p : Setup). fold stepped p (moves_of (line_of line))) at
+    ∙ ap (λ (l : Line). fold stepped game.start (moves_of l)) (sym same)
+    ∙ ap (λ (moves : List Move). fold stepped game.start moves) (sym (take_all (plies_of game) (main_moves game) (omega arith)))
 
 -- Behind a line's own comment.
 pub texts-lead : (lead : Option (List ℕ)) (line : List Played) (i : ℕ) (old now last : List ℕ) → length line ≤ i → now ≡ old ++ comment_text lead

@@ -3,6 +3,7 @@ ghost use Rattle.std.specs.Prelude.{◌≡◌, ◌↔◌, ◌<◌, ◌≤◌, �
 ghost use Rattle.game_tree.specs.Head.{IsTag};
 ghost use Rattle.game_tree.specs.Kept.{IsGame};
 ghost use Rattle.game_tree.specs.Legal.{IsLegalGame};
+ghost use Rattle.game_tree.specs.Replay.{plies_of, position_at};
 ghost use Rattle.game_codec.specs.Record.{IsRecord};
 ghost use Rattle.game_codec.specs.TagSpelling.{counted};
 ghost use Rattle.game_codec.specs.Written.{IfTooLong, longest, promotion_flags, tags_text, written_record};
@@ -20,6 +21,13 @@ use std::alloc::{AllocError, Global};
 // The greatest length of a record, in bytes.
 const LONGEST: usize = 131_071;
 
+/// A record, and the position in which the main line of its game ends.
+#[derive(Debug, Drop)]
+pub struct Encoded {
+    pub record: Vec<u8>,
+    pub last: Position,
+}
+
 /// The record of a legal game with these extra tags, which are within their bounds: its one written form. It is read again
 /// as the same game and the same tags. `TooLong` comes exactly where it would have more than 131,071 bytes.
 pub fn encode_game(alloc: Global, g: &Game, tags: &[Tag]) -> Result<Vec<u8>, EncodeError>
@@ -31,20 +39,34 @@ pub fn encode_game(alloc: Global, g: &Game, tags: &[Tag]) -> Result<Vec<u8>, Enc
     // That form is refused only where it is too long or for want of memory.
     ensures too_long { IfErr result (IfTooLong (λ n. (n ≡ length (written_record tags.now g.now)) × (longest < n))) }
 {
-    let bytes = whole_record(alloc, g, tags)?;
-    let len = bytes.len();
+    Ok(encode_to_end(alloc, g, tags)?.record)
+}
+
+/// The same with the position in which the main line ends, which is reached where the record is made.
+pub fn encode_to_end(alloc: Global, g: &Game, tags: &[Tag]) -> Result<Encoded, EncodeError>
+    requires legal { IsLegalGame g.now }
+    requires tags { All IsTag tags.now }
+    ensures written { IfOk result (λ encoded. encoded.record.items ≡ written_record tags.now g.now) }
+    ensures fits { IfOk result (λ encoded. length encoded.record.items ≤ longest) }
+    ensures read_again { IfOk result (λ encoded. IsRecord encoded.record.items tags.now g.now) }
+    ensures last { IfOk result (λ encoded. encoded.last ≡ position_at g.now (plies_of g.now)) }
+    ensures too_long { IfErr result (IfTooLong (λ n. (n ≡ length (written_record tags.now g.now)) × (longest < n))) }
+{
+    let encoded = whole_record(alloc, g, tags)?;
+    let len = encoded.record.len();
     if len > LONGEST {
         Err(EncodeError::TooLong(len as u64))
     } else {
-        Ok(bytes)
+        Ok(encoded)
     }
 }
 
 // The record, however long it is.
-fn whole_record(alloc: Global, g: &Game, tags: &[Tag]) -> Result<Vec<u8>, AllocError>
+fn whole_record(alloc: Global, g: &Game, tags: &[Tag]) -> Result<Encoded, AllocError>
     requires legal { IsLegalGame g.now }
     requires tags { All IsTag tags.now }
-    ensures written { IfOk result (λ bytes. bytes.items ≡ written_record tags.now g.now) }
+    ensures written { IfOk result (λ encoded. encoded.record.items ≡ written_record tags.now g.now) }
+    ensures last { IfOk result (λ encoded. encoded.last ≡ position_at g.now (plies_of g.now)) }
     ensures is_game { IfOk result (λ _. IsGame g.now) }
 {
     let mut out = Vec::new(alloc);
@@ -52,11 +74,14 @@ fn whole_record(alloc: Global, g: &Game, tags: &[Tag]) -> Result<Vec<u8>, AllocE
     let flags = promotion_flags(g);
     let start = put_start(alloc, &mut out, &g.start, flags)?;
     let mut body = Body::new(alloc);
-    put_line(&mut body, &start, &g.lead, g.line.as_slice())?;
+    let end = put_line(&mut body, &start, &g.lead, g.line.as_slice())?;
     out.extend_from_slice(body.moves.as_slice())?;
     out.push(15)?;
     out.extend_from_slice(body.texts.as_slice())?;
-    Ok(out)
+    Ok(Encoded {
+        record: out,
+        last: *end.position(),
+    })
 }
 
 // The flags that tell of promotions: 2 where there is one in the main line or in a variation, and 4 more where there is

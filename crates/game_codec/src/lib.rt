@@ -29,7 +29,7 @@ mod walk;
 pub use all_walk::AllWalk;
 pub use checking::first_fault;
 pub use decoding::decode_game;
-pub use encoding::encode_game;
+pub use encoding::{Encoded, encode_game, encode_to_end};
 pub use event_date::event_date_in;
 pub use fault::{DecodeError, EncodeError, RecordFault, RecordWhat};
 pub use one_reading::bytes_have_one_reading;

@@ -1,7 +1,7 @@
 //! Writing the moves of a record and the texts of its comments.
-ghost use Rattle.std.specs.Prelude.{◌≡◌, ◌++◌, [], IfOk};
-ghost use Rattle.chess_laws.specs.Step.{Legal};
-ghost use Rattle.game_tree.specs.Tree.{line_of, branches_of};
+ghost use Rattle.std.specs.Prelude.{◌≡◌, ◌++◌, [], fold, IfOk};
+ghost use Rattle.chess_laws.specs.Step.{Legal, stepped};
+ghost use Rattle.game_tree.specs.Tree.{line_of, branches_of, moves_of};
 ghost use Rattle.game_tree.specs.Written.{comment_before, movetext_of};
 ghost use Rattle.game_tree.specs.Legal.{IsLegalLine, AreLegalBranches};
 ghost use Rattle.game_codec.specs.Texts.{texts_of, ended};
@@ -59,19 +59,20 @@ impl Body {
     }
 }
 
-/// Adds a line that begins at this position: its comment, and then its moves.
+/// Adds a line that begins at this position: its comment, and then its moves. Gives the position that it ends in.
 #[cycle(lines)]
 pub(crate) fn put_line(
     body: &mut Body,
     start: &Numbered,
     lead: &Option<Text>,
     line: &[Node],
-) -> Result<(), AllocError>
+) -> Result<Numbered, AllocError>
     requires legal { IsLegalLine start.now.position (line_of line.now) }
     ensures moves { IfOk result (λ _. body.new.moves.items
         ≡ body.old.moves.items ++ moves_text start.now start.now (comment_before lead.now (movetext_of (line_of line.now)))) }
     ensures texts { IfOk result (λ _. body.new.texts.items
         ≡ body.old.texts.items ++ ended (texts_of (comment_before lead.now (movetext_of (line_of line.now))))) }
+    ensures end { IfOk result (λ end. end.position ≡ fold stepped start.now.position (moves_of (line_of line.now))) }
 {
     body.put_comment(lead)?;
     let mut position = start.copy();
@@ -79,7 +80,7 @@ pub(crate) fn put_line(
         put_node(body, &position, node)?;
         position.play(node.mv);
     }
-    Ok(())
+    Ok(position)
 }
 
 // Adds a move of a line, by the position before it, with its NAGs, its comment and its variations.

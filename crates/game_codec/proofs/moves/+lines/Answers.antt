@@ -4,7 +4,7 @@ use Rattle.game_tree.specs.Written.{comment_before, movetext_of}
 use Rattle.game_codec.specs.Texts.{ended, texts_of}
 use Rattle.game_codec.specs.Written.{moves_text}
 use Rattle.game_codec.specs.Place.{numbered_after}
-use Rattle.game_codec.proofs.WritingLaws.{left_more, numbered-played, moves-more, texts-more, legal-more, texts-lead, variations-more, variations_texts-more, branches_legal-more}
+use Rattle.game_codec.proofs.WritingLaws.{left_more, numbered-played, moves-more, texts-more, legal-more, end-more, end-all, texts-lead, variations-more, variations_texts-more, branches_legal-more}
 use Rattle.game_codec.proofs.moves.+lines.Goals as goal
 
 -- What was written, by another name.
@@ -20,11 +20,15 @@ put_line-loop-node-preserved t c =
       legal = legal-more c.loop-node.position c.play.new.self c.args.line.now c.loop-node.node-index c.node-item.result left played c.loop-node.invariant.legal;
       moves = moves-more c.loop-node.position c.play.new.self c.args.line.now c.loop-node.node-index c.node-item.result _ _ _ left played c.in_ok-put_node.ensures.moves c.loop-node.invariant.moves;
       texts = texts-more c.args.line.now c.loop-node.node-index c.node-item.result _ _ _ left c.in_ok-put_node.ensures.texts c.loop-node.invariant.texts;
+      end = end-more c.loop-node.position c.play.new.self c.args.line.now c.loop-node.node-index c.node-item.result _ left played c.loop-node.invariant.end;
     }
 
 pub put_line-returns-clause-texts : goal.put_line-returns-clause-texts
 put_line-returns-clause-texts t c =
     texts-lead c.args.lead.now c.args.line.now c.loop-node.node-index _ _ _ c.loop-node-test.false c.in_ok-put_comment.ensures.texts c.loop-node.invariant.texts
+
+pub put_line-returns-clause-end : goal.put_line-returns-clause-end
+put_line-returns-clause-end t c = end-all c.loop-node.position c.args.line.now c.loop-node.node-index _ c.loop-node-test.false c.loop-node.invariant.end
 
 pub put_variations-loop-variation-preserved : goal.put_variations-loop-variation-preserved
 put_variations-loop-variation-preserved t c =

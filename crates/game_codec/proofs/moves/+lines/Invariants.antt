@@ -1,6 +1,8 @@
 use Rattle.std.proofs.Common.{◌≡◌, ◌++◌, drop}
+use Rattle.std.specs.Prelude.{fold}
+use Rattle.chess_laws.specs.Step.{stepped}
 use Rattle.game_tree.specs.Legal.{IsLegalLine, AreLegalBranches}
-use Rattle.game_tree.specs.Tree.{line_of, branches_of}
+use Rattle.game_tree.specs.Tree.{line_of, branches_of, moves_of}
 use Rattle.game_tree.specs.Written.{movetext_of}
 use Rattle.game_codec.specs.Texts.{texts_of, ended}
 use Rattle.game_codec.specs.Written.{moves_text}
@@ -15,6 +17,7 @@ invariant-put_line-loop-node l = record {
       ≡ l.initial.body.moves.items ++ moves_text l.start l.start (movetext_of (line_of l.line));
   texts : l.body.texts.items ++ ended (texts_of (movetext_of (line_of (drop l.node-index l.line))))
       ≡ l.initial.body.texts.items ++ ended (texts_of (movetext_of (line_of l.line)));
+  end : fold stepped l.position.position (moves_of (line_of (drop l.node-index l.line))) ≡ fold stepped l.start.position (moves_of (line_of l.line));
 }
 
 abbrev pub invariant-put_variations-loop-variation : goal.invariant-put_variations-loop-variation

@@ -19,16 +19,16 @@ use Rattle.base_core.proofs.base.Base.add.Goals as goal
 
 pub returns-then-i-ge-MOST_GAMES-clause-why : goal.returns-then-i-ge-MOST_GAMES-clause-why
 returns-then-i-ge-MOST_GAMES-clause-why g c =
-    let written = c.in_ok-record.ensures.written ∙ ap (λ (ts : List Tag). written_record ts c.args.g.now) c.as_slice.ensures.same in
-    let short : length (written_record c.args.head.now.tags c.args.g.now) ≤ longest = subst (λ (b : List ℕ). length b ≤ longest) written c.in_ok-record.ensures.fits in
+    let written = c.in_ok-encoded.ensures.written ∙ ap (λ (ts : List Tag). written_record ts c.args.g.now) c.as_slice.ensures.same in
+    let short : length (written_record c.args.head.now.tags c.args.g.now) ≤ longest = subst (λ (b : List ℕ). length b ≤ longest) written c.in_ok-encoded.ensures.fits in
     let entries : length c.self.inside.entries ≡ length c.args.self.now.entries = ap (λ (k : Kept). length k.entries) c.self.view_is in
     let many : 16777214 < length c.args.self.now.entries + 1 = omega (arith, c.if-i-ge-MOST_GAMES.true, c.len-i.ensures.len, entries) in
     (short, full-games (length c.args.self.now.entries + 1) (names_with c.args.head.now c.args.self.now.names) (end_with c.args.head.now c.args.g.now c.args.self.now.end) many)
 
 pub returns-in_err-ids-clause-why : goal.returns-in_err-ids-clause-why
 returns-in_err-ids-clause-why g c =
-    let written = c.in_ok-record.ensures.written ∙ ap (λ (ts : List Tag). written_record ts c.args.g.now) c.as_slice.ensures.same in
-    let short : length (written_record c.args.head.now.tags c.args.g.now) ≤ longest = subst (λ (b : List ℕ). length b ≤ longest) written c.in_ok-record.ensures.fits in
+    let written = c.in_ok-encoded.ensures.written ∙ ap (λ (ts : List Tag). written_record ts c.args.g.now) c.as_slice.ensures.same in
+    let short : length (written_record c.args.head.now.tags c.args.g.now) ≤ longest = subst (λ (b : List ℕ). length b ≤ longest) written c.in_ok-encoded.ensures.fits in
     let entries : length c.self.inside.entries ≡ length c.args.self.now.entries = ap (λ (k : Kept). length k.entries) c.self.view_is in
     let few : length c.args.self.now.entries + 1 ≤ 16777214 = omega (arith, c.if-i-ge-MOST_GAMES.false, c.len-i.ensures.len, entries) in
     let N : Kept → Type 0 = λ k. IfFull (λ w. full_names (names_with c.args.head.now k.names) ≡ Some w) c.in_err-ids.field-0.0 in
@@ -38,11 +38,11 @@ returns-in_err-ids-clause-why g c =
 
 pub add_entry-requires-clause-fields : goal.add_entry-requires-clause-fields
 add_entry-requires-clause-fields g c =
-    let written = c.in_ok-record.ensures.written ∙ ap (λ (ts : List Tag). written_record ts c.args.g.now) c.as_slice.ensures.same in
-    let short : length c.in_ok-record.record.items ≤ 131071 = c.in_ok-record.ensures.fits in
-    let long : c.len.result ≡ length c.in_ok-record.record.items = c.len.ensures ∙ (sym c.as_slice-2.ensures.len ∙ ap (λ (b : List ℕ). length b) c.as_slice-2.ensures.value) in
-    made-fields c.entry_with-entry.result c.add_names.new.names c.args.head.now c.in_ok-ids.ids c.sig_of.result c.len.result c.entry_with-entry.ensures.entry c.in_ok-ids.ensures.ids c.add_names.ensures.sound
-    c.requires.bounded c.requires.settled c.sig_of.ensures.bounded (omega (arith, long, short))
+    let written = c.in_ok-encoded.ensures.written ∙ ap (λ (ts : List Tag). written_record ts c.args.g.now) c.as_slice.ensures.same in
+    let short : length c.in_ok-encoded.encoded.record.items ≤ 131071 = c.in_ok-encoded.ensures.fits in
+    let long : c.len.result ≡ length c.in_ok-encoded.encoded.record.items = c.len.ensures ∙ (sym c.as_slice-2.ensures.len ∙ ap (λ (b : List ℕ). length b) c.as_slice-2.ensures.value) in
+    made-fields c.entry_with-entry.result c.add_names.new.names c.args.head.now c.in_ok-ids.ids c.sig_ending.result c.len.result c.entry_with-entry.ensures.entry c.in_ok-ids.ensures.ids c.add_names.ensures.sound
+    c.requires.bounded c.requires.settled c.sig_ending.ensures.bounded (omega (arith, long, short))
 
 pub invariant_of-self-in-Err : goal.invariant_of-self-in-Err
 invariant_of-self-in-Err g c =
@@ -53,7 +53,7 @@ pub returns-in-Err-clause-why : goal.returns-in-Err-clause-why
 returns-in-Err-clause-why g c =
     let head = c.args.head.now in
     let bytes = written_record head.tags c.args.g.now in
-    let written = c.in_ok-record.ensures.written ∙ ap (λ (ts : List Tag). written_record ts c.args.g.now) c.as_slice.ensures.same in
+    let written = c.in_ok-encoded.ensures.written ∙ ap (λ (ts : List Tag). written_record ts c.args.g.now) c.as_slice.ensures.same in
     let slice = c.as_slice-2.ensures.value ∙ written in
     let entries : length c.self.inside.entries ≡ length c.args.self.now.entries = ap (λ (k : Kept). length k.entries) c.self.view_is in
     let few : length c.args.self.now.entries + 1 ≤ 16777214 = omega (arith, c.if-i-ge-MOST_GAMES.false, c.len-i.ensures.len, entries) in
@@ -84,12 +84,12 @@ invariant_of-self-2 g c =
     let bytes = c.as_slice-2.result.now in
     let offset = old.end + padding old.end (length bytes) in
     let long : c.len.result ≡ length bytes = c.len.ensures ∙ sym c.as_slice-2.ensures.len in
-    let short : length bytes ≤ 131071 = subst (λ (b : List ℕ). length b ≤ 131071) (sym c.as_slice-2.ensures.value) c.in_ok-record.ensures.fits in
-    let entry = entry-is c.entry_with-entry.result c.in_ok-ids.ids head c.sig_of.result bytes bytes c.len.result old.end c.entry_with-entry.ensures.entry long refl in
-    let e = entry_with c.in_ok-ids.ids head c.sig_of.result (length bytes) offset in
+    let short : length bytes ≤ 131071 = subst (λ (b : List ℕ). length b ≤ 131071) (sym c.as_slice-2.ensures.value) c.in_ok-encoded.ensures.fits in
+    let entry = entry-is c.entry_with-entry.result c.in_ok-ids.ids head c.sig_ending.result bytes bytes c.len.result old.end c.entry_with-entry.ensures.entry long refl in
+    let e = entry_with c.in_ok-ids.ids head c.sig_ending.result (length bytes) offset in
     let entries : c.add_entry.new.entries ≡ old.entries ++ e ∷ [] = c.in_default.ensures.added ∙ ap (λ (x : Entry). old.entries ++ x ∷ []) entry in
-    let fields = entry-fields c.add_names.new.names head c.in_ok-ids.ids c.sig_of.result (length bytes) offset c.in_ok-ids.ensures.ids c.add_names.ensures.sound c.requires.bounded c.requires.settled c.sig_of.ensures.bounded short in
-    let kept = entry-kept c.add_names.new.names c.add_entry.new.store head c.in_ok-ids.ids c.sig_of.result (length bytes) offset c.in_ok-ids.ensures.ids fields c.sig_of.ensures.bounded c.in_default.ensures.in_block in
+    let fields = entry-fields c.add_names.new.names head c.in_ok-ids.ids c.sig_ending.result (length bytes) offset c.in_ok-ids.ensures.ids c.add_names.ensures.sound c.requires.bounded c.requires.settled c.sig_ending.ensures.bounded short in
+    let kept = entry-kept c.add_names.new.names c.add_entry.new.store head c.in_ok-ids.ids c.sig_ending.result (length bytes) offset c.in_ok-ids.ensures.ids fields c.sig_ending.ensures.bounded c.in_default.ensures.in_block in
     let longer : old.end ≤ c.add_entry.new.store = omega (arith, c.in_default.ensures.ended) in
     let few : old.header.games < 16777214 = omega (arith, c.if-i-ge-MOST_GAMES.false, c.len-i.ensures.len, c.self.invariant.count) in
     let G : List Entry → Type 0 = λ es. IsSound (record { header = record old.header { games = old.header.games + 1 }; names = c.add_names.new.names; entries = es; end = c.add_entry.new.store; unsaved = true }) in
@@ -101,19 +101,19 @@ returns-clause-added g c =
     let game = c.args.g.now in
     let old : Kept = record { header = c.self.inside.header; names = c.self.inside.names; entries = c.self.inside.entries; end = c.self.inside.store; unsaved = c.self.inside.unsaved } in
     let bytes = written_record head.tags game in
-    let written : c.in_ok-record.record.items ≡ bytes = c.in_ok-record.ensures.written ∙ ap (λ (ts : List Tag). written_record ts game) c.as_slice.ensures.same in
+    let written : c.in_ok-encoded.encoded.record.items ≡ bytes = c.in_ok-encoded.ensures.written ∙ ap (λ (ts : List Tag). written_record ts game) c.as_slice.ensures.same in
     let slice : c.as_slice-2.result.now ≡ bytes = c.as_slice-2.ensures.value ∙ written in
     let long : c.len.result ≡ length c.as_slice-2.result.now = c.len.ensures ∙ sym c.as_slice-2.ensures.len in
-    let e = entry_with c.in_ok-ids.ids head c.sig_of.result (length bytes) (old.end + padding old.end (length bytes)) in
-    let entry = entry-is c.entry_with-entry.result c.in_ok-ids.ids head c.sig_of.result bytes c.as_slice-2.result.now c.len.result old.end c.entry_with-entry.ensures.entry long slice in
+    let e = entry_with c.in_ok-ids.ids head c.sig_ending.result (length bytes) (old.end + padding old.end (length bytes)) in
+    let entry = entry-is c.entry_with-entry.result c.in_ok-ids.ids head c.sig_ending.result bytes c.as_slice-2.result.now c.len.result old.end c.entry_with-entry.ensures.entry long slice in
     let entries : c.add_entry.new.entries ≡ old.entries ++ e ∷ [] = c.in_default.ensures.added ∙ ap (λ (x : Entry). old.entries ++ x ∷ []) entry in
     let names : c.add_names.new.names ≡ names_with head old.names = c.in_ok-ids.ensures.names in
     let end : c.add_entry.new.store ≡ end_with head game old.end = c.in_default.ensures.ended ∙ ap (λ (b : List ℕ). end_after old.end (length b)) slice in
     let H : NameLists → Type 0 = λ n. HoldsNames n old.names in
     let A : NameLists → Type 0 = λ n. AreIds n head c.in_ok-ids.ids in
     let R : List ℕ → List Tag → Type 0 = λ b ts. IsRecord b ts game in
-    let read = subst (λ (ts : List Tag). R bytes ts) c.as_slice.ensures.same (subst (λ (b : List ℕ). R b c.as_slice.result.now) written c.in_ok-record.ensures.read_again) in
-    let done = adds old head game c.in_ok-ids.ids c.sig_of.result c.self.invariant (subst H names c.add_names.ensures.holds) (subst A names c.in_ok-ids.ensures.ids) c.requires.settled c.sig_of.ensures.signature read in
+    let read = subst (λ (ts : List Tag). R bytes ts) c.as_slice.ensures.same (subst (λ (b : List ℕ). R b c.as_slice.result.now) written c.in_ok-encoded.ensures.read_again) in
+    let done = adds old head game c.in_ok-ids.ids c.sig_ending.result c.self.invariant (subst H names c.add_names.ensures.holds) (subst A names c.in_ok-ids.ensures.ids) c.requires.settled c.sig_ending.ensures.signature read in
     let N : NameLists → List Entry → ℕ → Kept = λ n es last. record { header = record old.header { games = old.header.games + 1 }; names = n; entries = es; end = last; unsaved = true } in
     let new : N c.add_names.new.names c.add_entry.new.entries c.add_entry.new.store ≡ N (names_with head old.names) (old.entries ++ e ∷ []) (end_with head game old.end) =
     ap (λ (n : NameLists). N n c.add_entry.new.entries c.add_entry.new.store) names
@@ -131,7 +131,7 @@ pub returns-clause-room : goal.returns-clause-room
 returns-clause-room g c =
     let head = c.args.head.now in
     let bytes = written_record head.tags c.args.g.now in
-    let written = c.in_ok-record.ensures.written ∙ ap (λ (ts : List Tag). written_record ts c.args.g.now) c.as_slice.ensures.same in
+    let written = c.in_ok-encoded.ensures.written ∙ ap (λ (ts : List Tag). written_record ts c.args.g.now) c.as_slice.ensures.same in
     let slice = c.as_slice-2.ensures.value ∙ written in
     let entries : length c.self.inside.entries ≡ length c.args.self.now.entries = ap (λ (k : Kept). length k.entries) c.self.view_is in
     let few : length c.args.self.now.entries + 1 ≤ 16777214 = omega (arith, c.if-i-ge-MOST_GAMES.false, c.len-i.ensures.len, entries) in
@@ -142,6 +142,6 @@ returns-clause-room g c =
     let B : List ℕ → Type 0 = λ b. or_file None (end_after c.self.inside.store (length b)) ≡ None in
     let K : Kept → Type 0 = λ k. or_file None (end_after k.end (length bytes)) ≡ None in
     record {
-      short = subst (λ (b : List ℕ). length b ≤ longest) written c.in_ok-record.ensures.fits;
+      short = subst (λ (b : List ℕ). length b ≤ longest) written c.in_ok-encoded.ensures.fits;
       room = full ∙ subst K c.self.view_is (subst B slice c.in_default.ensures.room);
     }

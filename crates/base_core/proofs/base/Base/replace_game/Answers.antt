@@ -20,8 +20,8 @@ use Rattle.base_core.proofs.base.Base.replace_game.Goals as goal
 
 pub returns-in_err-ids-clause-why : goal.returns-in_err-ids-clause-why
 returns-in_err-ids-clause-why g c =
-    let written = c.in_ok-record.ensures.written ∙ ap (λ (ts : List Tag). written_record ts c.args.g.now) c.as_slice.ensures.same in
-    let short : length (written_record c.args.head.now.tags c.args.g.now) ≤ longest = subst (λ (b : List ℕ). length b ≤ longest) written c.in_ok-record.ensures.fits in
+    let written = c.in_ok-encoded.ensures.written ∙ ap (λ (ts : List Tag). written_record ts c.args.g.now) c.as_slice.ensures.same in
+    let short : length (written_record c.args.head.now.tags c.args.g.now) ≤ longest = subst (λ (b : List ℕ). length b ≤ longest) written c.in_ok-encoded.ensures.fits in
     let sound : IsSound c.args.self.now = subst (λ (k : Kept). IsSound k) c.self.view_is c.self.invariant in
     let N : Kept → Type 0 = λ k. IfFull (λ w. full_names (names_with c.args.head.now k.names) ≡ Some w) c.in_err-ids.field-0.0 in
     let told = not-replaced c.args.self.now c.args.i (length (written_record c.args.head.now.tags c.args.g.now))
@@ -40,7 +40,7 @@ pub returns-in-Err-clause-why : goal.returns-in-Err-clause-why
 returns-in-Err-clause-why g c =
     let head = c.args.head.now in
     let bytes = written_record head.tags c.args.g.now in
-    let written = c.in_ok-record.ensures.written ∙ ap (λ (ts : List Tag). written_record ts c.args.g.now) c.as_slice.ensures.same in
+    let written = c.in_ok-encoded.ensures.written ∙ ap (λ (ts : List Tag). written_record ts c.args.g.now) c.as_slice.ensures.same in
     let slice = c.as_slice-2.ensures.value ∙ written in
     let sound : IsSound c.args.self.now = subst (λ (k : Kept). IsSound k) c.self.view_is c.self.invariant in
     let names : c.add_names.new.names ≡ names_with head c.args.self.now.names = c.in_ok-ids.ensures.names ∙ ap (λ (k : Kept). names_with head k.names) c.self.view_is in
@@ -68,14 +68,14 @@ pub set-requires-clause-fields : goal.set-requires-clause-fields
 set-requires-clause-fields g c =
     let bytes = c.as_slice-2.result.now in
     let long : c.len-2.result ≡ length bytes = c.len-2.ensures ∙ sym c.as_slice-2.ensures.len in
-    let short : length bytes ≤ 131071 = subst (λ (b : List ℕ). length b ≤ 131071) (sym c.as_slice-2.ensures.value) c.in_ok-record.ensures.fits in
+    let short : length bytes ≤ 131071 = subst (λ (b : List ℕ). length b ≤ 131071) (sym c.as_slice-2.ensures.value) c.in_ok-encoded.ensures.fits in
     let E : Entry → Type 0 = λ e. IsEntry e in
     let O : ℕ → Type 0 = λ o. IsEntry (record c.entry_with-entry.result { offset = o }) in
-    let entry = entry-is c.entry_with-entry.result c.in_ok-ids.ids c.args.head.now c.sig_of.result bytes bytes c.len-2.result c.self.inside.store c.entry_with-entry.ensures.entry long refl in
+    let entry = entry-is c.entry_with-entry.result c.in_ok-ids.ids c.args.head.now c.sig_ending.result bytes bytes c.len-2.result c.self.inside.store c.entry_with-entry.ensures.entry long refl in
     subst O (sym c.in-Ok.ensures.offset)
     (subst E (sym entry)
-    (entry-fields c.add_names.new.names c.args.head.now c.in_ok-ids.ids c.sig_of.result (length bytes) (c.self.inside.store + padding c.self.inside.store (length bytes)) c.in_ok-ids.ensures.ids c.add_names.ensures.sound c.requires.bounded
-    c.requires.settled c.sig_of.ensures.bounded short))
+    (entry-fields c.add_names.new.names c.args.head.now c.in_ok-ids.ids c.sig_ending.result (length bytes) (c.self.inside.store + padding c.self.inside.store (length bytes)) c.in_ok-ids.ensures.ids c.add_names.ensures.sound c.requires.bounded
+    c.requires.settled c.sig_ending.ensures.bounded short))
 
 pub invariant_of-self-2 : goal.invariant_of-self-2
 invariant_of-self-2 g c =
@@ -84,15 +84,15 @@ invariant_of-self-2 g c =
     let bytes = c.as_slice-2.result.now in
     let offset = old.end + padding old.end (length bytes) in
     let long : c.len-2.result ≡ length bytes = c.len-2.ensures ∙ sym c.as_slice-2.ensures.len in
-    let short : length bytes ≤ 131071 = subst (λ (b : List ℕ). length b ≤ 131071) (sym c.as_slice-2.ensures.value) c.in_ok-record.ensures.fits in
-    let e = entry_with c.in_ok-ids.ids head c.sig_of.result (length bytes) offset in
+    let short : length bytes ≤ 131071 = subst (λ (b : List ℕ). length b ≤ 131071) (sym c.as_slice-2.ensures.value) c.in_ok-encoded.ensures.fits in
+    let e = entry_with c.in_ok-ids.ids head c.sig_ending.result (length bytes) offset in
     let entry : record c.entry_with-entry.result { offset = c.in-Ok.offset } ≡ e =
     ap (λ (o : ℕ). record c.entry_with-entry.result { offset = o }) c.in-Ok.ensures.offset
-    ∙ entry-is c.entry_with-entry.result c.in_ok-ids.ids head c.sig_of.result bytes bytes c.len-2.result old.end c.entry_with-entry.ensures.entry long refl
+    ∙ entry-is c.entry_with-entry.result c.in_ok-ids.ids head c.sig_ending.result bytes bytes c.len-2.result old.end c.entry_with-entry.ensures.entry long refl
     in
     let entries : c.set.new.self ≡ slice_set old.entries c.args.i e = c.set.ensures.set ∙ ap (λ (x : Entry). slice_set old.entries c.args.i x) entry in
-    let fields = entry-fields c.add_names.new.names head c.in_ok-ids.ids c.sig_of.result (length bytes) offset c.in_ok-ids.ensures.ids c.add_names.ensures.sound c.requires.bounded c.requires.settled c.sig_of.ensures.bounded short in
-    let kept = entry-kept c.add_names.new.names c.place_record.new.store head c.in_ok-ids.ids c.sig_of.result (length bytes) offset c.in_ok-ids.ensures.ids fields c.sig_of.ensures.bounded c.in-Ok.ensures.in_block in
+    let fields = entry-fields c.add_names.new.names head c.in_ok-ids.ids c.sig_ending.result (length bytes) offset c.in_ok-ids.ensures.ids c.add_names.ensures.sound c.requires.bounded c.requires.settled c.sig_ending.ensures.bounded short in
+    let kept = entry-kept c.add_names.new.names c.place_record.new.store head c.in_ok-ids.ids c.sig_ending.result (length bytes) offset c.in_ok-ids.ensures.ids fields c.sig_ending.ensures.bounded c.in-Ok.ensures.in_block in
     let longer : old.end ≤ c.place_record.new.store = omega (arith, c.in-Ok.ensures.ended) in
     let G : List Entry → Type 0 = λ es. IsSound (record { header = old.header; names = c.add_names.new.names; entries = es; end = c.place_record.new.store; unsaved = true }) in
     subst G (sym entries) (entry-sound old c.args.i c.add_names.new.names e c.place_record.new.store c.self.invariant c.add_names.ensures.sound c.add_names.ensures.holds longer kept)
@@ -103,14 +103,14 @@ returns-clause-replaced g c =
     let game = c.args.g.now in
     let old : Kept = record { header = c.self.inside.header; names = c.self.inside.names; entries = c.self.inside.entries; end = c.self.inside.store; unsaved = c.self.inside.unsaved } in
     let bytes = written_record head.tags game in
-    let written : c.in_ok-record.record.items ≡ bytes = c.in_ok-record.ensures.written ∙ ap (λ (ts : List Tag). written_record ts game) c.as_slice.ensures.same in
+    let written : c.in_ok-encoded.encoded.record.items ≡ bytes = c.in_ok-encoded.ensures.written ∙ ap (λ (ts : List Tag). written_record ts game) c.as_slice.ensures.same in
     let slice : c.as_slice-2.result.now ≡ bytes = c.as_slice-2.ensures.value ∙ written in
     let long : c.len-2.result ≡ length c.as_slice-2.result.now = c.len-2.ensures ∙ sym c.as_slice-2.ensures.len in
     let there : c.args.i < length old.entries = omega (arith, c.if-len-i.false, c.len.ensures.len) in
-    let e = entry_with c.in_ok-ids.ids head c.sig_of.result (length bytes) (old.end + padding old.end (length bytes)) in
+    let e = entry_with c.in_ok-ids.ids head c.sig_ending.result (length bytes) (old.end + padding old.end (length bytes)) in
     let entry : record c.entry_with-entry.result { offset = c.in-Ok.offset } ≡ e =
     ap (λ (o : ℕ). record c.entry_with-entry.result { offset = o }) c.in-Ok.ensures.offset
-    ∙ entry-is c.entry_with-entry.result c.in_ok-ids.ids head c.sig_of.result bytes c.as_slice-2.result.now c.len-2.result old.end c.entry_with-entry.ensures.entry long slice
+    ∙ entry-is c.entry_with-entry.result c.in_ok-ids.ids head c.sig_ending.result bytes c.as_slice-2.result.now c.len-2.result old.end c.entry_with-entry.ensures.entry long slice
     in
     let entries : c.set.new.self ≡ slice_set old.entries c.args.i e = c.set.ensures.set ∙ ap (λ (x : Entry). slice_set old.entries c.args.i x) entry in
     let names : c.add_names.new.names ≡ names_with head old.names = c.in_ok-ids.ensures.names in
@@ -118,8 +118,8 @@ returns-clause-replaced g c =
     let H : NameLists → Type 0 = λ n. HoldsNames n old.names in
     let A : NameLists → Type 0 = λ n. AreIds n head c.in_ok-ids.ids in
     let R : List ℕ → List Tag → Type 0 = λ b ts. IsRecord b ts game in
-    let read = subst (λ (ts : List Tag). R bytes ts) c.as_slice.ensures.same (subst (λ (b : List ℕ). R b c.as_slice.result.now) written c.in_ok-record.ensures.read_again) in
-    let done = replaces old c.args.i head game c.in_ok-ids.ids c.sig_of.result c.self.invariant there (subst H names c.add_names.ensures.holds) (subst A names c.in_ok-ids.ensures.ids) c.requires.settled c.sig_of.ensures.signature read in
+    let read = subst (λ (ts : List Tag). R bytes ts) c.as_slice.ensures.same (subst (λ (b : List ℕ). R b c.as_slice.result.now) written c.in_ok-encoded.ensures.read_again) in
+    let done = replaces old c.args.i head game c.in_ok-ids.ids c.sig_ending.result c.self.invariant there (subst H names c.add_names.ensures.holds) (subst A names c.in_ok-ids.ensures.ids) c.requires.settled c.sig_ending.ensures.signature read in
     let N : NameLists → List Entry → ℕ → Kept = λ n es last. record { header = old.header; names = n; entries = es; end = last; unsaved = true } in
     let new : N c.add_names.new.names c.set.new.self c.place_record.new.store ≡ N (names_with head old.names) (slice_set old.entries c.args.i e) (end_with head game old.end) =
     ap (λ (n : NameLists). N n c.set.new.self c.place_record.new.store) names
@@ -133,7 +133,7 @@ pub returns-clause-room : goal.returns-clause-room
 returns-clause-room g c =
     let head = c.args.head.now in
     let bytes = written_record head.tags c.args.g.now in
-    let written = c.in_ok-record.ensures.written ∙ ap (λ (ts : List Tag). written_record ts c.args.g.now) c.as_slice.ensures.same in
+    let written = c.in_ok-encoded.ensures.written ∙ ap (λ (ts : List Tag). written_record ts c.args.g.now) c.as_slice.ensures.same in
     let slice = c.as_slice-2.ensures.value ∙ written in
     let sound : IsSound c.args.self.now = subst (λ (k : Kept). IsSound k) c.self.view_is c.self.invariant in
     let names : c.add_names.new.names ≡ names_with head c.args.self.now.names = c.in_ok-ids.ensures.names ∙ ap (λ (k : Kept). names_with head k.names) c.self.view_is in
@@ -143,7 +143,7 @@ returns-clause-room g c =
     let B : List ℕ → Type 0 = λ b. or_file None (end_after c.self.inside.store (length b)) ≡ None in
     let K : Kept → Type 0 = λ k. or_file None (end_after k.end (length bytes)) ≡ None in
     record {
-      short = subst (λ (b : List ℕ). length b ≤ longest) written c.in_ok-record.ensures.fits;
+      short = subst (λ (b : List ℕ). length b ≤ longest) written c.in_ok-encoded.ensures.fits;
       room = full ∙ subst K c.self.view_is (subst B slice c.in-Ok.ensures.room);
     }
 
