@@ -5,13 +5,11 @@ ghost use Rattle.base_core.specs.FirstFault.{derived_fault, entry_checked, id_fa
 ghost use Rattle.base_core.specs.Reading.{kept_entry};
 
 use crate::fault::{BaseFault, DerivedField, IdField, PlaceWhat};
+use block_store::BLOCK_LEN;
 use game_tree::Date;
 use index_entry::{ENTRY_LEN, Entry, unpack};
 use name_base::{NameKind, Names};
 use sig_index::Sig;
-
-/// The bytes of a block of the games file.
-const BLOCK_LEN: u64 = 131_072;
 
 /// What the entries of a base that is opened are held against: its names, the end of its games file, and whether derived fields are to
 /// be those of the records.

@@ -18,14 +18,11 @@ use crate::entries::Entries;
 use crate::fault::{DraftError, EditError, What};
 use crate::naming::{NameIds, counts_of, cut_names};
 use crate::taking::{take_names, take_part};
-use block_store::{Store, padding};
+use block_store::{LONGEST_FILE, Store, padding};
 use index_entry::{Entry, IndexHead};
 use name_base::{Names, PartNames};
 use std::alloc::{AllocError, Global};
 use std::marker::Model;
-
-/// The greatest length of a games file.
-const LONGEST_FILE: u64 = 4_294_967_295;
 
 /// A base that takes over games of an open base one by one: their heads, the names that they use, and the places that their records are
 /// to have in a new games file.

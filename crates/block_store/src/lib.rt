@@ -5,4 +5,4 @@ mod fault;
 mod store;
 
 pub use fault::StoreError;
-pub use store::{Store, padding};
+pub use store::{BLOCK_LEN, LONGEST_FILE, Store, padding};

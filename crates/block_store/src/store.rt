@@ -11,10 +11,10 @@ use base_files::{Extent, Failed, Files};
 use std::marker::Model;
 
 /// The bytes of a block of the games file.
-const BLOCK_LEN: u64 = 131_072;
+pub const BLOCK_LEN: u64 = 131_072;
 
 /// The greatest length of a games file.
-const LONGEST_FILE: u64 = 4_294_967_295;
+pub const LONGEST_FILE: u64 = 4_294_967_295;
 
 /// Where the games file ends, which is where the next record goes.
 #[derive(Drop)]

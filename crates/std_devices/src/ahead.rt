@@ -42,6 +42,23 @@ impl Ahead {
         true
     }
 
+    /// Whether this place of the games file lies in the block that was turned to last, or in the one behind it. So it is where records
+    /// are read in their order.
+    pub fn is_near(&self, offset: u64) -> bool {
+        let block = offset / BLOCK as u64;
+        let last = self.start / BLOCK as u64;
+        match block.checked_sub(last) {
+            Some(further) => further <= 1,
+            None => false,
+        }
+    }
+
+    /// Turns to the block of this place, of which nothing is read ahead.
+    pub fn turn_to(&mut self, offset: u64) {
+        self.filled = 0;
+        self.start = offset - offset % BLOCK as u64;
+    }
+
     /// Forgets what was read ahead.
     pub fn forget(&mut self) {
         self.filled = 0;
@@ -49,8 +66,7 @@ impl Ahead {
 
     /// Reads the block of this place ahead, as far as the file goes.
     pub fn read<F: Read + Seek>(&mut self, games: &mut F, offset: u64) -> io::Result<()> {
-        self.filled = 0;
-        self.start = offset - offset % BLOCK as u64;
+        self.turn_to(offset);
         games.seek(SeekFrom::Start(self.start))?;
         self.filled = read_up_to(games, self.block.as_mut_slice())?;
         Ok(())

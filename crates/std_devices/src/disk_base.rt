@@ -128,15 +128,19 @@ impl DiskBase {
     /// Fills `into` from this place of the games file on. A file that ends early is an error.
     ///
     /// What lies in one block is taken from a block that is read at once, so that going through the records of a games
-    /// file costs one call of the system a block.
+    /// file costs one call of the system a block. A record that lies elsewhere is read alone.
     pub fn read_games(&mut self, offset: u64, into: &mut [u8]) -> Result<(), Trouble> {
         if self.ahead.gives(offset, into) {
             return Ok(());
         }
         let games = &mut self.files.games.file;
-        self.ahead.read(games, offset).on(Kind::Games.current())?;
-        if self.ahead.gives(offset, into) {
-            return Ok(());
+        if self.ahead.is_near(offset) {
+            self.ahead.read(games, offset).on(Kind::Games.current())?;
+            if self.ahead.gives(offset, into) {
+                return Ok(());
+            }
+        } else {
+            self.ahead.turn_to(offset);
         }
         read_at(games, offset, into).on(Kind::Games.current())
     }
