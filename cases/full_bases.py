@@ -5,9 +5,9 @@ compaction is that would pass it.
 usage: cases/full_bases.py [PROGRAM]
 
 The bases are too large to be kept as cases: each is the Vienna game (make_bases.py) beside as many names of one kind as leave room for one
-more, or in a games file that has room for one more record; or one game without moves as often as leaves room for one more game in the base,
-or under its position index. And one is a game of the longest record as often as a games file has no room for, all of one record, so that it
-can't be compacted. Of an event in which 200 names play there is a crosstable, of one with 201 there is none.
+more, or in a games file that has room for one more record; or one game without moves as often as leaves room for one more game. And one is
+a game of the longest record as often as a games file has no room for, all of one record, so that it can't be compacted. Of an event in
+which 200 names play there is a crosstable, of one with 201 there is none.
 """
 import os
 import pathlib
@@ -20,7 +20,6 @@ from make_bases import HERE, VIENNA, VIENNA_RECORD, entry, game, index
 LONGEST_FILE = 4_294_967_295
 MOST_GAMES = 16_777_214
 BLOCKS = 32_768
-MOST_INDEXED = 16_000_000 // 41
 LONGEST_RECORD = 131_071
 LIMITS = {"players": 1_048_576, "events": 524_288, "sites": 524_288, "rounds": 262_144}
 TAGS = {"players": "White", "events": "Event", "sites": "Site", "rounds": "Round"}
@@ -87,25 +86,6 @@ def full_new_file(program):
     return run(program, parts, len(record), "compact\nreset\nquit\n", BLOCKS)
 
 
-def indexed_games(program, games, script):
-    """A base of so many games without moves."""
-    record = game(b"")
-    header = index([])[:14] + games.to_bytes(3, "big") + index([])[17:]
-    parts = {".si4": header + entry(0, len(record)), ".sn4": names_file([1, 1, 1, 1]), ".sg4": record}
-    return run(program, parts, len(record), script + "quit\n", games - 1)
-
-
-def full_index(program):
-    """One game fewer than an index of 40 plies may have: the second game that comes has no room in it, and one that takes another's place has."""
-    script = "index 40\nimport <<X\n*\n\n*\nX\nreplace 0 <<X\n*\nX\nindex off\nimport <<X\n*\nX\n"
-    return indexed_games(program, MOST_INDEXED - 1, script)
-
-
-def index_too_big(program):
-    """One game more than it may have. The index that stands stays."""
-    return indexed_games(program, MOST_INDEXED + 1, "index 40\nindex 39\nindex 40\ninfo\n")
-
-
 def many_players(program):
     """Each of the names but the last plays one game as White with the next, and wins."""
     last, record = 200, game(b"")
@@ -141,15 +121,6 @@ def main():
     wanted = f"error: full file\nfilter {BLOCKS + 1} of {BLOCKS + 1}\n"
     failed += (text := full_new_file(program)) != wanted
     print(f"full new file: {text!r}" if text != wanted else "full new file: as it should be")
-    games = MOST_INDEXED - 1
-    wanted = f"index 40 {games} entries\nadded {games}\nerror: game 2: full index\nimported 1 refused 1\nreplaced 0\nindex off\nadded {games + 1}\nimported 1 refused 0\nunsaved\n"
-    failed += (text := full_index(program)) != wanted
-    print(f"full index: {text!r}" if text != wanted else "full index: as it should be")
-    games = MOST_INDEXED + 1
-    info = f"games {games} deleted 0 players 1 events 1 sites 1 rounds 1 unsaved no index 39\n"
-    wanted = f"error: index too big\nindex 39 {games} entries\nerror: index too big\n{info}"
-    failed += (text := index_too_big(program)) != wanted
-    print(f"index too big: {text!r}" if text != wanted else "index too big: as it should be")
     wanted = f"error: too many players\ndeleted 199\n{crosstable_of_many_players()}unsaved\n"
     failed += (text := many_players(program)) != wanted
     print(f"many players: {text!r}" if text != wanted else "many players: as it should be")

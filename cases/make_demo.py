@@ -232,3 +232,5 @@ listed = "0 0 0-1 ????.??.?? - Demo White - Demo Black\nfilter 1 of 1\n"
 write("demo_of_one_game", "demo 1 1\nlist\n", demo_text(one) + listed, one)
 many = list(games_of(7, 2000))
 write("demo_of_many_games", "demo 7 2000\n", demo_text(many), many)
+mated = list(games_of(257, 1))
+write("demo_of_a_mate", "demo 257 1\n", demo_text(mated), mated)

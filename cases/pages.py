@@ -1,7 +1,9 @@
 #!/usr/bin/env python3
 """Runs scid_page over bases whose games are known, and looks at every page: its numbers are those of `tree` as scid_shell writes them, the
-positions that have a page and the games of a page are those that a count in Python finds, every link leads somewhere, and names are
-shown as they are, whatever HTML means by them. Then it looks at how runs end that can't be done.
+positions that have a page and the games of a page are those that a count in Python finds, every link leads somewhere, the way that leads to
+a page goes along links of other pages by their moves, and scid_shell, which plays it, comes to the page's position with its last move; and
+names are shown as they are, whatever HTML means by them. A book of some of the games has the numbers of `tree` behind `search and header`.
+Then it looks at how runs end that can't be done.
 
 usage: cases/pages.py [SCID_PAGE SCID_SHELL]
 """
@@ -72,7 +74,7 @@ class Page(HTMLParser):
         super().__init__(convert_charrefs=True)
         self.links, self.ids, self.rows, self.names, self.way, self.title, self.side = [], set(), [], [], [], "", None
         self.board, self.place, self.table, self.cell, self.facing, self.where = {}, [], None, None, False, None
-        self.flipped = False
+        self.flipped, self.inner, self.numbers = False, None, {}
         self.feed(text)
         self.close()
 
@@ -102,8 +104,8 @@ class Page(HTMLParser):
             self.place = []
         if tag == "p" and given.get("class") == "way":
             self.where = "way"
-        if tag == "a" and self.where == "way":
-            self.way.append([given["href"], ""])
+        if tag in ("a", "span") and self.where == "way":
+            self.inner = tag, given.get("href")
         if tag in ("h1", "title"):
             self.where = tag
 
@@ -115,20 +117,32 @@ class Page(HTMLParser):
             self.cell = None
         if tag == "tr":
             (self.rows if self.table == "moves" else self.names).append(self.place)
+        if tag in ("a", "span"):
+            self.inner = None
         if tag in ("p", "h1", "title"):
             self.where = None
 
     def handle_data(self, data):
         if self.cell is not None:
             self.cell[0] += data
-        if self.where == "way" and self.way:
-            self.way[-1][1] += data
+        if self.where == "way":
+            self.take_step(data)
         if self.where == "title":
             self.title += data
         if self.where == "h1" and self.side is None:
             self.side = "w" if data.startswith("White") else "b"
         if self.facing and data in ("abcdefgh", "hgfedcba"):
             self.flipped = data == "hgfedcba"
+
+    def take_step(self, data):
+        """A part of the way: a link with its text, the number of the move behind it, or moves that are no links."""
+        tag, link = self.inner or (None, None)
+        if tag == "span":
+            self.numbers[len(self.way)] = data
+        elif tag == "a":
+            self.way.append((link, data))
+        else:
+            self.way += [(None, word) for word in data.split()]
 
     def position(self):
         board = ["."] * 64
@@ -178,30 +192,80 @@ def look_at_links(pages, folder):
         fail(f"{len(set(pages) - reached)} pages are not reached")
 
 
-def look_at_ways(pages):
-    for name, page in pages.items():
-        if name in ("index.html", "others.html") or len(page.way) < 1:
-            continue
-        before, text = page.way[-1]
-        mv = text.split()[-1].split(".")[-1]
-        last = [cells for cells in pages[before].rows[1:] if cells[0][1] == name]
-        if before != "index.html" or last:
-            if len(last) != 1 or (mv != last[0][0][0] and "(here)" not in text):
-                pass
-        if last and text.split()[-1].split(".")[-1] not in (last[0][0][0], pages[before].title):
-            trail = text.split()
-            if trail[-1].split(".")[-1] != last[0][0][0]:
-                fail(f"the way to {name} does not end with its move")
+def found_in_order(pages):
+    """The pages in the order in which they are found, from the start on by the moves of each; with the page before it and the move that leads
+    from there, or None for the start and for a page that no page leads to."""
+    came, order = {}, []
+    for place in range(len(pages) - ("others.html" in pages)):
+        if place == len(order):
+            came["index.html" if place == 0 else f"p{place}.html"] = None
+            order = list(came)
+        name = order[place]
+        if name != ("index.html" if place == 0 else f"p{place}.html"):
+            fail(f"{name} is found at place {place}")
+        for (move, to), *_ in pages[name].rows[1:]:
+            if to:
+                came.setdefault(to, (name, move))
+        order = list(came)
+    return came
 
 
-def look_at_numbers(pages, shell, base):
+def look_at_ways(pages, first, side, deepest):
+    """Looks whether the way to each page is that by which it is found. Gives the moves to each page, and how many pages no page leads to."""
+    came, moves, left, start = found_in_order(pages), {}, 0, ("index.html", "Start")
+    for name, link in came.items():
+        page = pages[name]
+        if link:
+            before, move = link
+            behind = [*pages[before].way[:-1], (before, pages[before].way[-1][1])] if came[before] else pages[before].way
+            behind = behind if came[before] or before == "index.html" else [*behind, (before, "(here)")]
+            wanted = [*behind, (None, move)]
+        else:
+            left += name != "index.html"
+            wanted = [start, *((None, word) for _, word in page.way[1:])]
+            plies = len(wanted) - 1
+            if plies != first.get(page.position(), 0) or plies > deepest:
+                fail(f"the first game comes to {name} after {first.get(page.position())} half-moves, and not {plies}")
+        if page.way != wanted:
+            fail(f"the way to {name} is {page.way}, and not {wanted}")
+        steps = [place for place, (_, word) in enumerate(page.way) if place > 0 and word != "(here)"]
+        plies = range(side == "b", len(steps) + (side == "b"))
+        if page.numbers != {place: f"{ply // 2 + 1}." for place, ply in zip(steps, plies) if ply % 2 == 0}:
+            fail(f"the moves on the way to {name} have the numbers {page.numbers}")
+        moves[name] = [page.way[place][1] for place in steps]
+    return moves, left
+
+
+def look_at_moves(pages, moves, shell, work, start):
+    """Plays the ways by scid_shell: each comes to the position of its page with its last move."""
+    tag = f'[FEN "{fen(start[0])} {start[1]} KQkq - 0 1"]\n\n' if start else ""
+    games = "".join(f"{tag}{' '.join(way)} *\n\n" for way in moves.values())
+    finds = "".join(
+        f"reset\nrestrict {number} {number}\nsearch and position exact {fen(pages[name].position()[0])} {pages[name].side}\nhits\n"
+        for number, name in enumerate(moves)
+    )
+    played = os.path.join(work, "played")
+    status, text, _ = run([shell, "--create", played], f"import <<END\n{games}END\n{finds}".encode())
+    lines = text.splitlines()
+    if status or f"imported {len(moves)} refused 0" not in lines:
+        fail(f"the ways are no games: {[line for line in lines if 'error' in line][:3]}")
+    hits = [line for line in lines[len(moves) + 2:] if line[0].isdigit()]
+    wanted = [f"{number} {len(way)}" for number, way in enumerate(moves.values())]
+    if hits != wanted:
+        fail(f"the ways come to other positions: {[pair for pair in zip(hits, wanted) if pair[0] != pair[1]][:3]}")
+    for end in ("si4", "sn4", "sg4"):
+        os.remove(f"{played}.{end}")
+
+
+def look_at_numbers(pages, shell, base, items):
     order = [name for name in sorted(pages) if name != "others.html"]
-    script = "".join(f"tree {fen(pages[name].position()[0])} {pages[name].side}\n" for name in order)
+    script = f"search and header {items}\n" if items else ""
+    script += "".join(f"tree {fen(pages[name].position()[0])} {pages[name].side}\n" for name in order)
     status, text, _ = run([shell, base], script.encode())
     if status:
         fail(f"scid_shell ended with {status}")
     trees, lines = [], []
-    for line in text.splitlines()[1:]:
+    for line in text.splitlines()[2 if items else 1:]:
         lines.append(line.split())
         if line.startswith("total"):
             trees.append(lines)
@@ -211,45 +275,77 @@ def look_at_numbers(pages, shell, base):
             fail(f"{name} shows {pages[name].tree()}, and the tree is {tree}")
 
 
-def look_at_book(program, shell, base, games, players, depth, least, start=None):
-    """Makes the pages, and looks at all of them. Gives how many they are."""
+def reaching(games, chosen, first, depth):
+    """Of each board the games that have it, and how many have it at most so many half-moves behind the start; and after how many half-moves the
+    first of these comes there."""
+    reached, counts, plies = {}, {}, {}
+    for number in chosen:
+        boards = games[number]
+        for board in dict.fromkeys(boards):
+            reached.setdefault(board, []).append(number)
+        if first in boards:
+            start = boards.index(first)
+            for ply, board in enumerate(dict.fromkeys(boards[start:start + depth + 1])):
+                counts[board] = counts.get(board, 0) + 1
+                plies.setdefault(board, boards[start:].index(board))
+    return reached, counts, plies
+
+
+def look_at_games(pages, reached, players):
+    for name, page in pages.items():
+        if name == "others.html":
+            continue
+        numbers = [int(cells[0][0]) for cells in page.names[1:]]
+        if numbers != reached.get(page.position(), [])[:10]:
+            fail(f"{name} shows the games {numbers}")
+        for cells in page.names[1:]:
+            if (cells[1][0], cells[2][0], cells[3][0]) != players[int(cells[0][0])]:
+                fail(f"{name} shows the players {cells}")
+
+
+def look_at_book(program, shell, base, games, players, depth, least, start=None, items=None):
+    """Makes the pages, of all games or of those that `search and header` finds by some items, and looks at all of them. Gives how many they are,
+    how many games reach each, and how many of them no page leads to."""
     folder = base + "_pages"
     words = [program, "--depth", str(depth), "--least", str(least)]
     words += ["--from", fen(start[0]), start[1]] if start else []
+    words += ["--only", items] if items else []
     status, text, errors = run(words + [base, folder])
     if status:
         fail(f"scid_page ended with {status}: {errors}")
     pages = read_pages(folder)
     if os.path.exists(os.path.join(folder, "INCOMPLETE")):
         fail("a whole folder says that it is not")
-    told = text.splitlines()[-1].split()
-    first = start or games[0][0]
-    counts, reached = {}, {}
-    for number, boards in enumerate(games):
-        for board in dict.fromkeys(boards):
-            reached.setdefault(board, []).append(number)
-        if first in boards:
-            ply = boards.index(first)
-            for board in set(boards[ply:ply + depth + 1]):
-                counts[board] = counts.get(board, 0) + 1
+    told, first = text.splitlines()[-1].split(), start or games[0][0]
+    chosen = chosen_by(shell, base, items) if items else range(len(games))
+    lines = [f"base {len(games)} games 0 mended", *([f"filter {len(chosen)} of {len(games)}"] if items else [])]
+    if text.splitlines()[:-1] != lines:
+        fail(f"scid_page writes {text.splitlines()}")
+    title = os.path.basename(base) + (f": {items}" if items else "")
+    if any(page.title != title and not page.title.endswith(f" - {title}") for page in pages.values()):
+        fail(f"a page has not the title {title}")
+    reached, counts, plies = reaching(games, chosen, first, depth)
     wanted = {board for board, count in counts.items() if count >= int(told[3])} | {first}
     shown = {page.position(): name for name, page in pages.items() if name != "others.html"}
     if set(shown) != wanted or len(shown) != int(told[1]) or len(pages) != len(shown) + 1:
         fail(f"{len(shown)} positions have a page, and {len(wanted)} should have one")
     if shown[first] != "index.html":
         fail("the start is not the first page")
-    for board, name in shown.items():
-        numbers = [int(cells[0][0]) for cells in pages[name].names[1:]]
-        if numbers != reached.get(board, [])[:10]:
-            fail(f"{name} shows the games {numbers}")
-        for cells in pages[name].names[1:]:
-            if (cells[1][0], cells[2][0], cells[3][0]) != players[int(cells[0][0])]:
-                fail(f"{name} shows the players {cells}")
+    look_at_games(pages, reached, players)
     look_at_links(pages, folder)
-    look_at_ways(pages)
-    look_at_numbers(pages, shell, base)
+    moves, left = look_at_ways(pages, plies, first[1], depth)
+    look_at_moves(pages, moves, shell, os.path.dirname(base), start)
+    look_at_numbers(pages, shell, base, items)
     shutil.rmtree(folder)
-    return len(shown), int(told[3])
+    return len(shown), int(told[3]), left
+
+
+def chosen_by(shell, base, items):
+    """The games that scid_shell finds."""
+    status, text, _ = run([shell, base], f"search and header {items}\nhits\n".encode())
+    if status:
+        fail(f"scid_shell ended with {status}")
+    return [int(line.split()[0]) for line in text.splitlines() if line[0].isdigit()]
 
 
 def make_base(shell, work):
@@ -285,7 +381,9 @@ def look_at_ends(program, base, work):
     folder = os.path.join(work, "there")
     for words in ([], ["x"], ["--depth", "41", base, folder], ["--depth", "01", base, folder], ["--least", "0", base, folder],
                   ["--from", "8/8", "w", base, folder], ["--what", base, folder], [base, folder, folder],
-                  ["--least", "5", "--least", "5", base, folder], ["--depth"]):
+                  ["--least", "5", "--least", "5", base, folder], ["--depth"], ["--only"], ["--only", "", base, folder],
+                  ["--only", "result=2-0", base, folder], ["--only", "ply=1..2", base, folder], ["--only", 'white="x', base, folder],
+                  ["--only", "white=x", "--only", "black=x", base, folder]):
         status, text, errors = run([program] + words)
         if status != 1 or text or not errors.startswith("usage: ") or os.path.exists(folder):
             fail(f"{words} ended with {status}")
@@ -329,15 +427,21 @@ def main():
     program, shell = (os.path.abspath(name) for name in programs)
     with tempfile.TemporaryDirectory() as work:
         base, games, players = make_base(shell, work)
-        pages = look_at_book(program, shell, base, games, players, 16, 10)[0]
-        pages += look_at_book(program, shell, base, games, players, 12, 3)[0]
-        pages += look_at_book(program, shell, base, games, players, 10, 5, games[0][3])[0]
-        look_at_book(program, shell, base, games, players, 0, 1)
-        many, least = look_at_book(program, shell, base, games, players, 40, 1)
-        if many > 20_000 or least == 1:
-            fail(f"there are {many} pages, of {least} games at least")
+        books = [
+            look_at_book(program, shell, base, games, players, 16, 10),
+            look_at_book(program, shell, base, games, players, 12, 3),
+            look_at_book(program, shell, base, games, players, 10, 5, games[0][3]),
+            look_at_book(program, shell, base, games, players, 0, 1),
+            look_at_book(program, shell, base, games, players, 12, 3, items='player="<" year=1850..1990'),
+            look_at_book(program, shell, base, games, players, 8, 2, games[0][2], 'result=1-0'),
+            look_at_book(program, shell, base, games, players, 16, 1, items='white=Nobody'),
+        ]
+        books.append(look_at_book(program, shell, base, games, players, 40, 1))
+        many, least, left = books[-1]
+        if many > 20_000 or least == 1 or left == 0:
+            fail(f"there are {many} pages, of {least} games at least, and no page leads to {left}")
         look_at_ends(program, base, work)
-    print(f"{pages} pages passed")
+    print(f"{sum(book[0] for book in books)} pages passed, of which no page leads to {sum(book[2] for book in books)}")
 
 
 main()

@@ -1,7 +1,7 @@
 #!/usr/bin/env python3
-"""Runs the built program with its standard error on a pseudo-terminal, and looks at what that shows: how far a run is, on one line.
+"""Runs the built programs with their standard error on a pseudo-terminal, and looks at what that shows: how far a run is, on one line.
 
-Usage: cases/progress.py [PROGRAM]
+Usage: cases/progress.py [SCID_SHELL SCID_PAGE]
 """
 import functools
 import itertools
@@ -17,6 +17,7 @@ from pathlib import Path
 
 TOP = Path(__file__).resolve().parent.parent
 PROGRAM = str(Path(sys.argv[1] if len(sys.argv) > 1 else TOP / "crates/scid_shell/out/scid_shell").resolve())
+PAGES = str(Path(sys.argv[2] if len(sys.argv) > 2 else TOP / "crates/scid_page/out/scid_page").resolve())
 GAMES = 300_000
 SCRIPT = "info\nfind rnbqkbnr/pppppppp/8/8/8/8/PPPPPPPP/RNBQKBNR w\ninfo\n"
 CLEAR = "\r\x1b[K"
@@ -30,6 +31,7 @@ SAYS = {
     "adding": r"adding: (\d+) games, (\d+) MB read",
     "compact": r"compact: (\d+) games, (\d+)% read",
     "saving": r"saving",
+    "writing": r"writing: (\d+) of (\d+) pages",
 }
 
 
@@ -195,6 +197,17 @@ def a_fault_is_read_on_its_own_line(folder, large):
     assert shows == [f"{base}.si4: another program changed it since it was loaded; it stays as it is", "files fault", ""], shows
 
 
+def pages_are_told_too(folder, large):
+    """The opening of a base whose pages are made, how far its records are read, and the pages that are written."""
+    terminal = Terminal()
+    words = [PAGES, "--depth", "40", "--least", "1", large, str(folder / "pages")]
+    ran = subprocess.run(words, stdin=subprocess.DEVNULL, stdout=subprocess.PIPE, stderr=terminal.theirs, timeout=600)
+    written = terminal.end()
+    works = [work for work, _ in itertools.groupby(line.split(":")[0] for line in said(written))]
+    assert ran.returncode == 0 and works[-2:] == ["reading", "writing"], (ran.returncode, works)
+    assert picture(written) == [""], written[-80:]
+
+
 def main():
     shows = [
         an_opening_is_counted,
@@ -202,6 +215,7 @@ def main():
         each_work_has_its_words,
         text_is_not_mixed_with_it,
         a_fault_is_read_on_its_own_line,
+        pages_are_told_too,
     ]
     with tempfile.TemporaryDirectory() as name:
         folder = Path(name)

@@ -1,4 +1,4 @@
-//! `scid_page [--depth D] [--least N] [--from BOARD SIDE] BASE FOLDER`: makes of a Scid base a folder of linked pages.
+//! `scid_page [--depth D] [--least N] [--only ITEMS] [--from BOARD SIDE] BASE FOLDER`: makes of a Scid base a folder of linked pages.
 #![tactic(auto)]
 
 ghost use Rattle.std.specs.Prelude.{◌≡◌, IfOk, length};
@@ -8,6 +8,7 @@ ghost use Rattle.sig_index.specs.Games.{AreWithin};
 mod end;
 mod folder;
 mod messages;
+mod only;
 mod pages;
 mod words;
 
@@ -17,8 +18,10 @@ use book_pages::{Book, Reach, find_boards};
 use end::End;
 use folder::Folder;
 use game_filter::Filter;
+use head_search::HeadQuery;
 use messages::{HELP, VERSION, message};
-use pages::write_pages;
+use only::{games_asked, query_read};
+use pages::{title, write_pages};
 use sig_index::Games;
 use std::alloc::Global;
 use std::env;
@@ -45,7 +48,7 @@ fn answered(rt: &HostRuntime) -> Result<(), End> {
         [word] if word.as_str() == "--help" => Ok(print!(rt; "{HELP}")?),
         [word] if word.as_str() == "--version" => Ok(print!(rt; "{VERSION}")?),
         words => match words_read(words) {
-            Some(wanted) => run(rt, &wanted),
+            Some(wanted) => run_asked(rt, &wanted),
             None => Err(End::Usage),
         },
     }
@@ -60,12 +63,18 @@ fn given(rt: &HostRuntime) -> Result<Vec<String>, End> {
     }
 }
 
+// Makes the pages of the games that are asked for.
+fn run_asked(rt: &HostRuntime, wanted: &Wanted<'_>) -> Result<(), End> {
+    let query = query_read(rt.alloc(), wanted.only)?;
+    run(rt, wanted, &query)
+}
+
 // Makes the pages of the real files, and says how far it is.
-fn run(rt: &HostRuntime, wanted: &Wanted<'_>) -> Result<(), End> {
+fn run(rt: &HostRuntime, wanted: &Wanted<'_>, query: &Option<HeadQuery>) -> Result<(), End> {
     let line = ProgressLine::new(rt);
     let mut files = Watched::new(DiskFiles::new(rt.alloc(), rt), &line);
     let mut out = Watched::new(StdSink::new(rt.stdout()), &line);
-    let made = make(rt, wanted, &mut files, &mut out, &line);
+    let made = make(rt, wanted, query, &mut files, &mut out, &line);
     files.into_device().close();
     let flushed = out.into_device().flush();
     line.clear();
@@ -80,6 +89,7 @@ fn run(rt: &HostRuntime, wanted: &Wanted<'_>) -> Result<(), End> {
 fn make<F: Files, K: Sink>(
     rt: &HostRuntime,
     wanted: &Wanted<'_>,
+    query: &Option<HeadQuery>,
     files: &mut F,
     out: &mut K,
     line: &ProgressLine<'_>,
@@ -94,7 +104,60 @@ fn make<F: Files, K: Sink>(
     if opened.is_err() {
         return opened;
     }
-    make_pages(rt, wanted, &base, files, out, line, block.as_mut_slice())
+    make_chosen(
+        rt,
+        wanted,
+        query,
+        &base,
+        files,
+        out,
+        line,
+        block.as_mut_slice(),
+    )
+}
+
+// Makes the pages of the games of a base that are asked for.
+fn make_chosen<F: Files, K: Sink>(
+    rt: &HostRuntime,
+    wanted: &Wanted<'_>,
+    query: &Option<HeadQuery>,
+    base: &Base,
+    files: &mut F,
+    out: &mut K,
+    line: &ProgressLine<'_>,
+    block: &mut [u8],
+) -> Result<(), End>
+    requires sound { IsSound base.now }
+    requires within { AreWithin (F.seen files.old).known (extents_of base.now) }
+    requires room { length block.old ≡ 131072 }
+{
+    match choose(rt.alloc(), out, base, query) {
+        Ok(games) => make_pages(rt, wanted, base, &games, files, out, line, block),
+        Err(error) => Err(error),
+    }
+}
+
+// Chooses the games that count, and says how many they are where these are not all.
+#[tactic(auto, using(crate::proofs::AskedLaws::one_each))]
+fn choose<K: Sink>(
+    alloc: Global,
+    out: &mut K,
+    base: &Base,
+    query: &Option<HeadQuery>,
+) -> Result<Filter, End>
+    ensures each { IfOk result (λ games. length games ≡ length base.now.entries) }
+{
+    let games = games_asked(alloc, base, query)?;
+    if query.is_some() {
+        say_chosen(alloc, out, &games)?;
+    }
+    Ok(games)
+}
+
+// Says how many games count.
+fn say_chosen<K: Sink>(alloc: Global, out: &mut K, games: &Filter) -> Result<(), End> {
+    let (count, of) = (games.count(), games.len());
+    say(out, format!(in alloc; "filter {count} of {of}\n")?)
 }
 
 // Says how many games the base has, and how many entries were mended.
@@ -110,23 +173,38 @@ fn make_pages<F: Files, K: Sink>(
     rt: &HostRuntime,
     wanted: &Wanted<'_>,
     base: &Base,
+    games: &Filter,
     files: &mut F,
     out: &mut K,
     line: &ProgressLine<'_>,
     block: &mut [u8],
 ) -> Result<(), End>
+    requires games { length games.now ≡ length base.now.entries }
     requires sound { IsSound base.now }
     requires within { AreWithin (F.seen files.old).known (extents_of base.now) }
     requires room { length block.old ≡ 131072 }
 {
     let alloc = rt.alloc();
     let folder = Folder::make(rt, alloc, wanted.folder)?;
-    let (book, least) = read_book(alloc, base, &wanted.reach, files, block)?;
-    let written = write_pages(alloc, &folder, wanted.base, base, &book, line);
+    let (book, least) = read_book(alloc, base, games, &wanted.reach, files, block)?;
+    let written = write_book(alloc, &folder, wanted, base, &book, line);
     if written.is_err() {
         return written;
     }
     say_made(alloc, out, book.len(), least)
+}
+
+// Writes the pages.
+fn write_book(
+    alloc: Global,
+    folder: &Folder<'_>,
+    wanted: &Wanted<'_>,
+    base: &Base,
+    book: &Book,
+    line: &ProgressLine<'_>,
+) -> Result<(), End> {
+    let title = title(alloc, wanted.base, wanted.only)?;
+    write_pages(alloc, folder, title.as_str(), base, book, line)
 }
 
 // Says how many pages there are, and how many games reach each at least.
@@ -147,33 +225,26 @@ fn open<F: Files>(alloc: Global, files: &mut F, block: &mut [u8]) -> Result<(Bas
     }
 }
 
-// Counts the pages of a base over all its games.
+// Counts the pages of a base over games of it.
 fn read_book<F: Files>(
     alloc: Global,
     base: &Base,
+    games: &Filter,
     reach: &Reach,
     files: &mut F,
     block: &mut [u8],
 ) -> Result<(Book, u32), End>
+    requires games { length games.now ≡ length base.now.entries }
     requires sound { IsSound base.now }
     requires within { AreWithin (F.seen files.old).known (extents_of base.now) }
     requires room { length block.old ≡ 131072 }
 {
-    let filter = Filter::new(alloc, base.len())?;
-    let found = match find_boards(alloc, base, &filter, reach, files, block) {
+    let found = match find_boards(alloc, base, games, reach, files, block) {
         Ok(found) => found,
         Err(error) => return Err(End::from(error)),
     };
     let least = found.least;
-    match Book::read(
-        alloc,
-        base,
-        &filter,
-        found.boards,
-        reach.depth,
-        files,
-        block,
-    ) {
+    match Book::read(alloc, base, games, found.boards, reach.depth, files, block) {
         Ok(book) => Ok((book, least)),
         Err(error) => Err(End::from(error)),
     }

@@ -3,7 +3,8 @@ use crate::end::End;
 
 /// The answer to `--help`.
 pub const HELP: &str = "\
-usage: scid_page [--depth D] [--least N] [--from BOARD SIDE] BASE FOLDER
+usage: scid_page [--depth D] [--least N] [--only ITEMS] [--from BOARD SIDE]
+                 BASE FOLDER
 
 Makes of the Scid base BASE.si4, BASE.sn4, BASE.sg4 a folder of linked pages,
 to be looked at in a browser from FOLDER/index.html on: a page for each
@@ -13,6 +14,9 @@ a link to its page, the way that leads there, and the first ten games.
 
   --depth D          how many half-moves, up to 40; 16 where it is not given
   --least N          how many games; 10 where it is not given
+  --only ITEMS       only the games that scid_shell finds by the command
+                     `search and header ITEMS`, as 'player=Reti deleted=no';
+                     ITEMS is one word, so put it in quotes
   --from BOARD SIDE  from this position on, and not from the initial one;
                      BOARD is the first field of a FEN, and SIDE is w or b
 
@@ -30,7 +34,9 @@ pub const VERSION: &str = "scid_page 0.1.0\n";
 /// The line on standard error for a run that is not done; of a bad base and of a changed game its beginning.
 pub fn message(end: &End) -> &'static str {
     match end {
-        End::Usage => "usage: scid_page [--depth D] [--least N] [--from BOARD SIDE] BASE FOLDER",
+        End::Usage => {
+            "usage: scid_page [--depth D] [--least N] [--only ITEMS] [--from BOARD SIDE] BASE FOLDER"
+        }
         End::BadBase(_) => "bad base: ",
         End::WriteFault => "write fault",
         End::FilesFault => "files fault",

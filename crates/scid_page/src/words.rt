@@ -17,6 +17,8 @@ pub struct Wanted<'a> {
     pub base: &'a str,
     pub folder: &'a str,
     pub reach: Reach,
+    /// The items of a search of heads, where not all games count.
+    pub only: Option<&'a str>,
 }
 
 // What some words have said so far.
@@ -27,10 +29,12 @@ struct Said<'a> {
     depth: Option<u8>,
     least: Option<u32>,
     start: Option<PackedBoard>,
+    only: Option<&'a str>,
 }
 
 /// What the words ask for, where they are the name of a base and then that of a folder, and among them each at most once `--depth` and a
-/// number up to 40, `--least` and a number from 1 on, and `--from` with a board and a side.
+/// number up to 40, `--least` and a number from 1 on, `--only` and the items of a search of heads, which are not read here, and `--from`
+/// with a board and a side.
 pub fn words_read(words: &[String]) -> Option<Wanted<'_>> {
     let Some(said) = said_by(words) else {
         return None;
@@ -43,6 +47,7 @@ pub fn words_read(words: &[String]) -> Option<Wanted<'_>> {
             depth: said.depth.unwrap_or(DEPTH),
             least: said.least.unwrap_or(LEAST),
         },
+        only: said.only,
     })
 }
 
@@ -54,6 +59,7 @@ fn said_by(words: &[String]) -> Option<Said<'_>> {
         depth: None,
         least: None,
         start: None,
+        only: None,
     };
     let mut rest = words;
     for _word in 0..words.len() {
@@ -73,6 +79,9 @@ impl<'a> Said<'a> {
         }
         if word == "--least" {
             return self.take_least(behind);
+        }
+        if word == "--only" {
+            return self.take_only(behind);
         }
         if word == "--from" {
             return self.take_start(behind);
@@ -97,6 +106,13 @@ impl<'a> Said<'a> {
             return None;
         }
         put(&mut self.least, least)?;
+        Some(behind)
+    }
+
+    // Takes which games.
+    fn take_only(&mut self, words: &'a [String]) -> Option<&'a [String]> {
+        let (word, behind) = words.split_first()?;
+        put(&mut self.only, word.as_str())?;
         Some(behind)
     }
 
