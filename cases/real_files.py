@@ -198,25 +198,36 @@ def edits_go_on_after_a_compaction(folder):
 
 
 def a_record_that_changes_ends_the_run(folder):
-    """A record that another program writes over after the opening: whoever reads it ends there, and leaves the files as they are."""
+    """A record that another program writes over after the opening, with bytes that are none or with the record of another game: whoever reads
+    it ends there, and leaves the files as they are. Searches go along the moves alone."""
     read = ("show 0", "export", "tag 0 White C")
     start = "rnbqkbnr/pppppppp/8/8/8/8/PPPPPPPP/RNBQKBNR w"
-    search = (f"find {start}", f"search ignore position exact {start}", "search ignore material wp=8..8", f"tree {start}")
-    for what in (*read, *search):
-        # Its games file has two blocks, so that the first is read anew.
-        shutil.copytree(TOP / "cases/compact_across_a_block/before", folder, dirs_exist_ok=True)
-        base = str(Path(folder, "long"))
-        session = Session(base)
-        assert session.ask("info").startswith("games 4 "), session.end()
-        path = Path(f"{base}.sg4")
-        with path.open("r+b") as file:
-            file.write(b"\xce")
-        then = contents(folder)
-        first = session.ask(what)
-        status, errors = session.end()
-        assert (status, errors) == (CHANGED_GAME, "changed game 0\n"), (what, status, errors)
-        assert first == "" and contents(folder) == then, (what, first)
-        clear(folder)
+    search = (f"find {start}", f"search ignore position exact {start}", f"search ignore position pawns {start}", "search ignore material wp=8..8",
+              f"tree {start}")
+    none, another = b"\xce", b"\0\0\xcf\x0c\x0f"
+    for what, new in (*((what, none) for what in (*read, *search)), *((what, another) for what in read)):
+        for before in ((), search[:1]):
+            session, base = two_blocks(folder, before)
+            with Path(f"{base}.sg4").open("r+b") as file:
+                file.write(new)
+            then = contents(folder)
+            first = session.ask(what)
+            status, errors = session.end()
+            assert (status, errors) == (CHANGED_GAME, "changed game 0\n"), (what, status, errors)
+            assert first == "" and contents(folder) == then, (what, first)
+            clear(folder)
+
+
+def two_blocks(folder, before):
+    """A session that has opened a base whose games file has two blocks, so that the first is read anew, and has run these searches."""
+    shutil.copytree(TOP / "cases/compact_across_a_block/before", folder, dirs_exist_ok=True)
+    base = str(Path(folder, "long"))
+    session = Session(base)
+    assert session.ask("info").startswith("games 4 "), session.end()
+    for what in before:
+        lines = [session.ask(what), *(session.ask("") for _ in range(4))]
+        assert lines[-1] == "filter 4 of 4\n", lines
+    return session, base
 
 
 def a_mended_base_opens_again(folder):

@@ -2,8 +2,4 @@
 #![tactic(auto)]
 
 #[cfg(test)]
-mod change_tests;
-#[cfg(test)]
-mod depth_tests;
-#[cfg(test)]
-mod games;
+mod hit_tests;

@@ -1,6 +1,8 @@
-//! Tests alone: sessions over devices in memory that fail at each call, and over files that change between two reads.
+//! Tests alone: sessions over devices in memory that fail at each call, or change.
 #![tactic(auto)]
 
+#[cfg(test)]
+mod base;
 #[cfg(test)]
 mod file_tests;
 #[cfg(test)]

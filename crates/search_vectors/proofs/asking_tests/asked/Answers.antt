@@ -19,5 +19,5 @@ pub search-requires-clause-within : goal.search-requires-clause-within
 search-requires-clause-within c =
     let added = c.in_ok-add.ensures.added.1.1.1 in
     subst (λ (games : List Kept). AreWithin c.games_len.new.self.known (extents_of games)) (sym added.0)
-    (first_within c.new-games.result (kept_of c.head_of.result c.in_ok-add.ensures.added.0 (length c.new-file.result.items) (length c.in_ok-add.ensures.added.1.0)) c.new-file.result.items c.in_ok-add.ensures.added.1.0 c.add.new.file.items c.games_len.new.self.known
+    (first_within c.new-games.result (kept_of c.no_head.result c.in_ok-add.ensures.added.0 (length c.new-file.result.items) (length c.in_ok-add.ensures.added.1.0)) c.new-file.result.items c.in_ok-add.ensures.added.1.0 c.add.new.file.items c.games_len.new.self.known
     c.new-games.ensures.none c.new-file.ensures.items refl refl added.1 (c.in_ok-games_len.ensures.now_known ∙ c.in_ok-games_len.ensures.length ∙ ap (λ (shelf : Shelf). length shelf.games) c.new-files.ensures))
