@@ -82,7 +82,11 @@ pub fn sig_ending(g: &Game, last: &Position) -> Sig
     let counts = g.counts();
     Sig {
         material: material_of(last),
-        home: if own_start { home_list(&[]) } else { left_along(g) },
+        home: if own_start {
+            home_list(&[])
+        } else {
+            left_along(g)
+        },
         plies: g.line.as_slice().len().min(1023) as u16,
         promo: g.has_promotion(),
         under: g.has_underpromotion(),

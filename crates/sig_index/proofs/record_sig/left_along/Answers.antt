@@ -48,7 +48,7 @@ moves-preserved c =
     let inv = c.moves.invariant in
     let stay = c.leave_by.ensures.still ∙ staying-is before c.in-Some.m q c.moves.still.items sound played.0 inv.values inv.home in
     let go = c.leave_by.ensures.left
-        ∙ ap (λ (vs : List ℕ). c.moves.left.items ++ vs) (gone-is before c.in-Some.m q c.moves.still.items sound played.0 inv.values inv.home) in
+    ∙ ap (λ (vs : List ℕ). c.moves.left.items ++ vs) (gone-is before c.in-Some.m q c.moves.still.items sound played.0 inv.values inv.home) in
     record {
       bytes = played.1.1 ∙ inv.bytes;
       values = still_small q c.moves.still.items c.leave_by.new.still.items stay inv.values;
