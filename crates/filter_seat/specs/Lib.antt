@@ -1,2 +1,1 @@
 pub mod SavedFilters
-pub mod Seats
