@@ -1,12 +1,13 @@
 -- Two desks at which one client can see no difference.
 use Rattle.std.proofs.Common.{◌≡◌, ℕ, zero, suc, ◌==◌, Bool, true, false, cond, List, [], ◌∷◌, Option, Some, None, unwrap_or, option_map, map, slice_get, slice_set, refl, sym, ap, subst, ◌∙◌}
 use Rattle.std.proofs.lemmas.Bool.{eqb-true, eqb-false}
+use Rattle.filter_seat.specs.Seats.{Seat}
 use Rattle.script_text.specs.Tasks.{Task}
 use Rattle.shell_commands.specs.Tasks.{task_work}
-use Rattle.shell_state.specs.State.{State}
-use Rattle.desk_runs.specs.Desk.{Shared, Seat, Desk, Tagged, Said, Kind, private, public, adds, moves, leaves, shared_of, seat_of, state_of, is_private, is_last, order_kind, no_seat, seat_at, has_ended, seen_by, after_task, brought, each_seat, desk_with, desk_after, desk_said, desk_run, late_text}
+use Rattle.shell_state.specs.State.{Shared, State}
+use Rattle.desk_runs.specs.Desk.{Desk, Tagged, Said, Kind, private, public, adds, moves, leaves, is_private, is_last, order_kind, no_seat, seat_at, has_ended, seen_by, after_task, brought, each_seat, desk_with, desk_after, desk_said, desk_run, late_text}
 use Rattle.desk_runs.specs.Isolation.{said_to, without_private}
-use Rattle.desk_runs.proofs.SharedLaws.{private-keeps, same-shared}
+use Rattle.desk_runs.proofs.SharedLaws.{private-keeps, same-shared, state_of}
 
 -- ---- seats
 
@@ -58,7 +59,7 @@ same-seen c d e alike =
 alike-own : (c : ℕ) (t : Tagged) (d e : Desk) → t.client ≡ c → Alike c d e → Alike c (desk_after d t) (desk_after e t)
 alike-own c t d e is alike =
     alike-cond c (has_ended d t.client) (has_ended e t.client) d e (desk_with d t after_d) (desk_with e t after_e) (same-late c t.client d e alike) alike (record {
-      shared = ap shared_of same;
+      shared = ap (λ (s : State). s.shared) same;
       seat = seats;
       ended = same-ended t d.ended e.ended alike.ended;
     })
@@ -74,12 +75,12 @@ alike-own c t d e is alike =
         (ap (λ (s : State). after_task s t.task) (same-seen c d e alike))
 
     bring : Desk → State → Seat → Seat
-    bring x s = brought (order_kind t.task.order) t.task x.shared (shared_of s)
+    bring x s = brought (order_kind t.task.order) t.task x.shared s.shared
 
-    seats : slice_get (each_seat t.client (seat_of after_d) (bring d after_d) d.seats) c ≡ slice_get (each_seat t.client (seat_of after_e) (bring e after_e) e.seats) c
-    seats = subst (λ (n : ℕ). slice_get (each_seat n (seat_of after_d) (bring d after_d) d.seats) c ≡ slice_get (each_seat n (seat_of after_e) (bring e after_e) e.seats) c) (sym is)
-        (own-seat c (seat_of after_d) (bring d after_d) d.seats ∙ ap (λ (s : State). option_map (λ seat. seat_of s) (slice_get d.seats c)) same
-        ∙ ap (λ (o : Option Seat). option_map (λ seat. seat_of after_e) o) alike.seat ∙ sym (own-seat c (seat_of after_e) (bring e after_e) e.seats))
+    seats : slice_get (each_seat t.client after_d.seat (bring d after_d) d.seats) c ≡ slice_get (each_seat t.client after_e.seat (bring e after_e) e.seats) c
+    seats = subst (λ (n : ℕ). slice_get (each_seat n after_d.seat (bring d after_d) d.seats) c ≡ slice_get (each_seat n after_e.seat (bring e after_e) e.seats) c) (sym is)
+        (own-seat c after_d.seat (bring d after_d) d.seats ∙ ap (λ (s : State). option_map (λ seat. s.seat) (slice_get d.seats c)) same
+        ∙ ap (λ (o : Option Seat). option_map (λ seat. after_e.seat) o) alike.seat ∙ sym (own-seat c after_e.seat (bring e after_e) e.seats))
 
 same-said : (c : ℕ) (t : Tagged) (d e : Desk) → t.client ≡ c → Alike c d e → desk_said d t ≡ desk_said e t
 same-said c t d e is alike =
@@ -104,20 +105,20 @@ alike-other c t d e differ alike =
     after_e : State
     after_e = after_task (seen_by e t.client) t.task
 
-    shared : shared_of after_d ≡ shared_of after_e
+    shared : after_d.shared ≡ after_e.shared
     shared = same-shared t.task.order t.task.body d.shared (seat_at d t.client) (seat_at e t.client)
-        ∙ ap (λ (h : Shared). shared_of (after_task (state_of h (seat_at e t.client)) t.task)) alike.shared
+        ∙ ap (λ (h : Shared). (after_task (state_of h (seat_at e t.client)) t.task).shared) alike.shared
 
     kind : Kind
     kind = order_kind t.task.order
 
-    seats : slice_get (each_seat t.client (seat_of after_d) (brought kind t.task d.shared (shared_of after_d)) d.seats) c
-        ≡ slice_get (each_seat t.client (seat_of after_e) (brought kind t.task e.shared (shared_of after_e)) e.seats) c
-    seats = other-seat c t.client (seat_of after_d) (brought kind t.task d.shared (shared_of after_d)) d.seats differ
-        ∙ ap (λ (h : Shared). option_map (brought kind t.task h (shared_of after_d)) (slice_get d.seats c)) alike.shared
+    seats : slice_get (each_seat t.client after_d.seat (brought kind t.task d.shared after_d.shared) d.seats) c
+        ≡ slice_get (each_seat t.client after_e.seat (brought kind t.task e.shared after_e.shared) e.seats) c
+    seats = other-seat c t.client after_d.seat (brought kind t.task d.shared after_d.shared) d.seats differ
+        ∙ ap (λ (h : Shared). option_map (brought kind t.task h after_d.shared) (slice_get d.seats c)) alike.shared
         ∙ ap (λ (h : Shared). option_map (brought kind t.task e.shared h) (slice_get d.seats c)) shared
-        ∙ ap (λ (o : Option Seat). option_map (brought kind t.task e.shared (shared_of after_e)) o) alike.seat
-        ∙ sym (other-seat c t.client (seat_of after_e) (brought kind t.task e.shared (shared_of after_e)) e.seats differ)
+        ∙ ap (λ (o : Option Seat). option_map (brought kind t.task e.shared after_e.shared) o) alike.seat
+        ∙ sym (other-seat c t.client after_e.seat (brought kind t.task e.shared after_e.shared) e.seats differ)
 
 -- A private command of another client.
 brings-nothing : (kind : Kind) (task : Task) (before after : Shared) (o : Option Seat) → is_private kind ≡ true → option_map (brought kind task before after) o ≡ o
@@ -143,8 +144,8 @@ alike-private : (c : ℕ) (t : Tagged) (d e : Desk) → (t.client ≡ c → ⊥)
 alike-private c t d e differ is alike =
     alike-left c (has_ended d t.client) d (desk_with d t after) e alike (record {
       shared = private-keeps t.task.order t.task.body d.shared (seat_at d t.client) is ∙ alike.shared;
-      seat = other-seat c t.client (seat_of after) (brought (order_kind t.task.order) t.task d.shared (shared_of after)) d.seats differ
-          ∙ brings-nothing (order_kind t.task.order) t.task d.shared (shared_of after) (slice_get d.seats c) is ∙ alike.seat;
+      seat = other-seat c t.client after.seat (brought (order_kind t.task.order) t.task d.shared after.shared) d.seats differ
+          ∙ brings-nothing (order_kind t.task.order) t.task d.shared after.shared (slice_get d.seats c) is ∙ alike.seat;
       ended = ends-nobody (order_kind t.task.order) d.ended (slice_set d.ended t.client true) is ∙ alike.ended;
     })
   where

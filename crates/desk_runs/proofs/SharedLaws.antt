@@ -10,6 +10,7 @@ use Rattle.base_core.specs.Edits.{deleted, undeleted, marked, tagged}
 use Rattle.eco_class.specs.Reading.{table_of}
 use Rattle.eco_class.specs.Table.{Opening}
 use Rattle.eco_class.specs.declared.fault.EcoFault.{EcoFault}
+use Rattle.filter_seat.specs.Seats.{Seat}
 use Rattle.game_tree.specs.Game.{GameTree}
 use Rattle.game_tree.specs.Replay.{plies_of}
 use Rattle.game_tree.specs.TagEdit.{edited}
@@ -27,13 +28,17 @@ use Rattle.script_text.specs.declared.command.Command.TheVariants.{Nothing, Find
 use Rattle.script_text.specs.declared.fault.ScriptFault.{ScriptFault}
 use Rattle.shell_commands.specs.Tasks.{order_work}
 use Rattle.shell_state.specs.Refusing.{refusal_of}
-use Rattle.shell_state.specs.State.{State}
-use Rattle.desk_runs.specs.Desk.{Shared, Seat, shared_of, state_of, is_private, order_kind}
+use Rattle.shell_state.specs.State.{Shared, State}
+use Rattle.desk_runs.specs.Desk.{is_private, order_kind}
+
+-- The state of these two parts.
+abbrev pub state_of : Shared → Seat → State
+state_of shared seat = record { shared = shared; seat = seat }
 
 -- ---- private commands
 
 pub private-keeps : (order : Result Command ScriptFault) (body : List ℕ) (h : Shared) (seat : Seat) → is_private (order_kind order) ≡ true
-    → shared_of ((order_work order body).after (state_of h seat)) ≡ h
+    → ((order_work order body).after (state_of h seat)).shared ≡ h
 private-keeps (Err fault) body h seat e = refl
 private-keeps (Ok Nothing) body h seat e = refl
 private-keeps (Ok (Find board side)) body h seat e = refl
@@ -72,12 +77,12 @@ private-keeps (Ok Compact) body h seat e = absurd cc
 -- ---- games that come in
 
 record AlikeIntakes (i j : Intake) : Type 0 where
-  shared : shared_of i.state ≡ shared_of j.state
+  shared : i.state.shared ≡ j.state.shared
   added : i.added ≡ j.added
   refused : i.refused ≡ j.refused
 
 abbrev with-game : Head → GameTree → Shared → Shared
-with-game head game h = record { base = added head game h.base; carried = h.carried; unsaved = true }
+with-game head game h = record h { base = added head game h.base; unsaved = true }
 
 alike-unless : (o : Option (List ℕ)) (i j : Intake) (head : Head) (game : GameTree) → AlikeIntakes i j
     → AlikeIntakes (unless_not_added o i head game) (unless_not_added o j head game)
@@ -88,15 +93,15 @@ alike-unless None i j head game alike =
 alike-item : (item : Item) (i j : Intake) → AlikeIntakes i j → AlikeIntakes (item_after i item) (item_after j item)
 alike-item (Bad fault) i j alike = record { shared = alike.shared; added = alike.added; refused = ap (λ (n : ℕ). n + 1) alike.refused }
 alike-item (Good head game) i j alike =
-    subst (λ (o : Option (List ℕ)). AlikeIntakes (unless_not_added (not_added i.state.base head game) i head game) (unless_not_added o j head game))
-    (ap (λ (h : Shared). not_added h.base head game) alike.shared) (alike-unless (not_added i.state.base head game) i j head game alike)
+    subst (λ (o : Option (List ℕ)). AlikeIntakes (unless_not_added (not_added i.state.shared.base head game) i head game) (unless_not_added o j head game))
+    (ap (λ (h : Shared). not_added h.base head game) alike.shared) (alike-unless (not_added i.state.shared.base head game) i j head game alike)
 
-alike-items : (items : List Item) (i j : Intake) → AlikeIntakes i j → shared_of (after_all intake i items).state ≡ shared_of (after_all intake j items).state
+alike-items : (items : List Item) (i j : Intake) → AlikeIntakes i j → (after_all intake i items).state.shared ≡ (after_all intake j items).state.shared
 alike-items [] i j alike = alike.shared
 alike-items (item ∷ items) i j alike = alike-items items (item_after i item) (item_after j item) (alike-item item i j alike)
 
 record AlikeAddings (a b : Adding) : Type 0 where
-  shared : shared_of a.state ≡ shared_of b.state
+  shared : a.state.shared ≡ b.state.shared
   number : a.number ≡ b.number
   plies : a.plies ≡ b.plies
   refused : a.refused ≡ b.refused
@@ -113,8 +118,8 @@ alike-refusal None a b made alike = record {
 alike-ended : (o : Option (List ℕ)) (a b : Adding) (made : Made) → AlikeAddings a b → AlikeAddings (unless_ended o a made) (unless_ended o b made)
 alike-ended (Some line) a b made alike = alike
 alike-ended None a b made alike =
-    subst (λ (o : Option (List ℕ)). AlikeAddings (unless_refusal (adding_refusal a.state.base made.head made.game) a made) (unless_refusal o b made))
-    (ap (λ (h : Shared). adding_refusal h.base made.head made.game) alike.shared) (alike-refusal (adding_refusal a.state.base made.head made.game) a b made alike)
+    subst (λ (o : Option (List ℕ)). AlikeAddings (unless_refusal (adding_refusal a.state.shared.base made.head made.game) a made) (unless_refusal o b made))
+    (ap (λ (h : Shared). adding_refusal h.base made.head made.game) alike.shared) (alike-refusal (adding_refusal a.state.shared.base made.head made.game) a b made alike)
 
 alike-more : (n : ℕ) (a b : Adding) → AlikeAddings a b → AlikeAddings (one_more a n) (one_more b n)
 alike-more n a b alike =
@@ -126,7 +131,7 @@ alike-adding : (n seed : ℕ) (h : Shared) (a b : Seat) → AlikeAddings (adding
 alike-adding zero seed h a b = record { shared = refl; number = refl; plies = refl; refused = refl }
 alike-adding (suc n) seed h a b = alike-more n (adding (state_of h a) seed n) (adding (state_of h b) seed n) (alike-adding n seed h a b)
 
-alike-shown : (o : Option (List ℕ)) (s t : State) → shared_of s ≡ shared_of t → shared_of (unless_shown o s) ≡ shared_of (unless_shown o t)
+alike-shown : (o : Option (List ℕ)) (s t : State) → s.shared ≡ t.shared → (unless_shown o s).shared ≡ (unless_shown o t).shared
 alike-shown (Some line) s t e = e
 alike-shown None s t e = e
 
@@ -136,40 +141,40 @@ same-new : (h : Shared) (a b : Seat) (game : ℕ) (held : Option Held) (items : 
 same-new h a b game None items = refl
 same-new h a b game (Some held) items = refl
 
-same-with : (h : Shared) (a b : Seat) (game : ℕ) (new : Result (Head × GameTree) (List ℕ)) → shared_of (state_with (state_of h a) game new) ≡ shared_of (state_with (state_of h b) game new)
+same-with : (h : Shared) (a b : Seat) (game : ℕ) (new : Result (Head × GameTree) (List ℕ)) → (state_with (state_of h a) game new).shared ≡ (state_with (state_of h b) game new).shared
 same-with h a b game (Ok new) = refl
 same-with h a b game (Err line) = refl
 
-same-there : (edit : Base → Base) (h : Shared) (a b : Seat) (held : Option Held) → shared_of (edited_there edit (state_of h a) held) ≡ shared_of (edited_there edit (state_of h b) held)
+same-there : (edit : Base → Base) (h : Shared) (a b : Seat) (held : Option Held) → (edited_there edit (state_of h a) held).shared ≡ (edited_there edit (state_of h b) held).shared
 same-there edit h a b (Some held) = refl
 same-there edit h a b None = refl
 
-same-unless : (h : Shared) (a b : Seat) (line : Option (List ℕ)) (base : Base) → shared_of (unless_refused line (state_of h a) base) ≡ shared_of (unless_refused line (state_of h b) base)
+same-unless : (h : Shared) (a b : Seat) (line : Option (List ℕ)) (base : Base) → (unless_refused line (state_of h a) base).shared ≡ (unless_refused line (state_of h b) base).shared
 same-unless h a b (Some line) base = refl
 same-unless h a b None base = refl
 
 same-tagged : (game : ℕ) (edit : TagEdit) (h : Shared) (a b : Seat) (held : Option Held)
-    → shared_of (tagged_there game edit (state_of h a) held) ≡ shared_of (tagged_there game edit (state_of h b) held)
+    → (tagged_there game edit (state_of h a) held).shared ≡ (tagged_there game edit (state_of h b) held).shared
 same-tagged game edit h a b (Some held) = same-unless h a b (refusal_of h.base (edited held.head edit) held.game) (tagged game edit h.base)
 same-tagged game edit h a b None = refl
 
-same-classified : (h : Shared) (a b : Seat) (table : Result (List Opening) EcoFault) → shared_of (state_by (state_of h a) table) ≡ shared_of (state_by (state_of h b) table)
+same-classified : (h : Shared) (a b : Seat) (table : Result (List Opening) EcoFault) → (state_by (state_of h a) table).shared ≡ (state_by (state_of h b) table).shared
 same-classified h a b (Ok table) = refl
 same-classified h a b (Err fault) = refl
 
-same-deleted : (h : Shared) (a b : Seat) (games : List ℕ) → shared_of (with_deleted (state_of h a) games) ≡ shared_of (with_deleted (state_of h b) games)
+same-deleted : (h : Shared) (a b : Seat) (games : List ℕ) → (with_deleted (state_of h a) games).shared ≡ (with_deleted (state_of h b) games).shared
 same-deleted h a b [] = refl
 same-deleted h a b (game ∷ games) = refl
 
 same-compacted : (h : Shared) (a b : Seat) (within : Bool)
-    → shared_of (cond within (compacted_state (state_of h a)) (state_of h a)) ≡ shared_of (cond within (compacted_state (state_of h b)) (state_of h b))
+    → (cond within (compacted_state (state_of h a)) (state_of h a)).shared ≡ (cond within (compacted_state (state_of h b)) (state_of h b)).shared
 same-compacted h a b true = refl
 same-compacted h a b false = refl
 
 -- ---- all commands
 
 pub same-shared : (order : Result Command ScriptFault) (body : List ℕ) (h : Shared) (a b : Seat)
-    → shared_of ((order_work order body).after (state_of h a)) ≡ shared_of ((order_work order body).after (state_of h b))
+    → ((order_work order body).after (state_of h a)).shared ≡ ((order_work order body).after (state_of h b)).shared
 same-shared (Err fault) body h a b = refl
 same-shared (Ok Nothing) body h a b = refl
 same-shared (Ok (Find board side)) body h a b = refl
@@ -193,7 +198,7 @@ same-shared (Ok (Import word)) body h a b =
     alike-items (items_of body) (none_taken (state_of h a)) (none_taken (state_of h b)) (record { shared = refl; added = refl; refused = refl })
 same-shared (Ok (Replace game word)) body h a b =
     same-with h a b game (the_new (state_of h a) game body)
-    ∙ ap (λ (new : Result (Head × GameTree) (List ℕ)). shared_of (state_with (state_of h b) game new)) (same-new h a b game (slice_get h.base.games game) (items_of body))
+    ∙ ap (λ (new : Result (Head × GameTree) (List ℕ)). (state_with (state_of h b) game new).shared) (same-new h a b game (slice_get h.base.games game) (items_of body))
 same-shared (Ok (Eco word)) body h a b = same-classified h a b (table_of body)
 same-shared (Ok (Tag game edit)) body h a b = same-tagged game edit h a b (slice_get h.base.games game)
 same-shared (Ok (Delete game)) body h a b = same-there (deleted game) h a b (slice_get h.base.games game)
@@ -207,6 +212,6 @@ same-shared (Ok Info) body h a b = refl
 same-shared (Ok (Demo seed games)) body h a b =
     let alike = alike-adding games seed h a b in
     alike-shown (adding (state_of h a) seed games).refused (adding (state_of h a) seed games).state (adding (state_of h b) seed games).state alike.shared
-    ∙ ap (λ (o : Option (List ℕ)). shared_of (unless_shown o (adding (state_of h b) seed games).state)) alike.refused
+    ∙ ap (λ (o : Option (List ℕ)). (unless_shown o (adding (state_of h b) seed games).state).shared) alike.refused
 same-shared (Ok Quit) body h a b = refl
 same-shared (Ok Compact) body h a b = same-compacted h a b (is_within h.base)

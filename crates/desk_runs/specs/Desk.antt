@@ -1,7 +1,7 @@
 -- Four clients over the plain machine: each has a seat of his own, and they share the base. This project's own.
 use Rattle.std.specs.Fmt.{decimal}
 use Rattle.std.specs.Prelude.{ℕ, zero, suc, ◌-◌, ◌==◌, if◌then◌else◌, Bool, true, false, List, [], ◌∷◌, ◌++◌, Option, None, Result, Ok, Err, codes, length, map, replicate, slice_get, slice_set, unwrap_or}
-use Rattle.base_core.specs.Base.{Base}
+use Rattle.filter_seat.specs.Seats.{Seat, first_seat}
 use Rattle.filter_seat.specs.declared.saved.SavedFilter.{SavedFilter}
 use Rattle.script_text.specs.Tasks.{Task}
 use Rattle.script_text.specs.declared.command.Command.{Command}
@@ -9,29 +9,7 @@ use Rattle.script_text.specs.declared.command.Command.TheVariants.{Nothing, Find
 use Rattle.script_text.specs.declared.fault.ScriptFault.{ScriptFault}
 use Rattle.shell_commands.specs.Tasks.{task_work}
 use Rattle.shell_state.specs.Lines.{error_line}
-use Rattle.shell_state.specs.State.{Carried, State}
-
--- ---- the two parts of a state
-
--- What all clients share: the base, the one that the files carry, and whether changes are unsaved.
-pub record Shared : Type 0 where
-  pub base : Base
-  pub carried : Option Carried
-  pub unsaved : Bool
-
--- What one client has of his own: a filter, and the filters that he keeps by name.
-pub record Seat : Type 0 where
-  pub filter : List (Option ℕ)
-  pub saved : List SavedFilter
-
-abbrev pub shared_of : State → Shared
-shared_of s = record { base = s.base; carried = s.carried; unsaved = s.unsaved }
-
-abbrev pub seat_of : State → Seat
-seat_of s = record { filter = s.filter; saved = s.saved }
-
-abbrev pub state_of : Shared → Seat → State
-state_of shared seat = record { base = shared.base; carried = shared.carried; filter = seat.filter; saved = seat.saved; unsaved = shared.unsaved }
+use Rattle.shell_state.specs.State.{Shared, State}
 
 -- ---- kinds of commands
 
@@ -112,7 +90,7 @@ pub record Tagged : Type 0 where
   pub task : Task
 
 abbrev pub no_seat : Seat
-no_seat = record { filter = []; saved = [] }
+no_seat = first_seat 0
 
 abbrev pub seat_at : Desk → ℕ → Seat
 seat_at desk client = unwrap_or (slice_get desk.seats client) no_seat
@@ -122,7 +100,7 @@ has_ended desk client = unwrap_or (slice_get desk.ended client) true
 
 -- The state that a client sees.
 abbrev pub seen_by : Desk → ℕ → State
-seen_by desk client = state_of desk.shared (seat_at desk client)
+seen_by desk client = record { shared = desk.shared; seat = seat_at desk client }
 
 abbrev pub after_task : State → Task → State
 after_task s task = (task_work task).after s
@@ -143,7 +121,7 @@ abbrev pub brought : Kind → Task → Shared → Shared → Seat → Seat
 brought private task before after seat = seat
 brought public task before after seat = seat
 brought adds task before after seat = seat_without (length after.base.games - length before.base.games) seat
-brought moves task before after seat = seat_of (after_task (state_of before seat) task)
+brought moves task before after seat = (after_task (record { shared = before; seat = seat }) task).seat
 brought leaves task before after seat = seat
 
 -- The seats where that of one client has become this one, and those of the others follow.
@@ -155,8 +133,8 @@ each_seat (suc client) own bring (seat ∷ seats) = bring seat ∷ each_seat cli
 -- The command is what it is to its client, on what is shared and his seat, and is brought to the others.
 abbrev pub desk_with : Desk → Tagged → State → Desk
 desk_with desk t s = record {
-  shared = shared_of s;
-  seats = each_seat t.client (seat_of s) (brought (order_kind t.task.order) t.task desk.shared (shared_of s)) desk.seats;
+  shared = s.shared;
+  seats = each_seat t.client s.seat (brought (order_kind t.task.order) t.task desk.shared s.shared) desk.seats;
   ended = if is_last (order_kind t.task.order) then slice_set desk.ended t.client true else desk.ended;
 }
 

@@ -26,6 +26,7 @@ use Rattle.edit_commands.proofs.SaveLaws.{contents_of, known_told}
 use Rattle.edit_commands.specs.Compacting.{numbers_of, is_within, compacted_state, compact_after, compact_text, compacted_line}
 use Rattle.edit_commands.specs.Ends.{uncompacted}
 use Rattle.filter_seat.specs.SavedFilters.{kept_renumbered}
+use Rattle.filter_seat.specs.Seats.{seat_renumbered}
 use Rattle.filter_seat.specs.declared.saved.SavedFilter.{SavedFilter}
 use Rattle.shell_state.proofs.CarryLaws.{beside_meant, carry_of}
 use Rattle.shell_state.proofs.PriceLaws.{look_at}
@@ -34,7 +35,7 @@ use Rattle.shell_state.specs.Carrying.{Contents, AreBeside, Beside, StillCarry, 
 use Rattle.shell_state.specs.Ends.{IsDevice, EndsAs}
 use Rattle.shell_state.specs.Refusing.{full_line}
 use Rattle.shell_state.specs.Stands.{Stands, Holding, Fits, looks_in}
-use Rattle.shell_state.specs.State.{Carried, anew, State}
+use Rattle.shell_state.specs.State.{Carried, State}
 use Rattle.shell_state.specs.Work.{Look}
 use Rattle.shell_state.specs.declared.halt.Halt.{Halt}
 use Rattle.shell_state.specs.declared.halt.Halt.TheVariants as halt
@@ -108,10 +109,10 @@ done_stands : (old new : Kept) (filter : List (Option ℕ)) (saved : List SavedF
     → Compacts old new seen.games seen'.games → new.unsaved ≡ false
     → Stands (held_by new (renumbered (numbering old.entries).to filter) (map (kept_renumbered (numbering old.entries).to) saved)) seen' (compacted_state s)
 done_stands old new filter saved seen seen' s st is means compacts clean =
-    let before : Contents seen = contents_of old seen s.unsaved s.carried st.games st.carried st.told in
+    let before : Contents seen = contents_of old seen s.shared.unsaved s.shared.carried st.games st.carried st.told in
     let fresh : List ℕ = new_games old.entries st.games in
     let told : seen'.games ≡ Some fresh = ap (λ (x : Seen). x.games) is.put ∙ ap (λ (o : Option (List ℕ)). option_map (new_games old.entries) o) st.told in
-    let there : Represents new fresh (compacted s.base) = known_games old new seen.games seen'.games st.games fresh s.base compacts st.told told st.base in
+    let there : Represents new fresh (compacted s.shared.base) = known_games old new seen.games seen'.games st.games fresh s.shared.base compacts st.told told st.base in
     let now : Contents seen' = record {
       index = is.index;
       names = is.names;
@@ -120,17 +121,16 @@ done_stands old new filter saved seen seen' s st is means compacts clean =
       names_told = ap (λ (x : Seen). x.names) is.put ∙ ap (told_instead is.names) before.names_told;
       games_told = told;
     } in
-    let again : OpensAgain now.index now.names now.games (compacted s.base) =
-    (known_told seen' (λ index names games. (base : Base) → Represents new games base → OpensAgain index names games base) now means) (compacted s.base) there in
-    let to = numbers_same old st.games s.base st.base in
+    let again : OpensAgain now.index now.names now.games (compacted s.shared.base) =
+    (known_told seen' (λ index names games. (base : Base) → Represents new games base → OpensAgain index names games base) now means) (compacted s.shared.base) there in
+    let to = numbers_same old st.games s.shared.base st.base in
     record {
       games = fresh;
       told = told;
       base = there;
-      filter = ap (λ (p : List (Option ℕ)). renumbered (numbering old.entries).to p) st.filter ∙ ap (λ (t : List (Option ℕ)). renumbered t s.filter) to;
-      saved = ap (λ (f : List SavedFilter). map (kept_renumbered (numbering old.entries).to) f) st.saved ∙ ap (λ (t : List (Option ℕ)). map (kept_renumbered t) s.saved) to;
+      seat = ap (seat_renumbered (numbering old.entries).to) st.seat ∙ ap (λ (t : List (Option ℕ)). seat_renumbered t s.seat) to;
       unsaved = clean;
-      carried = beside_meant new seen' (compacted s.base) true now there.names again.means (λ sound. again.faultless);
+      carried = beside_meant new seen' (compacted s.shared.base) true now there.names again.means (λ sound. again.faultless);
     }
 
 pub compact_stands : (old new : Kept) (filter : List (Option ℕ)) (saved : List SavedFilter) (seen seen' : Seen) (s : State) → Stands (held_by old filter saved) seen s → IsCommitted old new seen seen' → MeansIt new seen'
@@ -138,14 +138,14 @@ pub compact_stands : (old new : Kept) (filter : List (Option ℕ)) (saved : List
     → Stands (held_by new (renumbered (numbering old.entries).to filter) (map (kept_renumbered (numbering old.entries).to) saved)) seen' (compact_after s)
 compact_stands old new filter saved seen seen' s st is means compacts clean room =
     let P : Bool → Type 0 = λ b. Stands (held_by new (renumbered (numbering old.entries).to filter) (map (kept_renumbered (numbering old.entries).to) saved)) seen' (if b then compacted_state s else s) in
-    subst P (sym (within_true old st.games s.base st.base room)) (done_stands old new filter saved seen seen' s st is means compacts clean)
+    subst P (sym (within_true old st.games s.shared.base st.base room)) (done_stands old new filter saved seen seen' s st is means compacts clean)
 
 pub compact_says : (old : Kept) (filter : List (Option ℕ)) (saved : List SavedFilter) (seen : Seen) (s : State) (line : List ℕ) (games kept : ℕ) → Stands (held_by old filter saved) seen s → new_end old.entries ≤ longest_file
     → games ≡ length old.entries → kept ≡ (numbering old.entries).kept → line ≡ compacted_line games kept → line ≡ compact_text s
 compact_says old filter saved seen s line games kept st room all left is =
-    let P : Bool → Type 0 = λ b. line ≡ (if b then compacted_line (length s.base.games) (length (compacted s.base).games) else full_line File) in
-    subst P (sym (within_true old st.games s.base st.base room))
-    (is ∙ (ap (λ (n : ℕ). compacted_line n kept) (all ∙ st.base.count) ∙ ap (λ (n : ℕ). compacted_line (length s.base.games) n) (left ∙ kept_same old st.games s.base st.base)))
+    let P : Bool → Type 0 = λ b. line ≡ (if b then compacted_line (length s.shared.base.games) (length (compacted s.shared.base).games) else full_line File) in
+    subst P (sym (within_true old st.games s.shared.base st.base room))
+    (is ∙ (ap (λ (n : ℕ). compacted_line n kept) (all ∙ st.base.count) ∙ ap (λ (n : ℕ). compacted_line (length s.shared.base.games) n) (left ∙ kept_same old st.games s.shared.base st.base)))
 
 -- ---- it was not done.
 
@@ -171,10 +171,9 @@ fresh_stands holding seen seen' s left st = record {
   games = st.games;
   told = ap (λ (x : Seen). x.games) left ∙ st.told;
   base = st.base;
-  filter = st.filter;
-  saved = st.saved;
+  seat = st.seat;
   unsaved = st.unsaved;
-  carried = fresh_beside holding.kept seen seen' s.unsaved s.carried left st.carried;
+  carried = fresh_beside holding.kept seen seen' s.shared.unsaved s.shared.carried left st.carried;
 }
 
 -- An error line comes where the new games file would be too long, and nothing changed.
@@ -189,14 +188,14 @@ pub full_stands : (old : Kept) (filter : List (Option ℕ)) (saved : List SavedF
 full_stands old filter saved seen seen' s e told buf line st left why ends =
     let over = over_by e old told buf line why ends in
     let P : Bool → Type 0 = λ b. Stands (held_by old filter saved) seen' (if b then compacted_state s else s) in
-    subst P (sym (within_false old st.games s.base st.base over.0)) (fresh_stands (held_by old filter saved) seen seen' s left st)
+    subst P (sym (within_false old st.games s.shared.base st.base over.0)) (fresh_stands (held_by old filter saved) seen seen' s left st)
 
 pub full_says : (old : Kept) (filter : List (Option ℕ)) (saved : List SavedFilter) (seen : Seen) (s : State) (e : CompactError) (told : Option (List ℕ)) (buf line : List ℕ) → Stands (held_by old filter saved) seen s
     → WhyNotCompacted old told buf e → uncompacted e ≡ Ok line → line ≡ compact_text s
 full_says old filter saved seen s e told buf line st why ends =
     let over = over_by e old told buf line why ends in
-    let P : Bool → Type 0 = λ b. line ≡ (if b then compacted_line (length s.base.games) (length (compacted s.base).games) else full_line File) in
-    subst P (sym (within_false old st.games s.base st.base over.0)) over.1
+    let P : Bool → Type 0 = λ b. line ≡ (if b then compacted_line (length s.shared.base.games) (length (compacted s.shared.base).games) else full_line File) in
+    subst P (sym (within_false old st.games s.shared.base st.base over.0)) over.1
 
 -- Told files end it by a device alone.
 none_changed : (kept : Kept) (games : List ℕ) (told : Option (List ℕ)) (base : Base) → told ≡ Some games → Represents kept games base → IfSome told (λ bytes. (other : Base) → Represents kept bytes other → ⊥) → ⊥
@@ -214,14 +213,14 @@ device_so (compacting.Changed g sig found) h kept games told base same is change
 pub compact_device : (e : CompactError) (h : Halt) (kept : Kept) (filter : List (Option ℕ)) (saved : List SavedFilter) (seen : Seen) (s : State) → Stands (held_by kept filter saved) seen s
     → IfChanged e (IfSome seen.games (λ bytes. (other : Base) → Represents kept bytes other → ⊥)) → EndsAs (uncompacted e) h → IsDevice h
 compact_device e h kept filter saved seen s st changed (inl memory) = subst IsDevice (sym memory) tt
-compact_device e h kept filter saved seen s st changed (inr ends) = device_so e h kept st.games seen.games s.base st.told st.base changed ends
+compact_device e h kept filter saved seen s st changed (inr ends) = device_so e h kept st.games seen.games s.shared.base st.told st.base changed ends
 
 -- ---- what the files carry where it is broken off.
 
 pub fresh_carry : (holding : Holding) (seen seen' : Seen) (s : State) (leaves : Option (Base → Base)) → FreshAlone seen seen' → Stands holding seen s → StillCarry seen' s leaves
 fresh_carry holding seen seen' s leaves left st = carry_of holding seen' s leaves (fresh_stands holding seen seen' s left st)
 
-done_may : (kept : Kept) (seen : Seen) (carried : Option Carried) (base : Base) → Beside kept seen false (anew (compacted base)) → MayCarry seen carried (Some compacted) base
+done_may : (kept : Kept) (seen : Seen) (carried : Option Carried) (base : Base) → Beside kept seen false (record { base = compacted base; sound = true }) → MayCarry seen carried (Some compacted) base
 done_may kept seen (Some own) base b = inr (b.contents, b.carries)
 done_may kept seen None base b = tt
 
@@ -229,7 +228,7 @@ done_may kept seen None base b = tt
 pub done_carry : (old new : Kept) (filter : List (Option ℕ)) (saved : List SavedFilter) (seen seen' : Seen) (s : State) → Stands (held_by old filter saved) seen s → IsCommitted old new seen seen' → MeansIt new seen'
     → Compacts old new seen.games seen'.games → new.unsaved ≡ false → StillCarry seen' s (Some compacted)
 done_carry old new filter saved seen seen' s st is means compacts clean =
-    done_may new seen' s.carried s.base (done_stands old new filter saved seen seen' s st is means compacts clean).carried
+    done_may new seen' s.shared.carried s.shared.base (done_stands old new filter saved seen seen' s st is means compacts clean).carried
 
 -- ---- the filters.
 

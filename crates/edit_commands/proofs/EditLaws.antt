@@ -19,25 +19,24 @@ use Rattle.shell_state.specs.Work.{Work}
 
 -- An edit of a game that is there.
 pub quiet_edit : (words : List ℕ) (edit : Base → Base) (game : ℕ) (old new : Kept) (filter : List (Option ℕ)) (saved : List SavedFilter) (work : Work) (line : List ℕ)
-    → ((s : State) → work.after s ≡ edited_there edit s (slice_get s.base.games game))
-    → ((s : State) → work.text s ≡ line_there words game (slice_get s.base.games game))
+    → ((s : State) → work.after s ≡ edited_there edit s (slice_get s.shared.base.games game))
+    → ((s : State) → work.text s ≡ line_there words game (slice_get s.shared.base.games game))
     → game < length old.entries → Does edit old new → ChangedHeads old new → IsSound new → line ≡ game_line words game → Fits (held_by old filter saved)
     → Quiet (held_by old filter saved) work (held_by new filter saved) line
 quiet_edit words edit game old new filter saved work line after says there does heads sound written fits = record {
   stands = λ (seen : Seen) (s : State) (st : Stands (held_by old filter saved) seen s).
-      let held = get_some s.base.games game (omega (arith, there, st.base.count)) in
+      let held = get_some s.shared.base.games game (omega (arith, there, st.base.count)) in
       let standing : Stands (held_by new filter saved) seen (edited_there edit s (Some held.0)) = record {
         games = st.games;
         told = st.told;
-        base = does st.games s.base st.base;
-        filter = st.filter;
-        saved = st.saved;
+        base = does st.games s.shared.base st.base;
+        seat = st.seat;
         unsaved = heads.unsaved;
-        carried = beside_edited old new seen s.unsaved s.carried heads.names st.carried;
+        carried = beside_edited old new seen s.shared.unsaved s.shared.carried heads.names st.carried;
       } in
       subst (Stands (held_by new filter saved) seen) (ap (edited_there edit s) (sym held.1) ∙ sym (after s)) standing;
   text = λ (seen : Seen) (s : State) (st : Stands (held_by old filter saved) seen s).
-      let held = get_some s.base.games game (omega (arith, there, st.base.count)) in
+      let held = get_some s.shared.base.games game (omega (arith, there, st.base.count)) in
       written ∙ ap (line_there words game) (sym held.1) ∙ sym (says s);
   fits = fits_count old new filter saved (same_count old new heads) fits;
   base = λ before. sound;
@@ -46,16 +45,16 @@ quiet_edit words edit game old new filter saved work line after says there does 
 
 -- And of one that is not.
 pub quiet_no_edit : (words : List ℕ) (edit : Base → Base) (game : ℕ) (old : Holding) (work : Work) (line : List ℕ)
-    → ((s : State) → work.after s ≡ edited_there edit s (slice_get s.base.games game))
-    → ((s : State) → work.text s ≡ line_there words game (slice_get s.base.games game))
+    → ((s : State) → work.after s ≡ edited_there edit s (slice_get s.shared.base.games game))
+    → ((s : State) → work.text s ≡ line_there words game (slice_get s.shared.base.games game))
     → length old.kept.entries ≤ game → line ≡ no_game_line game → Fits old
     → Quiet old work old line
 quiet_no_edit words edit game old work line after says past written fits = record {
   stands = λ (seen : Seen) (s : State) (st : Stands old seen s).
-      let none : slice_get s.base.games game ≡ None = slice_get_past s.base.games game (omega (arith, past, st.base.count)) in
+      let none : slice_get s.shared.base.games game ≡ None = slice_get_past s.shared.base.games game (omega (arith, past, st.base.count)) in
       subst (Stands old seen) (ap (edited_there edit s) (sym none) ∙ sym (after s)) st;
   text = λ (seen : Seen) (s : State) (st : Stands old seen s).
-      let none : slice_get s.base.games game ≡ None = slice_get_past s.base.games game (omega (arith, past, st.base.count)) in
+      let none : slice_get s.shared.base.games game ≡ None = slice_get_past s.shared.base.games game (omega (arith, past, st.base.count)) in
       written ∙ ap (line_there words game) (sym none) ∙ sym (says s);
   fits = fits;
   base = λ sound. sound;

@@ -13,7 +13,7 @@ use Rattle.shell_state.proofs.CarryLaws.{beside_meant}
 use Rattle.shell_state.proofs.Quietly.{held_by}
 use Rattle.shell_state.specs.Carrying.{AreBeside, Contents, Beside, CarryIt, MayCarry, StillCarry}
 use Rattle.shell_state.specs.Stands.{Sound, Stands, Holding}
-use Rattle.shell_state.specs.State.{Carried, anew, State}
+use Rattle.shell_state.specs.State.{Carried, State}
 
 -- What is kept, with nothing unsaved.
 abbrev pub clean : Kept → Kept
@@ -45,9 +45,9 @@ known_told seen F c known =
 pub save_stands : (kept : Kept) (filter : List (Option ℕ)) (saved : List SavedFilter) (seen seen' : Seen) (s : State) → Stands (held_by kept filter saved) seen s → IsSaved kept seen seen' → MeansIt (clean kept) seen'
     → Stands (held_by (clean kept) filter saved) seen' (save_after s)
 save_stands kept filter saved seen seen' s st is means =
-    let before : Contents seen = contents_of kept seen s.unsaved s.carried st.games st.carried st.told in
+    let before : Contents seen = contents_of kept seen s.shared.unsaved s.shared.carried st.games st.carried st.told in
     let told : seen'.games ≡ Some st.games = ap (λ (x : Seen). x.games) is.replaced ∙ st.told in
-    let there : Represents (clean kept) st.games s.base = clean_represents kept st.games s.base st.base in
+    let there : Represents (clean kept) st.games s.shared.base = clean_represents kept st.games s.shared.base st.base in
     let now : Contents seen' = record {
       index = is.index;
       names = is.names;
@@ -56,16 +56,15 @@ save_stands kept filter saved seen seen' s st is means =
       names_told = ap (λ (x : Seen). x.names) is.replaced ∙ ap (told_instead is.names) before.names_told;
       games_told = told;
     } in
-    let again : OpensAgain now.index now.names now.games s.base =
-    (known_told seen' (λ index names games. (base : Base) → Represents (clean kept) games base → OpensAgain index names games base) now means) s.base there in
+    let again : OpensAgain now.index now.names now.games s.shared.base =
+    (known_told seen' (λ index names games. (base : Base) → Represents (clean kept) games base → OpensAgain index names games base) now means) s.shared.base there in
     record {
       games = st.games;
       told = told;
       base = there;
-      filter = st.filter;
-      saved = st.saved;
+      seat = st.seat;
       unsaved = refl;
-      carried = beside_meant (clean kept) seen' s.base true now there.names again.means (λ sound. again.faultless);
+      carried = beside_meant (clean kept) seen' s.shared.base true now there.names again.means (λ sound. again.faultless);
     }
 
 -- ---- where it is broken off
@@ -104,12 +103,12 @@ left_may kept seen seen' unsaved None base b left still = tt
 
 pub unsaved_carry : (kept : Kept) (filter : List (Option ℕ)) (saved : List SavedFilter) (seen seen' : Seen) (s : State) → Stands (held_by kept filter saved) seen s → IsLeft kept seen seen' → StillCarries kept seen seen'
     → StillCarry seen' s (Some (λ base. base))
-unsaved_carry kept filter saved seen seen' s st left still = left_may kept seen seen' s.unsaved s.carried s.base st.carried left still
+unsaved_carry kept filter saved seen seen' s st left still = left_may kept seen seen' s.shared.unsaved s.shared.carried s.shared.base st.carried left still
 
 -- It was done, and its text was not written.
-saved_may : (kept : Kept) (seen : Seen) (carried : Option Carried) (base : Base) → Beside kept seen false (anew base) → MayCarry seen carried (Some (λ base. base)) base
+saved_may : (kept : Kept) (seen : Seen) (carried : Option Carried) (base : Base) → Beside kept seen false (record { base = base; sound = true }) → MayCarry seen carried (Some (λ base. base)) base
 saved_may kept seen (Some own) base b = inr (b.contents, b.carries)
 saved_may kept seen None base b = tt
 
 pub saved_carry : (holding : Holding) (seen : Seen) (s : State) → Stands holding seen (save_after s) → StillCarry seen s (Some (λ base. base))
-saved_carry holding seen s st = saved_may holding.kept seen s.carried s.base st.carried
+saved_carry holding seen s st = saved_may holding.kept seen s.shared.carried s.shared.base st.carried

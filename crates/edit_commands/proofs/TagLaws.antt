@@ -65,30 +65,29 @@ pub tag_stands : (old new : Kept) (filter : List (Option ℕ)) (saved : List Sav
     → IsTagged i tag old new seen seen' buf → Tags i tag old new seen.games seen'.games → new.unsaved ≡ true → HoldsNames new.names old.names
     → Stands (held_by new filter saved) seen' (tag_after s i tag)
 tag_stands old new filter saved seen seen' buf s i tag st there is tags unsaved names =
-    let held = get_some s.base.games i (omega (arith, there, st.base.count)) in
+    let held = get_some s.shared.base.games i (omega (arith, there, st.base.count)) in
     let bytes : List ℕ = padded old.end (written_record (edited is.head tag).tags is.game) in
-    let same = read-is old st.games seen.games i is.head is.game s.base held.0 st.told is.read st.base held.1 in
-    let none : refusal_of s.base (edited held.0.head tag) held.0.game ≡ None =
-    refusal-read old st.games s.base held.0 tag is.head is.game None st.base same (none_refused _ _ is.room) in
+    let same = read-is old st.games seen.games i is.head is.game s.shared.base held.0 st.told is.read st.base held.1 in
+    let none : refusal_of s.shared.base (edited held.0.head tag) held.0.game ≡ None =
+    refusal-read old st.games s.shared.base held.0 tag is.head is.game None st.base same (none_refused _ _ is.room) in
     let later : seen'.games ≡ Some (st.games ++ bytes) = ap (λ (x : Seen). x.games) is.appended ∙ ap (λ (g : Option (List ℕ)). adds g bytes) st.told in
-    let standing : Stands (held_by new filter saved) seen' (unless_refused None s (tagged i tag s.base)) = record {
+    let standing : Stands (held_by new filter saved) seen' (unless_refused None s (tagged i tag s.shared.base)) = record {
       games = st.games ++ bytes;
       told = later;
-      base = base_tagged old new i tag seen.games seen'.games st.games (st.games ++ bytes) s.base tags st.told later st.base;
-      filter = st.filter;
-      saved = st.saved;
+      base = base_tagged old new i tag seen.games seen'.games st.games (st.games ++ bytes) s.shared.base tags st.told later st.base;
+      seat = st.seat;
       unsaved = unsaved;
-      carried = beside_grown old new seen seen' bytes s.unsaved s.carried is.appended names st.carried;
+      carried = beside_grown old new seen seen' bytes s.shared.unsaved s.shared.carried is.appended names st.carried;
     } in
-    subst (Stands (held_by new filter saved) seen') (ap (λ (r : Option (List ℕ)). unless_refused r s (tagged i tag s.base)) (sym none) ∙ ap (tagged_there i tag s) (sym held.1)) standing
+    subst (Stands (held_by new filter saved) seen') (ap (λ (r : Option (List ℕ)). unless_refused r s (tagged i tag s.shared.base)) (sym none) ∙ ap (tagged_there i tag s) (sym held.1)) standing
 
 pub tag_says : (old new : Kept) (filter : List (Option ℕ)) (saved : List SavedFilter) (seen seen' : Seen) (buf : List ℕ) (s : State) (i : ℕ) (tag : TagEdit) (line : List ℕ) → Stands (held_by old filter saved) seen s → i < length old.entries
     → IsTagged i tag old new seen seen' buf → line ≡ game_line (codes "tagged ") i → line ≡ tag_text s i tag
 tag_says old new filter saved seen seen' buf s i tag line st there is written =
-    let held = get_some s.base.games i (omega (arith, there, st.base.count)) in
-    let same = read-is old st.games seen.games i is.head is.game s.base held.0 st.told is.read st.base held.1 in
-    let none : refusal_of s.base (edited held.0.head tag) held.0.game ≡ None =
-    refusal-read old st.games s.base held.0 tag is.head is.game None st.base same (none_refused _ _ is.room) in
+    let held = get_some s.shared.base.games i (omega (arith, there, st.base.count)) in
+    let same = read-is old st.games seen.games i is.head is.game s.shared.base held.0 st.told is.read st.base held.1 in
+    let none : refusal_of s.shared.base (edited held.0.head tag) held.0.game ≡ None =
+    refusal-read old st.games s.shared.base held.0 tag is.head is.game None st.base same (none_refused _ _ is.room) in
     written ∙ ap (λ (r : Option (List ℕ)). unwrap_or r (game_line (codes "tagged ") i)) (sym none) ∙ ap (tag_line_there i tag s) (sym held.1)
 
 -- It was refused.
@@ -103,19 +102,19 @@ not_placed edit.Memory kept told i tag buf line why there ends = cc
 
 refused_line : (kept : Kept) (filter : List (Option ℕ)) (saved : List SavedFilter) (seen : Seen) (s : State) (i : ℕ) (tag : TagEdit) (e : EditError) (buf line : List ℕ) → (st : Stands (held_by kept filter saved) seen s)
     → i < length kept.entries → WhyNotTagged kept seen.games i tag buf e → refused_edit e ≡ Ok line
-    → (held : Held) × (slice_get s.base.games i ≡ Some held) × (refusal_of s.base (edited held.head tag) held.game ≡ Some line)
+    → (held : Held) × (slice_get s.shared.base.games i ≡ Some held) × (refusal_of s.shared.base (edited held.head tag) held.game ≡ Some line)
 refused_line kept filter saved seen s i tag e buf line st there why ends =
-    let held = get_some s.base.games i (omega (arith, there, st.base.count)) in
+    let held = get_some s.shared.base.games i (omega (arith, there, st.base.count)) in
     let is = not_placed e kept seen.games i tag buf line why there ends in
-    let same = read-is kept st.games seen.games i is.head is.game s.base held.0 st.told is.read st.base held.1 in
-    (held.0, held.1, refusal-read kept st.games s.base held.0 tag is.head is.game (Some line) st.base same (refused_so e _ _ line is.why ends))
+    let same = read-is kept st.games seen.games i is.head is.game s.shared.base held.0 st.told is.read st.base held.1 in
+    (held.0, held.1, refusal-read kept st.games s.shared.base held.0 tag is.head is.game (Some line) st.base same (refused_so e _ _ line is.why ends))
 
 pub refused_stands : (kept : Kept) (filter : List (Option ℕ)) (saved : List SavedFilter) (seen seen' : Seen) (s : State) (i : ℕ) (tag : TagEdit) (e : EditError) (buf line : List ℕ)
     → Stands (held_by kept filter saved) seen s → i < length kept.entries → WhyNotTagged kept seen.games i tag buf e → refused_edit e ≡ Ok line → seen' ≡ seen
     → Stands (held_by kept filter saved) seen' (tag_after s i tag)
 refused_stands kept filter saved seen seen' s i tag e buf line st there why ends same =
     let refused = refused_line kept filter saved seen s i tag e buf line st there why ends in
-    let after : s ≡ tag_after s i tag = ap (λ (r : Option (List ℕ)). unless_refused r s (tagged i tag s.base)) (sym refused.2) ∙ ap (tagged_there i tag s) (sym refused.1) in
+    let after : s ≡ tag_after s i tag = ap (λ (r : Option (List ℕ)). unless_refused r s (tagged i tag s.shared.base)) (sym refused.2) ∙ ap (tagged_there i tag s) (sym refused.1) in
     subst (Stands (held_by kept filter saved) seen') after (subst (λ (x : Seen). Stands (held_by kept filter saved) x s) (sym same) st)
 
 pub refused_says : (kept : Kept) (filter : List (Option ℕ)) (saved : List SavedFilter) (seen : Seen) (s : State) (i : ℕ) (tag : TagEdit) (e : EditError) (buf line : List ℕ)
@@ -151,20 +150,20 @@ device_so edit.Memory h kept games told base same is changed ends = let e : halt
 pub tag_device : (e : EditError) (h : Halt) (kept : Kept) (filter : List (Option ℕ)) (saved : List SavedFilter) (seen : Seen) (s : State) → Stands (held_by kept filter saved) seen s
     → IfChanged e (IfSome seen.games (λ bytes. (other : Base) → Represents kept bytes other → ⊥)) → EndsAs (refused_edit e) h → IsDevice h
 tag_device e h kept filter saved seen s st changed (inl memory) = subst IsDevice (sym memory) tt
-tag_device e h kept filter saved seen s st changed (inr ends) = device_so e h kept st.games seen.games s.base st.told st.base changed ends
+tag_device e h kept filter saved seen s st changed (inr ends) = device_so e h kept st.games seen.games s.shared.base st.told st.base changed ends
 
 -- ---- what the files carry then
 
-unless_carried : (r : Option (List ℕ)) (s : State) (base : Base) → (unless_refused r s base).carried ≡ s.carried
+unless_carried : (r : Option (List ℕ)) (s : State) (base : Base) → (unless_refused r s base).shared.carried ≡ s.shared.carried
 unless_carried (Some line) s base = refl
 unless_carried None s base = refl
 
-there_carried : (i : ℕ) (tag : TagEdit) (s : State) (held : Option Held) → (tagged_there i tag s held).carried ≡ s.carried
-there_carried i tag s (Some held) = unless_carried (refusal_of s.base (edited held.head tag) held.game) s (tagged i tag s.base)
+there_carried : (i : ℕ) (tag : TagEdit) (s : State) (held : Option Held) → (tagged_there i tag s held).shared.carried ≡ s.shared.carried
+there_carried i tag s (Some held) = unless_carried (refusal_of s.shared.base (edited held.head tag) held.game) s (tagged i tag s.shared.base)
 there_carried i tag s None = refl
 
-pub tag_carried : (s : State) (i : ℕ) (tag : TagEdit) → (tag_after s i tag).carried ≡ s.carried
-tag_carried s i tag = there_carried i tag s (slice_get s.base.games i)
+pub tag_carried : (s : State) (i : ℕ) (tag : TagEdit) → (tag_after s i tag).shared.carried ≡ s.shared.carried
+tag_carried s i tag = there_carried i tag s (slice_get s.shared.base.games i)
 
 -- What the command asks is what it costs.
 pub tag_price : (kept : Kept) (game : ℕ) → len_at kept.entries game ≡ len_in (λ (x : Look). x.len) (slice_get (looks_in kept) game)
@@ -174,7 +173,7 @@ tag_price kept game = len_looks (look_at kept.names) kept.entries game
 pub no_game_serves : {A : Type 0} (r : Result A Halt) (holding : Holding) (seen : Seen) (s : State) (number : ℕ) (tag : TagEdit) (line : List ℕ) (told told' : Option (List ℕ)) → Stands holding seen s
     → length holding.kept.entries ≤ number → line ≡ no_game_line number → OnOk r (told' ≡ adds told line) → Halted [] line told told' → IfErr r IsOutput → Serves works (Stands holding seen) Broken s (tag_work number tag) told told' r
 no_game_serves r holding seen s number tag line told told' st past is written halted output =
-    let none : slice_get s.base.games number ≡ None = slice_get_past s.base.games number (omega (arith, past, st.base.count)) in
+    let none : slice_get s.shared.base.games number ≡ None = slice_get_past s.shared.base.games number (omega (arith, past, st.base.count)) in
     let text : line ≡ tag_text s number tag = is ∙ ap (tag_line_there number tag s) (sym none) in
     let state : s ≡ tag_after s number tag = ap (tagged_there number tag s) (sym none) in
     line_serves r holding (tag_work number tag) line seen s told told' (subst (Stands holding seen) state st) text written halted output

@@ -1,15 +1,14 @@
 -- Compacting the base. This project's own.
 use Rattle.std.specs.Fmt.{decimal}
-use Rattle.std.specs.Prelude.{filter, ℕ, List, map, Option, nat_le, Bool, false, Some, if◌then◌else◌, ◌++◌, codes, length, sum_by, not}
+use Rattle.std.specs.Prelude.{filter, ℕ, List, map, Option, nat_le, Bool, Some, if◌then◌else◌, ◌++◌, codes, length, sum_by, not}
 use Rattle.base_core.specs.Base.{Base}
 use Rattle.base_core.specs.Compacted.{compacted}
 use Rattle.base_core.specs.declared.fault.What.TheVariants.{File}
 use Rattle.block_store.specs.Placing.{longest_file}
 use Rattle.compact_base.specs.Compacting.{numbers_from}
-use Rattle.game_filter.specs.Renumbering.{renumbered}
-use Rattle.filter_seat.specs.SavedFilters.{kept_renumbered}
+use Rattle.filter_seat.specs.Seats.{seat_renumbered}
 use Rattle.shell_state.specs.Refusing.{full_line}
-use Rattle.shell_state.specs.State.{anew, State}
+use Rattle.shell_state.specs.State.{State, saved_whole}
 use Rattle.shell_state.specs.Work.{Work, writing}
 use Rattle.shell_state.specs.Work.Price.{by_looks}
 
@@ -24,21 +23,18 @@ is_within base = nat_le (compacted base).end longest_file
 -- compact: the undeleted games stay, the filters move with them, and the files carry the base that is left.
 abbrev pub compacted_state : State → State
 compacted_state s = record {
-  base = compacted s.base;
-  carried = Some (anew (compacted s.base));
-  filter = renumbered (numbers_of s.base) s.filter;
-  saved = map (kept_renumbered (numbers_of s.base)) s.saved;
-  unsaved = false;
+  shared = saved_whole (compacted s.shared.base);
+  seat = seat_renumbered (numbers_of s.shared.base) s.seat;
 }
 
 abbrev pub compact_after : State → State
-compact_after s = if is_within s.base then compacted_state s else s
+compact_after s = if is_within s.shared.base then compacted_state s else s
 
 abbrev pub compacted_line : ℕ → ℕ → List ℕ
 compacted_line games kept = codes "compacted " ++ decimal games ++ codes " to " ++ decimal kept ++ codes "\n"
 
 abbrev pub compact_text : State → List ℕ
-compact_text s = if is_within s.base then compacted_line (length s.base.games) (length (compacted s.base).games) else full_line File
+compact_text s = if is_within s.shared.base then compacted_line (length s.shared.base.games) (length (compacted s.shared.base).games) else full_line File
 
 -- The records of the games that stay are read.
 abbrev pub compact_work : Work

@@ -13,7 +13,7 @@ use Rattle.shell_state.specs.Work.Price.{by_looks}
 
 -- An edit of a game, where it is there, and its line.
 abbrev pub edited_there : (Base → Base) → State → Option Held → State
-edited_there edit s (Some held) = with_base s (edit s.base)
+edited_there edit s (Some held) = with_base s (edit s.shared.base)
 edited_there edit s None = s
 
 abbrev pub line_there : List ℕ → ℕ → Option Held → List ℕ
@@ -22,18 +22,18 @@ line_there words game None = no_game_line game
 
 -- delete G, undelete G
 abbrev pub delete_after : State → ℕ → State
-delete_after s game = edited_there (deleted game) s (slice_get s.base.games game)
+delete_after s game = edited_there (deleted game) s (slice_get s.shared.base.games game)
 
 abbrev pub undelete_after : State → ℕ → State
-undelete_after s game = edited_there (undeleted game) s (slice_get s.base.games game)
+undelete_after s game = edited_there (undeleted game) s (slice_get s.shared.base.games game)
 
 -- mark G LETTER on, mark G LETTER off
 abbrev pub mark_after : State → ℕ → ℕ → Bool → State
-mark_after s game bit on = edited_there (marked game bit on) s (slice_get s.base.games game)
+mark_after s game bit on = edited_there (marked game bit on) s (slice_get s.shared.base.games game)
 
 -- The text of the three.
 abbrev pub edit_text : List ℕ → State → ℕ → List ℕ
-edit_text words s game = line_there words game (slice_get s.base.games game)
+edit_text words s game = line_there words game (slice_get s.shared.base.games game)
 
 -- The state with this base, unless there is an error line.
 abbrev pub unless_refused : Option (List ℕ) → State → Base → State
@@ -42,18 +42,18 @@ unless_refused None s base = with_base s base
 
 -- tag G NAME VALUE
 abbrev pub tagged_there : ℕ → TagEdit → State → Option Held → State
-tagged_there game edit s (Some held) = unless_refused (refusal_of s.base (edited held.head edit) held.game) s (tagged game edit s.base)
+tagged_there game edit s (Some held) = unless_refused (refusal_of s.shared.base (edited held.head edit) held.game) s (tagged game edit s.shared.base)
 tagged_there game edit s None = s
 
 abbrev pub tag_line_there : ℕ → TagEdit → State → Option Held → List ℕ
-tag_line_there game edit s (Some held) = unwrap_or (refusal_of s.base (edited held.head edit) held.game) (game_line (codes "tagged ") game)
+tag_line_there game edit s (Some held) = unwrap_or (refusal_of s.shared.base (edited held.head edit) held.game) (game_line (codes "tagged ") game)
 tag_line_there game edit s None = no_game_line game
 
 abbrev pub tag_after : State → ℕ → TagEdit → State
-tag_after s game edit = tagged_there game edit s (slice_get s.base.games game)
+tag_after s game edit = tagged_there game edit s (slice_get s.shared.base.games game)
 
 abbrev pub tag_text : State → ℕ → TagEdit → List ℕ
-tag_text s game edit = tag_line_there game edit s (slice_get s.base.games game)
+tag_text s game edit = tag_line_there game edit s (slice_get s.shared.base.games game)
 
 -- What the commands do: the record of a game whose tag is set is read.
 abbrev pub delete_work : ℕ → Work

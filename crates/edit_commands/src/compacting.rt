@@ -63,8 +63,8 @@ fn compact_files<F: Files>(
     match compacted {
         Ok(renumbering) => {
             renumber_all(
-                &mut machine.filter,
-                machine.saved.as_mut_slice(),
+                &mut machine.seat.filter,
+                machine.seat.saved.as_mut_slice(),
                 &renumbering,
             );
             Ok(compacted_line(alloc, games, renumbering.kept())?)

@@ -7,7 +7,7 @@ use Rattle.game_filter.specs.Filter.{restricted_from, restricted, entry_within}
 use Rattle.filter_commands.specs.Filters.{drop_line, drop_work}
 use Rattle.filter_seat.specs.SavedFilters.{dropped_in}
 use Rattle.filter_seat.specs.declared.saved.SavedFilter.{SavedFilter}
-use Rattle.shell_state.proofs.Quietly.{Plies, quiet_by, fits_saved}
+use Rattle.shell_state.proofs.Quietly.{Plies, fits_saved, held_by, quiet_by}
 use Rattle.shell_state.specs.Stands.{Holding, Fits, Quiet}
 
 pub length_restricted_from : (i first last : ℕ) (plies : Plies) → length (restricted_from i first last plies) ≡ length plies
@@ -37,19 +37,19 @@ restricted_cut m first last plies games = cut_from m 0 first last plies (omega a
 -- `drop`, whether a filter of the name was kept or not.
 drop_in : (kept : Kept) (filter : Plies) (saved later : List SavedFilter) (name line : List ℕ) → later ≡ dropped_in saved name → line ≡ drop_line saved name
     → ((games : ℕ) → All (λ (f : SavedFilter). length f.plies ≡ games) saved → All (λ (f : SavedFilter). length f.plies ≡ games) later)
-    → Fits (record { kept = kept; filter = filter; saved = saved })
-    → Quiet (record { kept = kept; filter = filter; saved = saved }) (drop_work name) (record { kept = kept; filter = filter; saved = later }) line
+    → Fits (held_by kept filter saved)
+    → Quiet (held_by kept filter saved) (drop_work name) (held_by kept filter later) line
 drop_in kept filter saved later name line dropped written all fits =
-    let old : Holding = record { kept = kept; filter = filter; saved = saved } in
-    let new : Holding = record { kept = kept; filter = filter; saved = later } in
+    let old : Holding = held_by kept filter saved in
+    let new : Holding = held_by kept filter later in
     quiet_by (λ f s. f) (λ f s. dropped_in s name) (λ f s. drop_line s name) old new (drop_work name) line (λ s. refl) (λ s. refl) refl refl dropped written
     (fits_saved old new refl refl (all (length kept.entries) fits.saved) fits)
 
 pub drop_quiet : (old : Holding) (kept : Kept) (filter : Plies) (saved later : List SavedFilter) (name line : List ℕ)
-    → old ≡ record { kept = kept; filter = filter; saved = saved } → later ≡ dropped_in saved name → line ≡ drop_line saved name
+    → old ≡ held_by kept filter saved → later ≡ dropped_in saved name → line ≡ drop_line saved name
     → ((games : ℕ) → All (λ (f : SavedFilter). length f.plies ≡ games) saved → All (λ (f : SavedFilter). length f.plies ≡ games) later)
-    → Fits old → Quiet old (drop_work name) (record { kept = kept; filter = filter; saved = later }) line
+    → Fits old → Quiet old (drop_work name) (held_by kept filter later) line
 drop_quiet old kept filter saved later name line view dropped written all fits =
-    let new : Holding = record { kept = kept; filter = filter; saved = later } in
+    let new : Holding = held_by kept filter later in
     let P : Holding → Type 0 = λ o. Quiet o (drop_work name) new line in
     subst P (sym view) (drop_in kept filter saved later name line dropped written all (subst Fits view fits))

@@ -16,8 +16,8 @@ pub fn reset(alloc: Global, machine: &mut Machine) -> Result<Vec<u8>, AllocError
     requires fits { Fits machine.old }
     ensures quiet { IfOk result (λ line. Quiet machine.old reset_work machine.new line.items) }
 {
-    machine.filter.reset();
-    filter_line(alloc, &machine.filter)
+    machine.seat.filter.reset();
+    filter_line(alloc, &machine.seat.filter)
 }
 
 /// clear
@@ -25,8 +25,8 @@ pub fn clear(alloc: Global, machine: &mut Machine) -> Result<Vec<u8>, AllocError
     requires fits { Fits machine.old }
     ensures quiet { IfOk result (λ line. Quiet machine.old clear_work machine.new line.items) }
 {
-    machine.filter.clear();
-    filter_line(alloc, &machine.filter)
+    machine.seat.filter.clear();
+    filter_line(alloc, &machine.seat.filter)
 }
 
 /// negate
@@ -34,8 +34,8 @@ pub fn negate(alloc: Global, machine: &mut Machine) -> Result<Vec<u8>, AllocErro
     requires fits { Fits machine.old }
     ensures quiet { IfOk result (λ line. Quiet machine.old negate_work machine.new line.items) }
 {
-    machine.filter.negate();
-    filter_line(alloc, &machine.filter)
+    machine.seat.filter.negate();
+    filter_line(alloc, &machine.seat.filter)
 }
 
 /// restrict A B
@@ -48,8 +48,8 @@ pub fn restrict(
     requires fits { Fits machine.old }
     ensures quiet { IfOk result (λ line. Quiet machine.old (restrict_work first last) machine.new line.items) }
 {
-    restrict_to(&mut machine.filter, first, last);
-    filter_line(alloc, &machine.filter)
+    restrict_to(&mut machine.seat.filter, first, last);
+    filter_line(alloc, &machine.seat.filter)
 }
 
 // Puts out every game below `first` or above `last`. No game has the number of games or a higher number.
@@ -67,7 +67,7 @@ pub fn keep_filter(alloc: Global, machine: &mut Machine, name: &Text) -> Result<
     requires fits { Fits machine.old }
     ensures quiet { IfOk result (λ line. Quiet machine.old (keep_work name.now) machine.new line.items) }
 {
-    if !keep(alloc, &mut machine.saved, name, &machine.filter)? {
+    if !keep(alloc, &mut machine.seat.saved, name, &machine.seat.filter)? {
         return line_of(alloc, b"error: full filters");
     }
     name_line(alloc, b"kept ", name)
@@ -80,13 +80,13 @@ pub fn take(alloc: Global, machine: &mut Machine, name: &Text) -> Result<Vec<u8>
 {
     if !take_from(
         alloc,
-        &mut machine.filter,
-        machine.saved.as_slice(),
+        &mut machine.seat.filter,
+        machine.seat.saved.as_slice(),
         name.as_bytes(),
     )? {
         return name_line(alloc, b"error: no filter ", name);
     }
-    filter_line(alloc, &machine.filter)
+    filter_line(alloc, &machine.seat.filter)
 }
 
 /// and NAME
@@ -95,13 +95,13 @@ pub fn and(alloc: Global, machine: &mut Machine, name: &Text) -> Result<Vec<u8>,
     ensures quiet { IfOk result (λ line. Quiet machine.old (and_work name.now) machine.new line.items) }
 {
     if !meet(
-        &mut machine.filter,
-        machine.saved.as_slice(),
+        &mut machine.seat.filter,
+        machine.seat.saved.as_slice(),
         name.as_bytes(),
     ) {
         return name_line(alloc, b"error: no filter ", name);
     }
-    filter_line(alloc, &machine.filter)
+    filter_line(alloc, &machine.seat.filter)
 }
 
 /// or NAME
@@ -110,13 +110,13 @@ pub fn or(alloc: Global, machine: &mut Machine, name: &Text) -> Result<Vec<u8>, 
     ensures quiet { IfOk result (λ line. Quiet machine.old (or_work name.now) machine.new line.items) }
 {
     if !unite(
-        &mut machine.filter,
-        machine.saved.as_slice(),
+        &mut machine.seat.filter,
+        machine.seat.saved.as_slice(),
         name.as_bytes(),
     ) {
         return name_line(alloc, b"error: no filter ", name);
     }
-    filter_line(alloc, &machine.filter)
+    filter_line(alloc, &machine.seat.filter)
 }
 
 /// drop NAME
@@ -124,7 +124,7 @@ pub fn drop_filter(alloc: Global, machine: &mut Machine, name: &Text) -> Result<
     requires fits { Fits machine.old }
     ensures quiet { IfOk result (λ line. Quiet machine.old (drop_work name.now) machine.new line.items) }
 {
-    forget_line(alloc, &mut machine.saved, name)
+    forget_line(alloc, &mut machine.seat.saved, name)
 }
 
 // Forgets the filter of a name, and gives the line for that.

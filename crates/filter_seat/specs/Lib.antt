@@ -1,1 +1,2 @@
 pub mod SavedFilters
+pub mod Seats

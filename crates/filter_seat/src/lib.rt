@@ -2,7 +2,9 @@
 #![tactic(auto)]
 
 mod saved;
+mod seat;
 
 pub use saved::{
     SavedFilter, forget, keep, leave_out, meet, named, put_at_start, renumber_all, take_from, unite,
 };
+pub use seat::Seat;

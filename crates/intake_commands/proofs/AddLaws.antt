@@ -28,7 +28,7 @@ use Rattle.intake_commands.specs.Importing.{refused_words, not_added, Intake, it
 use Rattle.intake_commands.specs.Intakes.{Counted}
 use Rattle.shell_state.proofs.CarryLaws.{beside_grown}
 use Rattle.shell_state.proofs.EditedLaws.{kept-refusal, none_refused, refused_so}
-use Rattle.shell_state.proofs.Quietly.{held_by}
+use Rattle.shell_state.proofs.Quietly.{filter_is, held_by, saved_is, seats_are}
 use Rattle.shell_state.specs.Ends.{IsThere, IsDevice, EndsAs, refused_edit}
 use Rattle.shell_state.specs.Lines.{game_line}
 use Rattle.shell_state.specs.Refusing.{full_words, too_long_words, refusal_of}
@@ -83,15 +83,14 @@ pub add_stands : (old new : Kept) (filter filter' : List (Option ℕ)) (saved sa
     → Stands (held_by new filter' saved') seen' (item_after i (Good head game)).state
 add_stands old new filter filter' saved saved' seen seen' i head game st ends places room is unsaved names put left =
     let bytes : List ℕ = padded old.end (written_record head.tags game) in
-    let none : not_added i.state.base head game ≡ None = game_fits old st.games i.state.base head game st.base room in
+    let none : not_added i.state.shared.base head game ≡ None = game_fits old st.games i.state.shared.base head game st.base room in
     let standing : Stands (held_by new filter' saved') seen' (unless_not_added None i head game).state = record {
       games = st.games ++ bytes;
       told = told_more seen seen' st.games bytes st.told is;
-      base = places st.games i.state.base (ends_there seen.games st.games old.end st.told ends.told) st.base;
-      filter = put ∙ ap (λ (f : List (Option ℕ)). f ++ Some 0 ∷ []) st.filter;
-      saved = left ∙ ap (map without_last) st.saved;
+      base = places st.games i.state.shared.base (ends_there seen.games st.games old.end st.told ends.told) st.base;
+      seat = seats_are (record { filter = filter'; saved = saved' }) _ (put ∙ ap (λ (f : List (Option ℕ)). f ++ Some 0 ∷ []) (filter_is st)) (left ∙ ap (map without_last) (saved_is st));
       unsaved = unsaved;
-      carried = beside_grown old new seen seen' bytes i.state.unsaved i.state.carried is names st.carried;
+      carried = beside_grown old new seen seen' bytes i.state.shared.unsaved i.state.shared.carried is names st.carried;
     } in
     subst (Stands (held_by new filter' saved') seen') (ap (λ (r : Option (List ℕ)). (unless_not_added r i head game).state) (sym none)) standing
 
@@ -101,7 +100,7 @@ pub add_says : (old : Kept) (filter : List (Option ℕ)) (saved : List SavedFilt
     → CanPlace (length (written_record head.tags game)) (first_full (length old.entries + 1) (names_with head old.names) (end_with head game old.end))
     → number ≡ length old.entries → line ≡ game_line (codes "added ") number → line ≡ item_text i (Good head game)
 add_says old filter saved seen i head game number line st room is written =
-    let none : not_added i.state.base head game ≡ None = game_fits old st.games i.state.base head game st.base room in
+    let none : not_added i.state.shared.base head game ≡ None = game_fits old st.games i.state.shared.base head game st.base room in
     written ∙ ap (game_line (codes "added ")) (is ∙ st.base.count) ∙ ap (λ (r : Option (List ℕ)). added_line r i) (sym none)
 
 -- It counts.
@@ -110,7 +109,7 @@ pub add_counts : (old : Kept) (filter : List (Option ℕ)) (saved : List SavedFi
     → CanPlace (length (written_record head.tags game)) (first_full (length old.entries + 1) (names_with head old.names) (end_with head game old.end))
     → Counted true i (item_after i (Good head game))
 add_counts old filter saved seen i head game st room =
-    let none : not_added i.state.base head game ≡ None = game_fits old st.games i.state.base head game st.base room in
+    let none : not_added i.state.shared.base head game ≡ None = game_fits old st.games i.state.shared.base head game st.base room in
     let P : Option (List ℕ) → Type 0 = λ r. Counted true i (unless_not_added r i head game) in
     let counted : Counted true i (unless_not_added None i head game) = record { added = refl; refused = omega arith } in
     subst P (sym none) counted
@@ -161,11 +160,11 @@ refused_so_worded edit.Memory number len full line why ends = absurd (cc)
 abbrev IsRefused : Kept → Head → GameTree → EditError → Type 0
 IsRefused kept head game e = WhyNotPlaced (length (written_record head.tags game)) (first_full (length kept.entries + 1) (names_with head kept.names) (end_with head game kept.end)) e
 
-not_added_so : (kept : Kept) (games : List ℕ) (i : Intake) (head : Head) (game : GameTree) (e : EditError) (number : ℕ) (line : List ℕ) → Represents kept games i.state.base
-    → IsRefused kept head game e → refused_item number e ≡ Ok line → (words : List ℕ) × (not_added i.state.base head game ≡ Some words) × (line ≡ item_line number (codes ": " ++ words))
+not_added_so : (kept : Kept) (games : List ℕ) (i : Intake) (head : Head) (game : GameTree) (e : EditError) (number : ℕ) (line : List ℕ) → Represents kept games i.state.shared.base
+    → IsRefused kept head game e → refused_item number e ≡ Ok line → (words : List ℕ) × (not_added i.state.shared.base head game ≡ Some words) × (line ≡ item_line number (codes ": " ++ words))
 not_added_so kept games i head game e number line is why ends =
     let so = refused_so_worded e number _ _ line why ends in
-    (so.0, sym (kept-words kept games i.state.base head game is) ∙ so.1, so.2)
+    (so.0, sym (kept-words kept games i.state.shared.base head game is) ∙ so.1, so.2)
 
 pub refused_item_says : (kept : Kept) (filter : List (Option ℕ)) (saved : List SavedFilter) (seen : Seen) (i : Intake) (head : Head) (game : GameTree) (e : EditError) (number : ℕ) (line : List ℕ)
     → Stands (held_by kept filter saved) seen i.state → IsRefused kept head game e → refused_item number e ≡ Ok line → next_number i ≡ number → line ≡ item_text i (Good head game)
@@ -255,27 +254,26 @@ pub replace_stands : (old new : Kept) (filter filter' : List (Option ℕ)) (save
     → CanPlace (length (written_record head.tags game)) (first_full (length old.entries) (names_with head old.names) (end_with head game old.end))
     → seen' ≡ appended (padded old.end (written_record head.tags game)) seen → new.unsaved ≡ true → HoldsNames new.names old.names
     → filter' ≡ to_start i filter → saved' ≡ map (kept_to_start i) saved
-    → Stands (held_by new filter' saved') seen' (state_with s i (the_one s.base (Good head game ∷ [])))
+    → Stands (held_by new filter' saved') seen' (state_with s i (the_one s.shared.base (Good head game ∷ [])))
 replace_stands old new filter filter' saved saved' seen seen' s i head game st ends places room is unsaved names put left =
     let bytes : List ℕ = padded old.end (written_record head.tags game) in
-    let one : the_one s.base (Good head game ∷ []) ≡ Ok (head, game) = one_fits old st.games s.base head game st.base room in
+    let one : the_one s.shared.base (Good head game ∷ []) ≡ Ok (head, game) = one_fits old st.games s.shared.base head game st.base room in
     let standing : Stands (held_by new filter' saved') seen' (state_with s i (Ok (head, game))) = record {
       games = st.games ++ bytes;
       told = told_more seen seen' st.games bytes st.told is;
-      base = places st.games s.base (ends_there seen.games st.games old.end st.told ends.told) st.base;
-      filter = put ∙ ap (to_start i) st.filter;
-      saved = left ∙ ap (map (kept_to_start i)) st.saved;
+      base = places st.games s.shared.base (ends_there seen.games st.games old.end st.told ends.told) st.base;
+      seat = seats_are (record { filter = filter'; saved = saved' }) _ (put ∙ ap (to_start i) (filter_is st)) (left ∙ ap (map (kept_to_start i)) (saved_is st));
       unsaved = unsaved;
-      carried = beside_grown old new seen seen' bytes s.unsaved s.carried is names st.carried;
+      carried = beside_grown old new seen seen' bytes s.shared.unsaved s.shared.carried is names st.carried;
     } in
     subst (Stands (held_by new filter' saved') seen') (ap (state_with s i) (sym one)) standing
 
 pub replace_says : (old : Kept) (filter : List (Option ℕ)) (saved : List SavedFilter) (seen : Seen) (s : State) (i : ℕ) (head : Head) (game : GameTree) (line : List ℕ)
     → Stands (held_by old filter saved) seen s
     → CanPlace (length (written_record head.tags game)) (first_full (length old.entries) (names_with head old.names) (end_with head game old.end))
-    → line ≡ game_line (codes "replaced ") i → line ≡ line_with i (the_one s.base (Good head game ∷ []))
+    → line ≡ game_line (codes "replaced ") i → line ≡ line_with i (the_one s.shared.base (Good head game ∷ []))
 replace_says old filter saved seen s i head game line st room written =
-    written ∙ ap (line_with i) (sym (one_fits old st.games s.base head game st.base room))
+    written ∙ ap (line_with i) (sym (one_fits old st.games s.shared.base head game st.base room))
 
 pub replace_fits : (old new : Kept) (filter filter' : List (Option ℕ)) (saved saved' : List SavedFilter) (i : ℕ) → length new.entries ≡ length old.entries → filter' ≡ to_start i filter → saved' ≡ map (kept_to_start i) saved
     → Fits (held_by old filter saved) → Fits (held_by new filter' saved')
@@ -298,14 +296,14 @@ one_refused_so kept games base head game e line is why ends =
 pub not_replaced_stands : (kept : Kept) (filter : List (Option ℕ)) (saved : List SavedFilter) (seen seen' : Seen) (s : State) (i : ℕ) (head : Head) (game : GameTree) (e : EditError) (line : List ℕ)
     → Stands (held_by kept filter saved) seen s
     → WhyNotPlaced (length (written_record head.tags game)) (first_full (length kept.entries) (names_with head kept.names) (end_with head game kept.end)) e → refused_edit e ≡ Ok line → seen' ≡ seen
-    → Stands (held_by kept filter saved) seen' (state_with s i (the_one s.base (Good head game ∷ [])))
+    → Stands (held_by kept filter saved) seen' (state_with s i (the_one s.shared.base (Good head game ∷ [])))
 not_replaced_stands kept filter saved seen seen' s i head game e line st why ends same =
-    let one = one_refused_so kept st.games s.base head game e line st.base why ends in
+    let one = one_refused_so kept st.games s.shared.base head game e line st.base why ends in
     subst (Stands (held_by kept filter saved) seen') (ap (state_with s i) (sym one)) (subst (λ (x : Seen). Stands (held_by kept filter saved) x s) (sym same) st)
 
 pub not_replaced_says : (kept : Kept) (filter : List (Option ℕ)) (saved : List SavedFilter) (seen : Seen) (s : State) (i : ℕ) (head : Head) (game : GameTree) (e : EditError) (line : List ℕ)
     → Stands (held_by kept filter saved) seen s
     → WhyNotPlaced (length (written_record head.tags game)) (first_full (length kept.entries) (names_with head kept.names) (end_with head game kept.end)) e → refused_edit e ≡ Ok line
-    → line ≡ line_with i (the_one s.base (Good head game ∷ []))
+    → line ≡ line_with i (the_one s.shared.base (Good head game ∷ []))
 not_replaced_says kept filter saved seen s i head game e line st why ends =
-    ap (line_with i) (sym (one_refused_so kept st.games s.base head game e line st.base why ends))
+    ap (line_with i) (sym (one_refused_so kept st.games s.shared.base head game e line st.base why ends))

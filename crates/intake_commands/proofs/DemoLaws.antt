@@ -65,8 +65,8 @@ kept-adding kept games base head game is =
 -- There is room for it.
 pub room_made : (kept : Kept) (filter : List (Option ℕ)) (saved : List SavedFilter) (seen : Seen) (s : State) (head : Head) (game : GameTree) → Stands (held_by kept filter saved) seen s
     → CanPlace (length (written_record head.tags game)) (first_full (length kept.entries + 1) (names_with head kept.names) (end_with head game kept.end))
-    → adding_refusal s.base head game ≡ None
-room_made kept filter saved seen s head game st can = sym (kept-adding kept st.games s.base head game st.base) ∙ none_refused _ _ can
+    → adding_refusal s.shared.base head game ≡ None
+room_made kept filter saved seen s head game st can = sym (kept-adding kept st.games s.shared.base head game st.base) ∙ none_refused _ _ can
 
 -- The state with it stands.
 pub made_stands : (old new : Kept) (filter filter' : List (Option ℕ)) (saved saved' : List SavedFilter) (seen seen' : Seen) (s : State) (head : Head) (game : GameTree)
@@ -76,7 +76,7 @@ pub made_stands : (old new : Kept) (filter filter' : List (Option ℕ)) (saved s
     → filter' ≡ filter ++ Some 0 ∷ [] → saved' ≡ map without_last saved
     → Stands (held_by new filter' saved') seen' (with_game s head game)
 made_stands old new filter filter' saved saved' seen seen' s head game st ends places room is unsaved names put left =
-    let none = game_fits old st.games s.base head game st.base room in
+    let none = game_fits old st.games s.shared.base head game st.base room in
     subst (Stands (held_by new filter' saved') seen') (ap (λ (r : Option (List ℕ)). (unless_not_added r (none_taken s) head game).state) none)
     (add_stands old new filter filter' saved saved' seen seen' (none_taken s) head game st ends places room is unsaved names put left)
 
@@ -84,8 +84,8 @@ made_stands old new filter filter' saved saved' seen seen' s head game st ends p
 pub made_refused : (kept : Kept) (filter : List (Option ℕ)) (saved : List SavedFilter) (seen : Seen) (s : State) (head : Head) (game : GameTree) (e : EditError) (line : List ℕ)
     → Stands (held_by kept filter saved) seen s
     → WhyNotPlaced (length (written_record head.tags game)) (first_full (length kept.entries + 1) (names_with head kept.names) (end_with head game kept.end)) e
-    → refused_edit e ≡ Ok line → adding_refusal s.base head game ≡ Some line
-made_refused kept filter saved seen s head game e line st why ends = sym (kept-adding kept st.games s.base head game st.base) ∙ refused_so e _ _ line why ends
+    → refused_edit e ≡ Ok line → adding_refusal s.shared.base head game ≡ Some line
+made_refused kept filter saved seen s head game e line st why ends = sym (kept-adding kept st.games s.shared.base head game st.base) ∙ refused_so e _ _ line why ends
 
 -- An error that has a line is none of the files.
 pub says_not_failed : (e : EditError) (r : Option (Vec ℕ)) → SaysRefused e r → e ≡ edit.Failed → ⊥
@@ -116,7 +116,7 @@ pub refused_on : (holding : Holding) (seen : Seen) (line : List ℕ) (s : State)
 refused_on holding seen line s seed i h = let next : suc i ≡ i + 1 = omega arith in subst (λ (n : ℕ). IsRefused holding seen line (adding s seed n)) next h
 
 one-more : (a : Adding) (i number : ℕ) (made : Made) (r : Option (List ℕ)) → a.refused ≡ None → a.number ≡ number → demo_game number i ≡ made
-    → adding_refusal a.state.base made.head made.game ≡ r → one_more a i ≡ unless_refusal r a made
+    → adding_refusal a.state.shared.base made.head made.game ≡ r → one_more a i ≡ unless_refusal r a made
 one-more a i number made r good at is refused =
     ap (λ (o : Option (List ℕ)). unless_ended o a (demo_game a.number i)) good
     ∙ ap (λ (n : ℕ). unless_ended None a (demo_game n i)) at
@@ -124,7 +124,7 @@ one-more a i number made r good at is refused =
     ∙ ap (λ (o : Option (List ℕ)). unless_refusal o a made) refused
 
 pub adding_more : (holding holding' : Holding) (seen seen' : Seen) (number sum : ℕ) (a : Adding) (i : ℕ) (made : Made) (more : ℕ) → IsAdding holding seen number sum a → demo_game number i ≡ made
-    → Stands holding' seen' (with_game a.state made.head made.game) → adding_refusal a.state.base made.head made.game ≡ None → more ≡ plies_of made.game
+    → Stands holding' seen' (with_game a.state made.head made.game) → adding_refusal a.state.shared.base made.head made.game ≡ None → more ≡ plies_of made.game
     → IsAdding holding' seen' made.left (sum + more) (one_more a i)
 adding_more holding holding' seen seen' number sum a i made more so_far is st refused plies =
     let both : a.plies + plies_of made.game ≡ sum + more = omega (arith, so_far.plies, plies) in
@@ -141,7 +141,7 @@ refused-stays s seed i (suc more) line is =
     ∙ ap (λ (o : Option (List ℕ)). unless_ended o (adding s seed i) (demo_game (adding s seed i).number (more + i))) is
 
 pub refused_here : (holding : Holding) (seen : Seen) (number sum : ℕ) (a : Adding) (i : ℕ) (made : Made) (holding' : Holding) (seen' : Seen) (line : List ℕ) → IsAdding holding seen number sum a
-    → demo_game number i ≡ made → Stands holding' seen' a.state → adding_refusal a.state.base made.head made.game ≡ Some line → IsRefused holding' seen' line (one_more a i)
+    → demo_game number i ≡ made → Stands holding' seen' a.state → adding_refusal a.state.shared.base made.head made.game ≡ Some line → IsRefused holding' seen' line (one_more a i)
 refused_here holding seen number sum a i made holding' seen' line so_far is st refused =
     let here : IsRefused holding' seen' line (unless_refusal (Some line) a made) = record { stands = st; refused = refl } in
     subst (IsRefused holding' seen' line) (sym (one-more a i number made (Some line) so_far.good so_far.number is refused)) here
@@ -153,15 +153,15 @@ adding_ends holding seen s seed i games line less here =
 
 -- ---- what the files carry
 
-unless-carried : (r : Option (List ℕ)) (a : Adding) (made : Made) → (unless_refusal r a made).state.carried ≡ a.state.carried
+unless-carried : (r : Option (List ℕ)) (a : Adding) (made : Made) → (unless_refusal r a made).state.shared.carried ≡ a.state.shared.carried
 unless-carried (Some line) a made = refl
 unless-carried None a made = refl
 
-ended-carried : (r : Option (List ℕ)) (a : Adding) (made : Made) → (unless_ended r a made).state.carried ≡ a.state.carried
+ended-carried : (r : Option (List ℕ)) (a : Adding) (made : Made) → (unless_ended r a made).state.shared.carried ≡ a.state.shared.carried
 ended-carried (Some line) a made = refl
-ended-carried None a made = unless-carried (adding_refusal a.state.base made.head made.game) a made
+ended-carried None a made = unless-carried (adding_refusal a.state.shared.base made.head made.game) a made
 
-pub adding_carried : (s : State) (seed games : ℕ) → (adding s seed games).state.carried ≡ s.carried
+pub adding_carried : (s : State) (seed games : ℕ) → (adding s seed games).state.shared.carried ≡ s.shared.carried
 adding_carried s seed zero = refl
 adding_carried s seed (suc games) =
     ended-carried (adding s seed games).refused (adding s seed games) (demo_game (adding s seed games).number games) ∙ adding_carried s seed games

@@ -235,10 +235,10 @@ took_last holding seen s text ahead told told' added refused next none took =
 
 -- ---- what the files carry then
 
-unless_keeps : (words : Option (List ℕ)) (i : Intake) (head : Head) (game : GameTree) → (unless_not_added words i head game).state.carried ≡ i.state.carried
+unless_keeps : (words : Option (List ℕ)) (i : Intake) (head : Head) (game : GameTree) → (unless_not_added words i head game).state.shared.carried ≡ i.state.shared.carried
 unless_keeps (Some words) i head game = refl
 unless_keeps None i head game = refl
 
-pub item_keeps : (i : Intake) (item : Item) → (item_after i item).state.carried ≡ i.state.carried
-item_keeps i (Good head game) = unless_keeps (not_added i.state.base head game) i head game
+pub item_keeps : (i : Intake) (item : Item) → (item_after i item).state.shared.carried ≡ i.state.shared.carried
+item_keeps i (Good head game) = unless_keeps (not_added i.state.shared.base head game) i head game
 item_keeps i (Bad fault) = refl

@@ -142,30 +142,30 @@ the_one_other base (Good head game ∷ []) other = absurd (other head game refl)
 the_one_other base (Good head game ∷ item ∷ items) other = refl
 the_one_other base (Bad fault ∷ items) other = refl
 
-new_of_game : (s : State) (i : ℕ) (text : List ℕ) (held : Held) (head : Head) (game : GameTree) → slice_get s.base.games i ≡ Some held → items_of text ≡ Good head game ∷ [] → the_new s i text ≡ the_one s.base (Good head game ∷ [])
+new_of_game : (s : State) (i : ℕ) (text : List ℕ) (held : Held) (head : Head) (game : GameTree) → slice_get s.shared.base.games i ≡ Some held → items_of text ≡ Good head game ∷ [] → the_new s i text ≡ the_one s.shared.base (Good head game ∷ [])
 new_of_game s i text held head game there is = ap (λ (o : Option Held). new_game s i o (items_of text)) there ∙ ap (new_game s i (Some held)) is
 
-new_of_other : (s : State) (i : ℕ) (text : List ℕ) (held : Held) → slice_get s.base.games i ≡ Some held → IsOnly (items_of text) only.Other → the_new s i text ≡ Err one_game_line
+new_of_other : (s : State) (i : ℕ) (text : List ℕ) (held : Held) → slice_get s.shared.base.games i ≡ Some held → IsOnly (items_of text) only.Other → the_new s i text ≡ Err one_game_line
 new_of_other s i text held there (none, other) =
     ap (λ (o : Option Held). new_game s i o (items_of text)) there
-    ∙ ap (λ (r : Option (List ℕ)). unless_line r (the_one s.base (items_of text))) none
-    ∙ the_one_other s.base (items_of text) other
+    ∙ ap (λ (r : Option (List ℕ)). unless_line r (the_one s.shared.base (items_of text))) none
+    ∙ the_one_other s.shared.base (items_of text) other
 
-new_of_faulty : (s : State) (i : ℕ) (text : List ℕ) (held : Held) (number : ℕ) (fault : GameFault) → slice_get s.base.games i ≡ Some held → IsOnly (items_of text) (only.Faulty number fault)
+new_of_faulty : (s : State) (i : ℕ) (text : List ℕ) (held : Held) (number : ℕ) (fault : GameFault) → slice_get s.shared.base.games i ≡ Some held → IsOnly (items_of text) (only.Faulty number fault)
     → the_new s i text ≡ Err (faulty_line number fault)
 new_of_faulty s i text held number fault there faulty =
-    ap (λ (o : Option Held). new_game s i o (items_of text)) there ∙ ap (λ (r : Option (List ℕ)). unless_line r (the_one s.base (items_of text))) faulty
+    ap (λ (o : Option Held). new_game s i o (items_of text)) there ∙ ap (λ (r : Option (List ℕ)). unless_line r (the_one s.shared.base (items_of text))) faulty
 
-new_of_none : (s : State) (i : ℕ) (text : List ℕ) → slice_get s.base.games i ≡ None → the_new s i text ≡ Err (no_game_line i)
+new_of_none : (s : State) (i : ℕ) (text : List ℕ) → slice_get s.shared.base.games i ≡ None → the_new s i text ≡ Err (no_game_line i)
 new_of_none s i text none = ap (λ (o : Option Held). new_game s i o (items_of text)) none
 
 -- ---- what comes of it, by what stands there
 
-held_there : (holding : Holding) (seen : Seen) (s : State) (i : ℕ) → Stands holding seen s → i < length holding.kept.entries → (held : Held) × (slice_get s.base.games i ≡ Some held)
-held_there holding seen s i st there = get_some s.base.games i (omega (arith, there, st.base.count))
+held_there : (holding : Holding) (seen : Seen) (s : State) (i : ℕ) → Stands holding seen s → i < length holding.kept.entries → (held : Held) × (slice_get s.shared.base.games i ≡ Some held)
+held_there holding seen s i st there = get_some s.shared.base.games i (omega (arith, there, st.base.count))
 
 pub game_new : (holding : Holding) (seen : Seen) (s : State) (i : ℕ) (text : List ℕ) (head : Head) (game : GameTree) → Stands holding seen s → i < length holding.kept.entries → IsOnly (items_of text) (only.Game head game)
-    → the_one s.base (Good head game ∷ []) ≡ the_new s i text
+    → the_one s.shared.base (Good head game ∷ []) ≡ the_new s i text
 game_new holding seen s i text head game st there is =
     let held = held_there holding seen s i st there in
     sym (new_of_game s i text held.0 head game held.1 is)
@@ -183,7 +183,7 @@ faulty_new holding seen s i text number fault st there is =
     sym (new_of_faulty s i text held.0 number fault held.1 is)
 
 pub none_new : (holding : Holding) (seen : Seen) (s : State) (i : ℕ) (text : List ℕ) → Stands holding seen s → length holding.kept.entries ≤ i → Err (no_game_line i) ≡ the_new s i text
-none_new holding seen s i text st past = sym (new_of_none s i text (slice_get_past s.base.games i (omega (arith, past, st.base.count))))
+none_new holding seen s i text st past = sym (new_of_none s i text (slice_get_past s.shared.base.games i (omega (arith, past, st.base.count))))
 
 -- The text and the state of a command for a game and those for its body.
 abbrev pub New : Type 0

@@ -47,7 +47,7 @@ unless_refusal None a made = record { state = with_game a.state made.head made.g
 -- One more game is made and added, unless one was refused.
 abbrev pub unless_ended : Option (List ℕ) → Adding → Made → Adding
 unless_ended (Some line) a made = a
-unless_ended None a made = unless_refusal (adding_refusal a.state.base made.head made.game) a made
+unless_ended None a made = unless_refusal (adding_refusal a.state.shared.base made.head made.game) a made
 
 abbrev pub one_more : Adding → ℕ → Adding
 one_more a i = unless_ended a.refused a (demo_game a.number i)

@@ -48,8 +48,8 @@ SaysRefused error None = ⊥
 
 -- One game was added, or refused with this line.
 abbrev pub IsPut : Holding → Seen → State → Head → GameTree → Option (Vec ℕ) → Type 0
-IsPut holding seen s head game None = Stands holding seen (with_game s head game) × (adding_refusal s.base head game ≡ None)
-IsPut holding seen s head game (Some line) = Stands holding seen s × (adding_refusal s.base head game ≡ Some line.items)
+IsPut holding seen s head game None = Stands holding seen (with_game s head game) × (adding_refusal s.shared.base head game ≡ None)
+IsPut holding seen s head game (Some line) = Stands holding seen s × (adding_refusal s.shared.base head game ≡ Some line.items)
 
 -- The text was written and the machine stands for the state, or a front part of the text was.
 abbrev pub Wrote : Holding → Seen → State → List ℕ → Option (List ℕ) → Option (List ℕ) → Result (Unit {0}) Halt → Type 0

@@ -1,6 +1,6 @@
 -- The commands that take games in: `import` and `replace`. This project's own.
 use Rattle.std.specs.Fmt.{decimal}
-use Rattle.std.specs.Prelude.{ℕ, ◌+◌, List, [], ◌∷◌, ◌++◌, codes, nat_lt, if◌then◌else◌, Option, Some, option_map, length, map, None, Result, Err, Ok, slice_get, true}
+use Rattle.std.specs.Prelude.{ℕ, ◌+◌, List, [], ◌∷◌, ◌++◌, codes, nat_lt, if◌then◌else◌, Option, Some, option_map, length, None, Result, Err, Ok, slice_get, true}
 use Rattle.base_core.specs.Base.{Base, Held}
 use Rattle.base_core.specs.Edited.{first_full}
 use Rattle.base_core.specs.Edits.{end_with, names_with, added, game_replaced}
@@ -15,10 +15,10 @@ use Rattle.pgn_read.specs.declared.item.GameWhat.{GameWhat}
 use Rattle.pgn_read.specs.declared.item.GameWhat.TheVariants as what
 use Rattle.pgn_read.specs.declared.item.Item.{Item}
 use Rattle.pgn_read.specs.declared.item.Item.TheVariants.{Good, Bad}
-use Rattle.filter_seat.specs.SavedFilters.{without_last, to_start, kept_to_start}
+use Rattle.filter_seat.specs.Seats.{seat_to_start, seat_with_one}
 use Rattle.shell_state.specs.Lines.{san_words, game_line, line_of, no_game_line}
 use Rattle.shell_state.specs.Refusing.{full_words, too_long_words, refusal_of}
-use Rattle.shell_state.specs.State.{State, with_base}
+use Rattle.shell_state.specs.State.{State, with_base, with_seat}
 use Rattle.shell_state.specs.Work.{writing, Work}
 use Rattle.shell_state.specs.Work.Price.{by_looks}
 
@@ -72,7 +72,7 @@ next_number i = i.added + i.refused + 1
 
 -- A game is added: it is in at ply 0, and in no filter that is kept.
 abbrev pub with_game : State → Head → GameTree → State
-with_game s head game = record (with_base s (added head game s.base)) { filter = s.filter ++ Some 0 ∷ []; saved = map without_last s.saved }
+with_game s head game = with_seat (with_base s (added head game s.shared.base)) (seat_with_one s.seat)
 
 abbrev pub one_refused : Intake → Intake
 one_refused i = record i { refused = i.refused + 1 }
@@ -83,14 +83,14 @@ unless_not_added None i head game = record i { state = with_game i.state head ga
 
 abbrev pub added_line : Option (List ℕ) → Intake → List ℕ
 added_line (Some words) i = item_line (next_number i) (codes ": " ++ words)
-added_line None i = game_line (codes "added ") (length i.state.base.games)
+added_line None i = game_line (codes "added ") (length i.state.shared.base.games)
 
 abbrev pub item_after : Intake → Item → Intake
-item_after i (Good head game) = unless_not_added (not_added i.state.base head game) i head game
+item_after i (Good head game) = unless_not_added (not_added i.state.shared.base head game) i head game
 item_after i (Bad fault) = one_refused i
 
 abbrev pub item_text : Intake → Item → List ℕ
-item_text i (Good head game) = added_line (not_added i.state.base head game) i
+item_text i (Good head game) = added_line (not_added i.state.shared.base head game) i
 item_text i (Bad fault) = faulty_line (next_number i) fault
 
 -- The command is a run of the items of its body.
@@ -113,8 +113,7 @@ import_text s body = run intake (none_taken s) (items_of body) ++ imported_line 
 -- ---- replace G <<WORD
 
 abbrev pub with_other_game : State → ℕ → Head → GameTree → State
-with_other_game s game head tree =
-    record (with_base s (game_replaced game head tree s.base)) { filter = to_start game s.filter; saved = map (kept_to_start game) s.saved }
+with_other_game s game head tree = with_seat (with_base s (game_replaced game head tree s.shared.base)) (seat_to_start game s.seat)
 
 abbrev pub one_game_line : List ℕ
 one_game_line = line_of (codes "error: one game expected")
@@ -136,10 +135,10 @@ the_one base _ = Err one_game_line
 
 abbrev pub new_game : State → ℕ → Option Held → List Item → Result (Head × GameTree) (List ℕ)
 new_game s game None items = Err (no_game_line game)
-new_game s game (Some held) items = unless_line (first_faulty 1 items) (the_one s.base items)
+new_game s game (Some held) items = unless_line (first_faulty 1 items) (the_one s.shared.base items)
 
 abbrev pub the_new : State → ℕ → List ℕ → Result (Head × GameTree) (List ℕ)
-the_new s game body = new_game s game (slice_get s.base.games game) (items_of body)
+the_new s game body = new_game s game (slice_get s.shared.base.games game) (items_of body)
 
 abbrev pub state_with : State → ℕ → Result (Head × GameTree) (List ℕ) → State
 state_with s game (Ok new) = with_other_game s game new.0 new.1

@@ -76,7 +76,7 @@ TookNext holding seen s text ahead told told' added refused (Err e) = Halted [] 
 pub record StandsLater (holding : Holding) (seen : Seen) (s : State) : Type 0 where
   pub state : State
   pub stands : Stands holding seen state
-  pub carried : state.carried ≡ s.carried
+  pub carried : state.shared.carried ≡ s.shared.carried
 
 -- Whether there were items behind a good first one, of which these are left.
 abbrev pub IsBegun : List Item → Option Only → List Item → Type 0

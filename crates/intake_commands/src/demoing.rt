@@ -137,8 +137,8 @@ fn add_made<F: Files>(
     machine.keeps_sound();
     match added {
         Ok(_) => {
-            machine.filter.push(alloc, Some(0))?;
-            leave_out(alloc, machine.saved.as_mut_slice())?;
+            machine.seat.filter.push(alloc, Some(0))?;
+            leave_out(alloc, machine.seat.saved.as_mut_slice())?;
             Ok(None)
         }
         Err(error) => refused(alloc, error),

@@ -218,8 +218,8 @@ fn add_game<F: Files>(
     match added {
         Ok(i) => {
             let line = game_line(alloc, b"added ", u64::from(i))?;
-            machine.filter.push(alloc, Some(0))?;
-            leave_out(alloc, machine.saved.as_mut_slice())?;
+            machine.seat.filter.push(alloc, Some(0))?;
+            leave_out(alloc, machine.seat.saved.as_mut_slice())?;
             Ok((line, true))
         }
         Err(error) => refused_item(alloc, number, error),

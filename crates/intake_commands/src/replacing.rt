@@ -124,8 +124,8 @@ fn put_game<F: Files>(
     requires there { i < length machine.old.kept.entries }
     requires fit { IsFitGame head.now game.now }
     requires sound { Sound machine.old (F.seen files.old) }
-    ensures line { (s : State) → Stands machine.old (F.seen files.old) s → IfOk result (λ line. line.items ≡ line_with i (the_one s.base (item.Good head.now game.now ∷ []))) }
-    ensures stands { (s : State) → Stands machine.old (F.seen files.old) s → OnOk result (Stands machine.new (F.seen files.new) (state_with s i (the_one s.base (item.Good head.now game.now ∷ [])))) }
+    ensures line { (s : State) → Stands machine.old (F.seen files.old) s → IfOk result (λ line. line.items ≡ line_with i (the_one s.shared.base (item.Good head.now game.now ∷ []))) }
+    ensures stands { (s : State) → Stands machine.old (F.seen files.old) s → OnOk result (Stands machine.new (F.seen files.new) (state_with s i (the_one s.shared.base (item.Good head.now game.now ∷ [])))) }
     ensures devices { IfErr result IsDevice }
     ensures sound { OnOk result (Sound machine.new (F.seen files.new)) }
     ensures carries { (s : State) → Stands machine.old (F.seen files.old) s → StillCarry (F.seen files.new) s None }
@@ -137,7 +137,11 @@ fn put_game<F: Files>(
     machine.keeps_sound();
     match replaced {
         Ok(()) => {
-            put_at_start(&mut machine.filter, machine.saved.as_mut_slice(), i);
+            put_at_start(
+                &mut machine.seat.filter,
+                machine.seat.saved.as_mut_slice(),
+                i,
+            );
             Ok(game_line(alloc, b"replaced ", u64::from(i))?)
         }
         Err(error) => refused_line(alloc, error),

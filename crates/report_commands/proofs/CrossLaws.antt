@@ -31,8 +31,8 @@ pub quiet_cross : (old : Holding) (event line : List ℕ) → Fits old → line 
 quiet_cross old event line fits written = record {
   stands = λ (seen : Seen) (s : State) (st : Stands old seen s). st;
   text = λ (seen : Seen) (s : State) (st : Stands old seen s).
-      written ∙ (ap (cross_of event) (heads-are old.kept st.games s.base st.base)
-      ∙ same_text event (map (λ (g : Held). without_tags g.head) s.base.games) (map (λ (g : Held). g.head) s.base.games) (same_games event s.base.games));
+      written ∙ (ap (cross_of event) (heads-are old.kept st.games s.shared.base st.base)
+      ∙ same_text event (map (λ (g : Held). without_tags g.head) s.shared.base.games) (map (λ (g : Held). g.head) s.shared.base.games) (same_games event s.shared.base.games));
   fits = fits;
   base = λ sound. sound;
   end = refl;

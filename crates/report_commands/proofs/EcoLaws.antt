@@ -158,15 +158,14 @@ beside_coded old new seen some unsaved None names b = b
 pub coded_stands : (table : List Opening) (codes : List (Option ℕ)) (old new : Kept) (filter : List (Option ℕ)) (saved : List SavedFilter) (seen : Seen) (s : State)
     → codes ≡ codes_of table s → AreCoded codes old new → Stands (held_by old filter saved) seen s → Stands (held_by new filter saved) seen (classified_by s table)
 coded_stands table codes old new filter saved seen s are coded_are st =
-    let all = ap (λ (found : List (Option ℕ)). coded found s.base.games) are ∙ all_coded table s.base.games in
+    let all = ap (λ (found : List (Option ℕ)). coded found s.shared.base.games) are ∙ all_coded table s.shared.base.games in
     record {
       games = st.games;
       told = st.told;
-      base = subst (λ (games : List Held). Represents new st.games (with_games s.base games)) all (coded_are.does st.games s.base st.base);
-      filter = st.filter;
-      saved = st.saved;
+      base = subst (λ (games : List Held). Represents new st.games (with_games s.shared.base games)) all (coded_are.does st.games s.shared.base st.base);
+      seat = st.seat;
       unsaved = coded_are.unsaved ∙ ap₂ (λ (found : List (Option ℕ)) (rest : Bool). list_any is_some found || rest) are st.unsaved;
-      carried = beside_coded old new seen (list_any is_some (codes_of table s)) s.unsaved s.carried coded_are.names st.carried;
+      carried = beside_coded old new seen (list_any is_some (codes_of table s)) s.shared.unsaved s.shared.carried coded_are.names st.carried;
     }
 
 pub coded_fits : (codes : List (Option ℕ)) (old new : Kept) (filter : List (Option ℕ)) (saved : List SavedFilter) → AreCoded codes old new → Fits (held_by old filter saved) → Fits (held_by new filter saved)

@@ -68,11 +68,10 @@ deleted_stands [] old new filter saved seen s same st = subst (λ (k : Kept). St
 deleted_stands (game ∷ games) old new filter saved seen s marked st = record {
   games = st.games;
   told = st.told;
-  base = marked.0 st.games s.base st.base;
-  filter = st.filter;
-  saved = st.saved;
+  base = marked.0 st.games s.shared.base st.base;
+  seat = st.seat;
   unsaved = marked.1.unsaved;
-  carried = beside_edited old new seen s.unsaved s.carried marked.1.names st.carried;
+  carried = beside_edited old new seen s.shared.unsaved s.shared.carried marked.1.names st.carried;
 }
 
 pub marked_fits : (games : List ℕ) (old new : Kept) (filter : List (Option ℕ)) (saved : List SavedFilter) → Marked games old new → Fits (held_by old filter saved) → Fits (held_by new filter saved)
@@ -144,7 +143,7 @@ twins_why twins.Memory games extents sigs buffer f f' cause = tt
 
 -- ---- what is found.
 
-pub found_are : (kept : Kept) (games : List ℕ) (s : State) (found : List ℕ) (depth : ℕ) → Represents kept games s.base
+pub found_are : (kept : Kept) (games : List ℕ) (s : State) (found : List ℕ) (depth : ℕ) → Represents kept games s.shared.base
     → found ≡ twins_of (heads_of kept) (games_of s) depth → found ≡ found_twins s depth
 found_are kept games s found depth represents is =
-    is ∙ (ap (λ (heads : List Head). twins_of heads (games_of s) depth) (heads-are kept games s.base represents) ∙ twins_untagged s.base.games (games_of s) depth)
+    is ∙ (ap (λ (heads : List Head). twins_of heads (games_of s) depth) (heads-are kept games s.shared.base represents) ∙ twins_untagged s.shared.base.games (games_of s) depth)

@@ -27,7 +27,8 @@ classified_base table base = record base { games = map (λ held. with_code (eco_
 
 -- The state with this base, which is unsaved where a game got a code.
 abbrev pub classified_by : State → List Opening → State
-classified_by s table = record s { base = classified_base table s.base; unsaved = list_any is_some (codes_of table s) || s.unsaved }
+classified_by s table =
+    record s { shared = record s.shared { base = classified_base table s.shared.base; unsaved = list_any is_some (codes_of table s) || s.shared.unsaved } }
 
 -- `classified C of N`: how many games got a code, and how many there are.
 abbrev pub of_games : ℕ → List ℕ
@@ -37,7 +38,7 @@ abbrev pub classified_line : ℕ → ℕ → List ℕ
 classified_line count games = codes "classified " ++ decimal count ++ of_games games
 
 abbrev pub classified_text : State → List Opening → List ℕ
-classified_text s table = classified_line (count_by is_some (codes_of table s)) (length s.base.games)
+classified_text s table = classified_line (count_by is_some (codes_of table s)) (length s.shared.base.games)
 
 -- What is wrong with a line of a table.
 abbrev pub eco_words : EcoWhat → List ℕ

@@ -13,7 +13,7 @@ cross_of event heads =
     if nat_lt 200 (players event heads) then error_line (codes "too many players") else table_text (crosstable event heads)
 
 abbrev pub cross_text : State → List ℕ → List ℕ
-cross_text s event = cross_of event (map (λ held. held.head) s.base.games)
+cross_text s event = cross_of event (map (λ held. held.head) s.shared.base.games)
 
 abbrev pub cross_work : List ℕ → Work
 cross_work event = quiet (λ s. s) (λ s. cross_text s event)

@@ -13,7 +13,7 @@ use Rattle.shell_state.specs.Work.{Work, Look, reading}
 
 -- The games that are twins of earlier ones, by their first so many plies.
 abbrev pub found_twins : State → ℕ → List ℕ
-found_twins s depth = twins_of (map (λ held. held.head) s.base.games) (games_of s) depth
+found_twins s depth = twins_of (map (λ held. held.head) s.shared.base.games) (games_of s) depth
 
 -- The base with all these games marked as deleted.
 abbrev pub all_deleted : List ℕ → Base → Base
@@ -23,7 +23,7 @@ all_deleted (game ∷ games) base = all_deleted games (deleted game base)
 -- The state with these games marked; where there is none it stays as it is.
 abbrev pub with_deleted : State → List ℕ → State
 with_deleted s [] = s
-with_deleted s (game ∷ games) = with_base s (all_deleted (game ∷ games) s.base)
+with_deleted s (game ∷ games) = with_base s (all_deleted (game ∷ games) s.shared.base)
 
 -- twins D
 abbrev pub twins_after : State → ℕ → State

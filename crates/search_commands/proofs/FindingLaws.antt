@@ -10,10 +10,10 @@ use Rattle.game_filter.specs.Search.{searched}
 use Rattle.game_filter.specs.declared.op.Op.{Op}
 use Rattle.filter_seat.specs.declared.saved.SavedFilter.{SavedFilter}
 use Rattle.search_commands.specs.Searching.{find_after, hits_work, find_work}
-use Rattle.shell_state.proofs.Quietly.{held_by}
+use Rattle.shell_state.proofs.Quietly.{filter_is, held_by, saved_is, seats_are}
 use Rattle.shell_state.specs.Carrying.{AreBeside}
 use Rattle.shell_state.specs.Stands.{Stands, Broken, Holding}
-use Rattle.shell_state.specs.State.{State}
+use Rattle.shell_state.specs.State.{State, with_filter}
 use Rattle.shell_state.specs.Work.{works}
 use Rattle.shell_state.specs.declared.halt.Halt.{Halt}
 use Rattle.shell_state.specs.declared.halt.Halt.TheVariants as halt
@@ -21,15 +21,15 @@ use Rattle.shell_state.specs.declared.halt.Halt.TheVariants as halt
 -- The search was done: the machine stands for the state with the filter that it left.
 pub searched_stands : (kept : Kept) (filter later : List (Option ℕ)) (saved : List SavedFilter) (seen seen' : Seen) (s : State) (op : Op) (firsts : List (Option ℕ))
     → Stands (held_by kept filter saved) seen s → seen' ≡ seen → later ≡ searched op firsts filter
-    → Stands (held_by kept later saved) seen' (record s { filter = searched op firsts s.filter })
+    → Stands (held_by kept later saved) seen' (with_filter s (searched op firsts s.seat.filter))
 searched_stands kept filter later saved seen seen' s op firsts st same found = record {
   games = st.games;
   told = ap (λ (t : Seen). t.games) same ∙ st.told;
   base = st.base;
-  filter = found ∙ ap (λ (plies : List (Option ℕ)). searched op firsts plies) st.filter;
-  saved = st.saved;
+  seat = seats_are (record { filter = later; saved = saved }) (record s.seat { filter = searched op firsts s.seat.filter })
+      (found ∙ ap (λ (plies : List (Option ℕ)). searched op firsts plies) (filter_is st)) (saved_is st);
   unsaved = st.unsaved;
-  carried = subst (λ (x : Seen). AreBeside kept x s.unsaved s.carried) (sym same) st.carried;
+  carried = subst (λ (x : Seen). AreBeside kept x s.shared.unsaved s.shared.carried) (sym same) st.carried;
 }
 
 -- What breaks off the writing of the hits breaks off `find`.

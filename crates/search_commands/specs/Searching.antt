@@ -18,15 +18,15 @@ use Rattle.sig_index.specs.declared.pos_query.Mode.TheVariants.{Exact}
 use Rattle.sig_index.specs.declared.pos_query.PosQuery.{PosQuery}
 use Rattle.shell_state.specs.Lines.{filter_line, hits_text}
 use Rattle.shell_state.specs.Passing.{searched_len}
-use Rattle.shell_state.specs.State.{State, games_of}
+use Rattle.shell_state.specs.State.{State, games_of, with_filter}
 use Rattle.shell_state.specs.Work.{Work, Look, quiet, reading}
 
 -- search OP position MODE BOARD SIDE, and the same with vars
 abbrev pub search_position_after : State → Op → PosQuery → State
-search_position_after s op query = record s { filter = searched op (position.firsts_of query (games_of s)) s.filter }
+search_position_after s op query = with_filter s (searched op (position.firsts_of query (games_of s)) s.seat.filter)
 
 abbrev pub search_position_text : State → Op → PosQuery → List ℕ
-search_position_text s op query = filter_line (search_position_after s op query).filter
+search_position_text s op query = filter_line (search_position_after s op query).seat.filter
 
 -- find BOARD SIDE: a search of all main lines for the board on all squares.
 abbrev pub exactly : Men → Colour → PosQuery
@@ -36,7 +36,7 @@ abbrev pub find_after : State → Men → Colour → State
 find_after s board side = search_position_after s Ignore (exactly board side)
 
 abbrev pub find_text : State → Men → Colour → List ℕ
-find_text s board side = hits_text (find_after s board side).filter
+find_text s board side = hits_text (find_after s board side).seat.filter
 
 -- The first ply at which the head of a game is one that is asked for: 0, or none where it is not. More than 1,023 plies count as 1,023.
 abbrev pub first_by_head : HeadQuery → Held → Option ℕ
@@ -44,17 +44,17 @@ first_by_head query held = head.first_of query held.head (min (plies_of held.gam
 
 -- search OP header ITEM ..
 abbrev pub search_header_after : State → Op → HeadQuery → State
-search_header_after s op query = record s { filter = searched op (map (first_by_head query) s.base.games) s.filter }
+search_header_after s op query = with_filter s (searched op (map (first_by_head query) s.shared.base.games) s.seat.filter)
 
 abbrev pub search_header_text : State → Op → HeadQuery → List ℕ
-search_header_text s op query = filter_line (search_header_after s op query).filter
+search_header_text s op query = filter_line (search_header_after s op query).seat.filter
 
 -- search OP material ITEM ..
 abbrev pub search_material_after : State → Op → MatQuery → State
-search_material_after s op query = record s { filter = searched op (material.firsts_of query (games_of s)) s.filter }
+search_material_after s op query = with_filter s (searched op (material.firsts_of query (games_of s)) s.seat.filter)
 
 abbrev pub search_material_text : State → Op → MatQuery → List ℕ
-search_material_text s op query = filter_line (search_material_after s op query).filter
+search_material_text s op query = filter_line (search_material_after s op query).seat.filter
 
 -- The bytes of the records that a search for a position reads, and one for counts of men.
 abbrev pub position_len : Op → PosQuery → List Look → List (Option ℕ) → ℕ
@@ -77,4 +77,4 @@ abbrev pub search_header_work : Op → HeadQuery → Work
 search_header_work op query = quiet (λ s. search_header_after s op query) (λ s. search_header_text s op query)
 
 abbrev pub hits_work : Work
-hits_work = quiet (λ s. s) (λ s. hits_text s.filter)
+hits_work = quiet (λ s. s) (λ s. hits_text s.seat.filter)

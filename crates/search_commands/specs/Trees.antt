@@ -55,7 +55,7 @@ abbrev pub tree_of : PosQuery → List (Option ℕ) → List Held → List ℕ
 tree_of query plies games = hits_tree query (tree_hits query plies games)
 
 abbrev pub tree_said : State → Men → Colour → List ℕ
-tree_said s board side = tree_of (exactly board side) s.filter s.base.games
+tree_said s board side = tree_of (exactly board side) s.seat.filter s.shared.base.games
 
 abbrev pub tree_work : Men → Colour → Work
 tree_work board side = reading (λ s. s) (λ s. tree_said s board side) (position_len And (exactly board side))

@@ -19,6 +19,6 @@ pub fn search_header(
     requires fits { Fits machine.old }
     ensures quiet { IfOk result (λ line. Quiet machine.old (search_header_work op query.now) machine.new line.items) }
 {
-    search(&machine.base, query, op, &mut machine.filter);
-    filter_line(alloc, &machine.filter)
+    search(&machine.base, query, op, &mut machine.seat.filter);
+    filter_line(alloc, &machine.seat.filter)
 }

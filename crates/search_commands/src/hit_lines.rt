@@ -22,7 +22,7 @@ pub fn hits<K: Sink>(machine: &mut Machine, out: &mut K) -> Result<(), Halt>
     ensures serves { (seen : Seen) (s : State) → Stands machine.old seen s → Serves works (Stands machine.new seen) Broken s hits_work (K.taken out.old) (K.taken out.new) result }
     ensures causes { Causes WhyHalt result (counts 0 0 (K.faults out.old)) (counts 0 0 (K.faults out.new)) }
 {
-    match write_hits(&machine.filter, &mut machine.page, out) {
+    match write_hits(&machine.seat.filter, &mut machine.page, out) {
         Ok(()) => Ok(()),
         Err(stop) => Err(Halt::Device(stop)),
     }

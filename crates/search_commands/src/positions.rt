@@ -49,7 +49,7 @@ pub fn find<F: Files, K: Sink>(
         &machine.base,
         &query,
         Op::Ignore,
-        &mut machine.filter,
+        &mut machine.seat.filter,
         files,
         block,
     ) {
@@ -75,11 +75,18 @@ pub fn search_position<F: Files, K: Sink>(
     ensures causes { Causes WhyHalt result (counts (F.faults files.old) 0 (K.faults out.old)) (counts (F.faults files.new) 0 (K.faults out.new)) }
 {
     let block = machine.block.as_mut_slice();
-    match search_games(&machine.base, query, op, &mut machine.filter, files, block) {
+    match search_games(
+        &machine.base,
+        query,
+        op,
+        &mut machine.seat.filter,
+        files,
+        block,
+    ) {
         Ok(()) => {}
         Err(halt) => return Err(halt),
     }
-    write_filter(alloc, &machine.filter, out)
+    write_filter(alloc, &machine.seat.filter, out)
 }
 
 // Leaves in the filter what its entries become by the search. The records of the games that can match are read into `block`.

@@ -51,7 +51,14 @@ pub fn tree<F: Files, K: Sink>(
         vars: false,
     };
     let block = machine.block.as_mut_slice();
-    match read_tree(alloc, &machine.base, &machine.filter, &query, files, block) {
+    match read_tree(
+        alloc,
+        &machine.base,
+        &machine.seat.filter,
+        &query,
+        files,
+        block,
+    ) {
         Ok(text) => write_line(out, text.as_slice()),
         Err(halt) => Err(halt),
     }

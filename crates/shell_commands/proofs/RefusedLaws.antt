@@ -34,7 +34,7 @@ use Rattle.game_filter.specs.declared.op.Op.TheVariants.{Ignore}
 use Rattle.search_commands.specs.Searching.{find_after}
 use Rattle.shell_state.specs.Lines.{game_line, filter_line, full_filters_line, hit_lines, hits_text, name_line, no_filter_line}
 use Rattle.shell_state.specs.Refusing.{full_line, refusal_of}
-use Rattle.shell_state.specs.State.{State, with_filter}
+use Rattle.shell_state.specs.State.{State, with_filter, with_seat}
 use Rattle.base_core.specs.Edits.{tagged}
 use Rattle.base_core.specs.Compacted.{compacted}
 use Rattle.base_core.specs.declared.fault.What.TheVariants.{File}
@@ -86,28 +86,28 @@ found_so s plies few is = no_hits 0 plies plies (omega (arith, few)) is
 -- ---- each command
 
 kept_none : (room : Bool) (s : State) (name : List ℕ) → IsError (if room then name_line (codes "kept ") name else full_filters_line)
-    → record s { saved = if room then s.saved ++ saved_as name s.filter ∷ [] else s.saved } ≡ s
+    → with_seat s (record s.seat { saved = if room then s.seat.saved ++ saved_as name s.seat.filter ∷ [] else s.seat.saved }) ≡ s
 kept_none true s name is = absurd (not_error 107 _ refl is)
 kept_none false s name is = refl
 
-kept_so : (place : Option ℕ) (s : State) (name : List ℕ) → IsError (if has_room s.saved place then name_line (codes "kept ") name else full_filters_line)
-    → record s { saved = kept_at s.saved (saved_as name s.filter) place } ≡ s
+kept_so : (place : Option ℕ) (s : State) (name : List ℕ) → IsError (if has_room s.seat.saved place then name_line (codes "kept ") name else full_filters_line)
+    → with_seat s (record s.seat { saved = kept_at s.seat.saved (saved_as name s.seat.filter) place }) ≡ s
 kept_so (Some place) s name is = absurd (not_error 107 _ refl is)
-kept_so None s name is = kept_none (nat_lt (length s.saved) 8) s name is
+kept_so None s name is = kept_none (nat_lt (length s.seat.saved) 8) s name is
 
 joined_so : (place : Option ℕ) (join : List (Option ℕ) → List (Option ℕ) → List (Option ℕ)) (s : State) (name : List ℕ)
-    → IsError (if is_some place then filter_line (joined_with join s.filter (option_and_then (plies_at s.saved) place)) else no_filter_line name)
-    → with_filter s (joined_with join s.filter (option_and_then (plies_at s.saved) place)) ≡ s
+    → IsError (if is_some place then filter_line (joined_with join s.seat.filter (option_and_then (plies_at s.seat.saved) place)) else no_filter_line name)
+    → with_filter s (joined_with join s.seat.filter (option_and_then (plies_at s.seat.saved) place)) ≡ s
 joined_so (Some place) join s name is = absurd (not_error 102 _ refl is)
 joined_so None join s name is = refl
 
-dropped_so : (place : Option ℕ) (s : State) (name : List ℕ) → IsError (if is_some place then name_line (codes "dropped ") name else no_filter_line name) → record s { saved = dropped_at s.saved place } ≡ s
+dropped_so : (place : Option ℕ) (s : State) (name : List ℕ) → IsError (if is_some place then name_line (codes "dropped ") name else no_filter_line name) → with_seat s (record s.seat { saved = dropped_at s.seat.saved place }) ≡ s
 dropped_so (Some place) s name is = absurd (not_error 100 _ refl is)
 dropped_so None s name is = refl
 
-dropped-so : (s : State) (name : List ℕ) → IsError (if is_kept s.saved name then name_line (codes "dropped ") name else no_filter_line name) → record s { saved = dropped_in s.saved name } ≡ s
+dropped-so : (s : State) (name : List ℕ) → IsError (if is_kept s.seat.saved name then name_line (codes "dropped ") name else no_filter_line name) → with_seat s (record s.seat { saved = dropped_in s.seat.saved name }) ≡ s
 unfolding dropped_in
-dropped-so s name is = dropped_so (place_of s.saved name) s name is
+dropped-so s name is = dropped_so (place_of s.seat.saved name) s name is
 
 edited_so : (c : ℕ) (words : List ℕ) (edit : Base → Base) (game : ℕ) (s : State) (held : Option Held) → nat_eq c 101 ≡ false → IsError (line_there (c ∷ words) game held) → edited_there edit s held ≡ s
 edited_so c words edit game s (Some held) other is = absurd (not_error c _ other is)
@@ -118,10 +118,10 @@ tagged_by (Some line) game s base is = refl
 tagged_by None game s base is = absurd (not_error 116 _ refl is)
 
 tagged_so : (game : ℕ) (edit : TagEdit) (s : State) (held : Option Held) → IsError (tag_line_there game edit s held) → tagged_there game edit s held ≡ s
-tagged_so game edit s (Some held) is = tagged_by (refusal_of s.base (edited held.head edit) held.game) game s (tagged game edit s.base) is
+tagged_so game edit s (Some held) is = tagged_by (refusal_of s.shared.base (edited held.head edit) held.game) game s (tagged game edit s.shared.base) is
 tagged_so game edit s None is = refl
 
-compacted_so : (within : Bool) (s : State) → IsError (if within then compacted_line (length s.base.games) (length (compacted s.base).games) else full_line File) → (if within then compacted_state s else s) ≡ s
+compacted_so : (within : Bool) (s : State) → IsError (if within then compacted_line (length s.shared.base.games) (length (compacted s.shared.base).games) else full_line File) → (if within then compacted_state s else s) ≡ s
 compacted_so true s is = absurd (not_error 99 _ refl is)
 compacted_so false s is = refl
 
@@ -133,10 +133,10 @@ classified_so : (s : State) (table : Result (List Opening) EcoFault) → IsError
 classified_so s (Ok table) is = absurd (not_error 99 _ refl is)
 classified_so s (Err fault) is = refl
 
-command_refused : (s : State) (command : Command) (body : List ℕ) → length s.filter < 2 ^ 64 → IsError ((command_work command body).text s) → ((word : List ℕ) → command ≡ Import word → ⊥)
+command_refused : (s : State) (command : Command) (body : List ℕ) → length s.seat.filter < 2 ^ 64 → IsError ((command_work command body).text s) → ((word : List ℕ) → command ≡ Import word → ⊥)
     → ((seed games : ℕ) → command ≡ Demo seed games → ⊥) → (command_work command body).after s ≡ s
 command_refused s Nothing body few is imports makes = refl
-command_refused s (Find board side) body few is imports makes = absurd (found_so s (find_after s board side).filter (rw (length-searched Ignore _ s.filter) few) is)
+command_refused s (Find board side) body few is imports makes = absurd (found_so s (find_after s board side).seat.filter (rw (length-searched Ignore _ s.seat.filter) few) is)
 command_refused s (SearchPosition op query) body few is imports makes = absurd (not_error 102 _ refl is)
 command_refused s (SearchMaterial op query) body few is imports makes = absurd (not_error 102 _ refl is)
 command_refused s (SearchHeader op query) body few is imports makes = absurd (not_error 102 _ refl is)
@@ -144,10 +144,10 @@ command_refused s Reset body few is imports makes = absurd (not_error 102 _ refl
 command_refused s Clear body few is imports makes = absurd (not_error 102 _ refl is)
 command_refused s Negate body few is imports makes = absurd (not_error 102 _ refl is)
 command_refused s (Restrict first last) body few is imports makes = absurd (not_error 102 _ refl is)
-command_refused s (Keep name) body few is imports makes = kept_so (place_of s.saved name) s name is
-command_refused s (Take name) body few is imports makes = joined_so (place_of s.saved name) taken s name is
-command_refused s (And name) body few is imports makes = joined_so (place_of s.saved name) intersection s name is
-command_refused s (Or name) body few is imports makes = joined_so (place_of s.saved name) union s name is
+command_refused s (Keep name) body few is imports makes = kept_so (place_of s.seat.saved name) s name is
+command_refused s (Take name) body few is imports makes = joined_so (place_of s.seat.saved name) taken s name is
+command_refused s (And name) body few is imports makes = joined_so (place_of s.seat.saved name) intersection s name is
+command_refused s (Or name) body few is imports makes = joined_so (place_of s.seat.saved name) union s name is
 command_refused s (Drop name) body few is imports makes = dropped-so s name is
 command_refused s Hits body few is imports makes = refl
 command_refused s Listing body few is imports makes = refl
@@ -156,10 +156,10 @@ command_refused s Export body few is imports makes = refl
 command_refused s (Import word) body few is imports makes = absurd (imports word refl)
 command_refused s (Replace game word) body few is imports makes = replaced_so s game (the_new s game body) is
 command_refused s (Eco word) body few is imports makes = classified_so s (table_of body) is
-command_refused s (Tag game edit) body few is imports makes = tagged_so game edit s (slice_get s.base.games game) is
-command_refused s (Delete game) body few is imports makes = edited_so 100 (codes "eleted ") (deleted game) game s (slice_get s.base.games game) refl is
-command_refused s (Undelete game) body few is imports makes = edited_so 117 (codes "ndeleted ") (undeleted game) game s (slice_get s.base.games game) refl is
-command_refused s (Mark game bit on) body few is imports makes = edited_so 109 (codes "arked ") (marked game bit on) game s (slice_get s.base.games game) refl is
+command_refused s (Tag game edit) body few is imports makes = tagged_so game edit s (slice_get s.shared.base.games game) is
+command_refused s (Delete game) body few is imports makes = edited_so 100 (codes "eleted ") (deleted game) game s (slice_get s.shared.base.games game) refl is
+command_refused s (Undelete game) body few is imports makes = edited_so 117 (codes "ndeleted ") (undeleted game) game s (slice_get s.shared.base.games game) refl is
+command_refused s (Mark game bit on) body few is imports makes = edited_so 109 (codes "arked ") (marked game bit on) game s (slice_get s.shared.base.games game) refl is
 command_refused s (Tree board side) body few is imports makes = refl
 command_refused s (Cross event) body few is imports makes = refl
 command_refused s (Twins depth) body few is imports makes = absurd (not_error 116 _ refl is)
@@ -167,27 +167,27 @@ command_refused s Save body few is imports makes = absurd (not_error 115 _ refl 
 command_refused s Info body few is imports makes = refl
 command_refused s (Demo seed games) body few is imports makes = absurd (makes seed games refl)
 command_refused s Quit body few is imports makes = refl
-command_refused s Compact body few is imports makes = compacted_so (is_within s.base) s is
+command_refused s Compact body few is imports makes = compacted_so (is_within s.shared.base) s is
 
-order_refused : (s : State) (order : Order) (body : List ℕ) → length s.filter < 2 ^ 64 → IsError ((order_work order body).text s) → ((word : List ℕ) → order ≡ Ok (Import word) → ⊥)
+order_refused : (s : State) (order : Order) (body : List ℕ) → length s.seat.filter < 2 ^ 64 → IsError ((order_work order body).text s) → ((word : List ℕ) → order ≡ Ok (Import word) → ⊥)
     → ((seed games : ℕ) → order ≡ Ok (Demo seed games) → ⊥) → (order_work order body).after s ≡ s
 order_refused s (Ok command) body few is imports makes =
     command_refused s command body few is (λ word same. imports word (ap (λ (x : Command). Ok x) same)) (λ seed games same. makes seed games (ap (λ (x : Command). Ok x) same))
 order_refused s (Err fault) body few is imports makes = refl
 
-pub refused : (s : State) (t : Task) → length s.filter < 2 ^ 64 → IsError (tasks.text s t) → ((word : List ℕ) → t.order ≡ Ok (Import word) → ⊥) → ((seed games : ℕ) → t.order ≡ Ok (Demo seed games) → ⊥) → tasks.after s t ≡ s
+pub refused : (s : State) (t : Task) → length s.seat.filter < 2 ^ 64 → IsError (tasks.text s t) → ((word : List ℕ) → t.order ≡ Ok (Import word) → ⊥) → ((seed games : ℕ) → t.order ≡ Ok (Demo seed games) → ⊥) → tasks.after s t ≡ s
 refused s t few is imports makes = order_refused s t.order t.body few is imports makes
 
 -- ---- games are added behind the others
 
 abbrev Adds : State → State → Type 0
-Adds old new = (more : List Held) × (new.base.games ≡ old.base.games ++ more)
+Adds old new = (more : List Held) × (new.shared.base.games ≡ old.shared.base.games ++ more)
 
 none_added : (s : State) → Adds s s
-none_added s = ([], sym (append-nil s.base.games))
+none_added s = ([], sym (append-nil s.shared.base.games))
 
 adds_on : (s s' s'' : State) → Adds s s' → Adds s' s'' → Adds s s''
-adds_on s s' s'' first later = (first.0 ++ later.0, later.1 ∙ ap (λ (l : List Held). l ++ later.0) first.1 ∙ append_assoc s.base.games first.0 later.0)
+adds_on s s' s'' first later = (first.0 ++ later.0, later.1 ∙ ap (λ (l : List Held). l ++ later.0) first.1 ∙ append_assoc s.shared.base.games first.0 later.0)
 
 added_games : (head : Head) (game : GameTree) (base : Base) → (added head game base).games ≡ base.games ++ held_of head game ∷ []
 unfolding added
@@ -195,10 +195,10 @@ added_games head game base = refl
 
 item_by : (words : Option (List ℕ)) (i : Intake) (head : Head) (game : GameTree) → Adds i.state (unless_not_added words i head game).state
 item_by (Some words) i head game = none_added i.state
-item_by None i head game = (held_of head game ∷ [], added_games head game i.state.base)
+item_by None i head game = (held_of head game ∷ [], added_games head game i.state.shared.base)
 
 item_adds : (i : Intake) (item : Item) → Adds i.state (item_after i item).state
-item_adds i (Good head game) = item_by (not_added i.state.base head game) i head game
+item_adds i (Good head game) = item_by (not_added i.state.shared.base head game) i head game
 item_adds i (Bad fault) = none_added i.state
 
 items_add : (i : Intake) (items : List Item) → Adds i.state (after_all intake i items).state
@@ -210,11 +210,11 @@ imported s word body = items_add (none_taken s) (items_of body)
 
 made_by : (line : Option (List ℕ)) (a : Adding) (made : Made) → Adds a.state (unless_refusal line a made).state
 made_by (Some line) a made = none_added a.state
-made_by None a made = (held_of made.head made.game ∷ [], added_games made.head made.game a.state.base)
+made_by None a made = (held_of made.head made.game ∷ [], added_games made.head made.game a.state.shared.base)
 
 one_by : (line : Option (List ℕ)) (a : Adding) (made : Made) → Adds a.state (unless_ended line a made).state
 one_by (Some line) a made = none_added a.state
-one_by None a made = made_by (adding_refusal a.state.base made.head made.game) a made
+one_by None a made = made_by (adding_refusal a.state.shared.base made.head made.game) a made
 
 adding_adds : (s : State) (seed games : ℕ) → Adds s (adding s seed games).state
 adding_adds s seed zero = none_added s

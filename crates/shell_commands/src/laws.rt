@@ -10,8 +10,8 @@ ghost use Rattle.shell_state.specs.State.{State};
 /// A law: a task whose text begins with `error: ` leaves the state as it was, but for `import` and `demo`, which only add games behind those
 /// that were there.
 pub fn refused_tasks_change_nothing()
-    ensures refused { (s : State) (t : Task) → length s.filter < 2 ^ 64 → IsError (tasks.text s t)
+    ensures refused { (s : State) (t : Task) → length s.seat.filter < 2 ^ 64 → IsError (tasks.text s t)
         → ((word : List ℕ) → t.order ≡ Ok (Import word) → ⊥) → ((seed games : ℕ) → t.order ≡ Ok (Demo seed games) → ⊥) → tasks.after s t ≡ s }
-    ensures imported { (s : State) (word body : List ℕ) → (more : List Held) × ((tasks.after s (task (Ok (Import word)) body)).base.games ≡ s.base.games ++ more) }
-    ensures made { (s : State) (seed games : ℕ) (body : List ℕ) → (more : List Held) × ((tasks.after s (task (Ok (Demo seed games)) body)).base.games ≡ s.base.games ++ more) }
+    ensures imported { (s : State) (word body : List ℕ) → (more : List Held) × ((tasks.after s (task (Ok (Import word)) body)).shared.base.games ≡ s.shared.base.games ++ more) }
+    ensures made { (s : State) (seed games : ℕ) (body : List ℕ) → (more : List Held) × ((tasks.after s (task (Ok (Demo seed games)) body)).shared.base.games ≡ s.shared.base.games ++ more) }
 {}

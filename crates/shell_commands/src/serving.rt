@@ -47,7 +47,7 @@ pub fn serve<F: Files, B: Source, K: Sink>(
     ensures sound { OnOk result (Sound machine.new (F.seen files.new)) }
 
     // Of an export that is broken off, the games before that one are written whole.
-    ensures whole { (s : State) → Stands machine.old (F.seen files.old) s → order.now ≡ Ok Export → IfErr result (λ e. ExportCut s.filter s.base.games e (K.taken out.old) (K.taken out.new)) }
+    ensures whole { (s : State) → Stands machine.old (F.seen files.old) s → order.now ≡ Ok Export → IfErr result (λ e. ExportCut s.seat.filter s.shared.base.games e (K.taken out.old) (K.taken out.new)) }
 
     // Where it is broken off the files carry what they carried, or perhaps what `save` saves or `compact` leaves.
     ensures carries { (s : State) → Stands machine.old (F.seen files.old) s → IfErr result (λ _. StillCarry (F.seen files.new) s (order_left order.now)) }
@@ -83,7 +83,7 @@ fn serve_command<F: Files, B: Source, K: Sink>(
     requires command { IsSound command.now }
     ensures serves { (s : State) (text : List ℕ) → Stands machine.old (F.seen files.old) s → B.left body.old ≡ Some text → Serves works (Stands machine.new (F.seen files.new)) Broken s (command_work command.now text) (K.taken out.old) (K.taken out.new) result }
     ensures sound { OnOk result (Sound machine.new (F.seen files.new)) }
-    ensures whole { (s : State) → Stands machine.old (F.seen files.old) s → command.now ≡ Export → IfErr result (λ e. ExportCut s.filter s.base.games e (K.taken out.old) (K.taken out.new)) }
+    ensures whole { (s : State) → Stands machine.old (F.seen files.old) s → command.now ≡ Export → IfErr result (λ e. ExportCut s.seat.filter s.shared.base.games e (K.taken out.old) (K.taken out.new)) }
     ensures carries { (s : State) → Stands machine.old (F.seen files.old) s → IfErr result (λ _. StillCarry (F.seen files.new) s (command_work command.now []).left) }
     ensures unchanged { (command_work command.now []).writes ≡ false → F.seen files.new ≡ F.seen files.old }
     ensures choices { (F.seen files.new).choices ≡ (F.seen files.old).choices }

@@ -102,35 +102,35 @@ pub body_goes : (order : Order) (word : List ℕ) → body_word order ≡ Some w
 body_goes order word is = goes_of order word (has_body order word is)
 
 -- They leave what the files carry.
-game_carried : (words : Option (List ℕ)) (i : Intake) (head : Head) (game : GameTree) → (unless_not_added words i head game).state.carried ≡ i.state.carried
+game_carried : (words : Option (List ℕ)) (i : Intake) (head : Head) (game : GameTree) → (unless_not_added words i head game).state.shared.carried ≡ i.state.shared.carried
 game_carried (Some words) i head game = refl
 game_carried None i head game = refl
 
-item_carried : (i : Intake) (item : Item) → (item_after i item).state.carried ≡ i.state.carried
-item_carried i (Good head game) = game_carried (not_added i.state.base head game) i head game
+item_carried : (i : Intake) (item : Item) → (item_after i item).state.shared.carried ≡ i.state.shared.carried
+item_carried i (Good head game) = game_carried (not_added i.state.shared.base head game) i head game
 item_carried i (Bad fault) = refl
 
-items_carried : (i : Intake) (items : List Item) → (after_all intake i items).state.carried ≡ i.state.carried
+items_carried : (i : Intake) (items : List Item) → (after_all intake i items).state.shared.carried ≡ i.state.shared.carried
 items_carried i [] = refl
 items_carried i (item ∷ items) = items_carried (item_after i item) items ∙ item_carried i item
 
-new_carried : (s : State) (game : ℕ) (new : Result (Head × GameTree) (List ℕ)) → (state_with s game new).carried ≡ s.carried
+new_carried : (s : State) (game : ℕ) (new : Result (Head × GameTree) (List ℕ)) → (state_with s game new).shared.carried ≡ s.shared.carried
 new_carried s game (Ok new) = refl
 new_carried s game (Err line) = refl
 
-table_carried : (s : State) (table : Result (List Opening) EcoFault) → (state_by s table).carried ≡ s.carried
+table_carried : (s : State) (table : Result (List Opening) EcoFault) → (state_by s table).shared.carried ≡ s.shared.carried
 table_carried s (Ok table) = refl
 table_carried s (Err fault) = refl
 
-carried_of : (order : Order) (word : List ℕ) (s : State) (body : List ℕ) → HasBody order word → (tasks.after s (task order body)).carried ≡ s.carried
+carried_of : (order : Order) (word : List ℕ) (s : State) (body : List ℕ) → HasBody order word → (tasks.after s (task order body)).shared.carried ≡ s.shared.carried
 carried_of order word s body (inl is) =
-    let P : Order → Option Carried = λ o. (tasks.after s (task o body)).carried in
+    let P : Order → Option Carried = λ o. (tasks.after s (task o body)).shared.carried in
     ap P is ∙ items_carried (none_taken s) (items_of body)
 carried_of order word s body (inr (inl (game, is))) =
-    let P : Order → Option Carried = λ o. (tasks.after s (task o body)).carried in
+    let P : Order → Option Carried = λ o. (tasks.after s (task o body)).shared.carried in
     ap P is ∙ new_carried s game (the_new s game body)
 carried_of order word s body (inr (inr is)) =
-    let P : Order → Option Carried = λ o. (tasks.after s (task o body)).carried in
+    let P : Order → Option Carried = λ o. (tasks.after s (task o body)).shared.carried in
     ap P is ∙ table_carried s (table_of body)
 
 pub body_carries : (order : Order) (word body : List ℕ) (holding : Holding) (seen : Seen) (s : State) → body_word order ≡ Some word → Stands holding seen (tasks.after s (task order body)) → StillCarry seen s (order_left order)

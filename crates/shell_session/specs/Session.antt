@@ -90,7 +90,7 @@ pub record RanAll (s : State) (script : List ℕ) (told : Option (List ℕ)) (to
   pub read : Some script ≡ before front later
   pub enough : script_len script ≤ length front
   pub no_further : length front ≤ script_len script + 32768
-  pub files : AreLeft seen' (after_all tasks s (script_of script)).carried (after_all tasks s (script_of script)).unsaved
+  pub files : AreLeft seen' (after_all tasks s (script_of script)).shared.carried (after_all tasks s (script_of script)).shared.unsaved
 
 -- What is known of the command that a status breaks off: the files fail only at one that uses them, and told files never change.
 abbrev pub BrokenBy : Status → Task → Type 0

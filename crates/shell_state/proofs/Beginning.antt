@@ -1,12 +1,12 @@
 -- The machine with which a script begins.
-use Rattle.std.proofs.Common.{[], length, false, Some, Bool, true, refl, ap, ◌≡◌, sym, subst}
+use Rattle.std.proofs.Common.{length, false, Some, Bool, true, ap, ◌≡◌, sym, subst}
 use Rattle.std.proofs.Math.ListN.{length-replicate}
 use Rattle.std.proofs.lemmas.List.Elements.{All-nil}
 use Rattle.base_core.specs.Base.{Base}
 use Rattle.base_core.specs.Represents.{Kept, IsSound}
 use Rattle.base_files.specs.Seen.{Seen}
 use Rattle.block_store.specs.Placing.{IsEnd}
-use Rattle.game_filter.specs.Filter.{all_in}
+use Rattle.filter_seat.specs.Seats.{first_seat}
 use Rattle.filter_seat.specs.declared.saved.SavedFilter.{SavedFilter}
 use Rattle.shell_state.proofs.CarryLaws.{beside_meant}
 use Rattle.shell_state.specs.Carrying.{AreBeside}
@@ -15,7 +15,7 @@ use Rattle.shell_state.specs.State.{begin}
 
 -- Every game is in, and no filter is kept.
 abbrev pub first_holding : Kept → Holding
-first_holding kept = record { kept = kept; filter = all_in (length kept.entries); saved = [] }
+first_holding kept = record { kept = kept; seat = first_seat (length kept.entries) }
 
 -- The files beside a base that was opened.
 beside_open : (kept : Kept) (seen : Seen) (base : Base) → IsOpen kept seen false base → AreBeside kept seen false (Some (record { base = base; sound = false }))
@@ -24,9 +24,9 @@ beside_open kept seen base is =
 
 begun_so : (kept : Kept) (seen : Seen) (created : Bool) (base : Base) → IsOpen kept seen created base → Stands (first_holding kept) seen (begin created base)
 begun_so kept seen true base is =
-    record { games = is.contents.games; told = is.contents.games_told; base = is.represents; filter = ap all_in is.represents.count; saved = refl; unsaved = is.saved; carried = is.means }
+    record { games = is.contents.games; told = is.contents.games_told; base = is.represents; seat = ap first_seat is.represents.count; unsaved = is.saved; carried = is.means }
 begun_so kept seen false base is =
-    record { games = is.contents.games; told = is.contents.games_told; base = is.represents; filter = ap all_in is.represents.count; saved = refl; unsaved = is.saved; carried = beside_open kept seen base is }
+    record { games = is.contents.games; told = is.contents.games_told; base = is.represents; seat = ap first_seat is.represents.count; unsaved = is.saved; carried = beside_open kept seen base is }
 
 begins_first : (kept : Kept) → IsSound kept → Begins kept (first_holding kept)
 begins_first kept is_sound = record {

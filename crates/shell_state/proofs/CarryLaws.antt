@@ -36,11 +36,11 @@ may_carry : (kept : Kept) (seen : Seen) (unsaved : Bool) (carried : Option Carri
 may_carry kept seen unsaved (Some own) left base b = inl (b.contents, b.carries)
 may_carry kept seen unsaved None left base b = tt
 
-pub left_of : (holding : Holding) (seen : Seen) (s : State) → Stands holding seen s → AreLeft seen s.carried s.unsaved
-left_of holding seen s st = carried_left holding.kept seen s.unsaved s.carried st.carried
+pub left_of : (holding : Holding) (seen : Seen) (s : State) → Stands holding seen s → AreLeft seen s.shared.carried s.shared.unsaved
+left_of holding seen s st = carried_left holding.kept seen s.shared.unsaved s.shared.carried st.carried
 
 pub carry_of : (holding : Holding) (seen : Seen) (s : State) (left : Option (Base → Base)) → Stands holding seen s → StillCarry seen s left
-carry_of holding seen s left st = may_carry holding.kept seen s.unsaved s.carried left s.base st.carried
+carry_of holding seen s left st = may_carry holding.kept seen s.shared.unsaved s.shared.carried left s.shared.base st.carried
 
 -- A command that changes no file.
 pub carry_same : (holding : Holding) (seen seen' : Seen) (s : State) (left : Option (Base → Base)) → seen' ≡ seen → Stands holding seen s → StillCarry seen' s left
@@ -83,7 +83,7 @@ beside_grown old new seen seen' more unsaved None is names b = (ap (λ (s : Seen
 -- What is carried then, whatever was broken off.
 pub carry_appended : (holding : Holding) (seen seen' : Seen) (more : List ℕ) (s : State) (left : Option (Base → Base)) → seen' ≡ appended more seen → Stands holding seen s → StillCarry seen' s left
 carry_appended holding seen seen' more s left is st =
-    may_carry holding.kept seen' true s.carried left s.base (beside_grown holding.kept holding.kept seen seen' more s.unsaved s.carried is (holds-own holding.kept.names) st.carried)
+    may_carry holding.kept seen' true s.shared.carried left s.shared.base (beside_grown holding.kept holding.kept seen seen' more s.shared.unsaved s.shared.carried is (holds-own holding.kept.names) st.carried)
 
 -- The base was edited, and no file was changed.
 pub beside_edited : (old new : Kept) (seen : Seen) (unsaved : Bool) (carried : Option Carried) → new.names ≡ old.names → AreBeside old seen unsaved carried → AreBeside new seen true carried
@@ -122,12 +122,12 @@ may_in_part kept seen seen' unsaved (Some own) left base is grew b = inl (carry_
 may_in_part kept seen seen' unsaved None left base is grew b = tt
 
 pub carry_grown : (holding : Holding) (seen seen' : Seen) (s : State) (left : Option (Base → Base)) → seen' ≡ record seen { games = seen'.games } → Grew seen.games seen'.games → Stands holding seen s → StillCarry seen' s left
-carry_grown holding seen seen' s left is grew st = may_in_part holding.kept seen seen' s.unsaved s.carried left s.base is grew st.carried
+carry_grown holding seen seen' s left is grew st = may_in_part holding.kept seen seen' s.shared.unsaved s.shared.carried left s.shared.base is grew st.carried
 
 -- What is carried beside another state of the same script.
-pub carry_later : (holding : Holding) (seen : Seen) (s s' : State) (left : Option (Base → Base)) → s'.carried ≡ s.carried → Stands holding seen s' → StillCarry seen s left
+pub carry_later : (holding : Holding) (seen : Seen) (s s' : State) (left : Option (Base → Base)) → s'.shared.carried ≡ s.shared.carried → Stands holding seen s' → StillCarry seen s left
 carry_later holding seen s s' left same st =
-    subst (λ (c : Option Carried). MayCarry seen c left s.base) same (may_carry holding.kept seen s'.unsaved s'.carried left s.base st.carried)
+    subst (λ (c : Option Carried). MayCarry seen c left s.shared.base) same (may_carry holding.kept seen s'.shared.unsaved s'.shared.carried left s.shared.base st.carried)
 
 -- What is carried where nothing is left in its place is carried whatever breaks off.
 carried_always : (seen : Seen) (carried : Option Carried) (left : Option (Base → Base)) (base base' : Base) → MayCarry seen carried None base' → MayCarry seen carried left base
@@ -135,7 +135,7 @@ carried_always seen (Some own) left base base' (inl carry) = inl carry
 carried_always seen (Some own) left base base' (inr none) = absurd none
 carried_always seen None left base base' may = tt
 
-pub carry_before : (seen : Seen) (s s' : State) (left : Option (Base → Base)) → s'.carried ≡ s.carried → StillCarry seen s' None → StillCarry seen s left
+pub carry_before : (seen : Seen) (s s' : State) (left : Option (Base → Base)) → s'.shared.carried ≡ s.shared.carried → StillCarry seen s' None → StillCarry seen s left
 carry_before seen s s' left same carry =
-    let P : Option Carried → Type 0 = λ c. MayCarry seen c None s'.base in
-    carried_always seen s.carried left s.base s'.base (subst P same carry)
+    let P : Option Carried → Type 0 = λ c. MayCarry seen c None s'.shared.base in
+    carried_always seen s.shared.carried left s.shared.base s'.shared.base (subst P same carry)

@@ -13,6 +13,7 @@ use Rattle.index_entry.specs.declared.entry.Entry.{Entry}
 use Rattle.name_base.specs.NameLists.{NameLists}
 use Rattle.sig_index.specs.declared.signature.Sig.{Sig}
 use Rattle.shell_state.proofs.PassingLaws.{sig_is}
+use Rattle.shell_state.proofs.Quietly.{filter_is}
 use Rattle.shell_state.specs.Passing.{len_if, sig_of, filtered_len, len_if_in, len_in, searched_len}
 use Rattle.shell_state.specs.Stands.{Holding, Stands, looks_in}
 use Rattle.shell_state.specs.State.{State}
@@ -47,11 +48,11 @@ looks_are kept games base is = looks_each kept.names games kept.entries base.gam
 
 -- The price by what is held is that in the state for which the machine stands.
 pub price_is : (price : List Look → List (Option ℕ) → ℕ) (holding : Holding) (seen : Seen) (s : State) → Stands holding seen s
-    → price (looks_in holding.kept) holding.filter ≡ price (looks_of s.base) s.filter
-price_is price holding seen s st = ap₂ price (looks_are holding.kept st.games s.base st.base) st.filter
+    → price (looks_in holding.kept) holding.seat.filter ≡ price (looks_of s.shared.base) s.seat.filter
+price_is price holding seen s st = ap₂ price (looks_are holding.kept st.games s.shared.base st.base) (filter_is st)
 
 pub asked_told : (price : List Look → List (Option ℕ) → ℕ) (holding : Holding) (seen : Seen) (s : State) (old new : ℕ) → Stands holding seen s
-    → new ≤ old + price (looks_in holding.kept) holding.filter → new ≤ old + price (looks_of s.base) s.filter
+    → new ≤ old + price (looks_in holding.kept) holding.seat.filter → new ≤ old + price (looks_of s.shared.base) s.seat.filter
 asked_told price holding seen s old new st asked = omega (arith, price_is price holding seen s st, asked)
 
 -- Lengths of what is looked at.

@@ -1,28 +1,40 @@
 -- Laws of lines that ask no file: what they leave stands for the state after them.
-use Rattle.std.proofs.Common.{ℕ, List, Option, ◌≡◌, length, refl, sym, subst, ap, ◌∙◌, All, Result, Ok, Err}
+use Rattle.std.proofs.Common.{ℕ, List, Option, ◌≡◌, length, refl, sym, subst, ap, ap₂, ◌∙◌, All, Result, Ok, Err}
 use Rattle.std.specs.Prelude.{IfErr, IfOk}
 use Rattle.base_core.specs.Represents.{Kept, IsSound, Represents}
 use Rattle.base_files.specs.Seen.{Seen}
 use Rattle.block_store.specs.Placing.{IsEnd}
+use Rattle.filter_seat.specs.Seats.{Seat}
 use Rattle.filter_seat.specs.declared.saved.SavedFilter.{SavedFilter}
 use Rattle.shell_state.specs.Carrying.{AreBeside}
 use Rattle.shell_state.specs.Stands.{Holding, Sound, Stands, Fits, Quiet}
-use Rattle.shell_state.specs.State.{State}
+use Rattle.shell_state.specs.State.{State, with_seat}
 use Rattle.shell_state.specs.Work.{Work}
 
 -- What is held, by its parts.
 abbrev pub held_by : Kept → List (Option ℕ) → List SavedFilter → Holding
-held_by kept filter saved = record { kept = kept; filter = filter; saved = saved }
+held_by kept filter saved = record { kept = kept; seat = record { filter = filter; saved = saved } }
+
+-- Seats with the same filters are one.
+pub seats_are : (old new : Seat) → old.filter ≡ new.filter → old.saved ≡ new.saved → old ≡ new
+seats_are old new filter saved = ap₂ (λ (f : List (Option ℕ)) (l : List SavedFilter). record { filter = f; saved = l }) filter saved
+
+-- The filter of a machine is that of the state for which it stands, and so are the filters that it keeps.
+pub filter_is : {holding : Holding} {seen : Seen} {s : State} → Stands holding seen s → holding.seat.filter ≡ s.seat.filter
+filter_is st = ap (λ (x : Seat). x.filter) st.seat
+
+pub saved_is : {holding : Holding} {seen : Seen} {s : State} → Stands holding seen s → holding.seat.saved ≡ s.seat.saved
+saved_is st = ap (λ (x : Seat). x.saved) st.seat
 
 -- The filters fit where the current one keeps its length and the kept ones are the same.
-pub fits_by : (old new : Holding) → new.kept ≡ old.kept → new.saved ≡ old.saved → length new.filter ≡ length old.filter → Fits old → Fits new
+pub fits_by : (old new : Holding) → new.kept ≡ old.kept → new.seat.saved ≡ old.seat.saved → length new.seat.filter ≡ length old.seat.filter → Fits old → Fits new
 fits_by old new kept saved len fits =
     let e : length old.kept.entries ≡ length new.kept.entries = ap (λ (k : Kept). length k.entries) (sym kept) in
     record {
       filter = len ∙ fits.filter ∙ e;
       saved =
           let P : List SavedFilter → Type 0 = λ xs. All (λ (f : SavedFilter). length f.plies ≡ length new.kept.entries) xs in
-          let Q : ℕ → Type 0 = λ n. All (λ (f : SavedFilter). length f.plies ≡ n) old.saved in
+          let Q : ℕ → Type 0 = λ n. All (λ (f : SavedFilter). length f.plies ≡ n) old.seat.saved in
           subst P (sym saved) (subst Q e fits.saved);
     }
 
@@ -41,26 +53,27 @@ Plies = List (Option ℕ)
 -- A line whose filter, kept filters and text are these functions of the filter and the kept filters before.
 pub quiet_by : (F : Plies → List SavedFilter → Plies) (G : Plies → List SavedFilter → List SavedFilter) (T : Plies → List SavedFilter → List ℕ)
     (old new : Holding) (work : Work) (line : List ℕ)
-    → ((s : State) → work.after s ≡ record s { filter = F s.filter s.saved; saved = G s.filter s.saved })
-    → ((s : State) → work.text s ≡ T s.filter s.saved)
-    → new.kept ≡ old.kept → new.filter ≡ F old.filter old.saved → new.saved ≡ G old.filter old.saved
-    → line ≡ T old.filter old.saved → Fits new → Quiet old work new line
+    → ((s : State) → work.after s ≡ with_seat s (record { filter = F s.seat.filter s.seat.saved; saved = G s.seat.filter s.seat.saved }))
+    → ((s : State) → work.text s ≡ T s.seat.filter s.seat.saved)
+    → new.kept ≡ old.kept → new.seat.filter ≡ F old.seat.filter old.seat.saved → new.seat.saved ≡ G old.seat.filter old.seat.saved
+    → line ≡ T old.seat.filter old.seat.saved → Fits new → Quiet old work new line
 quiet_by F G T old new work line after says kept filter saved written fits = record {
   stands = λ (seen : Seen) (s : State) (st : Stands old seen s).
-      let here : State = record s { filter = F s.filter s.saved; saved = G s.filter s.saved } in
-      let b = subst (λ (k : Kept). Represents k st.games s.base) (sym kept) st.base in
+      let here : State = with_seat s (record { filter = F s.seat.filter s.seat.saved; saved = G s.seat.filter s.seat.saved }) in
+      let b = subst (λ (k : Kept). Represents k st.games s.shared.base) (sym kept) st.base in
       let standing : Stands new seen here = record {
         games = st.games;
         told = st.told;
         base = b;
-        filter = filter ∙ ap (λ (x : Plies). F x old.saved) st.filter ∙ ap (F s.filter) st.saved;
-        saved = saved ∙ ap (λ (x : Plies). G x old.saved) st.filter ∙ ap (G s.filter) st.saved;
+        seat = seats_are new.seat here.seat
+            (filter ∙ ap (λ (x : Plies). F x old.seat.saved) (filter_is st) ∙ ap (F s.seat.filter) (saved_is st))
+            (saved ∙ ap (λ (x : Plies). G x old.seat.saved) (filter_is st) ∙ ap (G s.seat.filter) (saved_is st));
         unsaved = ap (λ (k : Kept). k.unsaved) kept ∙ st.unsaved;
-        carried = subst (λ (k : Kept). AreBeside k seen s.unsaved s.carried) (sym kept) st.carried;
+        carried = subst (λ (k : Kept). AreBeside k seen s.shared.unsaved s.shared.carried) (sym kept) st.carried;
       } in
       subst (Stands new seen) (sym (after s)) standing;
   text = λ (seen : Seen) (s : State) (st : Stands old seen s).
-      written ∙ ap (λ (x : Plies). T x old.saved) st.filter ∙ ap (T s.filter) st.saved ∙ sym (says s);
+      written ∙ ap (λ (x : Plies). T x old.seat.saved) (filter_is st) ∙ ap (T s.seat.filter) (saved_is st) ∙ sym (says s);
   fits = fits;
   base = λ (sound : IsSound old.kept). subst (λ (k : Kept). IsSound k) (sym kept) sound;
   end = ap (λ (k : Kept). k.end) kept;
@@ -73,11 +86,11 @@ quiet_same text old work line after says written fits =
     quiet_by (λ f s. f) (λ f s. s) (λ f s. text) old old work line after says refl refl refl written fits
 
 -- The filters fit where the kept ones all fit.
-pub fits_saved : (old new : Holding) → new.kept ≡ old.kept → new.filter ≡ old.filter
-    → All (λ (f : SavedFilter). length f.plies ≡ length old.kept.entries) new.saved → Fits old → Fits new
+pub fits_saved : (old new : Holding) → new.kept ≡ old.kept → new.seat.filter ≡ old.seat.filter
+    → All (λ (f : SavedFilter). length f.plies ≡ length old.kept.entries) new.seat.saved → Fits old → Fits new
 fits_saved old new kept filter saved fits =
     let e : length old.kept.entries ≡ length new.kept.entries = ap (λ (k : Kept). length k.entries) (sym kept) in
-    let Q : ℕ → Type 0 = λ n. All (λ (f : SavedFilter). length f.plies ≡ n) new.saved in
+    let Q : ℕ → Type 0 = λ n. All (λ (f : SavedFilter). length f.plies ≡ n) new.seat.saved in
     record { filter = ap (λ (x : Plies). length x) filter ∙ fits.filter ∙ e; saved = subst Q e saved }
 
 -- A fact that follows for what a call answered.

@@ -68,4 +68,4 @@ MayCarry seen (Some carried) left base = CarryIt seen carried.base ⊎ CarryLeft
 MayCarry seen None left base = ⊤
 
 abbrev pub StillCarry : Seen → State → Option (Base → Base) → Type 0
-StillCarry seen s left = MayCarry seen s.carried left s.base
+StillCarry seen s left = MayCarry seen s.shared.carried left s.shared.base

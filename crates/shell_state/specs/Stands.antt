@@ -1,6 +1,6 @@
 -- How the machine stands for a plain state, beside the files of its base. This project's own.
 use Rattle.std.specs.Bool.{MatchBool}
-use Rattle.std.specs.Prelude.{ℕ, List, Option, ◌≡◌, Some, All, length, ⊤, IsTrue, slice_get, [], Bool, false, ◌+◌, map, ◌≤◌}
+use Rattle.std.specs.Prelude.{ℕ, List, ◌≡◌, Some, length, ⊤, IsTrue, slice_get, [], Bool, false, ◌+◌, map, ◌≤◌}
 use Rattle.base_core.specs.Base.{Base}
 use Rattle.base_core.specs.Entries.{head_of, sig_in}
 use Rattle.base_core.specs.Means.{Means}
@@ -10,7 +10,7 @@ use Rattle.base_files.specs.declared.faults.Stop.TheVariants as stop
 use Rattle.block_store.specs.Placing.{IsEnd}
 use Rattle.command_runs.specs.Counts.{Counts, Why}
 use Rattle.index_entry.specs.declared.entry.Entry.{Entry}
-use Rattle.filter_seat.specs.declared.saved.SavedFilter.{SavedFilter}
+use Rattle.filter_seat.specs.Seats.{FitsGames, Seat}
 use Rattle.shell_state.specs.Carrying.{AreBeside, AreEmpty, Contents}
 use Rattle.shell_state.specs.Passing.{len_in}
 use Rattle.shell_state.specs.State.{State, begin}
@@ -19,26 +19,23 @@ use Rattle.shell_state.specs.Work.Price.{by_looks, by_state}
 use Rattle.shell_state.specs.declared.halt.Halt.{Halt}
 use Rattle.shell_state.specs.declared.halt.Halt.TheVariants as halt
 
--- What a machine holds: what the open base keeps, the filter, and the filters that are kept by name.
+-- What a machine holds: what the open base keeps, and the seat of its user.
 pub record Holding : Type 0 where
   pub kept : Kept
-  pub filter : List (Option ℕ)
-  pub saved : List SavedFilter
+  pub seat : Seat
 
 -- The machine stands for this state, where the files are told: for none where they are not.
 pub record Stands (holding : Holding) (seen : Seen) (s : State) : Type 0 where
   pub games : List ℕ
   pub told : seen.games ≡ Some games
-  pub base : Represents holding.kept games s.base
-  pub filter : holding.filter ≡ s.filter
-  pub saved : holding.saved ≡ s.saved
-  pub unsaved : holding.kept.unsaved ≡ s.unsaved
-  pub carried : AreBeside holding.kept seen s.unsaved s.carried
+  pub base : Represents holding.kept games s.shared.base
+  pub unsaved : holding.kept.unsaved ≡ s.shared.unsaved
+  pub carried : AreBeside holding.kept seen s.shared.unsaved s.shared.carried
+  pub seat : holding.seat ≡ s.seat
 
 -- Each filter of a machine has an entry for each game.
-pub record Fits (holding : Holding) : Type 0 where
-  pub filter : length holding.filter ≡ length holding.kept.entries
-  pub saved : All (λ kept. length kept.plies ≡ length holding.kept.entries) holding.saved
+abbrev pub Fits : Holding → Type 0
+Fits holding = FitsGames holding.seat (length holding.kept.entries)
 
 -- What every machine keeps, whatever the files tell: its filters fit, its base is sound, and the base ends where the games file ends, within
 -- its known length.
@@ -79,7 +76,7 @@ looks_in kept = map (λ e. record { len = e.len; sig = sig_in e; head = head_of 
 
 -- A command asks no more bytes of the games file than its price by what the machine holds before it.
 abbrev pub AsksBy : Price → Holding → ℕ → ℕ → Type 0
-AsksBy (by_looks price) holding old new = new ≤ old + price (looks_in holding.kept) holding.filter
+AsksBy (by_looks price) holding old new = new ≤ old + price (looks_in holding.kept) holding.seat.filter
 AsksBy (by_state price) holding old new = ⊤
 
 abbrev pub Asks : Holding → Work → ℕ → ℕ → Type 0

@@ -1,47 +1,48 @@
 -- The state that a script changes: a plain value. This project's own.
-use Rattle.std.specs.Prelude.{true, ℕ, List, Option, Bool, map, false, if◌then◌else◌, [], length, Some, None}
+use Rattle.std.specs.Prelude.{true, ℕ, List, Option, Bool, map, false, if◌then◌else◌, length, Some, None}
 use Rattle.base_core.specs.Base.{Base}
-use Rattle.game_filter.specs.Filter.{all_in}
 use Rattle.game_tree.specs.Game.{GameTree}
-use Rattle.filter_seat.specs.declared.saved.SavedFilter.{SavedFilter}
+use Rattle.filter_seat.specs.Seats.{Seat, first_seat}
 
 -- A base that the files carry, and whether they open again as it without a fault, however strict the opening is.
 pub record Carried : Type 0 where
   pub base : Base
   pub sound : Bool
 
--- A base that was written as a whole opens so.
-abbrev pub anew : Base → Carried
-anew base = record { base = base; sound = true }
-
--- The base, the one that the files carry (the one that was opened, or saved or compacted last; none where it was created and neither came),
--- the filter with an entry for each game, the filters that are kept by name, and whether changes are unsaved.
-pub record State : Type 0 where
+-- What all users of a base share: the base, the one that the files carry (the one that was opened, or saved or compacted last; none where it was
+-- created and neither came), and whether changes are unsaved.
+pub record Shared : Type 0 where
   pub base : Base
   pub carried : Option Carried
-  pub filter : List (Option ℕ)
-  pub saved : List SavedFilter
   pub unsaved : Bool
 
--- The state with this base, which is not saved.
-abbrev pub with_base : State → Base → State
-with_base s base = record s { base = base; unsaved = true }
+-- The files carry this base, and open so, since it was written as a whole.
+abbrev pub saved_whole : Base → Shared
+saved_whole base = record { base = base; carried = Some (record { base = base; sound = true }); unsaved = false }
 
--- The state with this filter.
+-- That, and what one of them has of his own.
+pub record State : Type 0 where
+  pub shared : Shared
+  pub seat : Seat
+
+-- The state with this base, which is not saved, with this seat, and with this filter.
+abbrev pub with_base : State → Base → State
+with_base s base = record s { shared = record s.shared { base = base; unsaved = true } }
+
+abbrev pub with_seat : State → Seat → State
+with_seat s seat = record s { seat = seat }
+
 abbrev pub with_filter : State → List (Option ℕ) → State
-with_filter s plies = record s { filter = plies }
+with_filter s plies = with_seat s (record s.seat { filter = plies })
 
 -- The games of the base.
 abbrev pub games_of : State → List GameTree
-games_of s = map (λ held. held.game) s.base.games
+games_of s = map (λ held. held.game) s.shared.base.games
 
 -- The state in which a script begins over a base that was opened or, in an empty folder, created: every game is in at ply 0, and nothing is
 -- kept or unsaved.
 abbrev pub begin : Bool → Base → State
 begin created base = record {
-  base = base;
-  carried = if created then None else Some (record { base = base; sound = false });
-  filter = all_in (length base.games);
-  saved = [];
-  unsaved = false;
+  shared = record { base = base; carried = if created then None else Some (record { base = base; sound = false }); unsaved = false };
+  seat = first_seat (length base.games);
 }

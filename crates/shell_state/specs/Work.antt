@@ -2,11 +2,12 @@
 use Rattle.std.specs.Prelude.{ℕ, Bool, true, false, List, map, Option, None}
 use Rattle.base_core.specs.Base.{Base}
 use Rattle.command_runs.specs.Plain.{Plain}
+use Rattle.filter_seat.specs.Seats.{Seat}
 use Rattle.game_tree.specs.Head.{without_tags}
 use Rattle.game_tree.specs.declared.head.Head.{Head}
 use Rattle.sig_index.specs.declared.signature.Sig.{Sig}
 use Rattle.shell_state.specs.Passing.{sig_of}
-use Rattle.shell_state.specs.State.{State}
+use Rattle.shell_state.specs.State.{State, with_seat}
 
 -- What the price of a command looks at in a game: the length of its record, its signature, and its head.
 pub record Look : Type 0 where
@@ -24,7 +25,7 @@ pub data Price : Type 0 where
   by_state : (State → ℕ) → Price
 
 abbrev pub price_by : Price → State → ℕ
-price_by (by_looks price) s = price (looks_of s.base) s.filter
+price_by (by_looks price) s = price (looks_of s.shared.base) s.seat.filter
 price_by (by_state price) s = price s
 
 -- What a command makes of a state, and the text that it writes; whether it uses the files, may change them, and reads a body; the base that it
@@ -45,9 +46,12 @@ works = record { after = λ s work. work.after s; text = λ s work. work.text s 
 abbrev pub price : State → Work → ℕ
 price s work = price_by work.price s
 
--- A command that uses no file, one that reads games, and one that adds to the games file.
+-- A command that uses no file, one that changes the seat alone, one that reads games, and one that adds to the games file.
 abbrev pub quiet : (State → State) → (State → List ℕ) → Work
 quiet after text = record { after = after; text = text; files = false; writes = false; body = false; left = None; price = by_looks (λ looks plies. 0) }
+
+abbrev pub seated : (Seat → Seat) → (Seat → List ℕ) → Work
+seated after text = quiet (λ s. with_seat s (after s.seat)) (λ s. text s.seat)
 
 abbrev pub reading : (State → State) → (State → List ℕ) → (List Look → List (Option ℕ) → ℕ) → Work
 reading after text price = record { after = after; text = text; files = true; writes = false; body = false; left = None; price = by_looks price }

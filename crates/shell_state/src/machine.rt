@@ -1,24 +1,22 @@
 //! The machine that runs commands.
-ghost use Rattle.std.specs.Prelude.{◌≡◌, ◌≤◌, ◌<◌, [], length, IfOk, MatchOption};
+ghost use Rattle.std.specs.Prelude.{◌≡◌, ◌≤◌, ◌<◌, length, IfOk, MatchOption};
 ghost use Rattle.base_core.specs.Represents.{IsSound};
-ghost use Rattle.game_filter.specs.Filter.{all_in};
+ghost use Rattle.filter_seat.specs.Seats.{first_seat};
 ghost use Rattle.shell_state.specs.Stands.{Stands, Begins};
 
 use base_core::Base;
-use filter_seat::SavedFilter;
+use filter_seat::Seat;
 use game_filter::Filter;
 use std::alloc::{AllocError, Global};
 use std::marker::Model;
 
-/// An open base with a filter and the filters that are kept by name, and the memory that its commands need.
+/// An open base with the seat of its user, and the memory that its commands need.
 #[derive(Drop)]
 pub struct Machine {
     /// The open base.
     pub base: Base,
-    /// The filter, with an entry for each game.
-    pub filter: Filter,
-    /// The filters that are kept by name.
-    pub saved: Vec<SavedFilter>,
+    /// What its user has of his own.
+    pub seat: Seat,
     /// A record is read into it: as long as the longest one may be.
     pub block: Vec<u8>,
     /// Text that is put together before it is written.
@@ -31,7 +29,7 @@ impl Model for Machine {
 
     ghost Value = { Holding };
 
-    ghost view = { λ machine. record { kept = machine.base; filter = machine.filter; saved = machine.saved.items } };
+    ghost view = { λ machine. record { kept = machine.base; seat = record { filter = machine.seat.filter; saved = machine.seat.saved.items } } };
 
     ghost invariant = { λ machine. length machine.block.items ≡ 131072 };
 }
@@ -40,7 +38,7 @@ impl Machine {
     /// The machine over a base that was opened: every game is in, and no filter is kept. `block` holds 131,072 bytes.
     pub fn new(alloc: Global, base: Base, block: Vec<u8>) -> Result<Machine, AllocError>
         requires room { length block.items ≡ 131072 }
-        ensures holds { IfOk result (λ machine. machine ≡ record { kept = base; filter = all_in (length base.entries); saved = [] }) }
+        ensures holds { IfOk result (λ machine. machine ≡ record { kept = base; seat = first_seat (length base.entries) }) }
 
         // Where its base was opened without changes, it stands for the state in which a script begins.
         ensures begins { IfOk result (Begins base) }
@@ -48,8 +46,10 @@ impl Machine {
         let filter = Filter::new(alloc, base.header().games)?;
         Ok(Machine {
             base,
-            filter,
-            saved: Vec::new(alloc),
+            seat: Seat {
+                filter,
+                saved: Vec::new(alloc),
+            },
             block,
             page: String::new(alloc),
         })

@@ -53,12 +53,12 @@ game_out told = sym (adds-nil told)
 
 -- `show` of a game that is there.
 pub show_serves : {A : Type 0} (r : Result A Halt) (holding : Holding) (seen : Seen) (s : State) (i : ℕ) (told told' : Option (List ℕ)) → i < length holding.kept.entries → Stands holding seen s
-    → ((held : Held) → slice_get s.base.games i ≡ Some held → GameEnds r (game_text held) told told') → Serves works (Stands holding seen) Broken s (show_work i) told told' r
+    → ((held : Held) → slice_get s.shared.base.games i ≡ Some held → GameEnds r (game_text held) told told') → Serves works (Stands holding seen) Broken s (show_work i) told told' r
 show_serves (Ok x) holding seen s i told told' below st ends =
-    let held = get_some s.base.games i (omega (arith, below, st.base.count)) in
+    let held = get_some s.shared.base.games i (omega (arith, below, st.base.count)) in
     record { stands = st; written = ends held.0 held.1 ∙ ap (λ (h : Option Held). adds told (shown i h)) (sym held.1) }
 show_serves (Err e) holding seen s i told told' below st ends =
-    let held = get_some s.base.games i (omega (arith, below, st.base.count)) in
+    let held = get_some s.shared.base.games i (omega (arith, below, st.base.count)) in
     let cut : GameCut e (game_text held.0) told told' = ends held.0 held.1 in
     let P : Option Held → Type 0 = λ h. Halted [] (shown i h) told told' in
     record { wrote = subst P (sym held.1) cut.wrote; broken = broken_by_fault s (show_work i) e refl cut.fault }
@@ -98,17 +98,17 @@ front_of_all count plies games = texts-split text_if_in 0 count plies games
 
 -- `export`
 pub export_serves : {A : Type 0} (r : Result A Halt) (holding : Holding) (seen : Seen) (s : State) (told told' : Option (List ℕ)) → Stands holding seen s
-    → GamesEnd r s.filter s.base.games told told' → Serves works (Stands holding seen) Broken s export_work told told' r
+    → GamesEnd r s.seat.filter s.shared.base.games told told' → Serves works (Stands holding seen) Broken s export_work told told' r
 export_serves (Ok x) holding seen s told told' st ends = record { stands = st; written = ends }
 export_serves (Err e) holding seen s told told' st ends =
     let cut = ends.0 in
     let n : ℕ = cut.count + 1 in
-    let most : List ℕ = exported_first n s.filter s.base.games in
-    let more : List ℕ = texts_from text_if_in (0 + n) (drop n s.filter) (drop n s.base.games) in
+    let most : List ℕ = exported_first n s.seat.filter s.shared.base.games in
+    let more : List ℕ = texts_from text_if_in (0 + n) (drop n s.seat.filter) (drop n s.shared.base.games) in
     let P : List ℕ → Type 0 = λ l. Halted [] l told told' in
     record {
-      wrote = subst P (sym (front_of_all n s.filter s.base.games))
-          (halted_more [] most more told told' (halted_unsure (exported_first cut.count s.filter s.base.games) most told told' cut.wrote));
+      wrote = subst P (sym (front_of_all n s.seat.filter s.shared.base.games))
+          (halted_more [] most more told told' (halted_unsure (exported_first cut.count s.seat.filter s.shared.base.games) most told told' cut.wrote));
       broken = broken_by_fault s export_work e refl ends.1;
     }
 
@@ -151,5 +151,5 @@ exported_price plies kept = filtered_looks (look_at kept.names) plies kept.entri
 pub no_game_serves : {A : Type 0} (r : Result A Halt) (holding : Holding) (seen : Seen) (s : State) (number : ℕ) (line : List ℕ) (told told' : Option (List ℕ)) → Stands holding seen s → length holding.kept.entries ≤ number
     → line ≡ no_game_line number → OnOk r (told' ≡ adds told line) → Halted [] line told told' → IfErr r IsOutput → Serves works (Stands holding seen) Broken s (show_work number) told told' r
 no_game_serves r holding seen s number line told told' st past is written halted output =
-    let text : line ≡ show_text s number = is ∙ ap (shown number) (sym (slice_get_past s.base.games number (omega (arith, past, st.base.count)))) in
+    let text : line ≡ show_text s number = is ∙ ap (shown number) (sym (slice_get_past s.shared.base.games number (omega (arith, past, st.base.count)))) in
     line_serves r holding (show_work number) line seen s told told' st text written halted output

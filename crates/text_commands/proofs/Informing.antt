@@ -30,14 +30,14 @@ quiet_info old line games deleted players events sites rounds unsaved fits writt
   stands = λ (seen : Seen) (s : State) (st : Stands old seen s). st;
   text = λ (seen : Seen) (s : State) (st : Stands old seen s).
       let names : NameLists → ℕ = λ n. length n.players in
-      let games' : games ≡ length s.base.games = g ∙ st.base.count in
+      let games' : games ≡ length s.shared.base.games = g ∙ st.base.count in
       let deleted' : deleted ≡ deleted_in s =
-      d ∙ ap (λ (hs : List Head). count_by (λ (h : Head). h.deleted) hs) (heads-are old.kept st.games s.base st.base) ∙ deleted_of s.base.games in
-      let players' : players ≡ length s.base.names.players = p ∙ ap (λ (n : NameLists). length n.players) st.base.names in
-      let events' : events ≡ length s.base.names.events = e ∙ ap (λ (n : NameLists). length n.events) st.base.names in
-      let sites' : sites ≡ length s.base.names.sites = t ∙ ap (λ (n : NameLists). length n.sites) st.base.names in
-      let rounds' : rounds ≡ length s.base.names.rounds = r ∙ ap (λ (n : NameLists). length n.rounds) st.base.names in
-      let unsaved' : unsaved ≡ s.unsaved = u ∙ st.unsaved in
+      d ∙ ap (λ (hs : List Head). count_by (λ (h : Head). h.deleted) hs) (heads-are old.kept st.games s.shared.base st.base) ∙ deleted_of s.shared.base.games in
+      let players' : players ≡ length s.shared.base.names.players = p ∙ ap (λ (n : NameLists). length n.players) st.base.names in
+      let events' : events ≡ length s.shared.base.names.events = e ∙ ap (λ (n : NameLists). length n.events) st.base.names in
+      let sites' : sites ≡ length s.shared.base.names.sites = t ∙ ap (λ (n : NameLists). length n.sites) st.base.names in
+      let rounds' : rounds ≡ length s.shared.base.names.rounds = r ∙ ap (λ (n : NameLists). length n.rounds) st.base.names in
+      let unsaved' : unsaved ≡ s.shared.unsaved = u ∙ st.unsaved in
       written ∙ cc;
   fits = fits;
   base = λ sound. sound;

@@ -13,6 +13,7 @@ use Rattle.base_files.specs.Seen.{Seen}
 use Rattle.game_tree.specs.Head.{IsTag, without_tags}
 use Rattle.game_tree.specs.declared.head.Head.{Head}
 use Rattle.index_entry.specs.declared.entry.Entry.{Entry}
+use Rattle.shell_state.proofs.Quietly.{filter_is}
 use Rattle.shell_state.specs.Lines.{texts_from, filter_line}
 use Rattle.shell_state.specs.Stands.{Holding, Stands}
 use Rattle.shell_state.specs.State.{State}
@@ -37,11 +38,11 @@ untagged n (Some ply ∷ plies) (held ∷ games) = ap (λ (l : List ℕ). listed
 untagged n (None ∷ plies) (held ∷ games) = untagged (n + 1) plies games
 
 -- The list of a machine is that of the state for which it stands.
-pub listed_text : (holding : Holding) (seen : Seen) (s : State) → Stands holding seen s → list_of holding.filter (heads_of holding.kept) ≡ list_text s
+pub listed_text : (holding : Holding) (seen : Seen) (s : State) → Stands holding seen s → list_of holding.seat.filter (heads_of holding.kept) ≡ list_text s
 listed_text holding seen s st =
-    ap (λ (plies : List (Option ℕ)). list_of plies (heads_of holding.kept)) st.filter
-    ∙ ap (λ (heads : List Head). list_of s.filter heads) (heads-are holding.kept st.games s.base st.base)
-    ∙ ap (λ (l : List ℕ). l ++ filter_line s.filter) (untagged 0 s.filter s.base.games)
+    ap (λ (plies : List (Option ℕ)). list_of plies (heads_of holding.kept)) (filter_is st)
+    ∙ ap (λ (heads : List Head). list_of s.seat.filter heads) (heads-are holding.kept st.games s.shared.base st.base)
+    ∙ ap (λ (l : List ℕ). l ++ filter_line s.seat.filter) (untagged 0 s.seat.filter s.shared.base.games)
 
 -- Three parts, put behind a text.
 pub three : {A E : Type 0} (r : Result A E) (old one two new a b c : List ℕ) → one ≡ old ++ a → two ≡ one ++ b → OnOk r (new ≡ two ++ c) → OnOk r (new ≡ old ++ (a ++ (b ++ c)))

@@ -23,7 +23,7 @@ shown game (Some held) = game_text held
 shown game None = no_game_line game
 
 abbrev pub show_text : State → ℕ → List ℕ
-show_text s game = shown game (slice_get s.base.games game)
+show_text s game = shown game (slice_get s.shared.base.games game)
 
 -- The text of a game that is in; one that is out has none.
 abbrev pub text_if_in : ℕ → Option ℕ → Held → List ℕ
@@ -35,7 +35,7 @@ abbrev pub exported : List (Option ℕ) → List Held → List ℕ
 exported plies games = texts_from text_if_in 0 plies games
 
 abbrev pub export_text : State → List ℕ
-export_text s = exported s.filter s.base.games
+export_text s = exported s.seat.filter s.shared.base.games
 
 -- The text of those among the first so many games that are in.
 abbrev pub exported_first : ℕ → List (Option ℕ) → List Held → List ℕ

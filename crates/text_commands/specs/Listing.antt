@@ -35,7 +35,7 @@ abbrev pub list_of : List (Option ℕ) → List Head → List ℕ
 list_of plies heads = texts_from listed_if_in 0 plies heads ++ filter_line plies
 
 abbrev pub list_text : State → List ℕ
-list_text s = list_of s.filter (map (λ held. held.head) s.base.games)
+list_text s = list_of s.seat.filter (map (λ held. held.head) s.shared.base.games)
 
 abbrev pub list_work : Work
 list_work = quiet (λ s. s) list_text

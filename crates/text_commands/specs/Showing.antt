@@ -7,7 +7,7 @@ use Rattle.shell_state.specs.Work.{Work, quiet}
 
 -- How many games are marked as deleted.
 abbrev pub deleted_in : State → ℕ
-deleted_in s = count_by (λ held. held.head.deleted) s.base.games
+deleted_in s = count_by (λ held. held.head.deleted) s.shared.base.games
 
 -- info
 abbrev pub counts_line : ℕ → ℕ → ℕ → List ℕ
@@ -25,11 +25,11 @@ info_line games deleted players events sites rounds unsaved = numbers_line games
 
 abbrev pub info_text : State → List ℕ
 info_text s =
-    info_line (length s.base.games) (deleted_in s) (length s.base.names.players) (length s.base.names.events) (length s.base.names.sites) (length s.base.names.rounds) s.unsaved
+    info_line (length s.shared.base.games) (deleted_in s) (length s.shared.base.names.players) (length s.shared.base.names.events) (length s.shared.base.names.sites) (length s.shared.base.names.rounds) s.shared.unsaved
 
 -- quit, where the script ends
 abbrev pub quit_text : State → List ℕ
-quit_text s = if s.unsaved then line_of (codes "unsaved") else []
+quit_text s = if s.shared.unsaved then line_of (codes "unsaved") else []
 
 -- What the two do.
 abbrev pub info_work : Work

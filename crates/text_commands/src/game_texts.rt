@@ -77,13 +77,20 @@ pub fn export<F: Files, K: Sink>(
     requires sound { Sound machine.old (F.seen files.old) }
     ensures same { machine.new ≡ machine.old }
     ensures serves { (s : State) → Stands machine.old (F.seen files.old) s → Serves works (Stands machine.new (F.seen files.new)) Broken s export_work (K.taken out.old) (K.taken out.new) result }
-    ensures cut { (s : State) → Stands machine.old (F.seen files.old) s → IfErr result (λ e. ExportCut s.filter s.base.games e (K.taken out.old) (K.taken out.new)) }
+    ensures cut { (s : State) → Stands machine.old (F.seen files.old) s → IfErr result (λ e. ExportCut s.seat.filter s.shared.base.games e (K.taken out.old) (K.taken out.new)) }
     ensures unchanged { F.seen files.new ≡ F.seen files.old }
     ensures asks { Asks machine.old export_work (F.asked files.old) (F.asked files.new) }
     ensures causes { Causes WhyHalt result (counts (F.faults files.old) 0 (K.faults out.old)) (counts (F.faults files.new) 0 (K.faults out.new)) }
 {
     let block = machine.block.as_mut_slice();
-    write_games(alloc, &machine.base, &machine.filter, files, block, out)
+    write_games(
+        alloc,
+        &machine.base,
+        &machine.seat.filter,
+        files,
+        block,
+        out,
+    )
 }
 
 // Writes the games that are in, one after the other. Each record is read into `block`.

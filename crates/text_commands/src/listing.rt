@@ -31,7 +31,7 @@ pub fn list<K: Sink>(alloc: Global, machine: &Machine, out: &mut K) -> Result<()
     ensures serves { (seen : Seen) (s : State) → Stands machine.now seen s → Serves works (Stands machine.now seen) Broken s list_work (K.taken out.old) (K.taken out.new) result }
     ensures causes { Causes WhyHalt result (counts 0 0 (K.faults out.old)) (counts 0 0 (K.faults out.new)) }
 {
-    match write_list(alloc, &machine.base, &machine.filter, out) {
+    match write_list(alloc, &machine.base, &machine.seat.filter, out) {
         Ok(()) => Ok(()),
         Err(stop) => Err(Halt::Device(stop)),
     }

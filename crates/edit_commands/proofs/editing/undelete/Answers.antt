@@ -12,8 +12,8 @@ use Rattle.shell_state.specs.Work.{quiet}
 pub returns : goal.returns
 returns c =
     let base = c.machine.inside.base in
-    let filter = c.machine.inside.filter in
-    let saved = c.machine.inside.saved.items in
+    let filter = c.machine.inside.seat.filter in
+    let saved = c.machine.inside.seat.saved.items in
     let fits = subst (λ (h : Holding). Fits h) (sym c.machine.view_is) c.requires.fits in
     let here = subst (λ (h : Holding). c.in-Some.i < length h.kept.entries) (sym c.machine.view_is) c.in-Some.ensures.at.1 in
     let there = subst (λ (n : ℕ). n < length base.entries) c.in-Some.ensures.at.0 here in

@@ -34,12 +34,12 @@ returns-in-Err-clause-carries g c = λ s st.
 pub push-requires : goal.push-requires
 push-requires g c =
     let sound = subst (λ (h : Holding). Sound h (g.F.Files.seen c.args.files.now)) (sym c.machine.view_is) c.requires.sound in
-    record { room = filter_short c.add-added.new.self c.machine.inside.filter (length c.machine.inside.base.entries) c.keeps_sound.ensures.sound c.in-Ok.ensures.count sound.fits.filter }
+    record { room = filter_short c.add-added.new.self c.machine.inside.seat.filter (length c.machine.inside.base.entries) c.keeps_sound.ensures.sound c.in-Ok.ensures.count sound.fits.filter }
 
 pub leave_out-requires : goal.leave_out-requires
 leave_out-requires g c =
     let sound = subst (λ (h : Holding). Sound h (g.F.Files.seen c.args.files.now)) (sym c.machine.view_is) c.requires.sound in
-    record { room = all_short c.add-added.new.self c.machine.inside.saved.items c.as_mut_slice.result.now (length c.machine.inside.base.entries) c.keeps_sound.ensures.sound c.in-Ok.ensures.count c.as_mut_slice.ensures.value sound.fits.saved }
+    record { room = all_short c.add-added.new.self c.machine.inside.seat.saved.items c.as_mut_slice.result.now (length c.machine.inside.base.entries) c.keeps_sound.ensures.sound c.in-Ok.ensures.count c.as_mut_slice.ensures.value sound.fits.saved }
 
 pub refused_item-requires : goal.refused_item-requires
 refused_item-requires g c = record { there = placed_there c.in-Err.error _ _ c.in-Err.ensures.why }
@@ -47,27 +47,27 @@ refused_item-requires g c = record { there = placed_there c.in-Err.error _ _ c.i
 pub returns-in_ok-leave_out-in-Ok-clause-line : goal.returns-in_ok-leave_out-in-Ok-clause-line
 returns-in_ok-leave_out-in-Ok-clause-line g c = λ i st num.
     let st' = subst (λ (h : Holding). Stands h (g.F.Files.seen c.args.files.now) i.state) (sym c.machine.view_is) st in
-    add_says c.machine.inside.base c.machine.inside.filter c.machine.inside.saved.items (g.F.Files.seen c.args.files.now) i c.args.head.now c.args.game.now c.in-Ok.i c.in_ok-line-in-Ok.line.items st' c.in-Ok.ensures.room c.in-Ok.ensures.number
+    add_says c.machine.inside.base c.machine.inside.seat.filter c.machine.inside.seat.saved.items (g.F.Files.seen c.args.files.now) i c.args.head.now c.args.game.now c.in-Ok.i c.in_ok-line-in-Ok.line.items st' c.in-Ok.ensures.room c.in-Ok.ensures.number
     (c.in_ok-line-in-Ok.ensures ∙ ap (game_line (codes "added ")) c.from.ensures)
 
 pub returns-in_ok-leave_out-in-Ok-clause-counted : goal.returns-in_ok-leave_out-in-Ok-clause-counted
 returns-in_ok-leave_out-in-Ok-clause-counted g c = λ i st.
     let st' = subst (λ (h : Holding). Stands h (g.F.Files.seen c.args.files.now) i.state) (sym c.machine.view_is) st in
-    add_counts c.machine.inside.base c.machine.inside.filter c.machine.inside.saved.items (g.F.Files.seen c.args.files.now) i c.args.head.now c.args.game.now st' c.in-Ok.ensures.room
+    add_counts c.machine.inside.base c.machine.inside.seat.filter c.machine.inside.seat.saved.items (g.F.Files.seen c.args.files.now) i c.args.head.now c.args.game.now st' c.in-Ok.ensures.room
 
 pub returns-in_ok-leave_out-in-Ok-clause-stands : goal.returns-in_ok-leave_out-in-Ok-clause-stands
 returns-in_ok-leave_out-in-Ok-clause-stands g c = λ i st.
     let st' = subst (λ (h : Holding). Stands h (g.F.Files.seen c.args.files.now) i.state) (sym c.machine.view_is) st in
     let sound = subst (λ (h : Holding). Sound h (g.F.Files.seen c.args.files.now)) (sym c.machine.view_is) c.requires.sound in
-    add_stands c.machine.inside.base c.add-added.new.self c.machine.inside.filter c.push.new.self c.machine.inside.saved.items (with_items c.machine.inside.saved c.leave_out.new.saved).items (g.F.Files.seen c.args.files.now) (g.F.Files.seen c.add-added.new.files) i c.args.head.now c.args.game.now st' sound.at_end
-    c.in-Ok.ensures.added c.in-Ok.ensures.room c.in-Ok.ensures.appended c.in-Ok.ensures.unsaved c.add-added.ensures.names c.in_ok-push-in-Ok.ensures.added (lent_items without_last c.machine.inside.saved c.as_mut_slice.result.now c.leave_out.new.saved c.as_mut_slice.ensures.value c.in_ok-leave_out-in-Ok.ensures.left_out)
+    add_stands c.machine.inside.base c.add-added.new.self c.machine.inside.seat.filter c.push.new.self c.machine.inside.seat.saved.items (with_items c.machine.inside.seat.saved c.leave_out.new.saved).items (g.F.Files.seen c.args.files.now) (g.F.Files.seen c.add-added.new.files) i c.args.head.now c.args.game.now st' sound.at_end
+    c.in-Ok.ensures.added c.in-Ok.ensures.room c.in-Ok.ensures.appended c.in-Ok.ensures.unsaved c.add-added.ensures.names c.in_ok-push-in-Ok.ensures.added (lent_items without_last c.machine.inside.seat.saved c.as_mut_slice.result.now c.leave_out.new.saved c.as_mut_slice.ensures.value c.in_ok-leave_out-in-Ok.ensures.left_out)
 
 pub returns-in_ok-leave_out-in-Ok-clause-sound : goal.returns-in_ok-leave_out-in-Ok-clause-sound
 returns-in_ok-leave_out-in-Ok-clause-sound g c =
     let sound = subst (λ (h : Holding). Sound h (g.F.Files.seen c.args.files.now)) (sym c.machine.view_is) c.requires.sound in
     record {
-      fits = add_fits c.machine.inside.base c.add-added.new.self c.machine.inside.filter c.push.new.self c.machine.inside.saved.items (with_items c.machine.inside.saved c.leave_out.new.saved).items c.in-Ok.ensures.count c.in_ok-push-in-Ok.ensures.added
-          (lent_items without_last c.machine.inside.saved c.as_mut_slice.result.now c.leave_out.new.saved c.as_mut_slice.ensures.value c.in_ok-leave_out-in-Ok.ensures.left_out) sound.fits;
+      fits = add_fits c.machine.inside.base c.add-added.new.self c.machine.inside.seat.filter c.push.new.self c.machine.inside.seat.saved.items (with_items c.machine.inside.seat.saved c.leave_out.new.saved).items c.in-Ok.ensures.count c.in_ok-push-in-Ok.ensures.added
+          (lent_items without_last c.machine.inside.seat.saved c.as_mut_slice.result.now c.leave_out.new.saved c.as_mut_slice.ensures.value c.in_ok-leave_out-in-Ok.ensures.left_out) sound.fits;
       base = c.keeps_sound.ensures.sound;
       at_end = c.add-added.ensures.at_end (ok_not_failed _ _ c.in-Ok.is);
     }
@@ -76,18 +76,18 @@ pub returns-in-Err-clause-line : goal.returns-in-Err-clause-line
 returns-in-Err-clause-line g c = λ i st num.
     let st' = subst (λ (h : Holding). Stands h (g.F.Files.seen c.args.files.now) i.state) (sym c.machine.view_is) st in
     if_ok _ _ c.refused_item.result
-    (λ given ends. refused_item_says c.machine.inside.base c.machine.inside.filter c.machine.inside.saved.items (g.F.Files.seen c.args.files.now) i c.args.head.now c.args.game.now c.in-Err.error c.args.number given.0.items st' c.in-Err.ensures.why ends.0 num)
+    (λ given ends. refused_item_says c.machine.inside.base c.machine.inside.seat.filter c.machine.inside.seat.saved.items (g.F.Files.seen c.args.files.now) i c.args.head.now c.args.game.now c.in-Err.error c.args.number given.0.items st' c.in-Err.ensures.why ends.0 num)
     c.refused_item.ensures.line
 
 pub returns-in-Err-clause-stands : goal.returns-in-Err-clause-stands
 returns-in-Err-clause-stands g c = λ i st.
     let st' = subst (λ (h : Holding). Stands h (g.F.Files.seen c.args.files.now) i.state) (sym c.machine.view_is) st in
-    let P : Kept → Type 0 = λ k. Stands (held_by k c.machine.inside.filter c.machine.inside.saved.items) (g.F.Files.seen c.add-added.new.files) (item_after i (item.Good c.args.head.now c.args.game.now)).state in
+    let P : Kept → Type 0 = λ k. Stands (held_by k c.machine.inside.seat.filter c.machine.inside.seat.saved.items) (g.F.Files.seen c.add-added.new.files) (item_after i (item.Good c.args.head.now c.args.game.now)).state in
     ok_by _ _ c.refused_item.result
     (λ given ends.
     let same = c.in-Err.ensures.none_added (err_not_failed (Err c.in-Err.error) c.in-Err.error refl (item_not_failed c.in-Err.error c.args.number given.0.items ends.0)) in
     subst P (sym c.in-Err.ensures.unchanged)
-    (refused_item_stands c.machine.inside.base c.machine.inside.filter c.machine.inside.saved.items (g.F.Files.seen c.args.files.now) (g.F.Files.seen c.add-added.new.files) i c.args.head.now c.args.game.now c.in-Err.error c.args.number given.0.items st' c.in-Err.ensures.why ends.0 same))
+    (refused_item_stands c.machine.inside.base c.machine.inside.seat.filter c.machine.inside.seat.saved.items (g.F.Files.seen c.args.files.now) (g.F.Files.seen c.add-added.new.files) i c.args.head.now c.args.game.now c.in-Err.error c.args.number given.0.items st' c.in-Err.ensures.why ends.0 same))
     c.refused_item.ensures.line
 
 pub returns-in-Err-clause-counted : goal.returns-in-Err-clause-counted
@@ -97,7 +97,7 @@ returns-in-Err-clause-counted g c = λ i st.
     (λ given ends.
     let P : Bool → Type 0 = λ b. Counted b i (item_after i (item.Good c.args.head.now c.args.game.now)) in
     subst P (sym ends.1)
-    (refused_item_counts c.machine.inside.base c.machine.inside.filter c.machine.inside.saved.items (g.F.Files.seen c.args.files.now) i c.args.head.now c.args.game.now c.in-Err.error c.args.number given.0.items st' c.in-Err.ensures.why ends.0))
+    (refused_item_counts c.machine.inside.base c.machine.inside.seat.filter c.machine.inside.seat.saved.items (g.F.Files.seen c.args.files.now) i c.args.head.now c.args.game.now c.in-Err.error c.args.number given.0.items st' c.in-Err.ensures.why ends.0))
     c.refused_item.ensures.line
 
 pub returns-in-Err-clause-devices : goal.returns-in-Err-clause-devices
@@ -107,7 +107,7 @@ returns-in-Err-clause-devices g c =
 pub returns-in-Err-clause-sound : goal.returns-in-Err-clause-sound
 returns-in-Err-clause-sound g c =
     let sound = subst (λ (h : Holding). Sound h (g.F.Files.seen c.args.files.now)) (sym c.machine.view_is) c.requires.sound in
-    let P : Kept → Type 0 = λ k. Fits (held_by k c.machine.inside.filter c.machine.inside.saved.items) in
+    let P : Kept → Type 0 = λ k. Fits (held_by k c.machine.inside.seat.filter c.machine.inside.seat.saved.items) in
     ok_by _ _ c.refused_item.result
     (λ given ends. record {
       fits = subst P (sym c.in-Err.ensures.unchanged) sound.fits;

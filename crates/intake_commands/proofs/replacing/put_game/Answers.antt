@@ -21,7 +21,7 @@ put_at_start-requires g c =
     let there = subst (λ (h : Holding). c.args.i < length h.kept.entries) (sym c.machine.view_is) c.requires.there in
     record {
       there = omega (arith, there, sound.fits.filter);
-      same_games = all_long c.machine.inside.saved.items c.as_mut_slice.result.now c.machine.inside.filter (length c.machine.inside.base.entries) c.as_mut_slice.ensures.value sound.fits.filter sound.fits.saved;
+      same_games = all_long c.machine.inside.seat.saved.items c.as_mut_slice.result.now c.machine.inside.seat.filter (length c.machine.inside.base.entries) c.as_mut_slice.ensures.value sound.fits.filter sound.fits.saved;
     }
 
 pub refused_line-requires : goal.refused_line-requires
@@ -38,23 +38,23 @@ returns-in_ok-game_line-in-Ok-clause-carries g c = λ s st. carry_appended c.arg
 pub returns-in_ok-game_line-in-Ok-clause-line : goal.returns-in_ok-game_line-in-Ok-clause-line
 returns-in_ok-game_line-in-Ok-clause-line g c = λ s st.
     let st' = subst (λ (h : Holding). Stands h (g.F.Files.seen c.args.files.now) s) (sym c.machine.view_is) st in
-    replace_says c.machine.inside.base c.machine.inside.filter c.machine.inside.saved.items (g.F.Files.seen c.args.files.now) s c.args.i c.args.head.now c.args.game.now _ st' c.in-Ok.ensures.room
+    replace_says c.machine.inside.base c.machine.inside.seat.filter c.machine.inside.seat.saved.items (g.F.Files.seen c.args.files.now) s c.args.i c.args.head.now c.args.game.now _ st' c.in-Ok.ensures.room
     (c.in_ok-game_line-in-Ok.ensures ∙ ap (game_line (codes "replaced ")) c.from.ensures)
 
 pub returns-in_ok-game_line-in-Ok-clause-stands : goal.returns-in_ok-game_line-in-Ok-clause-stands
 returns-in_ok-game_line-in-Ok-clause-stands g c = λ s st.
     let st' = subst (λ (h : Holding). Stands h (g.F.Files.seen c.args.files.now) s) (sym c.machine.view_is) st in
     let sound = subst (λ (h : Holding). Sound h (g.F.Files.seen c.args.files.now)) (sym c.machine.view_is) c.requires.sound in
-    replace_stands c.machine.inside.base c.replace_game-replaced.new.self c.machine.inside.filter c.put_at_start.new.filter c.machine.inside.saved.items (with_items c.machine.inside.saved c.put_at_start.new.saved).items (g.F.Files.seen c.args.files.now) (g.F.Files.seen c.replace_game-replaced.new.files) s c.args.i c.args.head.now c.args.game.now st' sound.at_end
+    replace_stands c.machine.inside.base c.replace_game-replaced.new.self c.machine.inside.seat.filter c.put_at_start.new.filter c.machine.inside.seat.saved.items (with_items c.machine.inside.seat.saved c.put_at_start.new.saved).items (g.F.Files.seen c.args.files.now) (g.F.Files.seen c.replace_game-replaced.new.files) s c.args.i c.args.head.now c.args.game.now st' sound.at_end
     c.in-Ok.ensures.replaced c.in-Ok.ensures.room c.in-Ok.ensures.appended c.in-Ok.ensures.unsaved c.replace_game-replaced.ensures.names c.put_at_start.ensures.filter
-    (lent_items (kept_to_start c.args.i) c.machine.inside.saved c.as_mut_slice.result.now c.put_at_start.new.saved c.as_mut_slice.ensures.value c.put_at_start.ensures.saved)
+    (lent_items (kept_to_start c.args.i) c.machine.inside.seat.saved c.as_mut_slice.result.now c.put_at_start.new.saved c.as_mut_slice.ensures.value c.put_at_start.ensures.saved)
 
 pub returns-in_ok-game_line-in-Ok-clause-sound : goal.returns-in_ok-game_line-in-Ok-clause-sound
 returns-in_ok-game_line-in-Ok-clause-sound g c =
     let sound = subst (λ (h : Holding). Sound h (g.F.Files.seen c.args.files.now)) (sym c.machine.view_is) c.requires.sound in
     record {
-      fits = replace_fits c.machine.inside.base c.replace_game-replaced.new.self c.machine.inside.filter c.put_at_start.new.filter c.machine.inside.saved.items (with_items c.machine.inside.saved c.put_at_start.new.saved).items c.args.i c.replace_game-replaced.ensures.count c.put_at_start.ensures.filter
-          (lent_items (kept_to_start c.args.i) c.machine.inside.saved c.as_mut_slice.result.now c.put_at_start.new.saved c.as_mut_slice.ensures.value c.put_at_start.ensures.saved) sound.fits;
+      fits = replace_fits c.machine.inside.base c.replace_game-replaced.new.self c.machine.inside.seat.filter c.put_at_start.new.filter c.machine.inside.seat.saved.items (with_items c.machine.inside.seat.saved c.put_at_start.new.saved).items c.args.i c.replace_game-replaced.ensures.count c.put_at_start.ensures.filter
+          (lent_items (kept_to_start c.args.i) c.machine.inside.seat.saved c.as_mut_slice.result.now c.put_at_start.new.saved c.as_mut_slice.ensures.value c.put_at_start.ensures.saved) sound.fits;
       base = c.keeps_sound.ensures.sound;
       at_end = c.replace_game-replaced.ensures.at_end (ok_not_failed _ _ c.in-Ok.is);
     }
@@ -68,7 +68,7 @@ returns-in-Err-clause-line g c = λ s st.
     let st' = subst (λ (h : Holding). Stands h (g.F.Files.seen c.args.files.now) s) (sym c.machine.view_is) st in
     let there = subst (λ (h : Holding). c.args.i < length h.kept.entries) (sym c.machine.view_is) c.requires.there in
     if_ok _ _ c.refused_line.result
-    (λ line ends. not_replaced_says c.machine.inside.base c.machine.inside.filter c.machine.inside.saved.items (g.F.Files.seen c.args.files.now) s c.args.i c.args.head.now c.args.game.now c.in-Err.error line.items st'
+    (λ line ends. not_replaced_says c.machine.inside.base c.machine.inside.seat.filter c.machine.inside.seat.saved.items (g.F.Files.seen c.args.files.now) s c.args.i c.args.head.now c.args.game.now c.in-Err.error line.items st'
     (placed_so c.in-Err.error c.machine.inside.base c.args.i _ _ c.in-Err.ensures.why there) ends)
     c.refused_line.ensures.line
 
@@ -76,12 +76,12 @@ pub returns-in-Err-clause-stands : goal.returns-in-Err-clause-stands
 returns-in-Err-clause-stands g c = λ s st.
     let st' = subst (λ (h : Holding). Stands h (g.F.Files.seen c.args.files.now) s) (sym c.machine.view_is) st in
     let there = subst (λ (h : Holding). c.args.i < length h.kept.entries) (sym c.machine.view_is) c.requires.there in
-    let P : Kept → Type 0 = λ k. Stands (held_by k c.machine.inside.filter c.machine.inside.saved.items) (g.F.Files.seen c.replace_game-replaced.new.files) (state_with s c.args.i (the_one s.base (item.Good c.args.head.now c.args.game.now ∷ []))) in
+    let P : Kept → Type 0 = λ k. Stands (held_by k c.machine.inside.seat.filter c.machine.inside.seat.saved.items) (g.F.Files.seen c.replace_game-replaced.new.files) (state_with s c.args.i (the_one s.shared.base (item.Good c.args.head.now c.args.game.now ∷ []))) in
     ok_by _ _ c.refused_line.result
     (λ line ends.
     let same = c.in-Err.ensures.none_added (err_not_failed (Err c.in-Err.error) c.in-Err.error refl (not_failed c.in-Err.error line.items ends)) in
     subst P (sym c.in-Err.ensures.unchanged)
-    (not_replaced_stands c.machine.inside.base c.machine.inside.filter c.machine.inside.saved.items (g.F.Files.seen c.args.files.now) (g.F.Files.seen c.replace_game-replaced.new.files) s c.args.i c.args.head.now c.args.game.now c.in-Err.error line.items st'
+    (not_replaced_stands c.machine.inside.base c.machine.inside.seat.filter c.machine.inside.seat.saved.items (g.F.Files.seen c.args.files.now) (g.F.Files.seen c.replace_game-replaced.new.files) s c.args.i c.args.head.now c.args.game.now c.in-Err.error line.items st'
     (placed_so c.in-Err.error c.machine.inside.base c.args.i _ _ c.in-Err.ensures.why there) ends same))
     c.refused_line.ensures.line
 
@@ -93,7 +93,7 @@ returns-in-Err-clause-devices g c =
 pub returns-in-Err-clause-sound : goal.returns-in-Err-clause-sound
 returns-in-Err-clause-sound g c =
     let sound = subst (λ (h : Holding). Sound h (g.F.Files.seen c.args.files.now)) (sym c.machine.view_is) c.requires.sound in
-    let P : Kept → Type 0 = λ k. Fits (held_by k c.machine.inside.filter c.machine.inside.saved.items) in
+    let P : Kept → Type 0 = λ k. Fits (held_by k c.machine.inside.seat.filter c.machine.inside.seat.saved.items) in
     ok_by _ _ c.refused_line.result
     (λ line ends. record {
       fits = subst P (sym c.in-Err.ensures.unchanged) sound.fits;

@@ -31,20 +31,20 @@ set_codes-requires g c = record {
 pub returns-clause-line : goal.returns-clause-line
 returns-clause-line g c = λ s st.
     let st' = subst (λ (h : Holding). Stands h (g.F.Files.seen c.args.files.now) s) (sym c.machine.view_is) st in
-    let found = c.in-Ok.ensures.found st'.games (games_of s) st'.told (holds c.machine.inside.base st'.games s.base st'.base) in
+    let found = c.in-Ok.ensures.found st'.games (games_of s) st'.told (holds c.machine.inside.base st'.games s.shared.base st'.base) in
     let are = c.as_slice-codes.ensures.value ∙ found in
-    let games = ap (λ (codes : List (Option ℕ)). length codes) are ∙ (length-map (games_of s) (eco_of c.args.table.now) ∙ length-map s.base.games (λ (held : Held). held.game)) in
+    let games = ap (λ (codes : List (Option ℕ)). length codes) are ∙ (length-map (games_of s) (eco_of c.args.table.now) ∙ length-map s.shared.base.games (λ (held : Held). held.game)) in
     c.in_ok-line.ensures.line ∙ ap₂ classified_line (c.found_in.ensures ∙ ap (λ (codes : List (Option ℕ)). count_by is_some codes) are) games
 
 pub returns-clause-stands : goal.returns-clause-stands
 returns-clause-stands g c = λ s st.
     let seen = g.F.Files.seen c.args.files.now in
     let st' = subst (λ (h : Holding). Stands h seen s) (sym c.machine.view_is) st in
-    let found = c.in-Ok.ensures.found st'.games (games_of s) st'.told (holds c.machine.inside.base st'.games s.base st'.base) in
+    let found = c.in-Ok.ensures.found st'.games (games_of s) st'.told (holds c.machine.inside.base st'.games s.shared.base st'.base) in
     let base = c.machine.inside.base in
     let new = c.set_codes.new.base in
-    let filter = c.machine.inside.filter in
-    let saved = c.machine.inside.saved.items in
+    let filter = c.machine.inside.seat.filter in
+    let saved = c.machine.inside.seat.saved.items in
     let coded = subst (λ (codes : List (Option ℕ)). AreCoded codes base new) (c.as_slice-codes.ensures.value) c.set_codes.ensures.coded in
     let here = coded_stands c.args.table.now c.in-Ok.found.items base new filter saved seen s found coded st' in
     subst (λ (x : Seen). Stands (held_by new filter saved) x (classified_by s c.args.table.now)) (sym c.find_codes.ensures.unchanged) here
@@ -57,7 +57,7 @@ returns-clause-sound g c =
     let new = c.set_codes.new.base in
     let coded = subst (λ (codes : List (Option ℕ)). AreCoded codes base new) c.as_slice-codes.ensures.value c.set_codes.ensures.coded in
     record {
-      fits = coded_fits c.in-Ok.found.items base new c.machine.inside.filter c.machine.inside.saved.items coded sound.fits;
+      fits = coded_fits c.in-Ok.found.items base new c.machine.inside.seat.filter c.machine.inside.seat.saved.items coded sound.fits;
       base = c.keeps_sound.ensures.sound;
       at_end = subst (λ (x : Seen). IsEnd new.end x) (sym c.find_codes.ensures.unchanged)
           (subst (λ (end : ℕ). IsEnd end seen) (sym coded.end) sound.at_end);
@@ -81,4 +81,4 @@ returns-in_err-line-clause-asks g c =
 pub returns-in-Err-clause-devices : goal.returns-in-Err-clause-devices
 returns-in-Err-clause-devices g c = λ s st.
     let st' = subst (λ (h : Holding). Stands h (g.F.Files.seen c.args.files.now) s) (sym c.machine.view_is) st in
-    c.in-Err.ensures.devices st'.games (games_of s) st'.told (holds c.machine.inside.base st'.games s.base st'.base)
+    c.in-Err.ensures.devices st'.games (games_of s) st'.told (holds c.machine.inside.base st'.games s.shared.base st'.base)

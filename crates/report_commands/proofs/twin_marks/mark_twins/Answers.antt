@@ -27,7 +27,7 @@ delete_all-requires g c =
 pub returns-clause-line : goal.returns-clause-line
 returns-clause-line g c = λ s st.
     let st' = subst (λ (h : Holding). Stands h (g.F.Files.seen c.args.files.now) s) (sym c.machine.view_is) st in
-    let found = c.in-Ok.ensures.found st'.games (games_of s) st'.told (holds c.machine.inside.base st'.games s.base st'.base) in
+    let found = c.in-Ok.ensures.found st'.games (games_of s) st'.told (holds c.machine.inside.base st'.games s.shared.base st'.base) in
     let are = found_are c.machine.inside.base st'.games s c.in-Ok.found.items c.args.depth st'.base found in
     let size : vec_len c.in-Ok.found ≡ length c.in-Ok.found.items = search rules in
     c.in_ok-line.ensures ∙ ap twins_line (c.len.ensures ∙ (size ∙ ap (λ (games : List ℕ). length games) are))
@@ -36,11 +36,11 @@ pub returns-clause-stands : goal.returns-clause-stands
 returns-clause-stands g c = λ s st.
     let seen = g.F.Files.seen c.args.files.now in
     let st' = subst (λ (h : Holding). Stands h seen s) (sym c.machine.view_is) st in
-    let found = c.in-Ok.ensures.found st'.games (games_of s) st'.told (holds c.machine.inside.base st'.games s.base st'.base) in
+    let found = c.in-Ok.ensures.found st'.games (games_of s) st'.told (holds c.machine.inside.base st'.games s.shared.base st'.base) in
     let base = c.machine.inside.base in
     let new = c.delete_all.new.base in
-    let filter = c.machine.inside.filter in
-    let saved = c.machine.inside.saved.items in
+    let filter = c.machine.inside.seat.filter in
+    let saved = c.machine.inside.seat.saved.items in
     let marked = subst (λ (games : List ℕ). Marked games base new) c.as_slice.ensures.value c.delete_all.ensures.marked in
     let here = deleted_stands c.in-Ok.found.items base new filter saved seen s marked st' in
     subst (λ (x : Seen). Stands (held_by new filter saved) x (with_deleted s (found_twins s c.args.depth))) (sym c.find_twins.ensures.unchanged)
@@ -54,7 +54,7 @@ returns-clause-sound g c =
     let new = c.delete_all.new.base in
     let marked = subst (λ (games : List ℕ). Marked games base new) c.as_slice.ensures.value c.delete_all.ensures.marked in
     record {
-      fits = marked_fits c.in-Ok.found.items base new c.machine.inside.filter c.machine.inside.saved.items marked sound.fits;
+      fits = marked_fits c.in-Ok.found.items base new c.machine.inside.seat.filter c.machine.inside.seat.saved.items marked sound.fits;
       base = c.keeps_sound.ensures.sound;
       at_end = subst (λ (x : Seen). IsEnd new.end x) (sym c.find_twins.ensures.unchanged)
           (subst (λ (end : ℕ). IsEnd end seen) (sym (marked_end c.in-Ok.found.items base new marked)) sound.at_end);
@@ -63,19 +63,19 @@ returns-clause-sound g c =
 pub returns-clause-asks : goal.returns-clause-asks
 returns-clause-asks g c =
     let P : Holding → Type 0 = λ h. Asks h (twins_work c.args.depth) (g.F.Files.asked c.args.files.now) (g.F.Files.asked c.find_twins.new.files) in
-    subst P c.machine.view_is (omega (arith, c.find_twins.ensures.asks, price_is c.machine.inside.base c.machine.inside.filter))
+    subst P c.machine.view_is (omega (arith, c.find_twins.ensures.asks, price_is c.machine.inside.base c.machine.inside.seat.filter))
 
 pub returns-in-Err-clause-asks : goal.returns-in-Err-clause-asks
 returns-in-Err-clause-asks g c =
     let P : Holding → Type 0 = λ h. Asks h (twins_work c.args.depth) (g.F.Files.asked c.args.files.now) (g.F.Files.asked c.find_twins.new.files) in
-    subst P c.machine.view_is (omega (arith, c.find_twins.ensures.asks, price_is c.machine.inside.base c.machine.inside.filter))
+    subst P c.machine.view_is (omega (arith, c.find_twins.ensures.asks, price_is c.machine.inside.base c.machine.inside.seat.filter))
 
 pub returns-in_err-line-clause-asks : goal.returns-in_err-line-clause-asks
 returns-in_err-line-clause-asks g c =
     let P : Holding → Type 0 = λ h. Asks h (twins_work c.args.depth) (g.F.Files.asked c.args.files.now) (g.F.Files.asked c.find_twins.new.files) in
-    subst P c.machine.view_is (omega (arith, c.find_twins.ensures.asks, price_is c.machine.inside.base c.machine.inside.filter))
+    subst P c.machine.view_is (omega (arith, c.find_twins.ensures.asks, price_is c.machine.inside.base c.machine.inside.seat.filter))
 
 pub returns-in-Err-clause-devices : goal.returns-in-Err-clause-devices
 returns-in-Err-clause-devices g c = λ s st.
     let st' = subst (λ (h : Holding). Stands h (g.F.Files.seen c.args.files.now) s) (sym c.machine.view_is) st in
-    c.in-Err.ensures.devices st'.games (games_of s) st'.told (holds c.machine.inside.base st'.games s.base st'.base)
+    c.in-Err.ensures.devices st'.games (games_of s) st'.told (holds c.machine.inside.base st'.games s.shared.base st'.base)
