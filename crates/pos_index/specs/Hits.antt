@@ -83,9 +83,18 @@ pub record Index : Type 0 where
   pub depth : ℕ
   pub rows : List (List Place)
 
+-- The places that an index has of each game, and none where there is no index.
+abbrev pub rows_told : Option Index → List (List Place)
+rows_told None = []
+rows_told (Some index) = index.rows
+
 -- It stands for these games: each number has the places of its game.
 abbrev pub Indexes : Index → List (Option GameTree) → Type 0
 Indexes index games = index.rows ≡ map (row_of index.depth) games
+
+-- The index, if there is one, has the places of these games.
+abbrev pub IndexesAll : Option Index → List GameTree → Type 0
+IndexesAll index list = IfSome index (λ (x : Index). Indexes x (map Some list))
 
 -- So many places at most, each with a legal move or none after it.
 pub record IsRow (most : ℕ) (row : List Place) : Type 0 where

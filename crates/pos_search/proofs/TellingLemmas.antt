@@ -18,7 +18,7 @@ use Rattle.chess_laws.proofs.MovedKings.{Sound-after}
 use Rattle.game_tree.specs.Game.{GameTree}
 use Rattle.game_tree.specs.Legal.{IsLegalGame}
 use Rattle.game_tree.specs.Replay.{next_at, plies_of, position_at}
-use Rattle.pos_index.specs.Hits.{Index, Place, first_on, hits_from, place_at, places_in, places_of, ply_and_next, row_of, same_packed}
+use Rattle.pos_index.specs.Hits.{Index, IndexesAll, Place, first_on, hits_from, place_at, places_in, places_of, ply_and_next, row_of, rows_told, same_packed}
 use Rattle.pos_index.specs.Hits.{IsFrom as IsFromBoard}
 use Rattle.pos_index.specs.declared.hit.Hit.{Hit}
 use Rattle.pos_index.proofs.KeyLemmas.{same_packed-Decides}
@@ -33,21 +33,11 @@ use Rattle.sig_index.proofs.PrefixLemmas.{moves_at}
 use Rattle.sig_index.proofs.Ranges.{find_first, found_first}
 use Rattle.sig_index.proofs.RecordLemmas.{game_legal, game_sound}
 use Rattle.pos_search.specs.Matching.{IsFrom, IsLegalFrom, first_if_aside, first_of, first_on_main, hit_aside, hit_of, hit_on_main, matches, matches_at}
-use Rattle.pos_search.specs.Searching.{IsIndexOf, are_read, hit_told, is_exact, is_read, is_told, ply_of, rows_told}
+use Rattle.pos_search.specs.Searching.{are_read, hit_told, is_exact, is_read, is_told, ply_of}
 use Rattle.pos_search.specs.Telling.{TellsHit, hits_told}
 use Rattle.pos_search.proofs.FirstLemmas.{matches_from}
 use Rattle.pos_search.proofs.MatchLemmas.{matched}
 use Rattle.pos_search.proofs.SearchLemmas.{ply_by}
-
--- A board that is given back has 64 squares.
-pub squares_of : (cells : List ℕ) (men : Men) → men_of cells ≡ men → length men ≡ 64
-unfolding men_of
-squares_of cells men back =
-    ap length (sym back) ∙ length-map (range_with_len 0 64) (λ (s : ℕ). man_of (nibble_at cells s)) ∙ length-range_with_len 0 64
-
-pub if_some : {X P : Type 0} (o : Option X) → P → IfSome o (λ (_ : X). P)
-if_some None p = tt
-if_some (Some x) p = p
 
 -- ---- one place
 
@@ -173,14 +163,14 @@ none_in : (i : ℕ) → places_in [] i ≡ []
 none_in i = refl
 
 -- What an index of the games tells of one of them is its hit.
-pub tells_hit : (told : Option (List ℕ)) (contents : List ℕ) (extents : List Extent) (sigs : List Sig) (list : List GameTree) (i : ℕ) (sig : Sig) (game : GameTree) (index : Option Index) (query : PosQuery)
-    → IfSome index (IsIndexOf told extents sigs) → told ≡ Some contents → Holds contents extents sigs list → slice_get sigs i ≡ Some sig → slice_get list i ≡ Some game
+pub tells_hit : (contents : List ℕ) (extents : List Extent) (sigs : List Sig) (list : List GameTree) (i : ℕ) (sig : Sig) (game : GameTree) (index : Option Index) (query : PosQuery)
+    → IndexesAll index list → Holds contents extents sigs list → slice_get sigs i ≡ Some sig → slice_get list i ≡ Some game
     → length query.board ≡ 64 → TellsHit query (places_in (rows_told index) i) game
-tells_hit told contents extents sigs list i sig game None query is same holds kept there board hit says = absurd (cc)
-tells_hit told contents extents sigs list i sig game (Some index) query is same holds kept there board hit says =
+tells_hit contents extents sigs list i sig game None query is holds kept there board hit says = absurd (cc)
+tells_hit contents extents sigs list i sig game (Some index) query is holds kept there board hit says =
     let held = holds.each i sig game kept there in
     let row : places_in index.rows i ≡ places_of index.depth game =
-    ap (λ (rows : List (List Place)). places_in rows i) (is contents list same holds) ∙ row_at index.depth list i game there in
+    ap (λ (rows : List (List Place)). places_in rows i) is ∙ row_at index.depth list i game there in
     told_hit query index.depth game board (game_sound _ held.tags game held.is_record) (game_legal _ held.tags game held.is_record) hit
     (ap (hit_told query) (sym row) ∙ says)
 
@@ -236,11 +226,6 @@ first_hit query rows hits i first is firsts = elim (cases_Bool (is_exact query.m
       ∙ untold query (places_in rows i) not
 ]
 
-pub ply_told : (query : PosQuery) (rows : List (List Place)) (hits : List Hit) (i : ℕ) (first : Option (ℕ × Option Move)) (ply : Option ℕ) → hits ≡ hits_told query rows
-    → ((board : Packed) (all : List (List Place)) → hits ≡ hits_from board 0 all → first ≡ first_on board (places_in all i)) → ply ≡ ply_of first
-    → ply ≡ ply_of (hit_told query (places_in rows i))
-ply_told query rows hits i first ply is firsts at = at ∙ ap ply_of (first_hit query rows hits i first is firsts)
-
 -- ---- the move after a match
 
 legal_move : (query : PosQuery) (next : Option Move) (m : Move) → length query.board ≡ 64 → next ≡ Some m → IfSome next (IsFromBoard (packed_of query.board query.side))
@@ -257,13 +242,12 @@ legal_move query (Some n) m board is from =
       legal = subst (λ (k : Move). Legal from.position k) same from.legal;
     }
 
-pub legal_told : (query : PosQuery) (board : Packed) (hit : Option (ℕ × Option Move)) → length query.board ≡ 64 → board ≡ packed_of query.board query.side
-    → IfSome hit (λ first. IfSome first.1 (IsFromBoard board)) → IsLegalFrom query hit
-legal_told query board None long is from ply m exact same = absurd (cc)
-legal_told query board (Some hit) long is from ply m exact same =
+pub legal_first : (query : PosQuery) (hit : Option (ℕ × Option Move)) → length query.board ≡ 64
+    → IfSome hit (λ first. IfSome first.1 (IsFromBoard (packed_of query.board query.side))) → IsLegalFrom query hit
+legal_first query None long from ply m exact same = absurd (cc)
+legal_first query (Some hit) long from ply m exact same =
     let pair : hit ≡ (ply, Some m) = cc in
-    legal_move query hit.1 m long (ap (λ (h : ℕ × Option Move). h.1) pair)
-    (subst (λ (b : Packed). IfSome hit.1 (IsFromBoard b)) is from)
+    legal_move query hit.1 m long (ap (λ (h : ℕ × Option Move). h.1) pair) from
 
 -- ---- the price
 

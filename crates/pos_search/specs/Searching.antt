@@ -1,14 +1,12 @@
 -- What an index tells of games, and what a search of all games asks of the games file (this project's own).
-use Rattle.std.specs.Prelude.{◌≡◌, ℕ, ◌&&◌, if◌then◌else◌, is_none, Bool, true, false, List, [], ◌∷◌, Option, None, Some, map, option_map}
+use Rattle.std.specs.Prelude.{ℕ, ◌&&◌, if◌then◌else◌, is_none, Bool, true, false, List, [], ◌∷◌, Option, None, Some, option_map}
 use Rattle.std.specs.List.{find}
 use Rattle.base_files.specs.declared.extent.Extent.{Extent}
 use Rattle.cell_core.specs.Packed.{packed_of}
 use Rattle.cell_core.specs.declared.step.Move.{Move}
 use Rattle.game_filter.specs.Search.{looks_at}
 use Rattle.game_filter.specs.declared.op.Op.{Op}
-use Rattle.game_tree.specs.Game.{GameTree}
-use Rattle.pos_index.specs.Hits.{Index, Indexes, Place, ply_and_next, same_packed}
-use Rattle.sig_index.specs.Games.{Holds}
+use Rattle.pos_index.specs.Hits.{Place, ply_and_next, same_packed}
 use Rattle.sig_index.specs.declared.pos_query.Mode.{Mode}
 use Rattle.sig_index.specs.declared.pos_query.Mode.TheVariants.{Exact, Pawns, Files, Material}
 use Rattle.sig_index.specs.declared.pos_query.PosQuery.{PosQuery}
@@ -33,15 +31,6 @@ is_told query place = is_exact query.mode && same_packed (packed_of query.board 
 -- The hit of a game by the places that an index has of it: the first that is sought. Where there is none, the index does not decide it.
 abbrev pub hit_told : PosQuery → List Place → Option (ℕ × Option Move)
 hit_told query places = option_map ply_and_next (find (is_told query) places)
-
--- The places that an index has of each game, and none where there is no index.
-abbrev pub rows_told : Option Index → List (List Place)
-rows_told None = []
-rows_told (Some index) = index.rows
-
--- The index is one of these games, where the files tell their contents.
-abbrev pub IsIndexOf : Option (List ℕ) → List Extent → List Sig → Index → Type 0
-IsIndexOf told extents sigs index = (games : List ℕ) (list : List GameTree) → told ≡ Some games → Holds games extents sigs list → Indexes index (map Some list)
 
 -- A game has to be read: the index does not decide it, and it can match.
 abbrev pub is_read : PosQuery → List Place → Sig → Bool

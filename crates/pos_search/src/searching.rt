@@ -2,14 +2,14 @@
 ghost use Rattle.std.specs.Prelude.{◌≡◌, ◌≤◌, ◌<◌, ◌+◌, ◌&&◌, ℕ, false, is_none, if◌then◌else◌, List, Option, None, Some, length, option_copied, slice_get, slice_index_or, slice_set, take, IfOk, IfErr, IfSome, OnOk, OnErr};
 ghost use Rattle.game_filter.specs.Search.{entry_after, looks_at, searched};
 ghost use Rattle.game_tree.specs.Game.{GameTree};
-ghost use Rattle.pos_index.specs.Hits.{Place, places_in};
+ghost use Rattle.pos_index.specs.Hits.{Index, IndexesAll, Place, places_in, rows_told};
 ghost use Rattle.sig_index.specs.Costs.{EndsAt, KeepsOthers, LeavesRest, price_by};
 ghost use Rattle.sig_index.specs.Games.{AreWithin, HasFetchCause, Holds, Names, extent_in};
 ghost use Rattle.sig_index.specs.declared.signature.Sig.{Sig};
 ghost use Rattle.pos_search.specs.Matching.{first_of, firsts_of, hit_of, IsLegalFrom};
 ghost use Rattle.pos_search.specs.Passing.{passes};
-ghost use Rattle.pos_search.specs.Searching.{IsIndexOf, are_read, cost_of, is_read, rows_told};
-ghost use Rattle.pos_search.specs.Telling.{TellsHit, hits_told};
+ghost use Rattle.pos_search.specs.Searching.{are_read, cost_of, is_read};
+ghost use Rattle.pos_search.specs.Telling.{AreLegalHits, TellsHit, hits_told};
 
 use crate::matching::Sought;
 use crate::telling::{hit_told, hits_told, ply_told};
@@ -21,8 +21,8 @@ use pos_index::{BoardHits, PosIndex};
 use sig_index::{FetchError, Games, PosQuery};
 
 /// The first ply at which game `i` matches, with the move after it on the main line and none in a variation, or `None` where it never does.
-/// `i` is below the number of games, and `buf` has 131,072 bytes. An index, if there is one, is one of these games. The game's record is read
-/// if it can match and the index does not decide it, and so many bytes count as asked.
+/// `i` is below the number of games, and `buf` has 131,072 bytes. An index, if there is one, is meant to be one of these games. The game's
+/// record is read if it can match and the index does not decide it, and so many bytes count as asked.
 pub fn hit<G: Games, F: Files>(
     games: &G,
     i: u32,
@@ -34,9 +34,8 @@ pub fn hit<G: Games, F: Files>(
     requires game { i < length (G.sigs games.now) }
     requires room { length buf.old ≡ 131072 }
     requires within { AreWithin (F.seen files.old).known (G.extents games.now) }
-    requires index { IfSome (option_copied index) (IsIndexOf (F.seen files.old).games (G.extents games.now) (G.sigs games.now)) }
-    // Over a games file that is told and holds the records of these games.
-    ensures found { (told : List ℕ) (list : List GameTree) (game : GameTree) → (F.seen files.old).games ≡ Some told → Holds told (G.extents games.now) (G.sigs games.now) list → slice_get list i ≡ Some game → IfOk result (λ hit. hit ≡ hit_of q.now game) }
+    // Over a games file that is told and holds the records of these games, with an index of them or none.
+    ensures found { (told : List ℕ) (list : List GameTree) (game : GameTree) → (F.seen files.old).games ≡ Some told → Holds told (G.extents games.now) (G.sigs games.now) list → slice_get list i ≡ Some game → IndexesAll (option_copied index.entry) list → IfOk result (λ hit. hit ≡ hit_of q.now game) }
     ensures legal { IfOk result (λ hit. IsLegalFrom q.now hit) }
     ensures room { length buf.new ≡ 131072 }
     ensures unchanged { F.seen files.new ≡ F.seen files.old }
@@ -45,14 +44,18 @@ pub fn hit<G: Games, F: Files>(
     ensures cause { IfErr result (λ e. HasFetchCause e (G.sigs games.now) (G.extents games.now) (F.seen files.old).games buf.new (F.faults files.old) (F.faults files.new)) }
     ensures own { IfErr result (λ e. Names e i) }
 {
-    if let Some(found) = hit_told(q, index, i) {
-        return Ok(Some(found));
-    }
-    hit_sought(games, i, &Sought::new(q), files, buf)
+    hit_sought(
+        games,
+        i,
+        &Sought::new(q),
+        &mut hits_told(q, index),
+        files,
+        buf,
+    )
 }
 
 /// Leaves in the filter what its entries become by a search of a position. The filter has one entry per game, and `buf` has 131,072 bytes.
-/// An index, if there is one, is one of these games. A game is read where `op` looks at it, it can match and the index does not decide it,
+/// An index, if there is one, is meant to be one of these games. A game is read where `op` looks at it, it can match and the index does not decide it,
 /// and so many bytes count as asked. After an error the games before the refused one have their new entries, and the others the old.
 pub fn search<G: Games, F: Files>(
     games: &G,
@@ -66,10 +69,9 @@ pub fn search<G: Games, F: Files>(
     requires games { length filter.old ≡ length (G.sigs games.now) }
     requires room { length buf.old ≡ 131072 }
     requires within { AreWithin (F.seen files.old).known (G.extents games.now) }
-    requires index { IfSome (option_copied index) (IsIndexOf (F.seen files.old).games (G.extents games.now) (G.sigs games.now)) }
-    // Over a games file that is told and holds the records of these games.
-    ensures found { (told : List ℕ) (list : List GameTree) → (F.seen files.old).games ≡ Some told → Holds told (G.extents games.now) (G.sigs games.now) list → OnOk result (filter.new ≡ searched op (firsts_of q.now list) filter.old) }
-    ensures ended { (told : List ℕ) (list : List GameTree) → (F.seen files.old).games ≡ Some told → Holds told (G.extents games.now) (G.sigs games.now) list → IfErr result (λ e. EndsAt e (λ n. searched op (take n (firsts_of q.now list)) filter.old) filter.old filter.new) }
+    // Over a games file that is told and holds the records of these games, with an index of them or none.
+    ensures found { (told : List ℕ) (list : List GameTree) → (F.seen files.old).games ≡ Some told → Holds told (G.extents games.now) (G.sigs games.now) list → IndexesAll (option_copied index.entry) list → OnOk result (filter.new ≡ searched op (firsts_of q.now list) filter.old) }
+    ensures ended { (told : List ℕ) (list : List GameTree) → (F.seen files.old).games ≡ Some told → Holds told (G.extents games.now) (G.sigs games.now) list → IndexesAll (option_copied index.entry) list → IfErr result (λ e. EndsAt e (λ n. searched op (take n (firsts_of q.now list)) filter.old) filter.old filter.new) }
     ensures rest { IfErr result (λ e. LeavesRest e filter.old filter.new) }
     // Whatever the files hold and however the search ends, a game that `op` does not look at keeps its entry.
     ensures kept { KeepsOthers (looks_at op) filter.old filter.new }
@@ -134,26 +136,32 @@ fn search_game<G: Games, F: Files>(
     }
 }
 
-/// The same as `hit`, of what is sought.
+/// The same as `hit`, of what is sought, with the hits that an index of these games tells of it, if there is one.
 pub fn hit_sought<G: Games, F: Files>(
     games: &G,
     i: u32,
     q: &Sought<'_>,
+    told: &mut BoardHits<'_>,
     files: &mut F,
     buf: &mut [u8],
 ) -> Result<Option<(u32, Option<Move>)>, FetchError>
     requires game { i < length (G.sigs games.now) }
     requires room { length buf.old ≡ 131072 }
     requires within { AreWithin (F.seen files.old).known (G.extents games.now) }
-    ensures found { (told : List ℕ) (list : List GameTree) (game : GameTree) → (F.seen files.old).games ≡ Some told → Holds told (G.extents games.now) (G.sigs games.now) list → slice_get list i ≡ Some game → IfOk result (λ hit. hit ≡ hit_of q.now game) }
-    ensures legal { IfOk result (λ hit. IsLegalFrom q.now hit) }
+    ensures found { (contents : List ℕ) (list : List GameTree) (game : GameTree) (index : Option Index) → (F.seen files.old).games ≡ Some contents → Holds contents (G.extents games.now) (G.sigs games.now) list → slice_get list i ≡ Some game
+        → length q.now.board ≡ 64 → told.old ≡ hits_told q.now (rows_told index) → IndexesAll index list → IfOk result (λ hit. hit ≡ hit_of q.now game) }
+    ensures legal { length q.now.board ≡ 64 → AreLegalHits q.now told.old → IfOk result (λ hit. IsLegalFrom q.now hit) }
+    ensures same { told.new ≡ told.old }
     ensures room { length buf.new ≡ 131072 }
     ensures unchanged { F.seen files.new ≡ F.seen files.old }
-    ensures asks { (sig : Sig) → slice_get (G.sigs games.now) i ≡ Some sig → F.asked files.new ≤ F.asked files.old + (if passes sig q.now then (extent_in (G.extents games.now) i).len else 0) }
+    ensures asks { (sig : Sig) (rows : List (List Place)) → slice_get (G.sigs games.now) i ≡ Some sig → told.old ≡ hits_told q.now rows → F.asked files.new ≤ F.asked files.old + (if is_read q.now (places_in rows i) sig then (extent_in (G.extents games.now) i).len else 0) }
     ensures counts { F.faults files.old ≤ F.faults files.new }
     ensures cause { IfErr result (λ e. HasFetchCause e (G.sigs games.now) (G.extents games.now) (F.seen files.old).games buf.new (F.faults files.old) (F.faults files.new)) }
     ensures own { IfErr result (λ e. Names e i) }
 {
+    if let Some(found) = hit_told(told, i) {
+        return Ok(Some(found));
+    }
     if !q.passes(&games.sig(i)) {
         return Ok(None);
     }

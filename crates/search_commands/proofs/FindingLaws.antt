@@ -9,6 +9,7 @@ use Rattle.command_runs.specs.Endings.{Serves}
 use Rattle.game_filter.specs.Search.{searched}
 use Rattle.game_filter.specs.declared.op.Op.{Op}
 use Rattle.filter_seat.specs.declared.saved.SavedFilter.{SavedFilter}
+use Rattle.pos_index.specs.Hits.{Index}
 use Rattle.search_commands.specs.Searching.{find_after, hits_work, find_work}
 use Rattle.shell_state.proofs.Quietly.{filter_is, held_by, saved_is, seats_are}
 use Rattle.shell_state.specs.Carrying.{AreBeside}
@@ -19,16 +20,17 @@ use Rattle.shell_state.specs.declared.halt.Halt.{Halt}
 use Rattle.shell_state.specs.declared.halt.Halt.TheVariants as halt
 
 -- The search was done: the machine stands for the state with the filter that it left.
-pub searched_stands : (kept : Kept) (filter later : List (Option ℕ)) (saved : List SavedFilter) (seen seen' : Seen) (s : State) (op : Op) (firsts : List (Option ℕ))
-    → Stands (held_by kept filter saved) seen s → seen' ≡ seen → later ≡ searched op firsts filter
-    → Stands (held_by kept later saved) seen' (with_filter s (searched op firsts s.seat.filter))
-searched_stands kept filter later saved seen seen' s op firsts st same found = record {
+pub searched_stands : (kept : Kept) (index : Option Index) (filter later : List (Option ℕ)) (saved : List SavedFilter) (seen seen' : Seen) (s : State) (op : Op) (firsts : List (Option ℕ))
+    → Stands (held_by kept index filter saved) seen s → seen' ≡ seen → later ≡ searched op firsts filter
+    → Stands (held_by kept index later saved) seen' (with_filter s (searched op firsts s.seat.filter))
+searched_stands kept index filter later saved seen seen' s op firsts st same found = record {
   games = st.games;
   told = ap (λ (t : Seen). t.games) same ∙ st.told;
   base = st.base;
   seat = seats_are (record { filter = later; saved = saved }) (record s.seat { filter = searched op firsts s.seat.filter })
       (found ∙ ap (λ (plies : List (Option ℕ)). searched op firsts plies) (filter_is st)) (saved_is st);
   unsaved = st.unsaved;
+  index = st.index;
   carried = subst (λ (x : Seen). AreBeside kept x s.shared.unsaved s.shared.carried) (sym same) st.carried;
 }
 

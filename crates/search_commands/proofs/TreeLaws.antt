@@ -1,31 +1,28 @@
 -- Laws of `tree`.
-use Rattle.std.proofs.Common.{◌≡◌, ℕ, Option, Some, None, refl, ◌+◌, List, [], ◌∷◌, ◌++◌, All, map, option_map, ap, ◌∙◌, Bool, true, false, cond, ◌≤◌, sym, subst, zero, suc, take, append_assoc, append-nil, add-one, length, drop, ap₂}
+use Rattle.std.proofs.Common.{◌≡◌, ℕ, Option, Some, None, refl, ◌+◌, List, [], ◌∷◌, ◌++◌, All, map, option_map, ap, ◌∙◌, Bool, true, false, cond, ◌≤◌, sym, subst, zero, suc, take, append_assoc, append-nil, add-one, length}
 use Rattle.std.proofs.lemmas.List.{take_all}
 use Rattle.std.proofs.lemmas.List.Elements.{All-push, All-same}
 use Rattle.std.proofs.lemmas.Option.{slice_get-map, get_or_from_slice_get, same_Some}
 use Rattle.std.specs.Prelude.{slice_get}
-use Rattle.base_core.proofs.GamesLaws.{heads-are, at-map, extent-at}
+use Rattle.base_core.proofs.GamesLaws.{heads-are}
 use Rattle.base_core.specs.Base.{Held, Base}
-use Rattle.base_core.specs.Entries.{sig_in}
-use Rattle.base_core.specs.Represents.{Kept, Represents, heads_of, extents_of, sigs_of}
+use Rattle.base_core.specs.Represents.{Kept, Represents, heads_of}
 use Rattle.base_files.specs.declared.extent.Extent.{Extent}
 use Rattle.cell_core.specs.declared.man.Colour.{Colour}
 use Rattle.cell_core.specs.declared.man.Colour.TheVariants.{White, Black}
 use Rattle.cell_core.specs.declared.step.Move.{Move}
+use Rattle.game_filter.specs.declared.op.Op.TheVariants.{And}
 use Rattle.game_tree.specs.Head.{without_tags}
 use Rattle.game_tree.specs.declared.head.Head.{Head}
-use Rattle.index_entry.specs.declared.entry.Entry.{Entry}
 use Rattle.pos_search.specs.Matching.{IsLegalFrom, hit_of as found_of}
-use Rattle.pos_search.specs.Passing.{passes}
-use Rattle.sig_index.specs.Games.{head_in, extent_in}
+use Rattle.pos_search.specs.Searching.{cost_of}
+use Rattle.sig_index.specs.Games.{head_in}
 use Rattle.sig_index.specs.declared.pos_query.Mode.TheVariants.{Exact}
 use Rattle.sig_index.specs.declared.pos_query.PosQuery.{PosQuery}
-use Rattle.sig_index.specs.declared.signature.Sig.{Sig}
 use Rattle.tree_rows.specs.Hits.{hit_of}
 use Rattle.tree_rows.specs.MoveText.{IsKey}
 use Rattle.tree_rows.specs.declared.hit.GameHit.{GameHit}
-use Rattle.search_commands.specs.Trees.{hit_of_game, hit_if_in, listed_hit, tree_hits, hit_len, tree_len}
-use Rattle.shell_state.specs.Passing.{len_if}
+use Rattle.search_commands.specs.Trees.{hit_of_game, hit_if_in, listed_hit, tree_hits}
 
 -- The move after an exact match is a key of the tree.
 pub key-from : (query : PosQuery) (ply : ℕ) (next : Option Move) → query.mode ≡ Exact → IsLegalFrom query (Some (ply, next)) → IsKey query.board query.side next
@@ -67,18 +64,9 @@ hit-read kept games base held i query ply next hit is at found counted =
 pub none-read : (held : Held) (query : PosQuery) → None ≡ found_of query held.game → None ≡ hit_of_game query held
 none-read held query found = ap (λ (f : Option (ℕ × Option Move)). option_map (λ (x : ℕ × Option Move). hit_of x.1 query.side held.head) f) found
 
--- What was asked for the hit of one game.
-len-of : (b : Bool) (long other : ℕ) → other ≡ long → (cond b other 0) ≡ len_if b long
-len-of true long other same = same
-len-of false long other same = refl
-
-pub hit-asked : (kept : Kept) (i : ℕ) (e : Entry) (query : PosQuery) (old new : ℕ) → slice_get kept.entries i ≡ Some e
-    → ((sig : Sig) → slice_get (sigs_of kept) i ≡ Some sig → new ≤ old + cond (passes sig query) (extent_in (extents_of kept) i).len 0)
-    → new ≤ old + len_if (passes (sig_in e) query) e.len
-hit-asked kept i e query old new at asks =
-    let here = asks (sig_in e) (at-map sig_in kept.entries i e at) in
-    let P : ℕ → Type 0 = λ n. new ≤ old + n in
-    subst P (len-of (passes (sig_in e) query) e.len (extent_in (extents_of kept) i).len (sym (ap (λ (x : Extent). x.len) (extent-at kept.entries i e at)))) here
+-- What was asked for the hit of one game that is in, and of one that is out.
+pub hit-asked : (ply : Option ℕ) (x : ℕ) (read : Bool) (extent : Extent) (old new : ℕ) → ply ≡ Some x → new ≤ old + cond read extent.len 0 → new ≤ old + cost_of And read extent ply
+hit-asked ply x read extent old new is asks = subst (λ (o : Option ℕ). new ≤ old + cost_of And read extent o) (sym is) asks
 
 -- The hits of the games that are in, one game more.
 more : (query : PosQuery) (i : ℕ) (plies : List (Option ℕ)) (games : List Held) (ply : Option ℕ) (held : Held) → slice_get plies i ≡ Some ply → slice_get games i ≡ Some held
@@ -107,18 +95,3 @@ pub hits-all : (query : PosQuery) (i : ℕ) (plies : List (Option ℕ)) (games :
     → hits ≡ tree_hits query (take i plies) (take i games) → hits ≡ tree_hits query plies games
 hits-all query i plies games hits all every so_far =
     so_far ∙ ap (λ (l : List (Option ℕ)). tree_hits query l (take i games)) (take_all i plies all) ∙ ap (λ (l : List Held). tree_hits query plies l) (take_all i games every)
-
--- The bytes of the records of the games that are left, one game after the other.
-len-suc : (query : PosQuery) (i : ℕ) (plies : List (Option ℕ)) (entries : List Entry) (ply : Option ℕ) (e : Entry) → slice_get plies i ≡ Some ply → slice_get entries i ≡ Some e
-    → tree_len query (drop i plies) (drop i entries) ≡ hit_len query ply e + tree_len query (drop (suc i) plies) (drop (suc i) entries)
-len-suc query i [] entries ply e p x = absurd cc
-len-suc query i (q ∷ plies) [] ply e p x = absurd cc
-len-suc query zero (q ∷ plies) (y ∷ entries) ply e p x =
-    ap₂ (λ (r : Option ℕ) (z : Entry). hit_len query r z + tree_len query plies entries) (same_Some q ply p) (same_Some y e x)
-len-suc query (suc i) (q ∷ plies) (y ∷ entries) ply e p x = len-suc query i plies entries ply e p x
-
-pub len-more : (query : PosQuery) (i : ℕ) (plies : List (Option ℕ)) (entries : List Entry) (ply : Option ℕ) (e : Entry) → slice_get plies i ≡ Some ply → slice_get entries i ≡ Some e
-    → tree_len query (drop i plies) (drop i entries) ≡ hit_len query ply e + tree_len query (drop (i + 1) plies) (drop (i + 1) entries)
-len-more query i plies entries ply e p x =
-    len-suc query i plies entries ply e p x
-    ∙ ap (λ (k : ℕ). hit_len query ply e + tree_len query (drop k plies) (drop k entries)) (sym (add-one i))

@@ -11,7 +11,7 @@ use Rattle.head_search.specs.Matching as head
 use Rattle.mat_search.specs.Matching as material
 use Rattle.mat_search.specs.Passing.{passes as material_passes}
 use Rattle.pos_search.specs.Matching as position
-use Rattle.pos_search.specs.Passing.{passes as position_passes}
+use Rattle.pos_search.specs.Searching.{is_read}
 use Rattle.sig_index.specs.declared.head_query.HeadQuery.{HeadQuery}
 use Rattle.sig_index.specs.declared.mat_query.MatQuery.{MatQuery}
 use Rattle.sig_index.specs.declared.pos_query.Mode.TheVariants.{Exact}
@@ -56,9 +56,9 @@ search_material_after s op query = with_filter s (searched op (material.firsts_o
 abbrev pub search_material_text : State → Op → MatQuery → List ℕ
 search_material_text s op query = filter_line (search_material_after s op query).seat.filter
 
--- The bytes of the records that a search for a position reads, and one for counts of men.
+-- The bytes of the records that a search for a position reads, those that the index does not decide, and one for counts of men.
 abbrev pub position_len : Op → PosQuery → List Look → List (Option ℕ) → ℕ
-position_len op query looks plies = searched_len (λ look. look.len) (λ look. position_passes look.sig query) op plies looks
+position_len op query looks plies = searched_len (λ look. look.len) (λ look. is_read query look.places look.sig) op plies looks
 
 abbrev pub material_len : Op → MatQuery → List Look → List (Option ℕ) → ℕ
 material_len op query looks plies = searched_len (λ look. look.len) (λ look. material_passes look.sig query) op plies looks

@@ -1,31 +1,19 @@
 -- The command that writes the opening tree of the games that are in. This project's own.
-use Rattle.std.specs.Prelude.{ℕ, ◌&&◌, Option, List, option_map, Some, None, [], ◌∷◌, ◌++◌}
+use Rattle.std.specs.Prelude.{ℕ, Option, List, option_map, Some, None, [], ◌∷◌, ◌++◌}
 use Rattle.base_core.specs.Base.{Held}
-use Rattle.base_core.specs.Entries.{sig_in}
 use Rattle.cell_core.specs.Board.{Men}
 use Rattle.cell_core.specs.declared.man.Colour.{Colour}
 use Rattle.cell_core.specs.declared.step.Move.{Move}
-use Rattle.game_filter.specs.Search.{looks_at}
 use Rattle.game_filter.specs.declared.op.Op.TheVariants.{And}
-use Rattle.index_entry.specs.declared.entry.Entry.{Entry}
 use Rattle.pos_search.specs.Matching as position
-use Rattle.pos_search.specs.Passing.{passes}
 use Rattle.sig_index.specs.declared.pos_query.PosQuery.{PosQuery}
 use Rattle.tree_rows.specs.Hits.{hit_of}
 use Rattle.tree_rows.specs.Rows.{rows_of}
 use Rattle.tree_rows.specs.TreeText.{tree_text}
 use Rattle.tree_rows.specs.declared.hit.GameHit.{GameHit}
 use Rattle.search_commands.specs.Searching.{exactly, position_len}
-use Rattle.shell_state.specs.Passing.{len_if, searched_len}
 use Rattle.shell_state.specs.State.{State}
 use Rattle.shell_state.specs.Work.{Work, reading}
-
--- The bytes of the record of a game that a tree counts, which is read where it can meet the position, and of all such games.
-abbrev pub hit_len : PosQuery → Option ℕ → Entry → ℕ
-hit_len query ply e = len_if (looks_at And ply && passes (sig_in e) query) e.len
-
-abbrev pub tree_len : PosQuery → List (Option ℕ) → List Entry → ℕ
-tree_len query plies entries = searched_len (λ e. e.len) (λ e. passes (sig_in e) query) And plies entries
 
 -- What a tree counts of a game: its first match with the move after it, where its main line meets the position.
 abbrev pub hit_of_game : PosQuery → Held → Option GameHit

@@ -1,9 +1,10 @@
 //! The commands that search the games for a position.
-ghost use Rattle.std.specs.Prelude.{◌≡◌, ◌≤◌, ◌+◌, ℕ, List, [], Some, Ok, length, IfErr, OnOk};
+ghost use Rattle.std.specs.Prelude.{◌≡◌, ◌≤◌, ◌+◌, ℕ, List, Some, Ok, length, option_copied, IfErr, OnOk};
 ghost use Rattle.command_runs.specs.Counts.{Causes, counts};
 ghost use Rattle.command_runs.specs.Endings.{Serves};
 ghost use Rattle.game_filter.specs.Search.{searched};
 ghost use Rattle.game_tree.specs.Game.{GameTree};
+ghost use Rattle.pos_index.specs.Hits.{IndexesAll, rows_told};
 ghost use Rattle.pos_search.specs.Matching.{firsts_of};
 ghost use Rattle.pos_search.specs.Searching.{are_read, cost_of};
 ghost use Rattle.sig_index.specs.Costs.{price_by};
@@ -18,6 +19,7 @@ use crate::hit_lines::hits;
 use base_files::{Files, Sink};
 use cell_core::{Board, Colour};
 use game_filter::{Filter, Op};
+use pos_index::PosIndex;
 use pos_search::search;
 use shell_state::{Halt, Machine, write_filter};
 use sig_index::{Games, Mode, PosQuery};
@@ -49,6 +51,7 @@ pub fn find<F: Files, K: Sink>(
         &machine.base,
         &query,
         Op::Ignore,
+        machine.index.as_ref(),
         &mut machine.seat.filter,
         files,
         block,
@@ -79,6 +82,7 @@ pub fn search_position<F: Files, K: Sink>(
         &machine.base,
         query,
         op,
+        machine.index.as_ref(),
         &mut machine.seat.filter,
         files,
         block,
@@ -89,11 +93,13 @@ pub fn search_position<F: Files, K: Sink>(
     write_filter(alloc, &machine.seat.filter, out)
 }
 
-// Leaves in the filter what its entries become by the search. The records of the games that can match are read into `block`.
+// Leaves in the filter what its entries become by the search. The records of the games that can match and that the index does not decide are
+// read into `block`.
 fn search_games<G: Games, F: Files>(
     games: &G,
     query: &PosQuery,
     op: Op,
+    index: Option<&PosIndex>,
     filter: &mut Filter,
     files: &mut F,
     block: &mut [u8],
@@ -101,15 +107,15 @@ fn search_games<G: Games, F: Files>(
     requires room { length block.old ≡ 131072 }
     requires within { AreWithin (F.seen files.old).known (G.extents games.now) }
     requires entries { length filter.old ≡ length (G.sigs games.now) }
-    ensures found { (told : List ℕ) (list : List GameTree) → (F.seen files.old).games ≡ Some told → Holds told (G.extents games.now) (G.sigs games.now) list → OnOk result (filter.new ≡ searched op (firsts_of query.now list) filter.old) }
+    ensures found { (told : List ℕ) (list : List GameTree) → (F.seen files.old).games ≡ Some told → Holds told (G.extents games.now) (G.sigs games.now) list → IndexesAll (option_copied index.entry) list → OnOk result (filter.new ≡ searched op (firsts_of query.now list) filter.old) }
     ensures devices { (told : List ℕ) (list : List GameTree) → (F.seen files.old).games ≡ Some told → Holds told (G.extents games.now) (G.sigs games.now) list → IfErr result IsDevice }
     ensures entries { length filter.new ≡ length filter.old }
     ensures room { length block.new ≡ 131072 }
     ensures unchanged { F.seen files.new ≡ F.seen files.old }
-    ensures asks { F.asked files.new ≤ F.asked files.old + price_by (cost_of op) (are_read query.now [] (G.sigs games.now)) (G.extents games.now) filter.old }
+    ensures asks { F.asked files.new ≤ F.asked files.old + price_by (cost_of op) (are_read query.now (rows_told (option_copied index.entry)) (G.sigs games.now)) (G.extents games.now) filter.old }
     ensures causes { Causes WhyHalt result (counts (F.faults files.old) 0 0) (counts (F.faults files.new) 0 0) }
 {
-    match search(games, query, op, None, filter, files, block) {
+    match search(games, query, op, index, filter, files, block) {
         Ok(()) => Ok(()),
         Err(error) => Err(Halt::from(error)),
     }

@@ -1,19 +1,21 @@
 //! The command that writes the opening tree of the games that are in.
-ghost use Rattle.std.specs.Prelude.{◌≡◌, ◌≤◌, ◌<◌, ◌+◌, ◌++◌, ℕ, List, Some, Ok, All, length, slice_get, IfOk, IfErr, IfSome, OnOk};
+ghost use Rattle.std.specs.Prelude.{◌≡◌, ◌≤◌, ◌<◌, ◌+◌, ◌++◌, ℕ, if◌then◌else◌, List, Option, Some, Ok, All, length, map, option_copied, slice_get, IfOk, IfErr, IfSome, OnOk};
 ghost use Rattle.base_core.specs.Base.{Base as PlainBase, Held};
-ghost use Rattle.base_core.specs.Entries.{sig_in};
-ghost use Rattle.base_core.specs.Represents.{IsSound, Represents, heads_of};
+ghost use Rattle.base_core.specs.Represents.{IsSound, Represents, extents_of, heads_of, sigs_of};
 ghost use Rattle.command_runs.specs.Counts.{Causes, counts};
 ghost use Rattle.command_runs.specs.Endings.{Serves};
-ghost use Rattle.index_entry.specs.declared.entry.Entry.{Entry};
-ghost use Rattle.pos_search.specs.Passing.{passes};
-ghost use Rattle.sig_index.specs.Games.{head_in};
+ghost use Rattle.game_filter.specs.declared.op.Op.TheVariants.{And};
+ghost use Rattle.pos_index.specs.Hits.{Index, IndexesAll, Place, places_in, rows_told};
+ghost use Rattle.pos_search.specs.Searching.{are_read, cost_of, is_read};
+ghost use Rattle.pos_search.specs.Telling.{AreLegalHits, hits_told};
+ghost use Rattle.sig_index.specs.Costs.{price_by};
+ghost use Rattle.sig_index.specs.Games.{extent_in, head_in};
+ghost use Rattle.sig_index.specs.declared.signature.Sig.{Sig};
 ghost use Rattle.sig_index.specs.declared.pos_query.Mode.TheVariants.{Exact};
 ghost use Rattle.tree_rows.specs.Hits.{hit_of};
 ghost use Rattle.tree_rows.specs.MoveText.{IsKey};
-ghost use Rattle.search_commands.specs.Trees.{hit_len, tree_len, hit_if_in, hit_of_game, hits_tree, listed_hit, tree_hits, tree_of, tree_work};
+ghost use Rattle.search_commands.specs.Trees.{hit_if_in, hit_of_game, hits_tree, listed_hit, tree_hits, tree_of, tree_work};
 ghost use Rattle.shell_state.specs.Ends.{IsDevice};
-ghost use Rattle.shell_state.specs.Passing.{len_if};
 ghost use Rattle.shell_state.specs.Stands.{Stands, Sound, Broken, WhyHalt, Asks};
 ghost use Rattle.shell_state.specs.State.{State};
 ghost use Rattle.shell_state.specs.Work.{works};
@@ -22,7 +24,8 @@ use base_core::Base;
 use base_files::{Files, Sink, Stop};
 use cell_core::{Board, Colour, Move};
 use game_filter::Filter;
-use pos_search::{Sought, hit_sought};
+use pos_index::{BoardHits, PosIndex};
+use pos_search::{Sought, hit_sought, hits_told};
 use shell_state::{Halt, Machine, write_line};
 use sig_index::{Games, Mode, PosQuery};
 use std::alloc::{AllocError, Global};
@@ -54,6 +57,7 @@ pub fn tree<F: Files, K: Sink>(
     match read_tree(
         alloc,
         &machine.base,
+        machine.index.as_ref(),
         &machine.seat.filter,
         &query,
         files,
@@ -64,10 +68,11 @@ pub fn tree<F: Files, K: Sink>(
     }
 }
 
-// The text of the tree of a position over the games that are in. Their records are read into `block`.
+// The text of the tree of a position over the games that are in. The records of those that the index does not decide are read into `block`.
 fn read_tree<F: Files>(
     alloc: Global,
     base: &Base,
+    index: Option<&PosIndex>,
     filter: &Filter,
     query: &PosQuery,
     files: &mut F,
@@ -78,14 +83,16 @@ fn read_tree<F: Files>(
     requires sound { IsSound base.now }
     requires room { length block.old ≡ 131072 }
     requires within { base.now.end ≤ (F.seen files.old).known }
-    ensures text { (told : List ℕ) (all : PlainBase) → (F.seen files.old).games ≡ Some told → Represents base.now told all → IfOk result (λ text. text.items ≡ tree_of query.now filter.now all.games) }
+    ensures text { (told : List ℕ) (all : PlainBase) → (F.seen files.old).games ≡ Some told → Represents base.now told all → IndexesAll (option_copied index.entry) (map (λ held. held.game) all.games) → IfOk result (λ text. text.items ≡ tree_of query.now filter.now all.games) }
     ensures devices { (told : List ℕ) (all : PlainBase) → (F.seen files.old).games ≡ Some told → Represents base.now told all → IfErr result IsDevice }
     ensures room { length block.new ≡ 131072 }
     ensures unchanged { F.seen files.new ≡ F.seen files.old }
-    ensures asks { F.asked files.new ≤ F.asked files.old + tree_len query.now filter.now base.now.entries }
+    ensures asks { F.asked files.new ≤ F.asked files.old + price_by (cost_of And) (are_read query.now (rows_told (option_copied index.entry)) (sigs_of base.now)) (extents_of base.now) filter.now }
     ensures causes { Causes WhyHalt result (counts (F.faults files.old) 0 0) (counts (F.faults files.new) 0 0) }
 {
-    let hits = match read_hits(alloc, base, filter, &Sought::new(query), files, block) {
+    let sought = Sought::new(query);
+    let mut told = hits_told(query, index);
+    let hits = match read_hits(alloc, base, filter, &sought, &mut told, files, block) {
         Ok(hits) => hits,
         Err(halt) => return Err(halt),
     };
@@ -107,32 +114,37 @@ fn text_of(alloc: Global, hits: &[GameHit], query: &PosQuery) -> Result<Vec<u8>,
     Ok(text)
 }
 
-// The hits of the games that are in, in their order.
+// The hits of the games that are in, in their order. An index tells `told` of them.
 fn read_hits<F: Files>(
     alloc: Global,
     base: &Base,
     filter: &Filter,
     query: &Sought<'_>,
+    told: &mut BoardHits<'_>,
     files: &mut F,
     block: &mut [u8],
 ) -> Result<Vec<GameHit>, Halt>
     requires exact { query.now.mode ≡ Exact }
+    requires squares { length query.now.board ≡ 64 }
+    requires legal { AreLegalHits query.now told.old }
     requires games { length filter.now ≡ length base.now.entries }
     requires sound { IsSound base.now }
     requires room { length block.old ≡ 131072 }
     requires within { base.now.end ≤ (F.seen files.old).known }
-    ensures hits { (told : List ℕ) (all : PlainBase) → (F.seen files.old).games ≡ Some told → Represents base.now told all → IfOk result (λ hits. hits.items ≡ tree_hits query.now filter.now all.games) }
+    ensures same { told.new ≡ told.old }
+    ensures hits { (contents : List ℕ) (all : PlainBase) (index : Option Index) → (F.seen files.old).games ≡ Some contents → Represents base.now contents all
+        → told.old ≡ hits_told query.now (rows_told index) → IndexesAll index (map (λ held. held.game) all.games) → IfOk result (λ hits. hits.items ≡ tree_hits query.now filter.now all.games) }
     ensures devices { (told : List ℕ) (all : PlainBase) → (F.seen files.old).games ≡ Some told → Represents base.now told all → IfErr result IsDevice }
     ensures few { IfOk result (λ hits. length hits.items ≤ length filter.now) }
     ensures keys { IfOk result (λ hits. All (λ hit. IsKey query.now.board query.now.side hit.next) hits.items) }
     ensures room { length block.new ≡ 131072 }
     ensures unchanged { F.seen files.new ≡ F.seen files.old }
-    ensures asks { F.asked files.new ≤ F.asked files.old + tree_len query.now filter.now base.now.entries }
+    ensures asks { (rows : List (List Place)) → told.old ≡ hits_told query.now rows → F.asked files.new ≤ F.asked files.old + price_by (cost_of And) (are_read query.now rows (sigs_of base.now)) (extents_of base.now) filter.now }
     ensures causes { Causes WhyHalt result (counts (F.faults files.old) 0 0) (counts (F.faults files.new) 0 0) }
 {
     let mut hits = Vec::new(alloc);
     for i in 0..filter.len() {
-        match add_hit(&mut hits, base, i, filter.get(i), query, files, block) {
+        match add_hit(&mut hits, base, i, filter.get(i), query, told, files, block) {
             Ok(()) => {}
             Err(halt) => return Err(halt),
         }
@@ -147,27 +159,32 @@ fn add_hit<F: Files>(
     i: u32,
     ply: Option<u32>,
     query: &Sought<'_>,
+    told: &mut BoardHits<'_>,
     files: &mut F,
     block: &mut [u8],
 ) -> Result<(), Halt>
     requires exact { query.now.mode ≡ Exact }
+    requires squares { length query.now.board ≡ 64 }
+    requires legal { AreLegalHits query.now told.old }
     requires there { i < length base.now.entries }
     requires sound { IsSound base.now }
     requires room { length block.old ≡ 131072 }
     requires within { base.now.end ≤ (F.seen files.old).known }
-    ensures added { (told : List ℕ) (all : PlainBase) (held : Held) → (F.seen files.old).games ≡ Some told → Represents base.now told all → slice_get all.games i ≡ Some held → OnOk result (hits.new.items ≡ hits.old.items ++ listed_hit (hit_if_in query.now ply held)) }
+    ensures same { told.new ≡ told.old }
+    ensures added { (contents : List ℕ) (all : PlainBase) (held : Held) (index : Option Index) → (F.seen files.old).games ≡ Some contents → Represents base.now contents all → slice_get all.games i ≡ Some held
+        → told.old ≡ hits_told query.now (rows_told index) → IndexesAll index (map (λ h. h.game) all.games) → OnOk result (hits.new.items ≡ hits.old.items ++ listed_hit (hit_if_in query.now ply held)) }
     ensures devices { (told : List ℕ) (all : PlainBase) → (F.seen files.old).games ≡ Some told → Represents base.now told all → IfErr result IsDevice }
     ensures few { OnOk result (length hits.new.items ≤ length hits.old.items + 1) }
     ensures keys { All (λ hit. IsKey query.now.board query.now.side hit.next) hits.old.items → OnOk result (All (λ hit. IsKey query.now.board query.now.side hit.next) hits.new.items) }
     ensures room { length block.new ≡ 131072 }
     ensures unchanged { F.seen files.new ≡ F.seen files.old }
-    ensures asks { (e : Entry) → slice_get base.now.entries i ≡ Some e → F.asked files.new ≤ F.asked files.old + hit_len query.now ply e }
+    ensures asks { (sig : Sig) (rows : List (List Place)) → slice_get (sigs_of base.now) i ≡ Some sig → told.old ≡ hits_told query.now rows → F.asked files.new ≤ F.asked files.old + cost_of And (is_read query.now (places_in rows i) sig) (extent_in (extents_of base.now) i) ply }
     ensures causes { Causes WhyHalt result (counts (F.faults files.old) 0 0) (counts (F.faults files.new) 0 0) }
 {
     let Some(_) = ply else {
         return Ok(());
     };
-    let found = match read_hit(base, i, query, files, block) {
+    let found = match read_hit(base, i, query, told, files, block) {
         Ok(Some(found)) => found,
         Ok(None) => return Ok(()),
         Err(halt) => return Err(halt),
@@ -178,28 +195,33 @@ fn add_hit<F: Files>(
     }
 }
 
-// The hit of a game, if it meets the position. Its record is read into `block` if it can.
+// The hit of a game, if it meets the position. Its record is read into `block` if it can and the index does not decide it.
 fn read_hit<F: Files>(
     base: &Base,
     i: u32,
     query: &Sought<'_>,
+    told: &mut BoardHits<'_>,
     files: &mut F,
     block: &mut [u8],
 ) -> Result<Option<GameHit>, Halt>
     requires exact { query.now.mode ≡ Exact }
+    requires squares { length query.now.board ≡ 64 }
+    requires legal { AreLegalHits query.now told.old }
     requires there { i < length base.now.entries }
     requires sound { IsSound base.now }
     requires room { length block.old ≡ 131072 }
     requires within { base.now.end ≤ (F.seen files.old).known }
-    ensures hit { (told : List ℕ) (all : PlainBase) (held : Held) → (F.seen files.old).games ≡ Some told → Represents base.now told all → slice_get all.games i ≡ Some held → IfOk result (λ hit. hit ≡ hit_of_game query.now held) }
+    ensures same { told.new ≡ told.old }
+    ensures hit { (contents : List ℕ) (all : PlainBase) (held : Held) (index : Option Index) → (F.seen files.old).games ≡ Some contents → Represents base.now contents all → slice_get all.games i ≡ Some held
+        → told.old ≡ hits_told query.now (rows_told index) → IndexesAll index (map (λ h. h.game) all.games) → IfOk result (λ hit. hit ≡ hit_of_game query.now held) }
     ensures devices { (told : List ℕ) (all : PlainBase) → (F.seen files.old).games ≡ Some told → Represents base.now told all → IfErr result IsDevice }
     ensures key { IfOk result (λ hit. IfSome hit (λ found. IsKey query.now.board query.now.side found.next)) }
     ensures room { length block.new ≡ 131072 }
     ensures unchanged { F.seen files.new ≡ F.seen files.old }
-    ensures asks { (e : Entry) → slice_get base.now.entries i ≡ Some e → F.asked files.new ≤ F.asked files.old + len_if (passes (sig_in e) query.now) e.len }
+    ensures asks { (sig : Sig) (rows : List (List Place)) → slice_get (sigs_of base.now) i ≡ Some sig → told.old ≡ hits_told query.now rows → F.asked files.new ≤ F.asked files.old + (if is_read query.now (places_in rows i) sig then (extent_in (extents_of base.now) i).len else 0) }
     ensures causes { Causes WhyHalt result (counts (F.faults files.old) 0 0) (counts (F.faults files.new) 0 0) }
 {
-    match hit_sought(base, i, query, files, block) {
+    match hit_sought(base, i, query, told, files, block) {
         Ok(Some((_, next))) => Ok(Some(counted(base, i, next, query.side()))),
         Ok(None) => Ok(None),
         Err(error) => Err(Halt::from(error)),

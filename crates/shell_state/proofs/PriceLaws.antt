@@ -1,75 +1,119 @@
 -- Laws of prices: what a command looks at of what the machine holds is what it looks at of the base.
-use Rattle.std.proofs.Common.{◌≡◌, ◌≤◌, ◌+◌, ◌&&◌, ℕ, zero, suc, Bool, List, [], ◌∷◌, length, map, slice_get, Option, Some, refl, sym, ap, ap₂, ◌∙◌, arith}
+use Rattle.std.proofs.Common.{◌≡◌, ◌≤◌, ◌+◌, ◌&&◌, ℕ, zero, suc, Bool, List, [], ◌∷◌, length, map, slice_get, Option, None, Some, option_map, refl, sym, subst, ap, ap₂, ◌∙◌, arith}
 use Rattle.base_core.proofs.GamesLaws.{heads-are}
-use Rattle.base_core.specs.Base.{Base, Held}
+use Rattle.base_core.specs.Base.{Held}
 use Rattle.base_core.specs.Entries.{head_of, sig_in}
-use Rattle.base_core.specs.Represents.{Keeps, Kept, Represents}
+use Rattle.base_core.specs.Represents.{Keeps}
 use Rattle.base_files.specs.Seen.{Seen}
 use Rattle.game_filter.specs.Search.{looks_at}
 use Rattle.game_filter.specs.declared.op.Op.{Op}
+use Rattle.game_tree.specs.Game.{GameTree}
 use Rattle.game_tree.specs.Head.{without_tags}
 use Rattle.game_tree.specs.declared.head.Head.{Head}
 use Rattle.index_entry.specs.declared.entry.Entry.{Entry}
 use Rattle.name_base.specs.NameLists.{NameLists}
+use Rattle.pos_index.specs.Hits.{Index, IndexesAll, Place, rows_told}
 use Rattle.sig_index.specs.declared.signature.Sig.{Sig}
 use Rattle.shell_state.proofs.PassingLaws.{sig_is}
 use Rattle.shell_state.proofs.Quietly.{filter_is}
 use Rattle.shell_state.specs.Passing.{len_if, sig_of, filtered_len, len_if_in, len_in, searched_len}
-use Rattle.shell_state.specs.Stands.{Holding, Stands, looks_in}
-use Rattle.shell_state.specs.State.{State}
-use Rattle.shell_state.specs.Work.{Look, looks_of, price}
+use Rattle.shell_state.specs.Stands.{Holding, Stands, index_of, look_at, looks_at_all, looks_in}
+use Rattle.shell_state.specs.State.{State, games_of}
+use Rattle.shell_state.specs.Work.{Look, indexed_places, look_of, looks_of}
 
-abbrev pub look_at : NameLists → Entry → Look
-look_at names e = record { len = e.len; sig = sig_in e; head = head_of names e [] }
+-- ---- what is looked at of what is held, and in the state
 
-abbrev pub look_of : Held → Look
-look_of held = record { len = held.len; sig = sig_of held.game; head = without_tags held.head }
+-- The rows of an index of games to a depth; none without one.
+abbrev rows_by : Option ℕ → List Held → List (List Place)
+rows_by depth all = rows_told (option_map (index_of (map (λ (held : Held). held.game) all)) depth)
 
-looks_each : (names : NameLists) (told : List ℕ) (es : List Entry) (all : List Held) → length es ≡ length all
+-- The same of one game.
+one_look : (names : NameLists) (told : List ℕ) (depth : Option ℕ) (e : Entry) (held : Held) → Keeps names told e held → head_of names e [] ≡ without_tags held.head
+    → look_at names (indexed_places depth held.game) e ≡ look_of depth held
+one_look names told depth e held here head =
+    let places : List Place = indexed_places depth held.game in
+    ap (λ (n : ℕ). record { len = n; sig = sig_in e; head = head_of names e []; places = places }) (sym here.says.len)
+    ∙ ap (λ (s : Sig). record { len = held.len; sig = s; head = head_of names e []; places = places }) (sig_is held.game (sig_in e) here.signed)
+    ∙ ap (λ (h : Head). record { len = held.len; sig = sig_of held.game; head = h; places = places }) head
+
+next_look : (names : NameLists) (depth : Option ℕ) (e : Entry) (held : Held) (es : List Entry) (all : List Held)
+    → look_at names (indexed_places depth held.game) e ≡ look_of depth held → looks_at_all names (rows_by depth all) es ≡ map (look_of depth) all
+    → looks_at_all names (rows_by depth (held ∷ all)) (e ∷ es) ≡ look_of depth held ∷ map (look_of depth) all
+next_look names None e held es all same rest = ap₂ (λ (look : Look) (looks : List Look). look ∷ looks) same rest
+next_look names (Some depth) e held es all same rest = ap₂ (λ (look : Look) (looks : List Look). look ∷ looks) same rest
+
+none_looked : (names : NameLists) (rows : List (List Place)) → looks_at_all names rows [] ≡ []
+none_looked names [] = refl
+none_looked names (row ∷ rows) = refl
+
+looks_each : (names : NameLists) (told : List ℕ) (depth : Option ℕ) (es : List Entry) (all : List Held) → length es ≡ length all
     → ((i : ℕ) (e : Entry) (held : Held) → slice_get es i ≡ Some e → slice_get all i ≡ Some held → Keeps names told e held)
     → map (λ (e : Entry). head_of names e []) es ≡ map (λ (held : Held). without_tags held.head) all
-    → map (look_at names) es ≡ map look_of all
-looks_each names told [] [] count each heads = refl
-looks_each names told [] (held ∷ all) count each heads = cc
-looks_each names told (e ∷ es) [] count each heads = cc
-looks_each names told (e ∷ es) (held ∷ all) count each heads =
+    → looks_at_all names (rows_by depth all) es ≡ map (look_of depth) all
+looks_each names told depth [] [] count each heads = none_looked names (rows_by depth [])
+looks_each names told depth [] (held ∷ all) count each heads = cc
+looks_each names told depth (e ∷ es) [] count each heads = cc
+looks_each names told depth (e ∷ es) (held ∷ all) count each heads =
     let count' : length es ≡ length all = cc in
-    let here = each zero e held refl refl in
     let head : head_of names e [] ≡ without_tags held.head = cc in
     let heads' : map (λ (e : Entry). head_of names e []) es ≡ map (λ (held : Held). without_tags held.head) all = cc in
-    let same : look_at names e ≡ look_of held =
-    ap (λ (n : ℕ). record { len = n; sig = sig_in e; head = head_of names e [] }) (sym here.says.len)
-    ∙ ap (λ (s : Sig). record { len = held.len; sig = s; head = head_of names e [] }) (sig_is held.game (sig_in e) here.signed)
-    ∙ ap (λ (h : Head). record { len = held.len; sig = sig_of held.game; head = h }) head in
-    ap₂ (λ (look : Look) (looks : List Look). look ∷ looks) same (looks_each names told es all count' (λ i e' held' there is. each (suc i) e' held' there is) heads')
+    next_look names depth e held es all (one_look names told depth e held (each zero e held refl refl) head)
+    (looks_each names told depth es all count' (λ i e' held' there is. each (suc i) e' held' there is) heads')
 
-pub looks_are : (kept : Kept) (games : List ℕ) (base : Base) → Represents kept games base → looks_in kept ≡ looks_of base
-looks_are kept games base is = looks_each kept.names games kept.entries base.games is.count is.each (heads-are kept games base is)
+looks_are : (holding : Holding) (seen : Seen) (s : State) → Stands holding seen s → looks_in holding ≡ looks_of s.shared
+looks_are holding seen s st =
+    ap (λ (index : Option Index). looks_at_all holding.kept.names (rows_told index) holding.kept.entries) st.index
+    ∙ looks_each holding.kept.names st.games s.shared.index holding.kept.entries s.shared.base.games st.base.count st.base.each (heads-are holding.kept st.games s.shared.base st.base)
+
+-- The index that is held is one of the games of the state.
+indexes_by : (depth : Option ℕ) (games : List GameTree) → IndexesAll (option_map (index_of games) depth) games
+indexes_by None games = tt
+indexes_by (Some depth) games = refl
+
+pub indexes_all : (holding : Holding) (seen : Seen) (s : State) → Stands holding seen s → IndexesAll holding.index (games_of s)
+indexes_all holding seen s st = subst (λ (index : Option Index). IndexesAll index (games_of s)) (sym st.index) (indexes_by s.shared.index (games_of s))
 
 -- The price by what is held is that in the state for which the machine stands.
 pub price_is : (price : List Look → List (Option ℕ) → ℕ) (holding : Holding) (seen : Seen) (s : State) → Stands holding seen s
-    → price (looks_in holding.kept) holding.seat.filter ≡ price (looks_of s.shared.base) s.seat.filter
-price_is price holding seen s st = ap₂ price (looks_are holding.kept st.games s.shared.base st.base) (filter_is st)
+    → price (looks_in holding) holding.seat.filter ≡ price (looks_of s.shared) s.seat.filter
+price_is price holding seen s st = ap₂ price (looks_are holding seen s st) (filter_is st)
 
 pub asked_told : (price : List Look → List (Option ℕ) → ℕ) (holding : Holding) (seen : Seen) (s : State) (old new : ℕ) → Stands holding seen s
-    → new ≤ old + price (looks_in holding.kept) holding.seat.filter → new ≤ old + price (looks_of s.shared.base) s.seat.filter
+    → new ≤ old + price (looks_in holding) holding.seat.filter → new ≤ old + price (looks_of s.shared) s.seat.filter
 asked_told price holding seen s old new st asked = omega (arith, price_is price holding seen s st, asked)
 
--- Lengths of what is looked at.
-pub searched_looks : {A : Type 0} (look : A → Look) (test : Sig → Bool) (op : Op) (plies : List (Option ℕ)) (items : List A)
-    → searched_len (λ (x : A). (look x).len) (λ (x : A). test (look x).sig) op plies items ≡ searched_len (λ (x : Look). x.len) (λ (x : Look). test x.sig) op plies (map look items)
-searched_looks look test op [] items = refl
-searched_looks look test op (ply ∷ plies) [] = refl
-searched_looks look test op (ply ∷ plies) (x ∷ items) =
-    ap (λ (n : ℕ). len_if (looks_at op ply && test (look x).sig) (look x).len + n) (searched_looks look test op plies items)
+-- ---- prices by lengths, signatures and heads alone
 
-pub filtered_looks : {A : Type 0} (look : A → Look) (plies : List (Option ℕ)) (items : List A)
-    → filtered_len (λ (x : A). (look x).len) plies items ≡ filtered_len (λ (x : Look). x.len) plies (map look items)
-filtered_looks look [] items = refl
-filtered_looks look (ply ∷ plies) [] = refl
-filtered_looks look (ply ∷ plies) (x ∷ items) = ap (λ (n : ℕ). len_if_in ply (look x).len + n) (filtered_looks look plies items)
+-- What is looked at by them alone is the same whatever an index has.
+pub by_entries : {X : Type 0} (f : Look → X) (names : NameLists) → ((places : List Place) (e : Entry) → f (look_at names places e) ≡ f (look_at names [] e))
+    → (rows : List (List Place)) (entries : List Entry) → map f (looks_at_all names rows entries) ≡ map (λ (e : Entry). f (look_at names [] e)) entries
+by_entries f names same rows [] = ap (map f) (none_looked names rows)
+by_entries {X} f names same [] (e ∷ entries) = ap (λ (xs : List X). f (look_at names [] e) ∷ xs) (by_entries f names same [] entries)
+by_entries {X} f names same (row ∷ rows) (e ∷ entries) =
+    ap₂ (λ (x : X) (xs : List X). x ∷ xs) (same row e) (by_entries f names same rows entries)
 
-pub len_looks : {A : Type 0} (look : A → Look) (items : List A) (game : ℕ) → len_in (λ (x : A). (look x).len) (slice_get items game) ≡ len_in (λ (x : Look). x.len) (slice_get (map look items) game)
-len_looks look [] game = refl
-len_looks look (x ∷ items) zero = refl
-len_looks look (x ∷ items) (suc game) = len_looks look items game
+-- The game at a place: the length of its record.
+pub len_looks : (names : NameLists) (rows : List (List Place)) (entries : List Entry) (game : ℕ) → len_in (λ (e : Entry). e.len) (slice_get entries game) ≡ len_in (λ (x : Look). x.len) (slice_get (looks_at_all names rows entries) game)
+len_looks names rows [] game = ap (λ (xs : List Look). len_in (λ (x : Look). x.len) (slice_get xs game)) (sym (none_looked names rows))
+len_looks names [] (e ∷ entries) zero = refl
+len_looks names [] (e ∷ entries) (suc game) = len_looks names [] entries game
+len_looks names (row ∷ rows) (e ∷ entries) zero = refl
+len_looks names (row ∷ rows) (e ∷ entries) (suc game) = len_looks names rows entries game
+
+-- The games that are in.
+pub filtered_looks : (plies : List (Option ℕ)) (names : NameLists) (rows : List (List Place)) (entries : List Entry)
+    → filtered_len (λ (e : Entry). e.len) plies entries ≡ filtered_len (λ (x : Look). x.len) plies (looks_at_all names rows entries)
+filtered_looks [] names rows entries = refl
+filtered_looks (ply ∷ plies) names rows [] = ap (filtered_len (λ (x : Look). x.len) (ply ∷ plies)) (sym (none_looked names rows))
+filtered_looks (ply ∷ plies) names [] (e ∷ entries) = ap (λ (n : ℕ). len_if_in ply e.len + n) (filtered_looks plies names [] entries)
+filtered_looks (ply ∷ plies) names (row ∷ rows) (e ∷ entries) = ap (λ (n : ℕ). len_if_in ply e.len + n) (filtered_looks plies names rows entries)
+
+-- Those that a search looks at and that pass a test of signatures.
+pub searched_looks : (test : Sig → Bool) (op : Op) (plies : List (Option ℕ)) (names : NameLists) (rows : List (List Place)) (entries : List Entry)
+    → searched_len (λ (e : Entry). e.len) (λ (e : Entry). test (sig_in e)) op plies entries ≡ searched_len (λ (x : Look). x.len) (λ (x : Look). test x.sig) op plies (looks_at_all names rows entries)
+searched_looks test op [] names rows entries = refl
+searched_looks test op (ply ∷ plies) names rows [] = ap (searched_len (λ (x : Look). x.len) (λ (x : Look). test x.sig) op (ply ∷ plies)) (sym (none_looked names rows))
+searched_looks test op (ply ∷ plies) names [] (e ∷ entries) =
+    ap (λ (n : ℕ). len_if (looks_at op ply && test (sig_in e)) e.len + n) (searched_looks test op plies names [] entries)
+searched_looks test op (ply ∷ plies) names (row ∷ rows) (e ∷ entries) =
+    ap (λ (n : ℕ). len_if (looks_at op ply && test (sig_in e)) e.len + n) (searched_looks test op plies names rows entries)

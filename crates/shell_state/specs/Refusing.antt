@@ -1,5 +1,5 @@
--- Why the record of a game is not placed, and the error line for it. This project's own.
-use Rattle.std.specs.Prelude.{ℕ, List, codes, nat_lt, if◌then◌else◌, Option, Some, option_map, length}
+-- Why a game is not placed, and the error line for it. This project's own.
+use Rattle.std.specs.Prelude.{ℕ, ◌+◌, ◌*◌, Bool, false, None, List, codes, nat_lt, if◌then◌else◌, Option, Some, option_map, length}
 use Rattle.base_core.specs.Base.{Base}
 use Rattle.base_core.specs.Edited.{first_full}
 use Rattle.base_core.specs.Edits.{names_with, end_with}
@@ -21,6 +21,14 @@ full_words Events = codes "full events"
 full_words Sites = codes "full sites"
 full_words Rounds = codes "full rounds"
 full_words File = codes "full file"
+
+-- A position index to this depth, if there is one, has no room for so many games.
+abbrev pub index_is_full : Option ℕ → ℕ → Bool
+index_is_full None games = false
+index_is_full (Some depth) games = nat_lt 16000000 (games * (depth + 1))
+
+abbrev pub full_index_words : List ℕ
+full_index_words = codes "full index"
 
 abbrev pub too_long_line : List ℕ
 too_long_line = error_line too_long_words

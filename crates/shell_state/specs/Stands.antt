@@ -1,6 +1,6 @@
 -- How the machine stands for a plain state, beside the files of its base. This project's own.
 use Rattle.std.specs.Bool.{MatchBool}
-use Rattle.std.specs.Prelude.{ℕ, List, ◌≡◌, Some, length, ⊤, IsTrue, slice_get, [], Bool, false, ◌+◌, map, ◌≤◌}
+use Rattle.std.specs.Prelude.{ℕ, List, ◌≡◌, Option, Some, IfSome, length, ⊤, IsTrue, slice_get, [], ◌∷◌, Bool, false, ◌+◌, map, option_map, ◌≤◌}
 use Rattle.base_core.specs.Base.{Base}
 use Rattle.base_core.specs.Entries.{head_of, sig_in}
 use Rattle.base_core.specs.Means.{Means}
@@ -9,20 +9,32 @@ use Rattle.base_files.specs.Seen.{Seen}
 use Rattle.base_files.specs.declared.faults.Stop.TheVariants as stop
 use Rattle.block_store.specs.Placing.{IsEnd}
 use Rattle.command_runs.specs.Counts.{Counts, Why}
+use Rattle.game_tree.specs.Game.{GameTree}
 use Rattle.index_entry.specs.declared.entry.Entry.{Entry}
+use Rattle.name_base.specs.NameLists.{NameLists}
+use Rattle.pos_index.specs.Hits.{Index, Place, row_of, rows_told}
 use Rattle.filter_seat.specs.Seats.{FitsGames, Seat}
 use Rattle.shell_state.specs.Carrying.{AreBeside, AreEmpty, Contents}
 use Rattle.shell_state.specs.Passing.{len_in}
-use Rattle.shell_state.specs.State.{State, begin}
+use Rattle.shell_state.specs.State.{State, begin, games_of}
 use Rattle.shell_state.specs.Work.{Look, Work, price, Price}
 use Rattle.shell_state.specs.Work.Price.{by_looks, by_state}
 use Rattle.shell_state.specs.declared.halt.Halt.{Halt}
 use Rattle.shell_state.specs.declared.halt.Halt.TheVariants as halt
 
--- What a machine holds: what the open base keeps, and the seat of its user.
+-- What a machine holds: what the open base keeps, the position index, if there is one, and the seat of its user.
 pub record Holding : Type 0 where
   pub kept : Kept
+  pub index : Option Index
   pub seat : Seat
+
+-- The position index of games to a depth.
+abbrev pub index_of : List GameTree → ℕ → Index
+index_of games depth = record { depth = depth; rows = map (row_of depth) (map Some games) }
+
+-- The depth of an index, if there is one.
+abbrev pub depth_of : Option Index → Option ℕ
+depth_of index = option_map (λ (x : Index). x.depth) index
 
 -- The machine stands for this state, where the files are told: for none where they are not.
 pub record Stands (holding : Holding) (seen : Seen) (s : State) : Type 0 where
@@ -31,16 +43,22 @@ pub record Stands (holding : Holding) (seen : Seen) (s : State) : Type 0 where
   pub base : Represents holding.kept games s.shared.base
   pub unsaved : holding.kept.unsaved ≡ s.shared.unsaved
   pub carried : AreBeside holding.kept seen s.shared.unsaved s.shared.carried
+  pub index : holding.index ≡ option_map (index_of (games_of s)) s.shared.index
   pub seat : holding.seat ≡ s.seat
 
 -- Each filter of a machine has an entry for each game.
 abbrev pub Fits : Holding → Type 0
 Fits holding = FitsGames holding.seat (length holding.kept.entries)
 
--- What every machine keeps, whatever the files tell: its filters fit, its base is sound, and the base ends where the games file ends, within
--- its known length.
+-- And its position index, if there is one, has a row for each.
+abbrev pub IndexFits : Holding → Type 0
+IndexFits holding = IfSome holding.index (λ (index : Index). length index.rows ≡ length holding.kept.entries)
+
+-- What every machine keeps, whatever the files tell: its filters and its index fit, its base is sound, and the base ends where the games file
+-- ends, within its known length.
 pub record Sound (holding : Holding) (seen : Seen) : Type 0 where
   pub fits : Fits holding
+  pub index : IndexFits holding
   pub base : IsSound holding.kept
   pub at_end : IsEnd holding.kept.end seen
 
@@ -49,6 +67,7 @@ pub record Quiet (old : Holding) (work : Work) (new : Holding) (line : List ℕ)
   pub stands : (seen : Seen) (s : State) → Stands old seen s → Stands new seen (work.after s)
   pub text : (seen : Seen) (s : State) → Stands old seen s → line ≡ work.text s
   pub fits : Fits new
+  pub index : IndexFits old → IndexFits new
   pub base : IsSound old.kept → IsSound new.kept
   pub end : new.kept.end ≡ old.kept.end
 
@@ -71,12 +90,20 @@ abbrev pub len_at : List Entry → ℕ → ℕ
 len_at entries game = len_in (λ e. e.len) (slice_get entries game)
 
 -- What the price of a command looks at, of what the machine holds.
-abbrev pub looks_in : Kept → List Look
-looks_in kept = map (λ e. record { len = e.len; sig = sig_in e; head = head_of kept.names e [] }) kept.entries
+abbrev pub look_at : NameLists → List Place → Entry → Look
+look_at names places e = record { len = e.len; sig = sig_in e; head = head_of names e []; places = places }
+
+abbrev pub looks_at_all : NameLists → List (List Place) → List Entry → List Look
+looks_at_all names rows [] = []
+looks_at_all names [] (e ∷ entries) = look_at names [] e ∷ looks_at_all names [] entries
+looks_at_all names (row ∷ rows) (e ∷ entries) = look_at names row e ∷ looks_at_all names rows entries
+
+abbrev pub looks_in : Holding → List Look
+looks_in holding = looks_at_all holding.kept.names (rows_told holding.index) holding.kept.entries
 
 -- A command asks no more bytes of the games file than its price by what the machine holds before it.
 abbrev pub AsksBy : Price → Holding → ℕ → ℕ → Type 0
-AsksBy (by_looks price) holding old new = new ≤ old + price (looks_in holding.kept) holding.seat.filter
+AsksBy (by_looks price) holding old new = new ≤ old + price (looks_in holding) holding.seat.filter
 AsksBy (by_state price) holding old new = ⊤
 
 abbrev pub Asks : Holding → Work → ℕ → ℕ → Type 0

@@ -10,15 +10,16 @@ pub record Carried : Type 0 where
   pub sound : Bool
 
 -- What all users of a base share: the base, the one that the files carry (the one that was opened, or saved or compacted last; none where it was
--- created and neither came), and whether changes are unsaved.
+-- created and neither came), whether changes are unsaved, and the depth of the position index, if there is one.
 pub record Shared : Type 0 where
   pub base : Base
   pub carried : Option Carried
   pub unsaved : Bool
+  pub index : Option ℕ
 
 -- The files carry this base, and open so, since it was written as a whole.
-abbrev pub saved_whole : Base → Shared
-saved_whole base = record { base = base; carried = Some (record { base = base; sound = true }); unsaved = false }
+abbrev pub saved_whole : Shared → Base → Shared
+saved_whole shared base = record shared { base = base; carried = Some (record { base = base; sound = true }); unsaved = false }
 
 -- That, and what one of them has of his own.
 pub record State : Type 0 where
@@ -39,10 +40,14 @@ with_filter s plies = with_seat s (record s.seat { filter = plies })
 abbrev pub games_of : State → List GameTree
 games_of s = map (λ held. held.game) s.shared.base.games
 
+-- The same base with a position index to this depth, or without one.
+abbrev pub with_index : State → Option ℕ → State
+with_index s depth = record s { shared = record s.shared { index = depth } }
+
 -- The state in which a script begins over a base that was opened or, in an empty folder, created: every game is in at ply 0, and nothing is
--- kept or unsaved.
+-- kept or unsaved, or indexed.
 abbrev pub begin : Bool → Base → State
 begin created base = record {
-  shared = record { base = base; carried = if created then None else Some (record { base = base; sound = false }); unsaved = false };
+  shared = record { base = base; carried = if created then None else Some (record { base = base; sound = false }); unsaved = false; index = None };
   seat = first_seat (length base.games);
 }

@@ -1,22 +1,34 @@
 -- What a command does, whichever it is. This project's own.
-use Rattle.std.specs.Prelude.{ℕ, Bool, true, false, List, map, Option, None}
-use Rattle.base_core.specs.Base.{Base}
+use Rattle.std.specs.Prelude.{ℕ, Bool, true, false, List, [], map, Option, None, Some}
+use Rattle.base_core.specs.Base.{Base, Held}
 use Rattle.command_runs.specs.Plain.{Plain}
 use Rattle.filter_seat.specs.Seats.{Seat}
+use Rattle.game_tree.specs.Game.{GameTree}
 use Rattle.game_tree.specs.Head.{without_tags}
 use Rattle.game_tree.specs.declared.head.Head.{Head}
+use Rattle.pos_index.specs.Hits.{Place, places_of}
 use Rattle.sig_index.specs.declared.signature.Sig.{Sig}
 use Rattle.shell_state.specs.Passing.{sig_of}
-use Rattle.shell_state.specs.State.{State, with_seat}
+use Rattle.shell_state.specs.State.{Shared, State, with_seat}
 
--- What the price of a command looks at in a game: the length of its record, its signature, and its head.
+-- What the price of a command looks at in a game: the length of its record, its signature, its head, and the places that the position index
+-- has of it.
 pub record Look : Type 0 where
   pub len : ℕ
   pub sig : Sig
   pub head : Head
+  pub places : List Place
 
-abbrev pub looks_of : Base → List Look
-looks_of base = map (λ held. record { len = held.len; sig = sig_of held.game; head = without_tags held.head }) base.games
+-- The places that an index to this depth has of a game; there are none where there is no index.
+abbrev pub indexed_places : Option ℕ → GameTree → List Place
+indexed_places None game = []
+indexed_places (Some depth) game = places_of depth game
+
+abbrev pub look_of : Option ℕ → Held → Look
+look_of depth held = record { len = held.len; sig = sig_of held.game; head = without_tags held.head; places = indexed_places depth held.game }
+
+abbrev pub looks_of : Shared → List Look
+looks_of shared = map (look_of shared.index) shared.base.games
 
 -- How many bytes of the games file a command asks at most: by the games and the filter before it, or by the state behind the games that it
 -- adds first.
@@ -25,7 +37,7 @@ pub data Price : Type 0 where
   by_state : (State → ℕ) → Price
 
 abbrev pub price_by : Price → State → ℕ
-price_by (by_looks price) s = price (looks_of s.shared.base) s.seat.filter
+price_by (by_looks price) s = price (looks_of s.shared) s.seat.filter
 price_by (by_state price) s = price s
 
 -- What a command makes of a state, and the text that it writes; whether it uses the files, may change them, and reads a body; the base that it

@@ -1,7 +1,28 @@
-use Rattle.std.proofs.Common.{sym, ◌∙◌}
+use Rattle.pos_index.specs.Hits.{rows_told}
+use Rattle.std.proofs.Common.{◌≡◌, rules, sym, subst, ◌∙◌, Some}
+use Rattle.sig_index.proofs.ReadLemmas.{some_at}
+use Rattle.pos_search.specs.Matching.{IsLegalFrom}
 use Rattle.pos_search.proofs.SearchLemmas.{unread}
+use Rattle.pos_search.proofs.TellingLemmas.{tells_hit}
 use Rattle.pos_search.proofs.searching.hit_sought.Goals as goal
 
+pub returns-in-Some-clause-found : goal.returns-in-Some-clause-found
+returns-in-Some-clause-found g c = λ contents list game index same holds there squares told is.
+    let extents = g.G.Games.extents c.args.games.now in
+    let sigs = g.G.Games.sigs c.args.games.now in
+    let sig = some_at sigs c.args.i c.requires.game in
+    let found : c.hit_told.result ≡ Some c.in-Some.found = search rules in
+    sym (tells_hit contents extents sigs list c.args.i sig.0 game index c.args.q.now is holds sig.1 there squares c.in-Some.found
+    (sym (c.hit_told.ensures.told c.args.q.now (rows_told index) told) ∙ found))
+
 pub returns-then-not-passes-clause-found : goal.returns-then-not-passes-clause-found
-returns-then-not-passes-clause-found g c = λ told list game same holds there.
-    unread told (g.G.Games.extents c.args.games.now) (g.G.Games.sigs c.args.games.now) list c.args.i c.sig.result game c.args.q.now holds c.sig.ensures.kept there (sym c.passes.ensures.passes ∙ c.if-not-passes.true)
+returns-then-not-passes-clause-found g c = λ contents list game index same holds there squares told is.
+    unread contents (g.G.Games.extents c.args.games.now) (g.G.Games.sigs c.args.games.now) list c.args.i c.sig.result game c.args.q.now holds c.sig.ensures.kept there (sym c.passes.ensures.passes ∙ c.if-not-passes.true)
+
+pub returns-in-Some-clause-legal : goal.returns-in-Some-clause-legal
+returns-in-Some-clause-legal g c = λ squares legal.
+    let found : c.hit_told.result ≡ Some c.in-Some.found = search rules in
+    subst (IsLegalFrom c.args.q.now) found (c.hit_told.ensures.legal c.args.q.now squares legal)
+
+pub returns-clause-found : goal.returns-clause-found
+returns-clause-found g c = λ contents list game index same holds there squares told is. c.hit_read.ensures.found contents list game same holds there

@@ -3,14 +3,14 @@ use Rattle.std.specs.Prelude.{option_copied}
 use Rattle.std.proofs.lemmas.List.{length-set}
 use Rattle.base_files.specs.Seen.{Seen}
 use Rattle.game_filter.specs.Search.{looks_at, searched}
-use Rattle.pos_index.specs.Hits.{places_in}
+use Rattle.pos_index.specs.Hits.{places_in, rows_told}
 use Rattle.sig_index.specs.Games.{extent_in}
 use Rattle.sig_index.specs.declared.pos_query.PosQuery.{PosQuery}
 use Rattle.sig_index.proofs.ReadLemmas.{some_at}
 use Rattle.sig_index.specs.Costs.{price_by}
 use Rattle.sig_index.proofs.CostLemmas.{asked_all, asked_more, kept_more, price_front, price_more, untouched_more}
 use Rattle.pos_search.specs.Matching.{firsts_of}
-use Rattle.pos_search.specs.Searching.{are_read, cost_of, is_read, rows_told}
+use Rattle.pos_search.specs.Searching.{are_read, cost_of, is_read}
 use Rattle.pos_search.proofs.SearchLemmas.{all_searched, game_more}
 use Rattle.pos_search.proofs.TellingLemmas.{read_at, tells_hit}
 use Rattle.pos_search.proofs.searching.search.Goals as goal
@@ -59,13 +59,13 @@ loop-i-preserved g c =
     let at : Option ℕ → ℕ = cost read (extent_in extents i) in
     let entry = c.in-Ok.ensures.entry in
     record {
-      done = λ told list same holds.
+      done = λ told list same holds is.
           let told_now = ap (λ (s : Seen). s.games) c.loop-i.invariant.unchanged ∙ same in
           let in_list : i < length list = omega (arith, holds.count, c.len-i-end.ensures.one_sig_each, c.loop-i-test.true) in
           let game = some_at list i in_list in
-          game_more op q list old c.loop-i.filter c.search_game.new.filter i game.0 (c.loop-i.invariant.done told list same holds) in_list here game.1
+          game_more op q list old c.loop-i.filter c.search_game.new.filter i game.0 (c.loop-i.invariant.done told list same holds is) in_list here game.1
           (c.in-Ok.ensures.joined told list game.0 rows told_now holds game.1 c.loop-i.invariant.told
-          (tells_hit (g.F.Files.seen c.args.files.now).games told extents sigs list i sig.0 game.0 (option_copied c.args.index) q c.requires.index same holds sig.1 game.1 c.new-sought.ensures.squares));
+          (tells_hit told extents sigs list i sig.0 game.0 (option_copied c.args.index) q is holds sig.1 game.1 c.new-sought.ensures.squares));
       rest = untouched_more old c.loop-i.filter c.search_game.new.filter i entry.0 entry.1 c.loop-i.invariant.rest;
       kept = kept_more (looks_at op) old c.loop-i.filter c.search_game.new.filter i entry.0 entry.1 c.search_game.ensures.passed c.loop-i.invariant.rest c.loop-i.invariant.kept;
       told = c.search_game.ensures.same ∙ c.loop-i.invariant.told;
@@ -79,10 +79,29 @@ loop-i-preserved g c =
       counts = omega (arith, c.loop-i.invariant.counts, c.search_game.ensures.counts);
     }
 
+pub returns-in-Err-clause-ended : goal.returns-in-Err-clause-ended
+returns-in-Err-clause-ended g c = λ told list same holds is.
+    let left : c.search_game.new.filter ≡ c.loop-i.filter = c.in-Err.ensures.left in
+    record {
+      game = c.loop-i.i;
+      named = c.in-Err.ensures.own;
+      below = omega (
+        arith,
+        c.requires.games,
+        c.len-i-end.ensures.one_sig_each,
+        c.loop-i-test.true,
+        c.loop-i.invariant.entries,
+        ap (λ (f : List (Option ℕ)). length f) left,
+      );
+      before = left ∙ subst (λ (query : PosQuery). c.loop-i.filter ≡ searched c.args.op (take c.loop-i.i (firsts_of query list)) c.args.filter.now) c.new-sought.ensures.query
+          (c.loop-i.invariant.done told list same holds is);
+      rest = λ k from. ap (λ (f : List (Option ℕ)). get_or f k None) left ∙ c.loop-i.invariant.rest k from;
+    }
+
 pub returns-clause-found : goal.returns-clause-found
-returns-clause-found g c = λ told list same holds.
+returns-clause-found g c = λ told list same holds is.
     subst (λ (query : PosQuery). c.loop-i.filter ≡ searched c.args.op (firsts_of query list) c.args.filter.now) c.new-sought.ensures.query
-    (all_searched c.args.op c.new-sought.result list c.args.filter.now c.loop-i.filter c.loop-i.i (c.loop-i.invariant.done told list same holds)
+    (all_searched c.args.op c.new-sought.result list c.args.filter.now c.loop-i.filter c.loop-i.i (c.loop-i.invariant.done told list same holds is)
     (omega (arith, holds.count, c.len-i-end.ensures.one_sig_each, c.loop-i-test.false)))
 
 pub returns-clause-asks : goal.returns-clause-asks

@@ -5,7 +5,8 @@ use Rattle.game_tree.specs.Game.{GameTree}
 use Rattle.sig_index.specs.Games.{Holds}
 use Rattle.pos_search.specs.Matching.{firsts_of}
 use Rattle.sig_index.specs.Costs.{KeepsOthers, price_by}
-use Rattle.pos_search.specs.Searching.{are_read, cost_of, rows_told}
+use Rattle.pos_index.specs.Hits.{IndexesAll, rows_told}
+use Rattle.pos_search.specs.Searching.{are_read, cost_of}
 use Rattle.pos_search.specs.Telling.{hits_told}
 use Rattle.sig_index.proofs.CostLemmas.{Untouched}
 use Rattle.pos_search.proofs.searching.search.Given as goal
@@ -15,7 +16,7 @@ use Rattle.pos_search.proofs.searching.search.Given as goal
 abbrev pub invariant-loop-i : goal.invariant-loop-i
 invariant-loop-i g l = record {
   done : (told : List ℕ) (list : List GameTree) → (g.F.Files.seen l.fn.files).games ≡ Some told
-      → Holds told (g.G.Games.extents l.games) (g.G.Games.sigs l.games) list → l.filter ≡ searched l.op (take l.i (firsts_of l.sought list)) l.fn.filter;
+      → Holds told (g.G.Games.extents l.games) (g.G.Games.sigs l.games) list → IndexesAll (option_copied l.index) list → l.filter ≡ searched l.op (take l.i (firsts_of l.sought list)) l.fn.filter;
   rest : Untouched l.fn.filter l.filter l.i;
   kept : KeepsOthers (looks_at l.op) l.fn.filter l.filter;
   told : l.told ≡ hits_told l.sought (rows_told (option_copied l.index));

@@ -1,19 +1,27 @@
-use Rattle.std.proofs.Common.{◌≡◌, ◌≤◌, ◌+◌, ℕ, List, Some, All, drop, length, take}
-use Rattle.base_core.specs.Base.{Base}
-use Rattle.base_core.specs.Represents.{Represents}
+use Rattle.std.proofs.Common.{◌≡◌, ◌≤◌, ◌+◌, ℕ, List, Option, Some, All, length, map, take}
+use Rattle.base_core.specs.Base.{Base, Held}
+use Rattle.base_core.specs.Represents.{Represents, extents_of, sigs_of}
+use Rattle.game_filter.specs.declared.op.Op.TheVariants.{And}
+use Rattle.pos_index.specs.Hits.{Index, IndexesAll, Place, rows_told}
+use Rattle.pos_search.specs.Searching.{are_read, cost_of}
+use Rattle.pos_search.specs.Telling.{AreLegalHits, hits_told}
+use Rattle.sig_index.specs.Costs.{price_by}
 use Rattle.tree_rows.specs.MoveText.{IsKey}
 use Rattle.search_commands.proofs.trees.read_hits.Given as goal
-use Rattle.search_commands.specs.Trees.{tree_len, tree_hits}
+use Rattle.search_commands.specs.Trees.{tree_hits}
 
 -- The hits of the games before this one, and no more than their records was asked.
 abbrev pub invariant-loop-i : goal.invariant-loop-i
 invariant-loop-i g l = record {
-  hits : (told : List ℕ) (all : Base) → (g.F.Files.seen l.fn.files).games ≡ Some told → Represents l.base told all
-      → l.hits.items ≡ tree_hits l.query (take l.i l.filter) (take l.i all.games);
+  told : l.told ≡ l.fn.told;
+  legal : AreLegalHits l.query l.told;
+  hits : (contents : List ℕ) (all : Base) (index : Option Index) → (g.F.Files.seen l.fn.files).games ≡ Some contents → Represents l.base contents all
+      → l.fn.told ≡ hits_told l.query (rows_told index) → IndexesAll index (map (λ (held : Held). held.game) all.games) → l.hits.items ≡ tree_hits l.query (take l.i l.filter) (take l.i all.games);
   few : length l.hits.items ≤ l.i;
   keys : All (λ hit. IsKey l.query.board l.query.side hit.next) l.hits.items;
   room : length l.block ≡ 131072;
   seen : g.F.Files.seen l.files ≡ g.F.Files.seen l.fn.files;
-  asks : g.F.Files.asked l.files + tree_len l.query (drop l.i l.filter) (drop l.i l.base.entries) ≤ g.F.Files.asked l.fn.files + tree_len l.query l.filter l.base.entries;
+  asks : (rows : List (List Place)) → l.fn.told ≡ hits_told l.query rows
+      → g.F.Files.asked l.files ≤ g.F.Files.asked l.fn.files + price_by (cost_of And) (take l.i (are_read l.query rows (sigs_of l.base))) (extents_of l.base) l.filter;
   files : g.F.Files.faults l.fn.files ≤ g.F.Files.faults l.files;
 }
