@@ -290,7 +290,7 @@ fn is_remark(line: &[u8]) -> bool
 }
 
 /// The command that a line of a script says. The line stands without its line feed. A mark's bit is below 18, a tag's
-/// edit is within the bounds of heads, and a streak has at least one ply.
+/// edit is within the bounds of heads, a streak has at least one ply, and an index is at most 40 plies deep.
 ///
 /// # Errors
 ///
