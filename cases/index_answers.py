@@ -1,6 +1,7 @@
 #!/usr/bin/env python3
 """Runs scid_shell twice over the same edits and the same searches behind each of them, with position indexes and without one: the texts have to
-be the same but for what they tell of the index.
+be the same but for what they tell of the index. And writes the games file over behind edits under an index: what it decides is still found, in games
+that came in, took the place of another or got a new number.
 
 usage: cases/index_answers.py [PROGRAM]
 
@@ -50,6 +51,17 @@ EDITS = [
     "delete 0\ndelete 1\ndelete 2\ndelete 3\ncompact\n",
     f"import <<END\n{VIENNA[1]}\n\n{PAWNS}\nEND\n",
 ]
+
+
+# Edits behind which every game meets the start. What demo searches stays in memory, but for a compaction.
+GAMES = "import <<END\n1. e4 e5 *\n\n1. d4 *\n\n1. Nf3 Nf6 2. Ng1 Ng8 *\nEND\n"
+MET = [
+    GAMES,
+    f"{GAMES}replace 0 <<END\n1. c4 *\nEND\nreplace 2 <<END\n*\nEND\n",
+    f"{GAMES}delete 0\ncompact\n",
+    f"{GAMES}delete 1\ndemo 3 3\ncompact\nimport <<END\n1. e4 *\nEND\n",
+]
+CHANGED_GAME = 6
 
 
 def board_after(moves):
@@ -118,7 +130,36 @@ def compare(indexes, wanted):
         fail(f"{indexes}: {len(got)} lines, and {len(wanted)} without an index")
 
 
+def found_behind(first):
+    """Status and text of searches for the start, where the games file is written over behind the first lines."""
+    lines = f"find {SOUGHT[0]}\ntree {SOUGHT[0]}\nsearch and position exact {SOUGHT[0]} vars\n"
+    with tempfile.TemporaryDirectory() as folder:
+        streams = dict(stdin=subprocess.PIPE, stdout=subprocess.PIPE, stderr=subprocess.PIPE, text=True)
+        session = subprocess.Popen([PROGRAM, "--create", "base"], cwd=folder, **streams)
+        session.stdin.write(f"{first}info\n")
+        session.stdin.flush()
+        while (line := session.stdout.readline()) and not line.startswith("games "):
+            pass
+        games = Path(folder, "base.sg4")
+        with games.open("r+b") as file:
+            file.write(games.stat().st_size * b"\xce")
+        text = session.communicate(lines, timeout=60)[0]
+    with tempfile.TemporaryDirectory() as folder:
+        sound = subprocess.run([PROGRAM, "--create", "base"], cwd=folder, input=first + lines, capture_output=True, text=True, timeout=60)
+    return session.returncode, sound.stdout.endswith(text)
+
+
+def unread():
+    for edits in MET:
+        if (got := found_behind("index 0\n" + edits)) != (0, True):
+            fail(f"behind {edits!r} an index decides too little: {got}")
+        if (got := found_behind("index 0\n" + edits + "index off\n")[0]) != CHANGED_GAME:
+            fail(f"behind {edits!r} no game was read without an index: {got}")
+
+
 def main():
+    unread()
+    print("unread: ok")
     wanted, _ = run(script({}))
     last = len(EDITS)
     for depth in (0, 1, 2, 5, 20, 40):
