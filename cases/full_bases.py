@@ -7,7 +7,8 @@ usage: cases/full_bases.py [PROGRAM]
 The bases are too large to be kept as cases: each is the Vienna game (make_bases.py) beside as many names of one kind as leave room for one
 more, or in a games file that has room for one more record; or one game without moves as often as leaves room for one more game. And one is
 a game of the longest record as often as a games file has no room for, all of one record, so that it can't be compacted. Of an event in
-which 200 names play there is a crosstable, of one with 201 there is none.
+which 200 names play there is a crosstable, of one with 201 there is none. An index of depth 40 has room for 390,243 games: one more is
+refused while it is kept, and is added under an index of a smaller depth; then one of depth 40 is refused.
 """
 import os
 import pathlib
@@ -20,6 +21,7 @@ from make_bases import HERE, VIENNA, VIENNA_RECORD, entry, game, index
 LONGEST_FILE = 4_294_967_295
 MOST_GAMES = 16_777_214
 BLOCKS = 32_768
+MOST_INDEXED = 16_000_000 // 41
 LONGEST_RECORD = 131_071
 LIMITS = {"players": 1_048_576, "events": 524_288, "sites": 524_288, "rounds": 262_144}
 TAGS = {"players": "White", "events": "Event", "sites": "Site", "rounds": "Round"}
@@ -79,6 +81,33 @@ def full_games(program):
     return run(program, parts, len(record), script + "quit\n", MOST_GAMES - 2)
 
 
+def full_index(program):
+    """One game without moves, as often as an index of depth 40 has room for. A game that takes the place of another needs no room."""
+    record = game(b"")
+    header = index([])[:14] + MOST_INDEXED.to_bytes(3, "big") + index([])[17:]
+    parts = {".si4": header + entry(0, len(record)), ".sn4": names_file([1, 1, 1, 1]), ".sg4": record}
+    searches = "".join(f"search ignore position exact {board}\n" for board in (
+        "rnbqkbnr/pppppppp/8/8/8/8/PPPPPPPP/RNBQKBNR w", "rnbqkbnr/pppppppp/8/8/4P3/8/PPPP1PPP/RNBQKBNR b"))
+    added = "import <<END\n1. e4 *\n\n1. e4 e4 *\nEND\n"
+    replaced = f"replace {MOST_INDEXED} <<END\n*\nEND\nreplace 7 <<END\n1. e4 *\n\n*\nEND\nreplace 7 <<END\n1. e4 *\nEND\n"
+    script = f"index 40\n{added}demo 1 1\n{replaced}{searches}index 39\n{added}{searches}index 40\ninfo\nindex off\n{searches}index 40\ninfo\n"
+    return run(program, parts, len(record), script + "quit\n", MOST_INDEXED - 1)
+
+
+def text_of_full_index():
+    """`1. e4 e4` is no game, which is looked at before what an index has room for."""
+    faulty = "error: game 2 line 3 column 7: no legal move\n"
+    most = MOST_INDEXED
+    told = f"games {most + 1} deleted 0 players 2 events 2 sites 2 rounds 2 unsaved yes index"
+    return (
+        f"index 40 {most} entries\nerror: game 1: full index\n{faulty}imported 0 refused 2\nerror: full index\n"
+        f"error: no game {most}\nerror: one game expected\nreplaced 7\nfilter {most} of {most}\nfilter 1 of {most}\n"
+        f"index 39 {most + 1} entries\nadded {most}\n{faulty}imported 1 refused 1\nfilter {most + 1} of {most + 1}\nfilter 2 of {most + 1}\n"
+        f"error: index too big\n{told} 39\nindex off\nfilter {most + 1} of {most + 1}\nfilter 2 of {most + 1}\n"
+        f"error: index too big\n{told} off\nunsaved\n"
+    )
+
+
 def full_new_file(program):
     record = game(b"\x0c", (b"x" * (LONGEST_RECORD - 5),))
     header = index([])[:14] + (BLOCKS + 1).to_bytes(3, "big") + index([])[17:]
@@ -118,6 +147,9 @@ def main():
     wanted = f"added {MOST_GAMES - 1}\nerror: game 2: full games\nimported 1 refused 1\nunsaved\n"
     failed += (text := full_games(program)) != wanted
     print(f"full games: {text!r}" if text != wanted else "full games: as it should be")
+    wanted = text_of_full_index()
+    failed += (text := full_index(program)) != wanted
+    print(f"full index: {text!r}" if text != wanted else "full index: as it should be")
     wanted = f"error: full file\nfilter {BLOCKS + 1} of {BLOCKS + 1}\n"
     failed += (text := full_new_file(program)) != wanted
     print(f"full new file: {text!r}" if text != wanted else "full new file: as it should be")

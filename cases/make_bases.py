@@ -352,12 +352,30 @@ def opening_codes():
     write("eco_classifies", "base", b"", b"", records + spanish, "after")
 
 
+def indexes():
+    """The bases of the cases of a position index, in which they leave nothing behind."""
+    write("index", "pawns", index(PAWNS), PAWNS_NAMES, PAWNS_RECORDS)
+    write("index_of_no_games", "base", index([]), b"Scid.sn\0" + bytes(28), b"", "after")
+    # What a compaction left, and behind it a game of draws and one that took the place of another.
+    write("index_follows_edits", "pawns", index(PAWNS), PAWNS_NAMES, PAWNS_RECORDS)
+    own = game(b"\x1f\x01\x11", start=b"4k3/8/8/8/8/8/4P3/4K3 w - - 0 1")
+    entries, records = all_of([
+        (game(D4), dict(ids=(0, 0, 0, 0, 0), eco=1 + 1310 * 4, plies=1, home=(12,))),
+        (game(E4 + D5), dict(ids=(1, 0, 0, 0, 0), flags=0x10, plies=2, home=(11, 4))),
+        (own, dict(ids=(0, 0, 0, 0, 0), flags=1, final=((0, 0, 0, 0, 1), (0, 0, 0, 0, 0)), plies=3)),
+    ])
+    names = names_file([("?", 5), ("C", 1)], [("?", 3)], [("?", 3)], [("?", 3)])
+    drawn = (HERE / "demo_of_one_game" / "after" / "base.sg4").read_bytes()
+    write("index_follows_edits", "pawns", index(entries), names, records + drawn + game(E4), "after")
+
+
 def main():
     edits()
     imports()
     compactions()
     twins_and_crosstables()
     opening_codes()
+    indexes()
     for case in ("filters_by_number", "find_in_both_orders", "search_header_among_filters", "search_material_by_signatures",
                  "search_position", "search_position_in_each_mode", "tree_in_both_orders"):
         write(case, "pawns", index(PAWNS), PAWNS_NAMES, PAWNS_RECORDS)

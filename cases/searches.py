@@ -1,6 +1,6 @@
 #!/usr/bin/env python3
 """Runs scid_shell over bases with one game, beside what was worked out by hand of it: the signature that its entry has to have, the ply at
-which a position is found on its main line or in a variation, and which searches read its record at all.
+which a position is found on its main line or in a variation, and which searches read its record at all, without a position index and with one.
 
 usage: cases/searches.py [PROGRAM]
 
@@ -130,6 +130,40 @@ READ = [
     (NESTED, f"position exact {WITH_A_KNIGHT} vars", True),
 ]
 
+START = "rnbqkbnr/pppppppp/8/8/8/8/PPPPPPPP/RNBQKBNR w"
+BLACK_MOVED = "rnbqkbnr/ppp1pppp/8/3p4/4P3/8/PPPP1PPP/RNBQKBNR w"
+BEHIND = "rnbqkbnr/ppp1pppp/8/3p4/3PP3/8/PPP2PPP/RNBQKBNR b"
+KNIGHT_OUT = "rnbqkbnr/pppppppp/8/8/8/5N2/PPPPPPPP/RNBQKB1R b"
+
+# A record, an index, lines behind it, and whether one of them reads the record: 1. e4 d5 2. d4 and, met twice, 1. Nf3 Nf6 2. Ng1 Ng8.
+READ_UNDER_INDEX = [
+    (record_of(OPENING), "index 2", f"find {START}", False),
+    (record_of(OPENING), "index 2", f"find {BLACK_MOVED}", False),
+    (record_of(OPENING), "index 2", f"search ignore position exact {BLACK_MOVED} vars", False),
+    (record_of(OPENING), "index 2", f"search and position exact {BLACK_MOVED}", False),
+    (record_of(OPENING), "index 2", f"tree {BLACK_MOVED}", False),
+    (record_of(OPENING), "index 0", f"find {START}", False),
+    (record_of(OPENING), "index 40", f"find {BEHIND}", False),
+    (knights(4), "index 0", f"find {START}", False),
+    (NESTED, "index 40", f"search ignore position exact {START} vars", False),
+    # Behind the depth, nowhere on the main line, and in other modes it tells nothing.
+    (record_of(OPENING), "index 2", f"find {BEHIND}", True),
+    (record_of(OPENING), "index 0", f"find {BLACK_MOVED}", True),
+    (record_of(OPENING), "index 2", f"tree {BEHIND}", True),
+    (record_of(OPENING), "index 40", f"find {KNIGHT_OUT}", True),
+    (record_of(OPENING), "index 2", f"search ignore position pawns {START}", True),
+    (record_of(OPENING), "index 2", f"search ignore position files {START}", True),
+    (record_of(OPENING), "index 2", f"search ignore position material {START}", True),
+    (record_of(OPENING), "index 2", "search ignore material wp=0..16", True),
+    (record_of(OPENING), "index 2", "show 0", True),
+    # What is deleted and marked is still decided; what is dropped decides nothing, and no error drops it.
+    (record_of(OPENING), "index 2", f"delete 0\nmark 0 W on\nfind {BLACK_MOVED}", False),
+    (record_of(OPENING), "index 2", f"index 41\nindex\nindex off 2\nfind {BLACK_MOVED}", False),
+    (record_of(OPENING), "index 2", f"index off\nfind {BLACK_MOVED}", True),
+    # It is built anew from the records.
+    (record_of(OPENING), "index 2", "index 2", True),
+]
+
 
 def fen(board):
     text = "/".join(board[8 * rank:8 * rank + 8] for rank in range(7, -1, -1))
@@ -173,29 +207,31 @@ def positions():
             fail(f"{search} of {record}: {got}, and not {wanted}")
 
 
-def is_read(record, search):
-    """Whether a search reads a record. Behind it stands a game in the next block of the games file, which the opening reads last."""
+def is_read(record, first, lines):
+    """Whether lines read a record that was written over behind the first. Behind it stands a game in the next block of the games file, which
+    the opening reads last, and so does an index."""
     with tempfile.TemporaryDirectory() as folder:
         other = record_of("a2a3")
         write(folder, [made.entry(0, len(record)), made.entry(131_072, len(other))], record.ljust(131_072, b"\x00") + other)
         session = subprocess.Popen([PROGRAM, "base"], cwd=folder, stdin=subprocess.PIPE, stdout=subprocess.PIPE, stderr=subprocess.PIPE, text=True)
-        session.stdin.write("info\n")
+        session.stdin.write(f"{first}\n")
         session.stdin.flush()
         if not session.stdout.readline().startswith("base 2 games "):
             fail(f"no base of {record}")
         session.stdout.readline()
         with Path(folder, "base.sg4").open("r+b") as file:
             file.write(len(record) * b"\xce")
-        errors = session.communicate(f"search ignore {search}\n", timeout=60)[1]
+        errors = session.communicate(f"{lines}\n", timeout=60)[1]
     if (session.returncode, errors) not in ((0, ""), (CHANGED_GAME, "changed game 0\n")):
-        fail(f"{search} of {record} ended with {session.returncode}: {errors}")
+        fail(f"{lines} of {record} ended with {session.returncode}: {errors}")
     return session.returncode != 0
 
 
 def reading():
-    for record, search, wanted in READ:
-        if is_read(record, search) != wanted:
-            fail(f"{search} {'does not read' if wanted else 'reads'} {record}")
+    searches = [(record, "info", f"search ignore {search}", wanted) for record, search, wanted in READ]
+    for record, first, lines, wanted in searches + READ_UNDER_INDEX:
+        if is_read(record, first, lines) != wanted:
+            fail(f"{first}, {lines} {'does not read' if wanted else 'reads'} {record}")
 
 
 def main():

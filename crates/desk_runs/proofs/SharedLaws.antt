@@ -24,7 +24,7 @@ use Rattle.pgn_read.specs.declared.item.Item.TheVariants.{Good, Bad}
 use Rattle.report_commands.specs.Classifying.{state_by}
 use Rattle.report_commands.specs.Twins.{with_deleted, found_twins}
 use Rattle.script_text.specs.declared.command.Command.{Command}
-use Rattle.script_text.specs.declared.command.Command.TheVariants.{Nothing, Find, SearchPosition, SearchMaterial, SearchHeader, Reset, Clear, Negate, Restrict, Keep, Take, And, Or, Drop, Hits, List as Listing, Show, Export, Import, Replace, Eco, Tag, Delete, Undelete, Mark, Tree, Cross, Twins, Save, Info, Demo, Quit, Compact}
+use Rattle.script_text.specs.declared.command.Command.TheVariants.{Nothing, Find, SearchPosition, SearchMaterial, SearchHeader, Reset, Clear, Negate, Restrict, Keep, Take, And, Or, Drop, Hits, List as Listing, Show, Export, Import, Replace, Eco, Tag, Delete, Undelete, Mark, Tree, Cross, Twins, Index, Save, Info, Demo, Quit, Compact}
 use Rattle.script_text.specs.declared.fault.ScriptFault.{ScriptFault}
 use Rattle.shell_commands.specs.Tasks.{order_work}
 use Rattle.shell_state.specs.Refusing.{refusal_of}
@@ -68,6 +68,7 @@ private-keeps (Ok (Mark game bit on)) body h seat e = absurd cc
 private-keeps (Ok (Tree board side)) body h seat e = refl
 private-keeps (Ok (Cross event)) body h seat e = refl
 private-keeps (Ok (Twins depth)) body h seat e = absurd cc
+private-keeps (Ok (Index depth)) body h seat e = absurd cc
 private-keeps (Ok Save) body h seat e = absurd cc
 private-keeps (Ok Info) body h seat e = refl
 private-keeps (Ok (Demo seed games)) body h seat e = absurd cc

@@ -1,5 +1,6 @@
 -- Numbers and spans of numbers (this project's own).
-use Rattle.std.specs.Prelude.{ℕ, ◌==◌, nat_le, if◌then◌else◌, List, [], ◌∷◌, Option, Some, None, option_map, option_and_then}
+use Rattle.std.specs.Prelude.{ℕ, ◌==◌, nat_le, if◌then◌else◌, List, [], ◌∷◌, Option, Some, None, option_map, option_and_then, codes}
+use Rattle.std.specs.Str.{bytes_eq}
 use Rattle.game_tree.specs.Decimal.{decimal_read}
 use Rattle.game_tree.specs.Eco.{eco_read}
 use Rattle.sig_index.specs.declared.span.Span.{Span}
@@ -15,6 +16,10 @@ demo_games word = decimal_read 100000 word
 -- D of twins: how many plies are compared, at most 131,071.
 abbrev pub twin_depth : List ℕ → Option ℕ
 twin_depth word = decimal_read 131071 word
+
+-- D of index: how many plies it holds of each game, at most 40, or off.
+abbrev pub index_depth : List ℕ → Option (Option ℕ)
+index_depth word = if bytes_eq word (codes "off") then Some None else option_map Some (decimal_read 40 word)
 
 -- What stands before the first such byte, and what stands behind it.
 abbrev pub with_byte : ℕ → List ℕ × List ℕ → List ℕ × List ℕ

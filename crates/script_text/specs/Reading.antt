@@ -6,14 +6,14 @@ use Rattle.chess_text.specs.Filling.{board_named}
 use Rattle.game_filter.specs.declared.op.Op.{Op}
 use Rattle.sig_index.specs.Queries.{any_head, any_material}
 use Rattle.script_text.specs.declared.command.Command.{Command}
-use Rattle.script_text.specs.declared.command.Command.TheVariants.{Nothing, Find, SearchPosition, SearchMaterial, SearchHeader, Reset, Clear, Negate, Restrict, Keep, Take, And, Or, Drop, Hits, List as Listing, Show, Export, Import, Replace, Eco, Tag, Delete, Undelete, Mark, Tree, Cross, Twins, Save, Compact, Info, Demo, Quit}
+use Rattle.script_text.specs.declared.command.Command.TheVariants.{Nothing, Find, SearchPosition, SearchMaterial, SearchHeader, Reset, Clear, Negate, Restrict, Keep, Take, And, Or, Drop, Hits, List as Listing, Show, Export, Import, Replace, Eco, Tag, Delete, Undelete, Mark, Tree, Cross, Twins, Index, Save, Compact, Info, Demo, Quit}
 use Rattle.script_text.specs.declared.fault.ScriptFault.{ScriptFault}
 use Rattle.script_text.specs.declared.fault.ScriptFault.TheVariants.{TooLong, Unknown}
 use Rattle.script_text.specs.declared.forms.SearchKind.{SearchKind}
 use Rattle.script_text.specs.declared.forms.SearchKind.TheVariants as kind
 use Rattle.script_text.specs.Words.{Word, words_of}
 use Rattle.script_text.specs.Forms.{side, op, search_kind, mode, switch, vars, mark_bit, filter_name, name_text, body_end}
-use Rattle.script_text.specs.Numbers.{number, demo_games, twin_depth}
+use Rattle.script_text.specs.Numbers.{number, demo_games, twin_depth, index_depth}
 use Rattle.script_text.specs.Arguments.{◌>>=◌, text_at, argument, no_more, one, two, three}
 use Rattle.script_text.specs.Items.{items}
 use Rattle.script_text.specs.HeadItems.{head_item}
@@ -72,6 +72,7 @@ tag words = do
 unfoldable pub ending : List ℕ → List Word → Result Command ScriptFault
 ending name words =
     if bytes_eq name (codes "twins") then made Twins (one twin_depth words)
+    else if bytes_eq name (codes "index") then made Index (one index_depth words)
     else if bytes_eq name (codes "save") then made (λ _. Save) (no_more 0 words)
     else if bytes_eq name (codes "compact") then made (λ _. Compact) (no_more 0 words)
     else if bytes_eq name (codes "demo") then made (λ given. Demo given.0 given.1) (two number demo_games words)

@@ -1,11 +1,11 @@
 -- The bounds of what a command holds (this project's own).
-use Rattle.std.specs.Prelude.{◌<◌, ◌≤◌, length, IfSome, Result, IfOk}
+use Rattle.std.specs.Prelude.{◌<◌, ◌≤◌, ℕ, length, Option, IfSome, Result, IfOk}
 use Rattle.game_tree.specs.TagEdit.{IsEdit}
 use Rattle.sig_index.specs.declared.head_query.HeadQuery.{HeadQuery}
 use Rattle.sig_index.specs.declared.mat_query.MatQuery.{MatQuery}
 use Rattle.script_text.specs.declared.command.Command.{Command}
 use Rattle.script_text.specs.declared.fault.ScriptFault.{ScriptFault}
-use Rattle.script_text.specs.declared.command.Command.TheVariants.{Nothing, Find, SearchPosition, SearchMaterial, SearchHeader, Reset, Clear, Negate, Restrict, Keep, Take, And, Or, Drop, Hits, List as Listing, Show, Export, Import, Replace, Eco, Tag, Delete, Undelete, Mark, Tree, Cross, Twins, Save, Compact, Info, Demo, Quit}
+use Rattle.script_text.specs.declared.command.Command.TheVariants.{Nothing, Find, SearchPosition, SearchMaterial, SearchHeader, Reset, Clear, Negate, Restrict, Keep, Take, And, Or, Drop, Hits, List as Listing, Show, Export, Import, Replace, Eco, Tag, Delete, Undelete, Mark, Tree, Cross, Twins, Index, Save, Compact, Info, Demo, Quit}
 
 -- A mark that is asked for is one of the 18 bits.
 abbrev pub IsHeadQuery : HeadQuery → Type 0
@@ -15,7 +15,12 @@ IsHeadQuery query = IfSome query.mark (λ bit. bit < 18)
 abbrev pub IsMatQuery : MatQuery → Type 0
 IsMatQuery query = 1 ≤ query.streak
 
--- An edit is within the bounds of heads, a mark is one of the 18 bits, a streak has a ply, and the word that ends a body is short.
+-- An index that is asked for holds at most 40 plies of a game.
+abbrev pub IsDepth : Option ℕ → Type 0
+IsDepth depth = IfSome depth (λ plies. plies ≤ 40)
+
+-- An edit is within the bounds of heads, a mark is one of the 18 bits, a streak has a ply, the word that ends a body is short, and an
+-- index is not deeper than 40 plies.
 abbrev pub IsSound : Command → Type 0
 IsSound (Tag game edit) = IsEdit edit
 IsSound (Mark game bit on) = bit < 18
@@ -24,6 +29,7 @@ IsSound (SearchMaterial op query) = IsMatQuery query
 IsSound (Import end) = length end ≤ 32
 IsSound (Replace game end) = length end ≤ 32
 IsSound (Eco end) = length end ≤ 32
+IsSound (Index depth) = IsDepth depth
 IsSound Nothing = Unit {0}
 IsSound (Find board side) = Unit {0}
 IsSound (SearchPosition op query) = Unit {0}

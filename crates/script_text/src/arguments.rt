@@ -4,13 +4,14 @@ ghost use Rattle.std.specs.Option.{option_map};
 ghost use Rattle.cell_core.specs.Text.{IsZeroFree};
 ghost use Rattle.chess_text.specs.Filling.{board_named};
 ghost use Rattle.script_text.specs.Forms.{side, switch, mark_bit, filter_name, name_text, body_end};
-ghost use Rattle.script_text.specs.Numbers.{number, demo_games, twin_depth};
+ghost use Rattle.script_text.specs.Numbers.{number, demo_games, twin_depth, index_depth};
+ghost use Rattle.script_text.specs.Sound.{IsDepth};
 ghost use Rattle.script_text.specs.Arguments.{text_at, no_more, one, two, three};
 ghost use Rattle.script_text.specs.declared.fault.ScriptFault.TheVariants.{Argument};
 
 use crate::fault::ScriptFault;
 use crate::forms::{board, body_end, filter_name, mark_bit, name_text, side, switch};
-use crate::numbers::{demo_games, number, twin_depth};
+use crate::numbers::{demo_games, index_depth, number, twin_depth};
 use crate::words::Word;
 use cell_core::{Board, Colour};
 
@@ -102,6 +103,17 @@ pub(crate) fn one_depth(words: &[Word]) -> Result<u32, ScriptFault>
     ensures { result ≡ one twin_depth words.now }
 {
     let depth = twin_depth(text_at(words, 1)?).ok_or(ScriptFault::Argument(1))?;
+    no_more(words, 1)?;
+    Ok(depth)
+}
+
+/// D of an index, or `off`.
+#[tactic(auto, unfolding(crate::specs::Arguments::one))]
+pub(crate) fn one_index(words: &[Word]) -> Result<Option<u8>, ScriptFault>
+    ensures exact { result ≡ one index_depth words.now }
+    ensures bounds { IfOk result IsDepth }
+{
+    let depth = index_depth(text_at(words, 1)?).ok_or(ScriptFault::Argument(1))?;
     no_more(words, 1)?;
     Ok(depth)
 }

@@ -63,6 +63,8 @@ pub enum Command {
     Cross(Text),
     /// `twins D`, D at most 131,071.
     Twins(u32),
+    /// `index D`, D at most 40, or `index off`.
+    Index(Option<u8>),
     /// `save`
     Save,
     /// `compact`

@@ -1,6 +1,7 @@
 //! Numbers and spans of numbers.
 ghost use Rattle.std.specs.Prelude.{◌≡◌, ◌≤◌, Some, IfSome, option_map};
-ghost use Rattle.script_text.specs.Numbers.{number, demo_games, twin_depth, split_once, ends, span_within, eco_span, between};
+ghost use Rattle.script_text.specs.Sound.{IsDepth};
+ghost use Rattle.script_text.specs.Numbers.{number, demo_games, twin_depth, index_depth, split_once, ends, span_within, eco_span, between};
 
 use game_tree::{read_decimal, read_eco};
 use sig_index::Span;
@@ -26,6 +27,18 @@ pub(crate) fn twin_depth(word: &[u8]) -> Option<u32>
 {
     let depth = read_decimal(word, 131_071)?;
     Some(depth as u32)
+}
+
+/// The depth of `index`: a number of plies, at most 40, or `off` for no index.
+pub(crate) fn index_depth(word: &[u8]) -> Option<Option<u8>>
+    ensures depth { result ≡ index_depth word.now }
+    ensures bounds { IfSome result IsDepth }
+{
+    if word == b"off".as_slice() {
+        return Some(None);
+    }
+    let plies = read_decimal(word, 40)?;
+    Some(Some(plies as u8))
 }
 
 /// What stands before the first byte `at`, and what stands behind it.

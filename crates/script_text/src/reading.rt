@@ -9,7 +9,7 @@ ghost use Rattle.script_text.specs.declared.fault.CommandError.TheVariants.{Memo
 
 use crate::arguments::{
     board_and_side, demo_arguments, mark_arguments, no_more, number_and_body, one_body, one_depth,
-    one_name, one_number, one_text, text_at, two_numbers,
+    one_index, one_name, one_number, one_text, text_at, two_numbers,
 };
 use crate::command::Command;
 use crate::fault::{CommandError, ScriptFault};
@@ -231,6 +231,9 @@ fn ending(name: &[u8], words: &[Word]) -> Result<Command, ScriptFault>
     if name == b"twins".as_slice() {
         return Ok(Command::Twins(one_depth(words)?));
     }
+    if name == b"index".as_slice() {
+        return Ok(Command::Index(one_index(words)?));
+    }
     if name == b"save".as_slice() {
         no_more(words, 0)?;
         return Ok(Command::Save);
@@ -287,7 +290,7 @@ fn is_remark(line: &[u8]) -> bool
 }
 
 /// The command that a line of a script says. The line stands without its line feed. A mark's bit is below 18, a tag's
-/// edit is within the bounds of heads, and a streak has at least one ply.
+/// edit is within the bounds of heads, a streak has at least one ply, and an index is at most 40 plies deep.
 ///
 /// # Errors
 ///
