@@ -22,6 +22,7 @@ use Rattle.game_filter.proofs.Renumberings.{length-renumbered}
 use Rattle.game_filter.specs.Renumbering.{renumbered, Rises}
 use Rattle.index_entry.specs.declared.entry.Entry.{Entry}
 use Rattle.name_base.specs.NameLists.{NameLists}
+use Rattle.pos_index.specs.Hits.{Index}
 use Rattle.edit_commands.proofs.SaveLaws.{contents_of, known_told}
 use Rattle.edit_commands.specs.Compacting.{numbers_of, is_within, compacted_state, compact_after, compact_text, compacted_line}
 use Rattle.edit_commands.specs.Ends.{uncompacted}
@@ -105,10 +106,10 @@ known_games old new told now games fresh base compacts is there represents =
     let N : Option (List ℕ) → Type 0 = λ o. Compacts old new (Some games) o in
     subst N there (subst T is compacts) base represents
 
-done_stands : (old new : Kept) (filter : List (Option ℕ)) (saved : List SavedFilter) (seen seen' : Seen) (s : State) → Stands (held_by old filter saved) seen s → IsCommitted old new seen seen' → MeansIt new seen'
+done_stands : (old new : Kept) (index : Option Index) (filter : List (Option ℕ)) (saved : List SavedFilter) (seen seen' : Seen) (s : State) → Stands (held_by old index filter saved) seen s → IsCommitted old new seen seen' → MeansIt new seen'
     → Compacts old new seen.games seen'.games → new.unsaved ≡ false
-    → Stands (held_by new (renumbered (numbering old.entries).to filter) (map (kept_renumbered (numbering old.entries).to) saved)) seen' (compacted_state s)
-done_stands old new filter saved seen seen' s st is means compacts clean =
+    → Stands (held_by new index (renumbered (numbering old.entries).to filter) (map (kept_renumbered (numbering old.entries).to) saved)) seen' (compacted_state s)
+done_stands old new index filter saved seen seen' s st is means compacts clean =
     let before : Contents seen = contents_of old seen s.shared.unsaved s.shared.carried st.games st.carried st.told in
     let fresh : List ℕ = new_games old.entries st.games in
     let told : seen'.games ≡ Some fresh = ap (λ (x : Seen). x.games) is.put ∙ ap (λ (o : Option (List ℕ)). option_map (new_games old.entries) o) st.told in
@@ -133,16 +134,16 @@ done_stands old new filter saved seen seen' s st is means compacts clean =
       carried = beside_meant new seen' (compacted s.shared.base) true now there.names again.means (λ sound. again.faultless);
     }
 
-pub compact_stands : (old new : Kept) (filter : List (Option ℕ)) (saved : List SavedFilter) (seen seen' : Seen) (s : State) → Stands (held_by old filter saved) seen s → IsCommitted old new seen seen' → MeansIt new seen'
+pub compact_stands : (old new : Kept) (index : Option Index) (filter : List (Option ℕ)) (saved : List SavedFilter) (seen seen' : Seen) (s : State) → Stands (held_by old index filter saved) seen s → IsCommitted old new seen seen' → MeansIt new seen'
     → Compacts old new seen.games seen'.games → new.unsaved ≡ false → new_end old.entries ≤ longest_file
-    → Stands (held_by new (renumbered (numbering old.entries).to filter) (map (kept_renumbered (numbering old.entries).to) saved)) seen' (compact_after s)
-compact_stands old new filter saved seen seen' s st is means compacts clean room =
-    let P : Bool → Type 0 = λ b. Stands (held_by new (renumbered (numbering old.entries).to filter) (map (kept_renumbered (numbering old.entries).to) saved)) seen' (if b then compacted_state s else s) in
-    subst P (sym (within_true old st.games s.shared.base st.base room)) (done_stands old new filter saved seen seen' s st is means compacts clean)
+    → Stands (held_by new index (renumbered (numbering old.entries).to filter) (map (kept_renumbered (numbering old.entries).to) saved)) seen' (compact_after s)
+compact_stands old new index filter saved seen seen' s st is means compacts clean room =
+    let P : Bool → Type 0 = λ b. Stands (held_by new index (renumbered (numbering old.entries).to filter) (map (kept_renumbered (numbering old.entries).to) saved)) seen' (if b then compacted_state s else s) in
+    subst P (sym (within_true old st.games s.shared.base st.base room)) (done_stands old new index filter saved seen seen' s st is means compacts clean)
 
-pub compact_says : (old : Kept) (filter : List (Option ℕ)) (saved : List SavedFilter) (seen : Seen) (s : State) (line : List ℕ) (games kept : ℕ) → Stands (held_by old filter saved) seen s → new_end old.entries ≤ longest_file
+pub compact_says : (old : Kept) (index : Option Index) (filter : List (Option ℕ)) (saved : List SavedFilter) (seen : Seen) (s : State) (line : List ℕ) (games kept : ℕ) → Stands (held_by old index filter saved) seen s → new_end old.entries ≤ longest_file
     → games ≡ length old.entries → kept ≡ (numbering old.entries).kept → line ≡ compacted_line games kept → line ≡ compact_text s
-compact_says old filter saved seen s line games kept st room all left is =
+compact_says old index filter saved seen s line games kept st room all left is =
     let P : Bool → Type 0 = λ b. line ≡ (if b then compacted_line (length s.shared.base.games) (length (compacted s.shared.base).games) else full_line File) in
     subst P (sym (within_true old st.games s.shared.base st.base room))
     (is ∙ (ap (λ (n : ℕ). compacted_line n kept) (all ∙ st.base.count) ∙ ap (λ (n : ℕ). compacted_line (length s.shared.base.games) n) (left ∙ kept_same old st.games s.shared.base st.base)))
@@ -183,16 +184,16 @@ over_by compacting.Failed kept told buf line why ends = cc
 over_by compacting.Memory kept told buf line why ends = cc
 over_by (compacting.Changed game sig found) kept told buf line why ends = cc
 
-pub full_stands : (old : Kept) (filter : List (Option ℕ)) (saved : List SavedFilter) (seen seen' : Seen) (s : State) (e : CompactError) (told : Option (List ℕ)) (buf line : List ℕ) → Stands (held_by old filter saved) seen s
-    → FreshAlone seen seen' → WhyNotCompacted old told buf e → uncompacted e ≡ Ok line → Stands (held_by old filter saved) seen' (compact_after s)
-full_stands old filter saved seen seen' s e told buf line st left why ends =
+pub full_stands : (old : Kept) (index : Option Index) (filter : List (Option ℕ)) (saved : List SavedFilter) (seen seen' : Seen) (s : State) (e : CompactError) (told : Option (List ℕ)) (buf line : List ℕ) → Stands (held_by old index filter saved) seen s
+    → FreshAlone seen seen' → WhyNotCompacted old told buf e → uncompacted e ≡ Ok line → Stands (held_by old index filter saved) seen' (compact_after s)
+full_stands old index filter saved seen seen' s e told buf line st left why ends =
     let over = over_by e old told buf line why ends in
-    let P : Bool → Type 0 = λ b. Stands (held_by old filter saved) seen' (if b then compacted_state s else s) in
-    subst P (sym (within_false old st.games s.shared.base st.base over.0)) (fresh_stands (held_by old filter saved) seen seen' s left st)
+    let P : Bool → Type 0 = λ b. Stands (held_by old index filter saved) seen' (if b then compacted_state s else s) in
+    subst P (sym (within_false old st.games s.shared.base st.base over.0)) (fresh_stands (held_by old index filter saved) seen seen' s left st)
 
-pub full_says : (old : Kept) (filter : List (Option ℕ)) (saved : List SavedFilter) (seen : Seen) (s : State) (e : CompactError) (told : Option (List ℕ)) (buf line : List ℕ) → Stands (held_by old filter saved) seen s
+pub full_says : (old : Kept) (index : Option Index) (filter : List (Option ℕ)) (saved : List SavedFilter) (seen : Seen) (s : State) (e : CompactError) (told : Option (List ℕ)) (buf line : List ℕ) → Stands (held_by old index filter saved) seen s
     → WhyNotCompacted old told buf e → uncompacted e ≡ Ok line → line ≡ compact_text s
-full_says old filter saved seen s e told buf line st why ends =
+full_says old index filter saved seen s e told buf line st why ends =
     let over = over_by e old told buf line why ends in
     let P : Bool → Type 0 = λ b. line ≡ (if b then compacted_line (length s.shared.base.games) (length (compacted s.shared.base).games) else full_line File) in
     subst P (sym (within_false old st.games s.shared.base st.base over.0)) over.1
@@ -210,10 +211,10 @@ device_so compacting.Failed h kept games told base same is changed ends = let e 
 device_so compacting.Memory h kept games told base same is changed ends = let e : halt.Device stop.Memory ≡ h = cc in subst IsDevice e tt
 device_so (compacting.Changed g sig found) h kept games told base same is changed ends = absurd (none_changed kept games told base same is changed)
 
-pub compact_device : (e : CompactError) (h : Halt) (kept : Kept) (filter : List (Option ℕ)) (saved : List SavedFilter) (seen : Seen) (s : State) → Stands (held_by kept filter saved) seen s
+pub compact_device : (e : CompactError) (h : Halt) (kept : Kept) (index : Option Index) (filter : List (Option ℕ)) (saved : List SavedFilter) (seen : Seen) (s : State) → Stands (held_by kept index filter saved) seen s
     → IfChanged e (IfSome seen.games (λ bytes. (other : Base) → Represents kept bytes other → ⊥)) → EndsAs (uncompacted e) h → IsDevice h
-compact_device e h kept filter saved seen s st changed (inl memory) = subst IsDevice (sym memory) tt
-compact_device e h kept filter saved seen s st changed (inr ends) = device_so e h kept st.games seen.games s.shared.base st.told st.base changed ends
+compact_device e h kept index filter saved seen s st changed (inl memory) = subst IsDevice (sym memory) tt
+compact_device e h kept index filter saved seen s st changed (inr ends) = device_so e h kept st.games seen.games s.shared.base st.told st.base changed ends
 
 -- ---- what the files carry where it is broken off.
 
@@ -225,16 +226,16 @@ done_may kept seen (Some own) base b = inr (b.contents, b.carries)
 done_may kept seen None base b = tt
 
 -- It was done, and its text was not written.
-pub done_carry : (old new : Kept) (filter : List (Option ℕ)) (saved : List SavedFilter) (seen seen' : Seen) (s : State) → Stands (held_by old filter saved) seen s → IsCommitted old new seen seen' → MeansIt new seen'
+pub done_carry : (old new : Kept) (index : Option Index) (filter : List (Option ℕ)) (saved : List SavedFilter) (seen seen' : Seen) (s : State) → Stands (held_by old index filter saved) seen s → IsCommitted old new seen seen' → MeansIt new seen'
     → Compacts old new seen.games seen'.games → new.unsaved ≡ false → StillCarry seen' s (Some compacted)
-done_carry old new filter saved seen seen' s st is means compacts clean =
-    done_may new seen' s.shared.carried s.shared.base (done_stands old new filter saved seen seen' s st is means compacts clean).carried
+done_carry old new index filter saved seen seen' s st is means compacts clean =
+    done_may new seen' s.shared.carried s.shared.base (done_stands old new index filter saved seen seen' s st is means compacts clean).carried
 
 -- ---- the filters.
 
 -- They fit what is left.
-pub compact_fits : (new : Kept) (filter : List (Option ℕ)) (saved made : List SavedFilter) (kept : ℕ) → length new.entries ≡ kept → length filter ≡ kept → made ≡ saved → All (λ (f : SavedFilter). length f.plies ≡ kept) saved → Fits (held_by new filter made)
-compact_fits new filter saved made kept count long same fits =
+pub compact_fits : (new : Kept) (index : Option Index) (filter : List (Option ℕ)) (saved made : List SavedFilter) (kept : ℕ) → length new.entries ≡ kept → length filter ≡ kept → made ≡ saved → All (λ (f : SavedFilter). length f.plies ≡ kept) saved → Fits (held_by new index filter made)
+compact_fits new index filter saved made kept count long same fits =
     let P : List SavedFilter → Type 0 = λ l. All (λ (f : SavedFilter). length f.plies ≡ kept) l in
     let Q : ℕ → Type 0 = λ n. All (λ (f : SavedFilter). length f.plies ≡ n) made in
     record { filter = long ∙ sym count; saved = subst Q (sym count) (subst P (sym same) fits) }

@@ -7,6 +7,7 @@ use Rattle.base_core.specs.Base.{Base}
 use Rattle.base_core.specs.Edited.{ChangedHeads, Does}
 use Rattle.base_core.specs.Represents.{IsSound, Kept}
 use Rattle.base_files.specs.Seen.{Seen}
+use Rattle.pos_index.specs.Hits.{Index}
 use Rattle.edit_commands.specs.Editing.{edited_there, line_there}
 use Rattle.filter_seat.specs.declared.saved.SavedFilter.{SavedFilter}
 use Rattle.shell_state.proofs.CarryLaws.{beside_edited}
@@ -18,15 +19,15 @@ use Rattle.shell_state.specs.State.{State}
 use Rattle.shell_state.specs.Work.{Work}
 
 -- An edit of a game that is there.
-pub quiet_edit : (words : List ℕ) (edit : Base → Base) (game : ℕ) (old new : Kept) (filter : List (Option ℕ)) (saved : List SavedFilter) (work : Work) (line : List ℕ)
+pub quiet_edit : (words : List ℕ) (edit : Base → Base) (game : ℕ) (old new : Kept) (index : Option Index) (filter : List (Option ℕ)) (saved : List SavedFilter) (work : Work) (line : List ℕ)
     → ((s : State) → work.after s ≡ edited_there edit s (slice_get s.shared.base.games game))
     → ((s : State) → work.text s ≡ line_there words game (slice_get s.shared.base.games game))
-    → game < length old.entries → Does edit old new → ChangedHeads old new → IsSound new → line ≡ game_line words game → Fits (held_by old filter saved)
-    → Quiet (held_by old filter saved) work (held_by new filter saved) line
-quiet_edit words edit game old new filter saved work line after says there does heads sound written fits = record {
-  stands = λ (seen : Seen) (s : State) (st : Stands (held_by old filter saved) seen s).
+    → game < length old.entries → Does edit old new → ChangedHeads old new → IsSound new → line ≡ game_line words game → Fits (held_by old index filter saved)
+    → Quiet (held_by old index filter saved) work (held_by new index filter saved) line
+quiet_edit words edit game old new index filter saved work line after says there does heads sound written fits = record {
+  stands = λ (seen : Seen) (s : State) (st : Stands (held_by old index filter saved) seen s).
       let held = get_some s.shared.base.games game (omega (arith, there, st.base.count)) in
-      let standing : Stands (held_by new filter saved) seen (edited_there edit s (Some held.0)) = record {
+      let standing : Stands (held_by new index filter saved) seen (edited_there edit s (Some held.0)) = record {
         games = st.games;
         told = st.told;
         base = does st.games s.shared.base st.base;
@@ -34,11 +35,11 @@ quiet_edit words edit game old new filter saved work line after says there does 
         unsaved = heads.unsaved;
         carried = beside_edited old new seen s.shared.unsaved s.shared.carried heads.names st.carried;
       } in
-      subst (Stands (held_by new filter saved) seen) (ap (edited_there edit s) (sym held.1) ∙ sym (after s)) standing;
-  text = λ (seen : Seen) (s : State) (st : Stands (held_by old filter saved) seen s).
+      subst (Stands (held_by new index filter saved) seen) (ap (edited_there edit s) (sym held.1) ∙ sym (after s)) standing;
+  text = λ (seen : Seen) (s : State) (st : Stands (held_by old index filter saved) seen s).
       let held = get_some s.shared.base.games game (omega (arith, there, st.base.count)) in
       written ∙ ap (line_there words game) (sym held.1) ∙ sym (says s);
-  fits = fits_count old new filter saved (same_count old new heads) fits;
+  fits = fits_count old new index filter saved (same_count old new heads) fits;
   base = λ before. sound;
   end = heads.end;
 }

@@ -21,6 +21,7 @@ use Rattle.game_tree.specs.Game.{GameTree}
 use Rattle.game_tree.specs.TagEdit.{edited}
 use Rattle.game_tree.specs.declared.head.Head.{Head}
 use Rattle.game_tree.specs.declared.tag_edit.TagEdit.{TagEdit}
+use Rattle.pos_index.specs.Hits.{Index}
 use Rattle.edit_commands.specs.Editing.{tag_after, tagged_there, unless_refused, tag_line_there, tag_text, tag_work}
 use Rattle.filter_seat.specs.declared.saved.SavedFilter.{SavedFilter}
 use Rattle.shell_state.proofs.CarryLaws.{beside_grown}
@@ -61,17 +62,17 @@ base_tagged old new i tag told now games after base tags is then there =
     let Q : Option (List ℕ) → Type 0 = λ n. IfSome n (λ after. (base : Base) → Represents old games base → Represents new after (tagged i tag base)) in
     (subst Q then (subst P is tags)) base there
 
-pub tag_stands : (old new : Kept) (filter : List (Option ℕ)) (saved : List SavedFilter) (seen seen' : Seen) (buf : List ℕ) (s : State) (i : ℕ) (tag : TagEdit) → Stands (held_by old filter saved) seen s → i < length old.entries
+pub tag_stands : (old new : Kept) (index : Option Index) (filter : List (Option ℕ)) (saved : List SavedFilter) (seen seen' : Seen) (buf : List ℕ) (s : State) (i : ℕ) (tag : TagEdit) → Stands (held_by old index filter saved) seen s → i < length old.entries
     → IsTagged i tag old new seen seen' buf → Tags i tag old new seen.games seen'.games → new.unsaved ≡ true → HoldsNames new.names old.names
-    → Stands (held_by new filter saved) seen' (tag_after s i tag)
-tag_stands old new filter saved seen seen' buf s i tag st there is tags unsaved names =
+    → Stands (held_by new index filter saved) seen' (tag_after s i tag)
+tag_stands old new index filter saved seen seen' buf s i tag st there is tags unsaved names =
     let held = get_some s.shared.base.games i (omega (arith, there, st.base.count)) in
     let bytes : List ℕ = padded old.end (written_record (edited is.head tag).tags is.game) in
     let same = read-is old st.games seen.games i is.head is.game s.shared.base held.0 st.told is.read st.base held.1 in
     let none : refusal_of s.shared.base (edited held.0.head tag) held.0.game ≡ None =
     refusal-read old st.games s.shared.base held.0 tag is.head is.game None st.base same (none_refused _ _ is.room) in
     let later : seen'.games ≡ Some (st.games ++ bytes) = ap (λ (x : Seen). x.games) is.appended ∙ ap (λ (g : Option (List ℕ)). adds g bytes) st.told in
-    let standing : Stands (held_by new filter saved) seen' (unless_refused None s (tagged i tag s.shared.base)) = record {
+    let standing : Stands (held_by new index filter saved) seen' (unless_refused None s (tagged i tag s.shared.base)) = record {
       games = st.games ++ bytes;
       told = later;
       base = base_tagged old new i tag seen.games seen'.games st.games (st.games ++ bytes) s.shared.base tags st.told later st.base;
@@ -79,11 +80,11 @@ tag_stands old new filter saved seen seen' buf s i tag st there is tags unsaved 
       unsaved = unsaved;
       carried = beside_grown old new seen seen' bytes s.shared.unsaved s.shared.carried is.appended names st.carried;
     } in
-    subst (Stands (held_by new filter saved) seen') (ap (λ (r : Option (List ℕ)). unless_refused r s (tagged i tag s.shared.base)) (sym none) ∙ ap (tagged_there i tag s) (sym held.1)) standing
+    subst (Stands (held_by new index filter saved) seen') (ap (λ (r : Option (List ℕ)). unless_refused r s (tagged i tag s.shared.base)) (sym none) ∙ ap (tagged_there i tag s) (sym held.1)) standing
 
-pub tag_says : (old new : Kept) (filter : List (Option ℕ)) (saved : List SavedFilter) (seen seen' : Seen) (buf : List ℕ) (s : State) (i : ℕ) (tag : TagEdit) (line : List ℕ) → Stands (held_by old filter saved) seen s → i < length old.entries
+pub tag_says : (old new : Kept) (index : Option Index) (filter : List (Option ℕ)) (saved : List SavedFilter) (seen seen' : Seen) (buf : List ℕ) (s : State) (i : ℕ) (tag : TagEdit) (line : List ℕ) → Stands (held_by old index filter saved) seen s → i < length old.entries
     → IsTagged i tag old new seen seen' buf → line ≡ game_line (codes "tagged ") i → line ≡ tag_text s i tag
-tag_says old new filter saved seen seen' buf s i tag line st there is written =
+tag_says old new index filter saved seen seen' buf s i tag line st there is written =
     let held = get_some s.shared.base.games i (omega (arith, there, st.base.count)) in
     let same = read-is old st.games seen.games i is.head is.game s.shared.base held.0 st.told is.read st.base held.1 in
     let none : refusal_of s.shared.base (edited held.0.head tag) held.0.game ≡ None =
@@ -100,27 +101,27 @@ not_placed (edit.Changed g sig found) kept told i tag buf line why there ends = 
 not_placed edit.Failed kept told i tag buf line why there ends = cc
 not_placed edit.Memory kept told i tag buf line why there ends = cc
 
-refused_line : (kept : Kept) (filter : List (Option ℕ)) (saved : List SavedFilter) (seen : Seen) (s : State) (i : ℕ) (tag : TagEdit) (e : EditError) (buf line : List ℕ) → (st : Stands (held_by kept filter saved) seen s)
+refused_line : (kept : Kept) (index : Option Index) (filter : List (Option ℕ)) (saved : List SavedFilter) (seen : Seen) (s : State) (i : ℕ) (tag : TagEdit) (e : EditError) (buf line : List ℕ) → (st : Stands (held_by kept index filter saved) seen s)
     → i < length kept.entries → WhyNotTagged kept seen.games i tag buf e → refused_edit e ≡ Ok line
     → (held : Held) × (slice_get s.shared.base.games i ≡ Some held) × (refusal_of s.shared.base (edited held.head tag) held.game ≡ Some line)
-refused_line kept filter saved seen s i tag e buf line st there why ends =
+refused_line kept index filter saved seen s i tag e buf line st there why ends =
     let held = get_some s.shared.base.games i (omega (arith, there, st.base.count)) in
     let is = not_placed e kept seen.games i tag buf line why there ends in
     let same = read-is kept st.games seen.games i is.head is.game s.shared.base held.0 st.told is.read st.base held.1 in
     (held.0, held.1, refusal-read kept st.games s.shared.base held.0 tag is.head is.game (Some line) st.base same (refused_so e _ _ line is.why ends))
 
-pub refused_stands : (kept : Kept) (filter : List (Option ℕ)) (saved : List SavedFilter) (seen seen' : Seen) (s : State) (i : ℕ) (tag : TagEdit) (e : EditError) (buf line : List ℕ)
-    → Stands (held_by kept filter saved) seen s → i < length kept.entries → WhyNotTagged kept seen.games i tag buf e → refused_edit e ≡ Ok line → seen' ≡ seen
-    → Stands (held_by kept filter saved) seen' (tag_after s i tag)
-refused_stands kept filter saved seen seen' s i tag e buf line st there why ends same =
-    let refused = refused_line kept filter saved seen s i tag e buf line st there why ends in
+pub refused_stands : (kept : Kept) (index : Option Index) (filter : List (Option ℕ)) (saved : List SavedFilter) (seen seen' : Seen) (s : State) (i : ℕ) (tag : TagEdit) (e : EditError) (buf line : List ℕ)
+    → Stands (held_by kept index filter saved) seen s → i < length kept.entries → WhyNotTagged kept seen.games i tag buf e → refused_edit e ≡ Ok line → seen' ≡ seen
+    → Stands (held_by kept index filter saved) seen' (tag_after s i tag)
+refused_stands kept index filter saved seen seen' s i tag e buf line st there why ends same =
+    let refused = refused_line kept index filter saved seen s i tag e buf line st there why ends in
     let after : s ≡ tag_after s i tag = ap (λ (r : Option (List ℕ)). unless_refused r s (tagged i tag s.shared.base)) (sym refused.2) ∙ ap (tagged_there i tag s) (sym refused.1) in
-    subst (Stands (held_by kept filter saved) seen') after (subst (λ (x : Seen). Stands (held_by kept filter saved) x s) (sym same) st)
+    subst (Stands (held_by kept index filter saved) seen') after (subst (λ (x : Seen). Stands (held_by kept index filter saved) x s) (sym same) st)
 
-pub refused_says : (kept : Kept) (filter : List (Option ℕ)) (saved : List SavedFilter) (seen : Seen) (s : State) (i : ℕ) (tag : TagEdit) (e : EditError) (buf line : List ℕ)
-    → Stands (held_by kept filter saved) seen s → i < length kept.entries → WhyNotTagged kept seen.games i tag buf e → refused_edit e ≡ Ok line → line ≡ tag_text s i tag
-refused_says kept filter saved seen s i tag e buf line st there why ends =
-    let refused = refused_line kept filter saved seen s i tag e buf line st there why ends in
+pub refused_says : (kept : Kept) (index : Option Index) (filter : List (Option ℕ)) (saved : List SavedFilter) (seen : Seen) (s : State) (i : ℕ) (tag : TagEdit) (e : EditError) (buf line : List ℕ)
+    → Stands (held_by kept index filter saved) seen s → i < length kept.entries → WhyNotTagged kept seen.games i tag buf e → refused_edit e ≡ Ok line → line ≡ tag_text s i tag
+refused_says kept index filter saved seen s i tag e buf line st there why ends =
+    let refused = refused_line kept index filter saved seen s i tag e buf line st there why ends in
     ap (λ (r : Option (List ℕ)). unwrap_or r (game_line (codes "tagged ") i)) (sym refused.2) ∙ ap (tag_line_there i tag s) (sym refused.1)
 
 pub is_there : (e : EditError) (kept : Kept) (told : Option (List ℕ)) (i : ℕ) (tag : TagEdit) (buf : List ℕ) → WhyNotTagged kept told i tag buf e → i < length kept.entries → IsThere e
@@ -147,10 +148,10 @@ device_so (edit.Changed g sig found) h kept games told base same is changed ends
 device_so edit.Failed h kept games told base same is changed ends = let e : halt.Device stop.Files ≡ h = cc in subst IsDevice e tt
 device_so edit.Memory h kept games told base same is changed ends = let e : halt.Device stop.Memory ≡ h = cc in subst IsDevice e tt
 
-pub tag_device : (e : EditError) (h : Halt) (kept : Kept) (filter : List (Option ℕ)) (saved : List SavedFilter) (seen : Seen) (s : State) → Stands (held_by kept filter saved) seen s
+pub tag_device : (e : EditError) (h : Halt) (kept : Kept) (index : Option Index) (filter : List (Option ℕ)) (saved : List SavedFilter) (seen : Seen) (s : State) → Stands (held_by kept index filter saved) seen s
     → IfChanged e (IfSome seen.games (λ bytes. (other : Base) → Represents kept bytes other → ⊥)) → EndsAs (refused_edit e) h → IsDevice h
-tag_device e h kept filter saved seen s st changed (inl memory) = subst IsDevice (sym memory) tt
-tag_device e h kept filter saved seen s st changed (inr ends) = device_so e h kept st.games seen.games s.shared.base st.told st.base changed ends
+tag_device e h kept index filter saved seen s st changed (inl memory) = subst IsDevice (sym memory) tt
+tag_device e h kept index filter saved seen s st changed (inr ends) = device_so e h kept st.games seen.games s.shared.base st.told st.base changed ends
 
 -- ---- what the files carry then
 

@@ -4,6 +4,7 @@ use Rattle.std.proofs.lemmas.Bool.Decides.{nat_tests}
 use Rattle.std.specs.Prelude.{nat_le, min}
 use Rattle.base_core.specs.Represents.{Kept}
 use Rattle.game_filter.specs.Filter.{restricted_from, restricted, entry_within}
+use Rattle.pos_index.specs.Hits.{Index}
 use Rattle.filter_commands.specs.Filters.{drop_line, drop_work}
 use Rattle.filter_seat.specs.SavedFilters.{dropped_in}
 use Rattle.filter_seat.specs.declared.saved.SavedFilter.{SavedFilter}
@@ -35,21 +36,21 @@ pub restricted_cut : (m first last : ℕ) (plies : Plies) → m ≡ length plies
 restricted_cut m first last plies games = cut_from m 0 first last plies (omega arith)
 
 -- `drop`, whether a filter of the name was kept or not.
-drop_in : (kept : Kept) (filter : Plies) (saved later : List SavedFilter) (name line : List ℕ) → later ≡ dropped_in saved name → line ≡ drop_line saved name
+drop_in : (kept : Kept) (index : Option Index) (filter : Plies) (saved later : List SavedFilter) (name line : List ℕ) → later ≡ dropped_in saved name → line ≡ drop_line saved name
     → ((games : ℕ) → All (λ (f : SavedFilter). length f.plies ≡ games) saved → All (λ (f : SavedFilter). length f.plies ≡ games) later)
-    → Fits (held_by kept filter saved)
-    → Quiet (held_by kept filter saved) (drop_work name) (held_by kept filter later) line
-drop_in kept filter saved later name line dropped written all fits =
-    let old : Holding = held_by kept filter saved in
-    let new : Holding = held_by kept filter later in
+    → Fits (held_by kept index filter saved)
+    → Quiet (held_by kept index filter saved) (drop_work name) (held_by kept index filter later) line
+drop_in kept index filter saved later name line dropped written all fits =
+    let old : Holding = held_by kept index filter saved in
+    let new : Holding = held_by kept index filter later in
     quiet_by (λ f s. f) (λ f s. dropped_in s name) (λ f s. drop_line s name) old new (drop_work name) line (λ s. refl) (λ s. refl) refl refl dropped written
     (fits_saved old new refl refl (all (length kept.entries) fits.saved) fits)
 
-pub drop_quiet : (old : Holding) (kept : Kept) (filter : Plies) (saved later : List SavedFilter) (name line : List ℕ)
-    → old ≡ held_by kept filter saved → later ≡ dropped_in saved name → line ≡ drop_line saved name
+pub drop_quiet : (old : Holding) (kept : Kept) (index : Option Index) (filter : Plies) (saved later : List SavedFilter) (name line : List ℕ)
+    → old ≡ held_by kept index filter saved → later ≡ dropped_in saved name → line ≡ drop_line saved name
     → ((games : ℕ) → All (λ (f : SavedFilter). length f.plies ≡ games) saved → All (λ (f : SavedFilter). length f.plies ≡ games) later)
-    → Fits old → Quiet old (drop_work name) (held_by kept filter later) line
-drop_quiet old kept filter saved later name line view dropped written all fits =
-    let new : Holding = held_by kept filter later in
+    → Fits old → Quiet old (drop_work name) (held_by kept index filter later) line
+drop_quiet old kept index filter saved later name line view dropped written all fits =
+    let new : Holding = held_by kept index filter later in
     let P : Holding → Type 0 = λ o. Quiet o (drop_work name) new line in
-    subst P (sym view) (drop_in kept filter saved later name line dropped written all (subst Fits view fits))
+    subst P (sym view) (drop_in kept index filter saved later name line dropped written all (subst Fits view fits))

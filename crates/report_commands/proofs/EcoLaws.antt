@@ -17,6 +17,7 @@ use Rattle.eco_class.specs.Table.{Opening, eco_of}
 use Rattle.game_tree.specs.Game.{GameTree}
 use Rattle.index_entry.specs.declared.entry.Entry.{Entry}
 use Rattle.name_base.specs.NameLists.{NameLists}
+use Rattle.pos_index.specs.Hits.{Index}
 use Rattle.sig_index.specs.Games.{extent_in}
 use Rattle.filter_seat.specs.declared.saved.SavedFilter.{SavedFilter}
 use Rattle.report_commands.specs.Classifying.{with_code, classified_by, codes_of}
@@ -155,9 +156,9 @@ beside_coded old new seen some unsaved (Some base) names b = record {
 }
 beside_coded old new seen some unsaved None names b = b
 
-pub coded_stands : (table : List Opening) (codes : List (Option ℕ)) (old new : Kept) (filter : List (Option ℕ)) (saved : List SavedFilter) (seen : Seen) (s : State)
-    → codes ≡ codes_of table s → AreCoded codes old new → Stands (held_by old filter saved) seen s → Stands (held_by new filter saved) seen (classified_by s table)
-coded_stands table codes old new filter saved seen s are coded_are st =
+pub coded_stands : (table : List Opening) (codes : List (Option ℕ)) (old new : Kept) (index : Option Index) (filter : List (Option ℕ)) (saved : List SavedFilter) (seen : Seen) (s : State)
+    → codes ≡ codes_of table s → AreCoded codes old new → Stands (held_by old index filter saved) seen s → Stands (held_by new index filter saved) seen (classified_by s table)
+coded_stands table codes old new index filter saved seen s are coded_are st =
     let all = ap (λ (found : List (Option ℕ)). coded found s.shared.base.games) are ∙ all_coded table s.shared.base.games in
     record {
       games = st.games;
@@ -168,8 +169,8 @@ coded_stands table codes old new filter saved seen s are coded_are st =
       carried = beside_coded old new seen (list_any is_some (codes_of table s)) s.shared.unsaved s.shared.carried coded_are.names st.carried;
     }
 
-pub coded_fits : (codes : List (Option ℕ)) (old new : Kept) (filter : List (Option ℕ)) (saved : List SavedFilter) → AreCoded codes old new → Fits (held_by old filter saved) → Fits (held_by new filter saved)
-coded_fits codes old new filter saved are fits = fits_count old new filter saved are.count fits
+pub coded_fits : (codes : List (Option ℕ)) (old new : Kept) (index : Option Index) (filter : List (Option ℕ)) (saved : List SavedFilter) → AreCoded codes old new → Fits (held_by old index filter saved) → Fits (held_by new index filter saved)
+coded_fits codes old new index filter saved are fits = fits_count old new index filter saved are.count fits
 
 -- ---- why it ends
 

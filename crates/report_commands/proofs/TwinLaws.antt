@@ -17,6 +17,7 @@ use Rattle.game_tree.specs.Game.{GameTree}
 use Rattle.game_tree.specs.declared.head.Head.{Head}
 use Rattle.index_entry.specs.declared.entry.Entry.{Entry}
 use Rattle.name_base.specs.NameLists.{NameLists}
+use Rattle.pos_index.specs.Hits.{Index}
 use Rattle.sig_index.specs.Games.{extent_in, head_in, Holds}
 use Rattle.sig_index.specs.declared.signature.Sig.{Sig}
 use Rattle.twin_games.specs.Asking.{is_shared, price}
@@ -62,10 +63,10 @@ marked_more (first ∷ games) game old mid new marked does heads = (
 )
 
 -- Where the games are marked the machine stands for the state in which they are.
-pub deleted_stands : (games : List ℕ) (old new : Kept) (filter : List (Option ℕ)) (saved : List SavedFilter) (seen : Seen) (s : State)
-    → Marked games old new → Stands (held_by old filter saved) seen s → Stands (held_by new filter saved) seen (with_deleted s games)
-deleted_stands [] old new filter saved seen s same st = subst (λ (k : Kept). Stands (held_by k filter saved) seen s) (sym same) st
-deleted_stands (game ∷ games) old new filter saved seen s marked st = record {
+pub deleted_stands : (games : List ℕ) (old new : Kept) (index : Option Index) (filter : List (Option ℕ)) (saved : List SavedFilter) (seen : Seen) (s : State)
+    → Marked games old new → Stands (held_by old index filter saved) seen s → Stands (held_by new index filter saved) seen (with_deleted s games)
+deleted_stands [] old new index filter saved seen s same st = subst (λ (k : Kept). Stands (held_by k index filter saved) seen s) (sym same) st
+deleted_stands (game ∷ games) old new index filter saved seen s marked st = record {
   games = st.games;
   told = st.told;
   base = marked.0 st.games s.shared.base st.base;
@@ -74,9 +75,9 @@ deleted_stands (game ∷ games) old new filter saved seen s marked st = record {
   carried = beside_edited old new seen s.shared.unsaved s.shared.carried marked.1.names st.carried;
 }
 
-pub marked_fits : (games : List ℕ) (old new : Kept) (filter : List (Option ℕ)) (saved : List SavedFilter) → Marked games old new → Fits (held_by old filter saved) → Fits (held_by new filter saved)
-marked_fits [] old new filter saved same fits = subst (λ (k : Kept). Fits (held_by k filter saved)) (sym same) fits
-marked_fits (game ∷ games) old new filter saved marked fits = fits_count old new filter saved (same_count old new marked.1) fits
+pub marked_fits : (games : List ℕ) (old new : Kept) (index : Option Index) (filter : List (Option ℕ)) (saved : List SavedFilter) → Marked games old new → Fits (held_by old index filter saved) → Fits (held_by new index filter saved)
+marked_fits [] old new index filter saved same fits = subst (λ (k : Kept). Fits (held_by k index filter saved)) (sym same) fits
+marked_fits (game ∷ games) old new index filter saved marked fits = fits_count old new index filter saved (same_count old new marked.1) fits
 
 pub marked_end : (games : List ℕ) (old new : Kept) → Marked games old new → new.end ≡ old.end
 marked_end [] old new same = ap (λ (k : Kept). k.end) same

@@ -20,16 +20,16 @@ pub returns-in-Err-clause-line : goal.returns-in-Err-clause-line
 returns-in-Err-clause-line g c = λ s st.
     let st' = subst (λ (h : Holding). Stands h (g.F.Files.seen c.args.files.now) s) (sym c.machine.view_is) st in
     if_ok _ _ c.uncompacted.result
-    (λ line ends. full_says c.machine.inside.base c.machine.inside.seat.filter c.machine.inside.seat.saved.items (g.F.Files.seen c.args.files.now) s c.in-Err.error _ _ line.items st' c.in-Err.ensures.why ends)
+    (λ line ends. full_says c.machine.inside.base c.machine.inside.index c.machine.inside.seat.filter c.machine.inside.seat.saved.items (g.F.Files.seen c.args.files.now) s c.in-Err.error _ _ line.items st' c.in-Err.ensures.why ends)
     c.uncompacted.ensures.line
 
 pub returns-in-Err-clause-stands : goal.returns-in-Err-clause-stands
 returns-in-Err-clause-stands g c = λ s st.
     let st' = subst (λ (h : Holding). Stands h (g.F.Files.seen c.args.files.now) s) (sym c.machine.view_is) st in
-    let P : Kept → Type 0 = λ k. Stands (held_by k c.machine.inside.seat.filter c.machine.inside.seat.saved.items) (g.F.Files.seen c.compact-compacted.new.files) (compact_after s) in
+    let P : Kept → Type 0 = λ k. Stands (held_by k c.machine.inside.index c.machine.inside.seat.filter c.machine.inside.seat.saved.items) (g.F.Files.seen c.compact-compacted.new.files) (compact_after s) in
     ok_by _ _ c.uncompacted.result
     (λ line ends. subst P (sym c.in-Err.ensures.unchanged)
-    (full_stands c.machine.inside.base c.machine.inside.seat.filter c.machine.inside.seat.saved.items (g.F.Files.seen c.args.files.now) (g.F.Files.seen c.compact-compacted.new.files) s c.in-Err.error _ _ line.items st' c.in-Err.ensures.left c.in-Err.ensures.why ends))
+    (full_stands c.machine.inside.base c.machine.inside.index c.machine.inside.seat.filter c.machine.inside.seat.saved.items (g.F.Files.seen c.args.files.now) (g.F.Files.seen c.compact-compacted.new.files) s c.in-Err.error _ _ line.items st' c.in-Err.ensures.left c.in-Err.ensures.why ends))
     c.uncompacted.ensures.line
 
 pub returns-in-Err-clause-carries : goal.returns-in-Err-clause-carries
@@ -55,13 +55,13 @@ renumber_all-requires g c =
 pub returns-in_err-compacted_line-in-Ok-clause-carries : goal.returns-in_err-compacted_line-in-Ok-clause-carries
 returns-in_err-compacted_line-in-Ok-clause-carries g c = λ s st.
     let st' = subst (λ (h : Holding). Stands h (g.F.Files.seen c.args.files.now) s) (sym c.machine.view_is) st in
-    done_carry c.machine.inside.base c.compact-compacted.new.base c.machine.inside.seat.filter c.machine.inside.seat.saved.items (g.F.Files.seen c.args.files.now) (g.F.Files.seen c.compact-compacted.new.files) s st'
+    done_carry c.machine.inside.base c.compact-compacted.new.base c.machine.inside.index c.machine.inside.seat.filter c.machine.inside.seat.saved.items (g.F.Files.seen c.args.files.now) (g.F.Files.seen c.compact-compacted.new.files) s st'
     c.in-Ok.ensures.committed c.in-Ok.ensures.means c.in-Ok.ensures.compacted c.in-Ok.ensures.saved
 
 pub returns-in_ok-compacted_line-in-Ok-clause-carries : goal.returns-in_ok-compacted_line-in-Ok-clause-carries
 returns-in_ok-compacted_line-in-Ok-clause-carries g c = λ s st.
     let st' = subst (λ (h : Holding). Stands h (g.F.Files.seen c.args.files.now) s) (sym c.machine.view_is) st in
-    done_carry c.machine.inside.base c.compact-compacted.new.base c.machine.inside.seat.filter c.machine.inside.seat.saved.items (g.F.Files.seen c.args.files.now) (g.F.Files.seen c.compact-compacted.new.files) s st'
+    done_carry c.machine.inside.base c.compact-compacted.new.base c.machine.inside.index c.machine.inside.seat.filter c.machine.inside.seat.saved.items (g.F.Files.seen c.args.files.now) (g.F.Files.seen c.compact-compacted.new.files) s st'
     c.in-Ok.ensures.committed c.in-Ok.ensures.means c.in-Ok.ensures.compacted c.in-Ok.ensures.saved
 
 pub returns-in_err-compacted_line-in-Ok-clause-asks : goal.returns-in_err-compacted_line-in-Ok-clause-asks
@@ -84,7 +84,7 @@ pub returns-in_ok-compacted_line-in-Ok-clause-line : goal.returns-in_ok-compacte
 returns-in_ok-compacted_line-in-Ok-clause-line g c = λ s st.
     let st' = subst (λ (h : Holding). Stands h (g.F.Files.seen c.args.files.now) s) (sym c.machine.view_is) st in
     let all = c.games-games.ensures.games ∙ ap (λ (h : Holding). length h.kept.entries) (sym c.machine.view_is) in
-    compact_says c.machine.inside.base c.machine.inside.seat.filter c.machine.inside.seat.saved.items (g.F.Files.seen c.args.files.now) s c.in_ok-compacted_line-in-Ok.field-0.items c.games-games.result c.kept.result st' c.in-Ok.ensures.room
+    compact_says c.machine.inside.base c.machine.inside.index c.machine.inside.seat.filter c.machine.inside.seat.saved.items (g.F.Files.seen c.args.files.now) s c.in_ok-compacted_line-in-Ok.field-0.items c.games-games.result c.kept.result st' c.in-Ok.ensures.room
     all (c.kept.ensures.kept ∙ ap (λ (r : Numbering). r.kept) c.in-Ok.ensures.numbers) c.in_ok-compacted_line-in-Ok.ensures.line
 
 pub returns-in_ok-compacted_line-in-Ok-clause-stands : goal.returns-in_ok-compacted_line-in-Ok-clause-stands
@@ -96,10 +96,10 @@ returns-in_ok-compacted_line-in-Ok-clause-stands g c = λ s st.
     let moved : (with_items c.machine.inside.seat.saved c.renumber_all.new.saved).items ≡ map (kept_renumbered (numbering c.machine.inside.base.entries).to) c.machine.inside.seat.saved.items =
     lent_items (kept_renumbered c.in-Ok.renumbering.to) c.machine.inside.seat.saved c.as_mut_slice.result.now c.renumber_all.new.saved c.as_mut_slice.ensures.value c.renumber_all.ensures.saved
     ∙ ap (λ (r : Numbering). map (kept_renumbered r.to) c.machine.inside.seat.saved.items) numbers in
-    let done = compact_stands c.machine.inside.base c.compact-compacted.new.base c.machine.inside.seat.filter c.machine.inside.seat.saved.items (g.F.Files.seen c.args.files.now) seen' s st'
+    let done = compact_stands c.machine.inside.base c.compact-compacted.new.base c.machine.inside.index c.machine.inside.seat.filter c.machine.inside.seat.saved.items (g.F.Files.seen c.args.files.now) seen' s st'
     c.in-Ok.ensures.committed c.in-Ok.ensures.means c.in-Ok.ensures.compacted c.in-Ok.ensures.saved c.in-Ok.ensures.room in
-    subst (λ (p : List (Option ℕ)). Stands (held_by c.compact-compacted.new.base p (with_items c.machine.inside.seat.saved c.renumber_all.new.saved).items) seen' (compact_after s)) (sym filter)
-    (subst (λ (l : List SavedFilter). Stands (held_by c.compact-compacted.new.base (renumbered (numbering c.machine.inside.base.entries).to c.machine.inside.seat.filter) l) seen' (compact_after s)) (sym moved) done)
+    subst (λ (p : List (Option ℕ)). Stands (held_by c.compact-compacted.new.base c.machine.inside.index p (with_items c.machine.inside.seat.saved c.renumber_all.new.saved).items) seen' (compact_after s)) (sym filter)
+    (subst (λ (l : List SavedFilter). Stands (held_by c.compact-compacted.new.base c.machine.inside.index (renumbered (numbering c.machine.inside.base.entries).to c.machine.inside.seat.filter) l) seen' (compact_after s)) (sym moved) done)
 
 pub returns-in_ok-compacted_line-in-Ok-clause-sound : goal.returns-in_ok-compacted_line-in-Ok-clause-sound
 returns-in_ok-compacted_line-in-Ok-clause-sound g c =
@@ -119,12 +119,12 @@ pub returns-in-Err-clause-devices : goal.returns-in-Err-clause-devices
 returns-in-Err-clause-devices g c = λ s st.
     let st' = subst (λ (h : Holding). Stands h (g.F.Files.seen c.args.files.now) s) (sym c.machine.view_is) st in
     if_err_so _ _ c.uncompacted.result
-    (λ halt ends. compact_device c.in-Err.error halt c.machine.inside.base c.machine.inside.seat.filter c.machine.inside.seat.saved.items (g.F.Files.seen c.args.files.now) s st' c.in-Err.ensures.same ends) c.uncompacted.ensures.halt
+    (λ halt ends. compact_device c.in-Err.error halt c.machine.inside.base c.machine.inside.index c.machine.inside.seat.filter c.machine.inside.seat.saved.items (g.F.Files.seen c.args.files.now) s st' c.in-Err.ensures.same ends) c.uncompacted.ensures.halt
 
 pub returns-in-Err-clause-sound : goal.returns-in-Err-clause-sound
 returns-in-Err-clause-sound g c =
     let sound = subst (λ (h : Holding). Sound h (g.F.Files.seen c.args.files.now)) (sym c.machine.view_is) c.requires.sound in
-    let P : Kept → Type 0 = λ k. Fits (held_by k c.machine.inside.seat.filter c.machine.inside.seat.saved.items) in
+    let P : Kept → Type 0 = λ k. Fits (held_by k c.machine.inside.index c.machine.inside.seat.filter c.machine.inside.seat.saved.items) in
     ok_by _ _ c.uncompacted.result
     (λ line ends. record { fits = subst P (sym c.in-Err.ensures.unchanged) sound.fits; base = c.keeps_sound.ensures.sound; at_end = c.compact-compacted.ensures.at_end })
     c.uncompacted.ensures.line

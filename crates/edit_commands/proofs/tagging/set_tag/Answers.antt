@@ -15,9 +15,9 @@ pub returns-in_err-game_line-in-Ok-clause-carries : goal.returns-in_err-game_lin
 returns-in_err-game_line-in-Ok-clause-carries g c = λ s st.
     let st' = subst (λ (h : Holding). Stands h (g.F.Files.seen c.args.files.now) s) (sym c.machine.view_is) st in
     let there = subst (λ (h : Holding). c.args.i < length h.kept.entries) (sym c.machine.view_is) c.requires.there in
-    carry_later (held_by c.set_tag-edited.new.self c.machine.inside.seat.filter c.machine.inside.seat.saved.items) (g.F.Files.seen c.set_tag-edited.new.files) s (tag_after s c.args.i c.args.edit.now)
+    carry_later (held_by c.set_tag-edited.new.self c.machine.inside.index c.machine.inside.seat.filter c.machine.inside.seat.saved.items) (g.F.Files.seen c.set_tag-edited.new.files) s (tag_after s c.args.i c.args.edit.now)
     None (tag_carried s c.args.i c.args.edit.now)
-    (tag_stands c.machine.inside.base c.set_tag-edited.new.self c.machine.inside.seat.filter c.machine.inside.seat.saved.items (g.F.Files.seen c.args.files.now) (g.F.Files.seen c.set_tag-edited.new.files) c.set_tag-edited.new.buf s c.args.i c.args.edit.now st' there
+    (tag_stands c.machine.inside.base c.set_tag-edited.new.self c.machine.inside.index c.machine.inside.seat.filter c.machine.inside.seat.saved.items (g.F.Files.seen c.args.files.now) (g.F.Files.seen c.set_tag-edited.new.files) c.set_tag-edited.new.buf s c.args.i c.args.edit.now st' there
     c.in-Ok.ensures.edited c.in-Ok.ensures.tagged c.in-Ok.ensures.unsaved c.set_tag-edited.ensures.names)
 
 pub returns-in_err-game_line-in-Ok-clause-asks : goal.returns-in_err-game_line-in-Ok-clause-asks
@@ -30,21 +30,21 @@ pub returns-in_ok-game_line-in-Ok-clause-line : goal.returns-in_ok-game_line-in-
 returns-in_ok-game_line-in-Ok-clause-line g c = λ s st.
     let st' = subst (λ (h : Holding). Stands h (g.F.Files.seen c.args.files.now) s) (sym c.machine.view_is) st in
     let there = subst (λ (h : Holding). c.args.i < length h.kept.entries) (sym c.machine.view_is) c.requires.there in
-    tag_says c.machine.inside.base c.set_tag-edited.new.self c.machine.inside.seat.filter c.machine.inside.seat.saved.items (g.F.Files.seen c.args.files.now) (g.F.Files.seen c.set_tag-edited.new.files) c.set_tag-edited.new.buf s c.args.i c.args.edit.now _ st' there c.in-Ok.ensures.edited
+    tag_says c.machine.inside.base c.set_tag-edited.new.self c.machine.inside.index c.machine.inside.seat.filter c.machine.inside.seat.saved.items (g.F.Files.seen c.args.files.now) (g.F.Files.seen c.set_tag-edited.new.files) c.set_tag-edited.new.buf s c.args.i c.args.edit.now _ st' there c.in-Ok.ensures.edited
     (c.in_ok-game_line-in-Ok.ensures ∙ ap (game_line (codes "tagged ")) c.from.ensures)
 
 pub returns-in_ok-game_line-in-Ok-clause-stands : goal.returns-in_ok-game_line-in-Ok-clause-stands
 returns-in_ok-game_line-in-Ok-clause-stands g c = λ s st.
     let st' = subst (λ (h : Holding). Stands h (g.F.Files.seen c.args.files.now) s) (sym c.machine.view_is) st in
     let there = subst (λ (h : Holding). c.args.i < length h.kept.entries) (sym c.machine.view_is) c.requires.there in
-    tag_stands c.machine.inside.base c.set_tag-edited.new.self c.machine.inside.seat.filter c.machine.inside.seat.saved.items (g.F.Files.seen c.args.files.now) (g.F.Files.seen c.set_tag-edited.new.files) c.set_tag-edited.new.buf s c.args.i c.args.edit.now st' there
+    tag_stands c.machine.inside.base c.set_tag-edited.new.self c.machine.inside.index c.machine.inside.seat.filter c.machine.inside.seat.saved.items (g.F.Files.seen c.args.files.now) (g.F.Files.seen c.set_tag-edited.new.files) c.set_tag-edited.new.buf s c.args.i c.args.edit.now st' there
     c.in-Ok.ensures.edited c.in-Ok.ensures.tagged c.in-Ok.ensures.unsaved c.set_tag-edited.ensures.names
 
 pub returns-in_ok-game_line-in-Ok-clause-sound : goal.returns-in_ok-game_line-in-Ok-clause-sound
 returns-in_ok-game_line-in-Ok-clause-sound g c =
     let sound = subst (λ (h : Holding). Sound h (g.F.Files.seen c.args.files.now)) (sym c.machine.view_is) c.requires.sound in
     record {
-      fits = fits_count c.machine.inside.base c.set_tag-edited.new.self c.machine.inside.seat.filter c.machine.inside.seat.saved.items c.set_tag-edited.ensures.count sound.fits;
+      fits = fits_count c.machine.inside.base c.set_tag-edited.new.self c.machine.inside.index c.machine.inside.seat.filter c.machine.inside.seat.saved.items c.set_tag-edited.ensures.count sound.fits;
       base = c.keeps_sound.ensures.sound;
       at_end = c.set_tag-edited.ensures.at_end (ok_not_failed _ _ c.in-Ok.is);
     }
@@ -53,9 +53,9 @@ pub returns-in_ok-game_line-in-Ok-clause-carries : goal.returns-in_ok-game_line-
 returns-in_ok-game_line-in-Ok-clause-carries g c = λ s st.
     let st' = subst (λ (h : Holding). Stands h (g.F.Files.seen c.args.files.now) s) (sym c.machine.view_is) st in
     let there = subst (λ (h : Holding). c.args.i < length h.kept.entries) (sym c.machine.view_is) c.requires.there in
-    carry_later (held_by c.set_tag-edited.new.self c.machine.inside.seat.filter c.machine.inside.seat.saved.items) (g.F.Files.seen c.set_tag-edited.new.files) s (tag_after s c.args.i c.args.edit.now)
+    carry_later (held_by c.set_tag-edited.new.self c.machine.inside.index c.machine.inside.seat.filter c.machine.inside.seat.saved.items) (g.F.Files.seen c.set_tag-edited.new.files) s (tag_after s c.args.i c.args.edit.now)
     None (tag_carried s c.args.i c.args.edit.now)
-    (tag_stands c.machine.inside.base c.set_tag-edited.new.self c.machine.inside.seat.filter c.machine.inside.seat.saved.items (g.F.Files.seen c.args.files.now) (g.F.Files.seen c.set_tag-edited.new.files) c.set_tag-edited.new.buf s c.args.i c.args.edit.now st' there
+    (tag_stands c.machine.inside.base c.set_tag-edited.new.self c.machine.inside.index c.machine.inside.seat.filter c.machine.inside.seat.saved.items (g.F.Files.seen c.args.files.now) (g.F.Files.seen c.set_tag-edited.new.files) c.set_tag-edited.new.buf s c.args.i c.args.edit.now st' there
     c.in-Ok.ensures.edited c.in-Ok.ensures.tagged c.in-Ok.ensures.unsaved c.set_tag-edited.ensures.names)
 
 pub returns-in_ok-game_line-in-Ok-clause-asks : goal.returns-in_ok-game_line-in-Ok-clause-asks
@@ -69,19 +69,19 @@ returns-in-Err-clause-line g c = λ s st.
     let st' = subst (λ (h : Holding). Stands h (g.F.Files.seen c.args.files.now) s) (sym c.machine.view_is) st in
     let there = subst (λ (h : Holding). c.args.i < length h.kept.entries) (sym c.machine.view_is) c.requires.there in
     if_ok _ _ c.refused_line.result
-    (λ line ends. refused_says c.machine.inside.base c.machine.inside.seat.filter c.machine.inside.seat.saved.items (g.F.Files.seen c.args.files.now) s c.args.i c.args.edit.now c.in-Err.error _ line.items st' there c.in-Err.ensures.why ends)
+    (λ line ends. refused_says c.machine.inside.base c.machine.inside.index c.machine.inside.seat.filter c.machine.inside.seat.saved.items (g.F.Files.seen c.args.files.now) s c.args.i c.args.edit.now c.in-Err.error _ line.items st' there c.in-Err.ensures.why ends)
     c.refused_line.ensures.line
 
 pub returns-in-Err-clause-stands : goal.returns-in-Err-clause-stands
 returns-in-Err-clause-stands g c = λ s st.
     let st' = subst (λ (h : Holding). Stands h (g.F.Files.seen c.args.files.now) s) (sym c.machine.view_is) st in
     let there = subst (λ (h : Holding). c.args.i < length h.kept.entries) (sym c.machine.view_is) c.requires.there in
-    let P : Kept → Type 0 = λ k. Stands (held_by k c.machine.inside.seat.filter c.machine.inside.seat.saved.items) (g.F.Files.seen c.set_tag-edited.new.files) (tag_after s c.args.i c.args.edit.now) in
+    let P : Kept → Type 0 = λ k. Stands (held_by k c.machine.inside.index c.machine.inside.seat.filter c.machine.inside.seat.saved.items) (g.F.Files.seen c.set_tag-edited.new.files) (tag_after s c.args.i c.args.edit.now) in
     ok_by _ _ c.refused_line.result
     (λ line ends.
     let same = c.in-Err.ensures.none_added (err_not_failed (Err c.in-Err.error) c.in-Err.error refl (not_failed c.in-Err.error line.items ends)) in
     subst P (sym c.in-Err.ensures.unchanged)
-    (refused_stands c.machine.inside.base c.machine.inside.seat.filter c.machine.inside.seat.saved.items (g.F.Files.seen c.args.files.now) (g.F.Files.seen c.set_tag-edited.new.files) s c.args.i c.args.edit.now c.in-Err.error _ line.items st' there c.in-Err.ensures.why ends same))
+    (refused_stands c.machine.inside.base c.machine.inside.index c.machine.inside.seat.filter c.machine.inside.seat.saved.items (g.F.Files.seen c.args.files.now) (g.F.Files.seen c.set_tag-edited.new.files) s c.args.i c.args.edit.now c.in-Err.error _ line.items st' there c.in-Err.ensures.why ends same))
     c.refused_line.ensures.line
 
 pub returns-in-Err-clause-carries : goal.returns-in-Err-clause-carries

@@ -47,7 +47,7 @@ returns-clause-stands g c = λ s st.
     let saved = c.machine.inside.seat.saved.items in
     let coded = subst (λ (codes : List (Option ℕ)). AreCoded codes base new) (c.as_slice-codes.ensures.value) c.set_codes.ensures.coded in
     let here = coded_stands c.args.table.now c.in-Ok.found.items base new filter saved seen s found coded st' in
-    subst (λ (x : Seen). Stands (held_by new filter saved) x (classified_by s c.args.table.now)) (sym c.find_codes.ensures.unchanged) here
+    subst (λ (x : Seen). Stands (held_by new c.machine.inside.index filter saved) x (classified_by s c.args.table.now)) (sym c.find_codes.ensures.unchanged) here
 
 pub returns-clause-sound : goal.returns-clause-sound
 returns-clause-sound g c =
@@ -57,7 +57,7 @@ returns-clause-sound g c =
     let new = c.set_codes.new.base in
     let coded = subst (λ (codes : List (Option ℕ)). AreCoded codes base new) c.as_slice-codes.ensures.value c.set_codes.ensures.coded in
     record {
-      fits = coded_fits c.in-Ok.found.items base new c.machine.inside.seat.filter c.machine.inside.seat.saved.items coded sound.fits;
+      fits = coded_fits c.in-Ok.found.items base new c.machine.inside.index c.machine.inside.seat.filter c.machine.inside.seat.saved.items coded sound.fits;
       base = c.keeps_sound.ensures.sound;
       at_end = subst (λ (x : Seen). IsEnd new.end x) (sym c.find_codes.ensures.unchanged)
           (subst (λ (end : ℕ). IsEnd end seen) (sym coded.end) sound.at_end);

@@ -9,7 +9,7 @@ use Rattle.shell_state.specs.Work.{quiet}
 
 pub returns : goal.returns
 returns c =
-    let old : Holding = held_by c.machine.inside.base c.machine.inside.seat.filter c.machine.inside.seat.saved.items in
+    let old : Holding = held_by c.machine.inside.base c.machine.inside.index c.machine.inside.seat.filter c.machine.inside.seat.saved.items in
     let fits = subst Fits (sym c.machine.view_is) c.requires.fits in
     record {
       quiet = if_ok _ _ c.text_of.result

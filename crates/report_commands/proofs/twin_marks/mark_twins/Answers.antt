@@ -43,8 +43,8 @@ returns-clause-stands g c = λ s st.
     let saved = c.machine.inside.seat.saved.items in
     let marked = subst (λ (games : List ℕ). Marked games base new) c.as_slice.ensures.value c.delete_all.ensures.marked in
     let here = deleted_stands c.in-Ok.found.items base new filter saved seen s marked st' in
-    subst (λ (x : Seen). Stands (held_by new filter saved) x (with_deleted s (found_twins s c.args.depth))) (sym c.find_twins.ensures.unchanged)
-    (subst (λ (games : List ℕ). Stands (held_by new filter saved) seen (with_deleted s games)) (found_are base st'.games s c.in-Ok.found.items c.args.depth st'.base found) here)
+    subst (λ (x : Seen). Stands (held_by new c.machine.inside.index filter saved) x (with_deleted s (found_twins s c.args.depth))) (sym c.find_twins.ensures.unchanged)
+    (subst (λ (games : List ℕ). Stands (held_by new c.machine.inside.index filter saved) seen (with_deleted s games)) (found_are base st'.games s c.in-Ok.found.items c.args.depth st'.base found) here)
 
 pub returns-clause-sound : goal.returns-clause-sound
 returns-clause-sound g c =
@@ -54,7 +54,7 @@ returns-clause-sound g c =
     let new = c.delete_all.new.base in
     let marked = subst (λ (games : List ℕ). Marked games base new) c.as_slice.ensures.value c.delete_all.ensures.marked in
     record {
-      fits = marked_fits c.in-Ok.found.items base new c.machine.inside.seat.filter c.machine.inside.seat.saved.items marked sound.fits;
+      fits = marked_fits c.in-Ok.found.items base new c.machine.inside.index c.machine.inside.seat.filter c.machine.inside.seat.saved.items marked sound.fits;
       base = c.keeps_sound.ensures.sound;
       at_end = subst (λ (x : Seen). IsEnd new.end x) (sym c.find_twins.ensures.unchanged)
           (subst (λ (end : ℕ). IsEnd end seen) (sym (marked_end c.in-Ok.found.items base new marked)) sound.at_end);

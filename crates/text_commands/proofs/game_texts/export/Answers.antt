@@ -9,7 +9,7 @@ use Rattle.text_commands.specs.GameTexts.{export_work}
 
 pub returns-clause-serves : goal.returns-clause-serves
 returns-clause-serves g c = λ s st.
-    let here : Holding = held_by c.machine.inside.base c.machine.inside.seat.filter c.machine.inside.seat.saved.items in
+    let here : Holding = held_by c.machine.inside.base c.machine.inside.index c.machine.inside.seat.filter c.machine.inside.seat.saved.items in
     let st' : Stands here (g.F.Files.seen c.args.files.now) s = subst (λ (h : Holding). Stands h (g.F.Files.seen c.args.files.now) s) (sym c.machine.view_is) st in
     let later = subst (λ (seen : Seen). Stands here seen s) (sym c.write_games.ensures.unchanged) st' in
     let P : List (Option ℕ) → Type 0 = λ plies. GamesEnd c.write_games.result plies s.shared.base.games (g.K.Sink.taken c.args.out.now) (g.K.Sink.taken c.write_games.new.out) in
@@ -18,7 +18,7 @@ returns-clause-serves g c = λ s st.
 
 pub returns-clause-cut : goal.returns-clause-cut
 returns-clause-cut g c = λ s st.
-    let here : Holding = held_by c.machine.inside.base c.machine.inside.seat.filter c.machine.inside.seat.saved.items in
+    let here : Holding = held_by c.machine.inside.base c.machine.inside.index c.machine.inside.seat.filter c.machine.inside.seat.saved.items in
     let st' : Stands here (g.F.Files.seen c.args.files.now) s = subst (λ (h : Holding). Stands h (g.F.Files.seen c.args.files.now) s) (sym c.machine.view_is) st in
     let P : List (Option ℕ) → Type 0 = λ plies. GamesEnd c.write_games.result plies s.shared.base.games (g.K.Sink.taken c.args.out.now) (g.K.Sink.taken c.write_games.new.out) in
     export_breaks c.write_games.result s.seat.filter s.shared.base.games (g.K.Sink.taken c.args.out.now) (g.K.Sink.taken c.write_games.new.out)

@@ -8,7 +8,7 @@ use Rattle.text_commands.specs.GameTexts.{show_work}
 
 pub returns-clause-serves : goal.returns-clause-serves
 returns-clause-serves g c = λ s st.
-    let here : Holding = held_by c.machine.inside.base c.machine.inside.seat.filter c.machine.inside.seat.saved.items in
+    let here : Holding = held_by c.machine.inside.base c.machine.inside.index c.machine.inside.seat.filter c.machine.inside.seat.saved.items in
     let st' : Stands here (g.F.Files.seen c.args.files.now) s = subst (λ (h : Holding). Stands h (g.F.Files.seen c.args.files.now) s) (sym c.machine.view_is) st in
     let later = subst (λ (seen : Seen). Stands here seen s) (sym c.write_one.ensures.unchanged) st' in
     show_serves c.write_one.result here (g.F.Files.seen c.write_one.new.files) s c.args.i (g.K.Sink.taken c.args.out.now) (g.K.Sink.taken c.write_one.new.out)

@@ -10,7 +10,7 @@ use Rattle.text_commands.specs.Showing.{info_work}
 
 pub returns : goal.returns
 returns c =
-    let old : Holding = held_by c.machine.inside.base c.machine.inside.seat.filter c.machine.inside.seat.saved.items in
+    let old : Holding = held_by c.machine.inside.base c.machine.inside.index c.machine.inside.seat.filter c.machine.inside.seat.saved.items in
     let fits = subst Fits (sym c.machine.view_is) c.requires.fits in
     let named = c.names-names.ensures.names in
     record {
