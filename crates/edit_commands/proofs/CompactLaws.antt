@@ -22,20 +22,21 @@ use Rattle.game_filter.proofs.Renumberings.{length-renumbered}
 use Rattle.game_filter.specs.Renumbering.{renumbered, Rises}
 use Rattle.index_entry.specs.declared.entry.Entry.{Entry}
 use Rattle.name_base.specs.NameLists.{NameLists}
-use Rattle.pos_index.specs.Hits.{Index}
+use Rattle.pos_index.specs.Hits.{Index, Place, rows_told, row_of}
 use Rattle.edit_commands.proofs.SaveLaws.{contents_of, known_told}
 use Rattle.edit_commands.specs.Compacting.{numbers_of, is_within, compacted_state, compact_after, compact_text, compacted_line}
 use Rattle.edit_commands.specs.Ends.{uncompacted}
 use Rattle.filter_seat.specs.SavedFilters.{kept_renumbered}
 use Rattle.filter_seat.specs.Seats.{seat_renumbered}
 use Rattle.filter_seat.specs.declared.saved.SavedFilter.{SavedFilter}
+use Rattle.edit_commands.specs.Indexed.{renumbered_index}
 use Rattle.shell_state.proofs.CarryLaws.{beside_meant, carry_of}
-use Rattle.shell_state.proofs.PriceLaws.{look_at}
+use Rattle.shell_state.proofs.PriceLaws.{none_looked}
 use Rattle.shell_state.proofs.Quietly.{held_by}
 use Rattle.shell_state.specs.Carrying.{Contents, AreBeside, Beside, StillCarry, MayCarry}
 use Rattle.shell_state.specs.Ends.{IsDevice, EndsAs}
 use Rattle.shell_state.specs.Refusing.{full_line}
-use Rattle.shell_state.specs.Stands.{Stands, Holding, Fits, looks_in}
+use Rattle.shell_state.specs.Stands.{Stands, Holding, Fits, looks_in, index_of, look_at, looks_at_all}
 use Rattle.shell_state.specs.State.{Carried, State}
 use Rattle.shell_state.specs.Work.{Look}
 use Rattle.shell_state.specs.declared.halt.Halt.{Halt}
@@ -97,6 +98,42 @@ within_true kept games base is room = le-leb (compacted base).end longest_file (
 within_false : (kept : Kept) (games : List ℕ) (base : Base) → Represents kept games base → longest_file < new_end kept.entries → is_within base ≡ false
 within_false kept games base is over = lt-leb (compacted base).end longest_file (subst (λ (n : ℕ). longest_file < n) (sym (same_end kept games base is)) over)
 
+-- ---- the index.
+
+-- The rows of the games that stay.
+rows_left : (depth next : ℕ) (all : List Held)
+    → renumbered (numbers_from next (map (λ (held : Held). held.head.deleted) all)) (map (row_of depth) (map Some (map (λ (held : Held). held.game) all)))
+    ≡ map (row_of depth) (map Some (map (λ (held : Held). held.game) (filter stays all)))
+rows_left depth next [] = refl
+rows_left depth next (held ∷ all) = elim (cases_Bool held.head.deleted) [
+  | inl goes ↦ rw goes (rows_left depth next all)
+  | inr stay ↦ rw stay (ap (λ (rows : List (List Place)). row_of depth (Some held.game) ∷ rows) (rows_left depth (next + 1) all))
+]
+
+-- The index that is renumbered is that of the base that is left.
+index_left : (to : List (Option ℕ)) (base : Base) (depth : Option ℕ) → to ≡ numbers_of base
+    → option_map (renumbered_index to) (option_map (index_of (map (λ (held : Held). held.game) base.games)) depth)
+    ≡ option_map (index_of (map (λ (held : Held). held.game) (compacted base).games)) depth
+index_left to base None is = refl
+index_left to base (Some depth) is =
+    ap (λ (rows : List (List Place)). Some (record { depth = depth; rows = rows }))
+    (ap (λ (numbers : List (Option ℕ)). renumbered numbers (map (row_of depth) (map Some (map (λ (held : Held). held.game) base.games)))) is
+    ∙ rows_left depth 0 base.games
+    ∙ ap (λ (all : List Held). map (row_of depth) (map Some (map (λ (held : Held). held.game) all))) (sym (games_compacted base)))
+
+-- It can be renumbered where it has a row for each game.
+pub index_long : (to : List (Option ℕ)) (games : ℕ) (index : Option Index) → length to ≡ games
+    → IfSome index (λ (x : Index). length x.rows ≡ games) → IfSome index (λ (x : Index). length to ≡ length x.rows)
+index_long to games None all fits = tt
+index_long to games (Some index) all fits = all ∙ sym fits
+
+-- It has a row for each game that is left.
+pub index_left_fits : (to : List (Option ℕ)) (kept games : ℕ) (index : Option Index) → Rises 0 to kept → length to ≡ games
+    → IfSome index (λ (x : Index). length x.rows ≡ games) → IfSome (option_map (renumbered_index to) index) (λ (x : Index). length x.rows ≡ kept)
+index_left_fits to kept games None rises all fits = tt
+index_left_fits to kept games (Some index) rises all fits =
+    let rest = length-renumbered 0 kept to index.rows rises (all ∙ sym fits) in omega (arith, rest)
+
 -- ---- it was done.
 
 -- What a compaction says where both games files are told.
@@ -108,7 +145,7 @@ known_games old new told now games fresh base compacts is there represents =
 
 done_stands : (old new : Kept) (index : Option Index) (filter : List (Option ℕ)) (saved : List SavedFilter) (seen seen' : Seen) (s : State) → Stands (held_by old index filter saved) seen s → IsCommitted old new seen seen' → MeansIt new seen'
     → Compacts old new seen.games seen'.games → new.unsaved ≡ false
-    → Stands (held_by new index (renumbered (numbering old.entries).to filter) (map (kept_renumbered (numbering old.entries).to) saved)) seen' (compacted_state s)
+    → Stands (held_by new (option_map (renumbered_index (numbering old.entries).to) index) (renumbered (numbering old.entries).to filter) (map (kept_renumbered (numbering old.entries).to) saved)) seen' (compacted_state s)
 done_stands old new index filter saved seen seen' s st is means compacts clean =
     let before : Contents seen = contents_of old seen s.shared.unsaved s.shared.carried st.games st.carried st.told in
     let fresh : List ℕ = new_games old.entries st.games in
@@ -132,13 +169,14 @@ done_stands old new index filter saved seen seen' s st is means compacts clean =
       seat = ap (seat_renumbered (numbering old.entries).to) st.seat ∙ ap (λ (t : List (Option ℕ)). seat_renumbered t s.seat) to;
       unsaved = clean;
       carried = beside_meant new seen' (compacted s.shared.base) true now there.names again.means (λ sound. again.faultless);
+      index = ap (option_map (renumbered_index (numbering old.entries).to)) st.index ∙ index_left (numbering old.entries).to s.shared.base s.shared.index to;
     }
 
 pub compact_stands : (old new : Kept) (index : Option Index) (filter : List (Option ℕ)) (saved : List SavedFilter) (seen seen' : Seen) (s : State) → Stands (held_by old index filter saved) seen s → IsCommitted old new seen seen' → MeansIt new seen'
     → Compacts old new seen.games seen'.games → new.unsaved ≡ false → new_end old.entries ≤ longest_file
-    → Stands (held_by new index (renumbered (numbering old.entries).to filter) (map (kept_renumbered (numbering old.entries).to) saved)) seen' (compact_after s)
+    → Stands (held_by new (option_map (renumbered_index (numbering old.entries).to) index) (renumbered (numbering old.entries).to filter) (map (kept_renumbered (numbering old.entries).to) saved)) seen' (compact_after s)
 compact_stands old new index filter saved seen seen' s st is means compacts clean room =
-    let P : Bool → Type 0 = λ b. Stands (held_by new index (renumbered (numbering old.entries).to filter) (map (kept_renumbered (numbering old.entries).to) saved)) seen' (if b then compacted_state s else s) in
+    let P : Bool → Type 0 = λ b. Stands (held_by new (option_map (renumbered_index (numbering old.entries).to) index) (renumbered (numbering old.entries).to filter) (map (kept_renumbered (numbering old.entries).to) saved)) seen' (if b then compacted_state s else s) in
     subst P (sym (within_true old st.games s.shared.base st.base room)) (done_stands old new index filter saved seen seen' s st is means compacts clean)
 
 pub compact_says : (old : Kept) (index : Option Index) (filter : List (Option ℕ)) (saved : List SavedFilter) (seen : Seen) (s : State) (line : List ℕ) (games kept : ℕ) → Stands (held_by old index filter saved) seen s → new_end old.entries ≤ longest_file
@@ -248,18 +286,26 @@ saved_moved to kept games saved rises all fits =
 
 -- ---- what it asks.
 
-staying_lens : (names : NameLists) (es : List Entry)
-    → sum_by (λ (x : Entry). x.len) (staying es) ≡ sum_by (λ (x : Look). x.len) (filter (λ (x : Look). not x.head.deleted) (map (look_at names) es))
-unfolding head_of
-staying_lens names [] = refl
-staying_lens names (e ∷ es) =
-    let rest = staying_lens names es in
-    elim (cases_Bool e.deleted) [
-      | inl goes ↦ rw goes rest
-      | inr stay ↦ rw stay
-          (sum_by-cons (λ (x : Entry). x.len) e (staying es) ∙ (ap (λ (n : ℕ). e.len + n) rest
-          ∙ sym (sum_by-cons (λ (x : Look). x.len) (look_at names e) (filter (λ (x : Look). not x.head.deleted) (map (look_at names) es)))))
-    ]
+abbrev staying_looks : List Look → List Look
+staying_looks looks = filter (λ (x : Look). not x.head.deleted) looks
 
-pub compact_price : (kept : Kept) → kept_len kept.entries ≡ sum_by (λ (x : Look). x.len) (filter (λ (x : Look). not x.head.deleted) (looks_in kept))
-compact_price kept = staying_lens kept.names kept.entries
+-- Of one game more, whatever the index has of it.
+staying_more : (names : NameLists) (places : List Place) (e : Entry) (es : List Entry) (looks : List Look)
+    → sum_by (λ (x : Entry). x.len) (staying es) ≡ sum_by (λ (x : Look). x.len) (staying_looks looks)
+    → sum_by (λ (x : Entry). x.len) (staying (e ∷ es)) ≡ sum_by (λ (x : Look). x.len) (staying_looks (look_at names places e ∷ looks))
+unfolding head_of
+staying_more names places e es looks rest = elim (cases_Bool e.deleted) [
+  | inl goes ↦ rw goes rest
+  | inr stay ↦ rw stay
+      (sum_by-cons (λ (x : Entry). x.len) e (staying es) ∙ (ap (λ (n : ℕ). e.len + n) rest
+      ∙ sym (sum_by-cons (λ (x : Look). x.len) (look_at names places e) (staying_looks looks))))
+]
+
+staying_lens : (names : NameLists) (rows : List (List Place)) (es : List Entry)
+    → sum_by (λ (x : Entry). x.len) (staying es) ≡ sum_by (λ (x : Look). x.len) (staying_looks (looks_at_all names rows es))
+staying_lens names rows [] = ap (λ (looks : List Look). sum_by (λ (x : Look). x.len) (staying_looks looks)) (sym (none_looked names rows))
+staying_lens names [] (e ∷ es) = staying_more names [] e es (looks_at_all names [] es) (staying_lens names [] es)
+staying_lens names (row ∷ rows) (e ∷ es) = staying_more names row e es (looks_at_all names rows es) (staying_lens names rows es)
+
+pub compact_price : (holding : Holding) → kept_len holding.kept.entries ≡ sum_by (λ (x : Look). x.len) (filter (λ (x : Look). not x.head.deleted) (looks_in holding))
+compact_price holding = staying_lens holding.kept.names (rows_told holding.index) holding.kept.entries

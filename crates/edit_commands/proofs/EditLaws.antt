@@ -10,8 +10,9 @@ use Rattle.base_files.specs.Seen.{Seen}
 use Rattle.pos_index.specs.Hits.{Index}
 use Rattle.edit_commands.specs.Editing.{edited_there, line_there}
 use Rattle.filter_seat.specs.declared.saved.SavedFilter.{SavedFilter}
+use Rattle.shell_state.proofs.IndexLaws.{index_stays}
 use Rattle.shell_state.proofs.CarryLaws.{beside_edited}
-use Rattle.shell_state.proofs.EditedLaws.{fits_count, same_count}
+use Rattle.shell_state.proofs.EditedLaws.{fits_count, same_count, index_fits_count}
 use Rattle.shell_state.proofs.Quietly.{held_by}
 use Rattle.shell_state.specs.Lines.{game_line, no_game_line}
 use Rattle.shell_state.specs.Stands.{Fits, Quiet, Stands, Holding}
@@ -34,12 +35,14 @@ quiet_edit words edit game old new index filter saved work line after says there
         seat = st.seat;
         unsaved = heads.unsaved;
         carried = beside_edited old new seen s.shared.unsaved s.shared.carried heads.names st.carried;
+        index = index_stays old new st.games s.shared.base (edit s.shared.base) index s.shared.index st.base (does st.games s.shared.base st.base) heads.extents st.index;
       } in
       subst (Stands (held_by new index filter saved) seen) (ap (edited_there edit s) (sym held.1) ∙ sym (after s)) standing;
   text = λ (seen : Seen) (s : State) (st : Stands (held_by old index filter saved) seen s).
       let held = get_some s.shared.base.games game (omega (arith, there, st.base.count)) in
       written ∙ ap (line_there words game) (sym held.1) ∙ sym (says s);
   fits = fits_count old new index filter saved (same_count old new heads) fits;
+  index = index_fits_count old new index filter saved (same_count old new heads);
   base = λ before. sound;
   end = heads.end;
 }
@@ -58,6 +61,7 @@ quiet_no_edit words edit game old work line after says past written fits = recor
       let none : slice_get s.shared.base.games game ≡ None = slice_get_past s.shared.base.games game (omega (arith, past, st.base.count)) in
       written ∙ ap (line_there words game) (sym none) ∙ sym (says s);
   fits = fits;
+  index = λ fits. fits;
   base = λ sound. sound;
   end = refl;
 }

@@ -28,7 +28,7 @@ clean_sound kept is = record { header = is.header; count = is.count; names = is.
 
 pub saved_sound : (kept : Kept) (index : Option Index) (filter : List (Option ℕ)) (saved : List SavedFilter) (seen seen' : Seen) → Sound (held_by kept index filter saved) seen → IsEnd kept.end seen' → Sound (held_by (clean kept) index filter saved) seen'
 saved_sound kept index filter saved seen seen' is at =
-    record { fits = record { filter = is.fits.filter; saved = is.fits.saved }; base = clean_sound kept is.base; at_end = at }
+    record { fits = record { filter = is.fits.filter; saved = is.fits.saved }; index = is.index; base = clean_sound kept is.base; at_end = at }
 
 -- The contents that are told beside a state.
 pub contents_of : (kept : Kept) (seen : Seen) (unsaved : Bool) (carried : Option Carried) (games : List ℕ) → AreBeside kept seen unsaved carried → seen.games ≡ Some games → Contents seen

@@ -1,10 +1,10 @@
 -- Laws of `tag`.
-use Rattle.std.proofs.Common.{◌≡◌, ℕ, List, Option, Some, IfSome, subst, sym, ap, ◌∙◌, ◌<◌, true, ◌++◌, length, None, arith, Ok, Err, inl, inr, refl, OnOk, Result, [], ◌≤◌}
+use Rattle.std.proofs.Common.{◌≡◌, ℕ, List, Option, Some, IfSome, subst, sym, ap, ◌∙◌, ◌<◌, true, ◌++◌, length, None, arith, Ok, Err, inl, inr, refl, OnOk, Result, [], ◌≤◌, map, option_map}
 use Rattle.std.proofs.lemmas.Option.{slice_get_past}
 use Rattle.std.specs.Prelude.{IfErr, slice_get, unwrap_or, codes}
 use Rattle.base_core.proofs.Lists.{get_some}
 use Rattle.base_core.specs.Base.{Base, Held}
-use Rattle.base_core.specs.Edits.{tagged}
+use Rattle.base_core.specs.Edits.{tagged, tagged_at, held_of, game_replaced}
 use Rattle.base_core.specs.GameAt.{IsGameAt, IfChanged}
 use Rattle.base_core.specs.Means.{HoldsNames}
 use Rattle.base_core.specs.Represents.{Kept, Represents}
@@ -21,9 +21,10 @@ use Rattle.game_tree.specs.Game.{GameTree}
 use Rattle.game_tree.specs.TagEdit.{edited}
 use Rattle.game_tree.specs.declared.head.Head.{Head}
 use Rattle.game_tree.specs.declared.tag_edit.TagEdit.{TagEdit}
-use Rattle.pos_index.specs.Hits.{Index}
+use Rattle.pos_index.specs.Hits.{Index, rows_told}
 use Rattle.edit_commands.specs.Editing.{tag_after, tagged_there, unless_refused, tag_line_there, tag_text, tag_work}
 use Rattle.filter_seat.specs.declared.saved.SavedFilter.{SavedFilter}
+use Rattle.shell_state.proofs.IndexLaws.{same_games}
 use Rattle.shell_state.proofs.CarryLaws.{beside_grown}
 use Rattle.shell_state.proofs.EditedLaws.{kept_refusal, kept-refusal, none_refused, refused_so}
 use Rattle.shell_state.proofs.PriceLaws.{len_looks, look_at}
@@ -33,7 +34,7 @@ use Rattle.shell_state.specs.Ends.{refused_edit, IsThere, IsDevice, EndsAs, IsOu
 use Rattle.shell_state.specs.Lines.{game_line, no_game_line}
 use Rattle.shell_state.specs.Passing.{len_in}
 use Rattle.shell_state.specs.Refusing.{refusal_of}
-use Rattle.shell_state.specs.Stands.{len_at, Stands, looks_in, Broken, Holding}
+use Rattle.shell_state.specs.Stands.{len_at, Stands, looks_in, Broken, Holding, index_of}
 use Rattle.shell_state.specs.State.{State}
 use Rattle.shell_state.specs.Work.{Look, works}
 use Rattle.shell_state.specs.declared.halt.Halt.{Halt}
@@ -62,6 +63,14 @@ base_tagged old new i tag told now games after base tags is then there =
     let Q : Option (List ℕ) → Type 0 = λ n. IfSome n (λ after. (base : Base) → Represents old games base → Represents new after (tagged i tag base)) in
     (subst Q then (subst P is tags)) base there
 
+-- An edit of tags leaves the games.
+tagged_games : (i : ℕ) (tag : TagEdit) (base : Base) (held : Held) → slice_get base.games i ≡ Some held
+    → map (λ (h : Held). h.game) (tagged i tag base).games ≡ map (λ (h : Held). h.game) base.games
+unfolding tagged game_replaced
+tagged_games i tag base held there =
+    ap (λ (o : Option Held). map (λ (h : Held). h.game) (tagged_at i tag o base).games) there
+    ∙ same_games (λ _. held_of (edited held.head tag) held.game) i base.games held there refl
+
 pub tag_stands : (old new : Kept) (index : Option Index) (filter : List (Option ℕ)) (saved : List SavedFilter) (seen seen' : Seen) (buf : List ℕ) (s : State) (i : ℕ) (tag : TagEdit) → Stands (held_by old index filter saved) seen s → i < length old.entries
     → IsTagged i tag old new seen seen' buf → Tags i tag old new seen.games seen'.games → new.unsaved ≡ true → HoldsNames new.names old.names
     → Stands (held_by new index filter saved) seen' (tag_after s i tag)
@@ -79,6 +88,7 @@ tag_stands old new index filter saved seen seen' buf s i tag st there is tags un
       seat = st.seat;
       unsaved = unsaved;
       carried = beside_grown old new seen seen' bytes s.shared.unsaved s.shared.carried is.appended names st.carried;
+      index = st.index ∙ ap (λ (games : List GameTree). option_map (index_of games) s.shared.index) (sym (tagged_games i tag s.shared.base held.0 held.1));
     } in
     subst (Stands (held_by new index filter saved) seen') (ap (λ (r : Option (List ℕ)). unless_refused r s (tagged i tag s.shared.base)) (sym none) ∙ ap (tagged_there i tag s) (sym held.1)) standing
 
@@ -167,8 +177,8 @@ pub tag_carried : (s : State) (i : ℕ) (tag : TagEdit) → (tag_after s i tag).
 tag_carried s i tag = there_carried i tag s (slice_get s.shared.base.games i)
 
 -- What the command asks is what it costs.
-pub tag_price : (kept : Kept) (game : ℕ) → len_at kept.entries game ≡ len_in (λ (x : Look). x.len) (slice_get (looks_in kept) game)
-tag_price kept game = len_looks (look_at kept.names) kept.entries game
+pub tag_price : (holding : Holding) (game : ℕ) → len_at holding.kept.entries game ≡ len_in (λ (x : Look). x.len) (slice_get (looks_in holding) game)
+tag_price holding game = len_looks holding.kept.names (rows_told holding.index) holding.kept.entries game
 
 -- A game that is not there: its line was written or broken off.
 pub no_game_serves : {A : Type 0} (r : Result A Halt) (holding : Holding) (seen : Seen) (s : State) (number : ℕ) (tag : TagEdit) (line : List ℕ) (told told' : Option (List ℕ)) → Stands holding seen s

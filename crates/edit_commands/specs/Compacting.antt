@@ -20,10 +20,10 @@ numbers_of base = numbers_from 0 (map (λ held. held.head.deleted) base.games)
 abbrev pub is_within : Base → Bool
 is_within base = nat_le (compacted base).end longest_file
 
--- compact: the undeleted games stay, the filters move with them, and the files carry the base that is left.
+-- compact: the undeleted games stay, the filters and the index move with them, and the files carry the base that is left.
 abbrev pub compacted_state : State → State
 compacted_state s = record {
-  shared = saved_whole (compacted s.shared.base);
+  shared = saved_whole s.shared (compacted s.shared.base);
   seat = seat_renumbered (numbers_of s.shared.base) s.seat;
 }
 

@@ -1,4 +1,5 @@
 pub mod Compacting
 pub mod Editing
 pub mod Ends
+pub mod Indexed
 pub mod Saving

@@ -7,7 +7,7 @@ use Rattle.shell_state.specs.Work.Price.{by_looks}
 
 -- save: the files carry the base as it is.
 abbrev pub save_after : State → State
-save_after s = record s { shared = saved_whole s.shared.base }
+save_after s = record s { shared = saved_whole s.shared s.shared.base }
 
 abbrev pub saved_line : ℕ → List ℕ
 saved_line games = codes "saved " ++ decimal games ++ codes " games\n"

@@ -1,11 +1,12 @@
 //! The command that compacts the base.
-ghost use Rattle.std.specs.Prelude.{◌≡◌, ◌≤◌, ◌+◌, Ok, IfOk, IfErr, OnOk};
+ghost use Rattle.std.specs.Prelude.{◌≡◌, ◌≤◌, ◌+◌, Ok, length, option_map, IfOk, IfErr, IfSome, OnOk};
 ghost use Rattle.base_core.specs.Compacted.{compacted};
 ghost use Rattle.command_runs.specs.Counts.{Causes, counts};
 ghost use Rattle.command_runs.specs.Endings.{Serves};
 ghost use Rattle.compact_base.specs.Compacting.{kept_len};
 ghost use Rattle.edit_commands.specs.Compacting.{compact_after, compact_text, compacted_line, compact_work};
 ghost use Rattle.edit_commands.specs.Ends.{uncompacted};
+ghost use Rattle.edit_commands.specs.Indexed.{renumbered_index};
 ghost use Rattle.shell_state.specs.Carrying.{StillCarry};
 ghost use Rattle.shell_state.specs.Ends.{EndsAs, IsDevice};
 ghost use Rattle.shell_state.specs.Stands.{Stands, Sound, Broken, WhyHalt, Asks};
@@ -16,6 +17,8 @@ use base_core::What;
 use base_files::{Files, Sink, Stop};
 use compact_base::CompactError;
 use filter_seat::renumber_all;
+use game_filter::Renumbering;
+use pos_index::PosIndex;
 use shell_state::{Halt, Machine, error_line, full_words, write_line};
 use std::alloc::{AllocError, Global};
 
@@ -40,7 +43,7 @@ pub fn compact<F: Files, K: Sink>(
     }
 }
 
-// Leaves the games that are not deleted and moves the filters with them, and gives the line for it.
+// Leaves the games that are not deleted and moves the filters and the index with them, and gives the line for it.
 fn compact_files<F: Files>(
     alloc: Global,
     machine: &mut Machine,
@@ -62,6 +65,7 @@ fn compact_files<F: Files>(
     machine.keeps_sound();
     match compacted {
         Ok(renumbering) => {
+            renumber_index(&mut machine.index, &renumbering);
             renumber_all(
                 &mut machine.seat.filter,
                 machine.seat.saved.as_mut_slice(),
@@ -70,6 +74,16 @@ fn compact_files<F: Files>(
             Ok(compacted_line(alloc, games, renumbering.kept())?)
         }
         Err(error) => uncompacted(alloc, error),
+    }
+}
+
+// The index, if there is one, gets the new numbers of the games.
+fn renumber_index(index: &mut Option<PosIndex>, renumbering: &Renumbering)
+    requires rows { IfSome index.old (λ x. length renumbering.now.to ≡ length x.rows) }
+    ensures renumbered { index.new ≡ option_map (renumbered_index renumbering.now.to) index.old }
+{
+    if let Some(index) = index {
+        index.renumber(renumbering);
     }
 }
 

@@ -43,7 +43,7 @@ drop_in : (kept : Kept) (index : Option Index) (filter : Plies) (saved later : L
 drop_in kept index filter saved later name line dropped written all fits =
     let old : Holding = held_by kept index filter saved in
     let new : Holding = held_by kept index filter later in
-    quiet_by (λ f s. f) (λ f s. dropped_in s name) (λ f s. drop_line s name) old new (drop_work name) line (λ s. refl) (λ s. refl) refl refl dropped written
+    quiet_by (λ f s. f) (λ f s. dropped_in s name) (λ f s. drop_line s name) old new (drop_work name) line (λ s. refl) (λ s. refl) refl refl refl dropped written
     (fits_saved old new refl refl (all (length kept.entries) fits.saved) fits)
 
 pub drop_quiet : (old : Holding) (kept : Kept) (index : Option Index) (filter : Plies) (saved later : List SavedFilter) (name line : List ℕ)

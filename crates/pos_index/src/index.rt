@@ -85,11 +85,18 @@ impl PosIndex {
         self.depth
     }
 
-    /// Whether so many games may stand under the index: times the depth and one they are at most 16,000,000.
+    /// Whether so many games may stand under an index to a depth: times the depth and one they are at most 16,000,000.
+    pub fn fits(depth: u8, games: u32) -> bool
+        ensures fits { IsTrue result ↔ Fits depth games }
+    {
+        games <= MOST / (u32::from(depth) + 1)
+    }
+
+    /// Whether so many games may stand under the index.
     pub fn room(&self, games: u32) -> bool
         ensures room { IsTrue result ↔ Fits self.now.depth games }
     {
-        games <= MOST / (u32::from(self.depth) + 1)
+        PosIndex::fits(self.depth, games)
     }
 
     /// How many hits there are on all boards.

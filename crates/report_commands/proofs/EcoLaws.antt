@@ -1,5 +1,5 @@
 -- Laws of `eco`.
-use Rattle.std.proofs.Common.{◌≡◌, ◌+◌, ℕ, List, [], ◌∷◌, map, sum_by, refl, sym, ap, ◌∙◌, ◌<◌, length, take, ◌≤◌, ◌++◌, get_or, Option, Some, ap₂, None, ◌||◌, Bool, true, subst, false}
+use Rattle.std.proofs.Common.{◌≡◌, ◌+◌, ℕ, List, [], ◌∷◌, map, sum_by, refl, sym, ap, ◌∙◌, ◌<◌, length, take, ◌≤◌, ◌++◌, get_or, Option, Some, ap₂, None, ◌||◌, Bool, true, subst, false, option_map}
 use Rattle.std.proofs.lemmas.List.{map_more}
 use Rattle.std.proofs.lemmas.List.Sums.{sum_by-cons, sum_by_more, sum_by_more_le}
 use Rattle.std.proofs.lemmas.Option.{get_or_from_slice_get, slice_get_within}
@@ -17,17 +17,17 @@ use Rattle.eco_class.specs.Table.{Opening, eco_of}
 use Rattle.game_tree.specs.Game.{GameTree}
 use Rattle.index_entry.specs.declared.entry.Entry.{Entry}
 use Rattle.name_base.specs.NameLists.{NameLists}
-use Rattle.pos_index.specs.Hits.{Index}
+use Rattle.pos_index.specs.Hits.{Index, rows_told}
 use Rattle.sig_index.specs.Games.{extent_in}
 use Rattle.filter_seat.specs.declared.saved.SavedFilter.{SavedFilter}
 use Rattle.report_commands.specs.Classifying.{with_code, classified_by, codes_of}
 use Rattle.report_commands.specs.Ends.{coded, AreCoded, IsCoded}
 use Rattle.shell_state.proofs.EditedLaws.{same_count, fits_count}
-use Rattle.shell_state.proofs.PriceLaws.{look_at}
+use Rattle.shell_state.proofs.PriceLaws.{sum_looks}
 use Rattle.shell_state.proofs.Quietly.{held_by}
 use Rattle.shell_state.specs.Carrying.{AreBeside}
 use Rattle.shell_state.specs.Ends.{IsDevice, IsBodyFault}
-use Rattle.shell_state.specs.Stands.{Stands, Fits, looks_in}
+use Rattle.shell_state.specs.Stands.{Stands, Fits, looks_in, index_of}
 use Rattle.shell_state.specs.State.{Carried, State}
 use Rattle.shell_state.specs.Work.{Look}
 use Rattle.shell_state.specs.declared.halt.Halt.{Halt}
@@ -42,15 +42,9 @@ places_len (e ∷ entries) =
     sum_by-cons (λ (x : Extent). x.len) (extent_of e) (map extent_of entries) ∙ (ap (λ (n : ℕ). e.len + n) (places_len entries)
     ∙ sym (sum_by-cons (λ (x : Entry). x.len) e entries))
 
-look_lens : (names : NameLists) (entries : List Entry) → sum_by (λ (e : Entry). e.len) entries ≡ sum_by (λ (x : Look). x.len) (map (look_at names) entries)
-look_lens names [] = refl
-look_lens names (e ∷ entries) =
-    sum_by-cons (λ (d : Entry). d.len) e entries ∙ (ap (λ (n : ℕ). e.len + n) (look_lens names entries)
-    ∙ sym (sum_by-cons (λ (x : Look). x.len) (look_at names e) (map (look_at names) entries)))
-
 -- What the command asks is what it costs.
-pub codes_price : (kept : Kept) → sum_by (λ (x : Extent). x.len) (map extent_of kept.entries) ≡ sum_by (λ (x : Look). x.len) (looks_in kept)
-codes_price kept = places_len kept.entries ∙ look_lens kept.names kept.entries
+pub codes_price : (holding : Holding) → sum_by (λ (x : Extent). x.len) (map extent_of holding.kept.entries) ≡ sum_by (λ (x : Look). x.len) (looks_in holding)
+codes_price holding = places_len holding.kept.entries ∙ sum_looks holding.kept.names (rows_told holding.index) holding.kept.entries
 
 -- What is asked for one game more.
 pub asked_more : (places : List Extent) (i : ℕ) → i < length places
@@ -156,6 +150,17 @@ beside_coded old new seen some unsaved (Some base) names b = record {
 }
 beside_coded old new seen some unsaved None names b = b
 
+-- A game keeps its moves whatever its code is.
+code_game : (code : Option ℕ) (held : Held) → (with_code code held).game ≡ held.game
+code_game None held = refl
+code_game (Some code) held = refl
+
+classified_games : (table : List Opening) (games : List Held)
+    → map (λ (held : Held). held.game) (map (λ (held : Held). with_code (eco_of table held.game) held) games) ≡ map (λ (held : Held). held.game) games
+classified_games table [] = refl
+classified_games table (held ∷ games) =
+    ap₂ (λ (g : GameTree) (later : List GameTree). g ∷ later) (code_game (eco_of table held.game) held) (classified_games table games)
+
 pub coded_stands : (table : List Opening) (codes : List (Option ℕ)) (old new : Kept) (index : Option Index) (filter : List (Option ℕ)) (saved : List SavedFilter) (seen : Seen) (s : State)
     → codes ≡ codes_of table s → AreCoded codes old new → Stands (held_by old index filter saved) seen s → Stands (held_by new index filter saved) seen (classified_by s table)
 coded_stands table codes old new index filter saved seen s are coded_are st =
@@ -167,6 +172,7 @@ coded_stands table codes old new index filter saved seen s are coded_are st =
       seat = st.seat;
       unsaved = coded_are.unsaved ∙ ap₂ (λ (found : List (Option ℕ)) (rest : Bool). list_any is_some found || rest) are st.unsaved;
       carried = beside_coded old new seen (list_any is_some (codes_of table s)) s.shared.unsaved s.shared.carried coded_are.names st.carried;
+      index = st.index ∙ ap (λ (games : List GameTree). option_map (index_of games) s.shared.index) (sym (classified_games table s.shared.base.games));
     }
 
 pub coded_fits : (codes : List (Option ℕ)) (old new : Kept) (index : Option Index) (filter : List (Option ℕ)) (saved : List SavedFilter) → AreCoded codes old new → Fits (held_by old index filter saved) → Fits (held_by new index filter saved)

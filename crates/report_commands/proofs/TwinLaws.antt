@@ -17,7 +17,7 @@ use Rattle.game_tree.specs.Game.{GameTree}
 use Rattle.game_tree.specs.declared.head.Head.{Head}
 use Rattle.index_entry.specs.declared.entry.Entry.{Entry}
 use Rattle.name_base.specs.NameLists.{NameLists}
-use Rattle.pos_index.specs.Hits.{Index}
+use Rattle.pos_index.specs.Hits.{Index, rows_told}
 use Rattle.sig_index.specs.Games.{extent_in, head_in, Holds}
 use Rattle.sig_index.specs.declared.signature.Sig.{Sig}
 use Rattle.twin_games.specs.Asking.{is_shared, price}
@@ -29,13 +29,14 @@ use Rattle.filter_seat.specs.declared.saved.SavedFilter.{SavedFilter}
 use Rattle.report_commands.proofs.UntaggedLaws.{twins_untagged}
 use Rattle.report_commands.specs.Ends.{Marked, halt_of_twins}
 use Rattle.report_commands.specs.Twins.{all_deleted, with_deleted, is_read, shared_len, found_twins, twins_price}
+use Rattle.shell_state.proofs.IndexLaws.{index_stays}
 use Rattle.shell_state.proofs.CarryLaws.{beside_edited}
-use Rattle.shell_state.proofs.EditedLaws.{fits_count, same_count}
+use Rattle.shell_state.proofs.EditedLaws.{fits_count, same_count, index_fits_count}
 use Rattle.shell_state.proofs.HoldingLaws.{fetch_device, fetch_why}
-use Rattle.shell_state.proofs.PriceLaws.{look_at}
+use Rattle.shell_state.proofs.PriceLaws.{by_entries}
 use Rattle.shell_state.proofs.Quietly.{held_by}
 use Rattle.shell_state.specs.Ends.{IsDevice}
-use Rattle.shell_state.specs.Stands.{Stands, Fits, WhyHalt, looks_in}
+use Rattle.shell_state.specs.Stands.{Stands, Fits, WhyHalt, looks_in, Holding, IndexFits}
 use Rattle.shell_state.specs.State.{State, games_of}
 use Rattle.shell_state.specs.Work.{Look}
 
@@ -73,11 +74,17 @@ deleted_stands (game ∷ games) old new index filter saved seen s marked st = re
   seat = st.seat;
   unsaved = marked.1.unsaved;
   carried = beside_edited old new seen s.shared.unsaved s.shared.carried marked.1.names st.carried;
+  index = index_stays old new st.games s.shared.base _ index s.shared.index st.base (marked.0 st.games s.shared.base st.base) marked.1.extents st.index;
 }
 
 pub marked_fits : (games : List ℕ) (old new : Kept) (index : Option Index) (filter : List (Option ℕ)) (saved : List SavedFilter) → Marked games old new → Fits (held_by old index filter saved) → Fits (held_by new index filter saved)
 marked_fits [] old new index filter saved same fits = subst (λ (k : Kept). Fits (held_by k index filter saved)) (sym same) fits
 marked_fits (game ∷ games) old new index filter saved marked fits = fits_count old new index filter saved (same_count old new marked.1) fits
+
+pub marked_index_fits : (games : List ℕ) (old new : Kept) (index : Option Index) (filter : List (Option ℕ)) (saved : List SavedFilter) → Marked games old new
+    → IndexFits (held_by old index filter saved) → IndexFits (held_by new index filter saved)
+marked_index_fits [] old new index filter saved same fits = subst (λ (k : Kept). IndexFits (held_by k index filter saved)) (sym same) fits
+marked_index_fits (game ∷ games) old new index filter saved marked fits = index_fits_count old new index filter saved (same_count old new marked.1) fits
 
 pub marked_end : (games : List ℕ) (old new : Kept) → Marked games old new → new.end ≡ old.end
 marked_end [] old new same = ap (λ (k : Kept). k.end) same
@@ -117,18 +124,15 @@ twins-price kept =
     (λ i j is. ap (head_in (heads_of kept)) (let same : j ≡ i = omega (arith, is) in same)) (λ i j is. ap (extent_in (extents_of kept)) (let same : j ≡ i = omega (arith, is) in same))
     ∙ ap (shared_len (heads_of kept) (heads_of kept)) (lens_of kept.entries)
 
-heads_looked : (names : NameLists) (entries : List Entry) → map (λ (e : Entry). head_of names e []) entries ≡ map (λ (x : Look). x.head) (map (look_at names) entries)
-heads_looked names [] = refl
-heads_looked names (e ∷ entries) = ap (λ (heads : List Head). head_of names e [] ∷ heads) (heads_looked names entries)
-
-lens_looked : (names : NameLists) (entries : List Entry) → map (λ (e : Entry). e.len) entries ≡ map (λ (x : Look). x.len) (map (look_at names) entries)
-lens_looked names [] = refl
-lens_looked names (e ∷ entries) = ap (λ (lens : List ℕ). e.len ∷ lens) (lens_looked names entries)
-
 -- The search for twins asks what the command costs.
-pub price_is : (kept : Kept) (plies : List (Option ℕ)) → price (heads_of kept) (extents_of kept) ≡ twins_price (looks_in kept) plies
-price_is kept plies =
-    twins-price kept ∙ ap₂ (λ (heads : List Head) (lens : List ℕ). shared_len heads heads lens) (heads_looked kept.names kept.entries) (lens_looked kept.names kept.entries)
+pub price_is : (holding : Holding) (plies : List (Option ℕ)) → price (heads_of holding.kept) (extents_of holding.kept) ≡ twins_price (looks_in holding) plies
+price_is holding plies =
+    let kept = holding.kept in
+    let rows = rows_told holding.index in
+    twins-price kept
+    ∙ ap₂ (λ (heads : List Head) (lens : List ℕ). shared_len heads heads lens)
+    (sym (by_entries (λ (x : Look). x.head) kept.names (λ places e. refl) rows kept.entries))
+    (sym (by_entries (λ (x : Look). x.len) kept.names (λ places e. refl) rows kept.entries))
 
 -- ---- why it ends.
 

@@ -1,6 +1,7 @@
 pub mod Quietly
 pub mod PassingLaws
 pub mod PriceLaws
+pub mod IndexLaws
 pub mod CarryLaws
 pub mod Causing
 pub mod EditedLaws

@@ -1,5 +1,7 @@
 -- Laws of prices: what a command looks at of what the machine holds is what it looks at of the base.
-use Rattle.std.proofs.Common.{◌≡◌, ◌≤◌, ◌+◌, ◌&&◌, ℕ, zero, suc, Bool, List, [], ◌∷◌, length, map, slice_get, Option, None, Some, option_map, refl, sym, subst, ap, ap₂, ◌∙◌, arith}
+use Rattle.std.proofs.Common.{◌≡◌, ◌≤◌, ◌+◌, ◌&&◌, ℕ, zero, suc, Bool, List, [], ◌∷◌, length, map, slice_get, Option, None, Some, option_map, refl, sym, ap, ap₂, ◌∙◌, arith}
+use Rattle.std.proofs.lemmas.List.Sums.{sum_by-cons}
+use Rattle.std.specs.Prelude.{sum_by}
 use Rattle.base_core.proofs.GamesLaws.{heads-are}
 use Rattle.base_core.specs.Base.{Held}
 use Rattle.base_core.specs.Entries.{head_of, sig_in}
@@ -7,18 +9,17 @@ use Rattle.base_core.specs.Represents.{Keeps}
 use Rattle.base_files.specs.Seen.{Seen}
 use Rattle.game_filter.specs.Search.{looks_at}
 use Rattle.game_filter.specs.declared.op.Op.{Op}
-use Rattle.game_tree.specs.Game.{GameTree}
 use Rattle.game_tree.specs.Head.{without_tags}
 use Rattle.game_tree.specs.declared.head.Head.{Head}
 use Rattle.index_entry.specs.declared.entry.Entry.{Entry}
 use Rattle.name_base.specs.NameLists.{NameLists}
-use Rattle.pos_index.specs.Hits.{Index, IndexesAll, Place, rows_told}
+use Rattle.pos_index.specs.Hits.{Index, Place, rows_told}
 use Rattle.sig_index.specs.declared.signature.Sig.{Sig}
 use Rattle.shell_state.proofs.PassingLaws.{sig_is}
 use Rattle.shell_state.proofs.Quietly.{filter_is}
 use Rattle.shell_state.specs.Passing.{len_if, sig_of, filtered_len, len_if_in, len_in, searched_len}
 use Rattle.shell_state.specs.Stands.{Holding, Stands, index_of, look_at, looks_at_all, looks_in}
-use Rattle.shell_state.specs.State.{State, games_of}
+use Rattle.shell_state.specs.State.{State}
 use Rattle.shell_state.specs.Work.{Look, indexed_places, look_of, looks_of}
 
 -- ---- what is looked at of what is held, and in the state
@@ -42,7 +43,7 @@ next_look : (names : NameLists) (depth : Option ℕ) (e : Entry) (held : Held) (
 next_look names None e held es all same rest = ap₂ (λ (look : Look) (looks : List Look). look ∷ looks) same rest
 next_look names (Some depth) e held es all same rest = ap₂ (λ (look : Look) (looks : List Look). look ∷ looks) same rest
 
-none_looked : (names : NameLists) (rows : List (List Place)) → looks_at_all names rows [] ≡ []
+pub none_looked : (names : NameLists) (rows : List (List Place)) → looks_at_all names rows [] ≡ []
 none_looked names [] = refl
 none_looked names (row ∷ rows) = refl
 
@@ -64,14 +65,6 @@ looks_are : (holding : Holding) (seen : Seen) (s : State) → Stands holding see
 looks_are holding seen s st =
     ap (λ (index : Option Index). looks_at_all holding.kept.names (rows_told index) holding.kept.entries) st.index
     ∙ looks_each holding.kept.names st.games s.shared.index holding.kept.entries s.shared.base.games st.base.count st.base.each (heads-are holding.kept st.games s.shared.base st.base)
-
--- The index that is held is one of the games of the state.
-indexes_by : (depth : Option ℕ) (games : List GameTree) → IndexesAll (option_map (index_of games) depth) games
-indexes_by None games = tt
-indexes_by (Some depth) games = refl
-
-pub indexes_all : (holding : Holding) (seen : Seen) (s : State) → Stands holding seen s → IndexesAll holding.index (games_of s)
-indexes_all holding seen s st = subst (λ (index : Option Index). IndexesAll index (games_of s)) (sym st.index) (indexes_by s.shared.index (games_of s))
 
 -- The price by what is held is that in the state for which the machine stands.
 pub price_is : (price : List Look → List (Option ℕ) → ℕ) (holding : Holding) (seen : Seen) (s : State) → Stands holding seen s
@@ -99,6 +92,16 @@ len_looks names [] (e ∷ entries) zero = refl
 len_looks names [] (e ∷ entries) (suc game) = len_looks names [] entries game
 len_looks names (row ∷ rows) (e ∷ entries) zero = refl
 len_looks names (row ∷ rows) (e ∷ entries) (suc game) = len_looks names rows entries game
+
+-- All games.
+pub sum_looks : (names : NameLists) (rows : List (List Place)) (entries : List Entry) → sum_by (λ (e : Entry). e.len) entries ≡ sum_by (λ (x : Look). x.len) (looks_at_all names rows entries)
+sum_looks names rows [] = ap (sum_by (λ (x : Look). x.len)) (sym (none_looked names rows))
+sum_looks names [] (e ∷ entries) =
+    sum_by-cons (λ (d : Entry). d.len) e entries ∙ (ap (λ (n : ℕ). e.len + n) (sum_looks names [] entries)
+    ∙ sym (sum_by-cons (λ (x : Look). x.len) (look_at names [] e) (looks_at_all names [] entries)))
+sum_looks names (row ∷ rows) (e ∷ entries) =
+    sum_by-cons (λ (d : Entry). d.len) e entries ∙ (ap (λ (n : ℕ). e.len + n) (sum_looks names rows entries)
+    ∙ sym (sum_by-cons (λ (x : Look). x.len) (look_at names row e) (looks_at_all names rows entries)))
 
 -- The games that are in.
 pub filtered_looks : (plies : List (Option ℕ)) (names : NameLists) (rows : List (List Place)) (entries : List Entry)

@@ -17,8 +17,9 @@ use Rattle.game_tree.specs.Game.{GameTree}
 use Rattle.game_tree.specs.declared.head.Head.{Head}
 use Rattle.index_entry.specs.declared.entry.Entry.{Entry}
 use Rattle.pgn_write.specs.Pgn.{pgn_of}
+use Rattle.pos_index.specs.Hits.{rows_told}
 use Rattle.shell_state.proofs.Causing.{fault_of_output, fault_of_device, broken_by_fault}
-use Rattle.shell_state.proofs.PriceLaws.{filtered_looks, len_looks, look_at}
+use Rattle.shell_state.proofs.PriceLaws.{filtered_looks, len_looks}
 use Rattle.shell_state.proofs.Served.{line_serves}
 use Rattle.shell_state.specs.Ends.{IsOutput, IsDevice, IsFault}
 use Rattle.shell_state.specs.Lines.{no_game_line, texts_from}
@@ -141,11 +142,11 @@ text_read games told kept all held i head game text same is at found written =
     written ∙ ap (λ (h : Head). pgn_of h game) both.0 ∙ ap (λ (g : GameTree). pgn_of held.head g) both.1
 
 -- What the two ask is what they cost.
-pub show_price : (kept : Kept) (game : ℕ) → len_at kept.entries game ≡ len_in (λ (x : Look). x.len) (slice_get (looks_in kept) game)
-show_price kept game = len_looks (look_at kept.names) kept.entries game
+pub show_price : (holding : Holding) (game : ℕ) → len_at holding.kept.entries game ≡ len_in (λ (x : Look). x.len) (slice_get (looks_in holding) game)
+show_price holding game = len_looks holding.kept.names (rows_told holding.index) holding.kept.entries game
 
-pub exported_price : (plies : List (Option ℕ)) (kept : Kept) → exported_len plies kept.entries ≡ filtered_len (λ (x : Look). x.len) plies (looks_in kept)
-exported_price plies kept = filtered_looks (look_at kept.names) plies kept.entries
+pub exported_price : (plies : List (Option ℕ)) (holding : Holding) → exported_len plies holding.kept.entries ≡ filtered_len (λ (x : Look). x.len) plies (looks_in holding)
+exported_price plies holding = filtered_looks plies holding.kept.names (rows_told holding.index) holding.kept.entries
 
 -- `show` of a game that is not there, whose line was written or broken off.
 pub no_game_serves : {A : Type 0} (r : Result A Halt) (holding : Holding) (seen : Seen) (s : State) (number : ℕ) (line : List ℕ) (told told' : Option (List ℕ)) → Stands holding seen s → length holding.kept.entries ≤ number

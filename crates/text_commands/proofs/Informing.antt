@@ -1,5 +1,5 @@
 -- Laws of `info`: what the machine counts is what the base has.
-use Rattle.std.proofs.Common.{◌≡◌, ℕ, List, [], ◌∷◌, map, refl, sym, ap, ◌∙◌, Bool, length}
+use Rattle.std.proofs.Common.{◌≡◌, ℕ, List, [], ◌∷◌, map, refl, sym, ap, ◌∙◌, Bool, length, Option}
 use Rattle.std.proofs.lemmas.List.Sums.{sum_by-cons}
 use Rattle.std.specs.Prelude.{count_by, cond, ◌+◌}
 use Rattle.base_core.proofs.GamesLaws.{heads-are}
@@ -9,7 +9,8 @@ use Rattle.base_files.specs.Seen.{Seen}
 use Rattle.game_tree.specs.Head.{without_tags}
 use Rattle.game_tree.specs.declared.head.Head.{Head}
 use Rattle.name_base.specs.NameLists.{NameLists}
-use Rattle.shell_state.specs.Stands.{Holding, Stands, Fits, Quiet}
+use Rattle.shell_state.proofs.IndexLaws.{depth_is}
+use Rattle.shell_state.specs.Stands.{Holding, Stands, Fits, Quiet, depth_of}
 use Rattle.shell_state.specs.State.{State}
 use Rattle.text_commands.specs.Showing.{info_line, deleted_in, info_work}
 
@@ -21,12 +22,12 @@ deleted_of (g ∷ held) =
     ∙ (ap (λ (n : ℕ). cond g.head.deleted 1 0 + n) (deleted_of held) ∙ sym (sum_by-cons (λ (d : Held). cond d.head.deleted 1 0) g held))
 
 -- The numbers of an open base are those of the base that it stands for.
-pub quiet_info : (old : Holding) (line : List ℕ) (games deleted players events sites rounds : ℕ) (unsaved : Bool)
-    → Fits old → line ≡ info_line games deleted players events sites rounds unsaved
+pub quiet_info : (old : Holding) (line : List ℕ) (games deleted players events sites rounds : ℕ) (unsaved : Bool) (index : Option ℕ)
+    → Fits old → line ≡ info_line games deleted players events sites rounds unsaved index
     → games ≡ length old.kept.entries → deleted ≡ count_by (λ (h : Head). h.deleted) (heads_of old.kept)
     → players ≡ length old.kept.names.players → events ≡ length old.kept.names.events → sites ≡ length old.kept.names.sites → rounds ≡ length old.kept.names.rounds
-    → unsaved ≡ old.kept.unsaved → Quiet old info_work old line
-quiet_info old line games deleted players events sites rounds unsaved fits written g d p e t r u = record {
+    → unsaved ≡ old.kept.unsaved → index ≡ depth_of old.index → Quiet old info_work old line
+quiet_info old line games deleted players events sites rounds unsaved index fits written g d p e t r u x = record {
   stands = λ (seen : Seen) (s : State) (st : Stands old seen s). st;
   text = λ (seen : Seen) (s : State) (st : Stands old seen s).
       let names : NameLists → ℕ = λ n. length n.players in
@@ -38,8 +39,10 @@ quiet_info old line games deleted players events sites rounds unsaved fits writt
       let sites' : sites ≡ length s.shared.base.names.sites = t ∙ ap (λ (n : NameLists). length n.sites) st.base.names in
       let rounds' : rounds ≡ length s.shared.base.names.rounds = r ∙ ap (λ (n : NameLists). length n.rounds) st.base.names in
       let unsaved' : unsaved ≡ s.shared.unsaved = u ∙ st.unsaved in
+      let index' : index ≡ s.shared.index = x ∙ depth_is old seen s st in
       written ∙ cc;
   fits = fits;
+  index = λ fits. fits;
   base = λ sound. sound;
   end = refl;
 }

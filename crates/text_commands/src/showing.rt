@@ -1,9 +1,10 @@
 //! The commands that show what is there. Each answers the line that it writes.
-ghost use Rattle.std.specs.Prelude.{◌≡◌, IfOk, Ok, count_by, string_bytes};
-ghost use Rattle.shell_state.specs.Stands.{Fits, Quiet};
-ghost use Rattle.text_commands.specs.Showing.{info_line, numbers_line, counts_line, unsaved_words, info_work, quit_work};
+ghost use Rattle.std.specs.Prelude.{◌≡◌, ◌++◌, IfOk, Ok, OnOk, count_by, string_bytes};
+ghost use Rattle.shell_state.specs.Stands.{Fits, Quiet, depth_of};
+ghost use Rattle.text_commands.specs.Showing.{info_line, numbers_line, counts_line, unsaved_words, index_words, info_work, quit_work};
 
 use name_base::NameKind;
+use pos_index::PosIndex;
 use shell_state::Machine;
 use sig_index::Games;
 use std::alloc::{AllocError, Global};
@@ -36,6 +37,7 @@ pub fn info(alloc: Global, machine: &Machine) -> Result<Vec<u8>, AllocError>
             sites: names.count(NameKind::Site),
             rounds: names.count(NameKind::Round),
             unsaved: machine.base.unsaved(),
+            index: depth_of(&machine.index),
         },
     )
 }
@@ -50,15 +52,38 @@ struct Numbers {
     sites: u32,
     rounds: u32,
     unsaved: bool,
+    index: Option<u8>,
 }
 
 // The line of `info`.
 fn info_line(alloc: Global, n: &Numbers) -> Result<Vec<u8>, AllocError>
-    ensures { IfOk result (λ line. line.items ≡ info_line n.now.games n.now.deleted n.now.players n.now.events n.now.sites n.now.rounds n.now.unsaved) }
+    ensures { IfOk result (λ line. line.items ≡ info_line n.now.games n.now.deleted n.now.players n.now.events n.now.sites n.now.rounds n.now.unsaved n.now.index) }
 {
     let mut line = numbers_line(alloc, n)?;
     line.push_str(unsaved_words(n.unsaved))?;
+    push_index(&mut line, n.index)?;
     Ok(line.into_bytes())
+}
+
+// Adds the depth of the position index, or that there is none.
+fn push_index(line: &mut String, index: Option<u8>) -> Result<(), AllocError>
+    ensures { OnOk result (string_bytes line.new ≡ string_bytes line.old ++ index_words index) }
+{
+    match index {
+        Some(depth) => write!(line, " index {depth}\n")?,
+        None => line.push_str(" index off\n")?,
+    }
+    Ok(())
+}
+
+// The depth of a position index, if there is one.
+fn depth_of(index: &Option<PosIndex>) -> Option<u8>
+    ensures depth { result ≡ depth_of index.now }
+{
+    match index {
+        Some(index) => Some(index.depth()),
+        None => None,
+    }
 }
 
 // The numbers of `info`.
@@ -79,14 +104,14 @@ fn counts_line(alloc: Global, games: u32, deleted: u32, players: u32) -> Result<
     Ok(line)
 }
 
-// What `info` says behind the numbers.
+// Whether there are changes that are not saved.
 fn unsaved_words(unsaved: bool) -> &'static str
     ensures { result.now ≡ unsaved_words unsaved }
 {
     if unsaved {
-        " unsaved yes index off\n"
+        " unsaved yes"
     } else {
-        " unsaved no index off\n"
+        " unsaved no"
     }
 }
 

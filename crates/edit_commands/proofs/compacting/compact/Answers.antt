@@ -12,7 +12,7 @@ returns-in-Err-clause-serves g c = λ s st. record {
 }
 
 pub returns-in-Ok-clause-asks : goal.returns-in-Ok-clause-asks
-returns-in-Ok-clause-asks g c = omega (arith, c.compact_files.ensures.asks, compact_price c.args.machine.now.kept)
+returns-in-Ok-clause-asks g c = omega (arith, c.compact_files.ensures.asks, compact_price c.args.machine.now)
 
 pub returns-in-Err-clause-asks : goal.returns-in-Err-clause-asks
-returns-in-Err-clause-asks g c = omega (arith, c.compact_files.ensures.asks, compact_price c.args.machine.now.kept)
+returns-in-Err-clause-asks g c = omega (arith, c.compact_files.ensures.asks, compact_price c.args.machine.now)

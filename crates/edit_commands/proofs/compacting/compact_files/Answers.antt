@@ -1,4 +1,4 @@
-use Rattle.std.proofs.Common.{◌≡◌, ◌≤◌, ◌+◌, ℕ, List, length, map, Option, sym, ap, ◌∙◌, subst, Some}
+use Rattle.std.proofs.Common.{◌≡◌, ◌≤◌, ◌+◌, ℕ, List, length, map, Option, sym, ap, ◌∙◌, subst, Some, option_map}
 use Rattle.std.specs.Vec.{with_items}
 use Rattle.base_core.specs.Compacted.{compacted}
 use Rattle.base_core.specs.Represents.{Kept}
@@ -6,12 +6,15 @@ use Rattle.base_files.specs.Seen.{Seen}
 use Rattle.compact_base.proofs.ListLaws.{numbers-long}
 use Rattle.compact_base.specs.Compacting.{kept_len, numbering}
 use Rattle.game_filter.specs.Renumbering.{Numbering, renumbered}
-use Rattle.edit_commands.proofs.CompactLaws.{compact_device, compact_fits, compact_says, compact_stands, done_carry, fresh_carry, full_says, full_stands, saved_moved}
+use Rattle.edit_commands.proofs.CompactLaws.{compact_device, compact_fits, compact_says, compact_stands, done_carry, fresh_carry, full_says, full_stands, saved_moved, index_left_fits, index_long}
 use Rattle.edit_commands.proofs.compacting.compact_files.Goals as goal
 use Rattle.edit_commands.specs.Compacting.{compact_after}
 use Rattle.filter_seat.proofs.SavedLaws.{all_long, lent_items}
 use Rattle.filter_seat.specs.SavedFilters.{kept_renumbered}
 use Rattle.filter_seat.specs.declared.saved.SavedFilter.{SavedFilter}
+use Rattle.edit_commands.specs.Indexed.{renumbered_index}
+use Rattle.pos_index.specs.Hits.{Index}
+use Rattle.std.specs.Prelude.{IfSome}
 use Rattle.shell_state.proofs.EditedLaws.{ok_by}
 use Rattle.shell_state.proofs.Quietly.{if_err_so, held_by, if_ok}
 use Rattle.shell_state.specs.Stands.{Fits, Holding, Sound, Stands}
@@ -43,6 +46,14 @@ pub returns-in-Err-clause-asks : goal.returns-in-Err-clause-asks
 returns-in-Err-clause-asks g c =
     let P : Holding → Type 0 = λ h. g.F.Files.asked c.compact-compacted.new.files ≤ g.F.Files.asked c.args.files.now + kept_len h.kept.entries in
     subst P c.machine.view_is c.compact-compacted.ensures.asks
+
+pub renumber_index-requires : goal.renumber_index-requires
+renumber_index-requires g c =
+    let sound = subst (λ (h : Holding). Sound h (g.F.Files.seen c.args.files.now)) (sym c.machine.view_is) c.requires.sound in
+    record {
+      rows = index_long c.in-Ok.renumbering.to (length c.machine.inside.base.entries) c.machine.inside.index
+          (ap (λ (r : Numbering). length r.to) c.in-Ok.ensures.numbers ∙ numbers-long c.machine.inside.base.entries) sound.index;
+    }
 
 pub renumber_all-requires : goal.renumber_all-requires
 renumber_all-requires g c =
@@ -98,8 +109,12 @@ returns-in_ok-compacted_line-in-Ok-clause-stands g c = λ s st.
     ∙ ap (λ (r : Numbering). map (kept_renumbered r.to) c.machine.inside.seat.saved.items) numbers in
     let done = compact_stands c.machine.inside.base c.compact-compacted.new.base c.machine.inside.index c.machine.inside.seat.filter c.machine.inside.seat.saved.items (g.F.Files.seen c.args.files.now) seen' s st'
     c.in-Ok.ensures.committed c.in-Ok.ensures.means c.in-Ok.ensures.compacted c.in-Ok.ensures.saved c.in-Ok.ensures.room in
-    subst (λ (p : List (Option ℕ)). Stands (held_by c.compact-compacted.new.base c.machine.inside.index p (with_items c.machine.inside.seat.saved c.renumber_all.new.saved).items) seen' (compact_after s)) (sym filter)
-    (subst (λ (l : List SavedFilter). Stands (held_by c.compact-compacted.new.base c.machine.inside.index (renumbered (numbering c.machine.inside.base.entries).to c.machine.inside.seat.filter) l) seen' (compact_after s)) (sym moved) done)
+    let to = (numbering c.machine.inside.base.entries).to in
+    let index : c.renumber_index.new.index ≡ option_map (renumbered_index to) c.machine.inside.index =
+    c.renumber_index.ensures.renumbered ∙ ap (λ (r : Numbering). option_map (renumbered_index r.to) c.machine.inside.index) numbers in
+    subst (λ (i : Option Index). Stands (held_by c.compact-compacted.new.base i c.renumber_all.new.filter (with_items c.machine.inside.seat.saved c.renumber_all.new.saved).items) seen' (compact_after s)) (sym index)
+    (subst (λ (p : List (Option ℕ)). Stands (held_by c.compact-compacted.new.base (option_map (renumbered_index to) c.machine.inside.index) p (with_items c.machine.inside.seat.saved c.renumber_all.new.saved).items) seen' (compact_after s)) (sym filter)
+    (subst (λ (l : List SavedFilter). Stands (held_by c.compact-compacted.new.base (option_map (renumbered_index to) c.machine.inside.index) (renumbered to c.machine.inside.seat.filter) l) seen' (compact_after s)) (sym moved) done))
 
 pub returns-in_ok-compacted_line-in-Ok-clause-sound : goal.returns-in_ok-compacted_line-in-Ok-clause-sound
 returns-in_ok-compacted_line-in-Ok-clause-sound g c =
@@ -107,9 +122,14 @@ returns-in_ok-compacted_line-in-Ok-clause-sound g c =
     lent_items (kept_renumbered c.in-Ok.renumbering.to) c.machine.inside.seat.saved c.as_mut_slice.result.now c.renumber_all.new.saved c.as_mut_slice.ensures.value c.renumber_all.ensures.saved in
     let sound = subst (λ (h : Holding). Sound h (g.F.Files.seen c.args.files.now)) (sym c.machine.view_is) c.requires.sound in
     let all : length c.in-Ok.renumbering.to ≡ length c.machine.inside.base.entries = ap (λ (r : Numbering). length r.to) c.in-Ok.ensures.numbers ∙ numbers-long c.machine.inside.base.entries in
+    let index_fits = index_left_fits c.in-Ok.renumbering.to c.in-Ok.renumbering.kept (length c.machine.inside.base.entries) c.machine.inside.index c.renumber_all.ensures.rises all sound.index in
+    let count : length c.compact-compacted.new.base.entries ≡ c.in-Ok.renumbering.kept = c.in-Ok.ensures.count ∙ sym (ap (λ (r : Numbering). r.kept) c.in-Ok.ensures.numbers) in
     record {
-      fits = compact_fits c.compact-compacted.new.base c.renumber_all.new.filter (map (kept_renumbered c.in-Ok.renumbering.to) c.machine.inside.seat.saved.items) (with_items c.machine.inside.seat.saved c.renumber_all.new.saved).items c.in-Ok.renumbering.kept
-          (c.in-Ok.ensures.count ∙ sym (ap (λ (r : Numbering). r.kept) c.in-Ok.ensures.numbers)) c.renumber_all.ensures.long same
+      index =
+          subst (λ (i : Option Index). IfSome i (λ (x : Index). length x.rows ≡ length c.compact-compacted.new.base.entries)) (sym c.renumber_index.ensures.renumbered)
+          (subst (λ (n : ℕ). IfSome (option_map (renumbered_index c.in-Ok.renumbering.to) c.machine.inside.index) (λ (x : Index). length x.rows ≡ n)) (sym count) index_fits);
+      fits = compact_fits c.compact-compacted.new.base c.renumber_index.new.index c.renumber_all.new.filter (map (kept_renumbered c.in-Ok.renumbering.to) c.machine.inside.seat.saved.items) (with_items c.machine.inside.seat.saved c.renumber_all.new.saved).items c.in-Ok.renumbering.kept
+          count c.renumber_all.ensures.long same
           (saved_moved c.in-Ok.renumbering.to c.in-Ok.renumbering.kept (length c.machine.inside.base.entries) c.machine.inside.seat.saved.items c.renumber_all.ensures.rises all sound.fits.saved);
       base = c.keeps_sound.ensures.sound;
       at_end = c.compact-compacted.ensures.at_end;

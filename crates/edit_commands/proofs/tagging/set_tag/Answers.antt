@@ -5,7 +5,7 @@ use Rattle.edit_commands.proofs.TagLaws.{refused_says, refused_stands, tag_carri
 use Rattle.edit_commands.proofs.tagging.set_tag.Goals as goal
 use Rattle.edit_commands.specs.Editing.{tag_after}
 use Rattle.shell_state.proofs.CarryLaws.{carry_later}
-use Rattle.shell_state.proofs.EditedLaws.{fits_count, carry_err, err_not_failed, not_failed, ok_by, ok_not_failed}
+use Rattle.shell_state.proofs.EditedLaws.{fits_count, carry_err, err_not_failed, not_failed, ok_by, ok_not_failed, index_fits_count}
 use Rattle.shell_state.proofs.PassingLaws.{asked_at}
 use Rattle.shell_state.proofs.Quietly.{held_by, if_ok}
 use Rattle.shell_state.specs.Lines.{game_line}
@@ -44,6 +44,7 @@ pub returns-in_ok-game_line-in-Ok-clause-sound : goal.returns-in_ok-game_line-in
 returns-in_ok-game_line-in-Ok-clause-sound g c =
     let sound = subst (λ (h : Holding). Sound h (g.F.Files.seen c.args.files.now)) (sym c.machine.view_is) c.requires.sound in
     record {
+      index = index_fits_count c.machine.inside.base c.set_tag-edited.new.self c.machine.inside.index c.machine.inside.seat.filter c.machine.inside.seat.saved.items c.set_tag-edited.ensures.count sound.index;
       fits = fits_count c.machine.inside.base c.set_tag-edited.new.self c.machine.inside.index c.machine.inside.seat.filter c.machine.inside.seat.saved.items c.set_tag-edited.ensures.count sound.fits;
       base = c.keeps_sound.ensures.sound;
       at_end = c.set_tag-edited.ensures.at_end (ok_not_failed _ _ c.in-Ok.is);

@@ -12,7 +12,7 @@ returns-in-Err-clause-serves g c = λ s st. record {
 }
 
 pub returns-in-Ok-clause-asks : goal.returns-in-Ok-clause-asks
-returns-in-Ok-clause-asks g c = omega (arith, c.set_tag.ensures.asks, tag_price c.args.machine.now.kept c.args.i)
+returns-in-Ok-clause-asks g c = omega (arith, c.set_tag.ensures.asks, tag_price c.args.machine.now c.args.i)
 
 pub returns-in-Err-clause-asks : goal.returns-in-Err-clause-asks
-returns-in-Err-clause-asks g c = omega (arith, c.set_tag.ensures.asks, tag_price c.args.machine.now.kept c.args.i)
+returns-in-Err-clause-asks g c = omega (arith, c.set_tag.ensures.asks, tag_price c.args.machine.now c.args.i)

@@ -4,7 +4,7 @@ use Rattle.base_core.proofs.GamesLaws.{are-within, holds}
 use Rattle.base_core.specs.Entries.{sig_in}
 use Rattle.base_files.specs.Seen.{Seen}
 use Rattle.block_store.specs.Placing.{IsEnd}
-use Rattle.report_commands.proofs.TwinLaws.{deleted_stands, found_are, marked_end, marked_fits, price_is}
+use Rattle.report_commands.proofs.TwinLaws.{deleted_stands, found_are, marked_end, marked_fits, price_is, marked_index_fits}
 use Rattle.report_commands.proofs.twin_marks.mark_twins.Goals as goal
 use Rattle.report_commands.specs.Ends.{Marked}
 use Rattle.report_commands.specs.Twins.{found_twins, twins_line, with_deleted, twins_work}
@@ -55,6 +55,7 @@ returns-clause-sound g c =
     let marked = subst (λ (games : List ℕ). Marked games base new) c.as_slice.ensures.value c.delete_all.ensures.marked in
     record {
       fits = marked_fits c.in-Ok.found.items base new c.machine.inside.index c.machine.inside.seat.filter c.machine.inside.seat.saved.items marked sound.fits;
+      index = marked_index_fits c.in-Ok.found.items base new c.machine.inside.index c.machine.inside.seat.filter c.machine.inside.seat.saved.items marked sound.index;
       base = c.keeps_sound.ensures.sound;
       at_end = subst (λ (x : Seen). IsEnd new.end x) (sym c.find_twins.ensures.unchanged)
           (subst (λ (end : ℕ). IsEnd end seen) (sym (marked_end c.in-Ok.found.items base new marked)) sound.at_end);
@@ -63,17 +64,17 @@ returns-clause-sound g c =
 pub returns-clause-asks : goal.returns-clause-asks
 returns-clause-asks g c =
     let P : Holding → Type 0 = λ h. Asks h (twins_work c.args.depth) (g.F.Files.asked c.args.files.now) (g.F.Files.asked c.find_twins.new.files) in
-    subst P c.machine.view_is (omega (arith, c.find_twins.ensures.asks, price_is c.machine.inside.base c.machine.inside.seat.filter))
+    subst P c.machine.view_is (omega (arith, c.find_twins.ensures.asks, price_is (held_by c.machine.inside.base c.machine.inside.index c.machine.inside.seat.filter c.machine.inside.seat.saved.items) c.machine.inside.seat.filter))
 
 pub returns-in-Err-clause-asks : goal.returns-in-Err-clause-asks
 returns-in-Err-clause-asks g c =
     let P : Holding → Type 0 = λ h. Asks h (twins_work c.args.depth) (g.F.Files.asked c.args.files.now) (g.F.Files.asked c.find_twins.new.files) in
-    subst P c.machine.view_is (omega (arith, c.find_twins.ensures.asks, price_is c.machine.inside.base c.machine.inside.seat.filter))
+    subst P c.machine.view_is (omega (arith, c.find_twins.ensures.asks, price_is (held_by c.machine.inside.base c.machine.inside.index c.machine.inside.seat.filter c.machine.inside.seat.saved.items) c.machine.inside.seat.filter))
 
 pub returns-in_err-line-clause-asks : goal.returns-in_err-line-clause-asks
 returns-in_err-line-clause-asks g c =
     let P : Holding → Type 0 = λ h. Asks h (twins_work c.args.depth) (g.F.Files.asked c.args.files.now) (g.F.Files.asked c.find_twins.new.files) in
-    subst P c.machine.view_is (omega (arith, c.find_twins.ensures.asks, price_is c.machine.inside.base c.machine.inside.seat.filter))
+    subst P c.machine.view_is (omega (arith, c.find_twins.ensures.asks, price_is (held_by c.machine.inside.base c.machine.inside.index c.machine.inside.seat.filter c.machine.inside.seat.saved.items) c.machine.inside.seat.filter))
 
 pub returns-in-Err-clause-devices : goal.returns-in-Err-clause-devices
 returns-in-Err-clause-devices g c = λ s st.

@@ -6,7 +6,7 @@ use Rattle.search_commands.proofs.FindingLaws.{searched_stands, hits_are_found}
 use Rattle.search_commands.proofs.PositionLaws.{price_is}
 use Rattle.search_commands.proofs.positions.find.Goals as goal
 use Rattle.search_commands.specs.Searching.{exactly, find_after, find_text, find_work}
-use Rattle.shell_state.proofs.PriceLaws.{indexes_all}
+use Rattle.shell_state.proofs.IndexLaws.{indexes_all}
 use Rattle.shell_state.proofs.Quietly.{found_sound, held_by}
 use Rattle.shell_state.proofs.Served.{search_cuts, on_ok}
 use Rattle.shell_state.specs.Stands.{Holding, Stands, Sound, Asks}

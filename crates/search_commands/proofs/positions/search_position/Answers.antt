@@ -5,7 +5,7 @@ use Rattle.search_commands.proofs.FindingLaws.{searched_stands}
 use Rattle.search_commands.proofs.PositionLaws.{price_is}
 use Rattle.search_commands.proofs.positions.search_position.Goals as goal
 use Rattle.search_commands.specs.Searching.{search_position_text, search_position_work}
-use Rattle.shell_state.proofs.PriceLaws.{indexes_all}
+use Rattle.shell_state.proofs.IndexLaws.{indexes_all}
 use Rattle.shell_state.proofs.Quietly.{filter_is, found_sound, held_by}
 use Rattle.shell_state.proofs.Served.{search_cuts, on_ok, line_serves}
 use Rattle.shell_state.specs.Lines.{filter_line}

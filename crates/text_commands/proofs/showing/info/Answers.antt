@@ -18,13 +18,13 @@ returns c =
           (λ line is.
           let P : Holding → Type 0 = λ h. Quiet h info_work h line.items in
           subst P c.machine.view_is
-          (quiet_info old line.items c.header.result.now.games c.deleted_in.result c.count.result c.count-2.result c.count-3.result c.count-4.result c.unsaved.result fits is
+          (quiet_info old line.items c.header.result.now.games c.deleted_in.result c.count.result c.count-2.result c.count-3.result c.count-4.result c.unsaved.result c.depth_of.result fits is
           (ap (λ (h : IndexHead). h.games) c.header.ensures.header ∙ sym c.header.ensures.sound.count)
           c.deleted_in.ensures
           (c.count.ensures.count ∙ ap (λ (n : NameLists). length n.players) named)
           (c.count-2.ensures.count ∙ ap (λ (n : NameLists). length n.events) named)
           (c.count-3.ensures.count ∙ ap (λ (n : NameLists). length n.sites) named)
           (c.count-4.ensures.count ∙ ap (λ (n : NameLists). length n.rounds) named)
-          c.unsaved.ensures.unsaved))
+          c.unsaved.ensures.unsaved c.depth_of.ensures.depth))
           c.info_line.ensures;
     }
