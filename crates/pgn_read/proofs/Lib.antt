@@ -3,6 +3,8 @@ pub mod SoundLaws
 pub mod BufferLaws
 pub mod ClearLaws
 pub mod WindowLaws
+pub mod NameLaws
+pub mod FieldLaws
 pub mod HeadLaws
 pub mod LegalLaws
 pub mod ItemLaws
