@@ -5,6 +5,7 @@ pub mod ClearLaws
 pub mod WindowLaws
 pub mod NameLaws
 pub mod FieldLaws
+pub mod EscapeLaws
 pub mod HeadLaws
 pub mod LegalLaws
 pub mod ItemLaws
