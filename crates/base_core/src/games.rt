@@ -26,7 +26,7 @@ impl Base {
         ensures place { result ≡ extent_in (extents_of self.now) i }
         ensures short { result.len ≤ 131071 }
     {
-        let (offset, len) = place_of(&self.packed(i));
+        let (offset, len) = place_of(self.packed(i));
         Extent {
             offset: u64::from(offset),
             len,
@@ -34,13 +34,13 @@ impl Base {
     }
 
     // The 47 bytes of the entry of game `i`, in which searches read one field after the other.
-    fn packed(&self, i: u32) -> [u8; ENTRY_LEN]
+    fn packed(&self, i: u32) -> &[u8; ENTRY_LEN]
         requires there { i < length self.now.entries }
-        ensures at { slice_get self.now.entries i ≡ Some (entry_in result) }
-        ensures kept { IsKept self.now.names self.now.end (entry_in result) }
-        ensures head { head_in (heads_of self.now) i ≡ head_of self.now.names (entry_in result) [] }
-        ensures plies { plies_in (sigs_of self.now) i ≡ (entry_in result).plies }
-        ensures named { HasNames self.now.names (entry_in result) }
+        ensures at { slice_get self.now.entries i ≡ Some (entry_in result.now) }
+        ensures kept { IsKept self.now.names self.now.end (entry_in result.now) }
+        ensures head { head_in (heads_of self.now) i ≡ head_of self.now.names (entry_in result.now) [] }
+        ensures plies { plies_in (sigs_of self.now) i ≡ (entry_in result.now).plies }
+        ensures named { HasNames self.now.names (entry_in result.now) }
     {
         self.entries.packed(i)
     }
@@ -95,7 +95,7 @@ impl Games for Base {
     }
 
     fn sig(&self, i: u32) -> Sig {
-        signature_in(&self.packed(i))
+        signature_in(self.packed(i))
     }
 
     fn head(&self, i: u32) -> HeadRef<'_> {
@@ -104,46 +104,46 @@ impl Games for Base {
 
     #[tactic(auto, unfolding(crate::specs::Entries::head_of))]
     fn name(&self, i: u32, which: HeadName) -> &[u8] {
-        entry_name(&self.names, &self.packed(i), which)
+        entry_name(&self.names, self.packed(i), which)
     }
 
     #[tactic(auto, unfolding(crate::specs::Entries::head_of))]
     fn is_deleted(&self, i: u32) -> bool {
-        is_deleted_in(&self.packed(i))
+        is_deleted_in(self.packed(i))
     }
 
     #[tactic(auto, unfolding(crate::specs::Entries::head_of))]
     fn marks(&self, i: u32) -> u32 {
-        marks_in(&self.packed(i))
+        marks_in(self.packed(i))
     }
 
     #[tactic(auto, unfolding(crate::specs::Entries::head_of))]
     fn outcome(&self, i: u32) -> Outcome {
-        outcome_in(&self.packed(i))
+        outcome_in(self.packed(i))
     }
 
     #[tactic(auto, unfolding(crate::specs::Entries::head_of))]
     fn date(&self, i: u32) -> Date {
-        date_in(&self.packed(i))
+        date_in(self.packed(i))
     }
 
     #[tactic(auto, unfolding(crate::specs::Entries::head_of))]
     fn white_rating(&self, i: u32) -> Rating {
-        white_rating_in(&self.packed(i))
+        white_rating_in(self.packed(i))
     }
 
     #[tactic(auto, unfolding(crate::specs::Entries::head_of))]
     fn black_rating(&self, i: u32) -> Rating {
-        black_rating_in(&self.packed(i))
+        black_rating_in(self.packed(i))
     }
 
     #[tactic(auto, unfolding(crate::specs::Entries::head_of))]
     fn eco(&self, i: u32) -> u16 {
-        eco_in(&self.packed(i))
+        eco_in(self.packed(i))
     }
 
     fn plies(&self, i: u32) -> u16 {
-        plies_in(&self.packed(i))
+        plies_in(self.packed(i))
     }
 
     fn extent(&self, i: u32) -> Extent {

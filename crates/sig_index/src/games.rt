@@ -121,8 +121,8 @@ pub trait Games {
         ensures extent { result ≡ extent_in (extents self.now) i }
         ensures short { result.len ≤ 131071 };
 
-    /// Reads the record of game `i` into the front of `buf`, which has 131,072 bytes, and answers its length. Each record ends within
-    /// the length of the games file that is known. So many bytes count as asked, after an error too.
+    /// Reads the record of game `i` into the front of `buf`, which has 131,072 bytes, and answers its length, at most 131,071. Each
+    /// record ends within the length of the games file that is known. So many bytes count as asked, after an error too.
     ///
     /// The bytes need not be looked at: `Changed` comes only where they are, and are not those of a game with the signature that is kept.
     fn fetch<F: Files>(&self, i: u32, files: &mut F, buf: &mut [u8]) -> Result<u32, FetchError>
@@ -130,6 +130,7 @@ pub trait Games {
         requires room { length buf.old ≡ 131072 }
         requires within { AreWithin (F.seen files.old).known (extents self.now) }
         ensures len { IfOk result (λ n. n ≡ (extent_in (extents self.now) i).len) }
+        ensures short { IfOk result (λ n. n ≤ 131071) }
         ensures bytes { IfOk result (λ n. Tells (record_told (F.seen files.old).games (extent_in (extents self.now) i)) (take n buf.new)) }
         ensures unchanged { F.seen files.new ≡ F.seen files.old }
         ensures asks { F.asked files.new ≡ raised (F.asked files.old) (extent_in (extents self.now) i).len }
