@@ -3,7 +3,7 @@ ghost use Rattle.std.specs.Prelude.{◌≡◌, ◌≤◌, ◌<◌, [], Some, len
 ghost use Rattle.index_entry.specs.Entry.{entry_in};
 ghost use Rattle.name_base.specs.NameLists.{AreSound};
 ghost use Rattle.sig_index.specs.Games.{extent_in, head_in, name_in, plies_in};
-ghost use Rattle.base_core.specs.Entries.{HasNames, head_of, sig_in};
+ghost use Rattle.base_core.specs.Entries.{HasNames, head_of};
 ghost use Rattle.base_core.specs.Represents.{IsKept, extents_of, heads_of, sigs_of};
 
 use crate::base::Base;
@@ -11,13 +11,11 @@ use crate::game::{fields_of, name_of};
 use base_files::{Extent, Files};
 use game_tree::{Date, HeadRef, Outcome, Rating};
 use index_entry::{
-    ENTRY_LEN, black_in, black_rating_in, comments_in, date_in, eco_in, event_in, has_own_start_in,
-    has_promotion_in, has_underpromotion_in, home_count_in, home_in, is_deleted_in, marks_in,
-    material_in, nags_in, outcome_in, place_of, plies_in, round_in, site_in, variations_in,
-    white_in, white_rating_in,
+    ENTRY_LEN, black_in, black_rating_in, date_in, eco_in, event_in, is_deleted_in, marks_in,
+    outcome_in, place_of, plies_in, round_in, site_in, white_in, white_rating_in,
 };
 use name_base::{NameKind, Names};
-use sig_index::{FetchError, Games, HeadName, HomeList, Sig};
+use sig_index::{Brief, FetchError, Games, HeadName, Sig};
 
 impl Base {
     // Where the record of game `i` stands.
@@ -43,27 +41,6 @@ impl Base {
         ensures named { HasNames self.now.names (entry_in result.now) }
     {
         self.entries.packed(i)
-    }
-}
-
-// The signature of an entry of 47 bytes.
-#[tactic(auto, unfolding(crate::specs::Entries::sig_in))]
-fn signature_in(packed: &[u8; ENTRY_LEN]) -> Sig
-    ensures sig { result ≡ sig_in (entry_in packed.now) }
-{
-    Sig {
-        material: material_in(packed),
-        home: HomeList {
-            count: home_count_in(packed),
-            values: home_in(packed),
-        },
-        plies: plies_in(packed),
-        promo: has_promotion_in(packed),
-        under: has_underpromotion_in(packed),
-        own_start: has_own_start_in(packed),
-        vars: variations_in(packed),
-        comments: comments_in(packed),
-        nags: nags_in(packed),
     }
 }
 
@@ -95,7 +72,11 @@ impl Games for Base {
     }
 
     fn sig(&self, i: u32) -> Sig {
-        signature_in(self.packed(i))
+        self.brief(i).whole()
+    }
+
+    fn brief(&self, i: u32) -> Brief<'_> {
+        Brief::new(self.packed(i))
     }
 
     fn head(&self, i: u32) -> HeadRef<'_> {

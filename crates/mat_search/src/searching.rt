@@ -112,7 +112,7 @@ fn first_in<G: Games, F: Files>(
     ensures cause { IfErr result (λ e. HasFetchCause e (G.sigs games.now) (G.extents games.now) (F.seen files.old).games buf.new (F.faults files.old) (F.faults files.new)) }
     ensures own { IfErr result (λ e. Names e i) }
 {
-    if passes(&games.sig(i), q) {
+    if passes(&games.brief(i), q) {
         first_read(games, i, q, files, buf)
     } else {
         Ok(None)

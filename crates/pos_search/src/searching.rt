@@ -154,7 +154,7 @@ pub fn hit_sought<G: Games, F: Files>(
     ensures cause { IfErr result (λ e. HasFetchCause e (G.sigs games.now) (G.extents games.now) (F.seen files.old).games buf.new (F.faults files.old) (F.faults files.new)) }
     ensures own { IfErr result (λ e. Names e i) }
 {
-    if !q.passes(&games.sig(i)) {
+    if !q.passes(&games.brief(i)) {
         return Ok(None);
     }
     hit_read(games, i, q, files, buf)
@@ -214,7 +214,7 @@ fn ply_in<G: Games, F: Files>(
     if known.is_some() {
         return Ok(known);
     }
-    if q.passes(&games.sig(i)) {
+    if q.passes(&games.brief(i)) {
         ply_read(games, i, q, files, buf)
     } else {
         Ok(None)

@@ -9,6 +9,7 @@ ghost use Rattle.sig_index.specs.declared.signature.Sig.{Sig as Signature};
 ghost use Rattle.sig_index.specs.Games.{AreWithin, HasFetchCause, Names, extent_in, head_in, name_in, plies_in, record_told};
 ghost use Rattle.sig_index.specs.Signature.{IsSigBounded};
 
+use crate::brief::Brief;
 use crate::signature::Sig;
 use base_files::{Extent, Files};
 use game_tree::{Date, HeadRef, Outcome, Rating};
@@ -60,6 +61,12 @@ pub trait Games {
 
     /// The signature of game `i`, which is below the number of games.
     fn sig(&self, i: u32) -> Sig
+        requires game { i < length (sigs self.now) }
+        ensures kept { slice_get (sigs self.now) i ≡ Some result }
+        ensures bounded { IsSigBounded result };
+
+    /// The signature of game `i`, of which a search reads what it asks for.
+    fn brief(&self, i: u32) -> Brief<'_>
         requires game { i < length (sigs self.now) }
         ensures kept { slice_get (sigs self.now) i ≡ Some result }
         ensures bounded { IsSigBounded result };
