@@ -4,6 +4,7 @@ pub mod PriceLaws
 pub mod CarryLaws
 pub mod Causing
 pub mod EditedLaws
+pub mod AddingLaws
 pub mod HoldingLaws
 pub mod Beginning
 pub mod Served

@@ -6,3 +6,4 @@ pub mod Refusing
 pub mod Ends
 pub mod Carrying
 pub mod Stands
+pub mod Adding

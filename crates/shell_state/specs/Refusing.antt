@@ -1,5 +1,5 @@
 -- Why the record of a game is not placed, and the error line for it. This project's own.
-use Rattle.std.specs.Prelude.{ℕ, List, codes, nat_lt, if◌then◌else◌, Option, Some, option_map, length}
+use Rattle.std.specs.Prelude.{ℕ, List, ◌+◌, codes, nat_lt, if◌then◌else◌, Option, Some, option_map, length}
 use Rattle.base_core.specs.Base.{Base}
 use Rattle.base_core.specs.Edited.{first_full}
 use Rattle.base_core.specs.Edits.{names_with, end_with}
@@ -9,29 +9,33 @@ use Rattle.game_codec.specs.Written.{longest, written_record}
 use Rattle.game_tree.specs.Game.{GameTree}
 use Rattle.game_tree.specs.declared.head.Head.{Head}
 use Rattle.shell_state.specs.Lines.{error_line}
+use Rattle.shell_state.specs.declared.refusing.Refusal.{Refusal}
+use Rattle.shell_state.specs.declared.refusing.Refusal.TheVariants.{TooLong, Full}
 
--- Why the record of a game is not placed: it is too long, or this would be full.
-abbrev pub too_long_words : List ℕ
-too_long_words = codes "record too long"
+-- The words for it, and the error line.
+abbrev pub refusal_words : Refusal → List ℕ
+refusal_words TooLong = codes "record too long"
+refusal_words (Full Games) = codes "full games"
+refusal_words (Full Players) = codes "full players"
+refusal_words (Full Events) = codes "full events"
+refusal_words (Full Sites) = codes "full sites"
+refusal_words (Full Rounds) = codes "full rounds"
+refusal_words (Full File) = codes "full file"
 
-abbrev pub full_words : What → List ℕ
-full_words Games = codes "full games"
-full_words Players = codes "full players"
-full_words Events = codes "full events"
-full_words Sites = codes "full sites"
-full_words Rounds = codes "full rounds"
-full_words File = codes "full file"
+abbrev pub refusal_line : Refusal → List ℕ
+refusal_line why = error_line (refusal_words why)
 
-abbrev pub too_long_line : List ℕ
-too_long_line = error_line too_long_words
+-- The first reason against a record of so many bytes by which this would be full.
+abbrev pub refusal : ℕ → Option What → Option Refusal
+refusal len full = if nat_lt longest len then Some TooLong else option_map Full full
 
-abbrev pub full_line : What → List ℕ
-full_line what = error_line (full_words what)
+-- Why a game with this head is not placed, if it is not, in a base that has so many games with it.
+abbrev pub why_not : Base → ℕ → Head → GameTree → Option Refusal
+why_not base games head game = refusal (length (written_record head.tags game)) (first_full games (names_with head base.names) (end_with head game base.end))
 
--- The first of them for a record of so many bytes, if there is one.
-abbrev pub refusal : ℕ → Option What → Option (List ℕ)
-refusal len full = if nat_lt longest len then Some too_long_line else option_map full_line full
+-- Why it is not added; and the error line where it does not take the place of another one.
+abbrev pub not_added : Base → Head → GameTree → Option Refusal
+not_added base head game = why_not base (length base.games + 1) head game
 
--- Of a game with this head in the place of another one.
 abbrev pub refusal_of : Base → Head → GameTree → Option (List ℕ)
-refusal_of base head game = refusal (length (written_record head.tags game)) (first_full (length base.games) (names_with head base.names) (end_with head game base.end))
+refusal_of base head game = option_map refusal_line (why_not base (length base.games) head game)

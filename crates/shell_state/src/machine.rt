@@ -1,12 +1,24 @@
 //! The machine that runs commands.
-ghost use Rattle.std.specs.Prelude.{◌≡◌, ◌≤◌, ◌<◌, length, IfOk, MatchOption};
+ghost use Rattle.std.specs.Prelude.{◌≡◌, ◌≤◌, ◌<◌, length, None, IfOk, IfErr, OnOk, MatchOption};
 ghost use Rattle.base_core.specs.Represents.{IsSound};
+ghost use Rattle.command_runs.specs.Counts.{Causes, counts};
 ghost use Rattle.filter_seat.specs.Seats.{first_seat};
-ghost use Rattle.shell_state.specs.Stands.{Stands, Begins};
+ghost use Rattle.game_tree.specs.Head.{IsBounded};
+ghost use Rattle.game_tree.specs.Legal.{IsLegalGame};
+ghost use Rattle.game_tree.specs.Settle.{IsSettled};
+ghost use Rattle.shell_state.specs.Adding.{Adds};
+ghost use Rattle.shell_state.specs.Carrying.{StillCarry};
+ghost use Rattle.shell_state.specs.Ends.{IsDevice};
+ghost use Rattle.shell_state.specs.Stands.{Begins, Sound, Stands, WhyHalt};
+ghost use Rattle.shell_state.specs.State.{State};
 
+use crate::halt::Halt;
+use crate::refusing::{Refusal, refused};
 use base_core::Base;
-use filter_seat::Seat;
+use base_files::Files;
+use filter_seat::{Seat, leave_out};
 use game_filter::Filter;
+use game_tree::{Game, Head};
 use std::alloc::{AllocError, Global};
 use std::marker::Model;
 
@@ -78,5 +90,40 @@ impl Machine {
         ensures games { result ≡ length self.now.kept.entries }
     {
         self.base.header().games
+    }
+
+    /// Adds a game, which is then in at ply 0 and in no filter that is kept, and gives its number; or why it is not added.
+    pub fn add<F: Files>(
+        &mut self,
+        alloc: Global,
+        files: &mut F,
+        head: &Head,
+        game: &Game,
+    ) -> Result<Result<u32, Refusal>, Halt>
+        requires legal { IsLegalGame game.now }
+        requires bounded { IsBounded head.now }
+        requires settled { IsSettled head.now }
+        requires sound { Sound self.old (F.seen files.old) }
+        ensures adds { (s : State) → Stands self.old (F.seen files.old) s → IfOk result (Adds self.new (F.seen files.new) s head.now game.now) }
+        ensures sound { OnOk result (Sound self.new (F.seen files.new)) }
+        ensures devices { IfErr result IsDevice }
+        ensures carries { (s : State) → Stands self.old (F.seen files.old) s → StillCarry (F.seen files.new) s None }
+        ensures choices { (F.seen files.new).choices ≡ (F.seen files.old).choices }
+        ensures none_asked { F.asked files.new ≡ F.asked files.old }
+        ensures causes { Causes WhyHalt result (counts (F.faults files.old) 0 0) (counts (F.faults files.new) 0 0) }
+    {
+        let added = self.base.add(alloc, files, head, game);
+        self.keeps_sound();
+        match added {
+            Ok(number) => {
+                self.seat.filter.push(alloc, Some(0))?;
+                leave_out(alloc, self.seat.saved.as_mut_slice())?;
+                Ok(Ok(number))
+            }
+            Err(error) => match refused(error) {
+                Ok(why) => Ok(Err(why)),
+                Err(halt) => Err(halt),
+            },
+        }
     }
 }

@@ -5,10 +5,11 @@ use Rattle.base_core.specs.Represents.{Kept}
 use Rattle.pgn_read.specs.declared.item.Item.TheVariants as item
 use Rattle.filter_seat.proofs.SavedLaws.{lent_items, all_long}
 use Rattle.filter_seat.specs.SavedFilters.{kept_to_start}
-use Rattle.intake_commands.proofs.AddLaws.{not_replaced_says, not_replaced_stands, placed_so, placed_there, replace_fits, replace_says, replace_stands}
+use Rattle.intake_commands.proofs.AddLaws.{not_replaced_says, not_replaced_stands, replace_fits, replace_says, replace_stands}
 use Rattle.intake_commands.proofs.OneGameLaws.{not_put_device}
 use Rattle.intake_commands.proofs.replacing.put_game.Goals as goal
 use Rattle.intake_commands.specs.Importing.{state_with, the_one}
+use Rattle.shell_state.proofs.AddingLaws.{placed_so, placed_there}
 use Rattle.shell_state.proofs.CarryLaws.{carry_appended}
 use Rattle.shell_state.proofs.EditedLaws.{carry_err, err_not_failed, not_failed, ok_by, ok_not_failed}
 use Rattle.shell_state.proofs.Quietly.{if_err_so, held_by, if_ok}
