@@ -14,7 +14,8 @@ use Rattle.game_codec.proofs.DecodeLaws.{record-one}
 use Rattle.game_codec.specs.Record.{IsRecord}
 use Rattle.game_tree.specs.Game.{GameTree}
 use Rattle.pos_index.specs.Hits.{Index, IndexesAll}
-use Rattle.sig_index.specs.Games.{extent_in, record_in}
+use Rattle.base_files.specs.Extents.{record_in}
+use Rattle.sig_index.specs.Games.{extent_in}
 use Rattle.shell_state.specs.Stands.{Holding, Stands, depth_of, index_of}
 use Rattle.shell_state.specs.State.{State, games_of}
 

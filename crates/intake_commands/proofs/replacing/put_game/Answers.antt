@@ -5,10 +5,11 @@ use Rattle.base_core.specs.Represents.{Kept}
 use Rattle.pgn_read.specs.declared.item.Item.TheVariants as item
 use Rattle.filter_seat.proofs.SavedLaws.{lent_items, all_long}
 use Rattle.filter_seat.specs.SavedFilters.{kept_to_start}
-use Rattle.intake_commands.proofs.AddLaws.{not_replaced_says, not_replaced_stands, placed_so, placed_there, replace_fits, replace_says, replace_stands}
+use Rattle.intake_commands.proofs.AddLaws.{not_replaced_says, not_replaced_stands, replace_fits, replace_says, replace_stands}
 use Rattle.intake_commands.proofs.OneGameLaws.{not_put_device}
 use Rattle.intake_commands.proofs.replacing.put_game.Goals as goal
 use Rattle.intake_commands.specs.Importing.{state_with, the_one}
+use Rattle.shell_state.proofs.AddingLaws.{placed_so, placed_there}
 use Rattle.shell_state.proofs.CarryLaws.{carry_appended}
 use Rattle.shell_state.proofs.EditedLaws.{carry_err, err_not_failed, not_failed, ok_by, ok_not_failed}
 use Rattle.shell_state.proofs.Quietly.{if_err_so, held_by, if_ok}
@@ -38,7 +39,7 @@ returns-in_ok-game_line-in-Ok-clause-carries g c = λ s st. carry_appended c.arg
 pub returns-in_ok-game_line-in-Ok-clause-line : goal.returns-in_ok-game_line-in-Ok-clause-line
 returns-in_ok-game_line-in-Ok-clause-line g c = λ s st.
     let st' = subst (λ (h : Holding). Stands h (g.F.Files.seen c.args.files.now) s) (sym c.machine.view_is) st in
-    replace_says c.machine.inside.base c.machine.inside.seat.filter c.machine.inside.seat.saved.items (g.F.Files.seen c.args.files.now) s c.args.i c.args.head.now c.args.game.now _ st' c.in-Ok.ensures.room
+    replace_says c.machine.inside.base c.machine.inside.index c.machine.inside.seat.filter c.machine.inside.seat.saved.items (g.F.Files.seen c.args.files.now) s c.args.i c.args.head.now c.args.game.now _ st' c.in-Ok.ensures.room
     (c.in_ok-game_line-in-Ok.ensures ∙ ap (game_line (codes "replaced ")) c.from.ensures)
 
 pub returns-in_ok-game_line-in-Ok-clause-stands : goal.returns-in_ok-game_line-in-Ok-clause-stands
@@ -68,7 +69,7 @@ returns-in-Err-clause-line g c = λ s st.
     let st' = subst (λ (h : Holding). Stands h (g.F.Files.seen c.args.files.now) s) (sym c.machine.view_is) st in
     let there = subst (λ (h : Holding). c.args.i < length h.kept.entries) (sym c.machine.view_is) c.requires.there in
     if_ok _ _ c.refused_line.result
-    (λ line ends. not_replaced_says c.machine.inside.base c.machine.inside.seat.filter c.machine.inside.seat.saved.items (g.F.Files.seen c.args.files.now) s c.args.i c.args.head.now c.args.game.now c.in-Err.error line.items st'
+    (λ line ends. not_replaced_says c.machine.inside.base c.machine.inside.index c.machine.inside.seat.filter c.machine.inside.seat.saved.items (g.F.Files.seen c.args.files.now) s c.args.i c.args.head.now c.args.game.now c.in-Err.error line.items st'
     (placed_so c.in-Err.error c.machine.inside.base c.args.i _ _ c.in-Err.ensures.why there) ends)
     c.refused_line.ensures.line
 
@@ -76,12 +77,12 @@ pub returns-in-Err-clause-stands : goal.returns-in-Err-clause-stands
 returns-in-Err-clause-stands g c = λ s st.
     let st' = subst (λ (h : Holding). Stands h (g.F.Files.seen c.args.files.now) s) (sym c.machine.view_is) st in
     let there = subst (λ (h : Holding). c.args.i < length h.kept.entries) (sym c.machine.view_is) c.requires.there in
-    let P : Kept → Type 0 = λ k. Stands (held_by k c.machine.inside.seat.filter c.machine.inside.seat.saved.items) (g.F.Files.seen c.replace_game-replaced.new.files) (state_with s c.args.i (the_one s.shared.base (item.Good c.args.head.now c.args.game.now ∷ []))) in
+    let P : Kept → Type 0 = λ k. Stands (held_by k c.machine.inside.index c.machine.inside.seat.filter c.machine.inside.seat.saved.items) (g.F.Files.seen c.replace_game-replaced.new.files) (state_with s c.args.i (the_one s.shared.base (item.Good c.args.head.now c.args.game.now ∷ []))) in
     ok_by _ _ c.refused_line.result
     (λ line ends.
     let same = c.in-Err.ensures.none_added (err_not_failed (Err c.in-Err.error) c.in-Err.error refl (not_failed c.in-Err.error line.items ends)) in
     subst P (sym c.in-Err.ensures.unchanged)
-    (not_replaced_stands c.machine.inside.base c.machine.inside.seat.filter c.machine.inside.seat.saved.items (g.F.Files.seen c.args.files.now) (g.F.Files.seen c.replace_game-replaced.new.files) s c.args.i c.args.head.now c.args.game.now c.in-Err.error line.items st'
+    (not_replaced_stands c.machine.inside.base c.machine.inside.index c.machine.inside.seat.filter c.machine.inside.seat.saved.items (g.F.Files.seen c.args.files.now) (g.F.Files.seen c.replace_game-replaced.new.files) s c.args.i c.args.head.now c.args.game.now c.in-Err.error line.items st'
     (placed_so c.in-Err.error c.machine.inside.base c.args.i _ _ c.in-Err.ensures.why there) ends same))
     c.refused_line.ensures.line
 
@@ -93,7 +94,7 @@ returns-in-Err-clause-devices g c =
 pub returns-in-Err-clause-sound : goal.returns-in-Err-clause-sound
 returns-in-Err-clause-sound g c =
     let sound = subst (λ (h : Holding). Sound h (g.F.Files.seen c.args.files.now)) (sym c.machine.view_is) c.requires.sound in
-    let P : Kept → Type 0 = λ k. Fits (held_by k c.machine.inside.seat.filter c.machine.inside.seat.saved.items) in
+    let P : Kept → Type 0 = λ k. Fits (held_by k c.machine.inside.index c.machine.inside.seat.filter c.machine.inside.seat.saved.items) in
     ok_by _ _ c.refused_line.result
     (λ line ends. record {
       fits = subst P (sym c.in-Err.ensures.unchanged) sound.fits;
