@@ -128,12 +128,19 @@ pub index_long : (to : List (Option ℕ)) (games : ℕ) (index : Option Index) �
 index_long to games None all fits = tt
 index_long to games (Some index) all fits = all ∙ sym fits
 
+-- As many rows stay as have a new number.
+rows_count : (next kept : ℕ) (to : List (Option ℕ)) (rows : List (List Place)) → Rises next to kept → length to ≡ length rows → next + length (renumbered to rows) ≡ kept
+rows_count next kept [] rows rises same = omega (arith, rises)
+rows_count next kept (number ∷ to) [] rises same = absurd (omega (arith, same))
+rows_count next kept (None ∷ to) (row ∷ rows) rises same = rows_count next kept to rows rises (omega (arith, same))
+rows_count next kept (Some number ∷ to) (row ∷ rows) rises same = omega (arith, rows_count (next + 1) kept to rows rises.1 (omega (arith, same)))
+
 -- It has a row for each game that is left.
 pub index_left_fits : (to : List (Option ℕ)) (kept games : ℕ) (index : Option Index) → Rises 0 to kept → length to ≡ games
     → IfSome index (λ (x : Index). length x.rows ≡ games) → IfSome (option_map (renumbered_index to) index) (λ (x : Index). length x.rows ≡ kept)
 index_left_fits to kept games None rises all fits = tt
 index_left_fits to kept games (Some index) rises all fits =
-    let rest = length-renumbered 0 kept to index.rows rises (all ∙ sym fits) in omega (arith, rest)
+    let rest = rows_count 0 kept to index.rows rises (all ∙ sym fits) in omega (arith, rest)
 
 -- ---- it was done.
 
@@ -214,6 +221,7 @@ fresh_stands holding seen seen' s left st = record {
   seat = st.seat;
   unsaved = st.unsaved;
   carried = fresh_beside holding.kept seen seen' s.shared.unsaved s.shared.carried left st.carried;
+  index = st.index;
 }
 
 -- An error line comes where the new games file would be too long, and nothing changed.

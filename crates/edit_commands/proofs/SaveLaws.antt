@@ -66,6 +66,7 @@ save_stands kept index filter saved seen seen' s st is means =
       seat = st.seat;
       unsaved = refl;
       carried = beside_meant (clean kept) seen' s.shared.base true now there.names again.means (λ sound. again.faultless);
+      index = st.index;
     }
 
 -- ---- where it is broken off

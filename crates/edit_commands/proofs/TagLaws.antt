@@ -27,7 +27,7 @@ use Rattle.filter_seat.specs.declared.saved.SavedFilter.{SavedFilter}
 use Rattle.shell_state.proofs.IndexLaws.{same_games}
 use Rattle.shell_state.proofs.CarryLaws.{beside_grown}
 use Rattle.shell_state.proofs.EditedLaws.{kept_refusal, kept-refusal, none_lined, lined_so}
-use Rattle.shell_state.proofs.PriceLaws.{len_looks, look_at}
+use Rattle.shell_state.proofs.PriceLaws.{len_looks}
 use Rattle.shell_state.proofs.Quietly.{held_by}
 use Rattle.shell_state.proofs.Served.{line_serves}
 use Rattle.shell_state.specs.Ends.{refused_line, IsThere, IsDevice, EndsAs, IsOutput}

@@ -1,9 +1,9 @@
 -- Laws of games that come in: one that is added, and one that is put in the place of another.
-use Rattle.std.proofs.Common.{◌≡◌, ℕ, List, length, Option, Some, sym, subst, ◌+◌, ◌++◌, ap, ◌∙◌, false, None, refl, true, [], ◌∷◌, map, arith, All, Ok, Err}
-use Rattle.std.specs.Prelude.{codes}
-use Rattle.base_core.specs.Base.{Base}
+use Rattle.std.proofs.Common.{◌≡◌, ℕ, List, length, Option, Some, sym, subst, ◌+◌, ◌++◌, ap, ◌∙◌, false, None, refl, true, [], ◌∷◌, map, arith, All, Ok, Err, ◌<◌, option_map}
+use Rattle.std.specs.Prelude.{codes, IfSome}
+use Rattle.base_core.specs.Base.{Base, Held}
 use Rattle.base_core.specs.Edited.{first_full, CanPlace, Places, WhyNotPlaced}
-use Rattle.base_core.specs.Edits.{end_with, names_with, added, game_replaced}
+use Rattle.base_core.specs.Edits.{end_with, names_with, added, game_replaced, held_of}
 use Rattle.base_core.specs.Means.{HoldsNames}
 use Rattle.base_core.specs.Represents.{Kept, Represents}
 use Rattle.base_core.specs.declared.fault.EditError.{EditError}
@@ -12,13 +12,16 @@ use Rattle.block_store.specs.Placing.{IsEnd, padded}
 use Rattle.game_codec.specs.Written.{written_record}
 use Rattle.game_tree.specs.Game.{GameTree}
 use Rattle.game_tree.specs.declared.head.Head.{Head}
-use Rattle.pos_index.specs.Hits.{Index}
+use Rattle.pos_index.specs.Hits.{Index, Place, places_of, row_of}
 use Rattle.pgn_read.specs.declared.item.Item.TheVariants.{Good}
 use Rattle.filter_seat.proofs.SavedLaws.{all_to_start, length_to_start}
 use Rattle.filter_seat.specs.SavedFilters.{kept_to_start, to_start}
 use Rattle.filter_seat.specs.declared.saved.SavedFilter.{SavedFilter}
 use Rattle.intake_commands.specs.Importing.{Intake, item_after, unless_not_added, added_line, item_text, next_number, not_added_line, the_one, unless_line, state_with, line_with}
 use Rattle.intake_commands.specs.Intakes.{Counted}
+use Rattle.std.proofs.lemmas.List.{length-set, map-set}
+use Rattle.shell_state.specs.Indexing.{index_with_at}
+use Rattle.shell_state.proofs.IndexLaws.{put_games}
 use Rattle.shell_state.proofs.AddingLaws.{ends_there, told_more}
 use Rattle.shell_state.proofs.CarryLaws.{beside_grown}
 use Rattle.shell_state.proofs.EditedLaws.{kept-refusal, lined_so, none_lined}
@@ -27,7 +30,7 @@ use Rattle.shell_state.specs.Adding.{IsAdded, IsNotAdded}
 use Rattle.shell_state.specs.Ends.{refused_line}
 use Rattle.shell_state.specs.Lines.{game_line}
 use Rattle.shell_state.specs.Refusing.{refusal_of}
-use Rattle.shell_state.specs.Stands.{Fits, Holding, Stands}
+use Rattle.shell_state.specs.Stands.{Fits, Holding, Stands, index_of}
 use Rattle.shell_state.specs.State.{State}
 use Rattle.shell_state.specs.declared.refusing.Refusal.{Refusal}
 
@@ -81,24 +84,53 @@ one_fits kept games base head game is can =
     let none : refusal_of base head game ≡ None = sym (kept-refusal kept games base head game is) ∙ none_lined _ _ can in
     ap (λ (r : Option (List ℕ)). unless_line r (Ok (head, game))) none
 
-pub replace_stands : (old new : Kept) (index : Option Index) (filter filter' : List (Option ℕ)) (saved saved' : List SavedFilter) (seen seen' : Seen) (s : State) (i : ℕ) (head : Head) (game : GameTree)
+-- The index has it there.
+index_replaced : (i : ℕ) (head : Head) (game : GameTree) (base : Base) (depth : Option ℕ)
+    → option_map (index_with_at i game) (option_map (index_of (map (λ (held : Held). held.game) base.games)) depth)
+    ≡ option_map (index_of (map (λ (held : Held). held.game) (game_replaced i head game base).games)) depth
+unfolding game_replaced
+index_replaced i head game base None = refl
+index_replaced i head game base (Some depth) =
+    let games : List GameTree = map (λ (held : Held). held.game) base.games in
+    ap (λ (rows : List (List Place)). Some (record { depth = depth; rows = rows }))
+    (sym (ap (map (row_of depth)) (map-set (λ (g : GameTree). Some g) games i game) ∙ map-set (row_of depth) (map Some games) i (Some game))
+    ∙ ap (λ (all : List GameTree). map (row_of depth) (map Some all)) (sym (put_games (λ _. held_of head game) i base.games game (λ held. refl))))
+
+-- And a row for each game as before.
+pub index_keeps : (index index' : Option Index) (i games entries : ℕ) (game : GameTree) → index' ≡ option_map (index_with_at i game) index → entries ≡ games
+    → IfSome index (λ (x : Index). length x.rows ≡ games) → IfSome index' (λ (x : Index). length x.rows ≡ entries)
+index_keeps index index' i games entries game put count fits =
+    subst (λ (x : Option Index). IfSome x (λ (y : Index). length y.rows ≡ entries)) (sym put) (same_rows index games entries i game count fits)
+  where
+    same_rows : (index : Option Index) (games entries i : ℕ) (game : GameTree) → entries ≡ games → IfSome index (λ (x : Index). length x.rows ≡ games)
+        → IfSome (option_map (index_with_at i game) index) (λ (x : Index). length x.rows ≡ entries)
+    same_rows None games entries i game count fits = tt
+    same_rows (Some index) games entries i game count fits = length-set index.rows i (places_of index.depth game) ∙ fits ∙ sym count
+
+-- There is a row in the place of the old game.
+pub index_there : (index : Option Index) (i games : ℕ) → i < games → IfSome index (λ (x : Index). length x.rows ≡ games) → IfSome index (λ (x : Index). i < length x.rows)
+index_there None i games there fits = tt
+index_there (Some index) i games there fits = omega (arith, there, fits)
+
+pub replace_stands : (old new : Kept) (index index' : Option Index) (filter filter' : List (Option ℕ)) (saved saved' : List SavedFilter) (seen seen' : Seen) (s : State) (i : ℕ) (head : Head) (game : GameTree)
     → Stands (held_by old index filter saved) seen s → IsEnd old.end seen → Places (written_record head.tags game) (game_replaced i head game) old new
     → CanPlace (length (written_record head.tags game)) (first_full (length old.entries) (names_with head old.names) (end_with head game old.end))
     → seen' ≡ appended (padded old.end (written_record head.tags game)) seen → new.unsaved ≡ true → HoldsNames new.names old.names
-    → filter' ≡ to_start i filter → saved' ≡ map (kept_to_start i) saved
-    → Stands (held_by new index filter' saved') seen' (state_with s i (the_one s.shared.base (Good head game ∷ [])))
-replace_stands old new filter filter' saved saved' seen seen' s i head game st ends places room is unsaved names put left =
+    → filter' ≡ to_start i filter → saved' ≡ map (kept_to_start i) saved → index' ≡ option_map (index_with_at i game) index
+    → Stands (held_by new index' filter' saved') seen' (state_with s i (the_one s.shared.base (Good head game ∷ [])))
+replace_stands old new index index' filter filter' saved saved' seen seen' s i head game st ends places room is unsaved names put left indexed =
     let bytes : List ℕ = padded old.end (written_record head.tags game) in
     let one : the_one s.shared.base (Good head game ∷ []) ≡ Ok (head, game) = one_fits old st.games s.shared.base head game st.base room in
-    let standing : Stands (held_by new index filter' saved') seen' (state_with s i (Ok (head, game))) = record {
+    let standing : Stands (held_by new index' filter' saved') seen' (state_with s i (Ok (head, game))) = record {
       games = st.games ++ bytes;
       told = told_more seen seen' st.games bytes st.told is;
       base = places st.games s.shared.base (ends_there seen.games st.games old.end st.told ends.told) st.base;
       seat = seats_are (record { filter = filter'; saved = saved' }) _ (put ∙ ap (to_start i) (filter_is st)) (left ∙ ap (map (kept_to_start i)) (saved_is st));
       unsaved = unsaved;
       carried = beside_grown old new seen seen' bytes s.shared.unsaved s.shared.carried is names st.carried;
+      index = indexed ∙ ap (option_map (index_with_at i game)) st.index ∙ index_replaced i head game s.shared.base s.shared.index;
     } in
-    subst (Stands (held_by new index filter' saved') seen') (ap (state_with s i) (sym one)) standing
+    subst (Stands (held_by new index' filter' saved') seen') (ap (state_with s i) (sym one)) standing
 
 pub replace_says : (old : Kept) (index : Option Index) (filter : List (Option ℕ)) (saved : List SavedFilter) (seen : Seen) (s : State) (i : ℕ) (head : Head) (game : GameTree) (line : List ℕ)
     → Stands (held_by old index filter saved) seen s
@@ -109,7 +141,7 @@ replace_says old index filter saved seen s i head game line st room written =
 
 pub replace_fits : (old new : Kept) (index : Option Index) (filter filter' : List (Option ℕ)) (saved saved' : List SavedFilter) (i : ℕ) → length new.entries ≡ length old.entries → filter' ≡ to_start i filter → saved' ≡ map (kept_to_start i) saved
     → Fits (held_by old index filter saved) → Fits (held_by new index filter' saved')
-replace_fits old new filter filter' saved saved' i count put left fits =
+replace_fits old new index filter filter' saved saved' i count put left fits =
     let P : List SavedFilter → Type 0 = λ l. All (λ (f : SavedFilter). length f.plies ≡ length new.entries) l in
     let Q : ℕ → Type 0 = λ n. All (λ (f : SavedFilter). length f.plies ≡ n) (map (kept_to_start i) saved) in
     record {

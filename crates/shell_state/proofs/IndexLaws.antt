@@ -1,20 +1,21 @@
 -- Laws of the position index of a machine.
-use Rattle.std.proofs.Common.{◌≡◌, ◌<◌, ℕ, zero, suc, List, [], ◌∷◌, length, map, slice_get, Option, None, Some, option_map, refl, sym, subst, ap, ap₂, ◌∙◌, arith}
+use Rattle.std.proofs.Common.{◌≡◌, ℕ, zero, suc, List, [], ◌∷◌, length, map, slice_get, Option, None, Some, option_map, refl, sym, subst, ap, ◌∙◌, arith}
 use Rattle.std.proofs.lemmas.List.{length-map}
+use Rattle.std.proofs.lemmas.Option.{slice_get_within}
 use Rattle.std.specs.Prelude.{slice_set}
 use Rattle.base_core.proofs.GamesLaws.{holds}
-use Rattle.base_core.proofs.Lists.{get_some}
+use Rattle.base_core.proofs.Lists.{get_some, same_lists}
 use Rattle.base_core.specs.Base.{Base, Held}
 use Rattle.base_core.specs.Edits.{changed_at}
 use Rattle.base_core.specs.Entries.{extent_of, sig_in}
 use Rattle.base_core.specs.Represents.{Kept, Represents, extents_of, sigs_of}
+use Rattle.base_files.specs.Extents.{record_in}
 use Rattle.base_files.specs.Seen.{Seen}
 use Rattle.base_files.specs.declared.extent.Extent.{Extent}
 use Rattle.game_codec.proofs.DecodeLaws.{record-one}
 use Rattle.game_codec.specs.Record.{IsRecord}
 use Rattle.game_tree.specs.Game.{GameTree}
 use Rattle.pos_index.specs.Hits.{Index, IndexesAll}
-use Rattle.base_files.specs.Extents.{record_in}
 use Rattle.sig_index.specs.Games.{extent_in}
 use Rattle.shell_state.specs.Stands.{Holding, Stands, depth_of, index_of}
 use Rattle.shell_state.specs.State.{State, games_of}
@@ -34,15 +35,6 @@ depth_by (Some depth) games = refl
 pub depth_is : (holding : Holding) (seen : Seen) (s : State) → Stands holding seen s → depth_of holding.index ≡ s.shared.index
 depth_is holding seen s st = ap depth_of st.index ∙ depth_by s.shared.index (games_of s)
 
--- Lists of the same elements are one.
-same_all : {X : Type 0} (xs ys : List X) → length xs ≡ length ys → ((i : ℕ) (x y : X) → i < length xs → slice_get xs i ≡ Some x → slice_get ys i ≡ Some y → x ≡ y) → xs ≡ ys
-same_all [] [] same each = refl
-same_all [] (y ∷ ys) same each = absurd (omega (arith, same))
-same_all (x ∷ xs) [] same each = absurd (omega (arith, same))
-same_all {X} (x ∷ xs) (y ∷ ys) same each =
-    ap₂ (λ (z : X) (zs : List X). z ∷ zs) (each 0 x y (omega arith) refl refl)
-    (same_all xs ys (omega (arith, same)) (λ i z w below left right. each (suc i) z w (omega (arith, below)) left right))
-
 -- The games of a base are those of its records, which an edit of heads leaves.
 abbrev games_in : Base → List GameTree
 games_in base = map (λ (held : Held). held.game) base.games
@@ -53,10 +45,10 @@ games_stay old new told base base' is is' places =
     let after = holds new told base' is' in
     let count : length new.entries ≡ length old.entries =
     sym (length-map new.entries extent_of) ∙ ap (λ (x : List Extent). length x) places ∙ length-map old.entries extent_of in
-    same_all (games_in base') (games_in base) (omega (arith, after.count, before.count, length-map new.entries sig_in, length-map old.entries sig_in, count))
-    (λ i x y below left right.
-    let sig = get_some (sigs_of new) i (omega (arith, below, after.count)) in
-    let sig' = get_some (sigs_of old) i (omega (arith, below, after.count, length-map new.entries sig_in, length-map old.entries sig_in, count)) in
+    same_lists (games_in base') (games_in base) (after.count ∙ length-map new.entries sig_in ∙ count ∙ sym (length-map old.entries sig_in) ∙ sym before.count)
+    (λ i x y left right.
+    let sig = get_some (sigs_of new) i (omega (arith, slice_get_within (games_in base') i x left, after.count)) in
+    let sig' = get_some (sigs_of old) i (omega (arith, slice_get_within (games_in base) i y right, before.count)) in
     let one = after.each i sig.0 x sig.1 left in
     let other = before.each i sig'.0 y sig'.1 right in
     (record-one (record_in told (extent_in (extents_of new) i)) one.tags other.tags x y one.is_record

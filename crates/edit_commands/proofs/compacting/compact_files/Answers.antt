@@ -17,7 +17,7 @@ use Rattle.pos_index.specs.Hits.{Index}
 use Rattle.std.specs.Prelude.{IfSome}
 use Rattle.shell_state.proofs.EditedLaws.{ok_by}
 use Rattle.shell_state.proofs.Quietly.{if_err_so, held_by, if_ok}
-use Rattle.shell_state.specs.Stands.{Fits, Holding, Sound, Stands}
+use Rattle.shell_state.specs.Stands.{Fits, Holding, IndexFits, Sound, Stands}
 
 pub returns-in-Err-clause-line : goal.returns-in-Err-clause-line
 returns-in-Err-clause-line g c = λ s st.
@@ -145,6 +145,12 @@ pub returns-in-Err-clause-sound : goal.returns-in-Err-clause-sound
 returns-in-Err-clause-sound g c =
     let sound = subst (λ (h : Holding). Sound h (g.F.Files.seen c.args.files.now)) (sym c.machine.view_is) c.requires.sound in
     let P : Kept → Type 0 = λ k. Fits (held_by k c.machine.inside.index c.machine.inside.seat.filter c.machine.inside.seat.saved.items) in
+    let R : Kept → Type 0 = λ k. IndexFits (held_by k c.machine.inside.index c.machine.inside.seat.filter c.machine.inside.seat.saved.items) in
     ok_by _ _ c.uncompacted.result
-    (λ line ends. record { fits = subst P (sym c.in-Err.ensures.unchanged) sound.fits; base = c.keeps_sound.ensures.sound; at_end = c.compact-compacted.ensures.at_end })
+    (λ line ends. record {
+      fits = subst P (sym c.in-Err.ensures.unchanged) sound.fits;
+      index = subst R (sym c.in-Err.ensures.unchanged) sound.index;
+      base = c.keeps_sound.ensures.sound;
+      at_end = c.compact-compacted.ensures.at_end;
+    })
     c.uncompacted.ensures.line

@@ -23,7 +23,7 @@ returns c =
           (λ line is.
           let P : Holding → Type 0 = λ h. Quiet h (mark_work c.args.number c.args.bit c.args.on) (held_by c.mark.new.self c.machine.inside.index filter saved) line.items in
           subst P c.machine.view_is
-          (quiet_edit (codes "marked ") (marked c.args.number c.args.bit c.args.on) c.args.number base c.mark.new.self filter saved (mark_work c.args.number c.args.bit c.args.on) line.items
+          (quiet_edit (codes "marked ") (marked c.args.number c.args.bit c.args.on) c.args.number base c.mark.new.self c.machine.inside.index filter saved (mark_work c.args.number c.args.bit c.args.on) line.items
           (λ s. refl) (λ s. refl) there does c.in_default-mark.ensures.heads c.keeps_sound.ensures.sound is fits))
           c.game_line.ensures;
     }

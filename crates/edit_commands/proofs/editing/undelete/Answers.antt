@@ -23,7 +23,7 @@ returns c =
           (λ line is.
           let P : Holding → Type 0 = λ h. Quiet h (undelete_work c.args.number) (held_by c.undelete.new.self c.machine.inside.index filter saved) line.items in
           subst P c.machine.view_is
-          (quiet_edit (codes "undeleted ") (undeleted c.args.number) c.args.number base c.undelete.new.self filter saved (undelete_work c.args.number) line.items
+          (quiet_edit (codes "undeleted ") (undeleted c.args.number) c.args.number base c.undelete.new.self c.machine.inside.index filter saved (undelete_work c.args.number) line.items
           (λ s. refl) (λ s. refl) there does c.in_default-undelete.ensures.heads c.keeps_sound.ensures.sound is fits))
           c.game_line.ensures;
     }

@@ -5,7 +5,7 @@ use Rattle.base_core.specs.Represents.{Kept}
 use Rattle.pgn_read.specs.declared.item.Item.TheVariants as item
 use Rattle.filter_seat.proofs.SavedLaws.{lent_items, all_long}
 use Rattle.filter_seat.specs.SavedFilters.{kept_to_start}
-use Rattle.intake_commands.proofs.AddLaws.{not_replaced_says, not_replaced_stands, replace_fits, replace_says, replace_stands}
+use Rattle.intake_commands.proofs.AddLaws.{not_replaced_says, not_replaced_stands, replace_fits, replace_says, replace_stands, index_keeps, index_there}
 use Rattle.intake_commands.proofs.OneGameLaws.{not_put_device}
 use Rattle.intake_commands.proofs.replacing.put_game.Goals as goal
 use Rattle.intake_commands.specs.Importing.{state_with, the_one}
@@ -14,7 +14,7 @@ use Rattle.shell_state.proofs.CarryLaws.{carry_appended}
 use Rattle.shell_state.proofs.EditedLaws.{carry_err, err_not_failed, not_failed, ok_by, ok_not_failed}
 use Rattle.shell_state.proofs.Quietly.{if_err_so, held_by, if_ok}
 use Rattle.shell_state.specs.Lines.{game_line}
-use Rattle.shell_state.specs.Stands.{Fits, Holding, Sound, Stands}
+use Rattle.shell_state.specs.Stands.{Fits, Holding, Sound, Stands, IndexFits}
 
 pub put_at_start-requires : goal.put_at_start-requires
 put_at_start-requires g c =
@@ -24,6 +24,15 @@ put_at_start-requires g c =
       there = omega (arith, there, sound.fits.filter);
       same_games = all_long c.machine.inside.seat.saved.items c.as_mut_slice.result.now c.machine.inside.seat.filter (length c.machine.inside.base.entries) c.as_mut_slice.ensures.value sound.fits.filter sound.fits.saved;
     }
+
+pub replace_in_index-requires : goal.replace_in_index-requires
+replace_in_index-requires g c =
+    let sound = subst (λ (h : Holding). Sound h (g.F.Files.seen c.args.files.now)) (sym c.machine.view_is) c.requires.sound in
+    let there = subst (λ (h : Holding). c.args.i < length h.kept.entries) (sym c.machine.view_is) c.requires.there in
+    record { there = index_there c.machine.inside.index c.args.i (length c.machine.inside.base.entries) there sound.index; legal = c.requires.fit.legal }
+
+pub returns-in_err-replace_in_index-in-Ok-clause-carries : goal.returns-in_err-replace_in_index-in-Ok-clause-carries
+returns-in_err-replace_in_index-in-Ok-clause-carries g c = λ s st. carry_appended c.args.machine.now (g.F.Files.seen c.args.files.now) (g.F.Files.seen c.replace_game-replaced.new.files) _ s None c.in-Ok.ensures.appended st
 
 pub refused_line-requires : goal.refused_line-requires
 refused_line-requires g c =
@@ -46,15 +55,18 @@ pub returns-in_ok-game_line-in-Ok-clause-stands : goal.returns-in_ok-game_line-i
 returns-in_ok-game_line-in-Ok-clause-stands g c = λ s st.
     let st' = subst (λ (h : Holding). Stands h (g.F.Files.seen c.args.files.now) s) (sym c.machine.view_is) st in
     let sound = subst (λ (h : Holding). Sound h (g.F.Files.seen c.args.files.now)) (sym c.machine.view_is) c.requires.sound in
-    replace_stands c.machine.inside.base c.replace_game-replaced.new.self c.machine.inside.seat.filter c.put_at_start.new.filter c.machine.inside.seat.saved.items (with_items c.machine.inside.seat.saved c.put_at_start.new.saved).items (g.F.Files.seen c.args.files.now) (g.F.Files.seen c.replace_game-replaced.new.files) s c.args.i c.args.head.now c.args.game.now st' sound.at_end
+    replace_stands c.machine.inside.base c.replace_game-replaced.new.self c.machine.inside.index c.replace_in_index.new.index c.machine.inside.seat.filter c.put_at_start.new.filter c.machine.inside.seat.saved.items (with_items c.machine.inside.seat.saved c.put_at_start.new.saved).items (g.F.Files.seen c.args.files.now) (g.F.Files.seen c.replace_game-replaced.new.files) s c.args.i c.args.head.now c.args.game.now st' sound.at_end
     c.in-Ok.ensures.replaced c.in-Ok.ensures.room c.in-Ok.ensures.appended c.in-Ok.ensures.unsaved c.replace_game-replaced.ensures.names c.put_at_start.ensures.filter
     (lent_items (kept_to_start c.args.i) c.machine.inside.seat.saved c.as_mut_slice.result.now c.put_at_start.new.saved c.as_mut_slice.ensures.value c.put_at_start.ensures.saved)
+    c.in_ok-replace_in_index-in-Ok.ensures.replaced
 
 pub returns-in_ok-game_line-in-Ok-clause-sound : goal.returns-in_ok-game_line-in-Ok-clause-sound
 returns-in_ok-game_line-in-Ok-clause-sound g c =
     let sound = subst (λ (h : Holding). Sound h (g.F.Files.seen c.args.files.now)) (sym c.machine.view_is) c.requires.sound in
     record {
-      fits = replace_fits c.machine.inside.base c.replace_game-replaced.new.self c.machine.inside.seat.filter c.put_at_start.new.filter c.machine.inside.seat.saved.items (with_items c.machine.inside.seat.saved c.put_at_start.new.saved).items c.args.i c.replace_game-replaced.ensures.count c.put_at_start.ensures.filter
+      index = index_keeps c.machine.inside.index c.replace_in_index.new.index c.args.i (length c.machine.inside.base.entries) (length c.replace_game-replaced.new.self.entries) c.args.game.now
+          c.in_ok-replace_in_index-in-Ok.ensures.replaced c.replace_game-replaced.ensures.count sound.index;
+      fits = replace_fits c.machine.inside.base c.replace_game-replaced.new.self c.machine.inside.index c.machine.inside.seat.filter c.put_at_start.new.filter c.machine.inside.seat.saved.items (with_items c.machine.inside.seat.saved c.put_at_start.new.saved).items c.args.i c.replace_game-replaced.ensures.count c.put_at_start.ensures.filter
           (lent_items (kept_to_start c.args.i) c.machine.inside.seat.saved c.as_mut_slice.result.now c.put_at_start.new.saved c.as_mut_slice.ensures.value c.put_at_start.ensures.saved) sound.fits;
       base = c.keeps_sound.ensures.sound;
       at_end = c.replace_game-replaced.ensures.at_end (ok_not_failed _ _ c.in-Ok.is);
@@ -97,6 +109,7 @@ returns-in-Err-clause-sound g c =
     let P : Kept → Type 0 = λ k. Fits (held_by k c.machine.inside.index c.machine.inside.seat.filter c.machine.inside.seat.saved.items) in
     ok_by _ _ c.refused_line.result
     (λ line ends. record {
+      index = subst (λ (k : Kept). IndexFits (held_by k c.machine.inside.index c.machine.inside.seat.filter c.machine.inside.seat.saved.items)) (sym c.in-Err.ensures.unchanged) sound.index;
       fits = subst P (sym c.in-Err.ensures.unchanged) sound.fits;
       base = c.keeps_sound.ensures.sound;
       at_end = c.replace_game-replaced.ensures.at_end (err_not_failed _ c.in-Err.error c.in-Err.is (not_failed c.in-Err.error line.items ends));

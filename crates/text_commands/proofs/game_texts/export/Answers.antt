@@ -26,5 +26,6 @@ returns-clause-cut g c = λ s st.
 
 pub returns-clause-asks : goal.returns-clause-asks
 returns-clause-asks g c =
+    let here : Holding = held_by c.machine.inside.base c.machine.inside.index c.machine.inside.seat.filter c.machine.inside.seat.saved.items in
     let P : Holding → Type 0 = λ h. Asks h export_work (g.F.Files.asked c.args.files.now) (g.F.Files.asked c.write_games.new.files) in
     subst P c.machine.view_is (omega (arith, c.write_games.ensures.asks, exported_price c.machine.inside.seat.filter here))
