@@ -1,11 +1,12 @@
 -- The search through the games, one after the other.
-use Rattle.std.proofs.Common.{◌≡◌, ℕ, ◌+◌, ◌<◌, ◌≤◌, Bool, true, cond, ◌&&◌, List, Option, None, Some, length, get_or, set, take, sym, ap, ◌∙◌, arith}
-use Rattle.std.specs.Prelude.{option_map, slice_get}
-use Rattle.std.proofs.lemmas.List.{length-map, take_all}
+use Rattle.std.proofs.Common.{◌≡◌, ℕ, ◌+◌, ◌<◌, ◌≤◌, Bool, true, false, cond, ◌&&◌, List, Option, None, Some, length, get_or, set, take, refl, sym, ap, ◌∙◌, arith}
+use Rattle.std.specs.Prelude.{is_some, option_map, slice_get}
+use Rattle.std.proofs.lemmas.List.{length-map, set-get_or, take_all}
 use Rattle.std.proofs.lemmas.Option.{get_or_from_slice_get, slice_get-map}
 use Rattle.base_files.specs.declared.extent.Extent.{Extent}
 use Rattle.game_filter.specs.Search.{entry_after, looks_at, searched}
 use Rattle.game_filter.specs.declared.op.Op.{Op}
+use Rattle.game_filter.specs.declared.op.Op.TheVariants.{Ignore, And, Or}
 use Rattle.game_filter.proofs.Searches.{search_more}
 use Rattle.game_tree.specs.Game.{GameTree}
 use Rattle.sig_index.specs.declared.mat_query.MatQuery.{MatQuery}
@@ -25,6 +26,21 @@ pub looked_cost : (op : Op) (query : MatQuery) (sig : Sig) (extent : Extent) (pl
 looked_cost op query sig extent plies i old there looks =
     (λ j. cond (sym looks j && passes sig query) extent.len 0)
     ∙ ap (cost_of op query sig extent) (sym (get_or_from_slice_get plies i old None there))
+
+-- A game that is looked at has its first matching ply.
+pub looked_entry : (op : Op) (old first : Option ℕ) → looks_at op old ≡ true → first ≡ entry_after op old first
+looked_entry Ignore old first looks = refl
+looked_entry And (Some ply) first looks = refl
+looked_entry And None first looks = absurd (cc)
+looked_entry Or (Some ply) first looks = absurd (cc)
+looked_entry Or None first looks = refl
+
+-- A game that was out and stays out needs no entry anew.
+pub stays_out : (plies : List (Option ℕ)) (i : ℕ) (old first : Option ℕ) → slice_get plies i ≡ Some old → is_some old ≡ false → is_some first ≡ false
+    → plies ≡ set plies i first
+stays_out plies i None None there out stays = sym (set-get_or plies i None) ∙ ap (set plies i) (get_or_from_slice_get plies i None None there)
+stays_out plies i None (Some ply) there out stays = absurd (cc)
+stays_out plies i (Some ply) first there out stays = absurd (cc)
 
 -- ---- the entries
 

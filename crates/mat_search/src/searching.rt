@@ -83,13 +83,12 @@ fn search_game<G: Games, F: Files>(
     if !op.looks_at(old) {
         return Ok(());
     }
-    match first_in(games, i, q, files, buf) {
-        Ok(first) => {
-            filter.set(i, op.entry(old, first));
-            Ok(())
-        }
-        Err(error) => Err(error),
+    let first = first_in(games, i, q, files, buf)?;
+    // A game that was out and stays out is not written.
+    if old.is_some() || first.is_some() {
+        filter.set(i, first);
     }
+    Ok(())
 }
 
 // The first matching ply of one game. Its record is read if the game can match.

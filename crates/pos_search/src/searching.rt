@@ -127,13 +127,12 @@ fn search_game<G: Games, F: Files>(
         return Ok(());
     }
     let known = ply_told(told, i);
-    match ply_in(games, i, q, known, files, buf) {
-        Ok(ply) => {
-            filter.set(i, op.entry(old, ply));
-            Ok(())
-        }
-        Err(error) => Err(error),
+    let ply = ply_in(games, i, q, known, files, buf)?;
+    // A game that was out and stays out is not written.
+    if old.is_some() || ply.is_some() {
+        filter.set(i, ply);
     }
+    Ok(())
 }
 
 /// The same as `hit`, of what is sought, with the hits that an index of these games tells of it, if there is one.

@@ -1,4 +1,4 @@
-use Rattle.std.proofs.Common.{◌≡◌, ◌+◌, ◌≤◌, ℕ, true, false, None, get_or, rules, sym, subst}
+use Rattle.std.proofs.Common.{◌≡◌, ◌+◌, ◌≤◌, ℕ, true, false, None, get_or, rules, sym, subst, ◌∙◌}
 use Rattle.std.proofs.lemmas.Bool.{not-false, not-true}
 use Rattle.std.proofs.lemmas.List.{set-get_or}
 use Rattle.game_filter.specs.Search.{looks_at}
@@ -6,7 +6,7 @@ use Rattle.game_filter.proofs.Searches.{joined, not_looked_at}
 use Rattle.sig_index.specs.Games.{extent_in}
 use Rattle.sig_index.proofs.CostLemmas.{not_passed}
 use Rattle.mat_search.specs.Matching.{first_of as first_ply_of}
-use Rattle.mat_search.proofs.SearchLemmas.{looked, looked_cost}
+use Rattle.mat_search.proofs.SearchLemmas.{looked, looked_cost, looked_entry, stays_out}
 use Rattle.mat_search.proofs.searching.search_game.Goals as goal
 
 pub returns-then-not-looks_at-clause-joined : goal.returns-then-not-looks_at-clause-joined
@@ -18,26 +18,47 @@ returns-then-not-looks_at-clause-joined g c = λ told list game same holds there
 pub returns-then-not-looks_at-clause-entry : goal.returns-then-not-looks_at-clause-entry
 returns-then-not-looks_at-clause-entry g c = (get_or c.args.filter.now c.args.i None, sym (set-get_or c.args.filter.now c.args.i None))
 
-pub returns-in-Ok-clause-joined : goal.returns-in-Ok-clause-joined
-returns-in-Ok-clause-joined g c = λ told list game same holds there.
-    joined c.args.op c.args.filter.now c.set.new.self c.args.i c.get-old.result (first_ply_of c.args.q.now game) c.in-Ok.first c.entry.result
-    c.get-old.ensures.entry (c.in-Ok.ensures.first told list game same holds there) c.entry.ensures.entry c.set.ensures.changed
+pub returns-then-is_some-clause-joined : goal.returns-then-is_some-clause-joined
+returns-then-is_some-clause-joined g c = λ told list game same holds there.
+    let yes : c.looks_at.result ≡ true = search (rules, not-false c.looks_at.result) in
+    joined c.args.op c.args.filter.now c.set.new.self c.args.i c.get-old.result (first_ply_of c.args.q.now game) c.in_ok-first.first c.in_ok-first.first
+    c.get-old.ensures.entry (c.in_ok-first.ensures.first told list game same holds there)
+    (looked_entry c.args.op c.get-old.result c.in_ok-first.first (sym c.looks_at.ensures.looks ∙ yes)) c.set.ensures.changed
 
-pub returns-in-Ok-clause-asks : goal.returns-in-Ok-clause-asks
-returns-in-Ok-clause-asks g c = λ sig kept.
+pub returns-else-is_some-2-clause-joined : goal.returns-else-is_some-2-clause-joined
+returns-else-is_some-2-clause-joined g c = λ told list game same holds there.
+    let yes : c.looks_at.result ≡ true = search (rules, not-false c.looks_at.result) in
+    joined c.args.op c.args.filter.now c.args.filter.now c.args.i c.get-old.result (first_ply_of c.args.q.now game) c.in_ok-first.first c.in_ok-first.first
+    c.get-old.ensures.entry (c.in_ok-first.ensures.first told list game same holds there)
+    (looked_entry c.args.op c.get-old.result c.in_ok-first.first (sym c.looks_at.ensures.looks ∙ yes))
+    (stays_out c.args.filter.now c.args.i c.get-old.result c.in_ok-first.first c.get-old.ensures.entry (sym c.is_some.ensures ∙ c.if-is_some.false)
+    (sym c.is_some-else-is_some.ensures ∙ c.if-is_some-2.false))
+
+pub returns-else-is_some-2-clause-entry : goal.returns-else-is_some-2-clause-entry
+returns-else-is_some-2-clause-entry g c = (get_or c.args.filter.now c.args.i None, sym (set-get_or c.args.filter.now c.args.i None))
+
+pub returns-in_err-first-clause-asks : goal.returns-in_err-first-clause-asks
+returns-in_err-first-clause-asks g c = λ sig kept.
     let yes : c.looks_at.result ≡ true = search (rules, not-false c.looks_at.result) in
     subst (λ (n : ℕ). g.F.Files.asked c.first_in.new.files ≤ g.F.Files.asked c.args.files.now + n)
     (looked_cost c.args.op c.args.q.now sig (extent_in (g.G.Games.extents c.args.games.now) c.args.i) c.args.filter.now c.args.i c.get-old.result c.get-old.ensures.entry
     (looked c.looks_at.result (looks_at c.args.op c.get-old.result) c.looks_at.ensures.looks yes)) (c.first_in.ensures.asks sig kept)
 
-pub returns-in-Err-clause-asks : goal.returns-in-Err-clause-asks
-returns-in-Err-clause-asks g c = λ sig kept.
+pub returns-then-is_some-clause-asks : goal.returns-then-is_some-clause-asks
+returns-then-is_some-clause-asks g c = λ sig kept.
     let yes : c.looks_at.result ≡ true = search (rules, not-false c.looks_at.result) in
     subst (λ (n : ℕ). g.F.Files.asked c.first_in.new.files ≤ g.F.Files.asked c.args.files.now + n)
     (looked_cost c.args.op c.args.q.now sig (extent_in (g.G.Games.extents c.args.games.now) c.args.i) c.args.filter.now c.args.i c.get-old.result c.get-old.ensures.entry
     (looked c.looks_at.result (looks_at c.args.op c.get-old.result) c.looks_at.ensures.looks yes)) (c.first_in.ensures.asks sig kept)
 
-pub returns-in-Ok-clause-passed : goal.returns-in-Ok-clause-passed
-returns-in-Ok-clause-passed g c = λ no.
+pub returns-else-is_some-2-clause-asks : goal.returns-else-is_some-2-clause-asks
+returns-else-is_some-2-clause-asks g c = λ sig kept.
     let yes : c.looks_at.result ≡ true = search (rules, not-false c.looks_at.result) in
-    absurd (not_passed (looks_at c.args.op) c.args.filter.now c.args.i c.get-old.result c.get-old.ensures.entry (looked c.looks_at.result (looks_at c.args.op c.get-old.result) c.looks_at.ensures.looks yes) no)
+    subst (λ (n : ℕ). g.F.Files.asked c.first_in.new.files ≤ g.F.Files.asked c.args.files.now + n)
+    (looked_cost c.args.op c.args.q.now sig (extent_in (g.G.Games.extents c.args.games.now) c.args.i) c.args.filter.now c.args.i c.get-old.result c.get-old.ensures.entry
+    (looked c.looks_at.result (looks_at c.args.op c.get-old.result) c.looks_at.ensures.looks yes)) (c.first_in.ensures.asks sig kept)
+
+pub returns-then-is_some-clause-passed : goal.returns-then-is_some-clause-passed
+returns-then-is_some-clause-passed g c = λ no.
+    let yes : c.looks_at.result ≡ true = search (rules, not-false c.looks_at.result) in
+    absurd (not_passed (looks_at c.args.op) c.args.filter.now c.args.i c.get-old.result c.get-old.ensures.entry (sym c.looks_at.ensures.looks ∙ yes) no)

@@ -10,7 +10,7 @@ use Rattle.pos_index.specs.Hits.{places_in}
 use Rattle.pos_search.specs.Matching.{first_of as first_ply_of}
 use Rattle.pos_search.specs.Passing.{passes}
 use Rattle.pos_search.specs.Searching.{is_read}
-use Rattle.pos_search.proofs.SearchLemmas.{looked_cost}
+use Rattle.pos_search.proofs.SearchLemmas.{looked_cost, looked_entry, stays_out}
 use Rattle.pos_search.proofs.TellingLemmas.{known_first, known_is}
 use Rattle.pos_search.proofs.searching.search_game.Goals as goal
 
@@ -23,16 +23,33 @@ returns-then-not-looks_at-clause-joined g c = λ contents list game rows same ho
 pub returns-then-not-looks_at-clause-entry : goal.returns-then-not-looks_at-clause-entry
 returns-then-not-looks_at-clause-entry g c = (get_or c.args.filter.now c.args.i None, sym (set-get_or c.args.filter.now c.args.i None))
 
-pub returns-in-Ok-clause-joined : goal.returns-in-Ok-clause-joined
-returns-in-Ok-clause-joined g c = λ contents list game rows same holds there told tells.
+pub returns-then-is_some-clause-joined : goal.returns-then-is_some-clause-joined
+returns-then-is_some-clause-joined g c = λ contents list game rows same holds there told tells.
+    let yes : c.looks_at.result ≡ true = search (rules, not-false c.looks_at.result) in
     let query = c.args.q.now in
-    joined c.args.op c.args.filter.now c.set.new.self c.args.i c.get-old.result (first_ply_of query game) c.in-Ok.ply c.entry.result
+    joined c.args.op c.args.filter.now c.set.new.self c.args.i c.get-old.result (first_ply_of query game) c.in_ok-ply.ply c.in_ok-ply.ply
     c.get-old.ensures.entry
-    (c.in-Ok.ensures.found contents list game same holds there
-    (known_first c.ply_told-known.result query (places_in rows c.args.i) game (c.ply_told-known.ensures.told query rows told) tells)) c.entry.ensures.entry c.set.ensures.changed
+    (c.in_ok-ply.ensures.found contents list game same holds there
+    (known_first c.ply_told-known.result query (places_in rows c.args.i) game (c.ply_told-known.ensures.told query rows told) tells))
+    (looked_entry c.args.op c.get-old.result c.in_ok-ply.ply (sym c.looks_at.ensures.looks ∙ yes)) c.set.ensures.changed
 
-pub returns-in-Ok-clause-asks : goal.returns-in-Ok-clause-asks
-returns-in-Ok-clause-asks g c = λ sig rows kept told.
+pub returns-else-is_some-2-clause-joined : goal.returns-else-is_some-2-clause-joined
+returns-else-is_some-2-clause-joined g c = λ contents list game rows same holds there told tells.
+    let yes : c.looks_at.result ≡ true = search (rules, not-false c.looks_at.result) in
+    let query = c.args.q.now in
+    joined c.args.op c.args.filter.now c.args.filter.now c.args.i c.get-old.result (first_ply_of query game) c.in_ok-ply.ply c.in_ok-ply.ply
+    c.get-old.ensures.entry
+    (c.in_ok-ply.ensures.found contents list game same holds there
+    (known_first c.ply_told-known.result query (places_in rows c.args.i) game (c.ply_told-known.ensures.told query rows told) tells))
+    (looked_entry c.args.op c.get-old.result c.in_ok-ply.ply (sym c.looks_at.ensures.looks ∙ yes))
+    (stays_out c.args.filter.now c.args.i c.get-old.result c.in_ok-ply.ply c.get-old.ensures.entry (sym c.is_some.ensures ∙ c.if-is_some.false)
+    (sym c.is_some-else-is_some.ensures ∙ c.if-is_some-2.false))
+
+pub returns-else-is_some-2-clause-entry : goal.returns-else-is_some-2-clause-entry
+returns-else-is_some-2-clause-entry g c = (get_or c.args.filter.now c.args.i None, sym (set-get_or c.args.filter.now c.args.i None))
+
+pub returns-in_err-ply-clause-asks : goal.returns-in_err-ply-clause-asks
+returns-in_err-ply-clause-asks g c = λ sig rows kept told.
     let yes : c.looks_at.result ≡ true = search (rules, not-false c.looks_at.result) in
     let query = c.args.q.now in
     let row = places_in rows c.args.i in
@@ -43,8 +60,8 @@ returns-in-Ok-clause-asks g c = λ sig rows kept told.
     (ap (λ (none : Bool). none && passes sig query) (known_is known query row (c.ply_told-known.ensures.told query rows told))))
     (c.ply_in.ensures.asks sig kept)
 
-pub returns-in-Err-clause-asks : goal.returns-in-Err-clause-asks
-returns-in-Err-clause-asks g c = λ sig rows kept told.
+pub returns-then-is_some-clause-asks : goal.returns-then-is_some-clause-asks
+returns-then-is_some-clause-asks g c = λ sig rows kept told.
     let yes : c.looks_at.result ≡ true = search (rules, not-false c.looks_at.result) in
     let query = c.args.q.now in
     let row = places_in rows c.args.i in
@@ -55,7 +72,19 @@ returns-in-Err-clause-asks g c = λ sig rows kept told.
     (ap (λ (none : Bool). none && passes sig query) (known_is known query row (c.ply_told-known.ensures.told query rows told))))
     (c.ply_in.ensures.asks sig kept)
 
-pub returns-in-Ok-clause-passed : goal.returns-in-Ok-clause-passed
-returns-in-Ok-clause-passed g c = λ no.
+pub returns-else-is_some-2-clause-asks : goal.returns-else-is_some-2-clause-asks
+returns-else-is_some-2-clause-asks g c = λ sig rows kept told.
+    let yes : c.looks_at.result ≡ true = search (rules, not-false c.looks_at.result) in
+    let query = c.args.q.now in
+    let row = places_in rows c.args.i in
+    let known = c.ply_told-known.result in
+    subst (λ (n : ℕ). g.F.Files.asked c.ply_in.new.files ≤ g.F.Files.asked c.args.files.now + n)
+    (looked_cost c.args.op (is_none known && passes sig query) (is_read query row sig) (extent_in (g.G.Games.extents c.args.games.now) c.args.i) c.args.filter.now c.args.i
+    c.get-old.result c.get-old.ensures.entry (sym c.looks_at.ensures.looks ∙ yes)
+    (ap (λ (none : Bool). none && passes sig query) (known_is known query row (c.ply_told-known.ensures.told query rows told))))
+    (c.ply_in.ensures.asks sig kept)
+
+pub returns-then-is_some-clause-passed : goal.returns-then-is_some-clause-passed
+returns-then-is_some-clause-passed g c = λ no.
     let yes : c.looks_at.result ≡ true = search (rules, not-false c.looks_at.result) in
     absurd (not_passed (looks_at c.args.op) c.args.filter.now c.args.i c.get-old.result c.get-old.ensures.entry (sym c.looks_at.ensures.looks ∙ yes) no)
