@@ -318,3 +318,24 @@ staying_lens names (row ∷ rows) (e ∷ es) = staying_more names row e es (look
 
 pub compact_price : (holding : Holding) → kept_len holding.kept.entries ≡ sum_by (λ (x : Look). x.len) (filter (λ (x : Look). not x.head.deleted) (looks_in holding))
 compact_price holding = staying_lens holding.kept.names (rows_told holding.index) holding.kept.entries
+
+-- ---- the filters that move
+
+moved_by : (gone : Bool) (held : Held) (next : ℕ) (games : List Held) (ply : Option ℕ) (plies : List (Option ℕ)) → held.head.deleted ≡ gone
+    → ((n : ℕ) → length (renumbered (numbers_from n (map (λ (h : Held). h.head.deleted) games)) plies) ≡ length (filter stays games))
+    → length (renumbered (numbers_from next (map (λ (h : Held). h.head.deleted) (held ∷ games))) (ply ∷ plies)) ≡ length (filter stays (held ∷ games))
+moved_by true held next games ply plies is rest = rw is (rest next)
+moved_by false held next games ply plies is rest = rw is (ap (λ (n : ℕ). suc n) (rest (next + 1)))
+
+moved_long : (next : ℕ) (games : List Held) (plies : List (Option ℕ)) → length plies ≡ length games
+    → length (renumbered (numbers_from next (map (λ (h : Held). h.head.deleted) games)) plies) ≡ length (filter stays games)
+moved_long next [] plies same = refl
+moved_long next (held ∷ games) [] same = absurd (cc)
+moved_long next (held ∷ games) (ply ∷ plies) same =
+    let rest : length plies ≡ length games = cc in
+    moved_by held.head.deleted held next games ply plies refl (λ n. moved_long n games plies rest)
+
+-- A filter with an entry for each game has one for each game that stays.
+pub length_moved : (base : Base) (plies : List (Option ℕ)) → length plies ≡ length base.games → length (renumbered (numbers_of base) plies) ≡ length (compacted base).games
+unfolding compacted only
+length_moved base plies same = moved_long 0 base.games plies same

@@ -1,1 +1,2 @@
 pub mod SavedLaws
+pub mod SeatLaws

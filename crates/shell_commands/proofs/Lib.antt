@@ -1,3 +1,4 @@
 pub mod TaskLaws
 pub mod SayLaws
 pub mod RefusedLaws
+pub mod FitLaws

@@ -1,11 +1,12 @@
 //! Laws of the plain machine.
-ghost use Rattle.std.specs.Prelude.{◌≡◌, ◌<◌, ◌^◌, ◌++◌, ℕ, List, Ok, length};
-ghost use Rattle.base_core.specs.Base.{Held};
+ghost use Rattle.std.specs.Prelude.{◌≡◌, ◌<◌, ◌^◌, ◌++◌, ℕ, Bool, List, Ok, length};
+ghost use Rattle.base_core.specs.Base.{Base, Held};
+ghost use Rattle.command_runs.specs.Plain.{after_all};
 ghost use Rattle.script_text.specs.Tasks.{Task, task};
 ghost use Rattle.script_text.specs.declared.command.Command.TheVariants.{Demo, Import};
 ghost use Rattle.shell_commands.specs.Refused.{IsError};
 ghost use Rattle.shell_commands.specs.Tasks.{tasks};
-ghost use Rattle.shell_state.specs.State.{State};
+ghost use Rattle.shell_state.specs.State.{HasFilters, State, begin};
 
 /// A law: a task whose text begins with `error: ` leaves the state as it was, but for `import` and `demo`, which only add games behind those
 /// that were there.
@@ -14,4 +15,10 @@ pub fn refused_tasks_change_nothing()
         → ((word : List ℕ) → t.order ≡ Ok (Import word) → ⊥) → ((seed games : ℕ) → t.order ≡ Ok (Demo seed games) → ⊥) → tasks.after s t ≡ s }
     ensures imported { (s : State) (word body : List ℕ) → (more : List Held) × ((tasks.after s (task (Ok (Import word)) body)).shared.base.games ≡ s.shared.base.games ++ more) }
     ensures made { (s : State) (seed games : ℕ) (body : List ℕ) → (more : List Held) × ((tasks.after s (task (Ok (Demo seed games)) body)).shared.base.games ≡ s.shared.base.games ++ more) }
+{}
+
+/// A law: every filter has an entry for each game, and at most eight are kept, behind whatever tasks a script begins with.
+pub fn filters_fit()
+    ensures task { (s : State) (t : Task) → HasFilters s → HasFilters (tasks.after s t) }
+    ensures script { (created : Bool) (base : Base) (done : List Task) → HasFilters (after_all tasks (begin created base) done) }
 {}

@@ -5,5 +5,5 @@ mod laws;
 mod saying;
 mod serving;
 
-pub use laws::refused_tasks_change_nothing;
+pub use laws::{filters_fit, refused_tasks_change_nothing};
 pub use serving::{Order, serve};

@@ -1,0 +1,8 @@
+use Rattle.shell_commands.proofs.FitLaws.{script_has, task_has}
+use Rattle.shell_commands.proofs.laws.filters_fit.Goals as goal
+
+pub returns-clause-task : goal.returns-clause-task
+returns-clause-task c = λ s t has. task_has s t has
+
+pub returns-clause-script : goal.returns-clause-script
+returns-clause-script c = λ created base done. script_has created base done
