@@ -9,7 +9,7 @@ use Rattle.game_tree.specs.declared.head.Tag.{Tag}
 use Rattle.game_codec.specs.Record.{IsRecord}
 use Rattle.index_entry.specs.declared.entry.Entry.{Entry}
 use Rattle.name_base.specs.NameLists.{NameLists}
-use Rattle.sig_index.specs.declared.signature.Sig.{Sig}
+pub use Rattle.sig_index.specs.Signature.{sig_in}
 use Rattle.base_core.specs.Base.{Held}
 
 -- Where the game's record stands in the games file.
@@ -55,17 +55,3 @@ pub record Says (names : NameLists) (games : List ℕ) (e : Entry) (held : Held)
   pub read : IsRecord (record_in games (extent_of e)) tags held.game
   pub head : held.head ≡ settled (head_of names e tags)
   pub len : held.len ≡ e.len
-
--- The signature of the game as the entry has it: its derived fields.
-abbrev pub sig_in : Entry → Sig
-sig_in e = record {
-  material = e.material;
-  home = record { count = e.home_count; values = e.home };
-  plies = e.plies;
-  promo = e.promo;
-  under = e.under;
-  own_start = e.own_start;
-  vars = e.vars;
-  comments = e.comments;
-  nags = e.nags;
-}

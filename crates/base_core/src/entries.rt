@@ -57,17 +57,17 @@ impl Entries {
         requires there { i < length self.now }
         ensures at { slice_get self.now i ≡ Some result }
     {
-        match unpack(&self.packed(i)) {
+        match unpack(self.packed(i)) {
             Ok(entry) => entry,
             Err(_) => unreachable!(),
         }
     }
 
     /// The 47 bytes of the entry at a place.
-    pub(crate) fn packed(&self, i: u32) -> [u8; ENTRY_LEN]
+    pub(crate) fn packed(&self, i: u32) -> &[u8; ENTRY_LEN]
         requires there { i < length self.now }
-        ensures at { slice_get self.now i ≡ Some (entry_in result) }
-        ensures written { IsWritten result (entry_in result) }
+        ensures at { slice_get self.now i ≡ Some (entry_in result.now) }
+        ensures written { IsWritten result.now (entry_in result.now) }
     {
         packed_at(self.bytes.as_slice(), i)
     }
@@ -120,12 +120,13 @@ pub(crate) fn put_packed(bytes: &mut [u8], i: u32, packed: &[u8; ENTRY_LEN])
 }
 
 /// The 47 bytes of an entry.
-pub(crate) fn packed_at(bytes: &[u8], i: u32) -> [u8; ENTRY_LEN]
+pub(crate) fn packed_at(bytes: &[u8], i: u32) -> &[u8; ENTRY_LEN]
     requires there { 47 * i + 47 ≤ length bytes.now }
-    ensures packed { result ≡ packed_at bytes.now i }
+    ensures packed { result.now ≡ packed_at bytes.now i }
 {
     let at = ENTRY_LEN * i as usize;
-    let mut packed = [0; ENTRY_LEN];
-    packed.copy_from_slice(&bytes[at..at + ENTRY_LEN]);
-    packed
+    match <&[u8; ENTRY_LEN]>::try_from(&bytes[at..at + ENTRY_LEN]) {
+        Ok(packed) => packed,
+        Err(_) => unreachable!(),
+    }
 }

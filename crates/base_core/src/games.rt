@@ -3,7 +3,7 @@ ghost use Rattle.std.specs.Prelude.{◌≡◌, ◌≤◌, ◌<◌, [], Some, len
 ghost use Rattle.index_entry.specs.Entry.{entry_in};
 ghost use Rattle.name_base.specs.NameLists.{AreSound};
 ghost use Rattle.sig_index.specs.Games.{extent_in, head_in, name_in, plies_in};
-ghost use Rattle.base_core.specs.Entries.{HasNames, head_of, sig_in};
+ghost use Rattle.base_core.specs.Entries.{HasNames, head_of};
 ghost use Rattle.base_core.specs.Represents.{IsKept, extents_of, heads_of, sigs_of};
 
 use crate::base::Base;
@@ -11,13 +11,11 @@ use crate::game::{fields_of, name_of};
 use base_files::{Extent, Files};
 use game_tree::{Date, HeadRef, Outcome, Rating};
 use index_entry::{
-    ENTRY_LEN, black_in, black_rating_in, comments_in, date_in, eco_in, event_in, has_own_start_in,
-    has_promotion_in, has_underpromotion_in, home_count_in, home_in, is_deleted_in, marks_in,
-    material_in, nags_in, outcome_in, place_of, plies_in, round_in, site_in, variations_in,
-    white_in, white_rating_in,
+    ENTRY_LEN, black_in, black_rating_in, date_in, eco_in, event_in, is_deleted_in, marks_in,
+    outcome_in, place_of, plies_in, round_in, site_in, white_in, white_rating_in,
 };
 use name_base::{NameKind, Names};
-use sig_index::{FetchError, Games, HeadName, HomeList, Sig};
+use sig_index::{Brief, FetchError, Games, HeadName, Sig};
 
 impl Base {
     // Where the record of game `i` stands.
@@ -26,7 +24,7 @@ impl Base {
         ensures place { result ≡ extent_in (extents_of self.now) i }
         ensures short { result.len ≤ 131071 }
     {
-        let (offset, len) = place_of(&self.packed(i));
+        let (offset, len) = place_of(self.packed(i));
         Extent {
             offset: u64::from(offset),
             len,
@@ -34,36 +32,15 @@ impl Base {
     }
 
     // The 47 bytes of the entry of game `i`, in which searches read one field after the other.
-    fn packed(&self, i: u32) -> [u8; ENTRY_LEN]
+    fn packed(&self, i: u32) -> &[u8; ENTRY_LEN]
         requires there { i < length self.now.entries }
-        ensures at { slice_get self.now.entries i ≡ Some (entry_in result) }
-        ensures kept { IsKept self.now.names self.now.end (entry_in result) }
-        ensures head { head_in (heads_of self.now) i ≡ head_of self.now.names (entry_in result) [] }
-        ensures plies { plies_in (sigs_of self.now) i ≡ (entry_in result).plies }
-        ensures named { HasNames self.now.names (entry_in result) }
+        ensures at { slice_get self.now.entries i ≡ Some (entry_in result.now) }
+        ensures kept { IsKept self.now.names self.now.end (entry_in result.now) }
+        ensures head { head_in (heads_of self.now) i ≡ head_of self.now.names (entry_in result.now) [] }
+        ensures plies { plies_in (sigs_of self.now) i ≡ (entry_in result.now).plies }
+        ensures named { HasNames self.now.names (entry_in result.now) }
     {
         self.entries.packed(i)
-    }
-}
-
-// The signature of an entry of 47 bytes.
-#[tactic(auto, unfolding(crate::specs::Entries::sig_in))]
-fn signature_in(packed: &[u8; ENTRY_LEN]) -> Sig
-    ensures sig { result ≡ sig_in (entry_in packed.now) }
-{
-    Sig {
-        material: material_in(packed),
-        home: HomeList {
-            count: home_count_in(packed),
-            values: home_in(packed),
-        },
-        plies: plies_in(packed),
-        promo: has_promotion_in(packed),
-        under: has_underpromotion_in(packed),
-        own_start: has_own_start_in(packed),
-        vars: variations_in(packed),
-        comments: comments_in(packed),
-        nags: nags_in(packed),
     }
 }
 
@@ -95,7 +72,11 @@ impl Games for Base {
     }
 
     fn sig(&self, i: u32) -> Sig {
-        signature_in(&self.packed(i))
+        self.brief(i).whole()
+    }
+
+    fn brief(&self, i: u32) -> Brief<'_> {
+        Brief::new(self.packed(i))
     }
 
     fn head(&self, i: u32) -> HeadRef<'_> {
@@ -104,46 +85,46 @@ impl Games for Base {
 
     #[tactic(auto, unfolding(crate::specs::Entries::head_of))]
     fn name(&self, i: u32, which: HeadName) -> &[u8] {
-        entry_name(&self.names, &self.packed(i), which)
+        entry_name(&self.names, self.packed(i), which)
     }
 
     #[tactic(auto, unfolding(crate::specs::Entries::head_of))]
     fn is_deleted(&self, i: u32) -> bool {
-        is_deleted_in(&self.packed(i))
+        is_deleted_in(self.packed(i))
     }
 
     #[tactic(auto, unfolding(crate::specs::Entries::head_of))]
     fn marks(&self, i: u32) -> u32 {
-        marks_in(&self.packed(i))
+        marks_in(self.packed(i))
     }
 
     #[tactic(auto, unfolding(crate::specs::Entries::head_of))]
     fn outcome(&self, i: u32) -> Outcome {
-        outcome_in(&self.packed(i))
+        outcome_in(self.packed(i))
     }
 
     #[tactic(auto, unfolding(crate::specs::Entries::head_of))]
     fn date(&self, i: u32) -> Date {
-        date_in(&self.packed(i))
+        date_in(self.packed(i))
     }
 
     #[tactic(auto, unfolding(crate::specs::Entries::head_of))]
     fn white_rating(&self, i: u32) -> Rating {
-        white_rating_in(&self.packed(i))
+        white_rating_in(self.packed(i))
     }
 
     #[tactic(auto, unfolding(crate::specs::Entries::head_of))]
     fn black_rating(&self, i: u32) -> Rating {
-        black_rating_in(&self.packed(i))
+        black_rating_in(self.packed(i))
     }
 
     #[tactic(auto, unfolding(crate::specs::Entries::head_of))]
     fn eco(&self, i: u32) -> u16 {
-        eco_in(&self.packed(i))
+        eco_in(self.packed(i))
     }
 
     fn plies(&self, i: u32) -> u16 {
-        plies_in(&self.packed(i))
+        plies_in(self.packed(i))
     }
 
     fn extent(&self, i: u32) -> Extent {

@@ -44,7 +44,7 @@ impl PartRead {
         requires there { 47 ≤ length self.now.ahead }
         ensures next { result ≡ take 47 self.now.ahead }
     {
-        packed_at(self.bytes.as_slice(), self.count)
+        *packed_at(self.bytes.as_slice(), self.count)
     }
 
     /// Puts an entry in the place of the first that was not read.

@@ -38,7 +38,7 @@ pub(crate) fn uses_of(alloc: Global, names: &Names, entries: &Entries) -> Result
 {
     let mut uses = Uses::none(alloc, names)?;
     for i in 0..entries.len() {
-        uses.add(&entries.packed(i));
+        uses.add(entries.packed(i));
     }
     Ok(uses)
 }

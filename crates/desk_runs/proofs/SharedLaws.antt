@@ -16,8 +16,8 @@ use Rattle.game_tree.specs.Replay.{plies_of}
 use Rattle.game_tree.specs.TagEdit.{edited}
 use Rattle.game_tree.specs.declared.head.Head.{Head}
 use Rattle.game_tree.specs.declared.tag_edit.TagEdit.{TagEdit}
-use Rattle.intake_commands.specs.Demo.{Adding, adding, one_more, unless_refusal, unless_ended, unless_shown, adding_refusal}
-use Rattle.intake_commands.specs.Importing.{Intake, intake, item_after, none_taken, not_added, unless_not_added, new_game, state_with, the_new}
+use Rattle.intake_commands.specs.Demo.{Adding, adding, one_more, unless_refusal, unless_ended, unless_shown}
+use Rattle.intake_commands.specs.Importing.{Intake, intake, item_after, none_taken, unless_not_added, new_game, state_with, the_new}
 use Rattle.pgn_read.specs.Items.{items_of}
 use Rattle.pgn_read.specs.declared.item.Item.{Item}
 use Rattle.pgn_read.specs.declared.item.Item.TheVariants.{Good, Bad}
@@ -27,8 +27,9 @@ use Rattle.script_text.specs.declared.command.Command.{Command}
 use Rattle.script_text.specs.declared.command.Command.TheVariants.{Nothing, Find, SearchPosition, SearchMaterial, SearchHeader, Reset, Clear, Negate, Restrict, Keep, Take, And, Or, Drop, Hits, List as Listing, Show, Export, Import, Replace, Eco, Tag, Delete, Undelete, Mark, Tree, Cross, Twins, Index, Save, Info, Demo, Quit, Compact}
 use Rattle.script_text.specs.declared.fault.ScriptFault.{ScriptFault}
 use Rattle.shell_commands.specs.Tasks.{order_work}
-use Rattle.shell_state.specs.Refusing.{refusal_of}
+use Rattle.shell_state.specs.Refusing.{not_added, refusal_of}
 use Rattle.shell_state.specs.State.{Shared, State}
+use Rattle.shell_state.specs.declared.refusing.Refusal.{Refusal}
 use Rattle.desk_runs.specs.Desk.{is_private, order_kind}
 
 -- The state of these two parts.
@@ -85,7 +86,7 @@ record AlikeIntakes (i j : Intake) : Type 0 where
 abbrev with-game : Head → GameTree → Shared → Shared
 with-game head game h = record h { base = added head game h.base; unsaved = true }
 
-alike-unless : (o : Option (List ℕ)) (i j : Intake) (head : Head) (game : GameTree) → AlikeIntakes i j
+alike-unless : (o : Option Refusal) (i j : Intake) (head : Head) (game : GameTree) → AlikeIntakes i j
     → AlikeIntakes (unless_not_added o i head game) (unless_not_added o j head game)
 alike-unless (Some words) i j head game alike = record { shared = alike.shared; added = alike.added; refused = ap (λ (n : ℕ). n + 1) alike.refused }
 alike-unless None i j head game alike =
@@ -94,8 +95,8 @@ alike-unless None i j head game alike =
 alike-item : (item : Item) (i j : Intake) → AlikeIntakes i j → AlikeIntakes (item_after i item) (item_after j item)
 alike-item (Bad fault) i j alike = record { shared = alike.shared; added = alike.added; refused = ap (λ (n : ℕ). n + 1) alike.refused }
 alike-item (Good head game) i j alike =
-    subst (λ (o : Option (List ℕ)). AlikeIntakes (unless_not_added (not_added i.state.shared.base head game) i head game) (unless_not_added o j head game))
-    (ap (λ (h : Shared). not_added h.base head game) alike.shared) (alike-unless (not_added i.state.shared.base head game) i j head game alike)
+    subst (λ (o : Option Refusal). AlikeIntakes (unless_not_added (not_added i.state.shared head game) i head game) (unless_not_added o j head game))
+    (ap (λ (h : Shared). not_added h head game) alike.shared) (alike-unless (not_added i.state.shared head game) i j head game alike)
 
 alike-items : (items : List Item) (i j : Intake) → AlikeIntakes i j → (after_all intake i items).state.shared ≡ (after_all intake j items).state.shared
 alike-items [] i j alike = alike.shared
@@ -107,7 +108,7 @@ record AlikeAddings (a b : Adding) : Type 0 where
   plies : a.plies ≡ b.plies
   refused : a.refused ≡ b.refused
 
-alike-refusal : (o : Option (List ℕ)) (a b : Adding) (made : Made) → AlikeAddings a b → AlikeAddings (unless_refusal o a made) (unless_refusal o b made)
+alike-refusal : (o : Option Refusal) (a b : Adding) (made : Made) → AlikeAddings a b → AlikeAddings (unless_refusal o a made) (unless_refusal o b made)
 alike-refusal (Some line) a b made alike = record { shared = alike.shared; number = alike.number; plies = alike.plies; refused = refl }
 alike-refusal None a b made alike = record {
   shared = ap (with-game made.head made.game) alike.shared;
@@ -116,15 +117,15 @@ alike-refusal None a b made alike = record {
   refused = refl;
 }
 
-alike-ended : (o : Option (List ℕ)) (a b : Adding) (made : Made) → AlikeAddings a b → AlikeAddings (unless_ended o a made) (unless_ended o b made)
+alike-ended : (o : Option Refusal) (a b : Adding) (made : Made) → AlikeAddings a b → AlikeAddings (unless_ended o a made) (unless_ended o b made)
 alike-ended (Some line) a b made alike = alike
 alike-ended None a b made alike =
-    subst (λ (o : Option (List ℕ)). AlikeAddings (unless_refusal (adding_refusal a.state.shared.base made.head made.game) a made) (unless_refusal o b made))
-    (ap (λ (h : Shared). adding_refusal h.base made.head made.game) alike.shared) (alike-refusal (adding_refusal a.state.shared.base made.head made.game) a b made alike)
+    subst (λ (o : Option Refusal). AlikeAddings (unless_refusal (not_added a.state.shared made.head made.game) a made) (unless_refusal o b made))
+    (ap (λ (h : Shared). not_added h made.head made.game) alike.shared) (alike-refusal (not_added a.state.shared made.head made.game) a b made alike)
 
 alike-more : (n : ℕ) (a b : Adding) → AlikeAddings a b → AlikeAddings (one_more a n) (one_more b n)
 alike-more n a b alike =
-    subst (λ (o : Option (List ℕ)). AlikeAddings (one_more a n) (unless_ended o b (demo_game b.number n))) alike.refused
+    subst (λ (o : Option Refusal). AlikeAddings (one_more a n) (unless_ended o b (demo_game b.number n))) alike.refused
     (subst (λ (k : ℕ). AlikeAddings (one_more a n) (unless_ended a.refused b (demo_game k n))) alike.number
     (alike-ended a.refused a b (demo_game a.number n) alike))
 
@@ -132,7 +133,7 @@ alike-adding : (n seed : ℕ) (h : Shared) (a b : Seat) → AlikeAddings (adding
 alike-adding zero seed h a b = record { shared = refl; number = refl; plies = refl; refused = refl }
 alike-adding (suc n) seed h a b = alike-more n (adding (state_of h a) seed n) (adding (state_of h b) seed n) (alike-adding n seed h a b)
 
-alike-shown : (o : Option (List ℕ)) (s t : State) → s.shared ≡ t.shared → (unless_shown o s).shared ≡ (unless_shown o t).shared
+alike-shown : (o : Option Refusal) (s t : State) → s.shared ≡ t.shared → (unless_shown o s).shared ≡ (unless_shown o t).shared
 alike-shown (Some line) s t e = e
 alike-shown None s t e = e
 
@@ -213,6 +214,6 @@ same-shared (Ok Info) body h a b = refl
 same-shared (Ok (Demo seed games)) body h a b =
     let alike = alike-adding games seed h a b in
     alike-shown (adding (state_of h a) seed games).refused (adding (state_of h a) seed games).state (adding (state_of h b) seed games).state alike.shared
-    ∙ ap (λ (o : Option (List ℕ)). (unless_shown o (adding (state_of h b) seed games).state).shared) alike.refused
+    ∙ ap (λ (o : Option Refusal). (unless_shown o (adding (state_of h b) seed games).state).shared) alike.refused
 same-shared (Ok Quit) body h a b = refl
 same-shared (Ok Compact) body h a b = same-compacted h a b (is_within h.base)

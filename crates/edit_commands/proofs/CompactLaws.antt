@@ -35,12 +35,13 @@ use Rattle.shell_state.proofs.PriceLaws.{none_looked}
 use Rattle.shell_state.proofs.Quietly.{held_by}
 use Rattle.shell_state.specs.Carrying.{Contents, AreBeside, Beside, StillCarry, MayCarry}
 use Rattle.shell_state.specs.Ends.{IsDevice, EndsAs}
-use Rattle.shell_state.specs.Refusing.{full_line}
-use Rattle.shell_state.specs.Stands.{Stands, Holding, Fits, looks_in, index_of, look_at, looks_at_all}
+use Rattle.shell_state.specs.Refusing.{refusal_line}
+use Rattle.shell_state.specs.Stands.{Stands, Holding, Fits, looks_in}
 use Rattle.shell_state.specs.State.{Carried, State}
 use Rattle.shell_state.specs.Work.{Look}
 use Rattle.shell_state.specs.declared.halt.Halt.{Halt}
 use Rattle.shell_state.specs.declared.halt.Halt.TheVariants as halt
+use Rattle.shell_state.specs.declared.refusing.Refusal.TheVariants.{Full}
 
 -- ---- what is kept and the base are left with the same games.
 
@@ -189,7 +190,7 @@ compact_stands old new index filter saved seen seen' s st is means compacts clea
 pub compact_says : (old : Kept) (index : Option Index) (filter : List (Option ℕ)) (saved : List SavedFilter) (seen : Seen) (s : State) (line : List ℕ) (games kept : ℕ) → Stands (held_by old index filter saved) seen s → new_end old.entries ≤ longest_file
     → games ≡ length old.entries → kept ≡ (numbering old.entries).kept → line ≡ compacted_line games kept → line ≡ compact_text s
 compact_says old index filter saved seen s line games kept st room all left is =
-    let P : Bool → Type 0 = λ b. line ≡ (if b then compacted_line (length s.shared.base.games) (length (compacted s.shared.base).games) else full_line File) in
+    let P : Bool → Type 0 = λ b. line ≡ (if b then compacted_line (length s.shared.base.games) (length (compacted s.shared.base).games) else refusal_line (Full File)) in
     subst P (sym (within_true old st.games s.shared.base st.base room))
     (is ∙ (ap (λ (n : ℕ). compacted_line n kept) (all ∙ st.base.count) ∙ ap (λ (n : ℕ). compacted_line (length s.shared.base.games) n) (left ∙ kept_same old st.games s.shared.base st.base)))
 
@@ -224,8 +225,8 @@ fresh_stands holding seen seen' s left st = record {
 }
 
 -- An error line comes where the new games file would be too long, and nothing changed.
-over_by : (e : CompactError) (kept : Kept) (told : Option (List ℕ)) (buf line : List ℕ) → WhyNotCompacted kept told buf e → uncompacted e ≡ Ok line → (longest_file < new_end kept.entries) × (line ≡ full_line File)
-over_by compacting.Full kept told buf line why ends = let same : full_line File ≡ line = cc in (why, sym same)
+over_by : (e : CompactError) (kept : Kept) (told : Option (List ℕ)) (buf line : List ℕ) → WhyNotCompacted kept told buf e → uncompacted e ≡ Ok line → (longest_file < new_end kept.entries) × (line ≡ refusal_line (Full File))
+over_by compacting.Full kept told buf line why ends = let same : refusal_line (Full File) ≡ line = cc in (why, sym same)
 over_by compacting.Failed kept told buf line why ends = cc
 over_by compacting.Memory kept told buf line why ends = cc
 over_by (compacting.Changed game sig found) kept told buf line why ends = cc
@@ -241,7 +242,7 @@ pub full_says : (old : Kept) (index : Option Index) (filter : List (Option ℕ))
     → WhyNotCompacted old told buf e → uncompacted e ≡ Ok line → line ≡ compact_text s
 full_says old index filter saved seen s e told buf line st why ends =
     let over = over_by e old told buf line why ends in
-    let P : Bool → Type 0 = λ b. line ≡ (if b then compacted_line (length s.shared.base.games) (length (compacted s.shared.base).games) else full_line File) in
+    let P : Bool → Type 0 = λ b. line ≡ (if b then compacted_line (length s.shared.base.games) (length (compacted s.shared.base).games) else refusal_line (Full File)) in
     subst P (sym (within_false old st.games s.shared.base st.base over.0)) over.1
 
 -- Told files end it by a device alone.

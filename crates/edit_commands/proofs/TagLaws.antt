@@ -26,11 +26,11 @@ use Rattle.edit_commands.specs.Editing.{tag_after, tagged_there, unless_refused,
 use Rattle.filter_seat.specs.declared.saved.SavedFilter.{SavedFilter}
 use Rattle.shell_state.proofs.IndexLaws.{same_games}
 use Rattle.shell_state.proofs.CarryLaws.{beside_grown}
-use Rattle.shell_state.proofs.EditedLaws.{kept_refusal, kept-refusal, none_refused, refused_so}
+use Rattle.shell_state.proofs.EditedLaws.{kept_refusal, kept-refusal, none_lined, lined_so}
 use Rattle.shell_state.proofs.PriceLaws.{len_looks}
 use Rattle.shell_state.proofs.Quietly.{held_by}
 use Rattle.shell_state.proofs.Served.{line_serves}
-use Rattle.shell_state.specs.Ends.{refused_edit, IsThere, IsDevice, EndsAs, IsOutput}
+use Rattle.shell_state.specs.Ends.{refused_line, IsThere, IsDevice, EndsAs, IsOutput}
 use Rattle.shell_state.specs.Lines.{game_line, no_game_line}
 use Rattle.shell_state.specs.Passing.{len_in}
 use Rattle.shell_state.specs.Refusing.{refusal_of}
@@ -79,7 +79,7 @@ tag_stands old new index filter saved seen seen' buf s i tag st there is tags un
     let bytes : List ℕ = padded old.end (written_record (edited is.head tag).tags is.game) in
     let same = read-is old st.games seen.games i is.head is.game s.shared.base held.0 st.told is.read st.base held.1 in
     let none : refusal_of s.shared.base (edited held.0.head tag) held.0.game ≡ None =
-    refusal-read old st.games s.shared.base held.0 tag is.head is.game None st.base same (none_refused _ _ is.room) in
+    refusal-read old st.games s.shared.base held.0 tag is.head is.game None st.base same (none_lined _ _ is.room) in
     let later : seen'.games ≡ Some (st.games ++ bytes) = ap (λ (x : Seen). x.games) is.appended ∙ ap (λ (g : Option (List ℕ)). adds g bytes) st.told in
     let standing : Stands (held_by new index filter saved) seen' (unless_refused None s (tagged i tag s.shared.base)) = record {
       games = st.games ++ bytes;
@@ -98,11 +98,11 @@ tag_says old new index filter saved seen seen' buf s i tag line st there is writ
     let held = get_some s.shared.base.games i (omega (arith, there, st.base.count)) in
     let same = read-is old st.games seen.games i is.head is.game s.shared.base held.0 st.told is.read st.base held.1 in
     let none : refusal_of s.shared.base (edited held.0.head tag) held.0.game ≡ None =
-    refusal-read old st.games s.shared.base held.0 tag is.head is.game None st.base same (none_refused _ _ is.room) in
+    refusal-read old st.games s.shared.base held.0 tag is.head is.game None st.base same (none_lined _ _ is.room) in
     written ∙ ap (λ (r : Option (List ℕ)). unwrap_or r (game_line (codes "tagged ") i)) (sym none) ∙ ap (tag_line_there i tag s) (sym held.1)
 
 -- It was refused.
-not_placed : (e : EditError) (kept : Kept) (told : Option (List ℕ)) (i : ℕ) (tag : TagEdit) (buf : List ℕ) (line : List ℕ) → WhyNotTagged kept told i tag buf e → i < length kept.entries → refused_edit e ≡ Ok line
+not_placed : (e : EditError) (kept : Kept) (told : Option (List ℕ)) (i : ℕ) (tag : TagEdit) (buf : List ℕ) (line : List ℕ) → WhyNotTagged kept told i tag buf e → i < length kept.entries → refused_line e ≡ Ok line
     → IsNotPlaced kept told i tag e
 not_placed (edit.TooLong n) kept told i tag buf line why there ends = why
 not_placed (edit.Full what) kept told i tag buf line why there ends = why
@@ -111,27 +111,27 @@ not_placed (edit.Changed g sig found) kept told i tag buf line why there ends = 
 not_placed edit.Failed kept told i tag buf line why there ends = cc
 not_placed edit.Memory kept told i tag buf line why there ends = cc
 
-refused_line : (kept : Kept) (index : Option Index) (filter : List (Option ℕ)) (saved : List SavedFilter) (seen : Seen) (s : State) (i : ℕ) (tag : TagEdit) (e : EditError) (buf line : List ℕ) → (st : Stands (held_by kept index filter saved) seen s)
-    → i < length kept.entries → WhyNotTagged kept seen.games i tag buf e → refused_edit e ≡ Ok line
+refused-line : (kept : Kept) (index : Option Index) (filter : List (Option ℕ)) (saved : List SavedFilter) (seen : Seen) (s : State) (i : ℕ) (tag : TagEdit) (e : EditError) (buf line : List ℕ) → (st : Stands (held_by kept index filter saved) seen s)
+    → i < length kept.entries → WhyNotTagged kept seen.games i tag buf e → refused_line e ≡ Ok line
     → (held : Held) × (slice_get s.shared.base.games i ≡ Some held) × (refusal_of s.shared.base (edited held.head tag) held.game ≡ Some line)
-refused_line kept index filter saved seen s i tag e buf line st there why ends =
+refused-line kept index filter saved seen s i tag e buf line st there why ends =
     let held = get_some s.shared.base.games i (omega (arith, there, st.base.count)) in
     let is = not_placed e kept seen.games i tag buf line why there ends in
     let same = read-is kept st.games seen.games i is.head is.game s.shared.base held.0 st.told is.read st.base held.1 in
-    (held.0, held.1, refusal-read kept st.games s.shared.base held.0 tag is.head is.game (Some line) st.base same (refused_so e _ _ line is.why ends))
+    (held.0, held.1, refusal-read kept st.games s.shared.base held.0 tag is.head is.game (Some line) st.base same (lined_so e _ _ line is.why ends))
 
 pub refused_stands : (kept : Kept) (index : Option Index) (filter : List (Option ℕ)) (saved : List SavedFilter) (seen seen' : Seen) (s : State) (i : ℕ) (tag : TagEdit) (e : EditError) (buf line : List ℕ)
-    → Stands (held_by kept index filter saved) seen s → i < length kept.entries → WhyNotTagged kept seen.games i tag buf e → refused_edit e ≡ Ok line → seen' ≡ seen
+    → Stands (held_by kept index filter saved) seen s → i < length kept.entries → WhyNotTagged kept seen.games i tag buf e → refused_line e ≡ Ok line → seen' ≡ seen
     → Stands (held_by kept index filter saved) seen' (tag_after s i tag)
 refused_stands kept index filter saved seen seen' s i tag e buf line st there why ends same =
-    let refused = refused_line kept index filter saved seen s i tag e buf line st there why ends in
+    let refused = refused-line kept index filter saved seen s i tag e buf line st there why ends in
     let after : s ≡ tag_after s i tag = ap (λ (r : Option (List ℕ)). unless_refused r s (tagged i tag s.shared.base)) (sym refused.2) ∙ ap (tagged_there i tag s) (sym refused.1) in
     subst (Stands (held_by kept index filter saved) seen') after (subst (λ (x : Seen). Stands (held_by kept index filter saved) x s) (sym same) st)
 
 pub refused_says : (kept : Kept) (index : Option Index) (filter : List (Option ℕ)) (saved : List SavedFilter) (seen : Seen) (s : State) (i : ℕ) (tag : TagEdit) (e : EditError) (buf line : List ℕ)
-    → Stands (held_by kept index filter saved) seen s → i < length kept.entries → WhyNotTagged kept seen.games i tag buf e → refused_edit e ≡ Ok line → line ≡ tag_text s i tag
+    → Stands (held_by kept index filter saved) seen s → i < length kept.entries → WhyNotTagged kept seen.games i tag buf e → refused_line e ≡ Ok line → line ≡ tag_text s i tag
 refused_says kept index filter saved seen s i tag e buf line st there why ends =
-    let refused = refused_line kept index filter saved seen s i tag e buf line st there why ends in
+    let refused = refused-line kept index filter saved seen s i tag e buf line st there why ends in
     ap (λ (r : Option (List ℕ)). unwrap_or r (game_line (codes "tagged ") i)) (sym refused.2) ∙ ap (tag_line_there i tag s) (sym refused.1)
 
 pub is_there : (e : EditError) (kept : Kept) (told : Option (List ℕ)) (i : ℕ) (tag : TagEdit) (buf : List ℕ) → WhyNotTagged kept told i tag buf e → i < length kept.entries → IsThere e
@@ -150,7 +150,7 @@ unchanged_told kept games told base same is none =
     (subst P same none) base is
 
 device_so : (e : EditError) (h : Halt) (kept : Kept) (games : List ℕ) (told : Option (List ℕ)) (base : Base) → told ≡ Some games → Represents kept games base
-    → IfChanged e (IfSome told (λ bytes. (other : Base) → Represents kept bytes other → ⊥)) → refused_edit e ≡ Err h → IsDevice h
+    → IfChanged e (IfSome told (λ bytes. (other : Base) → Represents kept bytes other → ⊥)) → refused_line e ≡ Err h → IsDevice h
 device_so (edit.TooLong n) h kept games told base same is changed ends = cc
 device_so (edit.Full what) h kept games told base same is changed ends = cc
 device_so (edit.NoGame n) h kept games told base same is changed ends = let e : halt.Device stop.Memory ≡ h = cc in subst IsDevice e tt
@@ -159,7 +159,7 @@ device_so edit.Failed h kept games told base same is changed ends = let e : halt
 device_so edit.Memory h kept games told base same is changed ends = let e : halt.Device stop.Memory ≡ h = cc in subst IsDevice e tt
 
 pub tag_device : (e : EditError) (h : Halt) (kept : Kept) (index : Option Index) (filter : List (Option ℕ)) (saved : List SavedFilter) (seen : Seen) (s : State) → Stands (held_by kept index filter saved) seen s
-    → IfChanged e (IfSome seen.games (λ bytes. (other : Base) → Represents kept bytes other → ⊥)) → EndsAs (refused_edit e) h → IsDevice h
+    → IfChanged e (IfSome seen.games (λ bytes. (other : Base) → Represents kept bytes other → ⊥)) → EndsAs (refused_line e) h → IsDevice h
 tag_device e h kept index filter saved seen s st changed (inl memory) = subst IsDevice (sym memory) tt
 tag_device e h kept index filter saved seen s st changed (inr ends) = device_so e h kept st.games seen.games s.shared.base st.told st.base changed ends
 

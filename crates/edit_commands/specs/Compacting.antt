@@ -7,10 +7,11 @@ use Rattle.base_core.specs.declared.fault.What.TheVariants.{File}
 use Rattle.block_store.specs.Placing.{longest_file}
 use Rattle.compact_base.specs.Compacting.{numbers_from}
 use Rattle.filter_seat.specs.Seats.{seat_renumbered}
-use Rattle.shell_state.specs.Refusing.{full_line}
+use Rattle.shell_state.specs.Refusing.{refusal_line}
 use Rattle.shell_state.specs.State.{State, saved_whole}
 use Rattle.shell_state.specs.Work.{Work, writing}
 use Rattle.shell_state.specs.Work.Price.{by_looks}
+use Rattle.shell_state.specs.declared.refusing.Refusal.TheVariants.{Full}
 
 -- The new number of each game, or none where it is deleted.
 abbrev pub numbers_of : Base → List (Option ℕ)
@@ -34,7 +35,7 @@ abbrev pub compacted_line : ℕ → ℕ → List ℕ
 compacted_line games kept = codes "compacted " ++ decimal games ++ codes " to " ++ decimal kept ++ codes "\n"
 
 abbrev pub compact_text : State → List ℕ
-compact_text s = if is_within s.shared.base then compacted_line (length s.shared.base.games) (length (compacted s.shared.base).games) else full_line File
+compact_text s = if is_within s.shared.base then compacted_line (length s.shared.base.games) (length (compacted s.shared.base).games) else refusal_line (Full File)
 
 -- The records of the games that stay are read.
 abbrev pub compact_work : Work

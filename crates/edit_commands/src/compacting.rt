@@ -19,7 +19,7 @@ use compact_base::CompactError;
 use filter_seat::renumber_all;
 use game_filter::Renumbering;
 use pos_index::PosIndex;
-use shell_state::{Halt, Machine, error_line, full_words, write_line};
+use shell_state::{Halt, Machine, Refusal, refusal_line, write_line};
 use std::alloc::{AllocError, Global};
 
 /// compact
@@ -93,7 +93,7 @@ fn uncompacted(alloc: Global, error: CompactError) -> Result<Vec<u8>, Halt>
     ensures halt { IfErr result (EndsAs (uncompacted error)) }
 {
     match error {
-        CompactError::Full => Ok(error_line(alloc, full_words(What::File))?),
+        CompactError::Full => Ok(refusal_line(alloc, Refusal::Full(What::File))?),
         CompactError::Failed => Err(Halt::Device(Stop::Files)),
         CompactError::Memory => Err(Halt::Device(Stop::Memory)),
         CompactError::Changed { game, kept, found } => Err(Halt::Changed { game, kept, found }),

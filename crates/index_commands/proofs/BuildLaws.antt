@@ -1,14 +1,11 @@
 -- Laws of an index that is built.
-use Rattle.std.proofs.Common.{◌≡◌, ◌≤◌, ◌+◌, ◌*◌, ℕ, Bool, true, false, nat_lt, List, map, length, Option, Some, None, refl, sym, ap, ◌∙◌, subst}
-use Rattle.std.specs.Prelude.{if◌then◌else◌, sum_by}
-use Rattle.base_core.specs.Entries.{extent_of}
-use Rattle.base_files.specs.Seen.{Seen}
+use Rattle.std.proofs.Common.{◌≡◌, ℕ, Bool, true, false, List, map, Option, Some, sym, ap, ◌∙◌}
+use Rattle.std.specs.Prelude.{if◌then◌else◌}
 use Rattle.base_files.specs.declared.extent.Extent.{Extent}
 use Rattle.command_runs.specs.Counts.{counts}
 use Rattle.game_tree.specs.Game.{GameTree}
-use Rattle.index_entry.specs.declared.entry.Entry.{Entry}
 use Rattle.pos_index.specs.Causes.{HasBuildCause}
-use Rattle.pos_index.specs.Hits.{Index, Indexes, entries_of, row_of, rows_told}
+use Rattle.pos_index.specs.Hits.{Index, Indexes, entries_of, row_of}
 use Rattle.pos_index.specs.declared.fault.BuildError.{BuildError}
 use Rattle.pos_index.specs.declared.fault.BuildError.TheVariants as build
 use Rattle.sig_index.specs.Games.{Holds}
@@ -16,11 +13,9 @@ use Rattle.sig_index.specs.declared.signature.Sig.{Sig}
 use Rattle.index_commands.specs.Ends.{halt_of_build}
 use Rattle.index_commands.specs.Indexing.{index_after, index_line, index_text, is_too_big, too_big_line}
 use Rattle.shell_state.proofs.HoldingLaws.{fetch_device, fetch_why}
-use Rattle.shell_state.proofs.PriceLaws.{sum_looks}
 use Rattle.shell_state.specs.Ends.{IsDevice}
-use Rattle.shell_state.specs.Stands.{Holding, Stands, WhyHalt, index_of, looks_in}
+use Rattle.shell_state.specs.Stands.{WhyHalt, index_of}
 use Rattle.shell_state.specs.State.{State, games_of, with_index}
-use Rattle.shell_state.specs.Work.{Look}
 
 -- Why it is not.
 pub build_device : (e : BuildError) (games : Option (List ℕ)) (told : List ℕ) (extents : List Extent) (sigs : List Sig) (list : List GameTree) (buffer : List ℕ) (f f' : ℕ)
@@ -32,10 +27,6 @@ pub build_why : (e : BuildError) (games : Option (List ℕ)) (extents : List Ext
     → HasBuildCause e sigs extents games buffer f f' → WhyHalt (halt_of_build e) (counts f 0 0) (counts f' 0 0)
 build_why (build.Fetch error) games extents sigs buffer f f' cause = fetch_why error games extents sigs buffer f f' cause
 build_why build.Memory games extents sigs buffer f f' cause = tt
-
--- What is asked is what the command costs.
-places_len : (entries : List Entry) → map (λ (x : Extent). x.len) (map extent_of entries) ≡ map (λ (e : Entry). e.len) entries
-places_len entries = cc
 
 -- It is the index of the games.
 pub built : (index : Index) (games : List GameTree) (depth : ℕ) → index.depth ≡ depth → Indexes index (map Some games) → index ≡ index_of games depth

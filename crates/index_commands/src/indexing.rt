@@ -75,7 +75,7 @@ fn build<F: Files>(
         Ok(index) => index,
         Err(halt) => return Err(halt),
     };
-    let line = index_line(alloc, depth, index.entries())?;
+    let line = index_line(alloc, u32::from(depth), index.entries())?;
     machine.index = Some(index);
     Ok(line)
 }
@@ -118,7 +118,7 @@ fn halt_of(error: BuildError) -> Halt
 }
 
 // `index D E entries`.
-fn index_line(alloc: Global, depth: u8, entries: u64) -> Result<Vec<u8>, AllocError>
+fn index_line(alloc: Global, depth: u32, entries: u64) -> Result<Vec<u8>, AllocError>
     ensures { IfOk result (λ line. line.items ≡ index_line depth entries) }
 {
     let line = format!(in alloc; "index {depth} {entries} entries\n")?;

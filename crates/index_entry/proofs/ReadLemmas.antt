@@ -1,6 +1,7 @@
 -- What the places say is what the functions read.
-use Rattle.std.proofs.Common.{◌≡◌, ◌+◌, ◌*◌, ◌/◌, ◌%◌, ℕ, Bool, true, false, cond, eqb, ltb, ◌||◌, List, [], ◌∷◌, map, get_or, Some, None, Ok, Err, refl, ap, ◌∙◌, arith}
+use Rattle.std.proofs.Common.{◌≡◌, ◌<◌, ◌+◌, ◌*◌, ◌/◌, ◌%◌, ℕ, Bool, true, false, cond, eqb, ltb, ◌||◌, List, [], ◌∷◌, map, get_or, Some, None, Ok, Err, refl, sym, ap, ◌∙◌, arith}
 use Rattle.std.specs.List.{range_with_len}
+use Rattle.std.proofs.lemmas.List.FromFn.{get_or-map-range_with_len}
 use Rattle.byteorder.specs.Endian.{big_from}
 use Rattle.byteorder.specs.Numbers.{big_from-lt}
 use Rattle.game_tree.specs.Date.{date_of}
@@ -101,6 +102,9 @@ home_read_is b h i = λ j. cond (ltb i (home_count_read_is b h j)) (fields.home_
 
 pub home_values_read_is : (b : List ℕ) → IsBytes b → map (home_in b) (range_with_len 0 16) ≡ map (home_at b) (range_with_len 0 16)
 home_values_read_is b h = let home = home_read_is b h in λ i. map (λ j. home j i) (range_with_len 0 16)
+
+pub home_value_read_is : (b : List ℕ) → IsBytes b → (i : ℕ) → i < 16 → home_at b i ≡ get_or (map (home_in b) (range_with_len 0 16)) i 0
+home_value_read_is b h i less = sym (get_or-map-range_with_len (home_in b) 0 16 i i 0 less (omega arith) ∙ home_read_is b h i)
 
 pub material_read_is : (b : List ℕ) → IsBytes b → map (field b) places.material ≡ material_at (get_or b 34 0) (get_or b 35 0) (get_or b 36 0)
 unfolding material_at places.material

@@ -1,8 +1,8 @@
 //! The fields that searches ask for, each read by itself from the 47 bytes of an entry.
-ghost use Rattle.std.specs.Prelude.{◌≡◌, ◌/◌, ◌%◌};
+ghost use Rattle.std.specs.Prelude.{◌≡◌, ◌<◌, ◌/◌, ◌%◌, slice_index};
 ghost use Rattle.index_entry.specs.Entry.{entry_in, outcome_of, rating_of};
 
-use crate::unpacking::{byte_at, home_of, material_of, quad, split, word};
+use crate::unpacking::{byte_at, home_of, home_value, material_of, quad, split, word};
 use game_tree::{Date, Outcome, Rating};
 
 /// Whether the game is marked as deleted.
@@ -192,6 +192,15 @@ pub fn home_count_in(b: &[u8; 47]) -> u8
     ensures count { result ≡ (entry_in b.now).home_count }
 {
     byte_at(b, 38) % 64
+}
+
+/// The home value at a place, or 0 past the end of their list.
+#[tactic(auto, using(crate::proofs::ReadLemmas::home_value_read_is), unfolding(crate::specs::Entry::entry_in))]
+pub fn home_value_in(b: &[u8; 47], i: usize) -> u8
+    requires place { i < 16 }
+    ensures value { result ≡ slice_index (entry_in b.now).home i }
+{
+    home_value(b, i)
 }
 
 /// The home values, and 0 past the end of their list.

@@ -200,7 +200,7 @@ pub(crate) fn home_of(b: &[u8; 47]) -> [u8; 16]
 }
 
 #[tactic(auto, unfolding(crate::specs::Reading::home_at))]
-fn home_value(b: &[u8; 47], i: usize) -> u8
+pub(crate) fn home_value(b: &[u8; 47], i: usize) -> u8
     requires { i < 16 }
     ensures { result ≡ home_at b.now i }
 {

@@ -1,108 +1,34 @@
 -- Laws of games that are made of draws and added one by one, and of showing them.
-use Rattle.std.proofs.Common.{false, ◌+◌, ℕ, List, length, Option, ◌≡◌, ap, ◌∙◌, None, sym, true, [], ◌∷◌, ◌++◌, map, Some, subst, Ok, refl, suc, arith, zero, ◌-◌, ◌<◌, Result, Err, ◌≤◌, OnOk}
-use Rattle.std.specs.Global.{Vec}
+use Rattle.std.proofs.Common.{false, ◌+◌, ℕ, List, Option, ◌≡◌, ap, ◌∙◌, None, sym, true, [], ◌++◌, Some, subst, Ok, refl, suc, arith, zero, ◌-◌, ◌<◌, Result, Err, ◌≤◌, OnOk}
 use Rattle.std.specs.Prelude.{IfErr}
-use Rattle.base_core.specs.Base.{Base}
-use Rattle.base_core.specs.Edited.{first_full, CanPlace, Places, WhyNotPlaced}
-use Rattle.base_core.specs.Edits.{end_with, names_with, added}
-use Rattle.base_core.specs.Means.{HoldsNames}
-use Rattle.base_core.specs.Represents.{Kept, Represents}
-use Rattle.base_core.specs.declared.fault.EditError.{EditError}
-use Rattle.base_core.specs.declared.fault.EditError.TheVariants as edit
-use Rattle.base_files.specs.Seen.{Seen, appended}
+use Rattle.base_files.specs.Seen.{Seen}
 use Rattle.base_files.specs.Told.{adds}
 use Rattle.base_files.specs.declared.faults.Stop.TheVariants as stop
-use Rattle.block_store.specs.Placing.{IsEnd, padded}
 use Rattle.cell_core.specs.declared.man.Colour.TheVariants.{White}
 use Rattle.chess_laws.specs.Position.{start_men}
 use Rattle.command_runs.proofs.Joining.{done_after, halted_after, halted_unsure, halted_more, halted_none}
 use Rattle.command_runs.specs.Endings.{Serves, Cut, Halted, Done}
 use Rattle.demo_games.specs.Demo.{Made, demo_game}
-use Rattle.game_codec.specs.Written.{written_record}
 use Rattle.game_filter.specs.declared.op.Op.TheVariants.{And, Ignore}
-use Rattle.game_tree.specs.Game.{GameTree}
 use Rattle.game_tree.specs.Replay.{plies_of}
-use Rattle.game_tree.specs.declared.head.Head.{Head}
-use Rattle.name_base.specs.NameLists.{NameLists}
 use Rattle.sig_index.specs.declared.pos_query.PosQuery.{PosQuery}
-use Rattle.filter_seat.specs.SavedFilters.{without_last}
-use Rattle.filter_seat.specs.declared.saved.SavedFilter.{SavedFilter}
-use Rattle.intake_commands.proofs.AddLaws.{add_stands, game_fits}
-use Rattle.intake_commands.specs.Demo.{adding_refusal, adding, one_more, Adding, unless_ended, unless_refusal, at_start, shown_after, shown_text, demo_line, demo_text, unless_said, demo_after, unless_shown, demo_work, shown_price, unless_priced, demo_price}
-use Rattle.intake_commands.specs.Demoing.{SaysRefused, IsPut, IsAdding, IsRefused, Wrote}
-use Rattle.intake_commands.specs.Importing.{none_taken, unless_not_added, with_game}
+use Rattle.intake_commands.specs.Demo.{adding, one_more, Adding, unless_ended, unless_refusal, at_start, shown_after, shown_text, demo_line, demo_text, unless_said, demo_after, unless_shown, demo_work, shown_price, unless_priced, demo_price}
+use Rattle.intake_commands.specs.Demoing.{IsAdding, IsRefused, Wrote}
 use Rattle.search_commands.specs.Searching.{search_position_text, search_position_after, search_position_work, position_len}
 use Rattle.search_commands.specs.Trees.{tree_said, tree_work}
 use Rattle.shell_state.proofs.CarryLaws.{carry_before}
 use Rattle.shell_state.proofs.Causing.{broken_by_fault}
-use Rattle.shell_state.proofs.EditedLaws.{none_refused, refused_so, not_failed}
 use Rattle.shell_state.proofs.PriceLaws.{asked_told}
-use Rattle.shell_state.proofs.Quietly.{held_by}
 use Rattle.shell_state.proofs.Served.{line_serves}
 use Rattle.shell_state.specs.Carrying.{StillCarry}
-use Rattle.shell_state.specs.Ends.{refused_edit, IsFault, IsOutput}
-use Rattle.shell_state.specs.Refusing.{refusal}
+use Rattle.shell_state.specs.Ends.{IsFault, IsOutput}
+use Rattle.shell_state.specs.Refusing.{not_added, refusal_line}
 use Rattle.shell_state.specs.Stands.{Stands, Holding, Broken, Asks}
-use Rattle.shell_state.specs.State.{State}
+use Rattle.shell_state.specs.State.{State, with_game}
 use Rattle.shell_state.specs.Work.{price, works, Work}
 use Rattle.shell_state.specs.declared.halt.Halt.{Halt}
 use Rattle.shell_state.specs.declared.halt.Halt.TheVariants as halt
-
--- ---- one game
-
--- The error line, by what is kept.
-abbrev pub kept_adding : Kept → Head → GameTree → Option (List ℕ)
-kept_adding kept head game =
-    refusal (length (written_record head.tags game)) (first_full (length kept.entries + 1) (names_with head kept.names) (end_with head game kept.end))
-
-kept-adding : (kept : Kept) (games : List ℕ) (base : Base) (head : Head) (game : GameTree) → Represents kept games base → kept_adding kept head game ≡ adding_refusal base head game
-kept-adding kept games base head game is =
-    let len : ℕ = length (written_record head.tags game) in
-    ap (λ (n : ℕ). refusal len (first_full (n + 1) (names_with head kept.names) (end_with head game kept.end))) is.count
-    ∙ ap (λ (names : NameLists). refusal len (first_full (length base.games + 1) (names_with head names) (end_with head game kept.end))) is.names
-    ∙ ap (λ (end : ℕ). refusal len (first_full (length base.games + 1) (names_with head base.names) (end_with head game end))) is.end
-
--- There is room for it.
-pub room_made : (kept : Kept) (filter : List (Option ℕ)) (saved : List SavedFilter) (seen : Seen) (s : State) (head : Head) (game : GameTree) → Stands (held_by kept filter saved) seen s
-    → CanPlace (length (written_record head.tags game)) (first_full (length kept.entries + 1) (names_with head kept.names) (end_with head game kept.end))
-    → adding_refusal s.shared.base head game ≡ None
-room_made kept filter saved seen s head game st can = sym (kept-adding kept st.games s.shared.base head game st.base) ∙ none_refused _ _ can
-
--- The state with it stands.
-pub made_stands : (old new : Kept) (filter filter' : List (Option ℕ)) (saved saved' : List SavedFilter) (seen seen' : Seen) (s : State) (head : Head) (game : GameTree)
-    → Stands (held_by old filter saved) seen s → IsEnd old.end seen → Places (written_record head.tags game) (added head game) old new
-    → CanPlace (length (written_record head.tags game)) (first_full (length old.entries + 1) (names_with head old.names) (end_with head game old.end))
-    → seen' ≡ appended (padded old.end (written_record head.tags game)) seen → new.unsaved ≡ true → HoldsNames new.names old.names
-    → filter' ≡ filter ++ Some 0 ∷ [] → saved' ≡ map without_last saved
-    → Stands (held_by new filter' saved') seen' (with_game s head game)
-made_stands old new filter filter' saved saved' seen seen' s head game st ends places room is unsaved names put left =
-    let none = game_fits old st.games s.shared.base head game st.base room in
-    subst (Stands (held_by new filter' saved') seen') (ap (λ (r : Option (List ℕ)). (unless_not_added r (none_taken s) head game).state) none)
-    (add_stands old new filter filter' saved saved' seen seen' (none_taken s) head game st ends places room is unsaved names put left)
-
--- It is refused.
-pub made_refused : (kept : Kept) (filter : List (Option ℕ)) (saved : List SavedFilter) (seen : Seen) (s : State) (head : Head) (game : GameTree) (e : EditError) (line : List ℕ)
-    → Stands (held_by kept filter saved) seen s
-    → WhyNotPlaced (length (written_record head.tags game)) (first_full (length kept.entries + 1) (names_with head kept.names) (end_with head game kept.end)) e
-    → refused_edit e ≡ Ok line → adding_refusal s.shared.base head game ≡ Some line
-made_refused kept filter saved seen s head game e line st why ends = sym (kept-adding kept st.games s.shared.base head game st.base) ∙ refused_so e _ _ line why ends
-
--- An error that has a line is none of the files.
-pub says_not_failed : (e : EditError) (r : Option (Vec ℕ)) → SaysRefused e r → e ≡ edit.Failed → ⊥
-says_not_failed e (Some line) ends is = not_failed e line.items ends is
-says_not_failed e None ends is = ends
-
-pub refused_put : (old new : Kept) (filter : List (Option ℕ)) (saved : List SavedFilter) (seen seen' : Seen) (s : State) (head : Head) (game : GameTree) (e : EditError) (r : Option (Vec ℕ))
-    → Stands (held_by old filter saved) seen s
-    → WhyNotPlaced (length (written_record head.tags game)) (first_full (length old.entries + 1) (names_with head old.names) (end_with head game old.end)) e
-    → SaysRefused e r → new ≡ old → ((e ≡ edit.Failed → ⊥) → seen' ≡ seen) → IsPut (held_by new filter saved) seen' s head game r
-refused_put old new filter saved seen seen' s head game e None st why ends same files = absurd ends
-refused_put old new filter saved seen seen' s head game e (Some line) st why ends same files =
-    let P : Kept → Type 0 = λ k. Stands (held_by k filter saved) seen' s in
-    let Q : Seen → Type 0 = λ x. Stands (held_by old filter saved) x s in (
-      subst P (sym same) (subst Q (sym (files (says_not_failed e (Some line) ends))) st),
-      made_refused old filter saved seen s head game e line.items st why ends,
-    )
+use Rattle.shell_state.specs.declared.refusing.Refusal.{Refusal}
 
 -- ---- one after the other
 
@@ -112,19 +38,19 @@ adding_first holding seen s seed number is st = record { stands = st; number = s
 pub adding_on : (holding : Holding) (seen : Seen) (number sum : ℕ) (s : State) (seed i : ℕ) → IsAdding holding seen number sum (one_more (adding s seed i) i) → IsAdding holding seen number sum (adding s seed (i + 1))
 adding_on holding seen number sum s seed i h = let next : suc i ≡ i + 1 = omega arith in subst (λ (n : ℕ). IsAdding holding seen number sum (adding s seed n)) next h
 
-pub refused_on : (holding : Holding) (seen : Seen) (line : List ℕ) (s : State) (seed i : ℕ) → IsRefused holding seen line (one_more (adding s seed i) i) → IsRefused holding seen line (adding s seed (i + 1))
-refused_on holding seen line s seed i h = let next : suc i ≡ i + 1 = omega arith in subst (λ (n : ℕ). IsRefused holding seen line (adding s seed n)) next h
+pub refused_on : (holding : Holding) (seen : Seen) (why : Refusal) (s : State) (seed i : ℕ) → IsRefused holding seen why (one_more (adding s seed i) i) → IsRefused holding seen why (adding s seed (i + 1))
+refused_on holding seen why s seed i h = let next : suc i ≡ i + 1 = omega arith in subst (λ (n : ℕ). IsRefused holding seen why (adding s seed n)) next h
 
-one-more : (a : Adding) (i number : ℕ) (made : Made) (r : Option (List ℕ)) → a.refused ≡ None → a.number ≡ number → demo_game number i ≡ made
-    → adding_refusal a.state.shared.base made.head made.game ≡ r → one_more a i ≡ unless_refusal r a made
+one-more : (a : Adding) (i number : ℕ) (made : Made) (r : Option Refusal) → a.refused ≡ None → a.number ≡ number → demo_game number i ≡ made
+    → not_added a.state.shared made.head made.game ≡ r → one_more a i ≡ unless_refusal r a made
 one-more a i number made r good at is refused =
-    ap (λ (o : Option (List ℕ)). unless_ended o a (demo_game a.number i)) good
+    ap (λ (o : Option Refusal). unless_ended o a (demo_game a.number i)) good
     ∙ ap (λ (n : ℕ). unless_ended None a (demo_game n i)) at
     ∙ ap (λ (m : Made). unless_ended None a m) is
-    ∙ ap (λ (o : Option (List ℕ)). unless_refusal o a made) refused
+    ∙ ap (λ (o : Option Refusal). unless_refusal o a made) refused
 
 pub adding_more : (holding holding' : Holding) (seen seen' : Seen) (number sum : ℕ) (a : Adding) (i : ℕ) (made : Made) (more : ℕ) → IsAdding holding seen number sum a → demo_game number i ≡ made
-    → Stands holding' seen' (with_game a.state made.head made.game) → adding_refusal a.state.shared.base made.head made.game ≡ None → more ≡ plies_of made.game
+    → Stands holding' seen' (with_game a.state made.head made.game) → not_added a.state.shared made.head made.game ≡ None → more ≡ plies_of made.game
     → IsAdding holding' seen' made.left (sum + more) (one_more a i)
 adding_more holding holding' seen seen' number sum a i made more so_far is st refused plies =
     let both : a.plies + plies_of made.game ≡ sum + more = omega (arith, so_far.plies, plies) in
@@ -132,34 +58,34 @@ adding_more holding holding' seen seen' number sum a i made more so_far is st re
     subst (IsAdding holding' seen' made.left (sum + more)) (sym (one-more a i number made None so_far.good so_far.number is refused)) next
 
 -- Behind a game that is refused no more is added.
-refused-stays : (s : State) (seed i more : ℕ) (line : List ℕ) → (adding s seed i).refused ≡ Some line → adding s seed (more + i) ≡ adding s seed i
-refused-stays s seed i zero line is = let none : zero + i ≡ i = omega arith in ap (adding s seed) none
-refused-stays s seed i (suc more) line is =
+refused-stays : (s : State) (seed i more : ℕ) (why : Refusal) → (adding s seed i).refused ≡ Some why → adding s seed (more + i) ≡ adding s seed i
+refused-stays s seed i zero why is = let none : zero + i ≡ i = omega arith in ap (adding s seed) none
+refused-stays s seed i (suc more) why is =
     let next : suc more + i ≡ suc (more + i) = omega arith in
-    let rest = refused-stays s seed i more line is in
+    let rest = refused-stays s seed i more why is in
     ap (adding s seed) next ∙ ap (λ (a : Adding). one_more a (more + i)) rest
-    ∙ ap (λ (o : Option (List ℕ)). unless_ended o (adding s seed i) (demo_game (adding s seed i).number (more + i))) is
+    ∙ ap (λ (o : Option Refusal). unless_ended o (adding s seed i) (demo_game (adding s seed i).number (more + i))) is
 
-pub refused_here : (holding : Holding) (seen : Seen) (number sum : ℕ) (a : Adding) (i : ℕ) (made : Made) (holding' : Holding) (seen' : Seen) (line : List ℕ) → IsAdding holding seen number sum a
-    → demo_game number i ≡ made → Stands holding' seen' a.state → adding_refusal a.state.shared.base made.head made.game ≡ Some line → IsRefused holding' seen' line (one_more a i)
-refused_here holding seen number sum a i made holding' seen' line so_far is st refused =
-    let here : IsRefused holding' seen' line (unless_refusal (Some line) a made) = record { stands = st; refused = refl } in
-    subst (IsRefused holding' seen' line) (sym (one-more a i number made (Some line) so_far.good so_far.number is refused)) here
+pub refused_here : (holding : Holding) (seen : Seen) (number sum : ℕ) (a : Adding) (i : ℕ) (made : Made) (holding' : Holding) (seen' : Seen) (why : Refusal) → IsAdding holding seen number sum a
+    → demo_game number i ≡ made → Stands holding' seen' a.state → not_added a.state.shared made.head made.game ≡ Some why → IsRefused holding' seen' why (one_more a i)
+refused_here holding seen number sum a i made holding' seen' why so_far is st refused =
+    let here : IsRefused holding' seen' why (unless_refusal (Some why) a made) = record { stands = st; refused = refl } in
+    subst (IsRefused holding' seen' why) (sym (one-more a i number made (Some why) so_far.good so_far.number is refused)) here
 
-pub adding_ends : (holding : Holding) (seen : Seen) (s : State) (seed i games : ℕ) (line : List ℕ) → i < games → IsRefused holding seen line (adding s seed (i + 1)) → IsRefused holding seen line (adding s seed games)
-adding_ends holding seen s seed i games line less here =
+pub adding_ends : (holding : Holding) (seen : Seen) (s : State) (seed i games : ℕ) (why : Refusal) → i < games → IsRefused holding seen why (adding s seed (i + 1)) → IsRefused holding seen why (adding s seed games)
+adding_ends holding seen s seed i games why less here =
     let all : (games - (i + 1)) + (i + 1) ≡ games = omega arith in
-    subst (IsRefused holding seen line) (sym (refused-stays s seed (i + 1) (games - (i + 1)) line here.refused) ∙ ap (adding s seed) all) here
+    subst (IsRefused holding seen why) (sym (refused-stays s seed (i + 1) (games - (i + 1)) why here.refused) ∙ ap (adding s seed) all) here
 
 -- ---- what the files carry
 
-unless-carried : (r : Option (List ℕ)) (a : Adding) (made : Made) → (unless_refusal r a made).state.shared.carried ≡ a.state.shared.carried
-unless-carried (Some line) a made = refl
+unless-carried : (r : Option Refusal) (a : Adding) (made : Made) → (unless_refusal r a made).state.shared.carried ≡ a.state.shared.carried
+unless-carried (Some why) a made = refl
 unless-carried None a made = refl
 
-ended-carried : (r : Option (List ℕ)) (a : Adding) (made : Made) → (unless_ended r a made).state.shared.carried ≡ a.state.shared.carried
-ended-carried (Some line) a made = refl
-ended-carried None a made = unless-carried (adding_refusal a.state.shared.base made.head made.game) a made
+ended-carried : (r : Option Refusal) (a : Adding) (made : Made) → (unless_ended r a made).state.shared.carried ≡ a.state.shared.carried
+ended-carried (Some why) a made = refl
+ended-carried None a made = unless-carried (not_added a.state.shared made.head made.game) a made
 
 pub adding_carried : (s : State) (seed games : ℕ) → (adding s seed games).state.shared.carried ≡ s.shared.carried
 adding_carried s seed zero = refl
@@ -260,11 +186,11 @@ memory_shows holding seen s text t = (halted_none text t, tt)
 said-all : (s : State) (seed games sum : ℕ) → (adding s seed games).refused ≡ None → (adding s seed games).plies ≡ sum
     → demo_text s seed games ≡ demo_line games sum ++ shown_text (adding s seed games).state
 said-all s seed games sum good plies =
-    ap (λ (o : Option (List ℕ)). unless_said o games (adding s seed games).plies (adding s seed games).state) good
+    ap (λ (o : Option Refusal). unless_said o games (adding s seed games).plies (adding s seed games).state) good
     ∙ ap (λ (n : ℕ). demo_line games n ++ shown_text (adding s seed games).state) plies
 
 after-all : (s : State) (seed games : ℕ) → (adding s seed games).refused ≡ None → demo_after s seed games ≡ shown_after (adding s seed games).state
-after-all s seed games good = ap (λ (o : Option (List ℕ)). unless_shown o (adding s seed games).state) good
+after-all s seed games good = ap (λ (o : Option Refusal). unless_shown o (adding s seed games).state) good
 
 serves-by : (holding : Holding) (seen : Seen) (s after : State) (work : Work) (text : List ℕ) (t t' : Option (List ℕ)) (r : Result (Unit {0}) Halt) → work.files ≡ true
     → work.after s ≡ after → work.text s ≡ text → Wrote holding seen after text t t' r → Serves works (Stands holding seen) Broken s work t t' r
@@ -285,14 +211,14 @@ demo_serves holding seen s seed games sum t t' r good plies wrote =
 
 pub demo_asks : (s : State) (seed games a a' : ℕ) → (adding s seed games).refused ≡ None → a' ≤ a + shown_price (adding s seed games).state → a' ≤ a + demo_price s seed games
 demo_asks s seed games a a' good asked =
-    let same : demo_price s seed games ≡ shown_price (adding s seed games).state = ap (λ (o : Option (List ℕ)). unless_priced o (adding s seed games).state) good in
+    let same : demo_price s seed games ≡ shown_price (adding s seed games).state = ap (λ (o : Option Refusal). unless_priced o (adding s seed games).state) good in
     omega (arith, asked, same)
 
 -- A game was refused, and its error line written or broken off.
-pub refusal_serves : (holding : Holding) (seen : Seen) (s : State) (seed games : ℕ) (line : List ℕ) (t t' : Option (List ℕ)) (r : Result (Unit {0}) Halt)
-    → Stands holding seen (adding s seed games).state → (adding s seed games).refused ≡ Some line → OnOk r (t' ≡ adds t line) → Halted [] line t t' → IfErr r IsOutput
+pub refusal_serves : (holding : Holding) (seen : Seen) (s : State) (seed games : ℕ) (why : Refusal) (t t' : Option (List ℕ)) (r : Result (Unit {0}) Halt)
+    → IsRefused holding seen why (adding s seed games) → OnOk r (t' ≡ adds t (refusal_line why)) → Halted [] (refusal_line why) t t' → IfErr r IsOutput
     → Serves works (Stands holding seen) Broken s (demo_work seed games) t t' r
-refusal_serves holding seen s seed games line t t' r st refused written halted output =
-    let text : line ≡ demo_text s seed games = ap (λ (o : Option (List ℕ)). unless_said o games (adding s seed games).plies (adding s seed games).state) (sym refused) in
-    let state : (adding s seed games).state ≡ demo_after s seed games = ap (λ (o : Option (List ℕ)). unless_shown o (adding s seed games).state) (sym refused) in
-    line_serves r holding (demo_work seed games) line seen s t t' (subst (Stands holding seen) state st) text written halted output
+refusal_serves holding seen s seed games why t t' r is written halted output =
+    let text : refusal_line why ≡ demo_text s seed games = ap (λ (o : Option Refusal). unless_said o games (adding s seed games).plies (adding s seed games).state) (sym is.refused) in
+    let state : (adding s seed games).state ≡ demo_after s seed games = ap (λ (o : Option Refusal). unless_shown o (adding s seed games).state) (sym is.refused) in
+    line_serves r holding (demo_work seed games) (refusal_line why) seen s t t' (subst (Stands holding seen) state is.stands) text written halted output

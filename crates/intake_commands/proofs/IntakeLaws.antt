@@ -22,14 +22,16 @@ use Rattle.pgn_read.specs.declared.item.Item.{Item}
 use Rattle.pgn_read.specs.declared.item.Item.TheVariants.{Bad, Good}
 use mir.Val.{bool_byte}
 use Rattle.intake_commands.specs.Ends.{unread_halt}
-use Rattle.intake_commands.specs.Importing.{intake, next_number, none_taken, Intake, item_after, item_text, one_refused, unless_not_added, not_added}
+use Rattle.intake_commands.specs.Importing.{intake, next_number, none_taken, Intake, item_after, item_text, one_refused, unless_not_added}
 use Rattle.intake_commands.specs.Intakes.{AreBehind, TookIn, Counted, IsIntake, TookNext, TakesIn}
 use Rattle.shell_state.proofs.Causing.{fault_of_output}
 use Rattle.shell_state.specs.Ends.{IsFault, IsBodyFault, IsDevice, IsOutput}
+use Rattle.shell_state.specs.Refusing.{not_added}
 use Rattle.shell_state.specs.Stands.{Holding, Stands}
 use Rattle.shell_state.specs.State.{State}
 use Rattle.shell_state.specs.declared.halt.Halt.{Halt}
 use Rattle.shell_state.specs.declared.halt.Halt.TheVariants as halt
+use Rattle.shell_state.specs.declared.refusing.Refusal.{Refusal}
 
 -- ---- what stands ahead
 
@@ -235,10 +237,10 @@ took_last holding seen s text ahead told told' added refused next none took =
 
 -- ---- what the files carry then
 
-unless_keeps : (words : Option (List ℕ)) (i : Intake) (head : Head) (game : GameTree) → (unless_not_added words i head game).state.shared.carried ≡ i.state.shared.carried
-unless_keeps (Some words) i head game = refl
+unless_keeps : (why : Option Refusal) (i : Intake) (head : Head) (game : GameTree) → (unless_not_added why i head game).state.shared.carried ≡ i.state.shared.carried
+unless_keeps (Some why) i head game = refl
 unless_keeps None i head game = refl
 
 pub item_keeps : (i : Intake) (item : Item) → (item_after i item).state.shared.carried ≡ i.state.shared.carried
-item_keeps i (Good head game) = unless_keeps (not_added i.state.shared.base head game) i head game
+item_keeps i (Good head game) = unless_keeps (not_added i.state.shared head game) i head game
 item_keeps i (Bad fault) = refl

@@ -9,7 +9,6 @@ use Rattle.base_core.specs.declared.fault.EditError.{EditError}
 use Rattle.base_core.specs.declared.fault.EditError.TheVariants as edit
 use Rattle.base_core.specs.declared.fault.What.{What}
 use Rattle.base_files.specs.Seen.{Seen}
-use Rattle.base_files.specs.declared.faults.Stop.TheVariants as stop
 use Rattle.game_tree.specs.Game.{GameTree}
 use Rattle.game_tree.specs.declared.head.Head.{Head}
 use Rattle.pgn_read.proofs.CountLaws.{listed_alone}
@@ -24,12 +23,12 @@ use Rattle.intake_commands.specs.Importing.{first_faulty, one_game_line, the_one
 use Rattle.intake_commands.specs.Intakes.{IsBegun, IsLeft, ReadOn, IsRest, IsOnly}
 use Rattle.intake_commands.specs.declared.replacing.Only.{Only}
 use Rattle.intake_commands.specs.declared.replacing.Only.TheVariants as only
-use Rattle.shell_state.specs.Ends.{IsDevice, refused_edit, EndsAs}
+use Rattle.shell_state.proofs.AddingLaws.{edit_device}
+use Rattle.shell_state.specs.Ends.{EndsAs, IsDevice, refused_edit, refused_line}
 use Rattle.shell_state.specs.Lines.{no_game_line}
 use Rattle.shell_state.specs.Stands.{Holding, Stands}
 use Rattle.shell_state.specs.State.{State}
 use Rattle.shell_state.specs.declared.halt.Halt.{Halt}
-use Rattle.shell_state.specs.declared.halt.Halt.TheVariants as halt
 
 -- ---- items behind the first
 
@@ -211,16 +210,16 @@ stands_at (Err e) holding seen s text i number same st = tt
 pub refused_new : (holding : Holding) (seen : Seen) (s : State) (i : ℕ) (line : List ℕ) (new : New) → Err line ≡ new → Stands holding seen s → Stands holding seen (state_with s i new)
 refused_new holding seen s i line new same st = subst (λ (n : New). Stands holding seen (state_with s i n)) same st
 
--- ---- what putting a game there wants, and how it ends
+-- ---- how putting a game there ends
 
-not_put_so : (e : EditError) (h : Halt) (len : ℕ) (full : Option What) → WhyNotPlaced len full e → refused_edit e ≡ Err h → IsDevice h
+not_put_so : (e : EditError) (h : Halt) (len : ℕ) (full : Option What) → WhyNotPlaced len full e → refused_line e ≡ Err h → refused_edit e ≡ Err h
 not_put_so (edit.TooLong n) h len full why ends = absurd (cc)
 not_put_so (edit.Full what) h len full why ends = absurd (cc)
 not_put_so (edit.NoGame n) h len full why ends = absurd why
 not_put_so (edit.Changed g sig found) h len full why ends = absurd why
-not_put_so edit.Failed h len full why ends = let e : halt.Device stop.Files ≡ h = cc in subst IsDevice e tt
-not_put_so edit.Memory h len full why ends = let e : halt.Device stop.Memory ≡ h = cc in subst IsDevice e tt
+not_put_so edit.Failed h len full why ends = cc
+not_put_so edit.Memory h len full why ends = cc
 
-pub not_put_device : (e : EditError) (h : Halt) (len : ℕ) (full : Option What) → WhyNotPlaced len full e → EndsAs (refused_edit e) h → IsDevice h
+pub not_put_device : (e : EditError) (h : Halt) (len : ℕ) (full : Option What) → WhyNotPlaced len full e → EndsAs (refused_line e) h → IsDevice h
 not_put_device e h len full why (inl memory) = subst IsDevice (sym memory) tt
-not_put_device e h len full why (inr ends) = not_put_so e h len full why ends
+not_put_device e h len full why (inr ends) = edit_device e h len full why (not_put_so e h len full why ends)

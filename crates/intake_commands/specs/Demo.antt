@@ -1,53 +1,42 @@
 -- The command that adds games which are made of draws, and shows them. This project's own.
 use Rattle.std.specs.Fmt.{decimal}
-use Rattle.std.specs.Prelude.{ℕ, List, Option, None, ◌+◌, length, Some, zero, suc, ◌∷◌, ◌++◌, [], codes}
-use Rattle.base_core.specs.Base.{Base}
-use Rattle.base_core.specs.Edited.{first_full}
-use Rattle.base_core.specs.Edits.{end_with, names_with}
+use Rattle.std.specs.Prelude.{ℕ, List, Option, None, ◌+◌, Some, zero, suc, ◌∷◌, ◌++◌, [], codes}
 use Rattle.cell_core.specs.declared.man.Colour.TheVariants.{White}
 use Rattle.chess_laws.specs.Position.{start_men}
 use Rattle.demo_games.specs.Demo.{Made, demo_game}
-use Rattle.game_codec.specs.Written.{written_record}
 use Rattle.game_filter.specs.declared.op.Op.TheVariants.{Ignore}
-use Rattle.game_tree.specs.Game.{GameTree}
 use Rattle.game_tree.specs.Replay.{plies_of}
-use Rattle.game_tree.specs.declared.head.Head.{Head}
 use Rattle.sig_index.specs.declared.pos_query.PosQuery.{PosQuery}
-use Rattle.intake_commands.specs.Importing.{with_game}
 use Rattle.search_commands.specs.Searching.{exactly, search_position_after, search_position_text, search_position_work}
 use Rattle.search_commands.specs.Trees.{tree_said, tree_work}
-use Rattle.shell_state.specs.Refusing.{refusal}
-use Rattle.shell_state.specs.State.{State}
+use Rattle.shell_state.specs.Refusing.{not_added, refusal_line}
+use Rattle.shell_state.specs.State.{State, with_game}
 use Rattle.shell_state.specs.Work.{writing, Work, price}
 use Rattle.shell_state.specs.Work.Price.{by_state}
+use Rattle.shell_state.specs.declared.refusing.Refusal.{Refusal}
 
 -- ---- the adding
 
--- The state behind the games that were added, the number from which the next one is drawn, the sum of their plies, and the error line of
--- the game that was refused, if one was.
+-- The state behind the games that were added, the number from which the next one is drawn, the sum of their plies, and why the game behind
+-- them is not added, if there was such a one.
 pub record Adding : Type 0 where
   pub state : State
   pub number : ℕ
   pub plies : ℕ
-  pub refused : Option (List ℕ)
+  pub refused : Option Refusal
 
 abbrev pub none_added : State → ℕ → Adding
 none_added s seed = record { state = s; number = seed; plies = 0; refused = None }
 
--- The error line of a game that is not added, if it is not.
-abbrev pub adding_refusal : Base → Head → GameTree → Option (List ℕ)
-adding_refusal base head game =
-    refusal (length (written_record head.tags game)) (first_full (length base.games + 1) (names_with head base.names) (end_with head game base.end))
-
--- A game is added, unless there is an error line.
-abbrev pub unless_refusal : Option (List ℕ) → Adding → Made → Adding
-unless_refusal (Some line) a made = record a { refused = Some line }
+-- A game is added, unless something is against it.
+abbrev pub unless_refusal : Option Refusal → Adding → Made → Adding
+unless_refusal (Some why) a made = record a { refused = Some why }
 unless_refusal None a made = record { state = with_game a.state made.head made.game; number = made.left; plies = a.plies + plies_of made.game; refused = None }
 
 -- One more game is made and added, unless one was refused.
-abbrev pub unless_ended : Option (List ℕ) → Adding → Made → Adding
-unless_ended (Some line) a made = a
-unless_ended None a made = unless_refusal (adding_refusal a.state.shared.base made.head made.game) a made
+abbrev pub unless_ended : Option Refusal → Adding → Made → Adding
+unless_ended (Some why) a made = a
+unless_ended None a made = unless_refusal (not_added a.state.shared made.head made.game) a made
 
 abbrev pub one_more : Adding → ℕ → Adding
 one_more a i = unless_ended a.refused a (demo_game a.number i)
@@ -75,12 +64,12 @@ abbrev pub shown_text : State → List ℕ
 shown_text s = search_position_text s Ignore at_start ++ tree_said (shown_after s) start_men White
 
 -- The command ends with the error line of a game that is refused, and the games before it stay.
-abbrev pub unless_shown : Option (List ℕ) → State → State
-unless_shown (Some line) s = s
+abbrev pub unless_shown : Option Refusal → State → State
+unless_shown (Some why) s = s
 unless_shown None s = shown_after s
 
-abbrev pub unless_said : Option (List ℕ) → ℕ → ℕ → State → List ℕ
-unless_said (Some line) games plies s = line
+abbrev pub unless_said : Option Refusal → ℕ → ℕ → State → List ℕ
+unless_said (Some why) games plies s = refusal_line why
 unless_said None games plies s = demo_line games plies ++ shown_text s
 
 abbrev pub demo_after : State → ℕ → ℕ → State
@@ -94,8 +83,8 @@ abbrev pub shown_price : State → ℕ
 shown_price s = price s (search_position_work Ignore at_start) + price (shown_after s) (tree_work start_men White)
 
 -- Where a game is refused, nothing is searched.
-abbrev pub unless_priced : Option (List ℕ) → State → ℕ
-unless_priced (Some line) s = 0
+abbrev pub unless_priced : Option Refusal → State → ℕ
+unless_priced (Some why) s = 0
 unless_priced None s = shown_price s
 
 abbrev pub demo_price : State → ℕ → ℕ → ℕ

@@ -1,12 +1,9 @@
 -- The commands that take games in: `import` and `replace`. This project's own.
 use Rattle.std.specs.Fmt.{decimal}
-use Rattle.std.specs.Prelude.{ℕ, ◌+◌, List, [], ◌∷◌, ◌++◌, codes, nat_lt, if◌then◌else◌, Option, Some, option_map, length, None, Result, Err, Ok, slice_get, true}
+use Rattle.std.specs.Prelude.{ℕ, ◌+◌, List, [], ◌∷◌, ◌++◌, codes, Option, Some, length, None, Result, Err, Ok, slice_get, true}
 use Rattle.base_core.specs.Base.{Base, Held}
-use Rattle.base_core.specs.Edited.{first_full}
-use Rattle.base_core.specs.Edits.{end_with, names_with, added, game_replaced}
-use Rattle.base_core.specs.declared.fault.What.{What}
+use Rattle.base_core.specs.Edits.{game_replaced}
 use Rattle.command_runs.specs.Plain.{Plain, after_all, run}
-use Rattle.game_codec.specs.Written.{longest, written_record}
 use Rattle.game_tree.specs.Game.{GameTree}
 use Rattle.game_tree.specs.declared.head.Head.{Head}
 use Rattle.pgn_read.specs.Items.{items_of}
@@ -15,12 +12,13 @@ use Rattle.pgn_read.specs.declared.item.GameWhat.{GameWhat}
 use Rattle.pgn_read.specs.declared.item.GameWhat.TheVariants as what
 use Rattle.pgn_read.specs.declared.item.Item.{Item}
 use Rattle.pgn_read.specs.declared.item.Item.TheVariants.{Good, Bad}
-use Rattle.filter_seat.specs.Seats.{seat_to_start, seat_with_one}
+use Rattle.filter_seat.specs.Seats.{seat_to_start}
 use Rattle.shell_state.specs.Lines.{san_words, game_line, line_of, no_game_line}
-use Rattle.shell_state.specs.Refusing.{full_words, too_long_words, refusal_of}
-use Rattle.shell_state.specs.State.{State, with_base, with_seat}
+use Rattle.shell_state.specs.Refusing.{not_added, refusal_of, refusal_words}
+use Rattle.shell_state.specs.State.{State, with_base, with_game, with_seat}
 use Rattle.shell_state.specs.Work.{writing, Work}
 use Rattle.shell_state.specs.Work.Price.{by_looks}
+use Rattle.shell_state.specs.declared.refusing.Refusal.{Refusal}
 
 -- ---- the lines of items
 
@@ -47,13 +45,9 @@ fault_words fault = codes " line " ++ decimal fault.line ++ codes " column " ++ 
 abbrev pub faulty_line : ℕ → GameFault → List ℕ
 faulty_line number fault = item_line number (fault_words fault)
 
--- Why a game is not added, if it is not: its record is too long, or this would be full.
-abbrev pub refused_words : ℕ → Option What → Option (List ℕ)
-refused_words len full = if nat_lt longest len then Some too_long_words else option_map full_words full
-
-abbrev pub not_added : Base → Head → GameTree → Option (List ℕ)
-not_added base head game =
-    refused_words (length (written_record head.tags game)) (first_full (length base.games + 1) (names_with head base.names) (end_with head game base.end))
+-- `error: game K: WHY`: a game that is not added.
+abbrev pub not_added_line : ℕ → Refusal → List ℕ
+not_added_line number why = item_line number (codes ": " ++ refusal_words why)
 
 -- ---- import <<WORD
 
@@ -70,27 +64,23 @@ none_taken s = record { state = s; added = 0; refused = 0 }
 abbrev pub next_number : Intake → ℕ
 next_number i = i.added + i.refused + 1
 
--- A game is added: it is in at ply 0, and in no filter that is kept.
-abbrev pub with_game : State → Head → GameTree → State
-with_game s head game = with_seat (with_base s (added head game s.shared.base)) (seat_with_one s.seat)
-
 abbrev pub one_refused : Intake → Intake
 one_refused i = record i { refused = i.refused + 1 }
 
-abbrev pub unless_not_added : Option (List ℕ) → Intake → Head → GameTree → Intake
-unless_not_added (Some words) i head game = one_refused i
+abbrev pub unless_not_added : Option Refusal → Intake → Head → GameTree → Intake
+unless_not_added (Some why) i head game = one_refused i
 unless_not_added None i head game = record i { state = with_game i.state head game; added = i.added + 1 }
 
-abbrev pub added_line : Option (List ℕ) → Intake → List ℕ
-added_line (Some words) i = item_line (next_number i) (codes ": " ++ words)
+abbrev pub added_line : Option Refusal → Intake → List ℕ
+added_line (Some why) i = not_added_line (next_number i) why
 added_line None i = game_line (codes "added ") (length i.state.shared.base.games)
 
 abbrev pub item_after : Intake → Item → Intake
-item_after i (Good head game) = unless_not_added (not_added i.state.shared.base head game) i head game
+item_after i (Good head game) = unless_not_added (not_added i.state.shared head game) i head game
 item_after i (Bad fault) = one_refused i
 
 abbrev pub item_text : Intake → Item → List ℕ
-item_text i (Good head game) = added_line (not_added i.state.shared.base head game) i
+item_text i (Good head game) = added_line (not_added i.state.shared head game) i
 item_text i (Bad fault) = faulty_line (next_number i) fault
 
 -- The command is a run of the items of its body.

@@ -1,36 +1,32 @@
 //! The command that adds games which are made of draws, and shows them.
-ghost use Rattle.std.specs.Prelude.{◌≡◌, ◌≤◌, ◌+◌, ◌++◌, ℕ, Ok, IfOk, IfErr, OnOk};
+ghost use Rattle.std.specs.Prelude.{◌≡◌, ◌≤◌, ◌+◌, ◌++◌, ℕ, [], IfOk, IfErr, OnOk};
+ghost use Rattle.base_files.specs.Told.{adds};
 ghost use Rattle.command_runs.specs.Counts.{Causes, counts};
-ghost use Rattle.command_runs.specs.Endings.{Serves};
-ghost use Rattle.game_tree.specs.Head.{IsBounded};
-ghost use Rattle.game_tree.specs.Legal.{IsLegalGame};
-ghost use Rattle.game_tree.specs.Settle.{IsSettled};
+ghost use Rattle.command_runs.specs.Endings.{Halted, Serves};
 ghost use Rattle.intake_commands.specs.Demo.{Adding, adding, at_start, demo_line, one_more, shown_after, shown_text, demo_work, shown_price, demo_price};
-ghost use Rattle.intake_commands.specs.Demoing.{Adds, AddsNext, IsAdding, IsPut, IsShort, SaysRefused, Wrote};
+ghost use Rattle.intake_commands.specs.Demoing.{Adds, AddsNext, IsAdding, IsShort, Wrote};
 ghost use Rattle.shell_state.specs.Carrying.{StillCarry};
-ghost use Rattle.shell_state.specs.Ends.{EndsAs, IsDevice, IsThere, refused_edit};
+ghost use Rattle.shell_state.specs.Ends.{IsDevice, IsOutput};
+ghost use Rattle.shell_state.specs.Refusing.{refusal_line};
 ghost use Rattle.shell_state.specs.Stands.{Broken, Sound, Stands, WhyHalt};
 ghost use Rattle.shell_state.specs.State.{State};
 ghost use Rattle.shell_state.specs.Work.{works};
 
-use base_core::EditError;
-use base_files::{Files, Sink};
+use base_files::{Files, Sink, Stop};
 use cell_core::Colour;
 use chess_laws::Position;
 use demo_games::Generator;
-use filter_seat::leave_out;
 use game_filter::Op;
-use game_tree::{Game, Head, plies};
+use game_tree::plies;
 use search_commands::{search_position, tree};
-use shell_state::{Halt, Machine, refused_line, write_line};
+use shell_state::{Halt, Machine, Refusal, refusal_line, write_line};
 use sig_index::{Mode, PosQuery};
 use std::alloc::{AllocError, Global};
 
-// The games that were added: so many plies they have, or the error line of the one that was refused behind them.
-#[derive(Drop)]
+// The games that were added: so many plies they have, or why the one behind them is not.
 enum Added {
     Plies(u64),
-    Refused(Vec<u8>),
+    Refused(Refusal),
 }
 
 /// demo SEED GAMES
@@ -52,7 +48,7 @@ pub fn demo<F: Files, K: Sink>(
 {
     match add_games(alloc, machine, files, seed, games) {
         Ok(Added::Plies(sum)) => show(alloc, machine, files, out, games, sum),
-        Ok(Added::Refused(line)) => write_line(out, line.as_slice()),
+        Ok(Added::Refused(why)) => write_refusal(alloc, out, why),
         Err(halt) => Err(halt),
     }
 }
@@ -79,7 +75,7 @@ fn add_games<F: Files>(
     for number in 0..games {
         match add_next(alloc, machine, files, &mut generator, number) {
             Ok(Added::Plies(more)) => sum += more,
-            Ok(Added::Refused(line)) => return Ok(Added::Refused(line)),
+            Ok(Added::Refused(why)) => return Ok(Added::Refused(why)),
             Err(halt) => return Err(halt),
         }
     }
@@ -106,54 +102,23 @@ fn add_next<F: Files>(
 {
     let (head, game) = generator.make(alloc, number)?;
     let more = u64::from(plies(&game));
-    match add_made(alloc, machine, files, &head, &game) {
-        Ok(None) => Ok(Added::Plies(more)),
-        Ok(Some(line)) => Ok(Added::Refused(line)),
+    match machine.add(alloc, files, &head, &game) {
+        Ok(Ok(_)) => Ok(Added::Plies(more)),
+        Ok(Err(why)) => Ok(Added::Refused(why)),
         Err(halt) => Err(halt),
     }
 }
 
-// Adds a game, which is then in at ply 0 and in no filter that is kept, or gives the error line of one that is refused.
-fn add_made<F: Files>(
-    alloc: Global,
-    machine: &mut Machine,
-    files: &mut F,
-    head: &Head,
-    game: &Game,
-) -> Result<Option<Vec<u8>>, Halt>
-    requires legal { IsLegalGame game.now }
-    requires bounded { IsBounded head.now }
-    requires settled { IsSettled head.now }
-    requires sound { Sound machine.old (F.seen files.old) }
-    ensures put { (s : State) → Stands machine.old (F.seen files.old) s → IfOk result (IsPut machine.new (F.seen files.new) s head.now game.now) }
-    ensures devices { IfErr result IsDevice }
-    ensures sound { OnOk result (Sound machine.new (F.seen files.new)) }
-    ensures carries { (s : State) → Stands machine.old (F.seen files.old) s → StillCarry (F.seen files.new) s None }
-    ensures choices { (F.seen files.new).choices ≡ (F.seen files.old).choices }
-    ensures none_asked { F.asked files.new ≡ F.asked files.old }
-    ensures causes { Causes WhyHalt result (counts (F.faults files.old) 0 0) (counts (F.faults files.new) 0 0) }
+// Writes the error line of a game that is not added.
+fn write_refusal<K: Sink>(alloc: Global, out: &mut K, why: Refusal) -> Result<(), Halt>
+    ensures written { OnOk result (K.taken out.new ≡ adds (K.taken out.old) (refusal_line why)) }
+    ensures halted { Halted [] (refusal_line why) (K.taken out.old) (K.taken out.new) }
+    ensures output { IfErr result IsOutput }
+    ensures causes { Causes WhyHalt result (counts 0 0 (K.faults out.old)) (counts 0 0 (K.faults out.new)) }
 {
-    let added = machine.base.add(alloc, files, head, game);
-    machine.keeps_sound();
-    match added {
-        Ok(_) => {
-            machine.seat.filter.push(alloc, Some(0))?;
-            leave_out(alloc, machine.seat.saved.as_mut_slice())?;
-            Ok(None)
-        }
-        Err(error) => refused(alloc, error),
-    }
-}
-
-// The error line of a game that is not added, or how the command ends.
-fn refused(alloc: Global, error: EditError) -> Result<Option<Vec<u8>>, Halt>
-    requires there { IsThere error }
-    ensures line { IfOk result (SaysRefused error) }
-    ensures halt { IfErr result (EndsAs (refused_edit error)) }
-{
-    match refused_line(alloc, error) {
-        Ok(line) => Ok(Some(line)),
-        Err(halt) => Err(halt),
+    match refusal_line(alloc, why) {
+        Ok(line) => write_line(out, line.as_slice()),
+        Err(AllocError) => Err(Halt::Device(Stop::Memory)),
     }
 }
 

@@ -1,5 +1,5 @@
 //! The command that takes the games of a body in.
-ghost use Rattle.std.specs.Prelude.{◌≡◌, ◌<◌, ℕ, ◌+◌, ◌++◌, [], false, codes, List, Option, None, Some, Ok, IfOk, IfErr, OnOk};
+ghost use Rattle.std.specs.Prelude.{◌≡◌, ◌<◌, ℕ, ◌+◌, [], List, Option, None, Some, Ok, IfOk, IfErr, OnOk};
 ghost use Rattle.base_files.specs.Told.{adds};
 ghost use Rattle.command_runs.specs.Counts.{Causes, counts};
 ghost use Rattle.command_runs.specs.Endings.{Halted, Serves};
@@ -7,24 +7,21 @@ ghost use Rattle.pgn_read.specs.Fit.{IsFit, IsFitGame};
 ghost use Rattle.pgn_read.specs.Items.{items_of};
 ghost use Rattle.pgn_read.specs.Readers.{told};
 ghost use Rattle.pgn_read.specs.declared.item.Item.TheVariants as item;
-ghost use Rattle.intake_commands.specs.Ends.{refused_item, unread_halt};
-ghost use Rattle.intake_commands.specs.Importing.{Intake, intake, item_after, item_line, item_text, next_number, import_work};
+ghost use Rattle.intake_commands.specs.Ends.{unread_halt};
+ghost use Rattle.intake_commands.specs.Importing.{Intake, intake, item_after, item_text, next_number, import_work};
 ghost use Rattle.intake_commands.specs.Intakes.{Counted, StandsLater, TakesIn, TookIn, TookNext};
 ghost use Rattle.shell_state.specs.Carrying.{StillCarry};
-ghost use Rattle.shell_state.specs.Ends.{EndsAs, IsDevice, IsFault, IsOutput, IsThere};
-ghost use Rattle.shell_state.specs.Refusing.{full_words};
+ghost use Rattle.shell_state.specs.Ends.{IsDevice, IsFault, IsOutput};
 ghost use Rattle.shell_state.specs.Stands.{Stands, Sound, WhyHalt, Broken};
 ghost use Rattle.shell_state.specs.State.{State};
 ghost use Rattle.shell_state.specs.Work.{works};
 
-use crate::item_lines::{faulty_line, imported_line, item_line};
-use base_core::{EditError, What};
+use crate::item_lines::{faulty_line, imported_line, not_added_line};
 use base_files::{Files, Sink, Source, Stop};
-use filter_seat::leave_out;
 use game_tree::{Game, Head};
 use pgn_read::{Item, PgnError, Reader};
-use shell_state::{Halt, Machine, full_words, game_line, halt_of, write_line};
-use std::alloc::{AllocError, Global};
+use shell_state::{Halt, Machine, game_line, write_line};
+use std::alloc::Global;
 
 /// import <<WORD
 pub fn import<F: Files, B: Source, K: Sink>(
@@ -213,37 +210,9 @@ fn add_game<F: Files>(
     ensures none_asked { F.asked files.new ≡ F.asked files.old }
     ensures causes { Causes WhyHalt result (counts (F.faults files.old) 0 0) (counts (F.faults files.new) 0 0) }
 {
-    let added = machine.base.add(alloc, files, head, game);
-    machine.keeps_sound();
-    match added {
-        Ok(i) => {
-            let line = game_line(alloc, b"added ", u64::from(i))?;
-            machine.seat.filter.push(alloc, Some(0))?;
-            leave_out(alloc, machine.seat.saved.as_mut_slice())?;
-            Ok((line, true))
-        }
-        Err(error) => refused_item(alloc, number, error),
+    match machine.add(alloc, files, head, game) {
+        Ok(Ok(i)) => Ok((game_line(alloc, b"added ", u64::from(i))?, true)),
+        Ok(Err(why)) => Ok((not_added_line(alloc, number, why)?, false)),
+        Err(halt) => Err(halt),
     }
-}
-
-// The line of a game that is not added, and that it was not, or how the command ends.
-fn refused_item(alloc: Global, number: u64, error: EditError) -> Result<(Vec<u8>, bool), Halt>
-    requires there { IsThere error }
-    ensures line { IfOk result (λ given. (refused_item number error ≡ Ok given.0.items) × (given.1 ≡ false)) }
-    ensures halt { IfErr result (EndsAs (refused_item number error)) }
-{
-    match error {
-        EditError::TooLong(_) => Ok((item_line(alloc, number, b": record too long")?, false)),
-        EditError::Full(what) => Ok((full_item(alloc, number, what)?, false)),
-        other => Err(halt_of(other)),
-    }
-}
-
-// The line of a game for which something would be full.
-fn full_item(alloc: Global, number: u64, what: What) -> Result<Vec<u8>, AllocError>
-    ensures line { IfOk result (λ line. line.items ≡ item_line number (codes ": " ++ full_words what)) }
-{
-    let mut words = Vec::from_slice(alloc, b": ")?;
-    words.extend_from_slice(full_words(what))?;
-    item_line(alloc, number, words.as_slice())
 }

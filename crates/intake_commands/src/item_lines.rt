@@ -1,14 +1,14 @@
 //! The lines of the items of a body.
 ghost use Rattle.std.specs.Prelude.{◌≡◌, string_bytes, IfOk};
-ghost use Rattle.intake_commands.specs.Importing.{fault_words, faulty_line, imported_line, item_line, what_words};
+ghost use Rattle.intake_commands.specs.Importing.{fault_words, faulty_line, imported_line, item_line, not_added_line, what_words};
 ghost use Rattle.shell_state.specs.Lines.{san_words};
 
 use pgn_read::{GameFault, GameWhat};
-use shell_state::san_words;
+use shell_state::{Refusal, san_words};
 use std::alloc::{AllocError, Global};
 
 // A line that names an item of a body, the first being 1.
-pub(crate) fn item_line(alloc: Global, number: u64, words: &[u8]) -> Result<Vec<u8>, AllocError>
+fn item_line(alloc: Global, number: u64, words: &[u8]) -> Result<Vec<u8>, AllocError>
     ensures line { IfOk result (λ line. line.items ≡ item_line number words.now) }
 {
     let front = format!(in alloc; "error: game {number}")?;
@@ -28,6 +28,19 @@ pub(crate) fn faulty_line(
 {
     let words = fault_words(alloc, fault)?;
     item_line(alloc, number, words.as_bytes())
+}
+
+// The line of an item whose game is not added.
+pub(crate) fn not_added_line(
+    alloc: Global,
+    number: u64,
+    why: Refusal,
+) -> Result<Vec<u8>, AllocError>
+    ensures line { IfOk result (λ line. line.items ≡ not_added_line number why) }
+{
+    let mut words = Vec::from_slice(alloc, b": ")?;
+    words.extend_from_slice(why.words())?;
+    item_line(alloc, number, words.as_slice())
 }
 
 // Where an item has a fault, and which.

@@ -22,7 +22,9 @@ use base_files::{Files, Sink, Source, Stop};
 use filter_seat::put_at_start;
 use game_tree::{Game, Head};
 use pgn_read::{GameFault, Item, Reader};
-use shell_state::{Halt, Machine, game_line, line_of, no_game_line, refused_line, write_line};
+use shell_state::{
+    Halt, Machine, game_line, line_of, no_game_line, refused_line, replace_in_index, write_line,
+};
 use std::alloc::Global;
 
 // What a body has that is to have one game.
@@ -142,6 +144,7 @@ fn put_game<F: Files>(
                 machine.seat.saved.as_mut_slice(),
                 i,
             );
+            replace_in_index(alloc, &mut machine.index, i, game)?;
             Ok(game_line(alloc, b"replaced ", u64::from(i))?)
         }
         Err(error) => refused_line(alloc, error),

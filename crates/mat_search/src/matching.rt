@@ -3,11 +3,11 @@ ghost use Rattle.std.specs.Prelude.{◌≡◌, ◌<◌, ◌≤◌};
 ghost use Rattle.mat_search.specs.Matching.{count_in, exchanged, in_range, other_bounds};
 ghost use Rattle.mat_search.specs.Passing.{can_be_in, can_match, is_long, passes};
 
-use sig_index::{MatQuery, MatRange, Sig, can_have, can_stand};
+use sig_index::{Brief, MatQuery, MatRange, can_have, can_stand};
 
 /// Whether a game with this signature can match: where it cannot, no ply of its main line matches. A streak has at least one ply.
 #[tactic(auto, unfolding(crate::specs::Passing::passes))]
-pub fn passes(s: &Sig, q: &MatQuery) -> bool
+pub fn passes(s: &Brief<'_>, q: &MatQuery) -> bool
     requires streak { 1 ≤ q.now.streak }
     ensures passes { result ≡ passes s.now q.now }
 {
@@ -15,22 +15,22 @@ pub fn passes(s: &Sig, q: &MatQuery) -> bool
 }
 
 // Whether the main line can have all plies of a streak that begins at `ply_lo`.
-fn is_long(s: &Sig, q: &MatQuery) -> bool
+fn is_long(s: &Brief<'_>, q: &MatQuery) -> bool
     requires { 1 ≤ q.now.streak }
     ensures { result ≡ is_long s.now q.now }
 {
-    u64::from(q.ply_lo) + u64::from(q.streak) - 1 <= u64::from(s.plies) || s.plies == 1023
+    u64::from(q.ply_lo) + u64::from(q.streak) - 1 <= u64::from(s.plies()) || s.plies() == 1023
 }
 
 // Whether the counts can have stood in the query's range, or with `swap` in the exchanged one.
-fn can_match(s: &Sig, q: &MatQuery) -> bool
+fn can_match(s: &Brief<'_>, q: &MatQuery) -> bool
     ensures { result ≡ can_match s.now q.now }
 {
     can_be_in(s, &q.range) || q.swap && can_be_in_exchanged(s, &q.range)
 }
 
 // The same of the range with the colours exchanged.
-fn can_be_in_exchanged(s: &Sig, range: &MatRange) -> bool
+fn can_be_in_exchanged(s: &Brief<'_>, range: &MatRange) -> bool
     ensures { result ≡ can_be_in s.now (exchanged range.now) }
 {
     can_be_in(s, &exchanged(range))
@@ -38,7 +38,7 @@ fn can_be_in_exchanged(s: &Sig, range: &MatRange) -> bool
 
 // Whether the counts can have stood in the range.
 #[tactic(auto, unfolding(crate::specs::Passing::can_be_in))]
-fn can_be_in(s: &Sig, range: &MatRange) -> bool
+fn can_be_in(s: &Brief<'_>, range: &MatRange) -> bool
     ensures { result ≡ can_be_in s.now range.now }
 {
     can_stand(s, range) && can_have(s, range)

@@ -112,7 +112,7 @@ fn first_in<G: Games, F: Files>(
     ensures cause { IfErr result (λ e. HasFetchCause e (G.sigs games.now) (G.extents games.now) (F.seen files.old).games buf.new (F.faults files.old) (F.faults files.new)) }
     ensures own { IfErr result (λ e. Names e i) }
 {
-    if passes(&games.sig(i), q) {
+    if passes(&games.brief(i), q) {
         first_read(games, i, q, files, buf)
     } else {
         Ok(None)
@@ -139,12 +139,8 @@ fn first_read<G: Games, F: Files>(
     ensures cause { IfErr result (λ e. HasFetchCause e (G.sigs games.now) (G.extents games.now) (F.seen files.old).games buf.new (F.faults files.old) (F.faults files.new)) }
     ensures own { IfErr result (λ e. Names e i) }
 {
-    let len = games.extent(i).len as usize;
-    match games.fetch(i, files, buf) {
-        Ok(_) => {}
-        Err(error) => return Err(error),
-    }
-    match first_ply(buf.split_at(len).0, q) {
+    let len = games.fetch(i, files, buf)?;
+    match first_ply(buf.split_at(len as usize).0, q) {
         Ok(ply) => Ok(ply),
         Err(_) => Err(FetchError::Changed {
             game: i,

@@ -21,12 +21,12 @@ ids_of es = map (λ e. e.id) es
 
 -- ---- lists.
 
-slice_get-set_same : {X : Type 0} (xs : List X) (i : ℕ) (v : X) → i < length xs → slice_get (set xs i v) i ≡ Some v
+pub slice_get-set_same : {X : Type 0} (xs : List X) (i : ℕ) (v : X) → i < length xs → slice_get (set xs i v) i ≡ Some v
 slice_get-set_same [] i v lt = absurd (omega arith)
 slice_get-set_same (x ∷ xs) zero v lt = refl
 slice_get-set_same (x ∷ xs) (suc i) v lt = slice_get-set_same xs i v (omega arith)
 
-slice_get-set_other : {X : Type 0} (xs : List X) (i j : ℕ) (v : X) → j ≢ i → slice_get (set xs i v) j ≡ slice_get xs j
+pub slice_get-set_other : {X : Type 0} (xs : List X) (i j : ℕ) (v : X) → j ≢ i → slice_get (set xs i v) j ≡ slice_get xs j
 slice_get-set_other [] i j v ne = refl
 slice_get-set_other (x ∷ xs) zero zero v ne = absurd (ne refl)
 slice_get-set_other (x ∷ xs) zero (suc j) v ne = refl

@@ -10,3 +10,4 @@ pub mod TextLemmas
 pub mod AgainLemmas
 pub mod OneTextLemmas
 pub mod PartLemmas
+pub mod PlaceLemmas

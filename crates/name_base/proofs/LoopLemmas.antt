@@ -1,22 +1,20 @@
 -- The steps of the loops that read a kind.
-use Rattle.std.proofs.Common.{◌≡◌, ◌≤◌, ◌<◌, ◌+◌, ◌-◌, ℕ, suc, true, false, List, [], ◌∷◌, ◌++◌, length, map, set, Some, Result, Ok, refl, sym, ap, subst, ◌∙◌, arith, append_assoc, if◌then◌else◌, true≢false}
-use Rattle.std.specs.List.{AllByRecursion, IsDistinct}
-use Rattle.std.specs.Str.{bytes_eq}
+use Rattle.std.proofs.Common.{◌≡◌, ◌≤◌, ◌<◌, ◌+◌, ◌-◌, ℕ, suc, true, false, List, [], ◌∷◌, ◌++◌, length, map, set, Some, Result, Ok, refl, sym, ap, subst, ◌∙◌, arith, true≢false}
+use Rattle.std.specs.List.{AllByRecursion}
 use Rattle.std.proofs.lemmas.List.{map-append, map-set, length-append, nil_from_length}
-use Rattle.indexmap.specs.IndexSet.{insert_key}
 use Rattle.name_base.specs.declared.header.Shape.{Shape}
 use Rattle.name_base.specs.declared.kind.NameKind.{NameKind}
 use Rattle.name_base.specs.declared.fault.NameFault.{NameFault}
 use Rattle.name_base.specs.declared.fault.NamesError.{NamesError}
 use Rattle.name_base.specs.declared.fault.NamesError.TheVariants.{Bad, Memory}
-use Rattle.name_base.specs.NameLists.{AreNames, is_in}
+use Rattle.name_base.specs.NameLists.{AreNames}
 use Rattle.name_base.specs.NamesFile.{Entry}
 use Rattle.name_base.specs.Reading.{◌>>=◌, Fails, blamed, entry_at, entries_at, put_names, by_id, last_name}
 use Rattle.name_base.specs.KindRead.{AreMet}
-use Rattle.name_base.proofs.NameLemmas.{AreNames-wider, names_inserted, bytes_equiv}
+use Rattle.name_base.proofs.NameLemmas.{AreNames-wider}
 use Rattle.name_base.proofs.FieldLemmas.{IsBytes}
 use Rattle.name_base.proofs.PieceLemmas.{entry_of, entry_takes}
-use Rattle.name_base.proofs.ByIdLemmas.{distinct_before, put_names-push, by_id-Arranges, arranged-AreNames}
+use Rattle.name_base.proofs.ByIdLemmas.{put_names-push, by_id-Arranges, arranged-AreNames}
 use Rattle.name_base.proofs.KindLemmas.{blamed_ok, AreMet-push}
 
 -- ---- names put at the places of their ids.
@@ -50,16 +48,6 @@ module _ {X : Type 0} (f : X → List ℕ) where
   -- The names that were put, once no entry is left.
   pub all_put : (before : List (X × ℕ)) (names : List (List ℕ)) (total : List (List ℕ)) → length before ≡ 0 → put_names (map entry before) names ≡ total → names ≡ total
   all_put before names total none so_far = subst (λ es. put_names (map entry es) names ≡ total) (nil_from_length before none) so_far
-
-  -- ---- names inserted one after the other.
-
-  pub insert_next : (keys after : List X) (k : X) (left rest : List X) (names : List (List ℕ)) → map f keys ++ map f left ≡ names → left ≡ k ∷ rest → IsDistinct bytes_eq names
-      → after ≡ insert_key (λ x y. bytes_eq (f x) (f y)) keys k → map f after ++ map f rest ≡ names
-  insert_next keys after k left rest names so_far is once done =
-      let whole : map f keys ++ f k ∷ map f rest ≡ names = ap (λ l. map f keys ++ map f l) (sym is) ∙ so_far in
-      let new : is_in (map f keys) (f k) ≡ false = distinct_before bytes_eq bytes_equiv (map f keys) (f k) (map f rest) (subst (IsDistinct bytes_eq) (sym whole) once) in
-      let last : map f after ≡ map f keys ++ f k ∷ [] = ap (map f) done ∙ names_inserted f keys k ∙ ap (λ b. if b then map f keys else map f keys ++ f k ∷ []) new in
-      ap (λ l. l ++ map f rest) last ∙ append_assoc (map f keys) (f k ∷ []) (map f rest) ∙ whole
 
 -- ---- names read one after the other.
 

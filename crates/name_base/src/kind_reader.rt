@@ -1,5 +1,5 @@
 //! Reading the names of one kind.
-ghost use Rattle.std.specs.Prelude.{ℕ, ◌≡◌, ◌≢◌, ◌≤◌, ◌<◌, ◌++◌, ◌∷◌, [], false, Some, unwrap_or, length, map, take, replicate, IfOk, IfErr, OnOk};
+ghost use Rattle.std.specs.Prelude.{ℕ, ◌≡◌, ◌≢◌, ◌≤◌, ◌<◌, ◌++◌, ◌∷◌, [], false, Some, unwrap_or, length, map, take, not, replicate, zip, if◌then◌else◌, IfOk, IfErr, OnOk};
 ghost use Rattle.std.specs.Option.{option_copied};
 ghost use Rattle.name_base.specs.NameLists.{AreNames, is_in};
 ghost use Rattle.name_base.specs.NamesFile.{id_width, frequency_width};
@@ -13,29 +13,34 @@ use crate::header::Shape;
 use crate::name_set::NameSet;
 use crate::part_names::PartKind;
 use crate::{NameFault, NameKind, NameWhat, NamesError};
-use indexmap::IndexMap;
+use indexmap::IndexSet;
 use std::alloc::{AllocError, Global};
 use std::marker::Model;
+
+/// A name has at least two bytes of its id, one of its frequency and one of its length.
+const LEAST_BYTES: usize = 4;
 
 /// The names of a kind that were read so far, in the order of the file.
 #[derive(Drop)]
 pub(crate) struct KindReader {
     // Of each id below the kind's count, whether a name with it was read.
     taken: Vec<bool>,
-    // The names, each with its id.
-    met: IndexMap<Vec<u8>, u32>,
+    // The names, and the id of each.
+    names: IndexSet<Vec<u8>>,
+    ids: Vec<u32>,
 }
 
 impl Model for KindReader {
-    ghost use Rattle.std.specs.Prelude.{map, length};
+    ghost use Rattle.std.specs.Prelude.{◌≡◌, map, length, zip};
     ghost use Rattle.name_base.specs.KindRead.{KindRead};
     ghost use Rattle.name_base.specs.KindReading.{IsReading};
 
     ghost Value = { KindRead };
 
-    ghost view = { λ r. record { count = length r.taken.items; entries = map (λ p. record { id = p.1; name = p.0.items }) r.met.entries } };
+    ghost view = { λ r. record { count = length r.taken.items; entries = map (λ p. record { id = p.1; name = p.0.items }) (zip r.names.keys r.ids.items) } };
 
-    ghost invariant = { λ r. IsReading r.taken.items (map (λ p. record { id = p.1; name = p.0.items }) r.met.entries) };
+    ghost invariant = { λ r. (length r.ids.items ≡ length r.names.keys)
+        × IsReading r.taken.items (map (λ p. record { id = p.1; name = p.0.items }) (zip r.names.keys r.ids.items)) };
 }
 
 /// The parts of a name, and the bytes after it.
@@ -80,14 +85,16 @@ fn joined(alloc: Global, front: &[u8], back: &[u8]) -> Result<Vec<u8>, AllocErro
 }
 
 impl KindReader {
-    /// No names of a kind that has so many.
-    pub(crate) fn new(alloc: Global, count: u32) -> Result<Self, AllocError>
+    /// No names of a kind that has so many, with room for those that the bytes can hold.
+    pub(crate) fn new(alloc: Global, count: u32, bytes: &[u8]) -> Result<Self, AllocError>
         requires { count ≤ 1048576 }
         ensures { IfOk result (λ reader. reader ≡ record { count = count; entries = [] }) }
     {
+        let room = (count as usize).min(bytes.len() / LEAST_BYTES);
         Ok(KindReader {
             taken: vec![in alloc; false; count as usize]?,
-            met: IndexMap::new(alloc),
+            names: IndexSet::with_capacity(alloc, room)?,
+            ids: Vec::with_capacity(alloc, room)?,
         })
     }
 
@@ -101,9 +108,9 @@ impl KindReader {
     fn last_name(&self) -> Option<&[u8]>
         ensures { option_copied result ≡ last_name self.now.entries }
     {
-        match self.met.last() {
+        match self.names.last() {
             None => None,
-            Some((name, _)) => Some(name.as_slice()),
+            Some(name) => Some(name.as_slice()),
         }
     }
 
@@ -118,22 +125,21 @@ impl KindReader {
         }
     }
 
-    fn has_name(&self, name: &[u8]) -> bool
-        ensures { result ≡ is_in (names_of self.now.entries) name.now }
-    {
-        self.met.contains_key(name)
-    }
-
-    fn add(&mut self, id: u32, name: Vec<u8>) -> Result<(), NamesError>
+    /// Adds a name with its id, unless the name is there already, and tells whether it is new.
+    fn add(&mut self, id: u32, name: Vec<u8>) -> Result<bool, NamesError>
         requires id { id < self.old.count }
-        requires name { is_in (names_of self.old.entries) name.items ≡ false }
-        ensures added { OnOk result (self.new.entries ≡ self.old.entries ++ record { id = id; name = name.items } ∷ []) }
+        ensures new { IfOk result (λ new. new ≡ not (is_in (names_of self.old.entries) name.items)) }
+        ensures added { IfOk result (λ new. self.new.entries ≡ (if new then self.old.entries ++ record { id = id; name = name.items } ∷ [] else self.old.entries)) }
         ensures count { self.new.count ≡ self.old.count }
         ensures memory { IfErr result (λ e. e ≡ NamesError.Memory) }
     {
-        self.met.insert(name, id)?;
+        self.ids.reserve(1)?;
+        if !self.names.insert(name)? {
+            return Ok(false);
+        }
+        self.ids.push_reserved(id);
         self.taken[id as usize] = true;
-        Ok(())
+        Ok(true)
     }
 
     /// An id that is below the count and new.
@@ -176,15 +182,19 @@ impl KindReader {
     }
 
     /// The names by id, once all were read.
-    fn into_set(self, alloc: Global) -> Result<NameSet, AllocError>
+    fn into_set(self) -> NameSet
         requires met { AreMet self.count self.entries }
         requires all { length self.entries ≡ self.count }
-        ensures names { IfOk result (λ set. set ≡ by_id self.count self.entries) }
-        ensures sound { (limit : ℕ) → self.count ≤ limit → IfOk result (λ set. AreNames limit set) }
+        ensures names { result ≡ by_id self.count self.entries }
+        ensures sound { (limit : ℕ) → self.count ≤ limit → AreNames limit result }
     {
-        let KindReader { taken, met } = self;
-        let names = by_id(alloc, taken.as_slice().len(), met)?;
-        NameSet::from_names(alloc, names)
+        let KindReader {
+            mut names,
+            mut ids,
+            ..
+        } = self;
+        put_by_id(&mut names, ids.as_mut_slice());
+        NameSet::of(names)
     }
 
     // The names by id as far as they were read.
@@ -192,8 +202,8 @@ impl KindReader {
         requires met { AreMet self.count self.entries }
         ensures names { IfOk result (λ part. part ≡ known self.count self.entries) }
     {
-        let KindReader { taken, met } = self;
-        let names = by_id(alloc, taken.as_slice().len(), met)?;
+        let KindReader { taken, names, ids } = self;
+        let names = by_id(alloc, taken.as_slice().len(), names, ids.as_slice())?;
         Ok(PartKind::new(names, taken))
     }
 
@@ -220,10 +230,9 @@ impl KindReader {
             Err(what) => return Err(fault(kind, index, what)),
         };
         let name = self.name_of(alloc, parts.shared, parts.own)?;
-        if self.has_name(name.as_slice()) {
+        if !self.add(parts.id, name)? {
             return Err(fault(kind, index, NameWhat::Repeated));
         }
-        self.add(parts.id, name)?;
         Ok(parts.rest)
     }
 }
@@ -243,17 +252,39 @@ fn empty_names(alloc: Global, count: usize) -> Result<Vec<Vec<u8>>, AllocError>
 fn by_id(
     alloc: Global,
     count: usize,
-    mut met: IndexMap<Vec<u8>, u32>,
+    mut met: IndexSet<Vec<u8>>,
+    ids: &[u32],
 ) -> Result<Vec<Vec<u8>>, AllocError>
-    requires { AllByRecursion (λ p. p.1 < count) met.entries }
+    requires long { length met.keys ≤ length ids.now }
+    requires below { AllByRecursion (λ p. p.1 < count) (zip met.keys ids.now) }
     ensures { IfOk result (λ names. map (λ v. v.items) names.items
-        ≡ by_id count (map (λ p. record { id = p.1; name = p.0.items }) met.entries)) }
+        ≡ by_id count (map (λ p. record { id = p.1; name = p.0.items }) (zip met.keys ids.now))) }
 {
     let mut names = empty_names(alloc, count)?;
-    while let Some((name, id)) = met.pop() {
-        names[id as usize] = name;
+    while let Some(name) = met.pop() {
+        names[ids[met.len()] as usize] = name;
     }
     Ok(names)
+}
+
+/// Puts each name at the place of its id, where these are the ids of all names.
+fn put_by_id(names: &mut IndexSet<Vec<u8>>, ids: &mut [u32])
+    requires long { length ids.old ≡ length names.old.keys }
+    requires met { AreMet (length ids.old) (map (λ p. record { id = p.1; name = p.0.items }) (zip names.old.keys ids.old)) }
+    ensures { map (λ v. v.items) names.new.keys
+        ≡ by_id (length ids.old) (map (λ p. record { id = p.1; name = p.0.items }) (zip names.old.keys ids.old)) }
+{
+    let mut place = 0;
+    while place < ids.len() {
+        let id = ids[place] as usize;
+        if id == place {
+            place += 1;
+        } else {
+            // The name comes to its place for good, so this happens at most once a name.
+            names.swap_indices(place, id);
+            ids.swap(place, id);
+        }
+    }
 }
 
 fn fault(kind: NameKind, index: u32, what: NameWhat) -> NamesError
@@ -301,9 +332,9 @@ pub(crate) fn read_kind<'a>(
     ensures gives { Answers (λ x. (x.0, x.1.now)) result (kind_at kind shape bytes.now) }
     ensures sound { (limit : ℕ) → shape.count ≤ limit → IfOk result (λ x. AreNames limit x.0) }
 {
-    let mut reader = KindReader::new(alloc, shape.count)?;
+    let mut reader = KindReader::new(alloc, shape.count, bytes)?;
     let rest = read_all(&mut reader, alloc, kind, shape, bytes)?;
-    Ok((reader.into_set(alloc)?, rest))
+    Ok((reader.into_set(), rest))
 }
 
 /// Reads the names of a kind up to the first fault, and gives the bytes after them where there is none. Behind a fault, where there are
@@ -318,7 +349,7 @@ pub(crate) fn read_part<'a>(
     ensures names { IfOk result (λ x. x.0 ≡ known shape.count (kind_in_part shape (option_copied bytes.entry)).0) }
     ensures rest { IfOk result (λ x. option_copied x.1 ≡ (kind_in_part shape (option_copied bytes.entry)).1) }
 {
-    let mut reader = KindReader::new(alloc, shape.count)?;
+    let mut reader = KindReader::new(alloc, shape.count, bytes.unwrap_or(&[]))?;
     let rest = read_if_there(&mut reader, alloc, kind, shape, bytes)?;
     Ok((reader.into_part(alloc)?, rest))
 }

@@ -4,7 +4,7 @@ ghost use Rattle.name_base.specs.NameLists.{AreNames, IsName, id_in, with_name};
 
 use crate::AddError;
 use indexmap::IndexSet;
-use std::alloc::{AllocError, Global};
+use std::alloc::Global;
 use std::marker::Model;
 
 /// Names without repeats; a name's place is its id.
@@ -35,15 +35,11 @@ impl NameSet {
     }
 
     /// The names, each with its place as its id.
-    pub(crate) fn from_names(alloc: Global, names: Vec<Vec<u8>>) -> Result<Self, AllocError>
-        requires { AreNames 1048576 (map (λ v. v.items) names.items) }
-        ensures { IfOk result (λ set. set ≡ map (λ v. v.items) names.items) }
+    pub(crate) fn of(names: IndexSet<Vec<u8>>) -> Self
+        requires { AreNames 1048576 (map (λ v. v.items) names.keys) }
+        ensures { result ≡ map (λ v. v.items) names.keys }
     {
-        let mut set = IndexSet::with_capacity(alloc, names.len())?;
-        for name in names {
-            set.insert(name)?;
-        }
-        Ok(NameSet { names: set })
+        NameSet { names }
     }
 
     /// The number of names.

@@ -3,6 +3,9 @@ pub mod SoundLaws
 pub mod BufferLaws
 pub mod ClearLaws
 pub mod WindowLaws
+pub mod NameLaws
+pub mod FieldLaws
+pub mod EscapeLaws
 pub mod HeadLaws
 pub mod LegalLaws
 pub mod ItemLaws

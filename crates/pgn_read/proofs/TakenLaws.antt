@@ -40,7 +40,7 @@ use Rattle.pgn_read.specs.Reading.{Reading, has_tag, unread}
 use Rattle.pgn_read.specs.Text.{At}
 use Rattle.chess_text.proofs.AnswerLaws.{fen_is}
 use Rattle.pgn_read.proofs.DecimalLaws.{decimal_number}
-use Rattle.pgn_read.proofs.HeadsAgainLaws.{IsRatingName, rating_name, IsFreeName, free_name, no_fen_name}
+use Rattle.pgn_read.proofs.NameLaws.{IsRatingName, rating_name, IsFreeName, free_name, no_fen_name}
 use Rattle.pgn_read.proofs.RunLaws.{apart}
 use Rattle.pgn_read.proofs.TagsLaws.{IsBegun, Has, ComesTo, IsTaken, AreTaken, tag_name_is, fen_tag, read_fen_tag, text_long, has_same, and_so, comes_same, read_tags, read_part, no_start_in}
 

@@ -8,6 +8,7 @@ pub mod Lexing
 pub mod TagSpelling
 pub mod Said
 pub mod Text
+pub mod Field
 pub mod Heads
 pub mod Reading
 pub mod ReadingCode

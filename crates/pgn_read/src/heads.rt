@@ -5,21 +5,26 @@ ghost use Rattle.game_tree.specs.Date.{IsDate};
 ghost use Rattle.game_tree.specs.Head.{IsName, IsRating, IsTag, IsBounded};
 ghost use Rattle.game_tree.specs.Marks.{mark_letters};
 ghost use Rattle.game_tree.specs.Settle.{IsSettled};
-ghost use Rattle.game_tree.specs.TagName.{is_reserved, free_of};
+ghost use Rattle.game_tree.specs.TagName.{free_of};
+ghost use Rattle.pgn_read.specs.Field.{name_text};
 ghost use Rattle.pgn_read.specs.Heads.{value_of, name_from, date_from, result_told, result_from, rated, rating_as, rating_told, rating_from, eco_told, eco_from, flags_of, has_letter, marks_of, all_marks, head_told, head_from, IsReadTag};
 
+use crate::field::Name;
+use crate::read_tag::ReadTag;
 use cell_core::{Colour, Text};
 use game_tree::{
-    Date, Head, Outcome, Rating, Tag, Tags, is_reserved, mark_letters, rating_of, read_decimal,
-    read_eco, settle,
+    Date, Head, Outcome, Rating, Tag, Tags, mark_letters, read_decimal, read_eco, settle,
 };
 use std::alloc::{AllocError, Global};
+
+// The greatest value of a rating.
+const GREATEST_RATING: u64 = 4_095;
 
 /// The head of a game with these tags and this end mark.
 #[tactic(auto, unfolding(crate::specs::Heads::head_from))]
 pub(crate) fn head_from(
     alloc: Global,
-    tags: Vec<Tag>,
+    tags: Vec<ReadTag>,
     mark: Option<Outcome>,
 ) -> Result<Head, AllocError>
     requires read { All IsReadTag tags.items }
@@ -33,22 +38,23 @@ pub(crate) fn head_from(
 }
 
 // The head before it is settled.
-fn head_told(alloc: Global, tags: Vec<Tag>, mark: Option<Outcome>) -> Result<Head, AllocError>
+fn head_told(alloc: Global, tags: Vec<ReadTag>, mark: Option<Outcome>) -> Result<Head, AllocError>
     requires read { All IsReadTag tags.items }
     ensures head { IfOk result (λ head. head ≡ head_told tags.items mark) }
     ensures bounded { IfOk result (λ head. IsBounded head) }
 {
     let flags = flags_of(alloc, tags.as_slice())?;
-    let white = name_from(alloc, b"White", tags.as_slice())?;
-    let black = name_from(alloc, b"Black", tags.as_slice())?;
-    let event = name_from(alloc, b"Event", tags.as_slice())?;
-    let site = name_from(alloc, b"Site", tags.as_slice())?;
-    let round = name_from(alloc, b"Round", tags.as_slice())?;
+    let white = name_from(alloc, Name::White, tags.as_slice())?;
+    let black = name_from(alloc, Name::Black, tags.as_slice())?;
+    let event = name_from(alloc, Name::Event, tags.as_slice())?;
+    let site = name_from(alloc, Name::Site, tags.as_slice())?;
+    let round = name_from(alloc, Name::Round, tags.as_slice())?;
     let date = date_from(tags.as_slice());
     let result = result_from(mark, tags.as_slice());
     let white_rating = rating_from(Colour::White, tags.as_slice());
     let black_rating = rating_from(Colour::Black, tags.as_slice());
     let eco = eco_from(tags.as_slice());
+    let tags = free_of(alloc, tags)?;
     Ok(Head {
         white,
         black,
@@ -63,30 +69,30 @@ fn head_told(alloc: Global, tags: Vec<Tag>, mark: Option<Outcome>) -> Result<Hea
         eco,
         marks: marks_told(flags.as_slice()),
         deleted: has_letter(flags.as_slice(), b'D'),
-        tags: free_of(tags),
+        tags,
     })
 }
 
 // The value of the first tag of this name.
-fn value_of<'a>(name: &[u8], tags: &'a [Tag]) -> Option<&'a [u8]>
+fn value_of<'a>(name: Name, tags: &'a [ReadTag]) -> Option<&'a [u8]>
     requires read { All IsReadTag tags.now }
-    ensures none { result ≡ None → value_of name.now tags.now ≡ None }
-    ensures some { IfSome result (λ value. value_of name.now tags.now ≡ Some value.now) }
+    ensures none { result ≡ None → value_of (name_text name) tags.now ≡ None }
+    ensures some { IfSome result (λ value. value_of (name_text name) tags.now ≡ Some value.now) }
     ensures zero_free { IfSome result (λ value. IsZeroFree value.now) }
     ensures bounded { IfSome result (λ value. IsName value.now) }
 {
     for tag in tags {
-        if tag.name.as_bytes() == name {
-            return Some(tag.value.as_bytes());
+        if tag.is(name) {
+            return Some(tag.value());
         }
     }
     None
 }
 
 // The name that this tag gives.
-fn name_from(alloc: Global, name: &[u8], tags: &[Tag]) -> Result<Text, AllocError>
+fn name_from(alloc: Global, name: Name, tags: &[ReadTag]) -> Result<Text, AllocError>
     requires read { All IsReadTag tags.now }
-    ensures name { IfOk result (λ text. text ≡ name_from name.now tags.now) }
+    ensures name { IfOk result (λ text. text ≡ name_from (name_text name) tags.now) }
     ensures bounded { IfOk result (λ text. IsName text) }
 {
     match value_of(name, tags) {
@@ -104,19 +110,19 @@ pub(crate) fn text_of(alloc: Global, bytes: &[u8]) -> Result<Text, AllocError>
 }
 
 // The date of the game.
-fn date_from(tags: &[Tag]) -> Date
+fn date_from(tags: &[ReadTag]) -> Date
     requires read { All IsReadTag tags.now }
     ensures date { result ≡ date_from tags.now }
     ensures bounded { IsDate result }
 {
-    match value_of(b"Date", tags) {
+    match value_of(Name::Date, tags) {
         Some(value) => Date::read(value).unwrap_or(Date::unknown()),
         None => Date::unknown(),
     }
 }
 
 // The result of the game.
-fn result_from(mark: Option<Outcome>, tags: &[Tag]) -> Outcome
+fn result_from(mark: Option<Outcome>, tags: &[ReadTag]) -> Outcome
     requires read { All IsReadTag tags.now }
     ensures outcome { result ≡ result_from mark tags.now }
 {
@@ -128,18 +134,18 @@ fn result_from(mark: Option<Outcome>, tags: &[Tag]) -> Outcome
 }
 
 // The result that the tag tells.
-fn result_told(tags: &[Tag]) -> Outcome
+fn result_told(tags: &[ReadTag]) -> Outcome
     requires read { All IsReadTag tags.now }
     ensures outcome { result ≡ result_told tags.now }
 {
-    match value_of(b"Result", tags) {
+    match value_of(Name::Result, tags) {
         Some(value) => Outcome::read(value).unwrap_or(Outcome::Unknown),
         None => Outcome::Unknown,
     }
 }
 
 // The rating of a side.
-fn rating_from(side: Colour, tags: &[Tag]) -> Rating
+fn rating_from(side: Colour, tags: &[ReadTag]) -> Rating
     ensures rating { result ≡ rating_from side tags.now }
     ensures bounded { IsRating result }
 {
@@ -153,15 +159,15 @@ fn rating_from(side: Colour, tags: &[Tag]) -> Rating
 
 // The rating of a side that a tag tells.
 #[tactic(auto, unfolding(crate::specs::Heads::rating_told))]
-fn rating_told(side: Colour, tag: &Tag) -> Option<Rating>
+fn rating_told(side: Colour, tag: &ReadTag) -> Option<Rating>
     ensures rating { result ≡ rating_told side tag.now }
     ensures bounded { IfSome result (λ rating. IsRating rating) }
 {
-    let (rated, kind) = rating_of(tag.name.as_bytes())?;
+    let (rated, kind) = tag.rating()?;
     if rated != side {
         return None;
     }
-    let value = read_decimal(tag.value.as_bytes(), 4_095)?;
+    let value = read_decimal(tag.value(), GREATEST_RATING)?;
     if value == 0 {
         return None;
     }
@@ -172,7 +178,7 @@ fn rating_told(side: Colour, tag: &Tag) -> Option<Rating>
 }
 
 // The opening code.
-fn eco_from(tags: &[Tag]) -> u16
+fn eco_from(tags: &[ReadTag]) -> u16
     ensures eco { result ≡ eco_from tags.now }
     ensures bounded { result ≤ 65500 }
 {
@@ -185,24 +191,24 @@ fn eco_from(tags: &[Tag]) -> u16
 }
 
 // The opening code that a tag tells.
-fn eco_told(tag: &Tag) -> Option<u16>
+fn eco_told(tag: &ReadTag) -> Option<u16>
     ensures eco { result ≡ eco_told tag.now }
     ensures bounded { IfSome result (λ eco. eco ≤ 65500) }
 {
-    if tag.name.as_bytes() != b"ECO".as_slice() {
+    if !tag.is(Name::Eco) {
         return None;
     }
-    read_eco(tag.value.as_bytes())
+    read_eco(tag.value())
 }
 
 // The letters of all tags ScidFlags.
-fn flags_of(alloc: Global, tags: &[Tag]) -> Result<Vec<u8>, AllocError>
+fn flags_of(alloc: Global, tags: &[ReadTag]) -> Result<Vec<u8>, AllocError>
     ensures flags { IfOk result (λ flags. flags.items ≡ flags_of tags.now) }
 {
     let mut flags = Vec::new(alloc);
     for tag in tags {
-        if tag.name.as_bytes() == b"ScidFlags".as_slice() {
-            flags.extend_from_slice(tag.value.as_bytes())?;
+        if tag.is(Name::ScidFlags) {
+            flags.extend_from_slice(tag.value())?;
         }
     }
     Ok(flags)
@@ -242,27 +248,23 @@ fn marks_of(flags: &[u8], letters: &[u8]) -> u32
 }
 
 // The tags that no field of a head stands for.
-fn free_of(tags: Vec<Tag>) -> Tags
+fn free_of(alloc: Global, tags: Vec<ReadTag>) -> Result<Tags, AllocError>
     requires read { All IsReadTag tags.items }
-    ensures free { result ≡ free_of tags.items }
-    ensures bounded { All IsTag result }
+    ensures free { IfOk result (λ free. free ≡ free_of tags.items) }
+    ensures bounded { IfOk result (λ free. All IsTag free) }
 {
-    let mut tags = tags;
-    retain_free(&mut tags);
-    Tags::from_vec(tags)
+    let free = extra_tags(alloc, tags)?;
+    Ok(Tags::from_vec(free))
 }
 
-fn retain_free(tags: &mut Vec<Tag>)
-    requires read { All IsReadTag tags.old.items }
-    ensures free { tags.new.items ≡ free_of tags.old.items }
-    ensures bounded { All IsTag tags.new.items }
+fn extra_tags(alloc: Global, tags: Vec<ReadTag>) -> Result<Vec<Tag>, AllocError>
+    ensures free { IfOk result (λ free. free.items ≡ free_of tags.items) }
 {
-    tags.retain(|tag| !has_field(tag));
-}
-
-// Whether a tag's name is reserved.
-fn has_field(tag: &Tag) -> bool
-    ensures reserved { result ≡ is_reserved tag.now.name }
-{
-    is_reserved(tag.name.as_bytes())
+    let mut free = Vec::new(alloc);
+    for tag in tags {
+        if let Some(tag) = tag.into_extra() {
+            free.push(tag)?;
+        }
+    }
+    Ok(free)
 }

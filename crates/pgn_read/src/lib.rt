@@ -4,11 +4,13 @@
 mod buffer;
 mod clear;
 mod error;
+mod field;
 mod heads;
 mod item;
 mod laws;
 mod lexing;
 mod place;
+mod read_tag;
 mod reader;
 mod reading;
 mod run;

@@ -1,9 +1,6 @@
 //! A game while its tokens are read.
 ghost use Rattle.std.specs.Prelude.{◌≡◌, ◌==◌, ◌++◌, ◌∷◌, [], All, IfOk, OnOk, OnErr, IsTrue, slice_index_or, codes};
-ghost use Rattle.std.specs.List.{list_any};
-ghost use Rattle.std.specs.Str.{bytes_eq};
 ghost use Rattle.cell_core.specs.Text.{IsZeroFree};
-ghost use Rattle.game_tree.specs.TagName.{is_among, roster_names};
 ghost use Rattle.pgn_read.specs.Legality.{IsLegal};
 ghost use Rattle.pgn_read.specs.Fit.{IsFit};
 ghost use Rattle.pgn_read.specs.Said.{said, said_step, StepsWell, IsBalanced, IsSound};
@@ -14,30 +11,36 @@ ghost use Rattle.chess_text.specs.SanAnswer.{san_answer};
 ghost use Rattle.chess_text.specs.FenAnswer.{fen_answer};
 ghost use Rattle.pgn_read.specs.declared.item.GameWhat.TheVariants as what;
 ghost use Rattle.pgn_read.specs.Heads.{head_from, IsReadTag};
-ghost use Rattle.pgn_read.specs.Reading.{unread, is_inside, has_move, has_tag, with_tag, starting, fen_effect, tag_effect, at_tag, goes_on, is_faulty, commented, nag_effect, opens_effect, opened, closed_to, ending_effect, move_effect, end_effect, effect, is_next_game, is_game, game_of};
+ghost use Rattle.pgn_read.specs.Reading.{unread, is_inside, has_move, with_tag, starting, fen_effect, tag_effect, at_tag, goes_on, is_faulty, commented, nag_effect, opens_effect, opened, closed_to, ending_effect, move_effect, end_effect, effect, is_next_game, is_game, game_of};
 
+use crate::field::Name;
 use crate::heads::{head_from, text_of};
 use crate::item::{GameWhat, Item};
+use crate::read_tag::ReadTag;
 use crate::step::{End, Step};
 use crate::tag_text::unescaped;
 use crate::token::Token;
 use crate::turn::Turn;
-use cell_core::{Move, Text};
+use cell_core::Move;
 use chess_laws::Position;
 use chess_text::{SanFault, read_fen, read_san};
-use game_tree::{Branch, Builder, Game, Outcome, Tag};
+use game_tree::{Branch, Builder, Game, Outcome};
 use std::alloc::{AllocError, Global};
 use std::marker::Model;
 use std::mem::replace;
 
-const ROSTER_NAMES: [&[u8]; 7] = [
-    b"Event", b"Site", b"Date", b"Round", b"White", b"Black", b"Result",
-];
+// The greatest lengths of a tag's name and of its value.
+const LONGEST_NAME: usize = 240;
+
+const LONGEST_VALUE: usize = 255;
+
+// How many variations may stand within each other.
+const DEEPEST: usize = 200;
 
 /// A game while its tokens are read. After want of memory it is spent.
 #[derive(Drop)]
 pub(crate) struct Reading {
-    tags: Vec<Tag>,
+    tags: Vec<ReadTag>,
     // Whether one of them is a FEN tag.
     has_start: bool,
     in_moves: bool,
@@ -167,32 +170,34 @@ impl Reading {
         ensures well { IfOk result (λ step. StepsWell step self.old self.new) }
         ensures balanced { OnOk result (IsBalanced self.new) }
     {
-        if is_roster(name) && has_tag(name, self.tags.as_slice()) {
+        let is_long = name.len() > LONGEST_NAME || value.len() > LONGEST_VALUE;
+        let tag = ReadTag::new(alloc, name, value)?;
+        if tag.repeats(self.tags.as_slice()) {
             return Ok(Step::Ends(End::Faulty(GameWhat::Tag)));
         }
-        if name.len() > 240 || value.len() > 255 {
+        if is_long {
             return Ok(Step::Ends(End::Faulty(GameWhat::TagTooLong)));
         }
-        if name == b"FEN".as_slice() {
-            return self.take_fen(alloc, name, value);
+        if tag.is(Name::Fen) {
+            return self.take_fen(tag);
         }
-        self.push_tag(alloc, name, value)?;
+        self.push_tag(tag)?;
         Ok(Step::GoesOn)
     }
 
     // A tag that gives the start, where it is the first.
-    fn take_fen(&mut self, alloc: Global, name: &[u8], value: Vec<u8>) -> Result<Step, AllocError>
-        requires fen { name.now ≡ codes "FEN" }
-        requires read { IsReadTag (record { name = name.now; value = value.items }) }
+    fn take_fen(&mut self, tag: ReadTag) -> Result<Step, AllocError>
+        requires fen { tag.name ≡ codes "FEN" }
+        requires read { IsReadTag tag }
         requires balanced { IsBalanced self.old }
-        ensures effect { IfOk result (λ step. said_step step self.new ≡ fen_effect value.items self.old (fen_answer value.items)) }
+        ensures effect { IfOk result (λ step. said_step step self.new ≡ fen_effect tag.value self.old (fen_answer tag.value)) }
         ensures well { IfOk result (λ step. StepsWell step self.old self.new) }
         ensures balanced { OnOk result (IsBalanced self.new) }
     {
-        match read_fen(value.as_slice()) {
+        match read_fen(tag.value()) {
             Ok(position) => {
                 self.start_at(&position);
-                self.push_tag(alloc, name, value)?;
+                self.push_tag(tag)?;
                 Ok(Step::GoesOn)
             }
             Err(fault) => Ok(Step::Ends(End::Faulty(GameWhat::Fen(fault)))),
@@ -211,14 +216,12 @@ impl Reading {
 
     // Adds a tag behind the others.
     #[tactic(auto, using(crate::proofs::HeadLaws::one_more_start))]
-    fn push_tag(&mut self, alloc: Global, name: &[u8], value: Vec<u8>) -> Result<(), AllocError>
-        requires read { IsReadTag (record { name = name.now; value = value.items }) }
-        ensures tag { OnOk result (self.new ≡ with_tag name.now value.items self.old) }
+    fn push_tag(&mut self, tag: ReadTag) -> Result<(), AllocError>
+        requires read { IsReadTag tag }
+        ensures tag { OnOk result (self.new ≡ with_tag tag.name tag.value self.old) }
     {
-        let gives_start = name == b"FEN".as_slice();
-        let name = text_of(alloc, name)?;
-        let value = Text::from_zero_free(value);
-        push_read(&mut self.tags, Tag { name, value })?;
+        let gives_start = tag.is(Name::Fen);
+        push_read(&mut self.tags, tag)?;
         self.has_start = self.has_start || gives_start;
         Ok(())
     }
@@ -258,7 +261,7 @@ impl Reading {
         ensures well { IfOk result (λ step. StepsWell step self.old self.new) }
         ensures balanced { OnOk result (IsBalanced self.new) }
     {
-        if self.outer.len() >= 200 {
+        if self.outer.len() >= DEEPEST {
             return Ok(Step::Ends(End::Faulty(GameWhat::Depth)));
         }
         if !self.moves.has_move() {
@@ -374,7 +377,7 @@ fn move_of(p: &Position, text: &[u8]) -> Result<Move, SanFault>
 
 // Adds a read tag behind the others.
 #[tactic(auto, using(crate::proofs::HeadLaws::pushed_read))]
-fn push_read(tags: &mut Vec<Tag>, tag: Tag) -> Result<(), AllocError>
+fn push_read(tags: &mut Vec<ReadTag>, tag: ReadTag) -> Result<(), AllocError>
     requires read { All IsReadTag tags.old.items }
     requires tag_read { IsReadTag tag }
     ensures pushed { OnOk result (tags.new.items ≡ tags.old.items ++ tag ∷ []) }
@@ -393,25 +396,4 @@ fn begins_with_bracket(bytes: &[u8]) -> bool
         [byte, ..] => *byte == b'[',
         [] => false,
     }
-}
-
-// Whether it is the name of a tag of the roster.
-fn is_roster(name: &[u8]) -> bool
-    ensures { result ≡ is_among roster_names name.now }
-{
-    is_among(&ROSTER_NAMES, name)
-}
-
-// Whether one of these names is `name`.
-fn is_among(names: &[&[u8]], name: &[u8]) -> bool
-    ensures { result ≡ list_any (λ other. bytes_eq other.now name.now) names.now }
-{
-    names.iter().any(|other| *other == name)
-}
-
-// Whether one of the tags has this name.
-fn has_tag(name: &[u8], tags: &[Tag]) -> bool
-    ensures { result ≡ has_tag name.now tags.now }
-{
-    tags.iter().any(|tag| tag.name.as_bytes() == name)
 }

@@ -1,5 +1,6 @@
 //! Tags as they are read.
-ghost use Rattle.std.specs.Prelude.{◌≡◌, ◌++◌, false, IfOk, OnOk};
+ghost use Rattle.std.specs.Prelude.{◌≡◌, ◌==◌, ◌++◌, false, IfOk, OnOk};
+ghost use Rattle.std.specs.List.{list_any};
 ghost use Rattle.pgn_read.specs.Said.{said};
 ghost use Rattle.pgn_read.specs.TagText.{raw_value, behind_value, ends_value, escapes, meant_by, unescaped, closing, unquoting, quoting, naming, tag_from};
 
@@ -116,8 +117,26 @@ fn escapes(escaped: bool, byte: u8) -> bool
     !escaped && byte == b'\\'
 }
 
-/// The value that these bytes are, without its escapes.
+/// The value that these bytes are, without its escapes. Most values have none.
+#[tactic(auto, using(crate::proofs::EscapeLaws::no_escapes))]
 pub(crate) fn unescaped(alloc: Global, raw: &[u8]) -> Result<Vec<u8>, AllocError>
+    ensures value { IfOk result (λ value. value.items ≡ unescaped raw.now) }
+{
+    if has_backslash(raw) {
+        return without_escapes(alloc, raw);
+    }
+    Ok(Vec::from_slice(alloc, raw)?)
+}
+
+// Whether one of the bytes is a backslash.
+fn has_backslash(raw: &[u8]) -> bool
+    ensures { result ≡ list_any (λ byte. byte == 92) raw.now }
+{
+    raw.iter().any(|byte| *byte == b'\\')
+}
+
+// The value, byte by byte.
+fn without_escapes(alloc: Global, raw: &[u8]) -> Result<Vec<u8>, AllocError>
     ensures value { IfOk result (λ value. value.items ≡ unescaped raw.now) }
 {
     let mut value = Vec::with_capacity(alloc, raw.len())?;

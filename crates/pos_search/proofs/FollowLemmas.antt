@@ -57,11 +57,11 @@ match_passes game sig query ply sound legal is within holds =
     let men = (position_at game ply).board in
     let m = matched query (position_at game ply) holds in
     or_right (query.vars && not (sig.vars == 0)) (passes_main sig query)
-    (and_from (can_stand sig (just (counts_of query.board))) (not (fixes_pawns query.mode) || home_allows sig (home_set query.board))
-    (skipping_sound game sig (just (counts_of query.board)) ply sound legal is within
-    (λ place less. same_most (counts_of men) (counts_of query.board) place m.counts))
+    (and_from (not (fixes_pawns query.mode) || home_allows sig (home_set query.board)) (can_stand sig (just (counts_of query.board)))
     (if_fixed (fixes_pawns query.mode) (home_allows sig (home_set query.board))
-    (λ fixed. ap (home_allows sig) (sym (same_set men query.board (m.homes fixed))) ∙ home_sound game sig ply sound legal is within)))
+    (λ fixed. ap (home_allows sig) (sym (same_set men query.board (m.homes fixed))) ∙ home_sound game sig ply sound legal is within))
+    (skipping_sound game sig (just (counts_of query.board)) ply sound legal is within
+    (λ place less. same_most (counts_of men) (counts_of query.board) place m.counts)))
 
 pub refused : (game : GameTree) (sig : Sig) (query : PosQuery) (ply : ℕ) → Sound game.start → IsLegalGame game → IsSig game sig → ply ≤ plies_of game
     → passes sig query ≡ false → matches_at query game ply ≡ false

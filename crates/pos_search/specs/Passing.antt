@@ -20,11 +20,11 @@ fixes_pawns Pawns = true
 fixes_pawns Files = false
 fixes_pawns Material = false
 
--- A main line with this signature can match: the counts of the board can have stood, and where the mode fixes them the pawns that stand at
--- home on the board can have been those at home.
+-- A main line with this signature can match: where the mode fixes them the pawns that stand at home on the board can have been those at
+-- home, and the counts of the board can have stood.
 abbrev pub passes_main : Sig → PosQuery → Bool
 passes_main sig query =
-    can_stand sig (just (counts_of query.board)) && (not (fixes_pawns query.mode) || home_allows sig (home_set query.board))
+    (not (fixes_pawns query.mode) || home_allows sig (home_set query.board)) && can_stand sig (just (counts_of query.board))
 
 -- A game with this signature can match: its main line, or a variation where it has some and the query looks there. The signature tells
 -- nothing of the men in variations.

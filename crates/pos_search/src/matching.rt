@@ -11,12 +11,12 @@ ghost use Rattle.pos_search.specs.Sought.{can_follow, has_homes};
 use crate::boards::{counts, home_set, same_files, same_numbers, same_pawns};
 use cell_core::{Board, Colour};
 use chess_laws::Position;
-use sig_index::{MatRange, Mode, PosQuery, Sig, can_come, can_stand, home_allows};
+use sig_index::{Brief, MatRange, Mode, PosQuery, can_come, can_stand, home_allows};
 use std::marker::Model;
 
 /// Whether a game with this signature can match: where it cannot, no ply of its main line matches, and no place of its variations where the
 /// query looks there. A home list has at most 16 values, each below 16.
-pub fn passes(s: &Sig, q: &PosQuery) -> bool
+pub fn passes(s: &Brief<'_>, q: &PosQuery) -> bool
     requires home { IsHomeList s.now.home }
     ensures passes { result ≡ passes s.now q.now }
 {
@@ -72,14 +72,14 @@ impl<'a> Sought<'a> {
 
     // Whether a game with this signature can match.
     #[tactic(auto, unfolding(crate::specs::Passing::passes))]
-    pub(crate) fn passes(&self, s: &Sig) -> bool
+    pub(crate) fn passes(&self, s: &Brief<'_>) -> bool
         requires home { IsHomeList s.now.home }
         ensures passes { result ≡ passes s.now self.now }
     {
-        if self.query.vars && s.vars != 0 {
+        if self.query.vars && s.variations() != 0 {
             return true;
         }
-        can_stand(s, &self.range) && (!fixes_pawns(self.query.mode) || home_allows(s, self.homes))
+        (!fixes_pawns(self.query.mode) || home_allows(s, self.homes)) && can_stand(s, &self.range)
     }
 
     // Whether variations are looked at too.

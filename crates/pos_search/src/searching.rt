@@ -162,7 +162,7 @@ pub fn hit_sought<G: Games, F: Files>(
     if let Some(found) = hit_told(told, i) {
         return Ok(Some(found));
     }
-    if !q.passes(&games.sig(i)) {
+    if !q.passes(&games.brief(i)) {
         return Ok(None);
     }
     hit_read(games, i, q, files, buf)
@@ -188,12 +188,8 @@ fn hit_read<G: Games, F: Files>(
     ensures cause { IfErr result (λ e. HasFetchCause e (G.sigs games.now) (G.extents games.now) (F.seen files.old).games buf.new (F.faults files.old) (F.faults files.new)) }
     ensures own { IfErr result (λ e. Names e i) }
 {
-    let len = games.extent(i).len as usize;
-    match games.fetch(i, files, buf) {
-        Ok(_) => {}
-        Err(error) => return Err(error),
-    }
-    match first_sought(buf.split_at(len).0, q) {
+    let len = games.fetch(i, files, buf)?;
+    match first_sought(buf.split_at(len as usize).0, q) {
         Ok(hit) => Ok(hit),
         Err(_) => Err(FetchError::Changed {
             game: i,
@@ -226,7 +222,7 @@ fn ply_in<G: Games, F: Files>(
     if known.is_some() {
         return Ok(known);
     }
-    if q.passes(&games.sig(i)) {
+    if q.passes(&games.brief(i)) {
         ply_read(games, i, q, files, buf)
     } else {
         Ok(None)
@@ -252,12 +248,8 @@ fn ply_read<G: Games, F: Files>(
     ensures cause { IfErr result (λ e. HasFetchCause e (G.sigs games.now) (G.extents games.now) (F.seen files.old).games buf.new (F.faults files.old) (F.faults files.new)) }
     ensures own { IfErr result (λ e. Names e i) }
 {
-    let len = games.extent(i).len as usize;
-    match games.fetch(i, files, buf) {
-        Ok(_) => {}
-        Err(error) => return Err(error),
-    }
-    match ply_sought(buf.split_at(len).0, q) {
+    let len = games.fetch(i, files, buf)?;
+    match ply_sought(buf.split_at(len as usize).0, q) {
         Ok(ply) => Ok(ply),
         Err(_) => Err(FetchError::Changed {
             game: i,

@@ -23,8 +23,8 @@ use Rattle.script_text.specs.declared.command.Command.TheVariants.{Nothing, Find
 use Rattle.edit_commands.specs.Compacting.{compacted_line, compacted_state, is_within}
 use Rattle.edit_commands.specs.Editing.{edited_there, line_there, tag_line_there, tagged_there, unless_refused}
 use Rattle.filter_seat.specs.SavedFilters.{dropped_at, dropped_in, has_room, is_kept, joined_with, kept_at, place_of, plies_at, saved_as, taken}
-use Rattle.intake_commands.specs.Demo.{Adding, adding, adding_refusal, demo_after, one_more, unless_ended, unless_refusal, unless_shown}
-use Rattle.intake_commands.specs.Importing.{Intake, intake, item_after, line_with, none_taken, not_added, state_with, the_new, unless_not_added}
+use Rattle.intake_commands.specs.Demo.{Adding, adding, demo_after, one_more, unless_ended, unless_refusal, unless_shown}
+use Rattle.intake_commands.specs.Importing.{Intake, intake, item_after, line_with, none_taken, state_with, the_new, unless_not_added}
 use Rattle.report_commands.specs.Classifying.{state_by, text_by}
 use Rattle.shell_commands.specs.Refused.{IsError}
 use Rattle.shell_commands.specs.Tasks.{Order, command_work, order_work, tasks}
@@ -33,8 +33,10 @@ use Rattle.game_filter.specs.Filter.{intersection, union}
 use Rattle.game_filter.specs.declared.op.Op.TheVariants.{Ignore}
 use Rattle.search_commands.specs.Searching.{find_after}
 use Rattle.shell_state.specs.Lines.{game_line, filter_line, full_filters_line, hit_lines, hits_text, name_line, no_filter_line}
-use Rattle.shell_state.specs.Refusing.{full_line, refusal_of}
+use Rattle.shell_state.specs.Refusing.{not_added, refusal_line, refusal_of}
 use Rattle.shell_state.specs.State.{State, with_filter, with_seat}
+use Rattle.shell_state.specs.declared.refusing.Refusal.{Refusal}
+use Rattle.shell_state.specs.declared.refusing.Refusal.TheVariants.{Full}
 use Rattle.base_core.specs.Edits.{tagged}
 use Rattle.base_core.specs.Compacted.{compacted}
 use Rattle.base_core.specs.declared.fault.What.TheVariants.{File}
@@ -121,7 +123,7 @@ tagged_so : (game : ℕ) (edit : TagEdit) (s : State) (held : Option Held) → I
 tagged_so game edit s (Some held) is = tagged_by (refusal_of s.shared.base (edited held.head edit) held.game) game s (tagged game edit s.shared.base) is
 tagged_so game edit s None is = refl
 
-compacted_so : (within : Bool) (s : State) → IsError (if within then compacted_line (length s.shared.base.games) (length (compacted s.shared.base).games) else full_line File) → (if within then compacted_state s else s) ≡ s
+compacted_so : (within : Bool) (s : State) → IsError (if within then compacted_line (length s.shared.base.games) (length (compacted s.shared.base).games) else refusal_line (Full File)) → (if within then compacted_state s else s) ≡ s
 compacted_so true s is = absurd (not_error 99 _ refl is)
 compacted_so false s is = refl
 
@@ -193,12 +195,12 @@ added_games : (head : Head) (game : GameTree) (base : Base) → (added head game
 unfolding added
 added_games head game base = refl
 
-item_by : (words : Option (List ℕ)) (i : Intake) (head : Head) (game : GameTree) → Adds i.state (unless_not_added words i head game).state
-item_by (Some words) i head game = none_added i.state
+item_by : (why : Option Refusal) (i : Intake) (head : Head) (game : GameTree) → Adds i.state (unless_not_added why i head game).state
+item_by (Some why) i head game = none_added i.state
 item_by None i head game = (held_of head game ∷ [], added_games head game i.state.shared.base)
 
 item_adds : (i : Intake) (item : Item) → Adds i.state (item_after i item).state
-item_adds i (Good head game) = item_by (not_added i.state.shared.base head game) i head game
+item_adds i (Good head game) = item_by (not_added i.state.shared head game) i head game
 item_adds i (Bad fault) = none_added i.state
 
 items_add : (i : Intake) (items : List Item) → Adds i.state (after_all intake i items).state
@@ -208,21 +210,21 @@ items_add i (item ∷ items) = adds_on i.state (item_after i item).state (after_
 pub imported : (s : State) (word body : List ℕ) → Adds s (tasks.after s (record { order = Ok (Import word); body = body }))
 imported s word body = items_add (none_taken s) (items_of body)
 
-made_by : (line : Option (List ℕ)) (a : Adding) (made : Made) → Adds a.state (unless_refusal line a made).state
-made_by (Some line) a made = none_added a.state
+made_by : (why : Option Refusal) (a : Adding) (made : Made) → Adds a.state (unless_refusal why a made).state
+made_by (Some why) a made = none_added a.state
 made_by None a made = (held_of made.head made.game ∷ [], added_games made.head made.game a.state.shared.base)
 
-one_by : (line : Option (List ℕ)) (a : Adding) (made : Made) → Adds a.state (unless_ended line a made).state
-one_by (Some line) a made = none_added a.state
-one_by None a made = made_by (adding_refusal a.state.shared.base made.head made.game) a made
+one_by : (why : Option Refusal) (a : Adding) (made : Made) → Adds a.state (unless_ended why a made).state
+one_by (Some why) a made = none_added a.state
+one_by None a made = made_by (not_added a.state.shared made.head made.game) a made
 
 adding_adds : (s : State) (seed games : ℕ) → Adds s (adding s seed games).state
 adding_adds s seed zero = none_added s
 adding_adds s seed (suc games) =
     adds_on s (adding s seed games).state (one_more (adding s seed games) games).state (adding_adds s seed games) (one_by (adding s seed games).refused (adding s seed games) (demo_game (adding s seed games).number games))
 
-shown_by : (line : Option (List ℕ)) (s s' : State) → Adds s s' → Adds s (unless_shown line s')
-shown_by (Some line) s s' adds = adds
+shown_by : (why : Option Refusal) (s s' : State) → Adds s s' → Adds s (unless_shown why s')
+shown_by (Some why) s s' adds = adds
 shown_by None s s' adds = adds
 
 pub made : (s : State) (seed games : ℕ) (body : List ℕ) → Adds s (tasks.after s (record { order = Ok (Demo seed games); body = body }))

@@ -41,10 +41,12 @@ use Rattle.script_text.specs.declared.command.Command.{Command}
 use Rattle.script_text.specs.declared.command.Command.TheVariants.{Import, Replace, Eco, Quit}
 use Rattle.report_commands.specs.Classifying.{state_by}
 use Rattle.shell_commands.specs.Tasks.{order_left, order_work, Order, order_price}
-use Rattle.intake_commands.specs.Importing.{Intake, intake, item_after, none_taken, not_added, state_with, the_new, unless_not_added}
+use Rattle.intake_commands.specs.Importing.{Intake, intake, item_after, none_taken, state_with, the_new, unless_not_added}
 use Rattle.shell_state.specs.Stands.{Holding, Stands, WhyHalt}
 use Rattle.shell_state.specs.Carrying.{StillCarry}
+use Rattle.shell_state.specs.Refusing.{not_added}
 use Rattle.shell_state.specs.State.{Carried, State}
+use Rattle.shell_state.specs.declared.refusing.Refusal.{Refusal}
 use Rattle.shell_commands.specs.Tasks.{BrokenTask, tasks}
 use Rattle.shell_state.specs.declared.halt.Halt.{Halt}
 use Rattle.shell_state.specs.declared.halt.Halt.TheVariants as halt
@@ -102,12 +104,12 @@ pub body_goes : (order : Order) (word : List ℕ) → body_word order ≡ Some w
 body_goes order word is = goes_of order word (has_body order word is)
 
 -- They leave what the files carry.
-game_carried : (words : Option (List ℕ)) (i : Intake) (head : Head) (game : GameTree) → (unless_not_added words i head game).state.shared.carried ≡ i.state.shared.carried
-game_carried (Some words) i head game = refl
+game_carried : (why : Option Refusal) (i : Intake) (head : Head) (game : GameTree) → (unless_not_added why i head game).state.shared.carried ≡ i.state.shared.carried
+game_carried (Some why) i head game = refl
 game_carried None i head game = refl
 
 item_carried : (i : Intake) (item : Item) → (item_after i item).state.shared.carried ≡ i.state.shared.carried
-item_carried i (Good head game) = game_carried (not_added i.state.shared.base head game) i head game
+item_carried i (Good head game) = game_carried (not_added i.state.shared head game) i head game
 item_carried i (Bad fault) = refl
 
 items_carried : (i : Intake) (items : List Item) → (after_all intake i items).state.shared.carried ≡ i.state.shared.carried

@@ -5,6 +5,7 @@ pub mod IndexLaws
 pub mod CarryLaws
 pub mod Causing
 pub mod EditedLaws
+pub mod AddingLaws
 pub mod HoldingLaws
 pub mod Beginning
 pub mod Served

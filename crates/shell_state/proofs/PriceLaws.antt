@@ -4,7 +4,7 @@ use Rattle.std.proofs.lemmas.List.Sums.{sum_by-cons}
 use Rattle.std.specs.Prelude.{sum_by}
 use Rattle.base_core.proofs.GamesLaws.{heads-are}
 use Rattle.base_core.specs.Base.{Held}
-use Rattle.base_core.specs.Entries.{head_of, sig_in}
+use Rattle.base_core.specs.Entries.{head_of, sig_in, extent_of}
 use Rattle.base_core.specs.Represents.{Keeps}
 use Rattle.base_files.specs.Seen.{Seen}
 use Rattle.game_filter.specs.Search.{looks_at}
@@ -15,6 +15,7 @@ use Rattle.index_entry.specs.declared.entry.Entry.{Entry}
 use Rattle.name_base.specs.NameLists.{NameLists}
 use Rattle.pos_index.specs.Hits.{Index, Place, rows_told}
 use Rattle.sig_index.specs.declared.signature.Sig.{Sig}
+use Rattle.base_files.specs.declared.extent.Extent.{Extent}
 use Rattle.shell_state.proofs.PassingLaws.{sig_is}
 use Rattle.shell_state.proofs.Quietly.{filter_is}
 use Rattle.shell_state.specs.Passing.{len_if, sig_of, filtered_len, len_if_in, len_in, searched_len}
@@ -93,8 +94,14 @@ len_looks names [] (e ∷ entries) (suc game) = len_looks names [] entries game
 len_looks names (row ∷ rows) (e ∷ entries) zero = refl
 len_looks names (row ∷ rows) (e ∷ entries) (suc game) = len_looks names rows entries game
 
--- All games.
-pub sum_looks : (names : NameLists) (rows : List (List Place)) (entries : List Entry) → sum_by (λ (e : Entry). e.len) entries ≡ sum_by (λ (x : Look). x.len) (looks_at_all names rows entries)
+-- All games, by the places of their records and by their entries.
+extents_len : (entries : List Entry) → sum_by (λ (x : Extent). x.len) (map extent_of entries) ≡ sum_by (λ (e : Entry). e.len) entries
+extents_len [] = refl
+extents_len (e ∷ entries) =
+    sum_by-cons (λ (x : Extent). x.len) (extent_of e) (map extent_of entries) ∙ (ap (λ (n : ℕ). e.len + n) (extents_len entries)
+    ∙ sym (sum_by-cons (λ (x : Entry). x.len) e entries))
+
+sum_looks : (names : NameLists) (rows : List (List Place)) (entries : List Entry) → sum_by (λ (e : Entry). e.len) entries ≡ sum_by (λ (x : Look). x.len) (looks_at_all names rows entries)
 sum_looks names rows [] = ap (sum_by (λ (x : Look). x.len)) (sym (none_looked names rows))
 sum_looks names [] (e ∷ entries) =
     sum_by-cons (λ (d : Entry). d.len) e entries ∙ (ap (λ (n : ℕ). e.len + n) (sum_looks names [] entries)
@@ -102,6 +109,9 @@ sum_looks names [] (e ∷ entries) =
 sum_looks names (row ∷ rows) (e ∷ entries) =
     sum_by-cons (λ (d : Entry). d.len) e entries ∙ (ap (λ (n : ℕ). e.len + n) (sum_looks names rows entries)
     ∙ sym (sum_by-cons (λ (x : Look). x.len) (look_at names row e) (looks_at_all names rows entries)))
+
+pub price_of_all : (holding : Holding) → sum_by (λ (x : Extent). x.len) (map extent_of holding.kept.entries) ≡ sum_by (λ (x : Look). x.len) (looks_in holding)
+price_of_all holding = extents_len holding.kept.entries ∙ sum_looks holding.kept.names (rows_told holding.index) holding.kept.entries
 
 -- The games that are in.
 pub filtered_looks : (plies : List (Option ℕ)) (names : NameLists) (rows : List (List Place)) (entries : List Entry)

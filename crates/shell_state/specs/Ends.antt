@@ -1,11 +1,14 @@
 -- Why a part of a command ends early. This project's own.
 use Rattle.std.specs.Prelude.{⊤, ℕ, List, Result, Ok, Err, ◌≡◌, ◌⊎◌}
+use Rattle.std.specs.Result.{result_map_both}
 use Rattle.base_core.specs.declared.fault.EditError.{EditError}
 use Rattle.base_core.specs.declared.fault.EditError.TheVariants as edit
 use Rattle.base_files.specs.declared.faults.Stop.TheVariants as stop
 use Rattle.sig_index.specs.declared.games.FetchError.{FetchError}
 use Rattle.sig_index.specs.declared.games.FetchError.TheVariants as fetch
-use Rattle.shell_state.specs.Refusing.{full_line, too_long_line}
+use Rattle.shell_state.specs.Refusing.{refusal_line}
+use Rattle.shell_state.specs.declared.refusing.Refusal.{Refusal}
+use Rattle.shell_state.specs.declared.refusing.Refusal.TheVariants.{TooLong, Full}
 use Rattle.shell_state.specs.declared.halt.Halt.{Halt}
 use Rattle.shell_state.specs.declared.halt.Halt.TheVariants as halt
 
@@ -54,11 +57,15 @@ abbrev pub IsThere : EditError → Type 0
 IsThere (edit.NoGame game) = ⊥
 IsThere _ = ⊤
 
--- How a command ends whose edit of such a game is refused: with an error line, or early.
-abbrev pub refused_edit : EditError → Result (List ℕ) Halt
-refused_edit (edit.TooLong size) = Ok too_long_line
-refused_edit (edit.Full what) = Ok (full_line what)
+-- Why the edit of such a game is refused, or how its command ends early.
+abbrev pub refused_edit : EditError → Result Refusal Halt
+refused_edit (edit.TooLong size) = Ok TooLong
+refused_edit (edit.Full what) = Ok (Full what)
 refused_edit error = Err (halt_of error)
+
+-- The error line for it, or how the command ends early.
+abbrev pub refused_line : EditError → Result (List ℕ) Halt
+refused_line error = result_map_both refusal_line (λ halt. halt) (refused_edit error)
 
 -- So it ended, or memory ran out.
 abbrev pub EndsAs : Result (List ℕ) Halt → Halt → Type 0

@@ -6,3 +6,5 @@ pub mod Refusing
 pub mod Ends
 pub mod Carrying
 pub mod Stands
+pub mod Indexing
+pub mod Adding

@@ -8,38 +8,42 @@ use Rattle.base_core.specs.declared.fault.What.TheVariants.{Games, Players, Even
 use Rattle.game_codec.specs.Written.{longest, written_record}
 use Rattle.game_tree.specs.Game.{GameTree}
 use Rattle.game_tree.specs.declared.head.Head.{Head}
+use Rattle.shell_state.specs.State.{Shared}
 use Rattle.shell_state.specs.Lines.{error_line}
+use Rattle.shell_state.specs.declared.refusing.Refusal.{Refusal}
+use Rattle.shell_state.specs.declared.refusing.Refusal.TheVariants.{FullIndex, TooLong, Full}
 
--- Why the record of a game is not placed: it is too long, or this would be full.
-abbrev pub too_long_words : List ℕ
-too_long_words = codes "record too long"
+-- The words for it, and the error line.
+abbrev pub refusal_words : Refusal → List ℕ
+refusal_words FullIndex = codes "full index"
+refusal_words TooLong = codes "record too long"
+refusal_words (Full Games) = codes "full games"
+refusal_words (Full Players) = codes "full players"
+refusal_words (Full Events) = codes "full events"
+refusal_words (Full Sites) = codes "full sites"
+refusal_words (Full Rounds) = codes "full rounds"
+refusal_words (Full File) = codes "full file"
 
-abbrev pub full_words : What → List ℕ
-full_words Games = codes "full games"
-full_words Players = codes "full players"
-full_words Events = codes "full events"
-full_words Sites = codes "full sites"
-full_words Rounds = codes "full rounds"
-full_words File = codes "full file"
+abbrev pub refusal_line : Refusal → List ℕ
+refusal_line why = error_line (refusal_words why)
 
 -- A position index to this depth, if there is one, has no room for so many games.
 abbrev pub index_is_full : Option ℕ → ℕ → Bool
 index_is_full None games = false
 index_is_full (Some depth) games = nat_lt 16000000 (games * (depth + 1))
 
-abbrev pub full_index_words : List ℕ
-full_index_words = codes "full index"
+-- The first reason against a record of so many bytes by which this would be full.
+abbrev pub refusal : ℕ → Option What → Option Refusal
+refusal len full = if nat_lt longest len then Some TooLong else option_map Full full
 
-abbrev pub too_long_line : List ℕ
-too_long_line = error_line too_long_words
+-- Why a game with this head is not placed, if it is not, in a base that has so many games with it.
+abbrev pub why_not : Base → ℕ → Head → GameTree → Option Refusal
+why_not base games head game = refusal (length (written_record head.tags game)) (first_full games (names_with head base.names) (end_with head game base.end))
 
-abbrev pub full_line : What → List ℕ
-full_line what = error_line (full_words what)
+-- Why it is not added; and the error line where it does not take the place of another one.
+abbrev pub not_added : Shared → Head → GameTree → Option Refusal
+not_added shared head game =
+    if index_is_full shared.index (length shared.base.games + 1) then Some FullIndex else why_not shared.base (length shared.base.games + 1) head game
 
--- The first of them for a record of so many bytes, if there is one.
-abbrev pub refusal : ℕ → Option What → Option (List ℕ)
-refusal len full = if nat_lt longest len then Some too_long_line else option_map full_line full
-
--- Of a game with this head in the place of another one.
 abbrev pub refusal_of : Base → Head → GameTree → Option (List ℕ)
-refusal_of base head game = refusal (length (written_record head.tags game)) (first_full (length base.games) (names_with head base.names) (end_with head game base.end))
+refusal_of base head game = option_map refusal_line (why_not base (length base.games) head game)

@@ -1,8 +1,10 @@
 -- The state that a script changes: a plain value. This project's own.
 use Rattle.std.specs.Prelude.{true, ℕ, List, Option, Bool, map, false, if◌then◌else◌, length, Some, None}
 use Rattle.base_core.specs.Base.{Base}
+use Rattle.base_core.specs.Edits.{added}
 use Rattle.game_tree.specs.Game.{GameTree}
-use Rattle.filter_seat.specs.Seats.{Seat, first_seat}
+use Rattle.game_tree.specs.declared.head.Head.{Head}
+use Rattle.filter_seat.specs.Seats.{Seat, first_seat, seat_with_one}
 
 -- A base that the files carry, and whether they open again as it without a fault, however strict the opening is.
 pub record Carried : Type 0 where
@@ -35,6 +37,10 @@ with_seat s seat = record s { seat = seat }
 
 abbrev pub with_filter : State → List (Option ℕ) → State
 with_filter s plies = with_seat s (record s.seat { filter = plies })
+
+-- The state with a game that is added: it is in at ply 0, and in no filter that is kept.
+abbrev pub with_game : State → Head → GameTree → State
+with_game s head game = with_seat (with_base s (added head game s.shared.base)) (seat_with_one s.seat)
 
 -- The games of the base.
 abbrev pub games_of : State → List GameTree

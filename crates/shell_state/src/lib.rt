@@ -2,14 +2,17 @@
 #![tactic(auto)]
 
 mod halt;
+mod indexing;
 mod lines;
 mod machine;
+mod refusing;
 mod writing;
 
 pub use halt::{Halt, halt_of};
+pub use indexing::replace_in_index;
 pub use lines::{
-    error_line, fault_line, filter_line, full_words, game_line, line_of, name_line, no_game_line,
-    refused_line, san_words,
+    error_line, fault_line, filter_line, game_line, line_of, name_line, no_game_line, san_words,
 };
 pub use machine::Machine;
+pub use refusing::{Refusal, refusal_line, refused_line};
 pub use writing::{PIECE, write_filter, write_line};

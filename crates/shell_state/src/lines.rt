@@ -1,11 +1,7 @@
 //! The lines that commands write.
-ghost use Rattle.std.specs.Prelude.{◌≡◌, IfOk, ◌<◌, Ok, Err, IfErr};
-ghost use Rattle.shell_state.specs.Ends.{EndsAs, IsThere, refused_edit};
+ghost use Rattle.std.specs.Prelude.{◌≡◌, IfOk, ◌<◌};
 ghost use Rattle.shell_state.specs.Lines.{error_line, game_line, no_game_line, filter_line, name_line, line_of, fault_line, argument_line, san_words};
-ghost use Rattle.shell_state.specs.Refusing.{full_words};
 
-use crate::halt::{Halt, halt_of};
-use base_core::{EditError, What};
 use cell_core::Text;
 use chess_text::SanFault;
 use game_filter::Filter;
@@ -49,20 +45,6 @@ pub fn error_line(alloc: Global, words: &[u8]) -> Result<Vec<u8>, AllocError>
     line.extend_from_slice(words)?;
     line.push(b'\n')?;
     Ok(line)
-}
-
-/// What would be full.
-pub fn full_words(what: What) -> &'static [u8]
-    ensures { result.now ≡ full_words what }
-{
-    match what {
-        What::Games => b"full games",
-        What::Players => b"full players",
-        What::Events => b"full events",
-        What::Sites => b"full sites",
-        What::Rounds => b"full rounds",
-        What::File => b"full file",
-    }
 }
 
 /// The error line of a line that is no command.
@@ -111,18 +93,5 @@ pub fn san_words(fault: SanFault) -> &'static str
         SanFault::Shape => "bad move text",
         SanFault::NoMove => "no legal move",
         SanFault::Two => "ambiguous move",
-    }
-}
-
-/// The error line of a game whose record is not placed, or how the command ends.
-pub fn refused_line(alloc: Global, error: EditError) -> Result<Vec<u8>, Halt>
-    requires there { IsThere error }
-    ensures line { IfOk result (λ line. refused_edit error ≡ Ok line.items) }
-    ensures halt { IfErr result (EndsAs (refused_edit error)) }
-{
-    match error {
-        EditError::TooLong(_) => Ok(error_line(alloc, b"record too long")?),
-        EditError::Full(what) => Ok(error_line(alloc, full_words(what))?),
-        other => Err(halt_of(other)),
     }
 }

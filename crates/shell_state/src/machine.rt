@@ -1,13 +1,26 @@
 //! The machine that runs commands.
-ghost use Rattle.std.specs.Prelude.{◌≡◌, ◌≤◌, ◌<◌, ◌+◌, None, length, IfOk, MatchOption};
+ghost use Rattle.std.specs.Prelude.{◌≡◌, ◌≤◌, ◌<◌, ◌+◌, length, None, IfOk, IfErr, OnOk, MatchOption};
 ghost use Rattle.base_core.specs.Represents.{IsSound};
+ghost use Rattle.command_runs.specs.Counts.{Causes, counts};
 ghost use Rattle.filter_seat.specs.Seats.{first_seat};
+ghost use Rattle.game_tree.specs.Head.{IsBounded};
+ghost use Rattle.game_tree.specs.Legal.{IsLegalGame};
+ghost use Rattle.game_tree.specs.Settle.{IsSettled};
+ghost use Rattle.shell_state.specs.Adding.{Adds};
+ghost use Rattle.shell_state.specs.Carrying.{StillCarry};
+ghost use Rattle.shell_state.specs.Ends.{IsDevice};
 ghost use Rattle.shell_state.specs.Refusing.{index_is_full};
-ghost use Rattle.shell_state.specs.Stands.{Begins, depth_of};
+ghost use Rattle.shell_state.specs.Stands.{Begins, Sound, Stands, WhyHalt, depth_of};
+ghost use Rattle.shell_state.specs.State.{State};
 
+use crate::halt::Halt;
+use crate::indexing::add_to_index;
+use crate::refusing::{Refusal, refused};
 use base_core::Base;
-use filter_seat::Seat;
+use base_files::Files;
+use filter_seat::{Seat, leave_out};
 use game_filter::Filter;
+use game_tree::{Game, Head};
 use pos_index::PosIndex;
 use std::alloc::{AllocError, Global};
 use std::marker::Model;
@@ -93,6 +106,45 @@ impl Machine {
         match &self.index {
             Some(index) => !index.room(self.games() + 1),
             None => false,
+        }
+    }
+
+    /// Adds a game, which is then in at ply 0 and in no filter that is kept, and gives its number; or why it is not added.
+    pub fn add<F: Files>(
+        &mut self,
+        alloc: Global,
+        files: &mut F,
+        head: &Head,
+        game: &Game,
+    ) -> Result<Result<u32, Refusal>, Halt>
+        requires legal { IsLegalGame game.now }
+        requires bounded { IsBounded head.now }
+        requires settled { IsSettled head.now }
+        requires sound { Sound self.old (F.seen files.old) }
+        ensures adds { (s : State) → Stands self.old (F.seen files.old) s → IfOk result (Adds self.new (F.seen files.new) s head.now game.now) }
+        ensures sound { OnOk result (Sound self.new (F.seen files.new)) }
+        ensures devices { IfErr result IsDevice }
+        ensures carries { (s : State) → Stands self.old (F.seen files.old) s → StillCarry (F.seen files.new) s None }
+        ensures choices { (F.seen files.new).choices ≡ (F.seen files.old).choices }
+        ensures none_asked { F.asked files.new ≡ F.asked files.old }
+        ensures causes { Causes WhyHalt result (counts (F.faults files.old) 0 0) (counts (F.faults files.new) 0 0) }
+    {
+        if self.index_is_full() {
+            return Ok(Err(Refusal::FullIndex));
+        }
+        let added = self.base.add(alloc, files, head, game);
+        self.keeps_sound();
+        match added {
+            Ok(number) => {
+                self.seat.filter.push(alloc, Some(0))?;
+                leave_out(alloc, self.seat.saved.as_mut_slice())?;
+                add_to_index(alloc, &mut self.index, number, game)?;
+                Ok(Ok(number))
+            }
+            Err(error) => match refused(error) {
+                Ok(why) => Ok(Err(why)),
+                Err(halt) => Err(halt),
+            },
         }
     }
 }

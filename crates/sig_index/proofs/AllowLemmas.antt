@@ -4,9 +4,9 @@ use Rattle.std.proofs.Math.Nat.{pow-succ'}
 use Rattle.std.specs.Int.{bit_at, bit_not, w16}
 use Rattle.std.specs.Int.Bits.{bit_and}
 use Rattle.std.specs.List.{list_any, range_with_len}
-use Rattle.std.proofs.lemmas.Bool.{cases_eq, eqb-true, ne_eqb}
-use Rattle.std.proofs.lemmas.List.{take_all}
-use Rattle.std.proofs.lemmas.List.Folds.{list_any_more}
+use Rattle.std.proofs.lemmas.Bool.{cases_Bool, cases_eq, cases_lt, eqb-true, ne_eqb}
+use Rattle.std.proofs.lemmas.List.{get_or-take, length-take-le, take_all}
+use Rattle.std.proofs.lemmas.List.Folds.{list_any_at, list_any_more}
 use Rattle.std.proofs.lemmas.Nat.Bits.{bit_at_ones, bit_at_cat_high, bit_at_cat_low, bit_at_clear_other, bit_at_clear_same, same_from_bits_below}
 use Rattle.cell_core.specs.Board.{Men}
 use Rattle.chess_laws.specs.Counts.{is_home}
@@ -99,6 +99,40 @@ pub last_set : (left : List ℕ) (still set i : ℕ) → length left ≤ i → s
     → ((n : ℕ) → n < i → is_all_but (take n left) set ≡ false) → eqb still set ≡ is_all_but_first left set
 last_set left still set i all small small' lacks none =
     only_set (take i left) still set small small' lacks ∙ sym (last_first left set i all none)
+
+-- ---- a value of the set that left
+
+-- Once a value of the set is among those that left, they are not all that the set lacks.
+holds_left : (left : List ℕ) (set i n : ℕ) → i < n → i < length left → get_or left i 0 < 16 → bit_at set (get_or left i 0) ≡ 1 → is_all_but (take n left) set ≡ false
+holds_left left set i n before within small has =
+    let v : ℕ = get_or left i 0 in
+    let among : list_any (eqb v) (take n left) ≡ true =
+    list_any_at (eqb v) (take n left) i 0 (under n left i before within) (eq-eqb v (get_or (take n left) i 0) (sym (get_or-take n left i 0 before)))
+    in
+    elim (cases_Bool (is_all_but (take n left) set)) [
+      | inl all ↦
+          let gone : 1 ≡ 0 = sym has ∙ passes_lacks (take n left) set all v small ∙ ap (λ (t : Bool). cond t 0 1) among in
+          absurd (omega (arith, gone))
+      | inr fails ↦ fails
+    ]
+  where
+    under : (n : ℕ) (left : List ℕ) (i : ℕ) → i < n → i < length left → i < length (take n left)
+    under n left i before within = elim (cases_lt n (length left)) [
+      | inl few ↦ subst (λ (k : ℕ). i < k) (sym (length-take-le n left (omega (arith, few)))) before
+      | inr all ↦ subst (λ (xs : List ℕ). i < length xs) (sym (take_all n left all)) within
+    ]
+
+-- So no first ones of them are, where none were before.
+pub never_again : (left : List ℕ) (set i : ℕ) → i < length left → get_or left i 0 < 16 → bit_at set (get_or left i 0) ≡ 1
+    → ((n : ℕ) → n < i + 1 → is_all_but (take n left) set ≡ false) → false ≡ is_all_but_first left set
+never_again left set i within small has none =
+    let none_at : (n : ℕ) → is_all_but (take n left) set ≡ false = λ n. elim (cases_lt n (i + 1)) [
+      | inl before ↦ none n before
+      | inr from ↦ holds_left left set i n (omega (arith, from)) within small has
+    ] in
+    sym (ap (λ (k : ℕ). list_any (λ n. is_all_but (take n left) set) (range_with_len 0 k)) (add-one (length left))
+    ∙ any_last (λ n. is_all_but (take n left) set) 0 (length left) (λ n from less. none_at n)
+    ∙ none_at (0 + length left))
 
 -- ---- the set of a board
 

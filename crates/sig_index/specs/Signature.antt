@@ -15,6 +15,7 @@ use Rattle.game_tree.specs.Promotions.{has_promotion, has_underpromotion}
 use Rattle.game_tree.specs.Counts.{variations_of, comments_of, nags_of}
 use Rattle.index_entry.specs.Counts.{count_code}
 use Rattle.index_entry.specs.Entry.{AreCounts, AreHomeValues}
+use Rattle.index_entry.specs.declared.entry.Entry.{Entry}
 use Rattle.sig_index.specs.declared.signature.Sig.{Sig}
 use Rattle.sig_index.specs.declared.signature.HomeList.{HomeList}
 
@@ -87,3 +88,17 @@ pub record IsSigBounded (sig : Sig) : Type 0 where
   pub vars : sig.vars < 16
   pub comments : sig.comments < 16
   pub nags : sig.nags < 16
+
+-- The signature of the game as an entry of the index has it: its derived fields.
+abbrev pub sig_in : Entry → Sig
+sig_in e = record {
+  material = e.material;
+  home = record { count = e.home_count; values = e.home };
+  plies = e.plies;
+  promo = e.promo;
+  under = e.under;
+  own_start = e.own_start;
+  vars = e.vars;
+  comments = e.comments;
+  nags = e.nags;
+}

@@ -9,6 +9,7 @@ ghost use Rattle.sig_index.specs.declared.signature.Sig.{Sig as Signature};
 ghost use Rattle.sig_index.specs.Games.{AreWithin, HasFetchCause, Names, extent_in, head_in, name_in, plies_in, record_told};
 ghost use Rattle.sig_index.specs.Signature.{IsSigBounded};
 
+use crate::brief::Brief;
 use crate::signature::Sig;
 use base_files::{Extent, Files};
 use game_tree::{Date, HeadRef, Outcome, Rating};
@@ -60,6 +61,12 @@ pub trait Games {
 
     /// The signature of game `i`, which is below the number of games.
     fn sig(&self, i: u32) -> Sig
+        requires game { i < length (sigs self.now) }
+        ensures kept { slice_get (sigs self.now) i ≡ Some result }
+        ensures bounded { IsSigBounded result };
+
+    /// The signature of game `i`, of which a search reads what it asks for.
+    fn brief(&self, i: u32) -> Brief<'_>
         requires game { i < length (sigs self.now) }
         ensures kept { slice_get (sigs self.now) i ≡ Some result }
         ensures bounded { IsSigBounded result };
@@ -121,8 +128,8 @@ pub trait Games {
         ensures extent { result ≡ extent_in (extents self.now) i }
         ensures short { result.len ≤ 131071 };
 
-    /// Reads the record of game `i` into the front of `buf`, which has 131,072 bytes, and answers its length. Each record ends within
-    /// the length of the games file that is known. So many bytes count as asked, after an error too.
+    /// Reads the record of game `i` into the front of `buf`, which has 131,072 bytes, and answers its length, at most 131,071. Each
+    /// record ends within the length of the games file that is known. So many bytes count as asked, after an error too.
     ///
     /// The bytes need not be looked at: `Changed` comes only where they are, and are not those of a game with the signature that is kept.
     fn fetch<F: Files>(&self, i: u32, files: &mut F, buf: &mut [u8]) -> Result<u32, FetchError>
@@ -130,6 +137,7 @@ pub trait Games {
         requires room { length buf.old ≡ 131072 }
         requires within { AreWithin (F.seen files.old).known (extents self.now) }
         ensures len { IfOk result (λ n. n ≡ (extent_in (extents self.now) i).len) }
+        ensures short { IfOk result (λ n. n ≤ 131071) }
         ensures bytes { IfOk result (λ n. Tells (record_told (F.seen files.old).games (extent_in (extents self.now) i)) (take n buf.new)) }
         ensures unchanged { F.seen files.new ≡ F.seen files.old }
         ensures asks { F.asked files.new ≡ raised (F.asked files.old) (extent_in (extents self.now) i).len }

@@ -11,9 +11,9 @@ ghost use Rattle.sig_index.specs.declared.signature.Sig.{Sig as Signature};
 ghost use Rattle.sig_index.specs.Coming.{AreAtLeast};
 ghost use Rattle.sig_index.specs.Having.{can_have, colour_can_have, lesser_lacks, start_counts};
 
+use crate::brief::Brief;
 use crate::coming::lack;
 use crate::mat_query::MatRange;
-use crate::signature::Sig;
 
 // The ten counts of the initial position.
 const START_COUNTS: [u8; 10] = [1, 2, 2, 2, 8, 1, 2, 2, 2, 8];
@@ -21,10 +21,10 @@ const START_COUNTS: [u8; 10] = [1, 2, 2, 2, 8, 1, 2, 2, 2, 8];
 /// Whether the counts of a game with this signature can have been at least those of the range at some ply. Where it answers false no ply
 /// of the main line has counts in the range, and the game need not be read.
 #[tactic(auto, unfolding(crate::specs::Having::can_have))]
-pub fn can_have(s: &Sig, r: &MatRange) -> bool
+pub fn can_have(s: &Brief<'_>, r: &MatRange) -> bool
     ensures has { result ≡ can_have s.now r.now }
 {
-    s.own_start || colour_can_have(s, r, 0) && colour_can_have(s, r, 5)
+    s.has_own_start() || colour_can_have(s, r, 0) && colour_can_have(s, r, 5)
 }
 
 /// A law: the counts of a legal game are at least those of a range at no ply where `can_have` is false for it.
@@ -36,13 +36,15 @@ pub fn start_men_skipping_is_sound()
 
 // Whether one colour's counts can have been at least those of the range in a game from the initial position; its queens stand at this
 // place among the ten.
-fn colour_can_have(s: &Sig, r: &MatRange, queens: usize) -> bool
+fn colour_can_have(s: &Brief<'_>, r: &MatRange, queens: usize) -> bool
     requires { queens ≤ 5 }
     ensures { result ≡ colour_can_have s.now r.now queens }
 {
     let lesser = lesser_lacks(r, queens);
     let all = lack(r, &START_COUNTS, queens) + lesser;
-    all + u32::from(r.lo[queens + 4]) <= 8 && (s.promo || all == 0) && (s.under || lesser == 0)
+    all + u32::from(r.lo[queens + 4]) <= 8
+        && (all == 0 || s.has_promotion())
+        && (lesser == 0 || s.has_underpromotion())
 }
 
 // How many of one colour's rooks, bishops and knights are missing at the start to the least that the range allows.

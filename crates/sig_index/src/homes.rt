@@ -1,5 +1,5 @@
 //! Which games a search of a position can leave unread, by the pawns that stand at home.
-ghost use Rattle.std.specs.Prelude.{◌≡◌, ◌≤◌, ◌<◌, ℕ, true, not, nat_eq, take, length, All};
+ghost use Rattle.std.specs.Prelude.{◌≡◌, ◌≤◌, ◌<◌, ℕ, true, not, nat_eq, take, length};
 ghost use Rattle.std.specs.List.{list_any};
 ghost use Rattle.chess_laws.specs.Counts.{is_home};
 ghost use Rattle.chess_laws.specs.Position.{Sound, start_setup};
@@ -14,17 +14,17 @@ ghost use Rattle.sig_index.specs.Left.{leaving_between};
 ghost use Rattle.sig_index.specs.Signature.{IsSig, left_of};
 ghost use Rattle.sig_index.specs.declared.signature.Sig.{Sig as Signature};
 
-use crate::signature::Sig;
+use crate::brief::Brief;
 
 /// Whether the pawns that stand at home can be those of a set, bit v for the home value v, at some ply of a game with this signature:
 /// the set has all values but those of the first pawns that left. Of a game with an own start nothing is known. A home list has at most 16
 /// values, each below 16.
 #[tactic(auto, unfolding(crate::specs::Homes::home_allows))]
-pub fn home_allows(s: &Sig, set: u16) -> bool
+pub fn home_allows(s: &Brief<'_>, set: u16) -> bool
     requires home { IsHomeList s.now.home }
     ensures allows { result ≡ home_allows s.now set }
 {
-    s.own_start || is_all_but_first(s.home.values.split_at(usize::from(s.home.count)).0, set)
+    s.has_own_start() || is_all_but_first(s, set)
 }
 
 /// A law: no move takes two pawns off their own squares, and none brings one back; so the pawns at home at a ply of a legal game from the
@@ -36,17 +36,22 @@ pub fn home_pawn_skipping_is_sound()
     ensures sound { (game : GameTree) (sig : Signature) (k : ℕ) → Sound game.start → IsLegalGame game → IsSig game sig → k ≤ plies_of game → home_allows sig (home_set (position_at game k).board) ≡ true }
 {}
 
-// Whether a set has all values but the first of these, be that none of them, some or all.
-fn is_all_but_first(left: &[u8], set: u16) -> bool
-    requires values { All (λ value. value < 16) left.now }
-    ensures { result ≡ is_all_but_first left.now set }
+// Whether a set has all values but those of the first pawns that left, be that none of them, some or all. Once a pawn left that is in the
+// set it has them no more.
+fn is_all_but_first(s: &Brief<'_>, set: u16) -> bool
+    requires home { IsHomeList s.now.home }
+    ensures { result ≡ is_all_but_first (take s.now.home.count s.now.home.values) set }
 {
     let mut still = u16::MAX;
-    for value in left {
+    for i in 0..s.home_count() {
         if still == set {
             return true;
         }
-        still &= !(1 << *value);
+        let value = s.home_value(usize::from(i));
+        if (set >> value) % 2 == 1 {
+            return false;
+        }
+        still &= !(1 << value);
     }
     still == set
 }

@@ -1,6 +1,7 @@
 //! What searches ask of the games of a base, by their heads, by the men on the board, by a position; and the signature of a game.
 #![tactic(auto)]
 
+mod brief;
 mod coming;
 mod games;
 mod having;
@@ -15,6 +16,7 @@ mod signature;
 mod skipping;
 mod span;
 
+pub use brief::Brief;
 pub use coming::{can_come, missing_men_are_promoted};
 pub use games::{FetchError, Games, HeadName};
 pub use having::{can_have, start_men_skipping_is_sound};

@@ -10,11 +10,13 @@ ghost use Rattle.sig_index.specs.Games.{AreWithin, extent_in, head_in, name_in, 
 ghost use Rattle.sig_index.specs.MemGames.{Kept, kept_of, heads_of, sigs_of, extents_of};
 ghost use Rattle.sig_index.specs.Signature.{IsSig, IsSigBounded};
 
+use crate::brief::{Brief, entry_with};
 use crate::games::{FetchError, Games, HeadName};
 use crate::signature::{Sig, sig_of};
 use base_files::{Extent, Files};
 use game_codec::{EncodeError, encode_game};
 use game_tree::{Date, Game, Head, HeadRef, Outcome, Rating};
+use index_entry::ENTRY_LEN;
 use std::alloc::Global;
 use std::marker::Model;
 
@@ -28,7 +30,8 @@ pub struct MemGames {
 #[derive(Drop)]
 struct MemGame {
     head: Head,
-    sig: Sig,
+    // The bytes of an entry with its signature.
+    entry: [u8; ENTRY_LEN],
     extent: Extent,
 }
 
@@ -36,13 +39,14 @@ impl Model for MemGame {
     ghost use Rattle.std.specs.Prelude.{◌≤◌};
     ghost use Rattle.game_tree.specs.Head.{without_tags};
     ghost use Rattle.sig_index.specs.MemGames.{Kept};
-    ghost use Rattle.sig_index.specs.Signature.{IsSigBounded};
+    ghost use Rattle.index_entry.specs.Entry.{entry_in};
+    ghost use Rattle.sig_index.specs.Signature.{IsSigBounded, sig_in};
 
     ghost Value = { Kept };
 
-    ghost view = { λ game. record { head = without_tags game.head; sig = game.sig; extent = game.extent } };
+    ghost view = { λ game. record { head = without_tags game.head; sig = sig_in (entry_in game.entry); extent = game.extent } };
 
-    ghost invariant = { λ game. IsSigBounded game.sig × (game.extent.len ≤ 131071) };
+    ghost invariant = { λ game. IsSigBounded (sig_in (entry_in game.entry)) × (game.extent.len ≤ 131071) };
 }
 
 impl Model for MemGames {
@@ -88,8 +92,16 @@ impl MemGames {
             len: bytes.len() as u32,
         };
         file.extend_from_slice(bytes.as_slice())?;
-        let sig = sig_of(game);
-        if self.games.push(MemGame { head, sig, extent }).is_err() {
+        let entry = entry_with(&sig_of(game));
+        if self
+            .games
+            .push(MemGame {
+                head,
+                entry,
+                extent,
+            })
+            .is_err()
+        {
             file.truncate(offset);
             return Err(EncodeError::Memory);
         }
@@ -122,11 +134,11 @@ impl MemGame {
         }
     }
 
-    fn sig(&self) -> Sig
+    fn brief(&self) -> Brief<'_>
         ensures sig { result ≡ self.now.sig }
         ensures bounded { IsSigBounded result }
     {
-        self.sig
+        Brief::new(&self.entry)
     }
 
     fn extent(&self) -> Extent
@@ -149,7 +161,11 @@ impl Games for MemGames {
     }
 
     fn sig(&self, i: u32) -> Sig {
-        self.at(i).sig()
+        self.brief(i).whole()
+    }
+
+    fn brief(&self, i: u32) -> Brief<'_> {
+        self.at(i).brief()
     }
 
     fn head(&self, i: u32) -> HeadRef<'_> {
@@ -189,7 +205,7 @@ impl Games for MemGames {
     }
 
     fn plies(&self, i: u32) -> u16 {
-        self.at(i).sig.plies
+        self.at(i).brief().plies()
     }
 
     fn extent(&self, i: u32) -> Extent {

@@ -10,15 +10,16 @@ ghost use Rattle.sig_index.specs.declared.mat_query.MatRange.{MatRange as Range}
 ghost use Rattle.sig_index.specs.declared.signature.Sig.{Sig as Signature};
 ghost use Rattle.sig_index.specs.Skipping.{AreAtMost, can_stand, colour_can_stand, lesser_rises, rise};
 
+use crate::brief::Brief;
 use crate::mat_query::MatRange;
-use crate::signature::Sig;
 
 /// Whether the counts of a game with this signature can have been at most those of the range at some ply. Where it answers false no
 /// ply of the main line has counts in the range, and the game need not be read.
-pub fn can_stand(s: &Sig, r: &MatRange) -> bool
+pub fn can_stand(s: &Brief<'_>, r: &MatRange) -> bool
     ensures stands { result ≡ can_stand s.now r.now }
 {
-    colour_can_stand(s, r, 0) && colour_can_stand(s, r, 5)
+    let material = s.material();
+    colour_can_stand(s, &material, r, 0) && colour_can_stand(s, &material, r, 5)
 }
 
 /// A law: the counts of a legal game are at most those of a range at no ply where `can_stand` is false for it.
@@ -27,35 +28,37 @@ pub fn material_skipping_is_sound()
         → AreAtMost (counts_of (position_at game k).board) range → can_stand sig range ≡ true }
 {}
 
-// Whether one colour's counts can have been at most those of the range; its queens stand at this place among the ten.
-fn colour_can_stand(s: &Sig, r: &MatRange, queens: usize) -> bool
-    requires { queens ≤ 5 }
+// Whether one colour's counts, of which these are the last, can have been at most those of the range; its queens stand at this place
+// among the ten.
+fn colour_can_stand(s: &Brief<'_>, material: &[u8; 10], r: &MatRange, queens: usize) -> bool
+    requires material { material.now ≡ s.now.material }
+    requires place { queens ≤ 5 }
     ensures { result ≡ colour_can_stand s.now r.now queens }
 {
-    let pawns = s.material[queens + 4];
+    let pawns = material[queens + 4];
     let allowed = r.hi[queens + 4];
-    let lesser = lesser_rises(s, r, queens);
-    let all = rise(s, r, queens) + lesser;
+    let lesser = lesser_rises(material, r, queens);
+    let all = rise(material, r, queens) + lesser;
     pawns <= allowed
         && all <= u32::from(allowed.saturating_sub(pawns))
-        && (s.promo || all == 0)
-        && (s.under || lesser == 0)
+        && (all == 0 || s.has_promotion())
+        && (lesser == 0 || s.has_underpromotion())
 }
 
 // The rises of one colour's rooks, bishops and knights.
-fn lesser_rises(s: &Sig, r: &MatRange, queens: usize) -> u32
+fn lesser_rises(material: &[u8; 10], r: &MatRange, queens: usize) -> u32
     requires { queens ≤ 5 }
-    ensures rises { result ≡ lesser_rises s.now r.now queens }
+    ensures rises { (sig : Signature) → material.now ≡ sig.material → result ≡ lesser_rises sig r.now queens }
     ensures few { result ≤ 765 }
 {
-    rise(s, r, queens + 1) + rise(s, r, queens + 2) + rise(s, r, queens + 3)
+    rise(material, r, queens + 1) + rise(material, r, queens + 2) + rise(material, r, queens + 3)
 }
 
 // How far the last count of a kind is above the greatest that the range allows.
-fn rise(s: &Sig, r: &MatRange, place: usize) -> u32
+fn rise(material: &[u8; 10], r: &MatRange, place: usize) -> u32
     requires { place ≤ 9 }
-    ensures rise { result ≡ rise s.now r.now place }
+    ensures rise { (sig : Signature) → material.now ≡ sig.material → result ≡ rise sig r.now place }
     ensures few { result ≤ 255 }
 {
-    u32::from(s.material[place].saturating_sub(r.hi[place]))
+    u32::from(material[place].saturating_sub(r.hi[place]))
 }

@@ -52,7 +52,7 @@ struct Numbers {
     sites: u32,
     rounds: u32,
     unsaved: bool,
-    index: Option<u8>,
+    index: Option<u32>,
 }
 
 // The line of `info`.
@@ -66,7 +66,7 @@ fn info_line(alloc: Global, n: &Numbers) -> Result<Vec<u8>, AllocError>
 }
 
 // Adds the depth of the position index, or that there is none.
-fn push_index(line: &mut String, index: Option<u8>) -> Result<(), AllocError>
+fn push_index(line: &mut String, index: Option<u32>) -> Result<(), AllocError>
     ensures { OnOk result (string_bytes line.new ≡ string_bytes line.old ++ index_words index) }
 {
     match index {
@@ -77,11 +77,11 @@ fn push_index(line: &mut String, index: Option<u8>) -> Result<(), AllocError>
 }
 
 // The depth of a position index, if there is one.
-fn depth_of(index: &Option<PosIndex>) -> Option<u8>
+fn depth_of(index: &Option<PosIndex>) -> Option<u32>
     ensures depth { result ≡ depth_of index.now }
 {
     match index {
-        Some(index) => Some(index.depth()),
+        Some(index) => Some(u32::from(index.depth())),
         None => None,
     }
 }

@@ -12,16 +12,16 @@ use Rattle.base_core.proofs.uses.uses_of.Goals as goal
 
 pub add-requires : goal.add-requires
 add-requires c =
-    let has = at-all (HasNames c.args.names.now) c.args.entries.now c.loop-i.i (entry_in c.packed.result) c.requires.named c.packed.ensures.at in
-    let U : Frequencies → Type 0 = λ f. HasUses f (entry_in c.packed.result) in
-    record { ids = subst U (sym c.loop-i.invariant.same) (has-uses c.args.names.now (take c.loop-i.i c.args.entries.now) (entry_in c.packed.result) has) }
+    let has = at-all (HasNames c.args.names.now) c.args.entries.now c.loop-i.i (entry_in c.packed.result.now) c.requires.named c.packed.ensures.at in
+    let U : Frequencies → Type 0 = λ f. HasUses f (entry_in c.packed.result.now) in
+    record { ids = subst U (sym c.loop-i.invariant.same) (has-uses c.args.names.now (take c.loop-i.i c.args.entries.now) (entry_in c.packed.result.now) has) }
 
 pub loop-i-preserved : goal.loop-i-preserved
 loop-i-preserved c =
-    let has = at-all (HasNames c.args.names.now) c.args.entries.now c.loop-i.i (entry_in c.packed.result) c.requires.named c.packed.ensures.at in
+    let has = at-all (HasNames c.args.names.now) c.args.entries.now c.loop-i.i (entry_in c.packed.result.now) c.requires.named c.packed.ensures.at in
     record {
       same = c.add.ensures.added
-          ∙ (ap (λ (f : Frequencies). with_uses f (entry_in c.packed.result)) c.loop-i.invariant.same
-          ∙ (uses-more c.args.names.now (take c.loop-i.i c.args.entries.now) (entry_in c.packed.result) has
-          ∙ ap (λ (es : List Entry). frequencies_of c.args.names.now es) (sym (take_next c.args.entries.now c.loop-i.i (entry_in c.packed.result) c.packed.ensures.at))));
+          ∙ (ap (λ (f : Frequencies). with_uses f (entry_in c.packed.result.now)) c.loop-i.invariant.same
+          ∙ (uses-more c.args.names.now (take c.loop-i.i c.args.entries.now) (entry_in c.packed.result.now) has
+          ∙ ap (λ (es : List Entry). frequencies_of c.args.names.now es) (sym (take_next c.args.entries.now c.loop-i.i (entry_in c.packed.result.now) c.packed.ensures.at))));
     }

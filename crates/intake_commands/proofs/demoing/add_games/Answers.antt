@@ -31,8 +31,8 @@ loop-number-preserved g c =
 pub returns-in-Ok-Refused-clause-adds : goal.returns-in-Ok-Refused-clause-adds
 returns-in-Ok-Refused-clause-adds g c = λ s st.
     let adds = rw c.in-Ok-Refused.field-0-is at c.in-Ok-Refused.ensures.adds in
-    adding_ends c.add_next.new.machine (g.F.Files.seen c.add_next.new.files) s c.args.seed c.loop-number.number c.args.games c.in-Ok-Refused.line.items c.loop-number-test.true
-    (refused_on c.add_next.new.machine (g.F.Files.seen c.add_next.new.files) c.in-Ok-Refused.line.items s c.args.seed c.loop-number.number (adds c.loop-number.sum (adding s c.args.seed c.loop-number.number) (c.loop-number.invariant.adds s st)))
+    adding_ends c.add_next.new.machine (g.F.Files.seen c.add_next.new.files) s c.args.seed c.loop-number.number c.args.games c.in-Ok-Refused.why c.loop-number-test.true
+    (refused_on c.add_next.new.machine (g.F.Files.seen c.add_next.new.files) c.in-Ok-Refused.why s c.args.seed c.loop-number.number (adds c.loop-number.sum (adding s c.args.seed c.loop-number.number) (c.loop-number.invariant.adds s st)))
 
 pub returns-in-Ok-Refused-clause-carries : goal.returns-in-Ok-Refused-clause-carries
 returns-in-Ok-Refused-clause-carries g c = λ s st.

@@ -1,4 +1,4 @@
-use Rattle.std.proofs.Common.{None, ◌∙◌, ℕ, List, Some, refl, sym, ap, arith}
+use Rattle.std.proofs.Common.{None, arith, refl}
 use Rattle.intake_commands.proofs.DemoLaws.{carry_adding, demo_asks, demo_serves, refusal_serves}
 use Rattle.intake_commands.proofs.demoing.demo.Goals as goal
 use Rattle.intake_commands.specs.Demo.{adding, demo_text, demo_work}
@@ -28,12 +28,11 @@ returns-in-Ok-Plies-clause-carries g c = λ s st.
 pub returns-in-Ok-Refused-clause-serves : goal.returns-in-Ok-Refused-clause-serves
 returns-in-Ok-Refused-clause-serves g c = λ s st.
     let adds = rw c.in-Ok-Refused.field-0-is at c.in-Ok-Refused.ensures.adds in
-    let ended = adds s st in
-    refusal_serves c.add_games.new.machine (g.F.Files.seen c.add_games.new.files) s c.args.seed c.args.games c.as_slice.result.now _ _ c.write_line.result ended.stands
-    (ended.refused ∙ ap (λ (l : List ℕ). Some l) (sym c.as_slice.ensures.value)) c.write_line.ensures.written c.write_line.ensures.halted c.write_line.ensures.output
+    refusal_serves c.add_games.new.machine (g.F.Files.seen c.add_games.new.files) s c.args.seed c.args.games c.in-Ok-Refused.why _ _ c.write_refusal.result (adds s st)
+    c.write_refusal.ensures.written c.write_refusal.ensures.halted c.write_refusal.ensures.output
 
 pub returns-in-Ok-Refused-clause-carries : goal.returns-in-Ok-Refused-clause-carries
-returns-in-Ok-Refused-clause-carries g c = λ s st. if_err c.write_line.result _ (c.add_games.ensures.carries s st)
+returns-in-Ok-Refused-clause-carries g c = λ s st. if_err c.write_refusal.result _ (c.add_games.ensures.carries s st)
 
 pub returns-in-Err-clause-serves : goal.returns-in-Err-clause-serves
 returns-in-Err-clause-serves g c = λ s st.

@@ -1,11 +1,14 @@
-use Rattle.sig_index.proofs.ReadLemmas.{front_is, game_read}
+use Rattle.std.proofs.Common.{ℕ, List, subst, sym}
+use Rattle.base_files.specs.Told.{Tells}
+use Rattle.sig_index.specs.Games.{extent_in, record_told}
+use Rattle.sig_index.proofs.ReadLemmas.{game_read}
 use Rattle.mat_search.proofs.searching.first_read.Goals as goal
 
-pub returns-in-Ok-first_ply-clause-first : goal.returns-in-Ok-first_ply-clause-first
-returns-in-Ok-first_ply-clause-first g c = λ told list game same holds there.
+pub returns-in-Ok-clause-first : goal.returns-in-Ok-clause-first
+returns-in-Ok-clause-first g c = λ told list game same holds there.
     let games = (g.F.Files.seen c.args.files.now).games in
     let extents = g.G.Games.extents c.args.games.now in
-    let tells = front_is games extents c.args.i c.fetch.new.buf c.split_at.result.0.now c.in-Ok.field-0 c.extent-len.result
-    c.extent-len.ensures.extent c.in-Ok.ensures.len c.split_at.ensures.front c.in-Ok.ensures.bytes in
+    let T : List ℕ → Type 0 = λ b. Tells (record_told games (extent_in extents c.args.i)) b in
+    let tells = subst T (sym c.split_at.ensures.front) c.in_ok-len.ensures.bytes in
     let read = game_read games told extents (g.G.Games.sigs c.args.games.now) list c.args.i game c.split_at.result.0.now same holds c.requires.game there tells in
-    c.in-Ok-first_ply.ensures.first read.0 game read.1
+    c.in-Ok.ensures.first read.0 game read.1

@@ -17,7 +17,7 @@ returns-in-Some-clause-found g c = λ contents list game index same holds there 
 
 pub returns-then-not-passes-clause-found : goal.returns-then-not-passes-clause-found
 returns-then-not-passes-clause-found g c = λ contents list game index same holds there squares told is.
-    unread contents (g.G.Games.extents c.args.games.now) (g.G.Games.sigs c.args.games.now) list c.args.i c.sig.result game c.args.q.now holds c.sig.ensures.kept there (sym c.passes.ensures.passes ∙ c.if-not-passes.true)
+    unread contents (g.G.Games.extents c.args.games.now) (g.G.Games.sigs c.args.games.now) list c.args.i c.brief.result game c.args.q.now holds c.brief.ensures.kept there (sym c.passes.ensures.passes ∙ c.if-not-passes.true)
 
 pub returns-in-Some-clause-legal : goal.returns-in-Some-clause-legal
 returns-in-Some-clause-legal g c = λ squares legal.

@@ -6,7 +6,7 @@ use Rattle.base_core.proofs.base.Base.packed.Goals as goal
 
 pub returns : goal.returns
 returns c =
-    let e = entry_in c.packed.result in
+    let e = entry_in c.packed.result.now in
     let kept = c.args.self.now in
     let at : slice_get kept.entries c.args.i ≡ Some e = subst (λ (k : Kept). slice_get k.entries c.args.i ≡ Some e) c.self.view_is c.packed.ensures.at in
     let is = kept-at kept c.args.i e (subst IsSound c.self.view_is c.self.invariant) at in

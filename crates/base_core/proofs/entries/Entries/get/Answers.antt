@@ -6,5 +6,5 @@ use Rattle.base_core.proofs.entries.Entries.get.Goals as goal
 
 pub returns : goal.returns
 returns c =
-    let is : entry_in c.packed.result ≡ c.in-Ok.entry = read_is c.packed.result c.in-Ok.entry (sym c.in-Ok.ensures.exact) in
+    let is : entry_in c.packed.result.now ≡ c.in-Ok.entry = read_is c.packed.result.now c.in-Ok.entry (sym c.in-Ok.ensures.exact) in
     record { at = c.packed.ensures.at ∙ ap (λ (e : Entry). Some e) is }

@@ -17,7 +17,7 @@ returns c =
     let below : c.args.i < c.self.inside.count = subst (λ n. c.args.i < n) long c.requires.there in
     let at : slice_get c.args.self.now c.args.i ≡ Some (entry_in (packed_at c.self.inside.bytes.items c.args.i)) =
     ap (λ (xs : List Entry). slice_get xs c.args.i) (sym c.self.view_is) ∙ entries-get c.self.inside.bytes.items c.self.inside.count c.args.i below in
-    let bytes : c.packed_at.result ≡ packed_at c.self.inside.bytes.items c.args.i = c.packed_at.ensures.packed ∙ ap (λ (b : List ℕ). packed_at b c.args.i) c.as_slice.ensures.value in
+    let bytes : c.packed_at.result.now ≡ packed_at c.self.inside.bytes.items c.args.i = c.packed_at.ensures.packed ∙ ap (λ (b : List ℕ). packed_at b c.args.i) c.as_slice.ensures.value in
     let W : List ℕ → Type 0 = λ b. IsWritten b (entry_in b) in
     record {
       at = at ∙ ap (λ (b : List ℕ). Some (entry_in b)) (sym bytes);

@@ -1,6 +1,6 @@
 use Rattle.std.proofs.Common.{◌≡◌, ◌++◌, drop}
 use Rattle.pgn_read.specs.TagText.{unescaped_from, unescaped}
-use Rattle.pgn_read.proofs.tag_text.unescaped.Given as goal
+use Rattle.pgn_read.proofs.tag_text.without_escapes.Given as goal
 
 -- The value so far, and what the bytes that are left mean, are the whole value.
 abbrev pub invariant-loop-byte : goal.invariant-loop-byte

@@ -1,0 +1,70 @@
+use Rattle.std.proofs.Common.{None, Err, length, refl, sym, subst, ◌≡◌, ◌+◌, ◌∙◌, ap, ℕ, false}
+use Rattle.std.specs.Vec.{with_items}
+use Rattle.base_core.specs.Represents.{Kept}
+use Rattle.filter_seat.proofs.SavedLaws.{lent_items}
+use Rattle.filter_seat.specs.SavedFilters.{without_last}
+use Rattle.shell_state.specs.Refusing.{index_is_full}
+use Rattle.shell_state.proofs.AddingLaws.{index_grows, add_fits, all_short, edit_device, filter_short, game_added, game_not_added, placed_there, index_last}
+use Rattle.shell_state.proofs.CarryLaws.{carry_appended, carry_of}
+use Rattle.shell_state.proofs.EditedLaws.{carry_err, err_not_failed, ok_not_failed, why_not_failed}
+use Rattle.shell_state.proofs.Quietly.{held_by}
+use Rattle.shell_state.proofs.machine.Machine.add.Goals as goal
+use Rattle.shell_state.specs.Stands.{Fits, Holding, Sound, Stands, depth_of}
+
+pub add_to_index-requires : goal.add_to_index-requires
+add_to_index-requires g c =
+    let sound = subst (λ (h : Holding). Sound h (g.F.Files.seen c.args.files.now)) (sym c.self.view_is) c.requires.sound in
+    let roomy : index_is_full (depth_of c.self.inside.index) (length c.self.inside.base.entries + 1) ≡ false =
+    subst (λ (h : Holding). index_is_full (depth_of h.index) (length h.kept.entries + 1) ≡ false) (sym c.self.view_is) (sym c.index_is_full.ensures.full ∙ c.if-index_is_full.false) in
+    record {
+      last = index_last c.self.inside.index (length c.self.inside.base.entries) c.in-Ok.number c.in-Ok.ensures.number sound.index;
+      room = ap (λ (n : ℕ). index_is_full (depth_of c.self.inside.index) (n + 1)) c.in-Ok.ensures.number ∙ roomy;
+      legal = c.requires.legal;
+    }
+
+pub push-requires : goal.push-requires
+push-requires g c =
+    let sound = subst (λ (h : Holding). Sound h (g.F.Files.seen c.args.files.now)) (sym c.self.view_is) c.requires.sound in
+    record { room = filter_short c.add-added.new.self c.self.inside.seat.filter (length c.self.inside.base.entries) c.keeps_sound.ensures.sound c.in-Ok.ensures.count sound.fits.filter }
+
+pub returns-in_err-push-in-Ok-clause-carries : goal.returns-in_err-push-in-Ok-clause-carries
+returns-in_err-push-in-Ok-clause-carries g c = λ s st. carry_appended c.args.self.now (g.F.Files.seen c.args.files.now) (g.F.Files.seen c.add-added.new.files) _ s None c.in-Ok.ensures.appended st
+
+pub returns-in_err-leave_out-in-Ok-clause-carries : goal.returns-in_err-leave_out-in-Ok-clause-carries
+returns-in_err-leave_out-in-Ok-clause-carries g c = λ s st. carry_appended c.args.self.now (g.F.Files.seen c.args.files.now) (g.F.Files.seen c.add-added.new.files) _ s None c.in-Ok.ensures.appended st
+
+pub returns-in_err-add_to_index-in-Ok-clause-carries : goal.returns-in_err-add_to_index-in-Ok-clause-carries
+returns-in_err-add_to_index-in-Ok-clause-carries g c = λ s st. carry_appended c.args.self.now (g.F.Files.seen c.args.files.now) (g.F.Files.seen c.add-added.new.files) _ s None c.in-Ok.ensures.appended st
+
+pub returns-in_ok-add_to_index-in-Ok-clause-carries : goal.returns-in_ok-add_to_index-in-Ok-clause-carries
+returns-in_ok-add_to_index-in-Ok-clause-carries g c = λ s st. carry_appended c.args.self.now (g.F.Files.seen c.args.files.now) (g.F.Files.seen c.add-added.new.files) _ s None c.in-Ok.ensures.appended st
+
+pub returns-after-refused-clause-carries : goal.returns-after-refused-clause-carries
+returns-after-refused-clause-carries g c = λ s st.
+    carry_err c.in-Err.error (Err c.in-Err.error) c.args.self.now (g.F.Files.seen c.args.files.now) (g.F.Files.seen c.add-added.new.files) s None refl c.in-Err.ensures.in_part c.in-Err.ensures.none_added st
+
+pub returns-in_ok-add_to_index-in-Ok-clause-adds : goal.returns-in_ok-add_to_index-in-Ok-clause-adds
+returns-in_ok-add_to_index-in-Ok-clause-adds g c = λ s st.
+    let st' = subst (λ (h : Holding). Stands h (g.F.Files.seen c.args.files.now) s) (sym c.self.view_is) st in
+    let sound = subst (λ (h : Holding). Sound h (g.F.Files.seen c.args.files.now)) (sym c.self.view_is) c.requires.sound in
+    let roomy : index_is_full (depth_of c.self.inside.index) (length c.self.inside.base.entries + 1) ≡ false =
+    subst (λ (h : Holding). index_is_full (depth_of h.index) (length h.kept.entries + 1) ≡ false) (sym c.self.view_is) (sym c.index_is_full.ensures.full ∙ c.if-index_is_full.false) in
+    game_added c.self.inside.base c.add-added.new.self c.self.inside.index c.add_to_index.new.index c.self.inside.seat.filter c.push.new.self c.self.inside.seat.saved.items (with_items c.self.inside.seat.saved c.leave_out.new.saved).items (g.F.Files.seen c.args.files.now) (g.F.Files.seen c.add-added.new.files) s c.args.head.now c.args.game.now c.in-Ok.number st' sound.at_end
+    c.in-Ok.ensures.added c.in-Ok.ensures.room c.in-Ok.ensures.appended c.in-Ok.ensures.unsaved c.add-added.ensures.names c.in_ok-push-in-Ok.ensures.added
+    (lent_items without_last c.self.inside.seat.saved c.as_mut_slice.result.now c.leave_out.new.saved c.as_mut_slice.ensures.value c.in_ok-leave_out-in-Ok.ensures.left_out)
+    roomy c.in_ok-add_to_index-in-Ok.ensures.added c.in-Ok.ensures.number
+
+pub returns-in_ok-add_to_index-in-Ok-clause-sound : goal.returns-in_ok-add_to_index-in-Ok-clause-sound
+returns-in_ok-add_to_index-in-Ok-clause-sound g c =
+    let sound = subst (λ (h : Holding). Sound h (g.F.Files.seen c.args.files.now)) (sym c.self.view_is) c.requires.sound in
+    record {
+      index = index_grows c.self.inside.index c.add_to_index.new.index (length c.self.inside.base.entries) (length c.add-added.new.self.entries) c.args.game.now
+          c.in_ok-add_to_index-in-Ok.ensures.added c.in-Ok.ensures.count sound.index;
+      fits = add_fits c.self.inside.base c.add-added.new.self c.self.inside.index c.self.inside.seat.filter c.push.new.self c.self.inside.seat.saved.items (with_items c.self.inside.seat.saved c.leave_out.new.saved).items c.in-Ok.ensures.count c.in_ok-push-in-Ok.ensures.added
+          (lent_items without_last c.self.inside.seat.saved c.as_mut_slice.result.now c.leave_out.new.saved c.as_mut_slice.ensures.value c.in_ok-leave_out-in-Ok.ensures.left_out) sound.fits;
+      base = c.keeps_sound.ensures.sound;
+      at_end = c.add-added.ensures.at_end (ok_not_failed _ _ c.in-Ok.is);
+    }
+
+pub returns-then-index_is_full-clause-carries : goal.returns-then-index_is_full-clause-carries
+returns-then-index_is_full-clause-carries g c = λ s st. carry_of c.args.self.now (g.F.Files.seen c.args.files.now) s None st
