@@ -1,13 +1,12 @@
 -- Laws of `eco`.
 use Rattle.std.proofs.Common.{◌≡◌, ◌+◌, ℕ, List, [], ◌∷◌, map, sum_by, refl, sym, ap, ◌∙◌, ◌<◌, length, take, ◌≤◌, ◌++◌, get_or, Option, Some, ap₂, None, ◌||◌, Bool, true, subst, false, option_map}
 use Rattle.std.proofs.lemmas.List.{map_more}
-use Rattle.std.proofs.lemmas.List.Sums.{sum_by-cons, sum_by_more, sum_by_more_le}
+use Rattle.std.proofs.lemmas.List.Sums.{sum_by_more, sum_by_more_le}
 use Rattle.std.proofs.lemmas.Option.{get_or_from_slice_get, slice_get_within}
 use Rattle.std.specs.List.{list_any}
 use Rattle.std.specs.Prelude.{slice_get, is_some}
 use Rattle.base_core.specs.Base.{Held, Base}
 use Rattle.base_core.specs.Edits.{changed_at, classified}
-use Rattle.base_core.specs.Entries.{extent_of}
 use Rattle.base_core.specs.Means.{HoldsNames}
 use Rattle.base_core.specs.Represents.{Kept, Represents}
 use Rattle.base_files.specs.Seen.{Seen}
@@ -15,36 +14,22 @@ use Rattle.base_files.specs.declared.extent.Extent.{Extent}
 use Rattle.base_files.specs.declared.faults.Stop.TheVariants as stop
 use Rattle.eco_class.specs.Table.{Opening, eco_of}
 use Rattle.game_tree.specs.Game.{GameTree}
-use Rattle.index_entry.specs.declared.entry.Entry.{Entry}
 use Rattle.name_base.specs.NameLists.{NameLists}
-use Rattle.pos_index.specs.Hits.{Index, rows_told}
+use Rattle.pos_index.specs.Hits.{Index}
 use Rattle.sig_index.specs.Games.{extent_in}
 use Rattle.filter_seat.specs.declared.saved.SavedFilter.{SavedFilter}
 use Rattle.report_commands.specs.Classifying.{with_code, classified_by, codes_of}
 use Rattle.report_commands.specs.Ends.{coded, AreCoded, IsCoded}
 use Rattle.shell_state.proofs.EditedLaws.{same_count, fits_count}
-use Rattle.shell_state.proofs.PriceLaws.{sum_looks}
 use Rattle.shell_state.proofs.Quietly.{held_by}
 use Rattle.shell_state.specs.Carrying.{AreBeside}
 use Rattle.shell_state.specs.Ends.{IsDevice, IsBodyFault}
-use Rattle.shell_state.specs.Stands.{Stands, Fits, looks_in, index_of}
+use Rattle.shell_state.specs.Stands.{Stands, Fits, index_of}
 use Rattle.shell_state.specs.State.{Carried, State}
-use Rattle.shell_state.specs.Work.{Look}
 use Rattle.shell_state.specs.declared.halt.Halt.{Halt}
 use Rattle.shell_state.specs.declared.halt.Halt.TheVariants as halt
 
 -- ---- what is asked
-
--- The places of the records have the lengths of the records.
-pub places_len : (entries : List Entry) → sum_by (λ (x : Extent). x.len) (map extent_of entries) ≡ sum_by (λ (e : Entry). e.len) entries
-places_len [] = refl
-places_len (e ∷ entries) =
-    sum_by-cons (λ (x : Extent). x.len) (extent_of e) (map extent_of entries) ∙ (ap (λ (n : ℕ). e.len + n) (places_len entries)
-    ∙ sym (sum_by-cons (λ (x : Entry). x.len) e entries))
-
--- What the command asks is what it costs.
-pub codes_price : (holding : Holding) → sum_by (λ (x : Extent). x.len) (map extent_of holding.kept.entries) ≡ sum_by (λ (x : Look). x.len) (looks_in holding)
-codes_price holding = places_len holding.kept.entries ∙ sum_looks holding.kept.names (rows_told holding.index) holding.kept.entries
 
 -- What is asked for one game more.
 pub asked_more : (places : List Extent) (i : ℕ) → i < length places

@@ -16,7 +16,6 @@ use Rattle.command_runs.specs.Counts.{counts}
 use Rattle.game_tree.specs.Game.{GameTree}
 use Rattle.game_tree.specs.declared.head.Head.{Head}
 use Rattle.index_entry.specs.declared.entry.Entry.{Entry}
-use Rattle.name_base.specs.NameLists.{NameLists}
 use Rattle.pos_index.specs.Hits.{Index, rows_told}
 use Rattle.sig_index.specs.Games.{extent_in, head_in, Holds}
 use Rattle.sig_index.specs.declared.signature.Sig.{Sig}

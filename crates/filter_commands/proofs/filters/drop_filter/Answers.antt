@@ -7,6 +7,6 @@ use Rattle.shell_state.specs.Work.{quiet}
 pub returns : goal.returns
 returns c = record {
   quiet = if_ok _ _ c.forget_line.result
-      (λ line is. drop_quiet c.args.machine.now _ _ _ _ c.args.name.now line.items (sym c.machine.view_is) c.forget_line.ensures.saved is c.forget_line.ensures.same_games c.requires.fits)
+      (λ line is. drop_quiet c.args.machine.now _ _ _ _ _ c.args.name.now line.items (sym c.machine.view_is) c.forget_line.ensures.saved is c.forget_line.ensures.same_games c.requires.fits)
       c.forget_line.ensures.line;
 }

@@ -7,11 +7,12 @@ use Rattle.base_core.specs.Entries.{sig_in}
 use Rattle.base_files.specs.Seen.{Seen}
 use Rattle.block_store.specs.Placing.{IsEnd}
 use Rattle.eco_class.specs.Table.{eco_of}
-use Rattle.report_commands.proofs.EcoLaws.{coded_fits, coded_stands, codes_price}
+use Rattle.report_commands.proofs.EcoLaws.{coded_fits, coded_stands}
 use Rattle.report_commands.proofs.classifying.classify_by.Goals as goal
 use Rattle.report_commands.specs.Classifying.{classified_by, classified_line, eco_work}
 use Rattle.report_commands.specs.Ends.{AreCoded, IsCode}
 use Rattle.shell_state.proofs.EditedLaws.{index_fits_count}
+use Rattle.shell_state.proofs.PriceLaws.{price_of_all}
 use Rattle.shell_state.proofs.Quietly.{held_by}
 use Rattle.shell_state.specs.Stands.{Holding, Sound, Stands, Asks}
 use Rattle.shell_state.specs.State.{games_of}
@@ -47,7 +48,7 @@ returns-clause-stands g c = λ s st.
     let filter = c.machine.inside.seat.filter in
     let saved = c.machine.inside.seat.saved.items in
     let coded = subst (λ (codes : List (Option ℕ)). AreCoded codes base new) (c.as_slice-codes.ensures.value) c.set_codes.ensures.coded in
-    let here = coded_stands c.args.table.now c.in-Ok.found.items base new filter saved seen s found coded st' in
+    let here = coded_stands c.args.table.now c.in-Ok.found.items base new c.machine.inside.index filter saved seen s found coded st' in
     subst (λ (x : Seen). Stands (held_by new c.machine.inside.index filter saved) x (classified_by s c.args.table.now)) (sym c.find_codes.ensures.unchanged) here
 
 pub returns-clause-sound : goal.returns-clause-sound
@@ -68,17 +69,17 @@ returns-clause-sound g c =
 pub returns-clause-asks : goal.returns-clause-asks
 returns-clause-asks g c =
     let P : Holding → Type 0 = λ h. Asks h (eco_work []) (g.F.Files.asked c.args.files.now) (g.F.Files.asked c.find_codes.new.files) in
-    subst P c.machine.view_is (omega (arith, c.find_codes.ensures.asks, codes_price (held_by c.machine.inside.base c.machine.inside.index c.machine.inside.seat.filter c.machine.inside.seat.saved.items)))
+    subst P c.machine.view_is (omega (arith, c.find_codes.ensures.asks, price_of_all (held_by c.machine.inside.base c.machine.inside.index c.machine.inside.seat.filter c.machine.inside.seat.saved.items)))
 
 pub returns-in-Err-clause-asks : goal.returns-in-Err-clause-asks
 returns-in-Err-clause-asks g c =
     let P : Holding → Type 0 = λ h. Asks h (eco_work []) (g.F.Files.asked c.args.files.now) (g.F.Files.asked c.find_codes.new.files) in
-    subst P c.machine.view_is (omega (arith, c.find_codes.ensures.asks, codes_price (held_by c.machine.inside.base c.machine.inside.index c.machine.inside.seat.filter c.machine.inside.seat.saved.items)))
+    subst P c.machine.view_is (omega (arith, c.find_codes.ensures.asks, price_of_all (held_by c.machine.inside.base c.machine.inside.index c.machine.inside.seat.filter c.machine.inside.seat.saved.items)))
 
 pub returns-in_err-line-clause-asks : goal.returns-in_err-line-clause-asks
 returns-in_err-line-clause-asks g c =
     let P : Holding → Type 0 = λ h. Asks h (eco_work []) (g.F.Files.asked c.args.files.now) (g.F.Files.asked c.find_codes.new.files) in
-    subst P c.machine.view_is (omega (arith, c.find_codes.ensures.asks, codes_price (held_by c.machine.inside.base c.machine.inside.index c.machine.inside.seat.filter c.machine.inside.seat.saved.items)))
+    subst P c.machine.view_is (omega (arith, c.find_codes.ensures.asks, price_of_all (held_by c.machine.inside.base c.machine.inside.index c.machine.inside.seat.filter c.machine.inside.seat.saved.items)))
 
 pub returns-in-Err-clause-devices : goal.returns-in-Err-clause-devices
 returns-in-Err-clause-devices g c = λ s st.

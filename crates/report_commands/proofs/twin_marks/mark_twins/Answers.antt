@@ -42,7 +42,7 @@ returns-clause-stands g c = λ s st.
     let filter = c.machine.inside.seat.filter in
     let saved = c.machine.inside.seat.saved.items in
     let marked = subst (λ (games : List ℕ). Marked games base new) c.as_slice.ensures.value c.delete_all.ensures.marked in
-    let here = deleted_stands c.in-Ok.found.items base new filter saved seen s marked st' in
+    let here = deleted_stands c.in-Ok.found.items base new c.machine.inside.index filter saved seen s marked st' in
     subst (λ (x : Seen). Stands (held_by new c.machine.inside.index filter saved) x (with_deleted s (found_twins s c.args.depth))) (sym c.find_twins.ensures.unchanged)
     (subst (λ (games : List ℕ). Stands (held_by new c.machine.inside.index filter saved) seen (with_deleted s games)) (found_are base st'.games s c.in-Ok.found.items c.args.depth st'.base found) here)
 
