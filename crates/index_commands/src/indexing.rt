@@ -1,15 +1,16 @@
 //! `index D` and `index off`.
-ghost use Rattle.std.specs.Prelude.{◌≡◌, ◌≤◌, ◌+◌, ℕ, List, Ok, Some, length, map, IfOk, IfErr, OnOk};
+ghost use Rattle.std.specs.Prelude.{◌≡◌, ◌≤◌, ◌+◌, ℕ, List, Ok, None, Some, length, map, IfOk, IfErr, IfSome, OnOk};
+ghost use Rattle.base_files.specs.Seen.{Seen};
 ghost use Rattle.command_runs.specs.Counts.{Causes, counts};
 ghost use Rattle.command_runs.specs.Endings.{Serves};
 ghost use Rattle.game_tree.specs.Game.{GameTree};
 ghost use Rattle.pos_index.specs.Asking.{price};
-ghost use Rattle.pos_index.specs.Hits.{Fits as HasRoom, Indexes};
+ghost use Rattle.pos_index.specs.Hits.{Fits, Indexes};
 ghost use Rattle.sig_index.specs.Games.{AreWithin, Holds};
 ghost use Rattle.index_commands.specs.Ends.{halt_of_build};
-ghost use Rattle.index_commands.specs.Indexing.{drop_index_work, index_after, index_line, index_text, index_work};
+ghost use Rattle.index_commands.specs.Indexing.{index_after, index_line, index_text, index_work};
 ghost use Rattle.shell_state.specs.Ends.{IsDevice};
-ghost use Rattle.shell_state.specs.Stands.{Asks, Broken, Fits, Quiet, Sound, Stands, WhyHalt};
+ghost use Rattle.shell_state.specs.Stands.{Asks, Broken, Sound, Stands, WhyHalt};
 ghost use Rattle.shell_state.specs.State.{State};
 ghost use Rattle.shell_state.specs.Work.{works};
 
@@ -19,8 +20,30 @@ use shell_state::{Halt, Machine, error_line, write_line};
 use sig_index::Games;
 use std::alloc::{AllocError, Global};
 
-/// index D, D at most 40. An index that is there is dropped when the new one stands.
+/// index D, D at most 40, or index off. An index that is there is dropped when the new one stands.
 pub fn index<F: Files, K: Sink>(
+    alloc: Global,
+    machine: &mut Machine,
+    files: &mut F,
+    out: &mut K,
+    depth: Option<u8>,
+) -> Result<(), Halt>
+    requires depth { IfSome depth (λ plies. plies ≤ 40) }
+    requires sound { Sound machine.old (F.seen files.old) }
+    ensures serves { (s : State) → Stands machine.old (F.seen files.old) s → Serves works (Stands machine.new (F.seen files.new)) Broken s (index_work depth) (K.taken out.old) (K.taken out.new) result }
+    ensures sound { OnOk result (Sound machine.new (F.seen files.new)) }
+    ensures unchanged { F.seen files.new ≡ F.seen files.old }
+    ensures asks { Asks machine.old (index_work depth) (F.asked files.old) (F.asked files.new) }
+    ensures causes { Causes WhyHalt result (counts (F.faults files.old) 0 (K.faults out.old)) (counts (F.faults files.new) 0 (K.faults out.new)) }
+{
+    match depth {
+        Some(depth) => index_to(alloc, machine, files, out, depth),
+        None => drop_index(machine, out),
+    }
+}
+
+// Builds the index to this depth, and writes the line for it.
+fn index_to<F: Files, K: Sink>(
     alloc: Global,
     machine: &mut Machine,
     files: &mut F,
@@ -29,10 +52,10 @@ pub fn index<F: Files, K: Sink>(
 ) -> Result<(), Halt>
     requires depth { depth ≤ 40 }
     requires sound { Sound machine.old (F.seen files.old) }
-    ensures serves { (s : State) → Stands machine.old (F.seen files.old) s → Serves works (Stands machine.new (F.seen files.new)) Broken s (index_work depth) (K.taken out.old) (K.taken out.new) result }
+    ensures serves { (s : State) → Stands machine.old (F.seen files.old) s → Serves works (Stands machine.new (F.seen files.new)) Broken s (index_work (Some depth)) (K.taken out.old) (K.taken out.new) result }
     ensures sound { OnOk result (Sound machine.new (F.seen files.new)) }
     ensures unchanged { F.seen files.new ≡ F.seen files.old }
-    ensures asks { Asks machine.old (index_work depth) (F.asked files.old) (F.asked files.new) }
+    ensures asks { Asks machine.old (index_work (Some depth)) (F.asked files.old) (F.asked files.new) }
     ensures causes { Causes WhyHalt result (counts (F.faults files.old) 0 (K.faults out.old)) (counts (F.faults files.new) 0 (K.faults out.new)) }
 {
     match build(alloc, machine, files, depth) {
@@ -41,13 +64,14 @@ pub fn index<F: Files, K: Sink>(
     }
 }
 
-/// index off
-pub fn drop_index(alloc: Global, machine: &mut Machine) -> Result<Vec<u8>, AllocError>
-    requires fits { Fits machine.old }
-    ensures quiet { IfOk result (λ line. Quiet machine.old drop_index_work machine.new line.items) }
+// Drops the index, if there is one, and says so.
+fn drop_index<K: Sink>(machine: &mut Machine, out: &mut K) -> Result<(), Halt>
+    ensures serves { (seen : Seen) (s : State) → Stands machine.old seen s → Serves works (Stands machine.new seen) Broken s (index_work None) (K.taken out.old) (K.taken out.new) result }
+    ensures sound { (seen : Seen) → Sound machine.old seen → OnOk result (Sound machine.new seen) }
+    ensures causes { Causes WhyHalt result (counts 0 0 (K.faults out.old)) (counts 0 0 (K.faults out.new)) }
 {
     machine.index = None;
-    Vec::from_slice(alloc, b"index off\n")
+    write_line(out, b"index off\n")
 }
 
 // Builds the index, which then takes the place of the old one, and gives the line for it.
@@ -59,12 +83,12 @@ fn build<F: Files>(
 ) -> Result<Vec<u8>, Halt>
     requires depth { depth ≤ 40 }
     requires sound { Sound machine.old (F.seen files.old) }
-    ensures line { (s : State) → Stands machine.old (F.seen files.old) s → IfOk result (λ line. line.items ≡ index_text s depth) }
-    ensures stands { (s : State) → Stands machine.old (F.seen files.old) s → OnOk result (Stands machine.new (F.seen files.new) (index_after s depth)) }
+    ensures line { (s : State) → Stands machine.old (F.seen files.old) s → IfOk result (λ line. line.items ≡ index_text s (Some depth)) }
+    ensures stands { (s : State) → Stands machine.old (F.seen files.old) s → OnOk result (Stands machine.new (F.seen files.new) (index_after s (Some depth))) }
     ensures devices { (s : State) → Stands machine.old (F.seen files.old) s → IfErr result IsDevice }
     ensures sound { OnOk result (Sound machine.new (F.seen files.new)) }
     ensures unchanged { F.seen files.new ≡ F.seen files.old }
-    ensures asks { Asks machine.old (index_work depth) (F.asked files.old) (F.asked files.new) }
+    ensures asks { Asks machine.old (index_work (Some depth)) (F.asked files.old) (F.asked files.new) }
     ensures causes { Causes WhyHalt result (counts (F.faults files.old) 0 0) (counts (F.faults files.new) 0 0) }
 {
     if !PosIndex::fits(depth, machine.games()) {
@@ -75,7 +99,7 @@ fn build<F: Files>(
         Ok(index) => index,
         Err(halt) => return Err(halt),
     };
-    let line = index_line(alloc, u32::from(depth), index.entries())?;
+    let line = index_line(alloc, u64::from(depth), index.entries())?;
     machine.index = Some(index);
     Ok(line)
 }
@@ -89,7 +113,7 @@ fn read_index<G: Games, F: Files>(
     block: &mut [u8],
 ) -> Result<PosIndex, Halt>
     requires depth { depth ≤ 40 }
-    requires fits { HasRoom depth (length (G.sigs games.now)) }
+    requires fits { Fits depth (length (G.sigs games.now)) }
     requires room { length block.old ≡ 131072 }
     requires within { AreWithin (F.seen files.old).known (G.extents games.now) }
     ensures depth { IfOk result (λ index. index.depth ≡ depth) }
@@ -118,7 +142,7 @@ fn halt_of(error: BuildError) -> Halt
 }
 
 // `index D E entries`.
-fn index_line(alloc: Global, depth: u32, entries: u64) -> Result<Vec<u8>, AllocError>
+fn index_line(alloc: Global, depth: u64, entries: u64) -> Result<Vec<u8>, AllocError>
     ensures { IfOk result (λ line. line.items ≡ index_line depth entries) }
 {
     let line = format!(in alloc; "index {depth} {entries} entries\n")?;

@@ -3,4 +3,4 @@
 
 mod indexing;
 
-pub use indexing::{drop_index, index};
+pub use indexing::index;
