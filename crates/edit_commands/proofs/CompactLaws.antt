@@ -36,7 +36,7 @@ use Rattle.shell_state.proofs.Quietly.{held_by}
 use Rattle.shell_state.specs.Carrying.{Contents, AreBeside, Beside, StillCarry, MayCarry}
 use Rattle.shell_state.specs.Ends.{IsDevice, EndsAs}
 use Rattle.shell_state.specs.Refusing.{refusal_line}
-use Rattle.shell_state.specs.Stands.{Stands, Holding, Fits, looks_in}
+use Rattle.shell_state.specs.Stands.{Stands, Holding, Fits, looks_in, index_of, look_at, looks_at_all}
 use Rattle.shell_state.specs.State.{Carried, State}
 use Rattle.shell_state.specs.Work.{Look}
 use Rattle.shell_state.specs.declared.halt.Halt.{Halt}

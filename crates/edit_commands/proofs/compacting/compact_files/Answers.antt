@@ -112,7 +112,7 @@ returns-in_ok-compacted_line-in-Ok-clause-stands g c = λ s st.
     let to = (numbering c.machine.inside.base.entries).to in
     let index : c.renumber_index.new.index ≡ option_map (renumbered_index to) c.machine.inside.index =
     c.renumber_index.ensures.renumbered ∙ ap (λ (r : Numbering). option_map (renumbered_index r.to) c.machine.inside.index) numbers in
-    subst (λ (i : Option Index). Stands (held_by c.compact-compacted.new.base c.machine.inside.index i c.renumber_all.new.filter (with_items c.machine.inside.seat.saved c.renumber_all.new.saved).items) seen' (compact_after s)) (sym index)
+    subst (λ (i : Option Index). Stands (held_by c.compact-compacted.new.base i c.renumber_all.new.filter (with_items c.machine.inside.seat.saved c.renumber_all.new.saved).items) seen' (compact_after s)) (sym index)
     (subst (λ (p : List (Option ℕ)). Stands (held_by c.compact-compacted.new.base (option_map (renumbered_index to) c.machine.inside.index) p (with_items c.machine.inside.seat.saved c.renumber_all.new.saved).items) seen' (compact_after s)) (sym filter)
     (subst (λ (l : List SavedFilter). Stands (held_by c.compact-compacted.new.base (option_map (renumbered_index to) c.machine.inside.index) (renumbered to c.machine.inside.seat.filter) l) seen' (compact_after s)) (sym moved) done))
 
