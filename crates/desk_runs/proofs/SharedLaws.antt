@@ -1,5 +1,5 @@
 -- What a command makes of what is shared, whoever says it.
-use Rattle.std.proofs.Common.{◌≡◌, ℕ, zero, suc, ◌+◌, Bool, true, false, cond, List, [], ◌∷◌, Option, Some, None, Result, Ok, Err, slice_get, refl, ap, subst, ◌∙◌}
+use Rattle.std.proofs.Common.{◌≡◌, ℕ, zero, suc, ◌+◌, Bool, true, false, cond, List, [], ◌∷◌, Option, Some, None, Result, Ok, Err, slice_get, refl, ap, subst, ◌∙◌, length}
 use Rattle.base_core.specs.Base.{Base, Held}
 use Rattle.base_core.specs.Edits.{added}
 use Rattle.command_runs.specs.Plain.{after_all}
@@ -27,8 +27,8 @@ use Rattle.script_text.specs.declared.command.Command.{Command}
 use Rattle.script_text.specs.declared.command.Command.TheVariants.{Nothing, Find, SearchPosition, SearchMaterial, SearchHeader, Reset, Clear, Negate, Restrict, Keep, Take, And, Or, Drop, Hits, List as Listing, Show, Export, Import, Replace, Eco, Tag, Delete, Undelete, Mark, Tree, Cross, Twins, Index, Save, Info, Demo, Quit, Compact}
 use Rattle.script_text.specs.declared.fault.ScriptFault.{ScriptFault}
 use Rattle.shell_commands.specs.Tasks.{order_work}
-use Rattle.shell_state.specs.Refusing.{not_added, refusal_of}
-use Rattle.shell_state.specs.State.{Shared, State}
+use Rattle.shell_state.specs.Refusing.{not_added, refusal_of, index_is_full}
+use Rattle.shell_state.specs.State.{Shared, State, with_index}
 use Rattle.shell_state.specs.declared.refusing.Refusal.{Refusal}
 use Rattle.desk_runs.specs.Desk.{is_private, order_kind}
 
@@ -173,6 +173,11 @@ same-compacted : (h : Shared) (a b : Seat) (within : Bool)
 same-compacted h a b true = refl
 same-compacted h a b false = refl
 
+same-indexed : (h : Shared) (a b : Seat) (big : Bool) (depth : ℕ)
+    → (cond big (state_of h a) (with_index (state_of h a) (Some depth))).shared ≡ (cond big (state_of h b) (with_index (state_of h b) (Some depth))).shared
+same-indexed h a b true depth = refl
+same-indexed h a b false depth = refl
+
 -- ---- all commands
 
 pub same-shared : (order : Result Command ScriptFault) (body : List ℕ) (h : Shared) (a b : Seat)
@@ -209,6 +214,8 @@ same-shared (Ok (Mark game bit on)) body h a b = same-there (marked game bit on)
 same-shared (Ok (Tree board side)) body h a b = refl
 same-shared (Ok (Cross event)) body h a b = refl
 same-shared (Ok (Twins depth)) body h a b = same-deleted h a b (found_twins (state_of h a) depth)
+same-shared (Ok (Index (Some depth))) body h a b = same-indexed h a b (index_is_full (Some depth) (length h.base.games)) depth
+same-shared (Ok (Index None)) body h a b = refl
 same-shared (Ok Save) body h a b = refl
 same-shared (Ok Info) body h a b = refl
 same-shared (Ok (Demo seed games)) body h a b =

@@ -20,7 +20,7 @@ index_after s None = with_index s None
 
 -- `index D E entries`: the depth, and how many hits there are on all boards.
 abbrev pub index_line : ℕ → ℕ → List ℕ
-index_line depth entries = codes "index " ++ decimal depth ++ codes " " ++ decimal entries ++ codes " entries\n"
+index_line depth entries = codes "index " ++ decimal depth ++ (codes " " ++ decimal entries ++ codes " entries\n")
 
 abbrev pub too_big_line : List ℕ
 too_big_line = error_line (codes "index too big")

@@ -145,6 +145,7 @@ fn halt_of(error: BuildError) -> Halt
 fn index_line(alloc: Global, depth: u64, entries: u64) -> Result<Vec<u8>, AllocError>
     ensures { IfOk result (λ line. line.items ≡ index_line depth entries) }
 {
-    let line = format!(in alloc; "index {depth} {entries} entries\n")?;
+    let mut line = format!(in alloc; "index {depth}")?;
+    write!(line, " {entries} entries\n")?;
     Ok(line.into_bytes())
 }

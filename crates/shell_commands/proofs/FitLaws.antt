@@ -36,10 +36,11 @@ use Rattle.report_commands.specs.Classifying.{state_by}
 use Rattle.report_commands.specs.Twins.{all_deleted, found_twins, with_deleted}
 use Rattle.script_text.specs.Tasks.{Task}
 use Rattle.script_text.specs.declared.command.Command.{Command}
-use Rattle.script_text.specs.declared.command.Command.TheVariants.{Nothing, Find, SearchPosition, SearchMaterial, SearchHeader, Reset, Clear, Negate, Restrict, Keep, Take, And, Or, Drop, Hits, List as Listing, Show, Export, Import, Replace, Eco, Tag, Delete, Undelete, Mark, Tree, Cross, Twins, Save, Info, Demo, Quit, Compact}
+use Rattle.script_text.specs.declared.command.Command.TheVariants.{Nothing, Find, SearchPosition, SearchMaterial, SearchHeader, Reset, Clear, Negate, Restrict, Keep, Take, And, Or, Drop, Hits, List as Listing, Show, Export, Import, Replace, Eco, Tag, Delete, Undelete, Mark, Tree, Cross, Twins, Index, Save, Info, Demo, Quit, Compact}
 use Rattle.shell_commands.specs.Tasks.{Order, command_work, order_work, tasks}
+use Rattle.index_commands.specs.Indexing.{is_too_big}
 use Rattle.shell_state.specs.Refusing.{not_added, refusal_of}
-use Rattle.shell_state.specs.State.{HasFilters, Shared, State, begin, with_filter, with_game}
+use Rattle.shell_state.specs.State.{HasFilters, Shared, State, begin, with_filter, with_game, with_index}
 use Rattle.shell_state.specs.declared.refusing.Refusal.{Refusal}
 
 -- ---- one part changes
@@ -141,7 +142,7 @@ item_by (Some why) i head game has = has
 item_by None i head game has = one_has i.state head game has
 
 item_has : (i : Intake) (item : Item) → HasFilters i.state → HasFilters (item_after i item).state
-item_has i (Good head game) has = item_by (not_added i.state.shared.base head game) i head game has
+item_has i (Good head game) has = item_by (not_added i.state.shared head game) i head game has
 item_has i (Bad fault) has = has
 
 items_have : (i : Intake) (items : List Item) → HasFilters i.state → HasFilters (after_all intake i items).state
@@ -154,7 +155,7 @@ made_by None a made has = one_has a.state made.head made.game has
 
 one_by : (why : Option Refusal) (a : Adding) (made : Made) → HasFilters a.state → HasFilters (unless_ended why a made).state
 one_by (Some why) a made has = has
-one_by None a made has = made_by (not_added a.state.shared.base made.head made.game) a made has
+one_by None a made has = made_by (not_added a.state.shared made.head made.game) a made has
 
 adding_has : (s : State) (seed games : ℕ) → HasFilters s → HasFilters (adding s seed games).state
 adding_has s seed zero has = has
@@ -185,6 +186,12 @@ compacted_has false s has = has
 compacted_has true s has =
     let kept = all_renumbered (numbers_of s.shared.base) s.seat.saved (length s.shared.base.games) (length (compacted s.shared.base).games) (length_moved s.shared.base) (kept_of s has) in
     record { fit = record { filter = length_moved s.shared.base s.seat.filter has.fit.filter; saved = kept.0 }; few = kept.1 }
+
+-- ---- an index
+
+indexed_has : (big : Bool) (s : State) (depth : ℕ) → HasFilters s → HasFilters (if big then s else with_index s (Some depth))
+indexed_has true s depth has = has
+indexed_has false s depth has = record { fit = record { filter = has.fit.filter; saved = has.fit.saved }; few = has.few }
 
 -- ---- each command
 
@@ -220,6 +227,8 @@ command_has s (Mark game bit on) body has = edited_has (marked game bit on) s (s
 command_has s (Tree board side) body has = has
 command_has s (Cross event) body has = has
 command_has s (Twins depth) body has = twins_has s (found_twins s depth) has
+command_has s (Index (Some depth)) body has = indexed_has (is_too_big s depth) s depth has
+command_has s (Index None) body has = record { fit = record { filter = has.fit.filter; saved = has.fit.saved }; few = has.few }
 command_has s Save body has = reshared s _ refl has
 command_has s Info body has = has
 command_has s (Demo seed games) body has = shown_has (adding s seed games).refused (adding s seed games).state (adding_has s seed games has)

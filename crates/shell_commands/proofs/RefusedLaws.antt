@@ -19,7 +19,7 @@ use Rattle.pgn_read.specs.declared.item.Item.{Item}
 use Rattle.pgn_read.specs.declared.item.Item.TheVariants.{Bad, Good}
 use Rattle.script_text.specs.Tasks.{Task}
 use Rattle.script_text.specs.declared.command.Command.{Command}
-use Rattle.script_text.specs.declared.command.Command.TheVariants.{Nothing, Find, SearchPosition, SearchMaterial, SearchHeader, Reset, Clear, Negate, Restrict, Keep, Take, And, Or, Drop, Hits, List as Listing, Show, Export, Import, Replace, Eco, Tag, Delete, Undelete, Mark, Tree, Cross, Twins, Save, Info, Demo, Quit, Compact}
+use Rattle.script_text.specs.declared.command.Command.TheVariants.{Nothing, Find, SearchPosition, SearchMaterial, SearchHeader, Reset, Clear, Negate, Restrict, Keep, Take, And, Or, Drop, Hits, List as Listing, Show, Export, Import, Replace, Eco, Tag, Delete, Undelete, Mark, Tree, Cross, Twins, Index, Save, Info, Demo, Quit, Compact}
 use Rattle.edit_commands.specs.Compacting.{compacted_line, compacted_state, is_within}
 use Rattle.edit_commands.specs.Editing.{edited_there, line_there, tag_line_there, tagged_there, unless_refused}
 use Rattle.filter_seat.specs.SavedFilters.{dropped_at, dropped_in, has_room, is_kept, joined_with, kept_at, place_of, plies_at, saved_as, taken}
@@ -32,9 +32,12 @@ use Rattle.game_filter.proofs.Searches.{length-searched}
 use Rattle.game_filter.specs.Filter.{intersection, union}
 use Rattle.game_filter.specs.declared.op.Op.TheVariants.{Ignore}
 use Rattle.search_commands.specs.Searching.{find_after}
+use Rattle.index_commands.specs.Indexing.{index_line, is_too_big, too_big_line}
+use Rattle.pos_index.specs.Hits.{entries_of}
+use Rattle.shell_state.specs.Stands.{index_of}
 use Rattle.shell_state.specs.Lines.{game_line, filter_line, full_filters_line, hit_lines, hits_text, name_line, no_filter_line}
 use Rattle.shell_state.specs.Refusing.{not_added, refusal_line, refusal_of}
-use Rattle.shell_state.specs.State.{State, with_filter, with_seat}
+use Rattle.shell_state.specs.State.{State, with_filter, with_seat, games_of, with_index}
 use Rattle.shell_state.specs.declared.refusing.Refusal.{Refusal}
 use Rattle.shell_state.specs.declared.refusing.Refusal.TheVariants.{Full}
 use Rattle.base_core.specs.Edits.{tagged}
@@ -123,6 +126,11 @@ tagged_so : (game : ℕ) (edit : TagEdit) (s : State) (held : Option Held) → I
 tagged_so game edit s (Some held) is = tagged_by (refusal_of s.shared.base (edited held.head edit) held.game) game s (tagged game edit s.shared.base) is
 tagged_so game edit s None is = refl
 
+indexed_so : (big : Bool) (s : State) (depth : ℕ)
+    → IsError (if big then too_big_line else index_line depth (entries_of (index_of (games_of s) depth).rows)) → (if big then s else with_index s (Some depth)) ≡ s
+indexed_so true s depth is = refl
+indexed_so false s depth is = absurd (not_error 105 _ refl is)
+
 compacted_so : (within : Bool) (s : State) → IsError (if within then compacted_line (length s.shared.base.games) (length (compacted s.shared.base).games) else refusal_line (Full File)) → (if within then compacted_state s else s) ≡ s
 compacted_so true s is = absurd (not_error 99 _ refl is)
 compacted_so false s is = refl
@@ -165,6 +173,8 @@ command_refused s (Mark game bit on) body few is imports makes = edited_so 109 (
 command_refused s (Tree board side) body few is imports makes = refl
 command_refused s (Cross event) body few is imports makes = refl
 command_refused s (Twins depth) body few is imports makes = absurd (not_error 116 _ refl is)
+command_refused s (Index (Some depth)) body few is imports makes = indexed_so (is_too_big s depth) s depth is
+command_refused s (Index None) body few is imports makes = absurd (not_error 105 _ refl is)
 command_refused s Save body few is imports makes = absurd (not_error 115 _ refl is)
 command_refused s Info body few is imports makes = refl
 command_refused s (Demo seed games) body few is imports makes = absurd (makes seed games refl)

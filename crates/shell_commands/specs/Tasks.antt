@@ -4,12 +4,13 @@ use Rattle.base_core.specs.Base.{Base}
 use Rattle.command_runs.specs.Plain.{Plain}
 use Rattle.script_text.specs.Tasks.{Task}
 use Rattle.script_text.specs.declared.command.Command.{Command}
-use Rattle.script_text.specs.declared.command.Command.TheVariants.{Nothing, Find, SearchPosition, SearchMaterial, SearchHeader, Reset, Clear, Negate, Restrict, Keep, Take, And, Or, Drop, Hits, List as Listing, Show, Export, Import, Replace, Eco, Tag, Delete, Undelete, Mark, Tree, Cross, Twins, Save, Info, Demo, Quit, Compact}
+use Rattle.script_text.specs.declared.command.Command.TheVariants.{Nothing, Find, SearchPosition, SearchMaterial, SearchHeader, Reset, Clear, Negate, Restrict, Keep, Take, And, Or, Drop, Hits, List as Listing, Show, Export, Import, Replace, Eco, Tag, Delete, Undelete, Mark, Tree, Cross, Twins, Index, Save, Info, Demo, Quit, Compact}
 use Rattle.script_text.specs.declared.fault.ScriptFault.{ScriptFault}
 use Rattle.edit_commands.specs.Compacting.{compact_work}
 use Rattle.edit_commands.specs.Editing.{delete_work, mark_work, tag_work, undelete_work}
 use Rattle.edit_commands.specs.Saving.{save_work}
 use Rattle.filter_commands.specs.Filters.{and_work, clear_work, drop_work, keep_work, negate_work, or_work, reset_work, restrict_work, use_work}
+use Rattle.index_commands.specs.Indexing.{index_work}
 use Rattle.intake_commands.specs.Demo.{demo_work}
 use Rattle.intake_commands.specs.Importing.{import_work, replace_work}
 use Rattle.report_commands.specs.Classifying.{eco_work}
@@ -60,6 +61,7 @@ command_work (Mark game bit on) body = mark_work game bit on
 command_work (Tree board side) body = tree_work board side
 command_work (Cross event) body = cross_work event
 command_work (Twins depth) body = twins_work depth
+command_work (Index depth) body = index_work depth
 command_work Save body = save_work
 command_work Info body = info_work
 command_work (Demo seed games) body = demo_work seed games

@@ -17,6 +17,7 @@ use crate::saying::say;
 use base_files::{Files, Sink, Source};
 use edit_commands::{compact, delete, mark, save, tag, undelete};
 use filter_commands::{and, clear, drop_filter, keep_filter, negate, or, reset, restrict, take};
+use index_commands::index;
 use intake_commands::{demo, import, replace};
 use report_commands::{cross, eco, twins};
 use script_text::{Command, ScriptFault};
@@ -125,6 +126,7 @@ fn serve_command<F: Files, B: Source, K: Sink>(
         Command::Tree(board, side) => tree(alloc, machine, files, out, board, *side),
         Command::Cross(event) => say(out, cross(alloc, machine, event)),
         Command::Twins(depth) => twins(alloc, machine, files, out, *depth),
+        Command::Index(depth) => index(alloc, machine, files, out, *depth),
         Command::Save => save(alloc, machine, files, out),
         Command::Info => say(out, info(alloc, machine)),
         Command::Demo(seed, games) => demo(alloc, machine, files, out, *seed, *games),

@@ -39,7 +39,8 @@ returns-clause-line g c = λ s st.
     let st' = subst (λ (h : Holding). Stands h (g.F.Files.seen c.args.files.now) s) (sym c.machine.view_is) st in
     let fits : Fits c.args.depth c.games.result = search rules in
     let is = built c.in-Ok.index (games_of s) c.args.depth c.in-Ok.ensures.depth (c.in-Ok.ensures.indexed st'.games (games_of s) st'.told (holds c.machine.inside.base st'.games s.shared.base st'.base)) in
-    c.in_ok-line.ensures ∙ ap (λ (entries : ℕ). index_line c.args.depth entries) (c.entries.ensures.entries ∙ ap (λ (x : Index). entries_of x.rows) is)
+    c.in_ok-line.ensures ∙ ap (λ (plies : ℕ). index_line plies c.entries.result) c.from.ensures
+    ∙ ap (λ (entries : ℕ). index_line c.args.depth entries) (c.entries.ensures.entries ∙ ap (λ (x : Index). entries_of x.rows) is)
     ∙ text_built s c.args.depth (has_room s c.args.depth c.games.result (c.games.ensures.games ∙ st.base.count) fits)
 
 pub returns-clause-stands : goal.returns-clause-stands

@@ -145,6 +145,13 @@ pub returns-in-Export-clause-carries : goal.returns-in-Export-clause-carries
 returns-in-Export-clause-carries g c = λ s st.
     if_err c.export.result _ (carry_same c.args.machine.now (g.F.Files.seen c.args.files.now) (g.F.Files.seen c.export.new.files) s _ c.export.ensures.unchanged st)
 
+pub returns-in-Index-clause-serves : goal.returns-in-Index-clause-serves
+returns-in-Index-clause-serves g c = λ s text st told. rw c.in-Index.is (c.index.ensures.serves s st)
+
+pub returns-in-Index-clause-carries : goal.returns-in-Index-clause-carries
+returns-in-Index-clause-carries g c = λ s st.
+    if_err c.index.result _ (carry_same c.args.machine.now (g.F.Files.seen c.args.files.now) (g.F.Files.seen c.index.new.files) s _ c.index.ensures.unchanged st)
+
 pub returns-in-Tree-clause-carries : goal.returns-in-Tree-clause-carries
 returns-in-Tree-clause-carries g c = λ s st.
     if_err c.tree.result _ (carry_same c.args.machine.now (g.F.Files.seen c.args.files.now) (g.F.Files.seen c.tree.new.files) s _ c.tree.ensures.unchanged st)
