@@ -4,7 +4,7 @@ ghost use Rattle.std.specs.Result.{result_err};
 ghost use Rattle.base_files.specs.Seen.{Seen};
 ghost use Rattle.base_files.specs.Told.{before};
 ghost use Rattle.command_runs.specs.Counts.{Causes, counts};
-ghost use Rattle.command_runs.specs.Endings.{Done, Serves};
+ghost use Rattle.command_runs.specs.Endings.{Done, NoneLost, Serves};
 ghost use Rattle.command_runs.specs.Plain.{after_all, run};
 ghost use Rattle.script_lines.specs.Reading.{piece_len};
 ghost use Rattle.script_lines.specs.Standing.{Standing, left_of};
@@ -45,6 +45,7 @@ pub(crate) fn run_script<F: Files, S: Source, K: Sink>(
     ensures asks { (s : State) (script : List ℕ) → Stands machine.old (F.seen files.old) s → S.left input.old ≡ Some script → F.asked files.new ≤ F.asked files.old + price_all s (script_of script) }
     // Where nothing of the input was taken, no file is changed, whatever it tells.
     ensures untaken { S.budget input.new ≡ S.budget input.old → F.seen files.new ≡ F.seen files.old }
+    ensures none_lost { NoneLost (K.taken out.old) (K.taken out.new) }
     ensures kept { Kept true machine.new (F.seen files.old) (F.seen files.new) (counts (F.faults files.old) (S.faults input.old) (K.faults out.old)) (counts (F.faults files.new) (S.faults input.new) (K.faults out.new)) (S.budget input.old) (S.budget input.new) (result_err result) }
 {
     let Ok(mut reader) = LineReader::new(alloc) else {
@@ -85,6 +86,7 @@ fn run_task<F: Files, S: Source, K: Sink>(
     ensures halts { IfErr result (λ status. (s : State) (ahead : List ℕ) → Stands machine.old (F.seen files.old) s → before reader.unread (S.left input.old) ≡ Some ahead → Halts status (F.seen files.new) order s ahead reader.used (S.left input.new) (K.taken out.old) (K.taken out.new) (F.asked files.old) (F.asked files.new)) }
     ensures goes_on { IfOk result (λ back. IfSome back (λ later. GoneOn reader (S.budget input.old) later (S.budget input.new))) }
     ensures falls { S.budget input.new ≤ S.budget input.old }
+    ensures none_lost { NoneLost (K.taken out.old) (K.taken out.new) }
     ensures kept { Kept (order_writes order) machine.new (F.seen files.old) (F.seen files.new) (counts (F.faults files.old) (S.faults input.old) (K.faults out.old)) (counts (F.faults files.new) (S.faults input.new) (K.faults out.new)) (S.budget input.old + (reader.used + length reader.unread)) (S.budget input.new) (result_err result) }
 {
     if let Some(word) = body_word(&order) {
@@ -116,6 +118,7 @@ fn run_quit<F: Files, K: Sink>(
     ensures done { OnOk result ((s : State) → Stands machine.old (F.seen files.old) s → Done (Stands machine.new (F.seen files.new)) (tasks.after s (task (Ok command.Quit) [])) (tasks.text s (task (Ok command.Quit) [])) (K.taken out.old) (K.taken out.new)) }
     ensures interrupted { IfErr result (λ status. (s : State) → Stands machine.old (F.seen files.old) s → Interrupted status (F.seen files.new) s (task (Ok command.Quit) []) (K.taken out.old) (K.taken out.new)) }
     ensures asks { (s : State) → Stands machine.old (F.seen files.old) s → F.asked files.new ≤ F.asked files.old + order_price s (Ok command.Quit) }
+    ensures none_lost { NoneLost (K.taken out.old) (K.taken out.new) }
     ensures kept { Kept false machine.new (F.seen files.old) (F.seen files.new) (counts (F.faults files.old) 0 (K.faults out.old)) (counts (F.faults files.new) 0 (K.faults out.new)) 0 0 (result_err result) }
 {
     match run_line(alloc, machine, files, out, Ok(Command::Quit)) {
@@ -142,6 +145,7 @@ fn run_last_task<F: Files, S: Source, K: Sink>(
     ensures halts { IfErr result (λ status. (s : State) → Stands machine.old (F.seen files.old) s → before reader.unread (S.left input.old) ≡ Some [] → LastHalts status (F.seen files.new) order s (S.left input.new) (K.taken out.old) (K.taken out.new)) }
     ensures asks { (s : State) → Stands machine.old (F.seen files.old) s → before reader.unread (S.left input.old) ≡ Some [] → F.asked files.new ≤ F.asked files.old + price_all s (then_quit (task order [])) }
     ensures falls { S.budget input.new ≤ S.budget input.old }
+    ensures none_lost { NoneLost (K.taken out.old) (K.taken out.new) }
     ensures kept { Kept (order_writes order) machine.new (F.seen files.old) (F.seen files.new) (counts (F.faults files.old) (S.faults input.old) (K.faults out.old)) (counts (F.faults files.new) (S.faults input.new) (K.faults out.new)) (S.budget input.old + (reader.used + length reader.unread)) (S.budget input.new) (result_err result) }
 {
     if body_word(&order).is_none() {
@@ -175,6 +179,7 @@ fn run_body<F: Files, S: Source, K: Sink>(
     ensures halts { IfErr result (λ status. (s : State) (ahead : List ℕ) → Stands machine.old (F.seen files.old) s → before reader.unread (S.left input.old) ≡ Some ahead → Halts status (F.seen files.new) order.now s ahead reader.used (S.left input.new) (K.taken out.old) (K.taken out.new) (F.asked files.old) (F.asked files.new)) }
     ensures goes_on { IfOk result (λ back. IfSome back (λ later. GoneOn reader (S.budget input.old) later (S.budget input.new))) }
     ensures falls { S.budget input.new ≤ S.budget input.old }
+    ensures none_lost { NoneLost (K.taken out.old) (K.taken out.new) }
     ensures kept { Kept (order_writes order.now) machine.new (F.seen files.old) (F.seen files.new) (counts (F.faults files.old) (S.faults input.old) (K.faults out.old)) (counts (F.faults files.new) (S.faults input.new) (K.faults out.new)) (S.budget input.old + (reader.used + length reader.unread)) (S.budget input.new) (result_err result) }
 {
     let Ok(mut place) = Place::new(alloc, reader, word.as_bytes()) else {
@@ -221,6 +226,7 @@ fn serve_in<B: Begins, F: Files, S: Source, K: Sink>(
     ensures unchanged { order_writes order.now ≡ false → F.seen files.new ≡ F.seen files.old }
     ensures choices { (F.seen files.new).choices ≡ (F.seen files.old).choices }
     ensures asks { (s : State) → Stands machine.old (F.seen files.old) s → F.asked files.new ≤ F.asked files.old + order_price s order.now }
+    ensures none_lost { NoneLost (K.taken out.old) (K.taken out.new) }
     ensures causes { Causes WhyHalt result (counts (F.faults files.old) place.old.refused (K.faults out.old)) (counts (F.faults files.new) place.new.refused (K.faults out.new)) }
 {
     let mut body: Body<'_, S, B> = Body::new(input, place);
@@ -251,6 +257,7 @@ fn run_last<F: Files, K: Sink>(
     ensures done { OnOk result ((s : State) → Stands machine.old (F.seen files.old) s → Done (Stands machine.new (F.seen files.new)) (after_all tasks s (then_quit (task order []))) (run tasks s (then_quit (task order []))) (K.taken out.old) (K.taken out.new)) }
     ensures stops { IfErr result (λ status. (s : State) → Stands machine.old (F.seen files.old) s → Stops status (F.seen files.new) s (then_quit (task order [])) (K.taken out.old) (K.taken out.new)) }
     ensures asks { (s : State) → Stands machine.old (F.seen files.old) s → F.asked files.new ≤ F.asked files.old + price_all s (then_quit (task order [])) }
+    ensures none_lost { NoneLost (K.taken out.old) (K.taken out.new) }
     ensures kept { Kept (order_writes order) machine.new (F.seen files.old) (F.seen files.new) (counts (F.faults files.old) 0 (K.faults out.old)) (counts (F.faults files.new) 0 (K.faults out.new)) 0 0 (result_err result) }
 {
     match run_line(alloc, machine, files, out, order) {
@@ -276,6 +283,7 @@ fn run_line<F: Files, K: Sink>(
     ensures quit { IfOk result (λ quit. quit ≡ is_quit order) }
     ensures interrupted { IfErr result (λ status. (s : State) → Stands machine.old (F.seen files.old) s → Interrupted status (F.seen files.new) s (task order []) (K.taken out.old) (K.taken out.new)) }
     ensures asks { (s : State) → Stands machine.old (F.seen files.old) s → F.asked files.new ≤ F.asked files.old + order_price s order }
+    ensures none_lost { NoneLost (K.taken out.old) (K.taken out.new) }
     ensures kept { Kept (order_writes order) machine.new (F.seen files.old) (F.seen files.new) (counts (F.faults files.old) 0 (K.faults out.old)) (counts (F.faults files.new) 0 (K.faults out.new)) 0 0 (result_err result) }
 {
     let quit = is_quit(&order);

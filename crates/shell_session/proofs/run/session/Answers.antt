@@ -5,7 +5,7 @@ use Rattle.shell_session.specs.Words.{Wanted}
 use Rattle.shell_session.specs.declared.status.Status.{Status}
 use Rattle.shell_session.specs.declared.status.Status.TheVariants.{Done, Memory}
 use Rattle.shell_session.specs.Stops.{status_of}
-use Rattle.shell_session.proofs.AnswerLaws.{chooses_running, chosen, due_of, line_session, part_session, silent_line, silent_running, why_line, why_running, whole_session}
+use Rattle.shell_session.proofs.AnswerLaws.{chooses_running, chosen, due_of, line_session, opened_by, part_session, silent_line, silent_running, why_line, why_running, whole_session}
 use Rattle.shell_session.proofs.PriceLaws.{asks_opening, asks_script}
 use Rattle.shell_session.proofs.run.session.Goals as goal
 
@@ -99,3 +99,9 @@ returns-in-Err-write_opening-clause-silent g c =
 
 pub returns-clause-silent : goal.returns-clause-silent
 returns-clause-silent g c = silent_running c.in-Err-run_script.status _ _ c.in-Err-run_script.ensures.kept.ends
+
+pub returns-in-Ok-run_script-clause-opened : goal.returns-in-Ok-run_script-clause-opened
+returns-in-Ok-run_script-clause-opened g c = λ taken. opened_by _ _ _ c.games.result c.in-Ok.opened.1 c.in_default-write_opening.ensures.written c.run_script.ensures.none_lost
+
+pub returns-clause-opened : goal.returns-clause-opened
+returns-clause-opened g c = λ taken. opened_by _ _ _ c.games.result c.in-Ok.opened.1 c.in_default-write_opening.ensures.written c.run_script.ensures.none_lost

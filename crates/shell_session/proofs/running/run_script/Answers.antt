@@ -18,6 +18,7 @@ lines-init g c = record {
   ran = λ s script stands told. ran_none s script _ _ _ _ _ _ told c.in-Ok.ensures.new stands;
   kept = kept_none (g.S.Source.budget c.args.input.now) (g.S.Source.budget c.args.input.now) c.requires.sound;
   untaken = λ none. refl;
+  none_lost = λ front before. before;
   sum =
       let used = ap (λ (r : Reader). r.used) c.in-Ok.ensures.new in
       let unread = ap (λ (r : Reader). length r.unread) c.in-Ok.ensures.new in
@@ -37,6 +38,7 @@ lines-preserved g c =
       kept = kept_on (kept_read (g.S.Source.faults c.next.new.input) (g.S.Source.budget c.next.new.input) c.lines.invariant.kept c.next.ensures.counts) c.in-Ok-Some.ensures.kept
           (omega (arith, c.next.ensures.sum, c.lines.invariant.sum));
       untaken = λ none. absurd (omega (arith, none, c.next.ensures.sum, more, gone.later));
+      none_lost = λ front before. c.run_task.ensures.none_lost front (c.lines.invariant.none_lost front before);
       sum = omega (arith, c.next.ensures.sum, gone.sum, c.lines.invariant.sum);
     }
 

@@ -1,5 +1,6 @@
 use Rattle.std.proofs.Common.{◌≡◌, ◌+◌, ℕ, List, None, Some, length, true}
 use Rattle.command_runs.specs.Counts.{counts}
+use Rattle.command_runs.specs.Endings.{NoneLost}
 use Rattle.shell_state.specs.Stands.{Stands}
 use Rattle.shell_state.specs.State.{State}
 use Rattle.shell_session.specs.Running.{Kept, Ran}
@@ -14,6 +15,7 @@ invariant-lines g l = record {
   kept : Kept true l.machine (g.F.Files.seen l.fn.files) (g.F.Files.seen l.files)
       (counts (g.F.Files.faults l.fn.files) (g.S.Source.faults l.fn.input) (g.K.Sink.faults l.fn.out)) (counts (g.F.Files.faults l.files) (g.S.Source.faults l.input) (g.K.Sink.faults l.out))
       (g.S.Source.budget l.fn.input) (g.S.Source.budget l.input) None;
+  none_lost : NoneLost (g.K.Sink.taken l.fn.out) (g.K.Sink.taken l.out);
   sum : g.S.Source.budget l.input + (l.reader.used + length l.reader.unread) ≡ g.S.Source.budget l.fn.input;
 }
 
