@@ -2,7 +2,7 @@
 use Rattle.std.proofs.Common.{◌≡◌, ℕ, List, [], ◌++◌, Option, sym, ap, ◌∙◌, subst}
 use Rattle.base_files.specs.Told.{adds, Grew}
 use Rattle.base_files.proofs.Telling.{adds-nil, adds-append, Grew-refl, Grew-adds, Grew-trans}
-use Rattle.command_runs.specs.Endings.{Done, Halted}
+use Rattle.command_runs.specs.Endings.{Done, Halted, NoneLost}
 
 -- What is written later leaves what was written before.
 grew_more : (told : Option (List ℕ)) (xs ys : List ℕ) → Grew (adds told xs) (adds told (xs ++ ys))
@@ -19,6 +19,10 @@ pub halted_by : (text : List ℕ) (a b : Option (List ℕ)) → Grew a b → Gre
 halted_by text a b none_lost no_more =
     let P : Option (List ℕ) → Type 0 = λ t. Grew t b in
     record { none_lost = subst P (sym (adds-nil a)) none_lost; no_more = no_more }
+
+-- What it told before it tells still.
+pub none_lost_by : (a b : Option (List ℕ)) → Grew a b → NoneLost a b
+none_lost_by a b grew = λ told before. Grew-trans told a b before grew
 
 -- The whole was written.
 pub halted_all : (text : List ℕ) (a b : Option (List ℕ)) → b ≡ adds a text → Halted text text a b

@@ -13,6 +13,10 @@ pub record Halted (sure most : List ℕ) (before after : Option (List ℕ)) : Ty
   pub none_lost : Grew (adds before sure) after
   pub no_more : Grew after (adds before most)
 
+-- Whatever a sink had taken before it has taken after, and perhaps more.
+abbrev pub NoneLost : Option (List ℕ) → Option (List ℕ) → Type 0
+NoneLost before after = (told : Option (List ℕ)) → Grew told before → Grew told after
+
 -- A command that was broken off: a front part of its text was written, and `Broken` holds of it.
 pub record Cut (Broken : Type 0) (text : List ℕ) (before after : Option (List ℕ)) : Type 0 where
   pub wrote : Halted [] text before after

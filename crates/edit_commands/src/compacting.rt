@@ -2,7 +2,7 @@
 ghost use Rattle.std.specs.Prelude.{◌≡◌, ◌≤◌, ◌+◌, Ok, length, option_map, IfOk, IfErr, IfSome, OnOk};
 ghost use Rattle.base_core.specs.Compacted.{compacted};
 ghost use Rattle.command_runs.specs.Counts.{Causes, counts};
-ghost use Rattle.command_runs.specs.Endings.{Serves};
+ghost use Rattle.command_runs.specs.Endings.{NoneLost, Serves};
 ghost use Rattle.compact_base.specs.Compacting.{kept_len};
 ghost use Rattle.edit_commands.specs.Compacting.{compact_after, compact_text, compacted_line, compact_work};
 ghost use Rattle.edit_commands.specs.Ends.{uncompacted};
@@ -35,6 +35,7 @@ pub fn compact<F: Files, K: Sink>(
     ensures carries { (s : State) → Stands machine.old (F.seen files.old) s → IfErr result (λ _. StillCarry (F.seen files.new) s (Some compacted)) }
     ensures choices { (F.seen files.new).choices ≡ (F.seen files.old).choices }
     ensures asks { Asks machine.old compact_work (F.asked files.old) (F.asked files.new) }
+    ensures none_lost { NoneLost (K.taken out.old) (K.taken out.new) }
     ensures causes { Causes WhyHalt result (counts (F.faults files.old) 0 (K.faults out.old)) (counts (F.faults files.new) 0 (K.faults out.new)) }
 {
     match compact_files(alloc, machine, files) {

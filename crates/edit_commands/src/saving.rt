@@ -1,7 +1,7 @@
 //! The command that saves the base.
 ghost use Rattle.std.specs.Prelude.{◌≡◌, Ok, IfOk, IfErr, OnOk};
 ghost use Rattle.command_runs.specs.Counts.{Causes, counts};
-ghost use Rattle.command_runs.specs.Endings.{Serves};
+ghost use Rattle.command_runs.specs.Endings.{NoneLost, Serves};
 ghost use Rattle.edit_commands.specs.Ends.{unsaved_halt};
 ghost use Rattle.edit_commands.specs.Saving.{save_after, saved_line, save_work};
 ghost use Rattle.shell_state.specs.Carrying.{StillCarry};
@@ -28,6 +28,7 @@ pub fn save<F: Files, K: Sink>(
     ensures carries { (s : State) → Stands machine.old (F.seen files.old) s → IfErr result (λ _. StillCarry (F.seen files.new) s (Some (λ base. base))) }
     ensures choices { (F.seen files.new).choices ≡ (F.seen files.old).choices }
     ensures none_asked { F.asked files.new ≡ F.asked files.old }
+    ensures none_lost { NoneLost (K.taken out.old) (K.taken out.new) }
     ensures causes { Causes WhyHalt result (counts (F.faults files.old) 0 (K.faults out.old)) (counts (F.faults files.new) 0 (K.faults out.new)) }
 {
     if let Err(halt) = save_files(alloc, machine, files) {

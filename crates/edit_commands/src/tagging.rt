@@ -1,7 +1,7 @@
 //! The command that sets a tag of a game.
 ghost use Rattle.std.specs.Prelude.{◌≡◌, ◌≤◌, ◌<◌, ◌+◌, Ok, Err, length, IfOk, IfErr, OnOk};
 ghost use Rattle.command_runs.specs.Counts.{Causes, counts};
-ghost use Rattle.command_runs.specs.Endings.{Serves};
+ghost use Rattle.command_runs.specs.Endings.{NoneLost, Serves};
 ghost use Rattle.game_tree.specs.TagEdit.{IsEdit};
 ghost use Rattle.edit_commands.specs.Editing.{tag_after, tag_text, tag_work};
 ghost use Rattle.shell_state.specs.Carrying.{StillCarry};
@@ -31,6 +31,7 @@ pub fn tag<F: Files, K: Sink>(
     ensures carries { (s : State) → Stands machine.old (F.seen files.old) s → IfErr result (λ _. StillCarry (F.seen files.new) s None) }
     ensures choices { (F.seen files.new).choices ≡ (F.seen files.old).choices }
     ensures asks { Asks machine.old (tag_work number edit.now) (F.asked files.old) (F.asked files.new) }
+    ensures none_lost { NoneLost (K.taken out.old) (K.taken out.new) }
     ensures causes { Causes WhyHalt result (counts (F.faults files.old) 0 (K.faults out.old)) (counts (F.faults files.new) 0 (K.faults out.new)) }
 {
     match machine.game_at(number) {
@@ -59,6 +60,7 @@ fn tag_there<F: Files, K: Sink>(
     ensures carries { (s : State) → Stands machine.old (F.seen files.old) s → IfErr result (λ _. StillCarry (F.seen files.new) s None) }
     ensures choices { (F.seen files.new).choices ≡ (F.seen files.old).choices }
     ensures asks { Asks machine.old (tag_work i edit.now) (F.asked files.old) (F.asked files.new) }
+    ensures none_lost { NoneLost (K.taken out.old) (K.taken out.new) }
     ensures causes { Causes WhyHalt result (counts (F.faults files.old) 0 (K.faults out.old)) (counts (F.faults files.new) 0 (K.faults out.new)) }
 {
     match set_tag(alloc, machine, files, i, edit) {

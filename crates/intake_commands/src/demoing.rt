@@ -2,7 +2,7 @@
 ghost use Rattle.std.specs.Prelude.{◌≡◌, ◌≤◌, ◌+◌, ◌++◌, ℕ, [], IfOk, IfErr, OnOk};
 ghost use Rattle.base_files.specs.Told.{adds};
 ghost use Rattle.command_runs.specs.Counts.{Causes, counts};
-ghost use Rattle.command_runs.specs.Endings.{Halted, Serves};
+ghost use Rattle.command_runs.specs.Endings.{Halted, NoneLost, Serves};
 ghost use Rattle.intake_commands.specs.Demo.{Adding, adding, at_start, demo_line, one_more, shown_after, shown_text, demo_work, shown_price, demo_price};
 ghost use Rattle.intake_commands.specs.Demoing.{Adds, AddsNext, IsAdding, IsShort, Wrote};
 ghost use Rattle.shell_state.specs.Carrying.{StillCarry};
@@ -44,6 +44,7 @@ pub fn demo<F: Files, K: Sink>(
     ensures carries { (s : State) → Stands machine.old (F.seen files.old) s → IfErr result (λ _. StillCarry (F.seen files.new) s None) }
     ensures choices { (F.seen files.new).choices ≡ (F.seen files.old).choices }
     ensures asks { (s : State) → Stands machine.old (F.seen files.old) s → F.asked files.new ≤ F.asked files.old + demo_price s seed games }
+    ensures none_lost { NoneLost (K.taken out.old) (K.taken out.new) }
     ensures causes { Causes WhyHalt result (counts (F.faults files.old) 0 (K.faults out.old)) (counts (F.faults files.new) 0 (K.faults out.new)) }
 {
     match add_games(alloc, machine, files, seed, games) {
@@ -114,6 +115,7 @@ fn write_refusal<K: Sink>(alloc: Global, out: &mut K, why: Refusal) -> Result<()
     ensures written { OnOk result (K.taken out.new ≡ adds (K.taken out.old) (refusal_line why)) }
     ensures halted { Halted [] (refusal_line why) (K.taken out.old) (K.taken out.new) }
     ensures output { IfErr result IsOutput }
+    ensures none_lost { NoneLost (K.taken out.old) (K.taken out.new) }
     ensures causes { Causes WhyHalt result (counts 0 0 (K.faults out.old)) (counts 0 0 (K.faults out.new)) }
 {
     match refusal_line(alloc, why) {
@@ -136,6 +138,7 @@ fn show<F: Files, K: Sink>(
     ensures sound { OnOk result (Sound machine.new (F.seen files.new)) }
     ensures unchanged { F.seen files.new ≡ F.seen files.old }
     ensures asks { (s : State) → Stands machine.old (F.seen files.old) s → F.asked files.new ≤ F.asked files.old + shown_price s }
+    ensures none_lost { NoneLost (K.taken out.old) (K.taken out.new) }
     ensures causes { Causes WhyHalt result (counts (F.faults files.old) 0 (K.faults out.old)) (counts (F.faults files.new) 0 (K.faults out.new)) }
 {
     let line = demo_line(alloc, games, plies)?;
@@ -165,6 +168,7 @@ fn show_start<F: Files, K: Sink>(
     ensures sound { OnOk result (Sound machine.new (F.seen files.new)) }
     ensures unchanged { F.seen files.new ≡ F.seen files.old }
     ensures asks { (s : State) → Stands machine.old (F.seen files.old) s → F.asked files.new ≤ F.asked files.old + shown_price s }
+    ensures none_lost { NoneLost (K.taken out.old) (K.taken out.new) }
     ensures causes { Causes WhyHalt result (counts (F.faults files.old) 0 (K.faults out.old)) (counts (F.faults files.new) 0 (K.faults out.new)) }
 {
     let query = at_start();

@@ -2,7 +2,7 @@
 ghost use Rattle.std.specs.Prelude.{◌≡◌, ◌<◌, ℕ, ◌+◌, [], List, Option, None, Some, Ok, IfOk, IfErr, OnOk};
 ghost use Rattle.base_files.specs.Told.{adds};
 ghost use Rattle.command_runs.specs.Counts.{Causes, counts};
-ghost use Rattle.command_runs.specs.Endings.{Halted, Serves};
+ghost use Rattle.command_runs.specs.Endings.{Halted, NoneLost, Serves};
 ghost use Rattle.pgn_read.specs.Fit.{IsFit, IsFitGame};
 ghost use Rattle.pgn_read.specs.Items.{items_of};
 ghost use Rattle.pgn_read.specs.Readers.{told};
@@ -38,6 +38,7 @@ pub fn import<F: Files, B: Source, K: Sink>(
     ensures choices { (F.seen files.new).choices ≡ (F.seen files.old).choices }
     ensures none_asked { F.asked files.new ≡ F.asked files.old }
     ensures same { B.origin body.new ≡ B.origin body.old }
+    ensures none_lost { NoneLost (K.taken out.old) (K.taken out.new) }
     ensures causes { Causes WhyHalt result (counts (F.faults files.old) (B.faults body.old) (K.faults out.old)) (counts (F.faults files.new) (B.faults body.new) (K.faults out.new)) }
 {
     let (added, refused) = match take_in(alloc, machine, files, body, out) {
@@ -63,6 +64,7 @@ fn take_in<F: Files, B: Source, K: Sink>(
     ensures choices { (F.seen files.new).choices ≡ (F.seen files.old).choices }
     ensures none_asked { F.asked files.new ≡ F.asked files.old }
     ensures same { B.origin body.new ≡ B.origin body.old }
+    ensures none_lost { NoneLost (K.taken out.old) (K.taken out.new) }
     ensures causes { Causes WhyHalt result (counts (F.faults files.old) (B.faults body.old) (K.faults out.old)) (counts (F.faults files.new) (B.faults body.new) (K.faults out.new)) }
 {
     let mut reader = Reader::new(alloc)?;
@@ -98,6 +100,7 @@ fn take_next<F: Files, B: Source, K: Sink>(
     ensures choices { (F.seen files.new).choices ≡ (F.seen files.old).choices }
     ensures none_asked { F.asked files.new ≡ F.asked files.old }
     ensures same { B.origin body.new ≡ B.origin body.old }
+    ensures none_lost { NoneLost (K.taken out.old) (K.taken out.new) }
     ensures causes { Causes WhyHalt result (counts (F.faults files.old) (B.faults body.old) (K.faults out.old)) (counts (F.faults files.new) (B.faults body.new) (K.faults out.new)) }
 {
     let item = match reader.next(alloc, body) {
@@ -138,6 +141,7 @@ fn take_item<F: Files, K: Sink>(
     ensures carries { (s : State) → Stands machine.old (F.seen files.old) s → StillCarry (F.seen files.new) s None }
     ensures choices { (F.seen files.new).choices ≡ (F.seen files.old).choices }
     ensures none_asked { F.asked files.new ≡ F.asked files.old }
+    ensures none_lost { NoneLost (K.taken out.old) (K.taken out.new) }
     ensures causes { Causes WhyHalt result (counts (F.faults files.old) 0 (K.faults out.old)) (counts (F.faults files.new) 0 (K.faults out.new)) }
 {
     match add_item(alloc, machine, files, number, item) {
@@ -152,6 +156,7 @@ fn write_item<K: Sink>(out: &mut K, line: &[u8], added: bool) -> Result<bool, Ha
     ensures halted { Halted [] line.now (K.taken out.old) (K.taken out.new) }
     ensures added { IfOk result (λ told. told ≡ added) }
     ensures output { IfErr result IsOutput }
+    ensures none_lost { NoneLost (K.taken out.old) (K.taken out.new) }
     ensures causes { Causes WhyHalt result (counts 0 0 (K.faults out.old)) (counts 0 0 (K.faults out.new)) }
 {
     match write_line(out, line) {

@@ -1,7 +1,7 @@
 //! The command that puts the game of a body in the place of another one.
 ghost use Rattle.std.specs.Prelude.{◌≡◌, ◌<◌, ℕ, List, [], ◌∷◌, length, None, Some, Ok, IfOk, IfErr, IfSome, OnOk};
 ghost use Rattle.command_runs.specs.Counts.{Causes, counts};
-ghost use Rattle.command_runs.specs.Endings.{Serves};
+ghost use Rattle.command_runs.specs.Endings.{NoneLost, Serves};
 ghost use Rattle.pgn_read.specs.Fit.{IsFitGame};
 ghost use Rattle.pgn_read.specs.Items.{AreItems, items_of};
 ghost use Rattle.pgn_read.specs.Readers.{told};
@@ -53,6 +53,7 @@ pub fn replace<F: Files, B: Source, K: Sink>(
     ensures choices { (F.seen files.new).choices ≡ (F.seen files.old).choices }
     ensures none_asked { F.asked files.new ≡ F.asked files.old }
     ensures same { B.origin body.new ≡ B.origin body.old }
+    ensures none_lost { NoneLost (K.taken out.old) (K.taken out.new) }
     ensures causes { Causes WhyHalt result (counts (F.faults files.old) (B.faults body.old) (K.faults out.old)) (counts (F.faults files.new) (B.faults body.new) (K.faults out.new)) }
 {
     match replace_number(alloc, machine, files, body, number) {

@@ -1,7 +1,7 @@
 //! The command that gives games their opening codes.
 ghost use Rattle.std.specs.Prelude.{[], ◌≡◌, ◌≤◌, ◌<◌, ◌+◌, ℕ, List, All, Ok, Some, length, map, slice_get, count_by, is_some, sum_by, IfOk, IfErr, OnOk};
 ghost use Rattle.command_runs.specs.Counts.{Causes, counts};
-ghost use Rattle.command_runs.specs.Endings.{Serves};
+ghost use Rattle.command_runs.specs.Endings.{NoneLost, Serves};
 ghost use Rattle.eco_class.specs.Reading.{table_of};
 ghost use Rattle.eco_class.specs.Table.{eco_of};
 ghost use Rattle.game_tree.specs.Game.{GameTree};
@@ -36,6 +36,7 @@ pub fn eco<F: Files, B: Source, K: Sink>(
     ensures unchanged { F.seen files.new ≡ F.seen files.old }
     ensures asks { Asks machine.old (eco_work []) (F.asked files.old) (F.asked files.new) }
     ensures same { B.origin body.new ≡ B.origin body.old }
+    ensures none_lost { NoneLost (K.taken out.old) (K.taken out.new) }
     ensures causes { Causes WhyHalt result (counts (F.faults files.old) (B.faults body.old) (K.faults out.old)) (counts (F.faults files.new) (B.faults body.new) (K.faults out.new)) }
 {
     match classify(alloc, machine, files, body) {

@@ -4,7 +4,7 @@ ghost use Rattle.base_files.specs.Causes.{HasCause};
 ghost use Rattle.base_files.specs.Seen.{Seen};
 ghost use Rattle.base_files.specs.Told.{Grew, adds};
 ghost use Rattle.command_runs.specs.Counts.{Causes, Why, counts};
-ghost use Rattle.command_runs.specs.Endings.{Halted, Serves};
+ghost use Rattle.command_runs.specs.Endings.{Halted, NoneLost, Serves};
 ghost use Rattle.search_commands.specs.Searching.{hits_work};
 ghost use Rattle.shell_state.specs.Lines.{count_line, hit_line, hit_lines, hits_text};
 ghost use Rattle.shell_state.specs.Stands.{Stands, Broken, WhyHalt};
@@ -20,6 +20,7 @@ use std::alloc::AllocError;
 pub fn hits<K: Sink>(machine: &mut Machine, out: &mut K) -> Result<(), Halt>
     ensures same { machine.new ≡ machine.old }
     ensures serves { (seen : Seen) (s : State) → Stands machine.old seen s → Serves works (Stands machine.new seen) Broken s hits_work (K.taken out.old) (K.taken out.new) result }
+    ensures none_lost { NoneLost (K.taken out.old) (K.taken out.new) }
     ensures causes { Causes WhyHalt result (counts 0 0 (K.faults out.old)) (counts 0 0 (K.faults out.new)) }
 {
     match write_hits(&machine.seat.filter, &mut machine.page, out) {
@@ -29,7 +30,7 @@ pub fn hits<K: Sink>(machine: &mut Machine, out: &mut K) -> Result<(), Halt>
 }
 
 // Writes a line for each game that is in, and then how many of how many there are. The text goes out in pieces, by way of `page`.
-#[tactic(auto, using(command_runs::proofs::Joining::halted_by))]
+#[tactic(auto, using(command_runs::proofs::Joining::halted_by, command_runs::proofs::Joining::none_lost_by))]
 pub(crate) fn write_hits<K: Sink>(
     filter: &Filter,
     page: &mut String,
@@ -37,6 +38,7 @@ pub(crate) fn write_hits<K: Sink>(
 ) -> Result<(), Stop>
     ensures written { OnOk result (K.taken out.new ≡ adds (K.taken out.old) (hits_text filter.now)) }
     ensures halted { Halted [] (hits_text filter.now) (K.taken out.old) (K.taken out.new) }
+    ensures none_lost { NoneLost (K.taken out.old) (K.taken out.new) }
     ensures causes { Causes Why result (counts 0 0 (K.faults out.old)) (counts 0 0 (K.faults out.new)) }
 {
     page.clear();

@@ -1,7 +1,7 @@
 //! The command that searches the games for counts of men.
 ghost use Rattle.std.specs.Prelude.{◌≡◌, ◌≤◌, ◌<◌, ◌+◌, ℕ, List, Some, Ok, length, IfErr, OnOk};
 ghost use Rattle.command_runs.specs.Counts.{Causes, counts};
-ghost use Rattle.command_runs.specs.Endings.{Serves};
+ghost use Rattle.command_runs.specs.Endings.{NoneLost, Serves};
 ghost use Rattle.game_filter.specs.Search.{searched};
 ghost use Rattle.game_tree.specs.Game.{GameTree};
 ghost use Rattle.mat_search.specs.Matching.{firsts_of};
@@ -35,6 +35,7 @@ pub fn search_material<F: Files, K: Sink>(
     ensures sound { OnOk result (Sound machine.new (F.seen files.new)) }
     ensures unchanged { F.seen files.new ≡ F.seen files.old }
     ensures asks { Asks machine.old (search_material_work op query.now) (F.asked files.old) (F.asked files.new) }
+    ensures none_lost { NoneLost (K.taken out.old) (K.taken out.new) }
     ensures causes { Causes WhyHalt result (counts (F.faults files.old) 0 (K.faults out.old)) (counts (F.faults files.new) 0 (K.faults out.new)) }
 {
     let block = machine.block.as_mut_slice();

@@ -3,7 +3,7 @@ ghost use Rattle.std.specs.Prelude.{◌≡◌, ◌≤◌, ◌<◌, ◌+◌, ◌+
 ghost use Rattle.base_core.specs.Base.{Base as PlainBase, Held};
 ghost use Rattle.base_core.specs.Represents.{IsSound, Represents, extents_of, heads_of, sigs_of};
 ghost use Rattle.command_runs.specs.Counts.{Causes, counts};
-ghost use Rattle.command_runs.specs.Endings.{Serves};
+ghost use Rattle.command_runs.specs.Endings.{NoneLost, Serves};
 ghost use Rattle.game_filter.specs.declared.op.Op.TheVariants.{And};
 ghost use Rattle.pos_index.specs.Hits.{Index, IndexesAll, Place, places_in, rows_told};
 ghost use Rattle.pos_search.specs.Searching.{are_read, cost_of, is_read};
@@ -45,6 +45,7 @@ pub fn tree<F: Files, K: Sink>(
     ensures serves { (s : State) → Stands machine.old (F.seen files.old) s → Serves works (Stands machine.new (F.seen files.new)) Broken s (tree_work board.now side) (K.taken out.old) (K.taken out.new) result }
     ensures unchanged { F.seen files.new ≡ F.seen files.old }
     ensures asks { Asks machine.old (tree_work board.now side) (F.asked files.old) (F.asked files.new) }
+    ensures none_lost { NoneLost (K.taken out.old) (K.taken out.new) }
     ensures causes { Causes WhyHalt result (counts (F.faults files.old) 0 (K.faults out.old)) (counts (F.faults files.new) 0 (K.faults out.new)) }
 {
     let query = PosQuery {

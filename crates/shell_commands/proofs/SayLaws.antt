@@ -35,7 +35,7 @@ quiet_said (Err none) (Err e) old new work seen s told told' quiet said st =
 pub quiet_sound : {A E : Type 0} (answer : Result (Vec ℕ) E) (r : Result A Halt) (old new : Holding) (work : Work) (seen : Seen) (told told' : Option (List ℕ))
     → IfOk answer (λ line. Quiet old work new line.items) → Said answer r told told' → Sound old seen → OnOk r (Sound new seen)
 quiet_sound (Ok line) (Ok x) old new work seen told told' quiet said sound =
-    record { fits = quiet.fits; base = quiet.base sound.base; at_end = subst (λ (end : ℕ). IsEnd end seen) (sym quiet.end) sound.at_end }
+    record { fits = quiet.fits; index = quiet.index sound.index; base = quiet.base sound.base; at_end = subst (λ (end : ℕ). IsEnd end seen) (sym quiet.end) sound.at_end }
 quiet_sound (Ok line) (Err e) old new work seen told told' quiet said sound = tt
 quiet_sound (Err none) (Ok x) old new work seen told told' quiet said sound = absurd said
 quiet_sound (Err none) (Err e) old new work seen told told' quiet said sound = tt

@@ -1,6 +1,7 @@
 //! Writing the line of a command that uses no file.
 ghost use Rattle.std.specs.Prelude.{◌≡◌};
 ghost use Rattle.command_runs.specs.Counts.{Causes, counts};
+ghost use Rattle.command_runs.specs.Endings.{NoneLost};
 ghost use Rattle.shell_commands.specs.Saying.{Said};
 ghost use Rattle.shell_state.specs.Stands.{WhyHalt};
 
@@ -12,6 +13,7 @@ use std::alloc::AllocError;
 #[tactic(auto, using(crate::proofs::SayLaws::said_by))]
 pub(crate) fn say<K: Sink>(out: &mut K, answer: Result<Vec<u8>, AllocError>) -> Result<(), Halt>
     ensures said { Said answer result (K.taken out.old) (K.taken out.new) }
+    ensures none_lost { NoneLost (K.taken out.old) (K.taken out.new) }
     ensures causes { Causes WhyHalt result (counts 0 0 (K.faults out.old)) (counts 0 0 (K.faults out.new)) }
 {
     match answer {

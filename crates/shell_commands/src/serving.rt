@@ -1,7 +1,7 @@
 //! What one line of a script does.
 ghost use Rattle.std.specs.Prelude.{◌≡◌, ◌≤◌, ◌+◌, ℕ, List, [], false, Some, Ok, OnOk, IfErr};
 ghost use Rattle.command_runs.specs.Counts.{Causes, counts};
-ghost use Rattle.command_runs.specs.Endings.{Serves};
+ghost use Rattle.command_runs.specs.Endings.{NoneLost, Serves};
 ghost use Rattle.script_text.specs.Sound.{IsSound, IsSoundLine};
 ghost use Rattle.script_text.specs.Tasks.{task};
 ghost use Rattle.script_text.specs.declared.command.Command.TheVariants.{Demo, Export};
@@ -61,8 +61,9 @@ pub fn serve<F: Files, B: Source, K: Sink>(
     ensures asks { Asks machine.old (order_work order.now []) (F.asked files.old) (F.asked files.new) }
     ensures asks_told { (s : State) → Stands machine.old (F.seen files.old) s → F.asked files.new ≤ F.asked files.old + order_price s order.now }
 
-    // The body goes on reading from where it read.
+    // The body goes on reading from where it read, and nothing is lost of what was written before.
     ensures same { B.origin body.new ≡ B.origin body.old }
+    ensures none_lost { NoneLost (K.taken out.old) (K.taken out.new) }
     ensures causes { Causes WhyHalt result (counts (F.faults files.old) (B.faults body.old) (K.faults out.old)) (counts (F.faults files.new) (B.faults body.new) (K.faults out.new)) }
 {
     match order {
@@ -91,6 +92,7 @@ fn serve_command<F: Files, B: Source, K: Sink>(
     ensures asks { Asks machine.old (command_work command.now []) (F.asked files.old) (F.asked files.new) }
     ensures asks_demo { (s : State) (seed games : ℕ) → Stands machine.old (F.seen files.old) s → command.now ≡ Demo seed games → F.asked files.new ≤ F.asked files.old + demo_price s seed games }
     ensures same { B.origin body.new ≡ B.origin body.old }
+    ensures none_lost { NoneLost (K.taken out.old) (K.taken out.new) }
     ensures causes { Causes WhyHalt result (counts (F.faults files.old) (B.faults body.old) (K.faults out.old)) (counts (F.faults files.new) (B.faults body.new) (K.faults out.new)) }
 {
     match command {

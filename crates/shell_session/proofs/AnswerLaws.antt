@@ -1,18 +1,19 @@
 -- What the parts of a session say, put together: its answer to what it was given.
-use Rattle.std.proofs.Common.{◌≡◌, ◌≤◌, ◌<◌, ◌+◌, ◌⊎◌, inl, inr, ℕ, Bool, List, [], ◌∷◌, ◌++◌, length, Option, Some, None, IfSome, refl, ap, ◌∙◌, subst, arith}
+use Rattle.std.proofs.Common.{◌≡◌, ◌≤◌, ◌<◌, ◌+◌, ◌⊎◌, inl, inr, ℕ, Bool, List, [], ◌∷◌, ◌++◌, length, Option, Some, None, IfSome, refl, ap, ◌∙◌, subst, sym, arith}
 use Rattle.base_files.specs.Chosen.{Choice, choice}
 use Rattle.base_files.specs.Counters.{Rose}
 use Rattle.base_files.proofs.Rising.{Rose-after}
+use Rattle.base_files.proofs.Telling.{Grew-refl}
 use Rattle.base_core.specs.declared.fault.BaseFault.{BaseFault}
 use Rattle.script_lines.specs.Script.{longest_script}
 use Rattle.base_files.specs.Seen.{SameContents, Seen}
-use Rattle.base_files.specs.Told.{adds}
+use Rattle.base_files.specs.Told.{Grew, adds}
 use Rattle.base_files.specs.declared.faults.Stop.{Stop}
 use Rattle.base_files.specs.declared.faults.Stop.TheVariants as stop
 use Rattle.base_core.specs.Base.{Base}
 use Rattle.base_core.specs.Opening.{IfTold, is_created}
 use Rattle.command_runs.specs.Counts.{Why, counts}
-use Rattle.command_runs.specs.Endings.{Halted}
+use Rattle.command_runs.specs.Endings.{Halted, NoneLost}
 use Rattle.shell_state.specs.Stands.{Holding, Stands}
 use Rattle.shell_state.specs.State.{State, begin}
 use Rattle.shell_session.specs.Running.{Interrupts, Opening, OpeningRefused}
@@ -330,3 +331,9 @@ part_session words index names games script seen seen' seen'' wanted holding men
     let P : Option (List ℕ) → Type 0 = λ x. RanPart status (begin (is_created wanted.create index names games) o.base) script x t'' input'.left seen'' in
     part_answers (given words index names games script) t t'' input input' seen'' o.base mended status (opened words index names games script seen' wanted holding mended said o)
     (subst P (wrote ∙ ap (adds t) (count_of wanted.create wanted.strict index names games holding seen' mended count o same)) (ran (begin (is_created wanted.create index names games) o.base) script o.stands left))
+
+-- The opening line stands in what was written where nothing that was written is lost.
+pub opened_by : (t t' t'' : Option (List ℕ)) (games mended : ℕ) → t' ≡ adds t (opening_text games mended) → NoneLost t' t'' → (n m : ℕ) × Grew (adds t (opening_text n m)) t''
+opened_by t t' t'' games mended written none_lost =
+    let front : List ℕ = opening_text games mended in
+    (games, mended, none_lost (adds t front) (subst (λ (o : Option (List ℕ)). Grew (adds t front) o) (sym written) (Grew-refl (adds t front))))

@@ -51,7 +51,7 @@ use Rattle.shell_commands.specs.Tasks.{BrokenTask, tasks}
 use Rattle.shell_state.specs.declared.halt.Halt.{Halt}
 use Rattle.shell_state.specs.declared.halt.Halt.TheVariants as halt
 use Rattle.shell_state.proofs.CarryLaws.{carry_later, carry_of}
-use Rattle.shell_session.specs.Running.{BehindDone, BodyDone, Finished, GoneOn, Halts, Interrupted, Interrupts, LastDid, LastDone, LastHalts, Stops, WentOn, WentOut, behind_at}
+use Rattle.shell_session.specs.Running.{BehindDone, BodyDone, Finished, GoneOn, Halts, Interrupted, Interrupts, Kept, LastDid, LastDone, LastHalts, Stops, WentOn, WentOut, behind_at}
 use Rattle.shell_session.specs.Session.{Breaks, WhyStatus, price_all}
 use Rattle.shell_session.specs.Stops.{status_in_body, status_of_reading}
 use Rattle.shell_session.specs.declared.status.Status.{Status}
@@ -506,7 +506,7 @@ rose_of : (a b : ℕ) → raised a 1 ≤ b → ((leb (a + 1) LAST ≡ true) × (
 rose_of a b grew (inl (is_le, fits)) = inl (omega (arith, grew, fits))
 rose_of a b grew (inr (is_more, last)) = inr (omega (arith, grew, last))
 
-pub body_why : (end : Halt) (stuck : Option ReadError) (word : List ℕ) (reader : Reader) (l : Option (List ℕ)) (b f : ℕ) (p : Place) (l' : Option (List ℕ)) (b' f' x x' r k k' : ℕ)
+body_why : (end : Halt) (stuck : Option ReadError) (word : List ℕ) (reader : Reader) (l : Option (List ℕ)) (b f : ℕ) (p : Place) (l' : Option (List ℕ)) (b' f' x x' r k k' : ℕ)
     → p.stuck ≡ stuck → Standing (start_at word reader l b f) p l' b' f' → WhyHalt end (counts x r k) (counts x' p.refused k')
     → WhyStatus (status_in_body end stuck) (counts x f k) (counts x' f' k')
 body_why (halt.Device stop.Read) (Some error.Failed) word reader l b f p l' b' f' x x' r k k' is st why = rose_of f f' (st.failed is) (leb_tells (f + 1) LAST)
@@ -518,7 +518,7 @@ body_why (halt.Device stop.Write) stuck word reader l b f p l' b' f' x x' r k k'
 body_why (halt.Device stop.Memory) stuck word reader l b f p l' b' f' x x' r k k' is st why = tt
 body_why (halt.Changed game kept found) stuck word reader l b f p l' b' f' x x' r k k' is st why = why
 
-pub body_ends : (end : Halt) (stuck : Option ReadError) → Interrupts (status_in_body end stuck)
+body_ends : (end : Halt) (stuck : Option ReadError) → Interrupts (status_in_body end stuck)
 body_ends (halt.Device stop.Read) (Some error.Failed) = tt
 body_ends (halt.Device stop.Read) (Some error.TooLong) = tt
 body_ends (halt.Device stop.Read) (Some error.Memory) = tt
@@ -528,7 +528,7 @@ body_ends (halt.Device stop.Write) stuck = tt
 body_ends (halt.Device stop.Memory) stuck = tt
 body_ends (halt.Changed game kept found) stuck = tt
 
-pub body_too_long : (end : Halt) (stuck : Option ReadError) (word : List ℕ) (reader : Reader) (l : Option (List ℕ)) (b f : ℕ) (p : Place) (l' : Option (List ℕ)) (b' f' : ℕ)
+body_too_long : (end : Halt) (stuck : Option ReadError) (word : List ℕ) (reader : Reader) (l : Option (List ℕ)) (b f : ℕ) (p : Place) (l' : Option (List ℕ)) (b' f' : ℕ)
     → p.stuck ≡ stuck → Standing (start_at word reader l b f) p l' b' f' → status_in_body end stuck ≡ InputTooLong → b' + longest_script < b + (reader.used + length reader.unread)
 body_too_long (halt.Device stop.Read) (Some error.Failed) word reader l b f p l' b' f' is st long = cc
 body_too_long (halt.Device stop.Read) (Some error.TooLong) word reader l b f p l' b' f' is st long = omega (arith, st.too_long is, st.sum)
@@ -538,6 +538,21 @@ body_too_long (halt.Device stop.Files) stuck word reader l b f p l' b' f' is st 
 body_too_long (halt.Device stop.Write) stuck word reader l b f p l' b' f' is st long = cc
 body_too_long (halt.Device stop.Memory) stuck word reader l b f p l' b' f' is st long = cc
 body_too_long (halt.Changed game kept found) stuck word reader l b f p l' b' f' is st long = cc
+
+-- What the part keeps to that was broken off with its body there.
+pub body_kept : {writes : Bool} {holding' : Holding} {seen seen' : Seen} (end : Halt) (stuck : Option ReadError) (word : List ℕ) (reader : Reader) (l : Option (List ℕ)) (b f : ℕ) (p : Place) (l' : Option (List ℕ)) (b' f' x x' r k k' : ℕ)
+    (status : Status) → status ≡ status_in_body end stuck → p.stuck ≡ stuck → Standing (start_at word reader l b f) p l' b' f' → WhyHalt end (counts x r k) (counts x' p.refused k')
+    → (writes ≡ false → seen' ≡ seen) → seen'.choices ≡ seen.choices → x ≤ x' → k ≤ k'
+    → Kept writes holding' seen seen' (counts x f k) (counts x' f' k') (b + (reader.used + length reader.unread)) b' (Some status)
+body_kept end stuck word reader l b f p l' b' f' x x' r k k' status ended is st why unchanged choices files output = record {
+  sound = tt;
+  unchanged = unchanged;
+  choices = choices;
+  counts = record { files = files; input = st.counts; output = output };
+  ends = subst Interrupts (sym ended) (body_ends end stuck);
+  why = subst (λ (s : Status). WhyStatus s (counts x f k) (counts x' f' k')) (sym ended) (body_why end stuck word reader l b f p l' b' f' x x' r k k' is st why);
+  too_long = λ long. body_too_long end stuck word reader l b f p l' b' f' is st (sym ended ∙ long);
+}
 
 -- ---- the last line, with its body
 

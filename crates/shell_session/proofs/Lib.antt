@@ -1,4 +1,5 @@
 mod RunningLaws
+mod KeptLaws
 mod BodyLaws
 mod AnswerLaws
 mod OpeningLaws

@@ -490,7 +490,7 @@ interrupted (halt.Device stop.Read) seen' s next t t' none broken_off carries =
     let e : false ≡ true = sym (alone next.order next.body none) ∙ broken_off.broken in cc
 interrupted (halt.Changed game kept found) seen' s next t t' none broken_off carries = absurd broken_off.broken
 
-none_rose : Rose 0 0 → ⊥
+pub none_rose : Rose 0 0 → ⊥
 none_rose (inl rose) = absurd (omega (arith, rose))
 none_rose (inr last) = absurd (omega (arith, last))
 
@@ -583,11 +583,6 @@ why_stuck error.TooLong f f' i i' k k' rose = tt
 why_stuck error.Memory f f' i i' k k' rose = tt
 
 -- ---- answers of a call that hands on another's
-
--- A call that gives no reader back.
-pub none_back : {A E : Type 0} (r : Result (Option A) E) (P : Option A → Type 0) (Y : Type 0) → (Y → P None) → IfOk r (λ back. back ≡ None) → OnOk r Y → IfOk r P
-none_back (Ok back) P Y f none y = subst P (sym none) (f y)
-none_back (Err e) P Y f none y = tt
 
 pub on_ok : {A E : Type 0} (r : Result A E) (X Y : Type 0) → (Y → X) → OnOk r Y → OnOk r X
 on_ok (Ok a) X Y f y = f y

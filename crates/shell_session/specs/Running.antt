@@ -1,24 +1,25 @@
 -- How far the run of a script has come: only private functions cite it.
-use Rattle.std.specs.Prelude.{◌≡◌, ◌≤◌, ◌<◌, ℕ, Bool, ⊤, ◌+◌, ◌-◌, List, [], ◌++◌, length, take, Option, Some, None}
+use Rattle.std.specs.Prelude.{◌≡◌, ◌≤◌, ◌<◌, ℕ, Bool, false, ⊤, ◌+◌, ◌-◌, List, [], ◌++◌, length, take, Option, Some, None, IfSome, MatchOption}
 use Rattle.base_files.specs.Seen.{Seen}
 use Rattle.base_files.specs.Told.{adds, before}
 use Rattle.base_core.specs.Base.{Base}
 use Rattle.base_core.specs.Opening.{IfTold, OpensAs, Refuses, is_created}
 use Rattle.base_core.specs.Represents.{Mended}
 use Rattle.base_core.specs.declared.fault.BaseFault.{BaseFault}
+use Rattle.command_runs.specs.Counts.{Counts, NoneFell}
 use Rattle.command_runs.specs.Endings.{Cut, Done}
 use Rattle.command_runs.specs.Plain.{after_all, run}
 use Rattle.command_runs.specs.Runs.{Stopped}
 use Rattle.script_text.specs.Tasks.{Task, task}
 use Rattle.shell_commands.specs.Tasks.{Order, order_price}
-use Rattle.shell_state.specs.Stands.{Holding, Stands}
+use Rattle.shell_state.specs.Stands.{Holding, Sound, Stands}
 use Rattle.shell_state.specs.State.{State, begin}
 use Rattle.shell_commands.specs.Tasks.{tasks}
 use Rattle.script_lines.specs.Reading.{Reader, grown, led_on}
 use Rattle.script_lines.specs.declared.place.At.{At}
 use Rattle.script_lines.specs.declared.place.At.TheVariants.{Behind}
 use Rattle.script_lines.specs.Script.{Script, led_by, longest_script, script, script_from, then_quit}
-use Rattle.shell_session.specs.Session.{Breaks, price_all}
+use Rattle.shell_session.specs.Session.{Breaks, WhyStatus, price_all}
 use Rattle.shell_session.specs.declared.status.Status.{Status}
 use Rattle.shell_session.specs.declared.status.Status.TheVariants.{BadBase, ReadFault, WriteFault, FilesFault, Changed, InputTooLong, Memory}
 
@@ -40,6 +41,28 @@ OpeningRefused create strict seen _ = ⊥
 -- These tasks, in so many bytes, before what is said behind them.
 abbrev pub joined : List Task → ℕ → Script → Script
 joined done count s = script (done ++ s.tasks) (count + s.size)
+
+-- The statuses that end the run of a script before its end.
+abbrev pub Interrupts : Status → Type 0
+Interrupts ReadFault = ⊤
+Interrupts WriteFault = ⊤
+Interrupts FilesFault = ⊤
+Interrupts (Changed game kept found) = ⊤
+Interrupts InputTooLong = ⊤
+Interrupts Memory = ⊤
+Interrupts _ = ⊥
+
+-- What each part of the run keeps to, which ended with this status or with none: without one the machine is sound; where its lines may not
+-- change the files, none is changed; no base is chosen; no count of faults fell; the status ends a run, and has its cause, and tells of a
+-- script that is too long only where more than the limit was read.
+pub record Kept (writes : Bool) (holding' : Holding) (seen seen' : Seen) (old new : Counts) (budget budget' : ℕ) (ended : Option Status) : Type 0 where
+  pub sound : MatchOption ended (Sound holding' seen') (λ status. ⊤)
+  pub unchanged : writes ≡ false → seen' ≡ seen
+  pub choices : seen'.choices ≡ seen.choices
+  pub counts : NoneFell old new
+  pub ends : IfSome ended Interrupts
+  pub why : IfSome ended (λ status. WhyStatus status old new)
+  pub too_long : IfSome ended (λ status. status ≡ InputTooLong → budget' + longest_script < budget)
 
 -- The commands of some lines are done, and the reader stands behind the last of them.
 pub record Ran (s₀ : State) (bytes : List ℕ) (t₀ : Option (List ℕ)) (holding : Holding) (seen : Seen) (reader : Reader) (l t : Option (List ℕ)) (a₀ a : ℕ) : Type 0 where
@@ -151,13 +174,3 @@ LastDone _ later done = ⊤
 pub record LastHalts (status : Status) (seen' : Seen) (order : Order) (s : State) (l' : Option (List ℕ)) (t t' : Option (List ℕ)) : Type 0 where
   pub stopped : Stopped tasks (Breaks status seen') s (then_quit (task order [])) t t'
   pub lines : LastDone status l' stopped.done
-
--- The statuses that end the run of a script before its end.
-abbrev pub Interrupts : Status → Type 0
-Interrupts ReadFault = ⊤
-Interrupts WriteFault = ⊤
-Interrupts FilesFault = ⊤
-Interrupts (Changed game kept found) = ⊤
-Interrupts InputTooLong = ⊤
-Interrupts Memory = ⊤
-Interrupts _ = ⊥

@@ -2,8 +2,9 @@
 ghost use Rattle.std.specs.Prelude.{◌≡◌, ◌↔◌, ℕ, ◌⊎◌, List, None, Some, map, string_bytes};
 ghost use Rattle.base_files.specs.Seen.{SameContents, Seen};
 ghost use Rattle.base_files.specs.Counters.{Rose};
+ghost use Rattle.base_files.specs.Told.{Grew, adds};
 ghost use Rattle.command_runs.specs.Counts.{NoneFell, counts};
-ghost use Rattle.shell_session.specs.Session.{Answers, Asks, Chooses, Due, Reads, Silent, WhyStatus, given, inlet};
+ghost use Rattle.shell_session.specs.Session.{Answers, Asks, Chooses, Due, Reads, Silent, WhyStatus, given, inlet, opening_text};
 ghost use Rattle.shell_session.specs.Words.{words_read};
 
 use crate::opening::{open, write_opening};
@@ -47,6 +48,9 @@ pub fn session<F: Files, S: Source, K: Sink>(
 
     // Whatever the files tell, nothing is written where the words or the files refuse.
     ensures silent { Silent result (K.taken out.old) (K.taken out.new) }
+
+    // Where anything was taken of the input, the opening line stands in what was written.
+    ensures opened { (S.budget input.new ≡ S.budget input.old → ⊥) → (games mended : ℕ) × Grew (adds (K.taken out.old) (opening_text games mended)) (K.taken out.new) }
 
     // What is read of any input.
     ensures reads { Reads result (inlet (S.left input.old) (S.budget input.old) (S.faults input.old)) (inlet (S.left input.new) (S.budget input.new) (S.faults input.new)) }

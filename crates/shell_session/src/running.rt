@@ -1,9 +1,10 @@
 //! The run of a script.
-ghost use Rattle.std.specs.Prelude.{◌≡◌, ◌≤◌, ◌+◌, ◌<◌, ℕ, false, List, [], length, None, Some, Ok, OnOk, IfOk, IfErr, IfSome};
+ghost use Rattle.std.specs.Prelude.{◌≡◌, ◌≤◌, ◌+◌, ℕ, false, true, List, [], length, None, Some, Ok, OnOk, IfOk, IfErr, IfSome};
+ghost use Rattle.std.specs.Result.{result_err};
 ghost use Rattle.base_files.specs.Seen.{Seen};
 ghost use Rattle.base_files.specs.Told.{before};
-ghost use Rattle.command_runs.specs.Counts.{Causes, NoneFell, counts};
-ghost use Rattle.command_runs.specs.Endings.{Done, Serves};
+ghost use Rattle.command_runs.specs.Counts.{Causes, counts};
+ghost use Rattle.command_runs.specs.Endings.{Done, NoneLost, Serves};
 ghost use Rattle.command_runs.specs.Plain.{after_all, run};
 ghost use Rattle.script_lines.specs.Reading.{piece_len};
 ghost use Rattle.script_lines.specs.Standing.{Standing, left_of};
@@ -16,8 +17,8 @@ ghost use Rattle.shell_state.specs.Stands.{Sound, Stands, WhyHalt};
 ghost use Rattle.shell_state.specs.Carrying.{StillCarry};
 ghost use Rattle.shell_state.specs.State.{State};
 ghost use Rattle.shell_commands.specs.Tasks.{BrokenTask, tasks};
-ghost use Rattle.shell_session.specs.Running.{BodyDone, GoneOn, Halts, Interrupted, Interrupts, LastDid, LastHalts, Stops, TaskDone, behind_at};
-ghost use Rattle.shell_session.specs.Session.{RanAll, RanPart, WhyStatus, price_all};
+ghost use Rattle.shell_session.specs.Running.{BodyDone, GoneOn, Halts, Interrupted, Kept, LastDid, LastHalts, Stops, TaskDone, behind_at};
+ghost use Rattle.shell_session.specs.Session.{RanAll, RanPart, price_all};
 ghost use Rattle.shell_session.specs.Stops.{status_in_body};
 
 use crate::status::Status;
@@ -31,7 +32,6 @@ use std::alloc::Global;
 use std::marker::Brand;
 
 /// Runs the script of the input, line by line, to `quit` or its end.
-#[tactic(auto, using(crate::proofs::RunningLaws::ends_stuck))]
 pub(crate) fn run_script<F: Files, S: Source, K: Sink>(
     alloc: Global,
     machine: &mut Machine,
@@ -43,13 +43,10 @@ pub(crate) fn run_script<F: Files, S: Source, K: Sink>(
     ensures all { OnOk result ((s : State) (script : List ℕ) → Stands machine.old (F.seen files.old) s → S.left input.old ≡ Some script → RanAll s script (K.taken out.old) (K.taken out.new) (S.left input.new) (F.seen files.new)) }
     ensures part { IfErr result (λ status. (s : State) (script : List ℕ) → Stands machine.old (F.seen files.old) s → S.left input.old ≡ Some script → RanPart status s script (K.taken out.old) (K.taken out.new) (S.left input.new) (F.seen files.new)) }
     ensures asks { (s : State) (script : List ℕ) → Stands machine.old (F.seen files.old) s → S.left input.old ≡ Some script → F.asked files.new ≤ F.asked files.old + price_all s (script_of script) }
-    ensures choices { (F.seen files.new).choices ≡ (F.seen files.old).choices }
     // Where nothing of the input was taken, no file is changed, whatever it tells.
     ensures untaken { S.budget input.new ≡ S.budget input.old → F.seen files.new ≡ F.seen files.old }
-    ensures counts { NoneFell (counts (F.faults files.old) (S.faults input.old) (K.faults out.old)) (counts (F.faults files.new) (S.faults input.new) (K.faults out.new)) }
-    ensures ends { IfErr result Interrupts }
-    ensures why { IfErr result (λ status. WhyStatus status (counts (F.faults files.old) (S.faults input.old) (K.faults out.old)) (counts (F.faults files.new) (S.faults input.new) (K.faults out.new))) }
-    ensures too_long { IfErr result (λ status. status ≡ Status.InputTooLong → S.budget input.new + longest_script < S.budget input.old) }
+    ensures none_lost { NoneLost (K.taken out.old) (K.taken out.new) }
+    ensures kept { Kept true machine.new (F.seen files.old) (F.seen files.new) (counts (F.faults files.old) (S.faults input.old) (K.faults out.old)) (counts (F.faults files.new) (S.faults input.new) (K.faults out.new)) (S.budget input.old) (S.budget input.new) (result_err result) }
 {
     let Ok(mut reader) = LineReader::new(alloc) else {
         return Err(Status::Memory);
@@ -87,15 +84,10 @@ fn run_task<F: Files, S: Source, K: Sink>(
     requires few { length reader.unread ≤ piece_len }
     ensures done { IfOk result (λ back. (s : State) (ahead : List ℕ) → Stands machine.old (F.seen files.old) s → before reader.unread (S.left input.old) ≡ Some ahead → TaskDone order s ahead reader.used machine.new (F.seen files.new) back (S.left input.new) (K.taken out.old) (K.taken out.new) (F.asked files.old) (F.asked files.new)) }
     ensures halts { IfErr result (λ status. (s : State) (ahead : List ℕ) → Stands machine.old (F.seen files.old) s → before reader.unread (S.left input.old) ≡ Some ahead → Halts status (F.seen files.new) order s ahead reader.used (S.left input.new) (K.taken out.old) (K.taken out.new) (F.asked files.old) (F.asked files.new)) }
-    ensures sound { OnOk result (Sound machine.new (F.seen files.new)) }
-    ensures unchanged { order_writes order ≡ false → F.seen files.new ≡ F.seen files.old }
-    ensures choices { (F.seen files.new).choices ≡ (F.seen files.old).choices }
-    ensures counts { NoneFell (counts (F.faults files.old) (S.faults input.old) (K.faults out.old)) (counts (F.faults files.new) (S.faults input.new) (K.faults out.new)) }
-    ensures ends { IfErr result Interrupts }
-    ensures why { IfErr result (λ status. WhyStatus status (counts (F.faults files.old) (S.faults input.old) (K.faults out.old)) (counts (F.faults files.new) (S.faults input.new) (K.faults out.new))) }
     ensures goes_on { IfOk result (λ back. IfSome back (λ later. GoneOn reader (S.budget input.old) later (S.budget input.new))) }
     ensures falls { S.budget input.new ≤ S.budget input.old }
-    ensures too_long { IfErr result (λ status. status ≡ Status.InputTooLong → S.budget input.new + longest_script < S.budget input.old + (reader.used + length reader.unread)) }
+    ensures none_lost { NoneLost (K.taken out.old) (K.taken out.new) }
+    ensures kept { Kept (order_writes order) machine.new (F.seen files.old) (F.seen files.new) (counts (F.faults files.old) (S.faults input.old) (K.faults out.old)) (counts (F.faults files.new) (S.faults input.new) (K.faults out.new)) (S.budget input.old + (reader.used + length reader.unread)) (S.budget input.new) (result_err result) }
 {
     if let Some(word) = body_word(&order) {
         match run_body(alloc, machine, files, input, out, reader, &order, word) {
@@ -103,7 +95,10 @@ fn run_task<F: Files, S: Source, K: Sink>(
             Ok(None) => {}
             Err(status) => return Err(status),
         }
-        return run_quit(alloc, machine, files, out);
+        match run_quit(alloc, machine, files, out) {
+            Ok(()) => return Ok(None),
+            Err(status) => return Err(status),
+        }
     }
     match run_line(alloc, machine, files, out, order) {
         Ok(true) => Ok(None),
@@ -118,22 +113,16 @@ fn run_quit<F: Files, K: Sink>(
     machine: &mut Machine,
     files: &mut F,
     out: &mut K,
-) -> Result<Option<LineReader>, Status>
+) -> Result<(), Status>
     requires sound { Sound machine.old (F.seen files.old) }
     ensures done { OnOk result ((s : State) → Stands machine.old (F.seen files.old) s → Done (Stands machine.new (F.seen files.new)) (tasks.after s (task (Ok command.Quit) [])) (tasks.text s (task (Ok command.Quit) [])) (K.taken out.old) (K.taken out.new)) }
-    ensures none { IfOk result (λ back. back ≡ None) }
     ensures interrupted { IfErr result (λ status. (s : State) → Stands machine.old (F.seen files.old) s → Interrupted status (F.seen files.new) s (task (Ok command.Quit) []) (K.taken out.old) (K.taken out.new)) }
     ensures asks { (s : State) → Stands machine.old (F.seen files.old) s → F.asked files.new ≤ F.asked files.old + order_price s (Ok command.Quit) }
-    ensures sound { OnOk result (Sound machine.new (F.seen files.new)) }
-    ensures unchanged { F.seen files.new ≡ F.seen files.old }
-    ensures choices { (F.seen files.new).choices ≡ (F.seen files.old).choices }
-    ensures counts { NoneFell (counts (F.faults files.old) 0 (K.faults out.old)) (counts (F.faults files.new) 0 (K.faults out.new)) }
-    ensures ends { IfErr result Interrupts }
-    ensures why { IfErr result (λ status. (i : ℕ) (i' : ℕ) → WhyStatus status (counts (F.faults files.old) i (K.faults out.old)) (counts (F.faults files.new) i' (K.faults out.new))) }
-    ensures no_input { IfErr result (λ status. status ≡ Status.InputTooLong → ⊥) }
+    ensures none_lost { NoneLost (K.taken out.old) (K.taken out.new) }
+    ensures kept { Kept false machine.new (F.seen files.old) (F.seen files.new) (counts (F.faults files.old) 0 (K.faults out.old)) (counts (F.faults files.new) 0 (K.faults out.new)) 0 0 (result_err result) }
 {
     match run_line(alloc, machine, files, out, Ok(Command::Quit)) {
-        Ok(_) => Ok(None),
+        Ok(_) => Ok(()),
         Err(status) => Err(status),
     }
 }
@@ -155,13 +144,9 @@ fn run_last_task<F: Files, S: Source, K: Sink>(
     ensures done { OnOk result ((s : State) → Stands machine.old (F.seen files.old) s → before reader.unread (S.left input.old) ≡ Some [] → LastDid order s machine.new (F.seen files.new) (S.left input.new) (K.taken out.old) (K.taken out.new)) }
     ensures halts { IfErr result (λ status. (s : State) → Stands machine.old (F.seen files.old) s → before reader.unread (S.left input.old) ≡ Some [] → LastHalts status (F.seen files.new) order s (S.left input.new) (K.taken out.old) (K.taken out.new)) }
     ensures asks { (s : State) → Stands machine.old (F.seen files.old) s → before reader.unread (S.left input.old) ≡ Some [] → F.asked files.new ≤ F.asked files.old + price_all s (then_quit (task order [])) }
-    ensures unchanged { order_writes order ≡ false → F.seen files.new ≡ F.seen files.old }
-    ensures choices { (F.seen files.new).choices ≡ (F.seen files.old).choices }
-    ensures counts { NoneFell (counts (F.faults files.old) (S.faults input.old) (K.faults out.old)) (counts (F.faults files.new) (S.faults input.new) (K.faults out.new)) }
-    ensures ends { IfErr result Interrupts }
-    ensures why { IfErr result (λ status. WhyStatus status (counts (F.faults files.old) (S.faults input.old) (K.faults out.old)) (counts (F.faults files.new) (S.faults input.new) (K.faults out.new))) }
     ensures falls { S.budget input.new ≤ S.budget input.old }
-    ensures too_long { IfErr result (λ status. status ≡ Status.InputTooLong → S.budget input.new + longest_script < S.budget input.old + (reader.used + length reader.unread)) }
+    ensures none_lost { NoneLost (K.taken out.old) (K.taken out.new) }
+    ensures kept { Kept (order_writes order) machine.new (F.seen files.old) (F.seen files.new) (counts (F.faults files.old) (S.faults input.old) (K.faults out.old)) (counts (F.faults files.new) (S.faults input.new) (K.faults out.new)) (S.budget input.old + (reader.used + length reader.unread)) (S.budget input.new) (result_err result) }
 {
     if body_word(&order).is_none() {
         return run_last(alloc, machine, files, out, order);
@@ -171,10 +156,7 @@ fn run_last_task<F: Files, S: Source, K: Sink>(
         Ok(Some(_)) => {}
         Err(status) => return Err(status),
     }
-    if let Err(status) = run_quit(alloc, machine, files, out) {
-        return Err(status);
-    }
-    Ok(())
+    run_quit(alloc, machine, files, out)
 }
 
 // Runs a command that has a body, which ends at the line of this word, and gives the reader back where such a line ended it; else the
@@ -195,15 +177,10 @@ fn run_body<F: Files, S: Source, K: Sink>(
     requires within { reader.used ≤ longest_script }
     ensures done { IfOk result (λ back. (s : State) (ahead : List ℕ) → Stands machine.old (F.seen files.old) s → before reader.unread (S.left input.old) ≡ Some ahead → BodyDone order.now s ahead reader.used machine.new (F.seen files.new) back (S.left input.new) (K.taken out.old) (K.taken out.new) (F.asked files.old) (F.asked files.new)) }
     ensures halts { IfErr result (λ status. (s : State) (ahead : List ℕ) → Stands machine.old (F.seen files.old) s → before reader.unread (S.left input.old) ≡ Some ahead → Halts status (F.seen files.new) order.now s ahead reader.used (S.left input.new) (K.taken out.old) (K.taken out.new) (F.asked files.old) (F.asked files.new)) }
-    ensures sound { OnOk result (Sound machine.new (F.seen files.new)) }
-    ensures unchanged { order_writes order.now ≡ false → F.seen files.new ≡ F.seen files.old }
-    ensures choices { (F.seen files.new).choices ≡ (F.seen files.old).choices }
-    ensures counts { NoneFell (counts (F.faults files.old) (S.faults input.old) (K.faults out.old)) (counts (F.faults files.new) (S.faults input.new) (K.faults out.new)) }
-    ensures ends { IfErr result Interrupts }
-    ensures why { IfErr result (λ status. WhyStatus status (counts (F.faults files.old) (S.faults input.old) (K.faults out.old)) (counts (F.faults files.new) (S.faults input.new) (K.faults out.new))) }
     ensures goes_on { IfOk result (λ back. IfSome back (λ later. GoneOn reader (S.budget input.old) later (S.budget input.new))) }
     ensures falls { S.budget input.new ≤ S.budget input.old }
-    ensures too_long { IfErr result (λ status. status ≡ Status.InputTooLong → S.budget input.new + longest_script < S.budget input.old + (reader.used + length reader.unread)) }
+    ensures none_lost { NoneLost (K.taken out.old) (K.taken out.new) }
+    ensures kept { Kept (order_writes order.now) machine.new (F.seen files.old) (F.seen files.new) (counts (F.faults files.old) (S.faults input.old) (K.faults out.old)) (counts (F.faults files.new) (S.faults input.new) (K.faults out.new)) (S.budget input.old + (reader.used + length reader.unread)) (S.budget input.new) (result_err result) }
 {
     let Ok(mut place) = Place::new(alloc, reader, word.as_bytes()) else {
         return Err(Status::Memory);
@@ -249,6 +226,7 @@ fn serve_in<B: Begins, F: Files, S: Source, K: Sink>(
     ensures unchanged { order_writes order.now ≡ false → F.seen files.new ≡ F.seen files.old }
     ensures choices { (F.seen files.new).choices ≡ (F.seen files.old).choices }
     ensures asks { (s : State) → Stands machine.old (F.seen files.old) s → F.asked files.new ≤ F.asked files.old + order_price s order.now }
+    ensures none_lost { NoneLost (K.taken out.old) (K.taken out.new) }
     ensures causes { Causes WhyHalt result (counts (F.faults files.old) place.old.refused (K.faults out.old)) (counts (F.faults files.new) place.new.refused (K.faults out.new)) }
 {
     let mut body: Body<'_, S, B> = Body::new(input, place);
@@ -279,22 +257,15 @@ fn run_last<F: Files, K: Sink>(
     ensures done { OnOk result ((s : State) → Stands machine.old (F.seen files.old) s → Done (Stands machine.new (F.seen files.new)) (after_all tasks s (then_quit (task order []))) (run tasks s (then_quit (task order []))) (K.taken out.old) (K.taken out.new)) }
     ensures stops { IfErr result (λ status. (s : State) → Stands machine.old (F.seen files.old) s → Stops status (F.seen files.new) s (then_quit (task order [])) (K.taken out.old) (K.taken out.new)) }
     ensures asks { (s : State) → Stands machine.old (F.seen files.old) s → F.asked files.new ≤ F.asked files.old + price_all s (then_quit (task order [])) }
-    ensures choices { (F.seen files.new).choices ≡ (F.seen files.old).choices }
-    ensures unchanged { order_writes order ≡ false → F.seen files.new ≡ F.seen files.old }
-    ensures counts { NoneFell (counts (F.faults files.old) 0 (K.faults out.old)) (counts (F.faults files.new) 0 (K.faults out.new)) }
-    ensures ends { IfErr result Interrupts }
-    ensures why { IfErr result (λ status. (i : ℕ) (i' : ℕ) → WhyStatus status (counts (F.faults files.old) i (K.faults out.old)) (counts (F.faults files.new) i' (K.faults out.new))) }
-    ensures no_input { IfErr result (λ status. status ≡ Status.InputTooLong → ⊥) }
+    ensures none_lost { NoneLost (K.taken out.old) (K.taken out.new) }
+    ensures kept { Kept (order_writes order) machine.new (F.seen files.old) (F.seen files.new) (counts (F.faults files.old) 0 (K.faults out.old)) (counts (F.faults files.new) 0 (K.faults out.new)) 0 0 (result_err result) }
 {
     match run_line(alloc, machine, files, out, order) {
         Ok(true) => return Ok(()),
         Ok(false) => {}
         Err(status) => return Err(status),
     }
-    match run_line(alloc, machine, files, out, Ok(Command::Quit)) {
-        Ok(_) => Ok(()),
-        Err(status) => Err(status),
-    }
+    run_quit(alloc, machine, files, out)
 }
 
 // Runs one line, and tells whether it was `quit`.
@@ -312,47 +283,12 @@ fn run_line<F: Files, K: Sink>(
     ensures quit { IfOk result (λ quit. quit ≡ is_quit order) }
     ensures interrupted { IfErr result (λ status. (s : State) → Stands machine.old (F.seen files.old) s → Interrupted status (F.seen files.new) s (task order []) (K.taken out.old) (K.taken out.new)) }
     ensures asks { (s : State) → Stands machine.old (F.seen files.old) s → F.asked files.new ≤ F.asked files.old + order_price s order }
-    ensures sound { OnOk result (Sound machine.new (F.seen files.new)) }
-    ensures choices { (F.seen files.new).choices ≡ (F.seen files.old).choices }
-    ensures unchanged { order_writes order ≡ false → F.seen files.new ≡ F.seen files.old }
-    ensures counts { NoneFell (counts (F.faults files.old) 0 (K.faults out.old)) (counts (F.faults files.new) 0 (K.faults out.new)) }
-    ensures ends { IfErr result Interrupts }
-    ensures why { IfErr result (λ status. (i : ℕ) (i' : ℕ) → WhyStatus status (counts (F.faults files.old) i (K.faults out.old)) (counts (F.faults files.new) i' (K.faults out.new))) }
-    ensures no_input { IfErr result (λ status. status ≡ Status.InputTooLong → ⊥) }
+    ensures none_lost { NoneLost (K.taken out.old) (K.taken out.new) }
+    ensures kept { Kept (order_writes order) machine.new (F.seen files.old) (F.seen files.new) (counts (F.faults files.old) 0 (K.faults out.old)) (counts (F.faults files.new) 0 (K.faults out.new)) 0 0 (result_err result) }
 {
     let quit = is_quit(&order);
-    let outcome = run_order(alloc, machine, files, out, &order);
-    match outcome {
+    match serve(alloc, machine, files, &mut NoBody, out, &order) {
         Ok(()) => Ok(quit),
-        Err(status) => Err(status),
-    }
-}
-
-// Does what a line says.
-#[tactic(auto, using(crate::proofs::RunningLaws::why_halt, crate::proofs::RunningLaws::no_input, crate::proofs::RunningLaws::ends_halt))]
-fn run_order<F: Files, K: Sink>(
-    alloc: Global,
-    machine: &mut Machine,
-    files: &mut F,
-    out: &mut K,
-    order: &Order,
-) -> Result<(), Status>
-    requires sound { Sound machine.old (F.seen files.old) }
-    requires order { IsSoundLine order.now }
-    requires alone { body_word order.now ≡ None }
-    ensures done { OnOk result ((s : State) → Stands machine.old (F.seen files.old) s → Done (Stands machine.new (F.seen files.new)) (tasks.after s (task order.now [])) (tasks.text s (task order.now [])) (K.taken out.old) (K.taken out.new)) }
-    ensures interrupted { IfErr result (λ status. (s : State) → Stands machine.old (F.seen files.old) s → Interrupted status (F.seen files.new) s (task order.now []) (K.taken out.old) (K.taken out.new)) }
-    ensures asks { (s : State) → Stands machine.old (F.seen files.old) s → F.asked files.new ≤ F.asked files.old + order_price s order.now }
-    ensures sound { OnOk result (Sound machine.new (F.seen files.new)) }
-    ensures choices { (F.seen files.new).choices ≡ (F.seen files.old).choices }
-    ensures unchanged { order_writes order.now ≡ false → F.seen files.new ≡ F.seen files.old }
-    ensures counts { NoneFell (counts (F.faults files.old) 0 (K.faults out.old)) (counts (F.faults files.new) 0 (K.faults out.new)) }
-    ensures ends { IfErr result Interrupts }
-    ensures why { IfErr result (λ status. (i : ℕ) (i' : ℕ) → WhyStatus status (counts (F.faults files.old) i (K.faults out.old)) (counts (F.faults files.new) i' (K.faults out.new))) }
-    ensures no_input { IfErr result (λ status. status ≡ Status.InputTooLong → ⊥) }
-{
-    match serve(alloc, machine, files, &mut NoBody, out, order) {
-        Ok(()) => Ok(()),
         Err(halt) => Err(Status::from(halt)),
     }
 }

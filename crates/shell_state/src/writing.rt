@@ -2,7 +2,7 @@
 ghost use Rattle.std.specs.Prelude.{◌≡◌, ◌<◌, [], Ok, IfErr, OnOk};
 ghost use Rattle.base_files.specs.Told.{adds};
 ghost use Rattle.command_runs.specs.Counts.{Causes, counts};
-ghost use Rattle.command_runs.specs.Endings.{Halted};
+ghost use Rattle.command_runs.specs.Endings.{Halted, NoneLost};
 ghost use Rattle.shell_state.specs.Ends.{IsOutput};
 ghost use Rattle.shell_state.specs.Lines.{filter_line};
 ghost use Rattle.shell_state.specs.Stands.{WhyHalt};
@@ -22,6 +22,7 @@ pub fn write_filter<K: Sink>(alloc: Global, filter: &Filter, out: &mut K) -> Res
     ensures written { OnOk result (K.taken out.new ≡ adds (K.taken out.old) (filter_line filter.now)) }
     ensures halted { Halted [] (filter_line filter.now) (K.taken out.old) (K.taken out.new) }
     ensures output { IfErr result IsOutput }
+    ensures none_lost { NoneLost (K.taken out.old) (K.taken out.new) }
     ensures causes { Causes WhyHalt result (counts 0 0 (K.faults out.old)) (counts 0 0 (K.faults out.new)) }
 {
     match filter_line(alloc, filter) {
@@ -35,6 +36,7 @@ pub fn write_line<K: Sink>(out: &mut K, line: &[u8]) -> Result<(), Halt>
     ensures written { OnOk result (K.taken out.new ≡ adds (K.taken out.old) line.now) }
     ensures halted { Halted [] line.now (K.taken out.old) (K.taken out.new) }
     ensures output { IfErr result IsOutput }
+    ensures none_lost { NoneLost (K.taken out.old) (K.taken out.new) }
     ensures causes { Causes WhyHalt result (counts 0 0 (K.faults out.old)) (counts 0 0 (K.faults out.new)) }
 {
     match write_text(out, line) {

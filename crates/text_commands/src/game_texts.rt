@@ -3,7 +3,7 @@ ghost use Rattle.std.specs.Prelude.{◌≡◌, ◌≤◌, ◌<◌, ◌+◌, ℕ,
 ghost use Rattle.base_core.specs.Base.{Base as PlainBase, Held};
 ghost use Rattle.base_core.specs.Represents.{Represents};
 ghost use Rattle.command_runs.specs.Counts.{Causes, counts};
-ghost use Rattle.command_runs.specs.Endings.{Serves};
+ghost use Rattle.command_runs.specs.Endings.{NoneLost, Serves};
 ghost use Rattle.game_tree.specs.Head.{IsBounded};
 ghost use Rattle.game_tree.specs.Legal.{IsLegalGame};
 ghost use Rattle.pgn_write.specs.Pgn.{pgn_of};
@@ -36,6 +36,7 @@ pub fn show<F: Files, K: Sink>(
     ensures serves { (s : State) → Stands machine.old (F.seen files.old) s → Serves works (Stands machine.new (F.seen files.new)) Broken s (show_work number) (K.taken out.old) (K.taken out.new) result }
     ensures unchanged { F.seen files.new ≡ F.seen files.old }
     ensures asks { Asks machine.old (show_work number) (F.asked files.old) (F.asked files.new) }
+    ensures none_lost { NoneLost (K.taken out.old) (K.taken out.new) }
     ensures causes { Causes WhyHalt result (counts (F.faults files.old) 0 (K.faults out.old)) (counts (F.faults files.new) 0 (K.faults out.new)) }
 {
     match machine.game_at(number) {
@@ -61,6 +62,7 @@ fn show_there<F: Files, K: Sink>(
     ensures serves { (s : State) → Stands machine.old (F.seen files.old) s → Serves works (Stands machine.new (F.seen files.new)) Broken s (show_work i) (K.taken out.old) (K.taken out.new) result }
     ensures unchanged { F.seen files.new ≡ F.seen files.old }
     ensures asks { Asks machine.old (show_work i) (F.asked files.old) (F.asked files.new) }
+    ensures none_lost { NoneLost (K.taken out.old) (K.taken out.new) }
     ensures causes { Causes WhyHalt result (counts (F.faults files.old) 0 (K.faults out.old)) (counts (F.faults files.new) 0 (K.faults out.new)) }
 {
     let block = machine.block.as_mut_slice();
@@ -80,6 +82,7 @@ pub fn export<F: Files, K: Sink>(
     ensures cut { (s : State) → Stands machine.old (F.seen files.old) s → IfErr result (λ e. ExportCut s.seat.filter s.shared.base.games e (K.taken out.old) (K.taken out.new)) }
     ensures unchanged { F.seen files.new ≡ F.seen files.old }
     ensures asks { Asks machine.old export_work (F.asked files.old) (F.asked files.new) }
+    ensures none_lost { NoneLost (K.taken out.old) (K.taken out.new) }
     ensures causes { Causes WhyHalt result (counts (F.faults files.old) 0 (K.faults out.old)) (counts (F.faults files.new) 0 (K.faults out.new)) }
 {
     let block = machine.block.as_mut_slice();
@@ -108,6 +111,7 @@ fn write_games<F: Files, K: Sink>(
     ensures written { (told : List ℕ) (all : PlainBase) → (F.seen files.old).games ≡ Some told → Represents base.now told all → GamesEnd result filter.now all.games (K.taken out.old) (K.taken out.new) }
     ensures unchanged { F.seen files.new ≡ F.seen files.old }
     ensures asks { F.asked files.new ≤ F.asked files.old + exported_len filter.now base.now.entries }
+    ensures none_lost { NoneLost (K.taken out.old) (K.taken out.new) }
     ensures causes { Causes WhyHalt result (counts (F.faults files.old) 0 (K.faults out.old)) (counts (F.faults files.new) 0 (K.faults out.new)) }
 {
     for i in 0..filter.len() {
@@ -136,6 +140,7 @@ fn write_if_in<F: Files, K: Sink>(
     ensures room { length block.new ≡ 131072 }
     ensures unchanged { F.seen files.new ≡ F.seen files.old }
     ensures asks { F.asked files.new ≤ F.asked files.old + len_if_in ply (len_at base.now.entries i) }
+    ensures none_lost { NoneLost (K.taken out.old) (K.taken out.new) }
     ensures causes { Causes WhyHalt result (counts (F.faults files.old) 0 (K.faults out.old)) (counts (F.faults files.new) 0 (K.faults out.new)) }
 {
     match ply {
@@ -160,6 +165,7 @@ fn write_one<F: Files, K: Sink>(
     ensures room { length block.new ≡ 131072 }
     ensures unchanged { F.seen files.new ≡ F.seen files.old }
     ensures asks { F.asked files.new ≤ F.asked files.old + len_at base.now.entries i }
+    ensures none_lost { NoneLost (K.taken out.old) (K.taken out.new) }
     ensures causes { Causes WhyHalt result (counts (F.faults files.old) 0 (K.faults out.old)) (counts (F.faults files.new) 0 (K.faults out.new)) }
 {
     match read_text(alloc, base, i, files, block) {

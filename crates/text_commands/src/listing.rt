@@ -6,7 +6,7 @@ ghost use Rattle.base_files.specs.Causes.{HasCause};
 ghost use Rattle.base_files.specs.Seen.{Seen};
 ghost use Rattle.base_files.specs.Told.{Grew, adds};
 ghost use Rattle.command_runs.specs.Counts.{Causes, Why, counts};
-ghost use Rattle.command_runs.specs.Endings.{Halted, Serves};
+ghost use Rattle.command_runs.specs.Endings.{Halted, NoneLost, Serves};
 ghost use Rattle.game_tree.specs.Head.{head_of};
 ghost use Rattle.game_tree.specs.declared.head.Head.{Head};
 ghost use Rattle.shell_state.specs.Lines.{filter_line};
@@ -29,6 +29,7 @@ pub fn list<K: Sink>(alloc: Global, machine: &Machine, out: &mut K) -> Result<()
     requires fits { Fits machine.now }
     requires sound { IsSound machine.now.kept }
     ensures serves { (seen : Seen) (s : State) → Stands machine.now seen s → Serves works (Stands machine.now seen) Broken s list_work (K.taken out.old) (K.taken out.new) result }
+    ensures none_lost { NoneLost (K.taken out.old) (K.taken out.new) }
     ensures causes { Causes WhyHalt result (counts 0 0 (K.faults out.old)) (counts 0 0 (K.faults out.new)) }
 {
     match write_list(alloc, &machine.base, &machine.seat.filter, out) {
@@ -38,12 +39,13 @@ pub fn list<K: Sink>(alloc: Global, machine: &Machine, out: &mut K) -> Result<()
 }
 
 // Writes a line for each game that is in, and then how many of how many there are.
-#[tactic(auto, using(command_runs::proofs::Joining::halted_by))]
+#[tactic(auto, using(command_runs::proofs::Joining::halted_by, command_runs::proofs::Joining::none_lost_by))]
 fn write_list<K: Sink>(alloc: Global, base: &Base, filter: &Filter, out: &mut K) -> Result<(), Stop>
     requires games { length filter.now ≡ length base.now.entries }
     requires sound { IsSound base.now }
     ensures written { OnOk result (K.taken out.new ≡ adds (K.taken out.old) (list_of filter.now (heads_of base.now))) }
     ensures halted { Halted [] (list_of filter.now (heads_of base.now)) (K.taken out.old) (K.taken out.new) }
+    ensures none_lost { NoneLost (K.taken out.old) (K.taken out.new) }
     ensures causes { Causes Why result (counts 0 0 (K.faults out.old)) (counts 0 0 (K.faults out.new)) }
 {
     match put_list(alloc, base, filter, out) {

@@ -18,6 +18,7 @@ loop-taken-init g c = record {
   took = λ s text st left.
       let T : Reader → Type 0 = λ r. TookIn c.args.machine.now (g.F.Files.seen c.args.files.now) s text (told r (g.B.Source.left c.args.body.now)) (g.K.Sink.taken c.args.out.now) (g.K.Sink.taken c.args.out.now) 0 0 in
       subst T (sym c.in_ok-reader.ensures.new) (took_none c.args.machine.now (g.F.Files.seen c.args.files.now) s text (g.B.Source.left c.args.body.now) (g.K.Sink.taken c.args.out.now) left st);
+  none_lost = λ front before. before;
   few = omega arith;
   free = ap (λ (r : Reader). r.stuck) c.in_ok-reader.ensures.new;
   sound = c.requires.sound;
@@ -37,6 +38,7 @@ loop-taken-preserved g c =
           took_on c.take_next.new.machine (g.F.Files.seen c.take_next.new.files) s text (told c.take_next.new.reader (g.B.Source.left c.take_next.new.body)) (g.K.Sink.taken c.args.out.now) (g.K.Sink.taken c.take_next.new.out)
           c.loop-taken.added c.loop-taken.taken c.from-added.result c.in-Ok-Some.field-0 c.in-Ok-Some.was_added c.in-Ok-Some.field-0-is i.few (c.from-added.ensures ∙ flag_number c.in-Ok-Some.was_added)
           (c.in-Ok-Some.ensures.took s text (g.K.Sink.taken c.args.out.now) c.loop-taken.added (c.loop-taken.taken - c.loop-taken.added) (i.took s text st left) (omega (arith, i.few)));
+      none_lost = λ front before. n.none_lost front (i.none_lost front before);
       few = flag_few c.in-Ok-Some.was_added c.loop-taken.added c.loop-taken.taken c.from-added.result i.few (c.from-added.ensures ∙ flag_number c.in-Ok-Some.was_added);
       free = c.in-Ok-Some.ensures.free;
       sound = c.in-Ok-Some.ensures.sound;

@@ -1,5 +1,6 @@
 use Rattle.std.proofs.Common.{◌≡◌, ◌≤◌, ◌-◌, ℕ, List, Some, None}
 use Rattle.command_runs.specs.Counts.{NoneFell, counts}
+use Rattle.command_runs.specs.Endings.{NoneLost}
 use Rattle.pgn_read.specs.Readers.{told}
 use Rattle.intake_commands.proofs.importing.take_in.Given as goal
 use Rattle.intake_commands.specs.Intakes.{StandsLater, TookIn}
@@ -11,6 +12,7 @@ abbrev pub invariant-loop-taken : goal.invariant-loop-taken
 invariant-loop-taken g l = record {
   took : (s : State) (text : List ℕ) → Stands l.fn.machine (g.F.Files.seen l.fn.files) s → g.B.Source.left l.fn.body ≡ Some text
       → TookIn l.machine (g.F.Files.seen l.files) s text (told l.reader (g.B.Source.left l.body)) (g.K.Sink.taken l.fn.out) (g.K.Sink.taken l.out) l.added (l.taken - l.added);
+  none_lost : NoneLost (g.K.Sink.taken l.fn.out) (g.K.Sink.taken l.out);
   few : l.added ≤ l.taken;
   free : l.reader.stuck ≡ None;
   sound : Sound l.machine (g.F.Files.seen l.files);

@@ -5,7 +5,7 @@ use Rattle.shell_session.specs.Words.{Wanted}
 use Rattle.shell_session.specs.declared.status.Status.{Status}
 use Rattle.shell_session.specs.declared.status.Status.TheVariants.{Done, Memory}
 use Rattle.shell_session.specs.Stops.{status_of}
-use Rattle.shell_session.proofs.AnswerLaws.{chooses_running, chosen, due_of, line_session, part_session, silent_line, silent_running, why_line, why_running, whole_session}
+use Rattle.shell_session.proofs.AnswerLaws.{chooses_running, chosen, due_of, line_session, opened_by, part_session, silent_line, silent_running, why_line, why_running, whole_session}
 use Rattle.shell_session.proofs.PriceLaws.{asks_opening, asks_script}
 use Rattle.shell_session.proofs.run.session.Goals as goal
 
@@ -67,14 +67,14 @@ returns-clause-due g c = λ index names games script i n told left no_files no_i
     due_of (given (map string_bytes c.args.words.now) index names games script) (g.K.Sink.taken c.args.out.now) (g.K.Sink.taken c.run_script.new.out) input input' (g.F.Files.seen c.run_script.new.files) c.in-Err-run_script.status _ _ _ _ _ _
     (part_session (map string_bytes c.args.words.now) index names games script (g.F.Files.seen c.args.files.now) (g.F.Files.seen c.open.new.files) (g.F.Files.seen c.run_script.new.files) wanted c.in-Ok.opened.0 c.in-Ok.opened.1 c.games.result _ (g.K.Sink.taken c.write_opening.new.out) _ input input' c.in-Err-run_script.status
     (sym c.in-Some.ensures.read) c.in-Ok.ensures.opens c.games.ensures.games c.in_default-write_opening.ensures.written c.in-Err-run_script.ensures.part i n told left)
-    (why_running c.in-Err-run_script.status _ (g.F.Files.faults c.open.new.files) _ _ _ _ (g.K.Sink.faults c.write_opening.new.out) _ c.open.ensures.counts c.in_default-write_opening.ensures.causes.none_fell.output c.in-Err-run_script.ensures.why)
+    (why_running c.in-Err-run_script.status _ (g.F.Files.faults c.open.new.files) _ _ _ _ (g.K.Sink.faults c.write_opening.new.out) _ c.open.ensures.counts c.in_default-write_opening.ensures.causes.none_fell.output c.in-Err-run_script.ensures.kept.why)
     no_files no_input no_output
 
 pub returns-clause-choices : goal.returns-clause-choices
 returns-clause-choices g c =
     let wanted : Wanted = record { name = c.in-Some.wanted.name.now; create = c.in-Some.wanted.create; strict = c.in-Some.wanted.strict } in
-    chooses_running c.in-Err-run_script.status (map string_bytes c.args.words.now) _ _ c.in-Err-run_script.ensures.ends
-    (chosen (map string_bytes c.args.words.now) wanted _ _ (sym c.in-Some.ensures.read) (c.run_script.ensures.choices ∙ c.in-Ok.ensures.chosen))
+    chooses_running c.in-Err-run_script.status (map string_bytes c.args.words.now) _ _ c.in-Err-run_script.ensures.kept.ends
+    (chosen (map string_bytes c.args.words.now) wanted _ _ (sym c.in-Some.ensures.read) (c.run_script.ensures.kept.choices ∙ c.in-Ok.ensures.chosen))
 
 pub returns-in-Err-write_opening-clause-asks : goal.returns-in-Err-write_opening-clause-asks
 returns-in-Err-write_opening-clause-asks g c = λ index names games script i n told left.
@@ -98,4 +98,10 @@ returns-in-Err-write_opening-clause-silent g c =
     subst P (sym c.from.ensures) (silent_line c.in-Err-write_opening.stop _ _)
 
 pub returns-clause-silent : goal.returns-clause-silent
-returns-clause-silent g c = silent_running c.in-Err-run_script.status _ _ c.in-Err-run_script.ensures.ends
+returns-clause-silent g c = silent_running c.in-Err-run_script.status _ _ c.in-Err-run_script.ensures.kept.ends
+
+pub returns-in-Ok-run_script-clause-opened : goal.returns-in-Ok-run_script-clause-opened
+returns-in-Ok-run_script-clause-opened g c = λ taken. opened_by _ _ _ c.games.result c.in-Ok.opened.1 c.in_default-write_opening.ensures.written c.run_script.ensures.none_lost
+
+pub returns-clause-opened : goal.returns-clause-opened
+returns-clause-opened g c = λ taken. opened_by _ _ _ c.games.result c.in-Ok.opened.1 c.in_default-write_opening.ensures.written c.run_script.ensures.none_lost

@@ -1,19 +1,28 @@
-use Rattle.std.proofs.Common.{ℕ, List, true, Option, IfSome, refl, sym, ◌∙◌, subst}
-use Rattle.command_runs.specs.Counts.{counts}
+use Rattle.std.proofs.Common.{ℕ, List, true, Option, IfSome, arith, refl, sym, subst}
 use Rattle.base_files.specs.declared.faults.Stop.TheVariants as stop
 use Rattle.script_lines.specs.Bodies.{body_of}
 use Rattle.script_lines.specs.Reading.{Reader}
 use Rattle.script_lines.specs.Standing.{IsBegun}
 use Rattle.shell_state.specs.declared.halt.Halt.TheVariants as halt
 use Rattle.shell_session.specs.Running.{BodyDone, GoneOn, Halts}
-use Rattle.shell_session.specs.Session.{WhyStatus}
 use Rattle.shell_session.specs.declared.status.Status.{Status}
-use Rattle.shell_session.proofs.BodyLaws.{body_done, body_gone, body_halts, body_short, body_too_long, body_why, drain_halts, in_body, short_word, standing_first, standing_from, text_left}
+use Rattle.shell_session.proofs.BodyLaws.{body_done, body_gone, body_halts, body_kept, body_short, drain_halts, in_body, short_word, standing_first, standing_from, text_left}
 use Rattle.shell_session.proofs.running.run_body.Goals as goal
 
 pub returns-in_default-clause-halts : goal.returns-in_default-clause-halts
 returns-in_default-clause-halts g c = λ s ahead stands told.
     body_short c.args.order.now c.args.word.now ahead c.args.machine.now (g.F.Files.seen c.args.files.now) s c.args.reader.used (g.S.Source.left c.args.input.now) (g.K.Sink.taken c.args.out.now) (g.F.Files.asked c.args.files.now) c.requires.word stands
+
+pub returns-in_default-clause-kept : goal.returns-in_default-clause-kept
+returns-in_default-clause-kept g c = record {
+  sound = tt;
+  unchanged = λ none. refl;
+  choices = refl;
+  counts = record { files = omega arith; input = omega arith; output = omega arith };
+  ends = tt;
+  why = tt;
+  too_long = λ is. cc;
+}
 
 pub serve_in-requires-clause-begins : goal.serve_in-requires-clause-begins
 serve_in-requires-clause-begins g c =
@@ -32,17 +41,12 @@ returns-in-Err-clause-halts g c = λ s ahead stands told.
     refl at cut.wrote cut.broken (c.in-Err.ensures.carries s stands) c.in-Err.ensures.causes.why
     (c.serve_in.ensures.asks s stands))
 
-pub returns-in-Err-clause-counts : goal.returns-in-Err-clause-counts
-returns-in-Err-clause-counts g c =
-    record { files = c.serve_in.ensures.causes.none_fell.files; input = c.serve_in.ensures.stands.counts; output = c.serve_in.ensures.causes.none_fell.output }
-
-pub returns-in-Err-clause-why : goal.returns-in-Err-clause-why
-returns-in-Err-clause-why g c =
+pub returns-in-Err-clause-kept : goal.returns-in-Err-clause-kept
+returns-in-Err-clause-kept g c =
     let begun = subst (λ (w : List ℕ). IsBegun c.args.reader w c.in-Ok.place) c.as_bytes.ensures.bytes c.in-Ok.ensures.begins in
     let st = standing_from c.args.reader c.args.word.now c.in-Ok.place c.serve_in.new.place (g.S.Source.left c.args.input.now) (g.S.Source.left c.serve_in.new.input) (g.S.Source.budget c.args.input.now) (g.S.Source.faults c.args.input.now) (g.S.Source.budget c.serve_in.new.input) (g.S.Source.faults c.serve_in.new.input) begun c.serve_in.ensures.stands in
-    let P : Status → Type 0 = λ status. WhyStatus status (counts (g.F.Files.faults c.args.files.now) (g.S.Source.faults c.args.input.now) (g.K.Sink.faults c.args.out.now)) (counts (g.F.Files.faults c.serve_in.new.files) (g.S.Source.faults c.serve_in.new.input) (g.K.Sink.faults c.serve_in.new.out)) in
-    subst P (sym c.broken.ensures.status)
-    (body_why c.in-Err.halt c.serve_in.new.place.stuck c.args.word.now c.args.reader (g.S.Source.left c.args.input.now) (g.S.Source.budget c.args.input.now) (g.S.Source.faults c.args.input.now) c.serve_in.new.place (g.S.Source.left c.serve_in.new.input) (g.S.Source.budget c.serve_in.new.input) (g.S.Source.faults c.serve_in.new.input) (g.F.Files.faults c.args.files.now) (g.F.Files.faults c.serve_in.new.files) c.in-Ok.place.refused (g.K.Sink.faults c.args.out.now) (g.K.Sink.faults c.serve_in.new.out) refl st c.in-Err.ensures.causes.why)
+    body_kept c.in-Err.halt c.serve_in.new.place.stuck c.args.word.now c.args.reader (g.S.Source.left c.args.input.now) (g.S.Source.budget c.args.input.now) (g.S.Source.faults c.args.input.now) c.serve_in.new.place (g.S.Source.left c.serve_in.new.input) (g.S.Source.budget c.serve_in.new.input) (g.S.Source.faults c.serve_in.new.input) (g.F.Files.faults c.args.files.now) (g.F.Files.faults c.serve_in.new.files) c.in-Ok.place.refused (g.K.Sink.faults c.args.out.now) (g.K.Sink.faults c.serve_in.new.out) _ c.broken.ensures.status refl st c.in-Err.ensures.causes.why
+    c.serve_in.ensures.unchanged c.serve_in.ensures.choices c.serve_in.ensures.causes.none_fell.files c.serve_in.ensures.causes.none_fell.output
 
 pub returns-in-Err-drain-clause-halts : goal.returns-in-Err-drain-clause-halts
 returns-in-Err-drain-clause-halts g c = λ s ahead stands told.
@@ -55,26 +59,15 @@ returns-in-Err-drain-clause-halts g c = λ s ahead stands told.
     (drain_halts c.drain.new.self.stuck c.args.order.now c.args.word.now ahead c.args.reader (g.S.Source.left c.args.input.now) (g.S.Source.budget c.args.input.now) (g.S.Source.faults c.args.input.now) c.drain.new.self (g.S.Source.left c.drain.new.input) (g.S.Source.budget c.drain.new.input) (g.S.Source.faults c.drain.new.input) s c.serve_in.new.machine (g.F.Files.seen c.serve_in.new.files) (g.K.Sink.taken c.args.out.now) (g.K.Sink.taken c.serve_in.new.out) (g.F.Files.asked c.args.files.now) (g.F.Files.asked c.serve_in.new.files) c.serve_in.new.place.refused
     refl at did c.in-Err-drain.ensures.cause (c.serve_in.ensures.asks s stands))
 
-pub returns-in-Err-drain-clause-counts : goal.returns-in-Err-drain-clause-counts
-returns-in-Err-drain-clause-counts g c =
-    record { files = c.serve_in.ensures.causes.none_fell.files; input = (c.drain.ensures.stands _ c.serve_in.ensures.stands).counts; output = c.serve_in.ensures.causes.none_fell.output }
-
-pub returns-in-Err-drain-clause-why : goal.returns-in-Err-drain-clause-why
-returns-in-Err-drain-clause-why g c =
+pub returns-in-Err-drain-clause-kept : goal.returns-in-Err-drain-clause-kept
+returns-in-Err-drain-clause-kept g c =
     let begun = subst (λ (w : List ℕ). IsBegun c.args.reader w c.in-Ok.place) c.as_bytes.ensures.bytes c.in-Ok.ensures.begins in
     let st = standing_from c.args.reader c.args.word.now c.in-Ok.place c.drain.new.self (g.S.Source.left c.args.input.now) (g.S.Source.left c.drain.new.input) (g.S.Source.budget c.args.input.now) (g.S.Source.faults c.args.input.now) (g.S.Source.budget c.drain.new.input) (g.S.Source.faults c.drain.new.input) begun (c.drain.ensures.stands _ c.serve_in.ensures.stands) in
-    let P : Status → Type 0 = λ status. WhyStatus status (counts (g.F.Files.faults c.args.files.now) (g.S.Source.faults c.args.input.now) (g.K.Sink.faults c.args.out.now)) (counts (g.F.Files.faults c.serve_in.new.files) (g.S.Source.faults c.drain.new.input) (g.K.Sink.faults c.serve_in.new.out)) in
-    subst P (sym c.broken-in-Err-drain.ensures.status)
-    (body_why (halt.Device stop.Read) c.drain.new.self.stuck c.args.word.now c.args.reader (g.S.Source.left c.args.input.now) (g.S.Source.budget c.args.input.now) (g.S.Source.faults c.args.input.now) c.drain.new.self (g.S.Source.left c.drain.new.input) (g.S.Source.budget c.drain.new.input) (g.S.Source.faults c.drain.new.input) (g.F.Files.faults c.args.files.now) (g.F.Files.faults c.serve_in.new.files) c.serve_in.new.place.refused (g.K.Sink.faults c.args.out.now) (g.K.Sink.faults c.serve_in.new.out) refl st c.in-Err-drain.ensures.cause)
+    body_kept (halt.Device stop.Read) c.drain.new.self.stuck c.args.word.now c.args.reader (g.S.Source.left c.args.input.now) (g.S.Source.budget c.args.input.now) (g.S.Source.faults c.args.input.now) c.drain.new.self (g.S.Source.left c.drain.new.input) (g.S.Source.budget c.drain.new.input) (g.S.Source.faults c.drain.new.input) (g.F.Files.faults c.args.files.now) (g.F.Files.faults c.serve_in.new.files) c.serve_in.new.place.refused (g.K.Sink.faults c.args.out.now) (g.K.Sink.faults c.serve_in.new.out) _ c.broken-in-Err-drain.ensures.status refl st c.in-Err-drain.ensures.cause
+    c.serve_in.ensures.unchanged c.serve_in.ensures.choices c.serve_in.ensures.causes.none_fell.files c.serve_in.ensures.causes.none_fell.output
 
 pub returns-in-Err-drain-clause-falls : goal.returns-in-Err-drain-clause-falls
 returns-in-Err-drain-clause-falls g c = (c.drain.ensures.stands _ c.serve_in.ensures.stands).falls
-
-pub returns-in-Err-drain-clause-too_long : goal.returns-in-Err-drain-clause-too_long
-returns-in-Err-drain-clause-too_long g c = λ long.
-    let begun = subst (λ (w : List ℕ). IsBegun c.args.reader w c.in-Ok.place) c.as_bytes.ensures.bytes c.in-Ok.ensures.begins in
-    let st = standing_from c.args.reader c.args.word.now c.in-Ok.place c.drain.new.self (g.S.Source.left c.args.input.now) (g.S.Source.left c.drain.new.input) (g.S.Source.budget c.args.input.now) (g.S.Source.faults c.args.input.now) (g.S.Source.budget c.drain.new.input) (g.S.Source.faults c.drain.new.input) begun (c.drain.ensures.stands _ c.serve_in.ensures.stands) in
-    body_too_long (halt.Device stop.Read) c.drain.new.self.stuck c.args.word.now c.args.reader (g.S.Source.left c.args.input.now) (g.S.Source.budget c.args.input.now) (g.S.Source.faults c.args.input.now) c.drain.new.self (g.S.Source.left c.drain.new.input) (g.S.Source.budget c.drain.new.input) (g.S.Source.faults c.drain.new.input) refl st (sym c.broken-in-Err-drain.ensures.status ∙ long)
 
 pub returns-clause-done : goal.returns-clause-done
 returns-clause-done g c = λ s ahead stands told.
@@ -87,9 +80,20 @@ returns-clause-done g c = λ s ahead stands told.
     (body_done c.args.order.now c.args.word.now ahead c.args.reader (g.S.Source.left c.args.input.now) (g.S.Source.budget c.args.input.now) (g.S.Source.faults c.args.input.now) c.drain.new.self (g.S.Source.left c.drain.new.input) (g.S.Source.budget c.drain.new.input) (g.S.Source.faults c.drain.new.input) s c.serve_in.new.machine (g.F.Files.seen c.serve_in.new.files) (g.K.Sink.taken c.args.out.now) (g.K.Sink.taken c.serve_in.new.out) (g.F.Files.asked c.args.files.now) (g.F.Files.asked c.serve_in.new.files) c.in_default-drain.ensures.over at did
     (c.serve_in.ensures.asks s stands))
 
-pub returns-clause-counts : goal.returns-clause-counts
-returns-clause-counts g c =
-    record { files = c.serve_in.ensures.causes.none_fell.files; input = (c.drain.ensures.stands _ c.serve_in.ensures.stands).counts; output = c.serve_in.ensures.causes.none_fell.output }
+pub returns-clause-kept : goal.returns-clause-kept
+returns-clause-kept g c = record {
+  sound = c.in_default-serve_in.ensures.sound;
+  unchanged = c.serve_in.ensures.unchanged;
+  choices = c.serve_in.ensures.choices;
+  counts = record {
+    files = c.serve_in.ensures.causes.none_fell.files;
+    input = (c.drain.ensures.stands _ c.serve_in.ensures.stands).counts;
+    output = c.serve_in.ensures.causes.none_fell.output;
+  };
+  ends = tt;
+  why = tt;
+  too_long = tt;
+}
 
 pub returns-clause-goes_on : goal.returns-clause-goes_on
 returns-clause-goes_on g c =

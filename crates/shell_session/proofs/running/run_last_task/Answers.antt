@@ -1,7 +1,7 @@
-use Rattle.std.proofs.Common.{[], None, Some}
+use Rattle.std.proofs.Common.{◌+◌, [], arith, length, refl}
 use Rattle.script_text.specs.Tasks.{body_word}
-use Rattle.shell_session.proofs.AnswerLaws.{why_running}
 use Rattle.shell_session.proofs.BodyLaws.{last_alone, last_asks, last_did, last_halts, last_halts_asks, last_not_on, nothing_left, worded}
+use Rattle.shell_session.proofs.KeptLaws.{kept_alone, kept_then}
 use Rattle.shell_session.proofs.RunningLaws.{if_err, on_ok}
 use Rattle.shell_session.proofs.running.run_last_task.Goals as goal
 
@@ -36,11 +36,25 @@ returns-in-Err-clause-asks g c = λ s stands told.
     let word = worded c.body_word.result _ (body_word c.args.order) c.is_none.result c.body_word.ensures.word c.is_none.ensures c.if-is_none.false in
     last_halts_asks c.args.order word.0 s c.args.reader.used (g.F.Files.seen c.run_task.new.files) (g.S.Source.left c.run_task.new.input) (g.K.Sink.taken c.args.out.now) (g.K.Sink.taken c.run_task.new.out) (g.F.Files.asked c.args.files.now) (g.F.Files.asked c.run_task.new.files) c.in-Err.status word.1 (c.in-Err.ensures.halts s [] stands told)
 
+pub returns-then-is_none-clause-kept : goal.returns-then-is_none-clause-kept
+returns-then-is_none-clause-kept g c =
+    kept_alone (g.S.Source.faults c.args.input.now) (g.S.Source.budget c.args.input.now + (c.args.reader.used + length c.args.reader.unread)) (g.S.Source.budget c.args.input.now) c.run_last.ensures.kept
+
 pub returns-clause-done : goal.returns-clause-done
-returns-clause-done g c = λ s stands told.
+returns-clause-done g c =
     let word = worded c.body_word.result _ (body_word c.args.order) c.is_none.result c.body_word.ensures.word c.is_none.ensures c.if-is_none.false in
     let done = rw c.in-Ok-Some.field-0-is at c.in-Ok-Some.ensures.done in
-    absurd (last_not_on c.args.order word.0 s c.args.reader.used c.run_task.new.machine (g.F.Files.seen c.run_task.new.files) _ (g.S.Source.left c.run_task.new.input) (g.K.Sink.taken c.args.out.now) (g.K.Sink.taken c.run_task.new.out) (g.F.Files.asked c.args.files.now) (g.F.Files.asked c.run_task.new.files) word.1 (done s [] stands told))
+    on_ok c.run_quit.result _ _ (λ did s stands told.
+    absurd (last_not_on c.args.order word.0 s c.args.reader.used c.run_task.new.machine (g.F.Files.seen c.run_task.new.files) _ (g.S.Source.left c.run_task.new.input) (g.K.Sink.taken c.args.out.now) (g.K.Sink.taken c.run_task.new.out) (g.F.Files.asked c.args.files.now) (g.F.Files.asked c.run_task.new.files) word.1 (done s [] stands told)))
+    c.run_quit.ensures.done
+
+pub returns-clause-halts : goal.returns-clause-halts
+returns-clause-halts g c =
+    let word = worded c.body_word.result _ (body_word c.args.order) c.is_none.result c.body_word.ensures.word c.is_none.ensures c.if-is_none.false in
+    let done = rw c.in-Ok-Some.field-0-is at c.in-Ok-Some.ensures.done in
+    if_err c.run_quit.result _ _ (λ status cut s stands told.
+    absurd (last_not_on c.args.order word.0 s c.args.reader.used c.run_task.new.machine (g.F.Files.seen c.run_task.new.files) _ (g.S.Source.left c.run_task.new.input) (g.K.Sink.taken c.args.out.now) (g.K.Sink.taken c.run_task.new.out) (g.F.Files.asked c.args.files.now) (g.F.Files.asked c.run_task.new.files) word.1 (done s [] stands told)))
+    c.run_quit.ensures.interrupted
 
 pub returns-clause-asks : goal.returns-clause-asks
 returns-clause-asks g c = λ s stands told.
@@ -48,19 +62,7 @@ returns-clause-asks g c = λ s stands told.
     let done = rw c.in-Ok-Some.field-0-is at c.in-Ok-Some.ensures.done in
     absurd (last_not_on c.args.order word.0 s c.args.reader.used c.run_task.new.machine (g.F.Files.seen c.run_task.new.files) _ (g.S.Source.left c.run_task.new.input) (g.K.Sink.taken c.args.out.now) (g.K.Sink.taken c.run_task.new.out) (g.F.Files.asked c.args.files.now) (g.F.Files.asked c.run_task.new.files) word.1 (done s [] stands told))
 
-pub returns-in-Err-run_quit-clause-halts : goal.returns-in-Err-run_quit-clause-halts
-returns-in-Err-run_quit-clause-halts g c = λ s stands told.
-    let word = worded c.body_word.result _ (body_word c.args.order) c.is_none.result c.body_word.ensures.word c.is_none.ensures c.if-is_none.false in
-    let done = rw c.in-Ok-Some.field-0-is at c.in-Ok-Some.ensures.done in
-    absurd (last_not_on c.args.order word.0 s c.args.reader.used c.run_task.new.machine (g.F.Files.seen c.run_task.new.files) _ (g.S.Source.left c.run_task.new.input) (g.K.Sink.taken c.args.out.now) (g.K.Sink.taken c.run_task.new.out) (g.F.Files.asked c.args.files.now) (g.F.Files.asked c.run_task.new.files) word.1 (done s [] stands told))
-
-pub returns-in-Err-run_quit-clause-asks : goal.returns-in-Err-run_quit-clause-asks
-returns-in-Err-run_quit-clause-asks g c = λ s stands told.
-    let word = worded c.body_word.result _ (body_word c.args.order) c.is_none.result c.body_word.ensures.word c.is_none.ensures c.if-is_none.false in
-    let done = rw c.in-Ok-Some.field-0-is at c.in-Ok-Some.ensures.done in
-    absurd (last_not_on c.args.order word.0 s c.args.reader.used c.run_task.new.machine (g.F.Files.seen c.run_task.new.files) _ (g.S.Source.left c.run_task.new.input) (g.K.Sink.taken c.args.out.now) (g.K.Sink.taken c.run_task.new.out) (g.F.Files.asked c.args.files.now) (g.F.Files.asked c.run_task.new.files) word.1 (done s [] stands told))
-
-pub returns-in-Err-run_quit-clause-why : goal.returns-in-Err-run_quit-clause-why
-returns-in-Err-run_quit-clause-why g c =
-    why_running c.in-Err-run_quit.status _ _ _ _ _ _ _ _ c.run_task.ensures.counts.files c.run_task.ensures.counts.output
-    (c.in-Err-run_quit.ensures.why (g.S.Source.faults c.args.input.now) (g.S.Source.faults c.run_task.new.input))
+pub returns-clause-kept : goal.returns-clause-kept
+returns-clause-kept g c =
+    let b = g.S.Source.budget c.args.input.now + (c.args.reader.used + length c.args.reader.unread) in
+    kept_then (λ _. refl) c.in-Ok-Some.ensures.kept (kept_alone (g.S.Source.faults c.run_task.new.input) b (g.S.Source.budget c.run_task.new.input) c.run_quit.ensures.kept) (omega arith)

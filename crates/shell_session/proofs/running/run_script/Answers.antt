@@ -4,7 +4,8 @@ use Rattle.script_lines.specs.Reading.{Reader}
 use Rattle.shell_commands.specs.Tasks.{tasks}
 use Rattle.shell_session.specs.Session.{RanPart}
 use Rattle.shell_session.specs.declared.status.Status.{Status}
-use Rattle.shell_session.proofs.RunningLaws.{at_last, at_line, if_err, last_quiet, on_ok, paid_done, paid_last, ran_finished, ran_halted, ran_last, ran_last_halted, ran_more, ran_none, ran_short, ran_stuck}
+use Rattle.shell_session.proofs.KeptLaws.{kept_none, kept_on, kept_read, kept_stuck}
+use Rattle.shell_session.proofs.RunningLaws.{at_last, at_line, if_err, last_quiet, on_ok, paid_done, paid_last, ran_finished, ran_halted, ran_last, ran_last_halted, ran_more, ran_none, ran_short, ran_stuck, read_too_much}
 use Rattle.shell_session.proofs.running.run_script.Goals as goal
 
 pub returns-in_default-clause-part : goal.returns-in_default-clause-part
@@ -15,14 +16,13 @@ returns-in_default-clause-part g c = λ s script stands told.
 pub lines-init : goal.lines-init
 lines-init g c = record {
   ran = λ s script stands told. ran_none s script _ _ _ _ _ _ told c.in-Ok.ensures.new stands;
-  sound = c.requires.sound;
-  choices = refl;
+  kept = kept_none (g.S.Source.budget c.args.input.now) (g.S.Source.budget c.args.input.now) c.requires.sound;
   untaken = λ none. refl;
+  none_lost = λ front before. before;
   sum =
       let used = ap (λ (r : Reader). r.used) c.in-Ok.ensures.new in
       let unread = ap (λ (r : Reader). length r.unread) c.in-Ok.ensures.new in
       omega (arith, used, unread);
-  counts = record { files = omega arith; input = omega arith; output = omega arith };
 }
 
 pub lines-preserved : goal.lines-preserved
@@ -35,15 +35,11 @@ lines-preserved g c =
       ran = λ s script stands told.
           let at = at_line s script _ _ _ _ _ _ _ _ _ _ c.in-Ok-Line.order (c.lines.invariant.ran s script stands told) took in
           ran_more s script _ _ _ _ _ _ _ _ _ _ _ _ _ _ _ at.2 (done (after_all tasks s at.2.done) at.0 at.2.stands at.1);
-      sound = c.in-Ok-Some.ensures.sound;
-      choices = c.run_task.ensures.choices ∙ c.lines.invariant.choices;
+      kept = kept_on (kept_read (g.S.Source.faults c.next.new.input) (g.S.Source.budget c.next.new.input) c.lines.invariant.kept c.next.ensures.counts) c.in-Ok-Some.ensures.kept
+          (omega (arith, c.next.ensures.sum, c.lines.invariant.sum));
       untaken = λ none. absurd (omega (arith, none, c.next.ensures.sum, more, gone.later));
+      none_lost = λ front before. c.run_task.ensures.none_lost front (c.lines.invariant.none_lost front before);
       sum = omega (arith, c.next.ensures.sum, gone.sum, c.lines.invariant.sum);
-      counts = record {
-        files = omega (arith, c.lines.invariant.counts.files, c.run_task.ensures.counts.files);
-        input = omega (arith, c.lines.invariant.counts.input, c.next.ensures.counts, c.run_task.ensures.counts.input);
-        output = omega (arith, c.lines.invariant.counts.output, c.run_task.ensures.counts.output);
-      };
     }
 
 pub returns-in-Ok-None-clause-all : goal.returns-in-Ok-None-clause-all
@@ -52,6 +48,11 @@ returns-in-Ok-None-clause-all g c = λ s script stands told.
     let done = rw c.in-Ok-None.field-0-is at c.in-Ok-None.ensures.done in
     let at = at_line s script _ _ _ _ _ _ _ _ _ _ c.in-Ok-Line.order (c.lines.invariant.ran s script stands told) took in
     (ran_finished s script _ _ _ _ _ _ _ _ _ _ _ _ _ _ at.2 (done (after_all tasks s at.2.done) at.0 at.2.stands at.1)).0
+
+pub returns-in-Ok-None-clause-kept : goal.returns-in-Ok-None-clause-kept
+returns-in-Ok-None-clause-kept g c =
+    kept_on (kept_read (g.S.Source.faults c.next.new.input) (g.S.Source.budget c.next.new.input) c.lines.invariant.kept c.next.ensures.counts) c.in-Ok-None.ensures.kept
+    (omega (arith, c.next.ensures.sum, c.lines.invariant.sum))
 
 pub returns-in-Ok-None-clause-asks : goal.returns-in-Ok-None-clause-asks
 returns-in-Ok-None-clause-asks g c = λ s script stands told.
@@ -66,6 +67,11 @@ returns-in-Err-run_task-clause-part g c = λ s script stands told.
     let at = at_line s script _ _ _ _ _ _ _ _ _ _ c.in-Ok-Line.order (c.lines.invariant.ran s script stands told) took in
     (ran_halted s script _ _ _ _ _ _ _ _ _ _ _ _ _ c.in-Err-run_task.status at.2 c.in-Ok-Line.ensures.within
     (c.in-Err-run_task.ensures.halts (after_all tasks s at.2.done) at.0 at.2.stands at.1)).0
+
+pub returns-in-Err-run_task-clause-kept : goal.returns-in-Err-run_task-clause-kept
+returns-in-Err-run_task-clause-kept g c =
+    kept_on (kept_read (g.S.Source.faults c.next.new.input) (g.S.Source.budget c.next.new.input) c.lines.invariant.kept c.next.ensures.counts) c.in-Err-run_task.ensures.kept
+    (omega (arith, c.next.ensures.sum, c.lines.invariant.sum))
 
 pub returns-in-Err-run_task-clause-asks : goal.returns-in-Err-run_task-clause-asks
 returns-in-Err-run_task-clause-asks g c = λ s script stands told.
@@ -100,6 +106,11 @@ returns-in-Ok-Last-clause-part g c =
     ran_last_halted s script _ _ _ _ c.in-Ok-Last.order _ _ _ _ _ _ status at.1 (stops (after_all tasks s at.1.done) at.1.stands at.0))
     c.run_last_task.ensures.halts
 
+pub returns-in-Ok-Last-clause-kept : goal.returns-in-Ok-Last-clause-kept
+returns-in-Ok-Last-clause-kept g c =
+    kept_on (kept_read (g.S.Source.faults c.next.new.input) (g.S.Source.budget c.next.new.input) c.lines.invariant.kept c.next.ensures.counts) c.run_last_task.ensures.kept
+    (omega (arith, c.next.ensures.sum, c.lines.invariant.sum))
+
 pub returns-in-Ok-Last-clause-asks : goal.returns-in-Ok-Last-clause-asks
 returns-in-Ok-Last-clause-asks g c = λ s script stands told.
     let says = c.next.ensures.last c.in-Ok-Last.order (cc (c.in-Ok-Last.is, c.in-Ok-Last.field-0-is)) in
@@ -112,13 +123,18 @@ returns-in-Ok-Last-clause-untaken g c = λ none.
     let quiet =
     last_quiet says.took.part.front _ c.in-Ok-Last.order says.took.part.feeds says.says
     (omega (arith, none, says.took.part.used, c.next.ensures.sum, c.next.ensures.falls, c.run_last_task.ensures.falls, c.lines.invariant.sum)) in
-    c.run_last_task.ensures.unchanged quiet
+    c.run_last_task.ensures.kept.unchanged quiet
     ∙ c.lines.invariant.untaken (omega (arith, none, c.next.ensures.sum, c.next.ensures.falls, c.run_last_task.ensures.falls, c.lines.invariant.sum))
 
 pub returns-in-Err-clause-part : goal.returns-in-Err-clause-part
 returns-in-Err-clause-part g c = λ s script stands told.
     let P : Status → Type 0 = λ status. RanPart status s script (g.K.Sink.taken c.args.out.now) (g.K.Sink.taken c.lines.out) (g.S.Source.left c.next.new.input) (g.F.Files.seen c.lines.files) in
     subst P (sym c.from.ensures) (ran_stuck c.in-Err.error s script _ _ _ _ _ _ _ _ _ _ (c.lines.invariant.ran s script stands told) c.in-Err.ensures.stuck)
+
+pub returns-in-Err-clause-kept : goal.returns-in-Err-clause-kept
+returns-in-Err-clause-kept g c =
+    kept_stuck c.in-Err.error _ (g.S.Source.faults c.next.new.input) (g.S.Source.budget c.next.new.input) c.from.ensures c.lines.invariant.kept c.next.ensures.counts c.in-Err.ensures.cause
+    (λ full. read_too_much c.in-Err.error _ _ _ _ _ _ _ full c.in-Err.ensures.stuck c.next.ensures.sum c.lines.invariant.sum)
 
 pub returns-in-Err-clause-asks : goal.returns-in-Err-clause-asks
 returns-in-Err-clause-asks g c = λ s script stands told. paid_done s script _ _ _ _ _ _ _ _ (c.lines.invariant.ran s script stands told)

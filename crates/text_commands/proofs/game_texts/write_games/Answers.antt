@@ -25,6 +25,7 @@ loop-i-preserved g c =
           export_more c.loop-i.i c.args.filter.now all.games c.get.result held.0 (g.K.Sink.taken c.args.out.now) (g.K.Sink.taken c.loop-i.out) (g.K.Sink.taken c.write_if_in.new.out)
           c.get.ensures.entry held.1 (c.loop-i.invariant.written told all same is)
           (c.in-Ok.ensures.written told all held.0 (ap (λ (s : Seen). s.games) c.loop-i.invariant.seen ∙ same) is held.1);
+      none_lost = λ front before. c.write_if_in.ensures.none_lost front (c.loop-i.invariant.none_lost front before);
       room = c.write_if_in.ensures.room;
       seen = c.write_if_in.ensures.unchanged ∙ c.loop-i.invariant.seen;
       asks = omega (arith, c.write_if_in.ensures.asks, c.loop-i.invariant.asks, filtered-more c.loop-i.i c.args.filter.now c.args.base.now.entries c.get.result here c.get.ensures.entry);

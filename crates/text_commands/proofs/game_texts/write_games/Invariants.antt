@@ -2,6 +2,7 @@ use Rattle.std.proofs.Common.{◌≡◌, ◌≤◌, ◌+◌, ℕ, List, Some, dr
 use Rattle.base_core.specs.Base.{Base}
 use Rattle.base_core.specs.Represents.{Represents}
 use Rattle.base_files.specs.Told.{adds}
+use Rattle.command_runs.specs.Endings.{NoneLost}
 use Rattle.text_commands.proofs.game_texts.write_games.Given as goal
 use Rattle.text_commands.specs.GameTexts.{exported_first, exported_len}
 
@@ -10,6 +11,7 @@ abbrev pub invariant-loop-i : goal.invariant-loop-i
 invariant-loop-i g l = record {
   written : (told : List ℕ) (all : Base) → (g.F.Files.seen l.fn.files).games ≡ Some told → Represents l.base told all
       → g.K.Sink.taken l.out ≡ adds (g.K.Sink.taken l.fn.out) (exported_first l.i l.filter all.games);
+  none_lost : NoneLost (g.K.Sink.taken l.fn.out) (g.K.Sink.taken l.out);
   room : length l.block ≡ 131072;
   seen : g.F.Files.seen l.files ≡ g.F.Files.seen l.fn.files;
   asks : g.F.Files.asked l.files + exported_len (drop l.i l.filter) (drop l.i l.base.entries) ≤ g.F.Files.asked l.fn.files + exported_len l.filter l.base.entries;

@@ -1,0 +1,35 @@
+use Rattle.std.proofs.Common.{[], refl, sym, subst, Option, Some}
+use Rattle.command_runs.specs.Counts.{counts}
+use Rattle.script_text.specs.Tasks.{task}
+use Rattle.shell_commands.specs.Tasks.{order_writes}
+use Rattle.shell_session.specs.Running.{Interrupted, Kept}
+use Rattle.shell_session.specs.declared.status.Status.{Status}
+use Rattle.shell_session.proofs.KeptLaws.{kept_halt}
+use Rattle.shell_session.proofs.RunningLaws.{interrupted}
+use Rattle.shell_session.proofs.running.run_line.Goals as goal
+
+pub returns-in-Ok-clause-done : goal.returns-in-Ok-clause-done
+returns-in-Ok-clause-done g c = λ s stands. c.in-Ok.ensures.serves s [] stands refl
+
+pub returns-in-Ok-clause-kept : goal.returns-in-Ok-clause-kept
+returns-in-Ok-clause-kept g c = record {
+  sound = c.in-Ok.ensures.sound;
+  unchanged = c.serve.ensures.unchanged;
+  choices = c.serve.ensures.choices;
+  counts = c.serve.ensures.causes.none_fell;
+  ends = tt;
+  why = tt;
+  too_long = tt;
+}
+
+pub returns-clause-interrupted : goal.returns-clause-interrupted
+returns-clause-interrupted g c = λ s stands.
+    let P : Status → Type 0 = λ status. Interrupted status (g.F.Files.seen c.serve.new.files) s (task c.args.order []) (g.K.Sink.taken c.args.out.now) (g.K.Sink.taken c.serve.new.out) in
+    subst P (sym c.from.ensures)
+    (interrupted c.in-Err.halt (g.F.Files.seen c.serve.new.files) s (task c.args.order []) _ _ c.requires.alone (c.in-Err.ensures.serves s [] stands refl) (c.in-Err.ensures.carries s stands))
+
+pub returns-clause-kept : goal.returns-clause-kept
+returns-clause-kept g c =
+    let P : Status → Type 0 = λ status. Kept (order_writes c.args.order) c.serve.new.machine (g.F.Files.seen c.args.files.now) (g.F.Files.seen c.serve.new.files)
+    (counts (g.F.Files.faults c.args.files.now) 0 (g.K.Sink.faults c.args.out.now)) (counts (g.F.Files.faults c.serve.new.files) 0 (g.K.Sink.faults c.serve.new.out)) 0 0 (Some status) in
+    subst P (sym c.from.ensures) (kept_halt c.in-Err.halt c.serve.ensures.unchanged c.serve.ensures.choices c.serve.ensures.causes.none_fell c.in-Err.ensures.causes.why)
