@@ -2,7 +2,7 @@
 ghost use Rattle.std.specs.Prelude.{◌≡◌, ◌≤◌, ◌+◌, ℕ, List, Ok, None, Some, length, map, IfOk, IfErr, IfSome, OnOk};
 ghost use Rattle.base_files.specs.Seen.{Seen};
 ghost use Rattle.command_runs.specs.Counts.{Causes, counts};
-ghost use Rattle.command_runs.specs.Endings.{Serves};
+ghost use Rattle.command_runs.specs.Endings.{NoneLost, Serves};
 ghost use Rattle.game_tree.specs.Game.{GameTree};
 ghost use Rattle.pos_index.specs.Asking.{price};
 ghost use Rattle.pos_index.specs.Hits.{Fits, Indexes};
@@ -34,6 +34,7 @@ pub fn index<F: Files, K: Sink>(
     ensures sound { OnOk result (Sound machine.new (F.seen files.new)) }
     ensures unchanged { F.seen files.new ≡ F.seen files.old }
     ensures asks { Asks machine.old (index_work depth) (F.asked files.old) (F.asked files.new) }
+    ensures none_lost { NoneLost (K.taken out.old) (K.taken out.new) }
     ensures causes { Causes WhyHalt result (counts (F.faults files.old) 0 (K.faults out.old)) (counts (F.faults files.new) 0 (K.faults out.new)) }
 {
     match depth {
@@ -56,6 +57,7 @@ fn index_to<F: Files, K: Sink>(
     ensures sound { OnOk result (Sound machine.new (F.seen files.new)) }
     ensures unchanged { F.seen files.new ≡ F.seen files.old }
     ensures asks { Asks machine.old (index_work (Some depth)) (F.asked files.old) (F.asked files.new) }
+    ensures none_lost { NoneLost (K.taken out.old) (K.taken out.new) }
     ensures causes { Causes WhyHalt result (counts (F.faults files.old) 0 (K.faults out.old)) (counts (F.faults files.new) 0 (K.faults out.new)) }
 {
     match build(alloc, machine, files, depth) {
@@ -68,6 +70,7 @@ fn index_to<F: Files, K: Sink>(
 fn drop_index<K: Sink>(machine: &mut Machine, out: &mut K) -> Result<(), Halt>
     ensures serves { (seen : Seen) (s : State) → Stands machine.old seen s → Serves works (Stands machine.new seen) Broken s (index_work None) (K.taken out.old) (K.taken out.new) result }
     ensures sound { (seen : Seen) → Sound machine.old seen → OnOk result (Sound machine.new seen) }
+    ensures none_lost { NoneLost (K.taken out.old) (K.taken out.new) }
     ensures causes { Causes WhyHalt result (counts 0 0 (K.faults out.old)) (counts 0 0 (K.faults out.new)) }
 {
     machine.index = None;
