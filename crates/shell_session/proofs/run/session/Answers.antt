@@ -1,11 +1,12 @@
-use Rattle.std.proofs.Common.{◌≡◌, ◌⊎◌, ℕ, List, map, string_bytes, sym, ap, ◌∙◌, subst}
+use Rattle.std.proofs.Common.{◌≡◌, ◌⊎◌, ℕ, List, map, string_bytes, sym, ap, ◌∙◌, subst, None, Some}
+use Rattle.command_runs.specs.Counts.{counts}
 use Rattle.base_files.specs.Seen.{Seen}
-use Rattle.shell_session.specs.Session.{Answers, Due, Silent, given, inlet}
-use Rattle.shell_session.specs.Words.{Wanted}
+use Rattle.shell_session.specs.Session.{Answers, Due, Silent, given, inlet, Chooses, Reads, WhyStatus}
+use Rattle.shell_session.specs.Words.{Wanted, words_read}
 use Rattle.shell_session.specs.declared.status.Status.{Status}
-use Rattle.shell_session.specs.declared.status.Status.TheVariants.{Done, Memory}
+use Rattle.shell_session.specs.declared.status.Status.TheVariants.{Done, Memory, Usage}
 use Rattle.shell_session.specs.Stops.{status_of}
-use Rattle.shell_session.proofs.AnswerLaws.{chooses_running, chosen, due_of, line_session, opened_by, part_session, silent_line, silent_running, why_line, why_running, whole_session}
+use Rattle.shell_session.proofs.AnswerLaws.{chooses_running, chosen, due_of, line_session, opened_by, part_session, silent_line, silent_running, why_line, why_running, whole_session, reads_line, stop_interrupts, words_running}
 use Rattle.shell_session.proofs.PriceLaws.{asks_opening, asks_script}
 use Rattle.shell_session.proofs.run.session.Goals as goal
 
@@ -31,6 +32,37 @@ returns-in-Err-write_opening-clause-due g c = λ index names games script i n to
     (sym c.in-Some.ensures.read) c.in-Ok.ensures.opens c.games.ensures.games c.in-Err-write_opening.ensures.halted c.open.ensures.contents c.in-Err-write_opening.ensures.causes.why i n told)
     (why_line c.in-Err-write_opening.stop _ _ _ _ _ c.in-Err-write_opening.ensures.causes.why)
     no_files no_input no_output)
+
+pub returns-in-Err-write_opening-clause-words : goal.returns-in-Err-write_opening-clause-words
+returns-in-Err-write_opening-clause-words g c =
+    let words : List (List ℕ) = map string_bytes c.args.words.now in
+    let wanted : Wanted = record { name = c.in-Some.wanted.name.now; create = c.in-Some.wanted.create; strict = c.in-Some.wanted.strict } in
+    let stop = c.in-Err-write_opening.stop in (
+      λ (is : c.from.result ≡ Usage). absurd (words_running (status_of stop) (stop_interrupts stop) (sym c.from.ensures ∙ is)),
+      λ (none : words_read words ≡ None). let clash : None ≡ Some wanted = sym none ∙ sym c.in-Some.ensures.read in absurd cc,
+    )
+
+pub returns-in-Err-write_opening-clause-why : goal.returns-in-Err-write_opening-clause-why
+returns-in-Err-write_opening-clause-why g c =
+    let i = g.S.Source.faults c.args.input.now in
+    let W : Status → Type 0 = λ status.
+    WhyStatus status (counts (g.F.Files.faults c.args.files.now) i (g.K.Sink.faults c.args.out.now)) (counts (g.F.Files.faults c.open.new.files) i (g.K.Sink.faults c.write_opening.new.out)) in
+    subst W (sym c.from.ensures) (why_line c.in-Err-write_opening.stop _ _ i _ _ c.in-Err-write_opening.ensures.causes.why)
+
+pub returns-in-Err-write_opening-clause-reads : goal.returns-in-Err-write_opening-clause-reads
+returns-in-Err-write_opening-clause-reads g c =
+    let input = inlet (g.S.Source.left c.args.input.now) (g.S.Source.budget c.args.input.now) (g.S.Source.faults c.args.input.now) in
+    subst (λ (status : Status). Reads status input input) (sym c.from.ensures) (reads_line c.in-Err-write_opening.stop input)
+
+pub returns-in-Err-write_opening-clause-choices : goal.returns-in-Err-write_opening-clause-choices
+returns-in-Err-write_opening-clause-choices g c =
+    let words : List (List ℕ) = map string_bytes c.args.words.now in
+    let wanted : Wanted = record { name = c.in-Some.wanted.name.now; create = c.in-Some.wanted.create; strict = c.in-Some.wanted.strict } in
+    let old = (g.F.Files.seen c.args.files.now).choices in
+    let new = (g.F.Files.seen c.open.new.files).choices in
+    subst (λ (status : Status). Chooses status words old new) (sym c.from.ensures)
+    (chooses_running (status_of c.in-Err-write_opening.stop) words old new (stop_interrupts c.in-Err-write_opening.stop)
+    (chosen words wanted old new (sym c.in-Some.ensures.read) c.in-Ok.ensures.chosen))
 
 pub returns-in-Ok-run_script-clause-answers : goal.returns-in-Ok-run_script-clause-answers
 returns-in-Ok-run_script-clause-answers g c = λ index names games script i n told left.
