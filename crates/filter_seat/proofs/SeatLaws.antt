@@ -1,9 +1,9 @@
 -- Laws of kept filters: each goes on to have an entry for each game, and at most eight are kept.
-use Rattle.std.proofs.Common.{◌≡◌, ◌≤◌, ℕ, zero, suc, ◌+◌, Bool, true, false, cond, nat_lt, [], ◌∷◌, ◌++◌, List, All, Option, Some, None, length, map, take, drop, get_or, min, refl, sym, subst, ap, ◌∙◌, arith}
+use Rattle.std.proofs.Common.{◌≡◌, ◌≤◌, ℕ, zero, suc, ◌+◌, Bool, true, false, cond, nat_lt, [], ◌∷◌, ◌++◌, List, All, Option, Some, None, length, map, take, drop, get_or, refl, subst, arith}
 use Rattle.std.proofs.lemmas.Bool.{ltb-true}
 use Rattle.std.proofs.lemmas.List.{length-append, length-drop, length-map, length-set, length-take}
 use Rattle.std.proofs.lemmas.List.Elements.{All-append, All-cons, All-drop, All-map, All-nil, All-set, All-take}
-use Rattle.std.specs.Prelude.{option_and_then, option_map, slice_get, slice_set}
+use Rattle.std.specs.Prelude.{option_and_then, option_map, slice_get}
 use Rattle.game_filter.specs.Renumbering.{renumbered}
 use Rattle.filter_seat.proofs.SavedLaws.{all_to_start, all_with_game}
 use Rattle.filter_seat.specs.SavedFilters.{dropped_at, dropped_in, joined_with, kept_at, kept_in, kept_renumbered, kept_to_start, most_saved, place_of, plies_at, saved_as, saved_named, without_last}

@@ -1,5 +1,5 @@
 -- Laws of an index that is built.
-use Rattle.std.proofs.Common.{◌≡◌, ℕ, Bool, true, false, List, map, Option, Some, sym, ap, ◌∙◌, refl, None, subst, ◌+◌, ◌*◌, nat_lt, length}
+use Rattle.std.proofs.Common.{◌≡◌, ℕ, Bool, false, List, map, Option, Some, sym, ap, ◌∙◌, refl, None, subst, ◌+◌, ◌*◌, nat_lt, length}
 use Rattle.std.specs.Prelude.{if◌then◌else◌}
 use Rattle.base_files.specs.declared.extent.Extent.{Extent}
 use Rattle.command_runs.specs.Counts.{counts}

@@ -1,15 +1,12 @@
 -- What the places that an index has of a game tell for a query.
-use Rattle.std.proofs.Common.{◌≡◌, ℕ, zero, suc, ◌+◌, ◌<◌, ◌≤◌, Bool, true, false, cond, ◌&&◌, List, [], ◌∷◌, Option, None, Some, length, get_or, map, min, refl, sym, ap, ◌∙◌, subst, arith, inl, inr}
+use Rattle.std.proofs.Common.{◌≡◌, ℕ, zero, suc, ◌+◌, ◌≤◌, Bool, true, false, cond, ◌&&◌, List, [], ◌∷◌, Option, None, Some, length, map, min, refl, sym, ap, ◌∙◌, subst, arith, inl, inr}
 use Rattle.std.specs.Prelude.{IfSome, is_none, option_map, slice_get}
 use Rattle.std.specs.List.{find, range_with_len}
 use Rattle.std.specs.Option.{option_or}
 use Rattle.std.proofs.lemmas.Bool.{and_from, and_parts, both_ways, cases_Bool}
 use Rattle.std.proofs.lemmas.Option.{get_or_from_slice_get, slice_get-map}
 use Rattle.cell_core.specs.declared.step.Move.{Move}
-use Rattle.cell_core.specs.Board.{Men}
-use Rattle.cell_core.specs.Packed.{Packed, cells_of, man_of, men_of, nibble_at, packed_of}
-use Rattle.std.proofs.lemmas.List.{length-map}
-use Rattle.std.proofs.lemmas.List.FromFn.{length-range_with_len}
+use Rattle.cell_core.specs.Packed.{Packed, cells_of, men_of, packed_of}
 use Rattle.cell_core.proofs.Packing.{given_back}
 use Rattle.chess_laws.specs.Position.{Sound}
 use Rattle.chess_laws.specs.Step.{Legal}
@@ -28,7 +25,6 @@ use Rattle.sig_index.specs.declared.pos_query.Mode.TheVariants.{Exact, Pawns, Fi
 use Rattle.sig_index.specs.declared.pos_query.PosQuery.{PosQuery}
 use Rattle.sig_index.specs.declared.signature.Sig.{Sig}
 use Rattle.base_files.specs.declared.extent.Extent.{Extent}
-use Rattle.sig_index.proofs.LeavingLemmas.{same_tests}
 use Rattle.sig_index.proofs.PrefixLemmas.{moves_at}
 use Rattle.sig_index.proofs.Ranges.{find_first, found_first}
 use Rattle.sig_index.proofs.RecordLemmas.{game_legal, game_sound}

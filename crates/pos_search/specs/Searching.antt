@@ -1,5 +1,5 @@
 -- What an index tells of games, and what a search of all games asks of the games file (this project's own).
-use Rattle.std.specs.Prelude.{ℕ, ◌&&◌, if◌then◌else◌, is_none, Bool, true, false, List, [], ◌∷◌, Option, None, Some, option_map}
+use Rattle.std.specs.Prelude.{ℕ, ◌&&◌, if◌then◌else◌, is_none, Bool, true, false, List, [], ◌∷◌, Option, option_map}
 use Rattle.std.specs.List.{find}
 use Rattle.base_files.specs.declared.extent.Extent.{Extent}
 use Rattle.cell_core.specs.Packed.{packed_of}

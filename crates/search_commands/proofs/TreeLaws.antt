@@ -1,5 +1,5 @@
 -- Laws of `tree`.
-use Rattle.std.proofs.Common.{◌≡◌, ℕ, Option, Some, None, refl, ◌+◌, List, [], ◌∷◌, ◌++◌, All, map, option_map, ap, ◌∙◌, Bool, true, false, cond, ◌≤◌, sym, subst, zero, suc, take, append_assoc, append-nil, add-one, length}
+use Rattle.std.proofs.Common.{◌≡◌, ℕ, Option, Some, None, refl, ◌+◌, List, [], ◌∷◌, ◌++◌, All, map, option_map, ap, ◌∙◌, ◌≤◌, sym, zero, suc, take, append_assoc, append-nil, add-one, length}
 use Rattle.std.proofs.lemmas.List.{take_all}
 use Rattle.std.proofs.lemmas.List.Elements.{All-push, All-same}
 use Rattle.std.proofs.lemmas.Option.{slice_get-map, get_or_from_slice_get, same_Some}
@@ -7,15 +7,12 @@ use Rattle.std.specs.Prelude.{slice_get}
 use Rattle.base_core.proofs.GamesLaws.{heads-are}
 use Rattle.base_core.specs.Base.{Held, Base}
 use Rattle.base_core.specs.Represents.{Kept, Represents, heads_of}
-use Rattle.base_files.specs.declared.extent.Extent.{Extent}
 use Rattle.cell_core.specs.declared.man.Colour.{Colour}
 use Rattle.cell_core.specs.declared.man.Colour.TheVariants.{White, Black}
 use Rattle.cell_core.specs.declared.step.Move.{Move}
-use Rattle.game_filter.specs.declared.op.Op.TheVariants.{And}
 use Rattle.game_tree.specs.Head.{without_tags}
 use Rattle.game_tree.specs.declared.head.Head.{Head}
 use Rattle.pos_search.specs.Matching.{IsLegalFrom, hit_of as found_of}
-use Rattle.pos_search.specs.Searching.{cost_of}
 use Rattle.sig_index.specs.Games.{head_in}
 use Rattle.sig_index.specs.declared.pos_query.Mode.TheVariants.{Exact}
 use Rattle.sig_index.specs.declared.pos_query.PosQuery.{PosQuery}
@@ -63,10 +60,6 @@ hit-read kept games base held i query ply next hit is at found counted =
 -- A game that the search did not find has none.
 pub none-read : (held : Held) (query : PosQuery) → None ≡ found_of query held.game → None ≡ hit_of_game query held
 none-read held query found = ap (λ (f : Option (ℕ × Option Move)). option_map (λ (x : ℕ × Option Move). hit_of x.1 query.side held.head) f) found
-
--- What was asked for the hit of one game that is in, and of one that is out.
-pub hit-asked : (ply : Option ℕ) (x : ℕ) (read : Bool) (extent : Extent) (old new : ℕ) → ply ≡ Some x → new ≤ old + cond read extent.len 0 → new ≤ old + cost_of And read extent ply
-hit-asked ply x read extent old new is asks = subst (λ (o : Option ℕ). new ≤ old + cost_of And read extent o) (sym is) asks
 
 -- The hits of the games that are in, one game more.
 more : (query : PosQuery) (i : ℕ) (plies : List (Option ℕ)) (games : List Held) (ply : Option ℕ) (held : Held) → slice_get plies i ≡ Some ply → slice_get games i ≡ Some held

@@ -1,5 +1,5 @@
 -- Laws of refused tasks: a text that begins with `error: ` leaves the state as it was.
-use Rattle.std.proofs.Common.{◌≡◌, ◌<◌, ◌+◌, ◌%◌, ◌^◌, true≢false, ℕ, zero, suc, Bool, true, false, List, [], ◌∷◌, ◌++◌, length, map, Option, Some, None, Result, Ok, Err, refl, sym, ap, ◌∙◌, subst, arith, append_assoc, append-nil}
+use Rattle.std.proofs.Common.{◌≡◌, ◌<◌, ◌+◌, ◌%◌, ◌^◌, true≢false, ℕ, zero, suc, Bool, true, false, List, [], ◌∷◌, ◌++◌, length, Option, Some, None, Result, Ok, Err, refl, sym, ap, ◌∙◌, subst, arith, append_assoc, append-nil}
 use Rattle.std.specs.Prelude.{codes, unwrap_or, if◌then◌else◌, is_some, nat_eq, nat_lt, option_and_then, slice_get}
 use Rattle.std.specs.Fmt.{decimal}
 use Rattle.std.proofs.lemmas.Fmt.{decimal_by_steps}
@@ -23,7 +23,7 @@ use Rattle.script_text.specs.declared.command.Command.TheVariants.{Nothing, Find
 use Rattle.edit_commands.specs.Compacting.{compacted_line, compacted_state, is_within}
 use Rattle.edit_commands.specs.Editing.{edited_there, line_there, tag_line_there, tagged_there, unless_refused}
 use Rattle.filter_seat.specs.SavedFilters.{dropped_at, dropped_in, has_room, is_kept, joined_with, kept_at, place_of, plies_at, saved_as, taken}
-use Rattle.intake_commands.specs.Demo.{Adding, adding, demo_after, one_more, unless_ended, unless_refusal, unless_shown}
+use Rattle.intake_commands.specs.Demo.{Adding, adding, one_more, unless_ended, unless_refusal, unless_shown}
 use Rattle.intake_commands.specs.Importing.{Intake, intake, item_after, line_with, none_taken, state_with, the_new, unless_not_added}
 use Rattle.report_commands.specs.Classifying.{state_by, text_by}
 use Rattle.shell_commands.specs.Refused.{IsError}

@@ -1,9 +1,8 @@
 -- Laws of a line with its body: what the script says behind the line, and what is known where the body cannot be read to its end.
-use Rattle.std.proofs.Common.{Result, inl, inr, ◌≡◌, ◌≤◌, ◌<◌, ◌+◌, ◌-◌, ◌⊎◌, ℕ, Bool, true, false, not, is_some, option_map, leb, IsTrue, IfSome, List, [], ◌∷◌, ◌++◌, length, take, drop, Option, Some, None, Ok, Err, refl, sym, ap, ◌∙◌, subst, arith, append_assoc, append-nil}
+use Rattle.std.proofs.Common.{Result, inl, inr, ◌≡◌, ◌≤◌, ◌<◌, ◌+◌, ◌-◌, ◌⊎◌, ℕ, Bool, true, false, not, is_some, option_map, leb, IfSome, List, [], ◌∷◌, ◌++◌, length, take, drop, Option, Some, None, Ok, Err, refl, sym, ap, ◌∙◌, subst, arith, append_assoc, append-nil}
 use Rattle.std.proofs.Math.Seq.{take-add, take-append_seam}
 use Rattle.std.proofs.lemmas.Bool.Decides.{leb_tells}
 use Rattle.std.proofs.lemmas.List.{length-append, length-drop, length-take-le, take-append-drop, take_all}
-use Rattle.base_core.specs.Base.{Base}
 use Rattle.base_files.specs.Counters.{LAST, Rose, raised}
 use Rattle.base_files.specs.Feeds.{told_after}
 use Rattle.base_files.specs.Seen.{Seen}

@@ -4,7 +4,7 @@ use Rattle.std.proofs.lemmas.List.{length-append, map-append}
 use Rattle.base_core.specs.Edited.{first_full, CanPlace, Places, WhyNotPlaced, WhyNotReplaced}
 use Rattle.base_core.specs.Edits.{end_with, names_with, added, held_of}
 use Rattle.base_core.specs.Means.{HoldsNames}
-use Rattle.base_core.specs.Represents.{Kept, Represents, IsSound}
+use Rattle.base_core.specs.Represents.{Kept, IsSound}
 use Rattle.base_core.specs.declared.fault.EditError.{EditError}
 use Rattle.base_core.specs.declared.fault.EditError.TheVariants as edit
 use Rattle.base_core.specs.declared.fault.What.{What}
@@ -31,7 +31,7 @@ use Rattle.shell_state.specs.Adding.{IsAdded, IsNotAdded}
 use Rattle.shell_state.specs.Ends.{IsDevice, IsThere, refused_edit}
 use Rattle.shell_state.specs.Refusing.{not_added, index_is_full, why_not}
 use Rattle.shell_state.specs.Stands.{Fits, Stands, Holding, depth_of, index_of}
-use Rattle.shell_state.specs.State.{State, with_game, Shared}
+use Rattle.shell_state.specs.State.{State, Shared}
 use Rattle.shell_state.specs.declared.halt.Halt.{Halt}
 use Rattle.shell_state.specs.declared.halt.Halt.TheVariants as halt
 use Rattle.shell_state.specs.declared.refusing.Refusal.{Refusal}

@@ -1,11 +1,9 @@
 use Rattle.pos_index.specs.Hits.{rows_told}
-use Rattle.std.proofs.Common.{◌≡◌, ℕ, Option, Result, Ok, sym, subst, ap, ◌∙◌, length}
+use Rattle.std.proofs.Common.{◌≡◌, sym, subst}
 use Rattle.std.specs.Prelude.{IfOk, option_copied}
-use Rattle.cell_core.specs.declared.step.Move.{Move}
-use Rattle.pos_index.specs.declared.hit.Hit.{Hit}
 use Rattle.sig_index.specs.declared.pos_query.PosQuery.{PosQuery}
-use Rattle.pos_search.specs.Matching.{IsLegalFrom, hit_of}
-use Rattle.pos_search.specs.Telling.{AreLegalHits, hits_told}
+use Rattle.pos_search.specs.Matching.{hit_of}
+use Rattle.pos_search.specs.Telling.{hits_told}
 use Rattle.pos_search.proofs.searching.hit.Goals as goal
 
 pub returns-clause-found : goal.returns-clause-found

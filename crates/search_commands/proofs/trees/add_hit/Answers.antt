@@ -1,12 +1,8 @@
-use Rattle.std.proofs.Common.{Option, None, Some, rules, subst}
+use Rattle.std.proofs.Common.{Option, rules, subst}
 use Rattle.std.specs.Prelude.{IfSome}
-use Rattle.base_core.specs.Represents.{extents_of}
-use Rattle.pos_index.specs.Hits.{places_in}
-use Rattle.pos_search.specs.Searching.{is_read}
-use Rattle.sig_index.specs.Games.{extent_in}
 use Rattle.tree_rows.specs.MoveText.{IsKey}
 use Rattle.tree_rows.specs.declared.hit.GameHit.{GameHit}
-use Rattle.search_commands.proofs.TreeLaws.{hit-asked, keys-push}
+use Rattle.search_commands.proofs.TreeLaws.{keys-push}
 use Rattle.search_commands.proofs.trees.add_hit.Goals as goal
 
 pub returns-in-Ok-clause-keys : goal.returns-in-Ok-clause-keys

@@ -1,5 +1,3 @@
-use Rattle.std.proofs.Common.{sym, subst}
-use Rattle.script_text.specs.declared.command.Command.{Command}
 use Rattle.shell_commands.proofs.SayLaws.{quiet_said}
 use Rattle.shell_commands.proofs.serving.serve_command.Goals as goal
 use Rattle.shell_state.proofs.CarryLaws.{carry_of, carry_same, if_err}

@@ -1,6 +1,5 @@
-use Rattle.std.proofs.Common.{◌≡◌, ◌⊎◌, ℕ, List, map, string_bytes, sym, ap, ◌∙◌, subst, None, Some}
+use Rattle.std.proofs.Common.{◌≡◌, ◌⊎◌, ℕ, List, map, string_bytes, sym, ◌∙◌, subst, None, Some}
 use Rattle.command_runs.specs.Counts.{counts}
-use Rattle.base_files.specs.Seen.{Seen}
 use Rattle.shell_session.specs.Session.{Answers, Due, Silent, given, inlet, Chooses, Reads, WhyStatus}
 use Rattle.shell_session.specs.Words.{Wanted, words_read}
 use Rattle.shell_session.specs.declared.status.Status.{Status}

@@ -1,4 +1,4 @@
-use Rattle.std.proofs.Common.{[], refl, sym, subst, Option, Some}
+use Rattle.std.proofs.Common.{[], refl, sym, subst, Some}
 use Rattle.command_runs.specs.Counts.{counts}
 use Rattle.script_text.specs.Tasks.{task}
 use Rattle.shell_commands.specs.Tasks.{order_writes}

@@ -1,4 +1,4 @@
-use Rattle.std.proofs.Common.{◌+◌, [], arith, length, refl, sym, ◌∙◌}
+use Rattle.std.proofs.Common.{◌+◌, arith, length, refl, sym, ◌∙◌}
 use Rattle.script_text.specs.Tasks.{task}
 use Rattle.shell_commands.specs.Tasks.{tasks}
 use Rattle.shell_session.proofs.BodyLaws.{body_goes, line_finished, line_halts, line_on, out_finished, out_halts}

@@ -1,15 +1,13 @@
 use Rattle.std.proofs.Common.{None, Err, length, refl, sym, subst, ◌≡◌, ◌+◌, ◌∙◌, ap, ℕ, false}
 use Rattle.std.specs.Vec.{with_items}
-use Rattle.base_core.specs.Represents.{Kept}
 use Rattle.filter_seat.proofs.SavedLaws.{lent_items}
 use Rattle.filter_seat.specs.SavedFilters.{without_last}
 use Rattle.shell_state.specs.Refusing.{index_is_full}
-use Rattle.shell_state.proofs.AddingLaws.{index_grows, add_fits, all_short, edit_device, filter_short, game_added, game_not_added, placed_there, index_last}
+use Rattle.shell_state.proofs.AddingLaws.{index_grows, add_fits, filter_short, game_added, index_last}
 use Rattle.shell_state.proofs.CarryLaws.{carry_appended, carry_of}
-use Rattle.shell_state.proofs.EditedLaws.{carry_err, err_not_failed, ok_not_failed, why_not_failed}
-use Rattle.shell_state.proofs.Quietly.{held_by}
+use Rattle.shell_state.proofs.EditedLaws.{carry_err, ok_not_failed}
 use Rattle.shell_state.proofs.machine.Machine.add.Goals as goal
-use Rattle.shell_state.specs.Stands.{Fits, Holding, Sound, Stands, depth_of}
+use Rattle.shell_state.specs.Stands.{Holding, Sound, Stands, depth_of}
 
 pub add_to_index-requires : goal.add_to_index-requires
 add_to_index-requires g c =
