@@ -1,11 +1,12 @@
 #!/usr/bin/env python3
 """Runs the built program over files that were spoiled and on machines that are too small, and looks that each run ends with a status that is
-named, that nothing is lost, and that what is refused is refused in time that grows no faster than its bytes.
+named and that nothing is lost.
 
 usage: cases/spoiled.py [PROGRAM [PART ..]]
 
 Every byte of two small bases is changed to three values, and every file of theirs is cut at each length. Disks are full, files may not grow, a
-folder can't be written, a file vanishes between two commands; scripts have 1 GiB, a base a million games, and memory has a limit.
+folder can't be written, a file vanishes between two commands; scripts have 1 GiB, a base a million games, and memory has a limit. Parts that
+look at a clock run where they are named: whether what is refused is refused in time that grows no faster than its bytes (bench/refusals/run).
 """
 import itertools
 import os
@@ -528,6 +529,10 @@ PARTS = [
     a_file_that_vanishes,
     scripts_of_a_gibibyte,
     a_million_games,
+]
+
+# These look at a clock, and run where they are named alone, as `bench/refusals/run` does.
+TIMED = [
     refusals_in_linear_time,
     long_records_in_linear_time,
     scripts_in_linear_time,
@@ -536,9 +541,7 @@ PARTS = [
 
 def main():
     only = sys.argv[2:]
-    for part in PARTS:
-        if only and part.__name__ not in only:
-            continue
+    for part in PARTS if not only else [part for part in PARTS + TIMED if part.__name__ in only]:
         with tempfile.TemporaryDirectory() as folder:
             said = part(folder)
         print(f"{part.__name__}: " + (said if said and said.startswith("left out") else f"ok ({said})" if said else "ok"), flush=True)
