@@ -1,5 +1,5 @@
 -- Laws of bodies: where one ends is told by the bytes up to there, and what is read of it is its front.
-use Rattle.std.proofs.Common.{◌&&◌, ◌≡◌, ◌≤◌, ◌<◌, ◌+◌, ◌-◌, ◌==◌, ℕ, zero, suc, Bool, true, false, cond, List, [], ◌∷◌, ◌++◌, length, take, drop, Option, Some, None, option_map, refl, sym, ap, ◌∙◌, arith, append_assoc, append-nil}
+use Rattle.std.proofs.Common.{◌&&◌, ◌≡◌, ◌≤◌, ◌<◌, ◌+◌, ◌==◌, ℕ, zero, suc, Bool, true, false, cond, List, [], ◌∷◌, ◌++◌, length, take, drop, Option, Some, None, option_map, refl, sym, ap, ◌∙◌, arith, append_assoc, append-nil}
 use Rattle.std.specs.Str.{bytes_eq}
 use Rattle.std.proofs.lemmas.List.{take-append-drop, take_all, length-append, length-take-le}
 use Rattle.std.proofs.lemmas.Slice.Eq.{bytes_eq-Decides}
@@ -26,7 +26,7 @@ line_kept [] more place at = cc
 line_kept (byte ∷ bytes) more place at = line_kept_by byte bytes more place (byte == 10) refl (first_feed bytes) refl at (λ p there. line_kept bytes more p there)
 
 -- Those without one are its beginning.
-open_line : (bytes more : List ℕ) → first_feed bytes ≡ None → first_line (bytes ++ more) ≡ bytes ++ first_line more
+pub open_line : (bytes more : List ℕ) → first_feed bytes ≡ None → first_line (bytes ++ more) ≡ bytes ++ first_line more
 open_line [] more none = refl
 open_line (byte ∷ bytes) more none =
     let none' : ((byte == 10) ≡ false) × (first_feed bytes ≡ None) = no_feed (byte == 10) (first_feed bytes) none in

@@ -4,3 +4,4 @@ pub mod BodyLaws
 pub mod StandingLaws
 pub mod PlaceLaws
 pub mod TaskLaws
+pub mod LineLaws

@@ -9,7 +9,8 @@ use borrow.Rule.Slice.PartMut.{post_of, put_mid}
 use Rattle.base_files.specs.Told.{before}
 use Rattle.base_files.proofs.Telling.{before-nil, before-append}
 use Rattle.script_text.specs.Reading.{reading}
-use Rattle.script_lines.specs.Script.{Order, Script, script, script_from}
+use Rattle.script_lines.specs.Bytewise.{script_from}
+use Rattle.script_lines.specs.Script.{Order, Script, script}
 use Rattle.script_lines.specs.Bodies.{feed_at}
 use Rattle.script_lines.specs.Reading.{Reader, TookLine, TookPart, grown, led_on, most_kept}
 use Rattle.script_lines.proofs.ScriptLaws.{feed_at_position, feed_room, first_feed, grown_none, line_read, part_read, reading_kept, script_kept}

@@ -6,7 +6,8 @@ use Prim.Native.Nat.compare
 use Rattle.script_text.specs.declared.command.Command.TheVariants.{Nothing}
 use Rattle.script_text.specs.declared.fault.ScriptFault.TheVariants.{TooLong}
 use Rattle.script_text.specs.Reading.{reading, shorn, is_remark}
-use Rattle.script_lines.specs.Script.{Script, script, script_from, with_byte}
+use Rattle.script_lines.specs.Bytewise.{script_from, with_byte}
+use Rattle.script_lines.specs.Script.{Script, script}
 use Rattle.script_text.specs.Tasks.{Task, task}
 use Rattle.script_lines.specs.Bodies.{feed_at}
 use Rattle.script_lines.specs.Reading.{grown, led_on, most_kept}
@@ -61,7 +62,7 @@ unfolding script_from
 byte_read last line byte bytes other = rw other refl
 
 -- A line feed ends the line.
-feed_read : (last : Task → List Task) (line : List ℕ) (byte : ℕ) (bytes : List ℕ) → (byte == 10) ≡ true
+pub feed_read : (last : Task → List Task) (line : List ℕ) (byte : ℕ) (bytes : List ℕ) → (byte == 10) ≡ true
     → script_from last 0 line (byte ∷ bytes) ≡ with_byte (led_on last (reading line) bytes)
 unfolding script_from
 feed_read last line byte bytes feed = rw feed refl

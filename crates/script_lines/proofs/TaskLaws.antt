@@ -4,7 +4,8 @@ use Rattle.std.proofs.lemmas.List.{length-take-le}
 use Rattle.script_text.specs.Tasks.{Task, body_word, task}
 use Rattle.script_lines.specs.Bodies.{Body, body_of}
 use Rattle.script_lines.specs.Reading.{grown, led_on}
-use Rattle.script_lines.specs.Script.{Order, Script, behind_line, is_quit, led_by, script, script_from, with_body, with_byte, with_word}
+use Rattle.script_lines.specs.Bytewise.{behind_line, script_from, with_body, with_byte, with_word}
+use Rattle.script_lines.specs.Script.{Order, Script, is_quit, led_by, script}
 use Rattle.script_lines.proofs.BodyLaws.{ended}
 use Rattle.script_lines.proofs.ScriptLaws.{grown_byte, grown_none}
 

@@ -1,8 +1,7 @@
--- The body of a command: the bytes of the lines behind its own, up to one that is the word. This project's own.
+-- The body of a command: the bytes of the lines behind its own, up to one that is the word. Only the reader's contracts cite it.
 use Rattle.std.specs.Prelude.{ℕ, suc, ◌==◌, Bool, ◌&&◌, if◌then◌else◌, List, [], ◌∷◌, Option, None, option_map}
 use Rattle.std.specs.List.{position}
-use Rattle.std.specs.Str.{bytes_eq}
-use Rattle.script_text.specs.Reading.{shorn}
+use Rattle.script_lines.specs.Script.{says_word}
 
 -- The place of the first line feed.
 abbrev pub feed_at : List ℕ → Option ℕ
@@ -13,9 +12,9 @@ abbrev pub first_line : List ℕ → List ℕ
 first_line [] = []
 first_line (byte ∷ bytes) = if byte == 10 then [] else byte ∷ first_line bytes
 
--- Whether the first line is the word. Its last carriage return is dropped for that alone.
+-- Whether the first line is the word.
 abbrev pub is_word : List ℕ → List ℕ → Bool
-is_word word bytes = bytes_eq (shorn (first_line bytes)) word
+is_word word bytes = says_word word (first_line bytes)
 
 -- The bytes of a body as they stand, and how many bytes the line has that ends it, with its line feed: none where the script ends first.
 pub record Body : Type 0 where

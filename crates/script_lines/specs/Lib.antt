@@ -1,5 +1,6 @@
 pub mod Bodies
 pub mod Script
+pub mod Bytewise
 pub mod Reading
 pub mod Standing
 pub mod Fronts

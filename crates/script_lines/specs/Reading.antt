@@ -3,7 +3,8 @@ use Rattle.std.specs.Prelude.{◌≡◌, ◌<◌, ℕ, ⊤, ◌+◌, List, [], �
 use Rattle.base_files.specs.Told.{before, Tells}
 use Rattle.script_text.specs.Reading.{reading}
 use Rattle.script_text.specs.Tasks.{Task}
-use Rattle.script_lines.specs.Script.{Order, Script, script, script_from, behind_line, longest_script}
+use Rattle.script_lines.specs.Bytewise.{script_from, behind_line}
+use Rattle.script_lines.specs.Script.{Order, Script, script, longest_script}
 use Rattle.script_lines.specs.declared.reader.ReadError.{ReadError}
 use Rattle.script_lines.specs.declared.reader.ReadError.TheVariants.{Failed, TooLong, Memory}
 

@@ -3,7 +3,14 @@ ghost use Rattle.std.specs.Prelude.{◌≡◌, ℕ, ◌+◌, true, false, List, 
 ghost use Rattle.script_text.specs.Tasks.{Task, body_word, task};
 ghost use Rattle.script_lines.specs.Bodies.{body_of};
 ghost use Rattle.script_lines.specs.Reading.{grown, led_on};
-ghost use Rattle.script_lines.specs.Script.{Order, is_quit, led_by, script, script_from};
+ghost use Rattle.script_lines.specs.Bytewise.{script_from};
+ghost use Rattle.script_lines.specs.Script.{Order, is_quit, led_by, script, script_by};
+
+/// A law: what a reader meets byte by byte is what the lines of the bytes say.
+#[tactic(auto, using(crate::proofs::LineLaws::reader_meets))]
+pub fn readers_meet_the_lines()
+    ensures meets { (last : Task → List Task) (bytes : List ℕ) → script_by last bytes ≡ script_from last 0 [] bytes }
+{}
 
 /// A law: what bytes say behind a line. Nothing comes behind `quit`; a line without a body is a task of its own; the body of a command and
 /// the line that ends it are its task, whatever follows, and where no line ends it all bytes are.

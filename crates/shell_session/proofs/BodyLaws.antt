@@ -24,7 +24,8 @@ use Rattle.pgn_read.specs.declared.item.Item.TheVariants.{Good, Bad}
 use Rattle.pgn_read.specs.Items.{items_of}
 use Rattle.script_lines.specs.Bodies.{Body, body_of}
 use Rattle.script_lines.specs.Reading.{Reader, grown, led_on, piece_len}
-use Rattle.script_lines.specs.Script.{Script, is_quit, led_by, longest_script, script, script_from, then_quit}
+use Rattle.script_lines.specs.Bytewise.{script_from}
+use Rattle.script_lines.specs.Script.{Script, is_quit, led_by, longest_script, script, then_quit}
 use Rattle.script_lines.specs.Standing.{IsBegun, NoEnd, Standing, is_open, left_of, rest_told, start_at}
 use Rattle.script_lines.specs.declared.place.At.{At}
 use Rattle.script_lines.specs.declared.place.At.TheVariants.{Line, Inside, Behind, End}

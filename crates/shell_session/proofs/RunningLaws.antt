@@ -16,8 +16,10 @@ use Rattle.command_runs.proofs.Running.{after_all-append, cut_stops, did_one, di
 use Rattle.script_lines.specs.declared.reader.ReadError.{ReadError}
 use Rattle.script_lines.specs.declared.reader.ReadError.TheVariants as error
 use Rattle.script_lines.specs.Reading.{Feeds, IsFull, Reader, Stuck, TookLast, TookLine, TookPart, grown, led_on}
-use Rattle.script_lines.specs.Script.{Script, behind_line, is_quit, led_by, longest_script, script, script_from, script_len, script_of, then_quit, whole_lines, with_body, with_word}
+use Rattle.script_lines.specs.Bytewise.{behind_line, script_from, with_body, with_word}
+use Rattle.script_lines.specs.Script.{Script, is_quit, led_by, longest_script, script, script_by, script_len, script_of, then_quit, whole_lines}
 use Rattle.script_lines.specs.Bodies.{Body, body_of}
+use Rattle.script_lines.proofs.LineLaws.{reader_meets}
 use Rattle.script_text.specs.Reading.{reading, shorn}
 use Rattle.script_text.specs.Tasks.{Task, body_word, task}
 use Rattle.script_text.specs.Words.{cut}
@@ -37,6 +39,10 @@ use Rattle.shell_session.specs.Stops.{status_of_halt, status_of_reading}
 use Rattle.shell_session.specs.declared.status.Status.{Status}
 use Rattle.shell_session.specs.declared.status.Status.TheVariants.{InputTooLong, Memory, ReadFault}
 use Rattle.shell_session.proofs.PriceLaws.{paid_all, paid_one}
+
+-- What the reader meets of whole lines.
+whole_met : (bytes : List ℕ) → whole_lines bytes ≡ (script_from (λ _. []) 0 [] bytes).tasks
+whole_met bytes = ap (λ (x : Script). x.tasks) (reader_meets (λ _. []) bytes)
 
 -- Nothing was run yet.
 pub ran_none : (s : State) (bytes : List ℕ) (l t : Option (List ℕ)) (holding : Holding) (seen : Seen) (reader : Reader) (a : ℕ) → l ≡ Some bytes → reader ≡ record { unread = []; line = []; used = 0 }
@@ -129,14 +135,14 @@ ran_more s bytes t₀ holding holding' seen seen' order ahead used reader' l' t 
 
 -- The script is at its end.
 finished_says : (s : State) (bytes : List ℕ) (t₀ : Option (List ℕ)) (holding : Holding) (seen : Seen) (order : Order) (ahead : List ℕ) (used : ℕ) (t : Option (List ℕ)) (a₀ a : ℕ)
-    → (at : AtLine s bytes t₀ holding seen order ahead used t a₀ a) → script_from then_quit 0 [] bytes ≡ joined at.done (length at.front) (led_on then_quit order ahead)
-finished_says s bytes t₀ holding seen order ahead used t a₀ a at = ap (script_from then_quit 0 []) at.all ∙ at.says then_quit ahead
+    → (at : AtLine s bytes t₀ holding seen order ahead used t a₀ a) → script_by then_quit bytes ≡ joined at.done (length at.front) (led_on then_quit order ahead)
+finished_says s bytes t₀ holding seen order ahead used t a₀ a at = reader_meets then_quit bytes ∙ ap (script_from then_quit 0 []) at.all ∙ at.says then_quit ahead
 
 pub ran_finished : (s : State) (bytes : List ℕ) (t₀ : Option (List ℕ)) (holding holding' : Holding) (seen seen' : Seen) (order : Order) (ahead : List ℕ) (used : ℕ) (l' t t' : Option (List ℕ)) (a₀ a a' : ℕ)
     → (at : AtLine s bytes t₀ holding seen order ahead used t a₀ a) → Finished order (after_all tasks s at.done) ahead used holding' seen' l' t t' a a'
     → RanAll s bytes t₀ t' l' seen' × (a' ≤ a₀ + price_all s (script_of bytes))
 ran_finished s bytes t₀ holding holding' seen seen' order ahead used l' t t' a₀ a a' at end =
-    let says : script_from then_quit 0 [] bytes ≡ script (at.done ++ end.lasts) (length at.front + end.size) =
+    let says : script_by then_quit bytes ≡ script (at.done ++ end.lasts) (length at.front + end.size) =
     finished_says s bytes t₀ holding seen order ahead used t a₀ a at ∙ ap (joined at.done (length at.front)) end.says in
     let all : script_of bytes ≡ at.done ++ end.lasts = ap (λ (x : Script). x.tasks) says in
     let size : script_len bytes ≡ length at.front + end.size = ap (λ (x : Script). x.size) says in
@@ -198,14 +204,15 @@ lines_behind : (status : Status) (s : State) (bytes : List ℕ) (t₀ : Option (
 lines_behind ReadFault s bytes t₀ holding seen order ahead used l' t a₀ a done at few (front, told, whole) = (
   at.front ++ front,
   ap (λ (b : List ℕ). Some b) at.all ∙ ap (before at.front) told ∙ sym (before-append at.front front l'),
-  ap (λ x. at.done ++ x) whole ∙ sym (ap (λ (x : Script). x.tasks) (at.says (λ _. []) front)),
+  ap (λ x. at.done ++ x) whole ∙ sym (ap (λ (x : Script). x.tasks) (at.says (λ _. []) front)) ∙ sym (whole_met (at.front ++ front)),
 )
 lines_behind InputTooLong s bytes t₀ holding seen order ahead used l' t a₀ a done at few (long, whole) =
     let size : script_len bytes ≡ length at.front + (led_on then_quit order ahead).size = ap (λ (x : Script). x.size) (finished_says s bytes t₀ holding seen order ahead used t a₀ a at) in
     let front : take longest_script bytes ≡ at.front ++ take (longest_script - used) ahead =
     ap (take longest_script) at.all ∙ take_past at.front ahead longest_script (omega (arith, few, at.size)) ∙ ap (λ k. at.front ++ take (longest_script - k) ahead) (sym at.size) in (
       omega (arith, size, long, at.size),
-      ap (λ x. at.done ++ x) whole ∙ sym (ap (λ (x : Script). x.tasks) (at.says (λ _. []) (take (longest_script - used) ahead))) ∙ ap whole_lines (sym front),
+      ap (λ x. at.done ++ x) whole ∙ sym (ap (λ (x : Script). x.tasks) (at.says (λ _. []) (take (longest_script - used) ahead)))
+          ∙ sym (whole_met (at.front ++ take (longest_script - used) ahead)) ∙ ap whole_lines (sym front),
     )
 lines_behind _ s bytes t₀ holding seen order ahead used l' t a₀ a done at few lines = tt
 
@@ -235,10 +242,10 @@ says_part done front part line last more says feeds =
 last_says : (bytes : List ℕ) (done : List Task) (front part line : List ℕ) (order : Order)
     → ((last : Task → List Task) (more : List ℕ) → script_from last 0 [] (front ++ more) ≡ joined done (length front) (script_from last 0 [] more))
     → Feeds [] part line → order ≡ reading line → bytes ≡ front ++ part
-    → script_from then_quit 0 [] bytes ≡ script (done ++ then_quit (task order [])) (length front + length part)
+    → script_by then_quit bytes ≡ script (done ++ then_quit (task order [])) (length front + length part)
 unfolding script_from
 last_says bytes done front part line order says feeds is all =
-    ap (script_from then_quit 0 []) (all ∙ sym (append-nil (front ++ part)))
+    reader_meets then_quit bytes ∙ ap (script_from then_quit 0 []) (all ∙ sym (append-nil (front ++ part)))
     ∙ says_part done front part line then_quit [] says feeds
     ∙ ap (λ o. script (done ++ then_quit (task o [])) (length front + length part + 0)) (sym is)
     ∙ ap (script (done ++ then_quit (task order []))) (omega arith)
@@ -263,7 +270,7 @@ pub record AtLast (s : State) (bytes : List ℕ) (t₀ : Option (List ℕ)) (hol
   pub stands : Stands holding seen (after_all tasks s done)
   pub written : t ≡ adds t₀ (run tasks s done)
   pub size : used ≡ length bytes
-  pub says : script_from then_quit 0 [] bytes ≡ script (done ++ then_quit (task order [])) (length bytes)
+  pub says : script_by then_quit bytes ≡ script (done ++ then_quit (task order [])) (length bytes)
   pub whole : whole_lines bytes ≡ done
   pub paid : a ≤ a₀ + price_all s done
 
@@ -273,7 +280,7 @@ lines_taken : (done : List Task) (front part line : List ℕ)
     → Feeds [] part line → whole_lines (front ++ part) ≡ done
 unfolding script_from
 lines_taken done front part line says feeds =
-    ap (λ b. whole_lines b) (sym (append-nil (front ++ part)))
+    whole_met (front ++ part) ∙ ap (λ b. (script_from (λ _. []) 0 [] b).tasks) (sym (append-nil (front ++ part)))
     ∙ ap (λ (x : Script). x.tasks) (says_part done front part line (λ _. []) [] says feeds)
     ∙ append-nil done
 
@@ -398,8 +405,8 @@ ran_failed s bytes t₀ holding seen reader reader' l l' t a₀ a ran took none 
     let read : Some bytes ≡ before (ran.front ++ took.front) (before reader'.unread l') =
     ran.left ∙ ap (before ran.front) took.ahead ∙ sym (before-append ran.front took.front (before reader'.unread l')) in
     let parts : (more : List ℕ) × (before reader'.unread l' ≡ Some more) × (bytes ≡ (ran.front ++ took.front) ++ more) = told_parts bytes (ran.front ++ took.front) (before reader'.unread l') read in
-    let says : script_from then_quit 0 [] bytes ≡ joined ran.done (length ran.front + length took.front) (script_from then_quit 0 reader'.line parts.0) =
-    ap (script_from then_quit 0 []) parts.2 ∙ says_part ran.done ran.front took.front reader'.line then_quit parts.0 ran.says took.feeds in
+    let says : script_by then_quit bytes ≡ joined ran.done (length ran.front + length took.front) (script_from then_quit 0 reader'.line parts.0) =
+    reader_meets then_quit bytes ∙ ap (script_from then_quit 0 []) parts.2 ∙ says_part ran.done ran.front took.front reader'.line then_quit parts.0 ran.says took.feeds in
     let some : (next : Task) × (left : List Task) × ((script_from then_quit 0 reader'.line parts.0).tasks ≡ next ∷ left) = some_task reader'.line parts.0 in
     record {
       done = ran.done;
@@ -424,8 +431,8 @@ ran_too_long s bytes t₀ holding seen reader reader' l l' t a₀ a ran took ful
     let read : Some bytes ≡ before (ran.front ++ took.front) (before reader'.unread l') =
     ran.left ∙ ap (before ran.front) took.ahead ∙ sym (before-append ran.front took.front (before reader'.unread l')) in
     let parts : (more : List ℕ) × (before reader'.unread l' ≡ Some more) × (bytes ≡ (ran.front ++ took.front) ++ more) = told_parts bytes (ran.front ++ took.front) (before reader'.unread l') read in
-    let says : script_from then_quit 0 [] bytes ≡ joined ran.done (length ran.front + length took.front) (script_from then_quit 0 reader'.line parts.0) =
-    ap (script_from then_quit 0 []) parts.2 ∙ says_part ran.done ran.front took.front reader'.line then_quit parts.0 ran.says took.feeds in
+    let says : script_by then_quit bytes ≡ joined ran.done (length ran.front + length took.front) (script_from then_quit 0 reader'.line parts.0) =
+    reader_meets then_quit bytes ∙ ap (script_from then_quit 0 []) parts.2 ∙ says_part ran.done ran.front took.front reader'.line then_quit parts.0 ran.says took.feeds in
     let some : (next : Task) × (left : List Task) × ((script_from then_quit 0 reader'.line parts.0).tasks ≡ next ∷ left) = some_task reader'.line parts.0 in
     let size : script_len bytes ≡ length ran.front + length took.front + (script_from then_quit 0 reader'.line parts.0).size = ap (λ (x : Script). x.size) says in
     let more : 0 < length parts.0 = more_ahead reader'.unread l' parts.0 parts.1 full.more in
@@ -451,7 +458,7 @@ pub ran_short : (s : State) (bytes : List ℕ) (t₀ : Option (List ℕ)) (holdi
     → (ran : Ran s bytes t₀ holding seen reader l t a₀ a) → RanPart Memory s bytes t₀ t l' seen
 ran_short s bytes t₀ holding seen reader l l' t a₀ a ran =
     let parts : (more : List ℕ) × (before reader.unread l ≡ Some more) × (bytes ≡ ran.front ++ more) = told_parts bytes ran.front (before reader.unread l) ran.left in
-    let says : script_from then_quit 0 [] bytes ≡ joined ran.done (length ran.front) (script_from then_quit 0 [] parts.0) = ap (script_from then_quit 0 []) parts.2 ∙ ran.says then_quit parts.0 in
+    let says : script_by then_quit bytes ≡ joined ran.done (length ran.front) (script_from then_quit 0 [] parts.0) = reader_meets then_quit bytes ∙ ap (script_from then_quit 0 []) parts.2 ∙ ran.says then_quit parts.0 in
     let some : (next : Task) × (left : List Task) × ((script_from then_quit 0 [] parts.0).tasks ≡ next ∷ left) = some_task [] parts.0 in
     record {
       done = ran.done;
@@ -475,7 +482,7 @@ pub paid_done : (s : State) (bytes : List ℕ) (t₀ : Option (List ℕ)) (holdi
     → Ran s bytes t₀ holding seen reader l t a₀ a → a ≤ a₀ + price_all s (script_of bytes)
 paid_done s bytes t₀ holding seen reader l t a₀ a ran =
     let parts : (more : List ℕ) × (before reader.unread l ≡ Some more) × (bytes ≡ ran.front ++ more) = told_parts bytes ran.front (before reader.unread l) ran.left in
-    let says : script_from then_quit 0 [] bytes ≡ joined ran.done (length ran.front) (script_from then_quit 0 [] parts.0) = ap (script_from then_quit 0 []) parts.2 ∙ ran.says then_quit parts.0 in
+    let says : script_by then_quit bytes ≡ joined ran.done (length ran.front) (script_from then_quit 0 [] parts.0) = reader_meets then_quit bytes ∙ ap (script_from then_quit 0 []) parts.2 ∙ ran.says then_quit parts.0 in
     paid_all s (script_of bytes) ran.done (script_from then_quit 0 [] parts.0).tasks a₀ a a (ap (λ (x : Script). x.tasks) says) ran.paid (omega arith)
 
 -- ---- one line

@@ -18,7 +18,8 @@ use Rattle.shell_commands.specs.Tasks.{tasks}
 use Rattle.script_lines.specs.Reading.{Reader, grown, led_on}
 use Rattle.script_lines.specs.declared.place.At.{At}
 use Rattle.script_lines.specs.declared.place.At.TheVariants.{Behind}
-use Rattle.script_lines.specs.Script.{Script, led_by, longest_script, script, script_from, then_quit}
+use Rattle.script_lines.specs.Bytewise.{script_from}
+use Rattle.script_lines.specs.Script.{Script, led_by, longest_script, script, then_quit}
 use Rattle.shell_session.specs.Session.{Breaks, WhyStatus, price_all}
 use Rattle.shell_session.specs.declared.status.Status.{Status}
 use Rattle.shell_session.specs.declared.status.Status.TheVariants.{BadBase, ReadFault, WriteFault, FilesFault, Changed, InputTooLong, Memory}
