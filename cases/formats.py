@@ -172,6 +172,7 @@ ENDS = [(len(NAMES) - 1, "round 0"), (36, "player 0"), (36 + 18, "player 1"), (3
 
 # Changes of the header of an index of one game: at a place these bytes, and the fault.
 INDEXES = [
+    (0, b"s", "not an index"),
     (7, b"\x01", "not an index"),
     (9, b"\x2c", "an index of version 300"),
     (14, b"\xff\xff\xff", "an index of 16777215 games, which are too many"),

@@ -381,14 +381,17 @@ def main():
         write(case, "pawns", index(PAWNS), PAWNS_NAMES, PAWNS_RECORDS)
     # One change a case.
     write("index_of_another_length", "vienna", index([VIENNA])[:-1], VIENNA_NAMES, VIENNA_RECORD)
-    write("index_of_another_magic", "vienna", put(index([VIENNA]), 0, ord("s")), VIENNA_NAMES, VIENNA_RECORD)
+    write("index_of_another_magic", "vienna", put(index([VIENNA]), 0, 0), VIENNA_NAMES, VIENNA_RECORD)
     vienna("result_of_no_kind", put(VIENNA, 21, 0x40))
     vienna("site_without_a_name", put(VIENNA, 18, 1))
+    vienna("crosses_a_block", put(put(put(VIENNA, 1, 1), 2, 0xFF), 3, 0xF0))
+    vienna("past_the_end", put(VIENNA, 5, 26))
     vienna("record_without_its_end", put(VIENNA, 5, 24))
     vienna("rating_of_no_kind", put(put(VIENNA, 29, 0x70), 30, 1))
     vienna("black_without_a_name", put(VIENNA, 13, 2))
     write("names_cut_in_their_header", "vienna", index([VIENNA]), VIENNA_NAMES[:35], VIENNA_RECORD)
-    write("mark_of_no_kind", "vienna", index([VIENNA]), VIENNA_NAMES, put(VIENNA_RECORD, 24, 0x0E))
+    for case, place, byte in (("tag_of_no_name", 0, 0xFB), ("move_that_is_not_legal", 2, 0xCE), ("mark_of_no_kind", 24, 0x0E)):
+        write(case, "vienna", index([VIENNA]), VIENNA_NAMES, put(VIENNA_RECORD, place, byte))
     for field, (place, byte) in DIFFERENCES.items():
         vienna(f"strict_on_{field}", put(VIENNA, place, byte))
     # Two games of one record, one of them with the spare bit and the code of a stored line, other bytes before and behind the record,

@@ -164,6 +164,19 @@ READ_UNDER_INDEX = [
     (record_of(OPENING), "index 2", "index 2", True),
 ]
 
+# A record, a line, lines behind it, and whether one of these reads the record: a slot that comes to show a tree reads what a tree of all games
+# would, the games that are out too, and no command reads more because a slot shows one.
+READ_FOR_SLOTS = [
+    (record_of(OPENING), "info", f"watch 0 {BEHIND}", True),
+    (record_of(EXCHANGE), "info", f"watch 0 {BLACK_FIRST}", False),
+    (record_of(OPENING), "index 2", f"watch 0 {BLACK_MOVED}", False),
+    (record_of(OPENING), "index 2", f"watch 0 {BEHIND}", True),
+    (record_of(OPENING), "clear", f"tree {BEHIND}", False),
+    (record_of(OPENING), "clear", f"watch 0 {BEHIND}", True),
+    (record_of(OPENING), f"watch 0 {BEHIND}", f"watch 0 {BEHIND}", True),
+    (record_of(OPENING), f"watch 0 {BEHIND}", "view 0\nclear\nreset\nrestrict 1 1\nnegate\ndelete 0\nmark 0 W on\ncross E\nview 0\nunwatch 0\nview 0", False),
+]
+
 
 def fen(board):
     text = "/".join(board[8 * rank:8 * rank + 8] for rank in range(7, -1, -1))
@@ -229,7 +242,7 @@ def is_read(record, first, lines):
 
 def reading():
     searches = [(record, "info", f"search ignore {search}", wanted) for record, search, wanted in READ]
-    for record, first, lines, wanted in searches + READ_UNDER_INDEX:
+    for record, first, lines, wanted in searches + READ_UNDER_INDEX + READ_FOR_SLOTS:
         if is_read(record, first, lines) != wanted:
             fail(f"{first}, {lines} {'does not read' if wanted else 'reads'} {record}")
 

@@ -20,7 +20,7 @@ def names_there():
         found.update(re.findall(r"^\s+(?:pub )?(\w+)\b[ ,:({]", text, flags=re.M))
     for path in sources("specs", ".antt"):
         text = path.read_text()
-        found.update(re.findall(r"^\s*(?:(?:unfoldable|abbrev|pub|record|data|mutual) )*([^\s:(){}]+) ?[:(]", text, flags=re.M))
+        found.update(re.findall(r"^\s*(?:(?:unfoldable|abbrev|pub|record|data|mutual) )*([^\s:(){}]+) ?[:({]", text, flags=re.M))
         found.update(re.findall(r"^\s*\| (\w+)", text, flags=re.M))
     found.update(it.parent.name for it in (TOP / "crates").glob("*/src"))
     found.update(it.stem for it in sources("src", ".rt"))

@@ -21,6 +21,7 @@ THEOREM = [
     ("base_files", "files.rt", "pub trait Files"),
     ("base_files", "source.rt", "pub trait Source"),
     ("base_files", "sink.rt", "pub trait Sink"),
+    ("tree_live", "view.rt", "pub trait TreeView"),
 ]
 WORD = re.compile(r"[^\W\d][\w'-]*(?:\.[^\W\d][\w'-]*)*")
 USE = re.compile(r"^\s*(?:ghost )?use (Rattle\.[\w.+]+?)(?:\.\{([^}]*)\})?(?: as (\w+))?;?$", flags=re.M)

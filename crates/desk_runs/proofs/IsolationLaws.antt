@@ -4,10 +4,11 @@ use Rattle.std.proofs.lemmas.Bool.{eqb-true, eqb-false}
 use Rattle.filter_seat.specs.Seats.{Seat}
 use Rattle.script_text.specs.Tasks.{Task}
 use Rattle.shell_commands.specs.Tasks.{task_work}
+use Rattle.shell_state.specs.Slots.{Slot}
 use Rattle.shell_state.specs.State.{Shared, State}
-use Rattle.desk_runs.specs.Desk.{Desk, Tagged, Said, Kind, private, public, adds, moves, leaves, is_private, is_last, order_kind, no_seat, seat_at, has_ended, seen_by, after_task, brought, each_seat, desk_with, desk_after, desk_said, desk_run, late_text}
+use Rattle.desk_runs.specs.Desk.{Desk, Tagged, Said, Kind, private, public, adds, moves, leaves, is_private, is_last, order_kind, no_seat, seat_at, slots_of, has_ended, seen_by, after_task, brought, each_seat, desk_with, desk_after, desk_said, desk_run, late_text}
 use Rattle.desk_runs.specs.Isolation.{said_to, without_private}
-use Rattle.desk_runs.proofs.SharedLaws.{private-keeps, same-shared, state_of}
+use Rattle.desk_runs.proofs.SharedLaws.{Own, private-keeps, same-shared, state_of}
 
 -- ---- seats
 
@@ -32,12 +33,28 @@ other-seat zero (suc by) own bring (seat ∷ seats) differ = refl
 other-seat (suc c) zero own bring (seat ∷ seats) differ = got-map bring seats c
 other-seat (suc c) (suc by) own bring (seat ∷ seats) differ = other-seat c by own bring seats (λ e. differ (ap (λ (n : ℕ). suc n) e))
 
--- ---- desks
+-- ---- slots
 
--- A client has the same seat, and the same is shared, and the same clients have ended.
+got-set : (slots : List (List Slot)) (i : ℕ) (own : List Slot) → slice_get (slice_set slots i own) i ≡ option_map (λ old. own) (slice_get slots i)
+got-set [] zero own = refl
+got-set [] (suc i) own = refl
+got-set (slot ∷ slots) zero own = refl
+got-set (slot ∷ slots) (suc i) own = got-set slots i own
+
+got-other : (slots : List (List Slot)) (i c : ℕ) (own : List Slot) → (i ≡ c → ⊥) → slice_get (slice_set slots i own) c ≡ slice_get slots c
+got-other [] i c own differ = refl
+got-other (slot ∷ slots) zero zero own differ = absurd (differ refl)
+got-other (slot ∷ slots) zero (suc c) own differ = refl
+got-other (slot ∷ slots) (suc i) zero own differ = refl
+got-other (slot ∷ slots) (suc i) (suc c) own differ = got-other slots i c own (λ e. differ (ap (λ (n : ℕ). suc n) e))
+
+-- ---- two desks
+
+-- A client has the same seat, and slots that show the same, and the same is shared, and the same clients have ended.
 record Alike (c : ℕ) (d e : Desk) : Type 0 where
   shared : d.shared ≡ e.shared
   seat : slice_get d.seats c ≡ slice_get e.seats c
+  slots : slice_get d.slots c ≡ slice_get e.slots c
   ended : d.ended ≡ e.ended
 
 same-late : (c by : ℕ) (d e : Desk) → Alike c d e → has_ended d by ≡ has_ended e by
@@ -51,16 +68,21 @@ same-ended : (t : Tagged) (d e : List Bool) → d ≡ e
     → cond (is_last (order_kind t.task.order)) (slice_set d t.client true) d ≡ cond (is_last (order_kind t.task.order)) (slice_set e t.client true) e
 same-ended t d e same = ap (λ (ended : List Bool). cond (is_last (order_kind t.task.order)) (slice_set ended t.client true) ended) same
 
+abbrev own_of : Desk → ℕ → Own
+own_of d c = record { seat = seat_at d c; slots = slots_of d c }
+
 -- The client's own command.
 same-seen : (c : ℕ) (d e : Desk) → Alike c d e → seen_by d c ≡ seen_by e c
 same-seen c d e alike =
-    ap (λ (h : Shared). state_of h (seat_at d c)) alike.shared ∙ ap (λ (seat : Option Seat). state_of e.shared (unwrap_or seat no_seat)) alike.seat
+    ap (λ (h : Shared). state_of h (own_of d c)) alike.shared ∙ ap (λ (seat : Option Seat). state_of e.shared (record { seat = unwrap_or seat no_seat; slots = slots_of d c })) alike.seat
+    ∙ ap (λ (slots : Option (List Slot)). state_of e.shared (record { seat = seat_at e c; slots = unwrap_or slots [] })) alike.slots
 
 alike-own : (c : ℕ) (t : Tagged) (d e : Desk) → t.client ≡ c → Alike c d e → Alike c (desk_after d t) (desk_after e t)
 alike-own c t d e is alike =
     alike-cond c (has_ended d t.client) (has_ended e t.client) d e (desk_with d t after_d) (desk_with e t after_e) (same-late c t.client d e alike) alike (record {
       shared = ap (λ (s : State). s.shared) same;
       seat = seats;
+      slots = slots;
       ended = same-ended t d.ended e.ended alike.ended;
     })
   where
@@ -82,6 +104,11 @@ alike-own c t d e is alike =
         (own-seat c after_d.seat (bring d after_d) d.seats ∙ ap (λ (s : State). option_map (λ seat. s.seat) (slice_get d.seats c)) same
         ∙ ap (λ (o : Option Seat). option_map (λ seat. after_e.seat) o) alike.seat ∙ sym (own-seat c after_e.seat (bring e after_e) e.seats))
 
+    slots : slice_get (slice_set d.slots t.client after_d.slots) c ≡ slice_get (slice_set e.slots t.client after_e.slots) c
+    slots = subst (λ (n : ℕ). slice_get (slice_set d.slots n after_d.slots) c ≡ slice_get (slice_set e.slots n after_e.slots) c) (sym is)
+        (got-set d.slots c after_d.slots ∙ ap (λ (s : State). option_map (λ old. s.slots) (slice_get d.slots c)) same
+        ∙ ap (λ (o : Option (List Slot)). option_map (λ old. after_e.slots) o) alike.slots ∙ sym (got-set e.slots c after_e.slots))
+
 same-said : (c : ℕ) (t : Tagged) (d e : Desk) → t.client ≡ c → Alike c d e → desk_said d t ≡ desk_said e t
 same-said c t d e is alike =
     ap (λ (b : Bool). cond b (late_text t.task.order) ((task_work t.task).text (seen_by d t.client))) (same-late c t.client d e alike)
@@ -96,6 +123,7 @@ alike-other c t d e differ alike =
     alike-cond c (has_ended d t.client) (has_ended e t.client) d e (desk_with d t after_d) (desk_with e t after_e) (same-late c t.client d e alike) alike (record {
       shared = shared;
       seat = seats;
+      slots = got-other d.slots t.client c after_d.slots differ ∙ alike.slots ∙ sym (got-other e.slots t.client c after_e.slots differ);
       ended = same-ended t d.ended e.ended alike.ended;
     })
   where
@@ -106,8 +134,8 @@ alike-other c t d e differ alike =
     after_e = after_task (seen_by e t.client) t.task
 
     shared : after_d.shared ≡ after_e.shared
-    shared = same-shared t.task.order t.task.body d.shared (seat_at d t.client) (seat_at e t.client)
-        ∙ ap (λ (h : Shared). (after_task (state_of h (seat_at e t.client)) t.task).shared) alike.shared
+    shared = same-shared t.task.order t.task.body d.shared (own_of d t.client) (own_of e t.client)
+        ∙ ap (λ (h : Shared). (after_task (state_of h (own_of e t.client)) t.task).shared) alike.shared
 
     kind : Kind
     kind = order_kind t.task.order
@@ -143,9 +171,10 @@ alike-left c false d d1 e ended not_ended = not_ended
 alike-private : (c : ℕ) (t : Tagged) (d e : Desk) → (t.client ≡ c → ⊥) → is_private (order_kind t.task.order) ≡ true → Alike c d e → Alike c (desk_after d t) e
 alike-private c t d e differ is alike =
     alike-left c (has_ended d t.client) d (desk_with d t after) e alike (record {
-      shared = private-keeps t.task.order t.task.body d.shared (seat_at d t.client) is ∙ alike.shared;
+      shared = private-keeps t.task.order t.task.body d.shared (own_of d t.client) is ∙ alike.shared;
       seat = other-seat c t.client after.seat (brought (order_kind t.task.order) t.task d.shared after.shared) d.seats differ
           ∙ brings-nothing (order_kind t.task.order) t.task d.shared after.shared (slice_get d.seats c) is ∙ alike.seat;
+      slots = got-other d.slots t.client c after.slots differ ∙ alike.slots;
       ended = ends-nobody (order_kind t.task.order) d.ended (slice_set d.ended t.client true) is ∙ alike.ended;
     })
   where
@@ -197,4 +226,4 @@ alike-run [] c d e alike = refl
 alike-run (t ∷ list) c d e alike = alike-step t list c d e (λ x y same. alike-run list c x y same) alike (t.client == c) (is_private (order_kind t.task.order)) refl refl
 
 pub isolation : (desk : Desk) (list : List Tagged) (client : ℕ) → said_to client (desk_run desk list) ≡ said_to client (desk_run desk (without_private client list))
-isolation desk list client = alike-run list client desk desk (record { shared = refl; seat = refl; ended = refl })
+isolation desk list client = alike-run list client desk desk (record { shared = refl; seat = refl; slots = refl; ended = refl })

@@ -24,57 +24,66 @@ use Rattle.pgn_read.specs.declared.item.Item.TheVariants.{Good, Bad}
 use Rattle.report_commands.specs.Classifying.{state_by}
 use Rattle.report_commands.specs.Twins.{with_deleted, found_twins}
 use Rattle.script_text.specs.declared.command.Command.{Command}
-use Rattle.script_text.specs.declared.command.Command.TheVariants.{Nothing, Find, SearchPosition, SearchMaterial, SearchHeader, Reset, Clear, Negate, Restrict, Keep, Take, And, Or, Drop, Hits, List as Listing, Show, Export, Import, Replace, Eco, Tag, Delete, Undelete, Mark, Tree, Cross, Twins, Index, Save, Info, Demo, Quit, Compact}
+use Rattle.script_text.specs.declared.command.Command.TheVariants.{Nothing, Find, SearchPosition, SearchMaterial, SearchHeader, Reset, Clear, Negate, Restrict, Keep, Take, And, Or, Drop, Hits, List as Listing, Show, Export, Import, Replace, Eco, Tag, Delete, Undelete, Mark, Tree, Watch, View, Unwatch, Cross, Twins, Index, Save, Info, Demo, Quit, Compact}
 use Rattle.script_text.specs.declared.fault.ScriptFault.{ScriptFault}
 use Rattle.shell_commands.specs.Tasks.{order_work}
 use Rattle.shell_state.specs.Refusing.{not_added, refusal_of, index_is_full}
+use Rattle.shell_state.specs.Slots.{Slot}
 use Rattle.shell_state.specs.State.{Shared, State, with_index}
 use Rattle.shell_state.specs.declared.refusing.Refusal.{Refusal}
 use Rattle.desk_runs.specs.Desk.{is_private, order_kind}
 
+-- What a client has of his own: his seat, and what his slots show.
+pub record Own : Type 0 where
+  pub seat : Seat
+  pub slots : List Slot
+
 -- The state of these two parts.
-abbrev pub state_of : Shared → Seat → State
-state_of shared seat = record { shared = shared; seat = seat }
+abbrev pub state_of : Shared → Own → State
+state_of shared own = record { shared = shared; seat = own.seat; slots = own.slots }
 
 -- ---- private commands
 
-pub private-keeps : (order : Result Command ScriptFault) (body : List ℕ) (h : Shared) (seat : Seat) → is_private (order_kind order) ≡ true
-    → ((order_work order body).after (state_of h seat)).shared ≡ h
-private-keeps (Err fault) body h seat e = refl
-private-keeps (Ok Nothing) body h seat e = refl
-private-keeps (Ok (Find board side)) body h seat e = refl
-private-keeps (Ok (SearchPosition op query)) body h seat e = refl
-private-keeps (Ok (SearchMaterial op query)) body h seat e = refl
-private-keeps (Ok (SearchHeader op query)) body h seat e = refl
-private-keeps (Ok Reset) body h seat e = refl
-private-keeps (Ok Clear) body h seat e = refl
-private-keeps (Ok Negate) body h seat e = refl
-private-keeps (Ok (Restrict first last)) body h seat e = refl
-private-keeps (Ok (Keep name)) body h seat e = refl
-private-keeps (Ok (Take name)) body h seat e = refl
-private-keeps (Ok (And name)) body h seat e = refl
-private-keeps (Ok (Or name)) body h seat e = refl
-private-keeps (Ok (Drop name)) body h seat e = refl
-private-keeps (Ok Hits) body h seat e = refl
-private-keeps (Ok Listing) body h seat e = refl
-private-keeps (Ok (Show game)) body h seat e = refl
-private-keeps (Ok Export) body h seat e = refl
-private-keeps (Ok (Import word)) body h seat e = absurd cc
-private-keeps (Ok (Replace game word)) body h seat e = absurd cc
-private-keeps (Ok (Eco word)) body h seat e = absurd cc
-private-keeps (Ok (Tag game edit)) body h seat e = absurd cc
-private-keeps (Ok (Delete game)) body h seat e = absurd cc
-private-keeps (Ok (Undelete game)) body h seat e = absurd cc
-private-keeps (Ok (Mark game bit on)) body h seat e = absurd cc
-private-keeps (Ok (Tree board side)) body h seat e = refl
-private-keeps (Ok (Cross event)) body h seat e = refl
-private-keeps (Ok (Twins depth)) body h seat e = absurd cc
-private-keeps (Ok (Index depth)) body h seat e = absurd cc
-private-keeps (Ok Save) body h seat e = absurd cc
-private-keeps (Ok Info) body h seat e = refl
-private-keeps (Ok (Demo seed games)) body h seat e = absurd cc
-private-keeps (Ok Quit) body h seat e = absurd cc
-private-keeps (Ok Compact) body h seat e = absurd cc
+pub private-keeps : (order : Result Command ScriptFault) (body : List ℕ) (h : Shared) (own : Own) → is_private (order_kind order) ≡ true
+    → ((order_work order body).after (state_of h own)).shared ≡ h
+private-keeps (Err fault) body h own e = refl
+private-keeps (Ok Nothing) body h own e = refl
+private-keeps (Ok (Find board side)) body h own e = refl
+private-keeps (Ok (SearchPosition op query)) body h own e = refl
+private-keeps (Ok (SearchMaterial op query)) body h own e = refl
+private-keeps (Ok (SearchHeader op query)) body h own e = refl
+private-keeps (Ok Reset) body h own e = refl
+private-keeps (Ok Clear) body h own e = refl
+private-keeps (Ok Negate) body h own e = refl
+private-keeps (Ok (Restrict first last)) body h own e = refl
+private-keeps (Ok (Keep name)) body h own e = refl
+private-keeps (Ok (Take name)) body h own e = refl
+private-keeps (Ok (And name)) body h own e = refl
+private-keeps (Ok (Or name)) body h own e = refl
+private-keeps (Ok (Drop name)) body h own e = refl
+private-keeps (Ok Hits) body h own e = refl
+private-keeps (Ok Listing) body h own e = refl
+private-keeps (Ok (Show game)) body h own e = refl
+private-keeps (Ok Export) body h own e = refl
+private-keeps (Ok (Import word)) body h own e = absurd cc
+private-keeps (Ok (Replace game word)) body h own e = absurd cc
+private-keeps (Ok (Eco word)) body h own e = absurd cc
+private-keeps (Ok (Tag game edit)) body h own e = absurd cc
+private-keeps (Ok (Delete game)) body h own e = absurd cc
+private-keeps (Ok (Undelete game)) body h own e = absurd cc
+private-keeps (Ok (Mark game bit on)) body h own e = absurd cc
+private-keeps (Ok (Tree board side)) body h own e = refl
+private-keeps (Ok (Watch slot board side)) body h own e = refl
+private-keeps (Ok (View slot)) body h own e = refl
+private-keeps (Ok (Unwatch slot)) body h own e = refl
+private-keeps (Ok (Cross event)) body h own e = refl
+private-keeps (Ok (Twins depth)) body h own e = absurd cc
+private-keeps (Ok (Index depth)) body h own e = absurd cc
+private-keeps (Ok Save) body h own e = absurd cc
+private-keeps (Ok Info) body h own e = refl
+private-keeps (Ok (Demo seed games)) body h own e = absurd cc
+private-keeps (Ok Quit) body h own e = absurd cc
+private-keeps (Ok Compact) body h own e = absurd cc
 
 -- ---- games that come in
 
@@ -129,7 +138,7 @@ alike-more n a b alike =
     (subst (λ (k : ℕ). AlikeAddings (one_more a n) (unless_ended a.refused b (demo_game k n))) alike.number
     (alike-ended a.refused a b (demo_game a.number n) alike))
 
-alike-adding : (n seed : ℕ) (h : Shared) (a b : Seat) → AlikeAddings (adding (state_of h a) seed n) (adding (state_of h b) seed n)
+alike-adding : (n seed : ℕ) (h : Shared) (a b : Own) → AlikeAddings (adding (state_of h a) seed n) (adding (state_of h b) seed n)
 alike-adding zero seed h a b = record { shared = refl; number = refl; plies = refl; refused = refl }
 alike-adding (suc n) seed h a b = alike-more n (adding (state_of h a) seed n) (adding (state_of h b) seed n) (alike-adding n seed h a b)
 
@@ -139,48 +148,48 @@ alike-shown None s t e = e
 
 -- ---- edits
 
-same-new : (h : Shared) (a b : Seat) (game : ℕ) (held : Option Held) (items : List Item) → new_game (state_of h a) game held items ≡ new_game (state_of h b) game held items
+same-new : (h : Shared) (a b : Own) (game : ℕ) (held : Option Held) (items : List Item) → new_game (state_of h a) game held items ≡ new_game (state_of h b) game held items
 same-new h a b game None items = refl
 same-new h a b game (Some held) items = refl
 
-same-with : (h : Shared) (a b : Seat) (game : ℕ) (new : Result (Head × GameTree) (List ℕ)) → (state_with (state_of h a) game new).shared ≡ (state_with (state_of h b) game new).shared
+same-with : (h : Shared) (a b : Own) (game : ℕ) (new : Result (Head × GameTree) (List ℕ)) → (state_with (state_of h a) game new).shared ≡ (state_with (state_of h b) game new).shared
 same-with h a b game (Ok new) = refl
 same-with h a b game (Err line) = refl
 
-same-there : (edit : Base → Base) (h : Shared) (a b : Seat) (held : Option Held) → (edited_there edit (state_of h a) held).shared ≡ (edited_there edit (state_of h b) held).shared
+same-there : (edit : Base → Base) (h : Shared) (a b : Own) (held : Option Held) → (edited_there edit (state_of h a) held).shared ≡ (edited_there edit (state_of h b) held).shared
 same-there edit h a b (Some held) = refl
 same-there edit h a b None = refl
 
-same-unless : (h : Shared) (a b : Seat) (line : Option (List ℕ)) (base : Base) → (unless_refused line (state_of h a) base).shared ≡ (unless_refused line (state_of h b) base).shared
+same-unless : (h : Shared) (a b : Own) (line : Option (List ℕ)) (base : Base) → (unless_refused line (state_of h a) base).shared ≡ (unless_refused line (state_of h b) base).shared
 same-unless h a b (Some line) base = refl
 same-unless h a b None base = refl
 
-same-tagged : (game : ℕ) (edit : TagEdit) (h : Shared) (a b : Seat) (held : Option Held)
+same-tagged : (game : ℕ) (edit : TagEdit) (h : Shared) (a b : Own) (held : Option Held)
     → (tagged_there game edit (state_of h a) held).shared ≡ (tagged_there game edit (state_of h b) held).shared
 same-tagged game edit h a b (Some held) = same-unless h a b (refusal_of h.base (edited held.head edit) held.game) (tagged game edit h.base)
 same-tagged game edit h a b None = refl
 
-same-classified : (h : Shared) (a b : Seat) (table : Result (List Opening) EcoFault) → (state_by (state_of h a) table).shared ≡ (state_by (state_of h b) table).shared
+same-classified : (h : Shared) (a b : Own) (table : Result (List Opening) EcoFault) → (state_by (state_of h a) table).shared ≡ (state_by (state_of h b) table).shared
 same-classified h a b (Ok table) = refl
 same-classified h a b (Err fault) = refl
 
-same-deleted : (h : Shared) (a b : Seat) (games : List ℕ) → (with_deleted (state_of h a) games).shared ≡ (with_deleted (state_of h b) games).shared
+same-deleted : (h : Shared) (a b : Own) (games : List ℕ) → (with_deleted (state_of h a) games).shared ≡ (with_deleted (state_of h b) games).shared
 same-deleted h a b [] = refl
 same-deleted h a b (game ∷ games) = refl
 
-same-compacted : (h : Shared) (a b : Seat) (within : Bool)
+same-compacted : (h : Shared) (a b : Own) (within : Bool)
     → (cond within (compacted_state (state_of h a)) (state_of h a)).shared ≡ (cond within (compacted_state (state_of h b)) (state_of h b)).shared
 same-compacted h a b true = refl
 same-compacted h a b false = refl
 
-same-indexed : (h : Shared) (a b : Seat) (big : Bool) (depth : ℕ)
+same-indexed : (h : Shared) (a b : Own) (big : Bool) (depth : ℕ)
     → (cond big (state_of h a) (with_index (state_of h a) (Some depth))).shared ≡ (cond big (state_of h b) (with_index (state_of h b) (Some depth))).shared
 same-indexed h a b true depth = refl
 same-indexed h a b false depth = refl
 
 -- ---- all commands
 
-pub same-shared : (order : Result Command ScriptFault) (body : List ℕ) (h : Shared) (a b : Seat)
+pub same-shared : (order : Result Command ScriptFault) (body : List ℕ) (h : Shared) (a b : Own)
     → ((order_work order body).after (state_of h a)).shared ≡ ((order_work order body).after (state_of h b)).shared
 same-shared (Err fault) body h a b = refl
 same-shared (Ok Nothing) body h a b = refl
@@ -212,6 +221,9 @@ same-shared (Ok (Delete game)) body h a b = same-there (deleted game) h a b (sli
 same-shared (Ok (Undelete game)) body h a b = same-there (undeleted game) h a b (slice_get h.base.games game)
 same-shared (Ok (Mark game bit on)) body h a b = same-there (marked game bit on) h a b (slice_get h.base.games game)
 same-shared (Ok (Tree board side)) body h a b = refl
+same-shared (Ok (Watch slot board side)) body h a b = refl
+same-shared (Ok (View slot)) body h a b = refl
+same-shared (Ok (Unwatch slot)) body h a b = refl
 same-shared (Ok (Cross event)) body h a b = refl
 same-shared (Ok (Twins depth)) body h a b = same-deleted h a b (found_twins (state_of h a) depth)
 same-shared (Ok (Index (Some depth))) body h a b = same-indexed h a b (index_is_full (Some depth) (length h.base.games)) depth

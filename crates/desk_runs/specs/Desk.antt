@@ -5,16 +5,17 @@ use Rattle.filter_seat.specs.Seats.{Seat, first_seat}
 use Rattle.filter_seat.specs.declared.saved.SavedFilter.{SavedFilter}
 use Rattle.script_text.specs.Tasks.{Task}
 use Rattle.script_text.specs.declared.command.Command.{Command}
-use Rattle.script_text.specs.declared.command.Command.TheVariants.{Nothing, Find, SearchPosition, SearchMaterial, SearchHeader, Reset, Clear, Negate, Restrict, Keep, Take, And, Or, Drop, Hits, List as Listing, Show, Export, Import, Replace, Eco, Tag, Delete, Undelete, Mark, Tree, Cross, Twins, Index, Save, Info, Demo, Quit, Compact}
+use Rattle.script_text.specs.declared.command.Command.TheVariants.{Nothing, Find, SearchPosition, SearchMaterial, SearchHeader, Reset, Clear, Negate, Restrict, Keep, Take, And, Or, Drop, Hits, List as Listing, Show, Export, Import, Replace, Eco, Tag, Delete, Undelete, Mark, Tree, Watch, View, Unwatch, Cross, Twins, Index, Save, Info, Demo, Quit, Compact}
 use Rattle.script_text.specs.declared.fault.ScriptFault.{ScriptFault}
 use Rattle.shell_commands.specs.Tasks.{task_work}
 use Rattle.shell_state.specs.Lines.{error_line}
+use Rattle.shell_state.specs.Slots.{Slot}
 use Rattle.shell_state.specs.State.{Shared, State}
 
 -- ---- kinds of commands
 
--- A private command changes its client's seat alone. A public one may change what is shared: it leaves the seats of the others as they are, or
--- adds games, or moves their entries in each seat in the same way, or ends its client.
+-- A private command changes its client's seat and his slots alone. A public one may change what is shared: it leaves the seats of the others as
+-- they are, or adds games, or moves their entries in each seat in the same way, or ends its client.
 pub data Kind : Type 0 where
   private : Kind
   public : Kind
@@ -49,6 +50,9 @@ command_kind (Delete game) = public
 command_kind (Undelete game) = public
 command_kind (Mark game bit on) = public
 command_kind (Tree board side) = private
+command_kind (Watch slot board side) = private
+command_kind (View slot) = private
+command_kind (Unwatch slot) = private
 command_kind (Cross event) = private
 command_kind (Twins depth) = public
 command_kind (Index depth) = public
@@ -79,10 +83,11 @@ is_last leaves = true
 
 -- ---- a command of one client
 
--- What is shared, the seats of the clients, and which of them have ended.
+-- What is shared, the seats of the clients, what the slots of each show, and which of them have ended.
 pub record Desk : Type 0 where
   pub shared : Shared
   pub seats : List Seat
+  pub slots : List (List Slot)
   pub ended : List Bool
 
 -- A line of a client, with its body.
@@ -96,12 +101,16 @@ no_seat = first_seat 0
 abbrev pub seat_at : Desk → ℕ → Seat
 seat_at desk client = unwrap_or (slice_get desk.seats client) no_seat
 
+-- A client whom the desk gives no slots has none.
+abbrev pub slots_of : Desk → ℕ → List Slot
+slots_of desk client = unwrap_or (slice_get desk.slots client) []
+
 abbrev pub has_ended : Desk → ℕ → Bool
 has_ended desk client = unwrap_or (slice_get desk.ended client) true
 
 -- The state that a client sees.
 abbrev pub seen_by : Desk → ℕ → State
-seen_by desk client = record { shared = desk.shared; seat = seat_at desk client }
+seen_by desk client = record { shared = desk.shared; seat = seat_at desk client; slots = slots_of desk client }
 
 abbrev pub after_task : State → Task → State
 after_task s task = (task_work task).after s
@@ -122,7 +131,7 @@ abbrev pub brought : Kind → Task → Shared → Shared → Seat → Seat
 brought private task before after seat = seat
 brought public task before after seat = seat
 brought adds task before after seat = seat_without (length after.base.games - length before.base.games) seat
-brought moves task before after seat = (after_task (record { shared = before; seat = seat }) task).seat
+brought moves task before after seat = (after_task (record { shared = before; seat = seat; slots = [] }) task).seat
 brought leaves task before after seat = seat
 
 -- The seats where that of one client has become this one, and those of the others follow.
@@ -131,11 +140,12 @@ each_seat client own bring [] = []
 each_seat zero own bring (seat ∷ seats) = own ∷ map bring seats
 each_seat (suc client) own bring (seat ∷ seats) = bring seat ∷ each_seat client own bring seats
 
--- The command is what it is to its client, on what is shared and his seat, and is brought to the others.
+-- The command is what it is to its client, on what is shared, his seat and his slots, and is brought to the seats of the others.
 abbrev pub desk_with : Desk → Tagged → State → Desk
 desk_with desk t s = record {
   shared = s.shared;
   seats = each_seat t.client s.seat (brought (order_kind t.task.order) t.task desk.shared s.shared) desk.seats;
+  slots = slice_set desk.slots t.client s.slots;
   ended = if is_last (order_kind t.task.order) then slice_set desk.ended t.client true else desk.ended;
 }
 

@@ -4,6 +4,7 @@ use Rattle.std.proofs.lemmas.Bool.{cases_Bool, le-leb, lt-leb}
 use Rattle.std.proofs.lemmas.List.{length-map}
 use Rattle.std.proofs.lemmas.List.Elements.{All-map}
 use Rattle.std.proofs.lemmas.List.Sums.{sum_by-cons}
+use Rattle.std.proofs.lemmas.Option.{same_Some}
 use Rattle.std.specs.Prelude.{All, get_or, sum_by, ◌+◌, not}
 use Rattle.base_core.specs.Base.{Held, Base}
 use Rattle.base_core.specs.Compacted.{stays, compacted, end_of, only}
@@ -31,17 +32,26 @@ use Rattle.filter_seat.specs.Seats.{seat_renumbered}
 use Rattle.filter_seat.specs.declared.saved.SavedFilter.{SavedFilter}
 use Rattle.edit_commands.specs.Indexed.{renumbered_index}
 use Rattle.shell_state.proofs.CarryLaws.{beside_meant, carry_of}
+use Rattle.shell_state.proofs.IndexLaws.{index_is}
 use Rattle.shell_state.proofs.PriceLaws.{none_looked}
-use Rattle.shell_state.proofs.Quietly.{held_by}
+use Rattle.shell_state.proofs.Quietly.{held_by, tables_with}
+use Rattle.shell_state.proofs.TableLaws.{hits_on, in_mapped, in_tables, same_slots}
 use Rattle.shell_state.specs.Carrying.{Contents, AreBeside, Beside, StillCarry, MayCarry}
 use Rattle.shell_state.specs.Ends.{IsDevice, EndsAs}
 use Rattle.shell_state.specs.Refusing.{refusal_line}
-use Rattle.shell_state.specs.Stands.{Stands, Holding, Fits, looks_in, index_of, look_at, looks_at_all}
+use Rattle.shell_state.specs.Slots.{HitTable, Slot, exactly_on, hit_of_game, slot_at, table_in, table_of, tables_in, tables_of}
+use Rattle.shell_state.specs.Slots.Slot.{empty, idle, shows}
+use Rattle.shell_state.specs.Stands.{Stands, Holding, Fits, Tables, looks_in, index_of, look_at, looks_at_all}
 use Rattle.shell_state.specs.State.{Carried, State}
 use Rattle.shell_state.specs.Work.{Look}
 use Rattle.shell_state.specs.declared.halt.Halt.{Halt}
 use Rattle.shell_state.specs.declared.halt.Halt.TheVariants as halt
 use Rattle.shell_state.specs.declared.refusing.Refusal.TheVariants.{Full}
+use Rattle.sig_index.specs.declared.pos_query.PosQuery.{PosQuery}
+use Rattle.tree_live.specs.Slots.{in_slot}
+use Rattle.tree_live.specs.Watching.{Watched}
+use Rattle.tree_live.specs.declared.entry.Entry.{Entry as WatchedGame}
+use Rattle.tree_rows.specs.declared.hit.GameHit.{GameHit}
 
 -- ---- what is kept and the base are left with the same games.
 
@@ -129,7 +139,7 @@ index_long to games None all fits = tt
 index_long to games (Some index) all fits = all ∙ sym fits
 
 -- As many rows stay as have a new number.
-rows_count : (next kept : ℕ) (to : List (Option ℕ)) (rows : List (List Place)) → Rises next to kept → length to ≡ length rows → next + length (renumbered to rows) ≡ kept
+rows_count : {T : Type 0} (next kept : ℕ) (to : List (Option ℕ)) (rows : List T) → Rises next to kept → length to ≡ length rows → next + length (renumbered to rows) ≡ kept
 rows_count next kept [] rows rises same = omega (arith, rises)
 rows_count next kept (number ∷ to) [] rises same = absurd (omega (arith, same))
 rows_count next kept (None ∷ to) (row ∷ rows) rises same = rows_count next kept to rows rises (omega (arith, same))
@@ -142,6 +152,79 @@ index_left_fits to kept games None rises all fits = tt
 index_left_fits to kept games (Some index) rises all fits =
     let rest = rows_count 0 kept to index.rows rises (all ∙ sym fits) in omega (arith, rest)
 
+-- ---- the slots.
+
+map-renumbered : {X Y : Type 0} (f : X → Y) (to : List (Option ℕ)) (xs : List X) → map f (renumbered to xs) ≡ renumbered to (map f xs)
+map-renumbered f [] xs = refl
+map-renumbered f (number ∷ to) [] = refl
+map-renumbered f (None ∷ to) (x ∷ xs) = map-renumbered f to xs
+map-renumbered {X} {Y} f (Some number ∷ to) (x ∷ xs) = ap (λ (ys : List Y). f x ∷ ys) (map-renumbered f to xs)
+
+-- The hits of the games that stay.
+hits_left : (query : PosQuery) (next : ℕ) (all : List Held)
+    → renumbered (numbers_from next (map (λ (held : Held). held.head.deleted) all)) (hits_on query all) ≡ hits_on query (filter stays all)
+hits_left query next [] = refl
+hits_left query next (held ∷ all) = elim (cases_Bool held.head.deleted) [
+  | inl goes ↦ rw goes (hits_left query next all)
+  | inr stay ↦ rw stay (ap (λ (hits : List (Option GameHit)). hit_of_game query held ∷ hits) (hits_left query (next + 1) all))
+]
+
+-- The hits of a slot.
+table_left : (to : List (Option ℕ)) (base : Base) (watch : Option Watched) (slot : Slot) → to ≡ numbers_of base → option_map table_in watch ≡ table_of base.games slot
+    → option_map table_in (option_map (λ (w : Watched). record w { games = renumbered to w.games }) watch) ≡ table_of (compacted base).games slot
+table_left to base None empty is same = refl
+table_left to base None idle is same = refl
+table_left to base None (shows board) is same = absurd (cc)
+table_left to base (Some watch) empty is same = absurd (cc)
+table_left to base (Some watch) idle is same = absurd (cc)
+table_left to base (Some watch) (shows board) is same =
+    let query : PosQuery = exactly_on board in
+    let table = same_Some (table_in watch) (record { board = board; hits = hits_on query base.games }) same in
+    ap (λ (hits : List (Option GameHit)). Some (record { board = watch.board; hits = hits })) (map-renumbered (λ (e : WatchedGame). e.hit) to watch.games)
+    ∙ (ap (λ (t : HitTable). Some (record { board = t.board; hits = renumbered to t.hits })) table
+    ∙ ap (λ (hits : List (Option GameHit)). Some (record { board = board; hits = hits }))
+    (ap (λ (numbers : List (Option ℕ)). renumbered numbers (hits_on query base.games)) is
+    ∙ (hits_left query 0 base.games ∙ ap (hits_on query) (sym (games_compacted base)))))
+
+-- The slots that are renumbered are those of the base that is left.
+slots_left : (to : List (Option ℕ)) (base : Base) (watches watches' : List (Option Watched)) (slots : List Slot) → to ≡ numbers_of base → length watches' ≡ length watches
+    → ((k : ℕ) → in_slot watches' k ≡ option_map (λ (w : Watched). record w { games = renumbered to w.games }) (in_slot watches k))
+    → tables_in watches ≡ tables_of base.games slots → tables_in watches' ≡ tables_of (compacted base).games slots
+slots_left to base watches watches' slots is count follow held =
+    same_slots (tables_in watches') (tables_of (compacted base).games slots)
+    (length-map watches' (option_map table_in) ∙ (count ∙ (sym (length-map watches (option_map table_in)) ∙ (ap (λ (l : List (Option HitTable)). length l) held
+    ∙ (length-map slots (table_of base.games) ∙ sym (length-map slots (table_of (compacted base).games)))))))
+    (λ k.
+    in_mapped table_in watches' k ∙ (ap (option_map table_in) (follow k)
+    ∙ (table_left to base (in_slot watches k) (slot_at slots k) is (sym (in_mapped table_in watches k) ∙ (ap (λ (l : List (Option HitTable)). in_slot l k) held ∙ in_tables base.games slots k))
+    ∙ sym (in_tables (compacted base).games slots k))))
+
+-- They can be renumbered where each that shows a tree has a hit or none for each game.
+pub slots_long : (to : List (Option ℕ)) (games : ℕ) (watches : List (Option Watched)) → length to ≡ games
+    → ((k : ℕ) → IfSome (in_slot (tables_in watches) k) (λ (table : HitTable). length table.hits ≡ games)) → (k : ℕ) → IfSome (in_slot watches k) (λ (watch : Watched). length to ≡ length watch.games)
+slots_long to games watches all fits = λ k.
+    by (in_slot watches k) (subst (λ (o : Option HitTable). IfSome o (λ (table : HitTable). length table.hits ≡ games)) (in_mapped table_in watches k) (fits k))
+  where
+    by : (watch : Option Watched) → IfSome (option_map table_in watch) (λ (table : HitTable). length table.hits ≡ games) → IfSome watch (λ (w : Watched). length to ≡ length w.games)
+    by None is = tt
+    by (Some watch) is = all ∙ (sym is ∙ length-map watch.games (λ (e : WatchedGame). e.hit))
+
+-- And then it has one for each game that is left.
+pub slots_left_fit : (to : List (Option ℕ)) (kept games : ℕ) (watches watches' : List (Option Watched)) → Rises 0 to kept → length to ≡ games
+    → ((k : ℕ) → in_slot watches' k ≡ option_map (λ (w : Watched). record w { games = renumbered to w.games }) (in_slot watches k))
+    → ((k : ℕ) → IfSome (in_slot (tables_in watches) k) (λ (table : HitTable). length table.hits ≡ games))
+    → (k : ℕ) → IfSome (in_slot (tables_in watches') k) (λ (table : HitTable). length table.hits ≡ kept)
+slots_left_fit to kept games watches watches' rises all follow fits = λ k.
+    subst (λ (o : Option HitTable). IfSome o (λ (table : HitTable). length table.hits ≡ kept)) (sym (in_mapped table_in watches' k ∙ ap (option_map table_in) (follow k)))
+    (by (in_slot watches k) (slots_long to games watches all fits k))
+  where
+    by : (watch : Option Watched) → IfSome watch (λ (w : Watched). length to ≡ length w.games)
+        → IfSome (option_map table_in (option_map (λ (w : Watched). record w { games = renumbered to w.games }) watch)) (λ (table : HitTable). length table.hits ≡ kept)
+    by None is = tt
+    by (Some watch) is =
+        let rest = rows_count 0 kept to watch.games rises is in
+        length-map (renumbered to watch.games) (λ (e : WatchedGame). e.hit) ∙ omega (arith, rest)
+
 -- ---- it was done.
 
 -- What a compaction says where both games files are told.
@@ -151,13 +234,18 @@ known_games old new told now games fresh base compacts is there represents =
     let N : Option (List ℕ) → Type 0 = λ o. Compacts old new (Some games) o in
     subst N there (subst T is compacts) base represents
 
-done_stands : (old new : Kept) (index : Option Index) (filter : List (Option ℕ)) (saved : List SavedFilter) (seen seen' : Seen) (s : State) → Stands (held_by old index filter saved) seen s → IsCommitted old new seen seen' → MeansIt new seen'
-    → Compacts old new seen.games seen'.games → new.unsaved ≡ false
-    → Stands (held_by new (option_map (renumbered_index (numbering old.entries).to) index) (renumbered (numbering old.entries).to filter) (map (kept_renumbered (numbering old.entries).to) saved)) seen' (compacted_state s)
-done_stands old new index filter saved seen seen' s st is means compacts clean =
+-- The new games file.
+fresh_told : (old new : Kept) (seen seen' : Seen) (games : List ℕ) → seen.games ≡ Some games → IsCommitted old new seen seen' → seen'.games ≡ Some (new_games old.entries games)
+fresh_told old new seen seen' games told is = ap (λ (x : Seen). x.games) is.put ∙ ap (λ (o : Option (List ℕ)). option_map (new_games old.entries) o) told
+
+-- The files mean what is left.
+done_beside : (holding : Holding) (new : Kept) (seen seen' : Seen) (s : State) → Stands holding seen s → IsCommitted holding.kept new seen seen' → MeansIt new seen' → Compacts holding.kept new seen.games seen'.games
+    → Beside new seen' false (record { base = compacted s.shared.base; sound = true })
+done_beside holding new seen seen' s st is means compacts =
+    let old : Kept = holding.kept in
     let before : Contents seen = contents_of old seen s.shared.unsaved s.shared.carried st.games st.carried st.told in
     let fresh : List ℕ = new_games old.entries st.games in
-    let told : seen'.games ≡ Some fresh = ap (λ (x : Seen). x.games) is.put ∙ ap (λ (o : Option (List ℕ)). option_map (new_games old.entries) o) st.told in
+    let told : seen'.games ≡ Some fresh = fresh_told old new seen seen' st.games st.told is in
     let there : Represents new fresh (compacted s.shared.base) = known_games old new seen.games seen'.games st.games fresh s.shared.base compacts st.told told st.base in
     let now : Contents seen' = record {
       index = is.index;
@@ -169,27 +257,43 @@ done_stands old new index filter saved seen seen' s st is means compacts clean =
     } in
     let again : OpensAgain now.index now.names now.games (compacted s.shared.base) =
     (known_told seen' (λ index names games. (base : Base) → Represents new games base → OpensAgain index names games base) now means) (compacted s.shared.base) there in
+    beside_meant new seen' (compacted s.shared.base) true now there.names again.means (λ sound. again.faultless)
+
+-- The slots are moved so.
+abbrev pub AreMoved : List (Option ℕ) → List (Option Watched) → List (Option Watched) → Type 0
+AreMoved to watches watches' = (length watches' ≡ length watches) × ((k : ℕ) → in_slot watches' k ≡ option_map (λ (w : Watched). record w { games = renumbered to w.games }) (in_slot watches k))
+
+done_stands : (old new : Kept) (index : Option Index) (watches watches' : List (Option Watched)) (filter : List (Option ℕ)) (saved : List SavedFilter) (seen seen' : Seen) (s : State)
+    → Stands (held_by old (tables_with index watches) filter saved) seen s → IsCommitted old new seen seen' → MeansIt new seen' → Compacts old new seen.games seen'.games → new.unsaved ≡ false
+    → AreMoved (numbering old.entries).to watches watches'
+    → Stands (held_by new (tables_with (option_map (renumbered_index (numbering old.entries).to) index) watches') (renumbered (numbering old.entries).to filter) (map (kept_renumbered (numbering old.entries).to) saved)) seen' (compacted_state s)
+done_stands old new index watches watches' filter saved seen seen' s st is means compacts clean moved =
+    let fresh : List ℕ = new_games old.entries st.games in
+    let told : seen'.games ≡ Some fresh = fresh_told old new seen seen' st.games st.told is in
     let to = numbers_same old st.games s.shared.base st.base in
     record {
       games = fresh;
       told = told;
-      base = there;
+      base = known_games old new seen.games seen'.games st.games fresh s.shared.base compacts st.told told st.base;
       seat = ap (seat_renumbered (numbering old.entries).to) st.seat ∙ ap (λ (t : List (Option ℕ)). seat_renumbered t s.seat) to;
       unsaved = clean;
-      carried = beside_meant new seen' (compacted s.shared.base) true now there.names again.means (λ sound. again.faultless);
-      index = ap (option_map (renumbered_index (numbering old.entries).to)) st.index ∙ index_left (numbering old.entries).to s.shared.base s.shared.index to;
+      carried = done_beside (held_by old (tables_with index watches) filter saved) new seen seen' s st is means compacts;
+      tables = ap₂ (λ (x : Option Index) (hits : List (Option HitTable)). record { index = x; hits = hits })
+          (ap (option_map (renumbered_index (numbering old.entries).to)) (index_is st) ∙ index_left (numbering old.entries).to s.shared.base s.shared.index to)
+          (slots_left (numbering old.entries).to s.shared.base watches watches' s.slots to moved.0 moved.1 (ap (λ (t : Tables). t.hits) st.tables));
     }
 
-pub compact_stands : (old new : Kept) (index : Option Index) (filter : List (Option ℕ)) (saved : List SavedFilter) (seen seen' : Seen) (s : State) → Stands (held_by old index filter saved) seen s → IsCommitted old new seen seen' → MeansIt new seen'
-    → Compacts old new seen.games seen'.games → new.unsaved ≡ false → new_end old.entries ≤ longest_file
-    → Stands (held_by new (option_map (renumbered_index (numbering old.entries).to) index) (renumbered (numbering old.entries).to filter) (map (kept_renumbered (numbering old.entries).to) saved)) seen' (compact_after s)
-compact_stands old new index filter saved seen seen' s st is means compacts clean room =
-    let P : Bool → Type 0 = λ b. Stands (held_by new (option_map (renumbered_index (numbering old.entries).to) index) (renumbered (numbering old.entries).to filter) (map (kept_renumbered (numbering old.entries).to) saved)) seen' (if b then compacted_state s else s) in
-    subst P (sym (within_true old st.games s.shared.base st.base room)) (done_stands old new index filter saved seen seen' s st is means compacts clean)
+pub compact_stands : (old new : Kept) (index : Option Index) (watches watches' : List (Option Watched)) (filter : List (Option ℕ)) (saved : List SavedFilter) (seen seen' : Seen) (s : State)
+    → Stands (held_by old (tables_with index watches) filter saved) seen s → IsCommitted old new seen seen' → MeansIt new seen' → Compacts old new seen.games seen'.games → new.unsaved ≡ false → new_end old.entries ≤ longest_file
+    → AreMoved (numbering old.entries).to watches watches'
+    → Stands (held_by new (tables_with (option_map (renumbered_index (numbering old.entries).to) index) watches') (renumbered (numbering old.entries).to filter) (map (kept_renumbered (numbering old.entries).to) saved)) seen' (compact_after s)
+compact_stands old new index watches watches' filter saved seen seen' s st is means compacts clean room moved =
+    let P : Bool → Type 0 = λ b. Stands (held_by new (tables_with (option_map (renumbered_index (numbering old.entries).to) index) watches') (renumbered (numbering old.entries).to filter) (map (kept_renumbered (numbering old.entries).to) saved)) seen' (if b then compacted_state s else s) in
+    subst P (sym (within_true old st.games s.shared.base st.base room)) (done_stands old new index watches watches' filter saved seen seen' s st is means compacts clean moved)
 
-pub compact_says : (old : Kept) (index : Option Index) (filter : List (Option ℕ)) (saved : List SavedFilter) (seen : Seen) (s : State) (line : List ℕ) (games kept : ℕ) → Stands (held_by old index filter saved) seen s → new_end old.entries ≤ longest_file
+pub compact_says : (old : Kept) (tables : Tables) (filter : List (Option ℕ)) (saved : List SavedFilter) (seen : Seen) (s : State) (line : List ℕ) (games kept : ℕ) → Stands (held_by old tables filter saved) seen s → new_end old.entries ≤ longest_file
     → games ≡ length old.entries → kept ≡ (numbering old.entries).kept → line ≡ compacted_line games kept → line ≡ compact_text s
-compact_says old index filter saved seen s line games kept st room all left is =
+compact_says old tables filter saved seen s line games kept st room all left is =
     let P : Bool → Type 0 = λ b. line ≡ (if b then compacted_line (length s.shared.base.games) (length (compacted s.shared.base).games) else refusal_line (Full File)) in
     subst P (sym (within_true old st.games s.shared.base st.base room))
     (is ∙ (ap (λ (n : ℕ). compacted_line n kept) (all ∙ st.base.count) ∙ ap (λ (n : ℕ). compacted_line (length s.shared.base.games) n) (left ∙ kept_same old st.games s.shared.base st.base)))
@@ -221,7 +325,7 @@ fresh_stands holding seen seen' s left st = record {
   seat = st.seat;
   unsaved = st.unsaved;
   carried = fresh_beside holding.kept seen seen' s.shared.unsaved s.shared.carried left st.carried;
-  index = st.index;
+  tables = st.tables;
 }
 
 -- An error line comes where the new games file would be too long, and nothing changed.
@@ -231,16 +335,16 @@ over_by compacting.Failed kept told buf line why ends = cc
 over_by compacting.Memory kept told buf line why ends = cc
 over_by (compacting.Changed game sig found) kept told buf line why ends = cc
 
-pub full_stands : (old : Kept) (index : Option Index) (filter : List (Option ℕ)) (saved : List SavedFilter) (seen seen' : Seen) (s : State) (e : CompactError) (told : Option (List ℕ)) (buf line : List ℕ) → Stands (held_by old index filter saved) seen s
-    → FreshAlone seen seen' → WhyNotCompacted old told buf e → uncompacted e ≡ Ok line → Stands (held_by old index filter saved) seen' (compact_after s)
-full_stands old index filter saved seen seen' s e told buf line st left why ends =
+pub full_stands : (old : Kept) (tables : Tables) (filter : List (Option ℕ)) (saved : List SavedFilter) (seen seen' : Seen) (s : State) (e : CompactError) (told : Option (List ℕ)) (buf line : List ℕ) → Stands (held_by old tables filter saved) seen s
+    → FreshAlone seen seen' → WhyNotCompacted old told buf e → uncompacted e ≡ Ok line → Stands (held_by old tables filter saved) seen' (compact_after s)
+full_stands old tables filter saved seen seen' s e told buf line st left why ends =
     let over = over_by e old told buf line why ends in
-    let P : Bool → Type 0 = λ b. Stands (held_by old index filter saved) seen' (if b then compacted_state s else s) in
-    subst P (sym (within_false old st.games s.shared.base st.base over.0)) (fresh_stands (held_by old index filter saved) seen seen' s left st)
+    let P : Bool → Type 0 = λ b. Stands (held_by old tables filter saved) seen' (if b then compacted_state s else s) in
+    subst P (sym (within_false old st.games s.shared.base st.base over.0)) (fresh_stands (held_by old tables filter saved) seen seen' s left st)
 
-pub full_says : (old : Kept) (index : Option Index) (filter : List (Option ℕ)) (saved : List SavedFilter) (seen : Seen) (s : State) (e : CompactError) (told : Option (List ℕ)) (buf line : List ℕ) → Stands (held_by old index filter saved) seen s
+pub full_says : (old : Kept) (tables : Tables) (filter : List (Option ℕ)) (saved : List SavedFilter) (seen : Seen) (s : State) (e : CompactError) (told : Option (List ℕ)) (buf line : List ℕ) → Stands (held_by old tables filter saved) seen s
     → WhyNotCompacted old told buf e → uncompacted e ≡ Ok line → line ≡ compact_text s
-full_says old index filter saved seen s e told buf line st why ends =
+full_says old tables filter saved seen s e told buf line st why ends =
     let over = over_by e old told buf line why ends in
     let P : Bool → Type 0 = λ b. line ≡ (if b then compacted_line (length s.shared.base.games) (length (compacted s.shared.base).games) else refusal_line (Full File)) in
     subst P (sym (within_false old st.games s.shared.base st.base over.0)) over.1
@@ -258,10 +362,10 @@ device_so compacting.Failed h kept games told base same is changed ends = let e 
 device_so compacting.Memory h kept games told base same is changed ends = let e : halt.Device stop.Memory ≡ h = cc in subst IsDevice e tt
 device_so (compacting.Changed g sig found) h kept games told base same is changed ends = absurd (none_changed kept games told base same is changed)
 
-pub compact_device : (e : CompactError) (h : Halt) (kept : Kept) (index : Option Index) (filter : List (Option ℕ)) (saved : List SavedFilter) (seen : Seen) (s : State) → Stands (held_by kept index filter saved) seen s
+pub compact_device : (e : CompactError) (h : Halt) (kept : Kept) (tables : Tables) (filter : List (Option ℕ)) (saved : List SavedFilter) (seen : Seen) (s : State) → Stands (held_by kept tables filter saved) seen s
     → IfChanged e (IfSome seen.games (λ bytes. (other : Base) → Represents kept bytes other → ⊥)) → EndsAs (uncompacted e) h → IsDevice h
-compact_device e h kept index filter saved seen s st changed (inl memory) = subst IsDevice (sym memory) tt
-compact_device e h kept index filter saved seen s st changed (inr ends) = device_so e h kept st.games seen.games s.shared.base st.told st.base changed ends
+compact_device e h kept tables filter saved seen s st changed (inl memory) = subst IsDevice (sym memory) tt
+compact_device e h kept tables filter saved seen s st changed (inr ends) = device_so e h kept st.games seen.games s.shared.base st.told st.base changed ends
 
 -- ---- what the files carry where it is broken off.
 
@@ -273,16 +377,15 @@ done_may kept seen (Some own) base b = inr (b.contents, b.carries)
 done_may kept seen None base b = tt
 
 -- It was done, and its text was not written.
-pub done_carry : (old new : Kept) (index : Option Index) (filter : List (Option ℕ)) (saved : List SavedFilter) (seen seen' : Seen) (s : State) → Stands (held_by old index filter saved) seen s → IsCommitted old new seen seen' → MeansIt new seen'
-    → Compacts old new seen.games seen'.games → new.unsaved ≡ false → StillCarry seen' s (Some compacted)
-done_carry old new index filter saved seen seen' s st is means compacts clean =
-    done_may new seen' s.shared.carried s.shared.base (done_stands old new index filter saved seen seen' s st is means compacts clean).carried
+pub done_carry : (holding : Holding) (new : Kept) (seen seen' : Seen) (s : State) → Stands holding seen s → IsCommitted holding.kept new seen seen' → MeansIt new seen' → Compacts holding.kept new seen.games seen'.games
+    → StillCarry seen' s (Some compacted)
+done_carry holding new seen seen' s st is means compacts = done_may new seen' s.shared.carried s.shared.base (done_beside holding new seen seen' s st is means compacts)
 
 -- ---- the filters.
 
 -- They fit what is left.
-pub compact_fits : (new : Kept) (index : Option Index) (filter : List (Option ℕ)) (saved made : List SavedFilter) (kept : ℕ) → length new.entries ≡ kept → length filter ≡ kept → made ≡ saved → All (λ (f : SavedFilter). length f.plies ≡ kept) saved → Fits (held_by new index filter made)
-compact_fits new index filter saved made kept count long same fits =
+pub compact_fits : (new : Kept) (tables : Tables) (filter : List (Option ℕ)) (saved made : List SavedFilter) (kept : ℕ) → length new.entries ≡ kept → length filter ≡ kept → made ≡ saved → All (λ (f : SavedFilter). length f.plies ≡ kept) saved → Fits (held_by new tables filter made)
+compact_fits new tables filter saved made kept count long same fits =
     let P : List SavedFilter → Type 0 = λ l. All (λ (f : SavedFilter). length f.plies ≡ kept) l in
     let Q : ℕ → Type 0 = λ n. All (λ (f : SavedFilter). length f.plies ≡ n) made in
     record { filter = long ∙ sym count; saved = subst Q (sym count) (subst P (sym same) fits) }
@@ -317,7 +420,7 @@ staying_lens names [] (e ∷ es) = staying_more names [] e es (looks_at_all name
 staying_lens names (row ∷ rows) (e ∷ es) = staying_more names row e es (looks_at_all names rows es) (staying_lens names rows es)
 
 pub compact_price : (holding : Holding) → kept_len holding.kept.entries ≡ sum_by (λ (x : Look). x.len) (filter (λ (x : Look). not x.head.deleted) (looks_in holding))
-compact_price holding = staying_lens holding.kept.names (rows_told holding.index) holding.kept.entries
+compact_price holding = staying_lens holding.kept.names (rows_told holding.tables.index) holding.kept.entries
 
 -- ---- the filters that move
 

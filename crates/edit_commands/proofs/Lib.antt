@@ -1,4 +1,5 @@
 pub mod CompactLaws
 pub mod EditLaws
+pub mod RetagLaws
 pub mod SaveLaws
 pub mod TagLaws

@@ -7,13 +7,12 @@ use Rattle.base_core.specs.Represents.{Kept, Represents, IsSound}
 use Rattle.base_core.specs.Saved.{IsSaved, MeansIt, OpensAgain, IsLeft, StillCarries}
 use Rattle.base_files.specs.Seen.{Seen, replaced, told_instead}
 use Rattle.block_store.specs.Placing.{IsEnd}
-use Rattle.pos_index.specs.Hits.{Index}
 use Rattle.edit_commands.specs.Saving.{save_after}
 use Rattle.filter_seat.specs.declared.saved.SavedFilter.{SavedFilter}
 use Rattle.shell_state.proofs.CarryLaws.{beside_meant}
 use Rattle.shell_state.proofs.Quietly.{held_by}
 use Rattle.shell_state.specs.Carrying.{AreBeside, Contents, Beside, CarryIt, MayCarry, StillCarry}
-use Rattle.shell_state.specs.Stands.{Sound, Stands, Holding}
+use Rattle.shell_state.specs.Stands.{Sound, Stands, Holding, Tables}
 use Rattle.shell_state.specs.State.{Carried, State}
 
 -- What is kept, with nothing unsaved.
@@ -26,9 +25,9 @@ clean_represents kept games base is = record { header = is.header; names = is.na
 clean_sound : (kept : Kept) → IsSound kept → IsSound (clean kept)
 clean_sound kept is = record { header = is.header; count = is.count; names = is.names; entries = is.entries }
 
-pub saved_sound : (kept : Kept) (index : Option Index) (filter : List (Option ℕ)) (saved : List SavedFilter) (seen seen' : Seen) → Sound (held_by kept index filter saved) seen → IsEnd kept.end seen' → Sound (held_by (clean kept) index filter saved) seen'
-saved_sound kept index filter saved seen seen' is at =
-    record { fits = record { filter = is.fits.filter; saved = is.fits.saved }; index = is.index; base = clean_sound kept is.base; at_end = at }
+pub saved_sound : (kept : Kept) (tables : Tables) (filter : List (Option ℕ)) (saved : List SavedFilter) (seen seen' : Seen) → Sound (held_by kept tables filter saved) seen → IsEnd kept.end seen' → Sound (held_by (clean kept) tables filter saved) seen'
+saved_sound kept tables filter saved seen seen' is at =
+    record { fits = record { filter = is.fits.filter; saved = is.fits.saved }; tables = is.tables; base = clean_sound kept is.base; at_end = at }
 
 -- The contents that are told beside a state.
 pub contents_of : (kept : Kept) (seen : Seen) (unsaved : Bool) (carried : Option Carried) (games : List ℕ) → AreBeside kept seen unsaved carried → seen.games ≡ Some games → Contents seen
@@ -43,9 +42,9 @@ known_told seen F c known =
     let G : Option (List ℕ) → Type 0 = λ o. IfSome o (λ games. F c.index c.names games) in
     subst G c.games_told (subst N c.names_told (subst I c.index_told known))
 
-pub save_stands : (kept : Kept) (index : Option Index) (filter : List (Option ℕ)) (saved : List SavedFilter) (seen seen' : Seen) (s : State) → Stands (held_by kept index filter saved) seen s → IsSaved kept seen seen' → MeansIt (clean kept) seen'
-    → Stands (held_by (clean kept) index filter saved) seen' (save_after s)
-save_stands kept index filter saved seen seen' s st is means =
+pub save_stands : (kept : Kept) (tables : Tables) (filter : List (Option ℕ)) (saved : List SavedFilter) (seen seen' : Seen) (s : State) → Stands (held_by kept tables filter saved) seen s → IsSaved kept seen seen' → MeansIt (clean kept) seen'
+    → Stands (held_by (clean kept) tables filter saved) seen' (save_after s)
+save_stands kept tables filter saved seen seen' s st is means =
     let before : Contents seen = contents_of kept seen s.shared.unsaved s.shared.carried st.games st.carried st.told in
     let told : seen'.games ≡ Some st.games = ap (λ (x : Seen). x.games) is.replaced ∙ st.told in
     let there : Represents (clean kept) st.games s.shared.base = clean_represents kept st.games s.shared.base st.base in
@@ -66,7 +65,7 @@ save_stands kept index filter saved seen seen' s st is means =
       seat = st.seat;
       unsaved = refl;
       carried = beside_meant (clean kept) seen' s.shared.base true now there.names again.means (λ sound. again.faultless);
-      index = st.index;
+      tables = st.tables;
     }
 
 -- ---- where it is broken off
@@ -103,9 +102,9 @@ left_may : (kept : Kept) (seen seen' : Seen) (unsaved : Bool) (carried : Option 
 left_may kept seen seen' unsaved (Some own) base b left still = inl (left_carries kept seen seen' unsaved own b left still)
 left_may kept seen seen' unsaved None base b left still = tt
 
-pub unsaved_carry : (kept : Kept) (index : Option Index) (filter : List (Option ℕ)) (saved : List SavedFilter) (seen seen' : Seen) (s : State) → Stands (held_by kept index filter saved) seen s → IsLeft kept seen seen' → StillCarries kept seen seen'
+pub unsaved_carry : (kept : Kept) (tables : Tables) (filter : List (Option ℕ)) (saved : List SavedFilter) (seen seen' : Seen) (s : State) → Stands (held_by kept tables filter saved) seen s → IsLeft kept seen seen' → StillCarries kept seen seen'
     → StillCarry seen' s (Some (λ base. base))
-unsaved_carry kept index filter saved seen seen' s st left still = left_may kept seen seen' s.shared.unsaved s.shared.carried s.shared.base st.carried left still
+unsaved_carry kept tables filter saved seen seen' s st left still = left_may kept seen seen' s.shared.unsaved s.shared.carried s.shared.base st.carried left still
 
 -- It was done, and its text was not written.
 saved_may : (kept : Kept) (seen : Seen) (carried : Option Carried) (base : Base) → Beside kept seen false (record { base = base; sound = true }) → MayCarry seen carried (Some (λ base. base)) base

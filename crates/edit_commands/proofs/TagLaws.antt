@@ -1,13 +1,13 @@
 -- Laws of `tag`.
-use Rattle.std.proofs.Common.{◌≡◌, ℕ, List, Option, Some, IfSome, subst, sym, ap, ◌∙◌, ◌<◌, true, ◌++◌, length, None, arith, Ok, Err, inl, inr, refl, OnOk, Result, [], ◌≤◌, map, option_map}
+use Rattle.std.proofs.Common.{◌≡◌, ℕ, List, Option, Some, IfSome, subst, sym, ap, ◌∙◌, ◌<◌, true, ◌++◌, length, None, arith, Ok, Err, inl, inr, refl, ◌≤◌, map, option_map, Bool, ap₂}
 use Rattle.std.proofs.lemmas.Option.{slice_get_past}
-use Rattle.std.specs.Prelude.{IfErr, slice_get, unwrap_or, codes}
+use Rattle.std.specs.Prelude.{slice_get, unwrap_or, codes}
 use Rattle.base_core.proofs.Lists.{get_some}
 use Rattle.base_core.specs.Base.{Base, Held}
 use Rattle.base_core.specs.Edits.{tagged, tagged_at, held_of, game_replaced}
 use Rattle.base_core.specs.GameAt.{IsGameAt, IfChanged}
 use Rattle.base_core.specs.Means.{HoldsNames}
-use Rattle.base_core.specs.Represents.{Kept, Represents}
+use Rattle.base_core.specs.Represents.{Kept, Represents, heads_of}
 use Rattle.base_core.specs.Tagged.{Tags, IsTagged, IsNotPlaced, WhyNotTagged}
 use Rattle.base_core.specs.declared.fault.EditError.{EditError}
 use Rattle.base_core.specs.declared.fault.EditError.TheVariants as edit
@@ -15,30 +15,35 @@ use Rattle.base_files.specs.Seen.{Seen}
 use Rattle.base_files.specs.Told.{adds}
 use Rattle.base_files.specs.declared.faults.Stop.TheVariants as stop
 use Rattle.block_store.specs.Placing.{padded}
-use Rattle.command_runs.specs.Endings.{Halted, Serves}
 use Rattle.game_codec.specs.Written.{written_record}
 use Rattle.game_tree.specs.Game.{GameTree}
 use Rattle.game_tree.specs.TagEdit.{edited}
 use Rattle.game_tree.specs.declared.head.Head.{Head}
 use Rattle.game_tree.specs.declared.tag_edit.TagEdit.{TagEdit}
 use Rattle.pos_index.specs.Hits.{Index, rows_told}
-use Rattle.edit_commands.specs.Editing.{tag_after, tagged_there, unless_refused, tag_line_there, tag_text, tag_work}
+use Rattle.edit_commands.specs.Editing.{tag_after, tagged_there, unless_refused, tag_line_there, tag_text}
 use Rattle.filter_seat.specs.declared.saved.SavedFilter.{SavedFilter}
-use Rattle.shell_state.proofs.IndexLaws.{same_games}
+use Rattle.edit_commands.proofs.RetagLaws.{slots_tagged}
+use Rattle.edit_commands.specs.Retagging.{AreAgain}
+use Rattle.shell_state.proofs.IndexLaws.{index_is, same_games}
 use Rattle.shell_state.proofs.CarryLaws.{beside_grown}
 use Rattle.shell_state.proofs.EditedLaws.{kept_refusal, kept-refusal, none_lined, lined_so}
 use Rattle.shell_state.proofs.PriceLaws.{len_looks}
-use Rattle.shell_state.proofs.Quietly.{held_by}
-use Rattle.shell_state.proofs.Served.{line_serves}
-use Rattle.shell_state.specs.Ends.{refused_line, IsThere, IsDevice, EndsAs, IsOutput}
+use Rattle.shell_state.proofs.Quietly.{held_by, tables_with}
+use Rattle.shell_state.specs.Ends.{refused_line, IsThere, IsDevice, EndsAs}
 use Rattle.shell_state.specs.Lines.{game_line, no_game_line}
 use Rattle.shell_state.specs.Passing.{len_in}
 use Rattle.shell_state.specs.Refusing.{refusal_of}
-use Rattle.shell_state.specs.Stands.{len_at, Stands, looks_in, Broken, Holding, index_of}
+use Rattle.shell_state.specs.Slots.{HitTable}
+use Rattle.shell_state.specs.Stands.{len_at, Stands, looks_in, Holding, Tables, index_of}
 use Rattle.shell_state.specs.State.{State}
-use Rattle.shell_state.specs.Work.{Look, works}
+use Rattle.shell_state.specs.Work.{Look}
 use Rattle.shell_state.specs.declared.halt.Halt.{Halt}
 use Rattle.shell_state.specs.declared.halt.Halt.TheVariants as halt
+use Rattle.sig_index.specs.Games.{head_in}
+use Rattle.tree_live.specs.Slots.{in_slot}
+use Rattle.tree_live.specs.Watching.{Watched, with_game}
+use Rattle.tree_rows.specs.declared.hit.GameHit.{GameHit}
 
 -- The game that was read is that of the base.
 read-is : (kept : Kept) (games : List ℕ) (told : Option (List ℕ)) (i : ℕ) (head : Head) (game : GameTree) (base : Base) (held : Held) → told ≡ Some games → IfSome told (λ bytes. IsGameAt kept bytes i head game)
@@ -71,30 +76,38 @@ tagged_games i tag base held there =
     ap (λ (o : Option Held). map (λ (h : Held). h.game) (tagged_at i tag o base).games) there
     ∙ same_games (λ _. held_of (edited held.head tag) held.game) i base.games held there refl
 
-pub tag_stands : (old new : Kept) (index : Option Index) (filter : List (Option ℕ)) (saved : List SavedFilter) (seen seen' : Seen) (buf : List ℕ) (s : State) (i : ℕ) (tag : TagEdit) → Stands (held_by old index filter saved) seen s → i < length old.entries
+pub tag_stands : (old new : Kept) (index : Option Index) (watches watches' : List (Option Watched)) (hits : List (Option GameHit)) (is_in : Bool) (filter : List (Option ℕ)) (saved : List SavedFilter) (seen seen' : Seen) (buf : List ℕ)
+    (s : State) (i : ℕ) (tag : TagEdit) → Stands (held_by old (tables_with index watches) filter saved) seen s → i < length old.entries
     → IsTagged i tag old new seen seen' buf → Tags i tag old new seen.games seen'.games → new.unsaved ≡ true → HoldsNames new.names old.names
-    → Stands (held_by new index filter saved) seen' (tag_after s i tag)
-tag_stands old new index filter saved seen seen' buf s i tag st there is tags unsaved names =
+    → length watches' ≡ length watches → AreAgain (head_in (heads_of new) i) i watches hits
+    → ((k : ℕ) → in_slot watches' k ≡ option_map (λ (w : Watched). record w { games = with_game i (record { hit = in_slot hits k; is_in = is_in }) w.games }) (in_slot watches k))
+    → Stands (held_by new (tables_with index watches') filter saved) seen' (tag_after s i tag)
+tag_stands old new index watches watches' hits is_in filter saved seen seen' buf s i tag st there is tags unsaved names count again follow =
     let held = get_some s.shared.base.games i (omega (arith, there, st.base.count)) in
     let bytes : List ℕ = padded old.end (written_record (edited is.head tag).tags is.game) in
     let same = read-is old st.games seen.games i is.head is.game s.shared.base held.0 st.told is.read st.base held.1 in
     let none : refusal_of s.shared.base (edited held.0.head tag) held.0.game ≡ None =
     refusal-read old st.games s.shared.base held.0 tag is.head is.game None st.base same (none_lined _ _ is.room) in
     let later : seen'.games ≡ Some (st.games ++ bytes) = ap (λ (x : Seen). x.games) is.appended ∙ ap (λ (g : Option (List ℕ)). adds g bytes) st.told in
-    let standing : Stands (held_by new index filter saved) seen' (unless_refused None s (tagged i tag s.shared.base)) = record {
+    let stood : Represents new (st.games ++ bytes) (tagged i tag s.shared.base) =
+    base_tagged old new i tag seen.games seen'.games st.games (st.games ++ bytes) s.shared.base tags st.told later st.base in
+    let standing : Stands (held_by new (tables_with index watches') filter saved) seen' (unless_refused None s (tagged i tag s.shared.base)) = record {
       games = st.games ++ bytes;
       told = later;
-      base = base_tagged old new i tag seen.games seen'.games st.games (st.games ++ bytes) s.shared.base tags st.told later st.base;
+      base = stood;
       seat = st.seat;
       unsaved = unsaved;
       carried = beside_grown old new seen seen' bytes s.shared.unsaved s.shared.carried is.appended names st.carried;
-      index = st.index ∙ ap (λ (games : List GameTree). option_map (index_of games) s.shared.index) (sym (tagged_games i tag s.shared.base held.0 held.1));
+      tables = ap₂ (λ (x : Option Index) (hits : List (Option HitTable)). record { index = x; hits = hits })
+          (index_is st ∙ ap (λ (games : List GameTree). option_map (index_of games) s.shared.index) (sym (tagged_games i tag s.shared.base held.0 held.1)))
+          (slots_tagged new (st.games ++ bytes) s.shared.base i tag held.0 is_in hits watches watches' s.slots held.1 (omega (arith, there, st.base.count)) stood count again follow
+          (ap (λ (t : Tables). t.hits) st.tables));
     } in
-    subst (Stands (held_by new index filter saved) seen') (ap (λ (r : Option (List ℕ)). unless_refused r s (tagged i tag s.shared.base)) (sym none) ∙ ap (tagged_there i tag s) (sym held.1)) standing
+    subst (Stands (held_by new (tables_with index watches') filter saved) seen') (ap (λ (r : Option (List ℕ)). unless_refused r s (tagged i tag s.shared.base)) (sym none) ∙ ap (tagged_there i tag s) (sym held.1)) standing
 
-pub tag_says : (old new : Kept) (index : Option Index) (filter : List (Option ℕ)) (saved : List SavedFilter) (seen seen' : Seen) (buf : List ℕ) (s : State) (i : ℕ) (tag : TagEdit) (line : List ℕ) → Stands (held_by old index filter saved) seen s → i < length old.entries
+pub tag_says : (old new : Kept) (tables : Tables) (filter : List (Option ℕ)) (saved : List SavedFilter) (seen seen' : Seen) (buf : List ℕ) (s : State) (i : ℕ) (tag : TagEdit) (line : List ℕ) → Stands (held_by old tables filter saved) seen s → i < length old.entries
     → IsTagged i tag old new seen seen' buf → line ≡ game_line (codes "tagged ") i → line ≡ tag_text s i tag
-tag_says old new index filter saved seen seen' buf s i tag line st there is written =
+tag_says old new tables filter saved seen seen' buf s i tag line st there is written =
     let held = get_some s.shared.base.games i (omega (arith, there, st.base.count)) in
     let same = read-is old st.games seen.games i is.head is.game s.shared.base held.0 st.told is.read st.base held.1 in
     let none : refusal_of s.shared.base (edited held.0.head tag) held.0.game ≡ None =
@@ -111,27 +124,27 @@ not_placed (edit.Changed g sig found) kept told i tag buf line why there ends = 
 not_placed edit.Failed kept told i tag buf line why there ends = cc
 not_placed edit.Memory kept told i tag buf line why there ends = cc
 
-refused-line : (kept : Kept) (index : Option Index) (filter : List (Option ℕ)) (saved : List SavedFilter) (seen : Seen) (s : State) (i : ℕ) (tag : TagEdit) (e : EditError) (buf line : List ℕ) → (st : Stands (held_by kept index filter saved) seen s)
+refused-line : (kept : Kept) (tables : Tables) (filter : List (Option ℕ)) (saved : List SavedFilter) (seen : Seen) (s : State) (i : ℕ) (tag : TagEdit) (e : EditError) (buf line : List ℕ) → (st : Stands (held_by kept tables filter saved) seen s)
     → i < length kept.entries → WhyNotTagged kept seen.games i tag buf e → refused_line e ≡ Ok line
     → (held : Held) × (slice_get s.shared.base.games i ≡ Some held) × (refusal_of s.shared.base (edited held.head tag) held.game ≡ Some line)
-refused-line kept index filter saved seen s i tag e buf line st there why ends =
+refused-line kept tables filter saved seen s i tag e buf line st there why ends =
     let held = get_some s.shared.base.games i (omega (arith, there, st.base.count)) in
     let is = not_placed e kept seen.games i tag buf line why there ends in
     let same = read-is kept st.games seen.games i is.head is.game s.shared.base held.0 st.told is.read st.base held.1 in
     (held.0, held.1, refusal-read kept st.games s.shared.base held.0 tag is.head is.game (Some line) st.base same (lined_so e _ _ line is.why ends))
 
-pub refused_stands : (kept : Kept) (index : Option Index) (filter : List (Option ℕ)) (saved : List SavedFilter) (seen seen' : Seen) (s : State) (i : ℕ) (tag : TagEdit) (e : EditError) (buf line : List ℕ)
-    → Stands (held_by kept index filter saved) seen s → i < length kept.entries → WhyNotTagged kept seen.games i tag buf e → refused_line e ≡ Ok line → seen' ≡ seen
-    → Stands (held_by kept index filter saved) seen' (tag_after s i tag)
-refused_stands kept index filter saved seen seen' s i tag e buf line st there why ends same =
-    let refused = refused-line kept index filter saved seen s i tag e buf line st there why ends in
+pub refused_stands : (kept : Kept) (tables : Tables) (filter : List (Option ℕ)) (saved : List SavedFilter) (seen seen' : Seen) (s : State) (i : ℕ) (tag : TagEdit) (e : EditError) (buf line : List ℕ)
+    → Stands (held_by kept tables filter saved) seen s → i < length kept.entries → WhyNotTagged kept seen.games i tag buf e → refused_line e ≡ Ok line → seen' ≡ seen
+    → Stands (held_by kept tables filter saved) seen' (tag_after s i tag)
+refused_stands kept tables filter saved seen seen' s i tag e buf line st there why ends same =
+    let refused = refused-line kept tables filter saved seen s i tag e buf line st there why ends in
     let after : s ≡ tag_after s i tag = ap (λ (r : Option (List ℕ)). unless_refused r s (tagged i tag s.shared.base)) (sym refused.2) ∙ ap (tagged_there i tag s) (sym refused.1) in
-    subst (Stands (held_by kept index filter saved) seen') after (subst (λ (x : Seen). Stands (held_by kept index filter saved) x s) (sym same) st)
+    subst (Stands (held_by kept tables filter saved) seen') after (subst (λ (x : Seen). Stands (held_by kept tables filter saved) x s) (sym same) st)
 
-pub refused_says : (kept : Kept) (index : Option Index) (filter : List (Option ℕ)) (saved : List SavedFilter) (seen : Seen) (s : State) (i : ℕ) (tag : TagEdit) (e : EditError) (buf line : List ℕ)
-    → Stands (held_by kept index filter saved) seen s → i < length kept.entries → WhyNotTagged kept seen.games i tag buf e → refused_line e ≡ Ok line → line ≡ tag_text s i tag
-refused_says kept index filter saved seen s i tag e buf line st there why ends =
-    let refused = refused-line kept index filter saved seen s i tag e buf line st there why ends in
+pub refused_says : (kept : Kept) (tables : Tables) (filter : List (Option ℕ)) (saved : List SavedFilter) (seen : Seen) (s : State) (i : ℕ) (tag : TagEdit) (e : EditError) (buf line : List ℕ)
+    → Stands (held_by kept tables filter saved) seen s → i < length kept.entries → WhyNotTagged kept seen.games i tag buf e → refused_line e ≡ Ok line → line ≡ tag_text s i tag
+refused_says kept tables filter saved seen s i tag e buf line st there why ends =
+    let refused = refused-line kept tables filter saved seen s i tag e buf line st there why ends in
     ap (λ (r : Option (List ℕ)). unwrap_or r (game_line (codes "tagged ") i)) (sym refused.2) ∙ ap (tag_line_there i tag s) (sym refused.1)
 
 pub is_there : (e : EditError) (kept : Kept) (told : Option (List ℕ)) (i : ℕ) (tag : TagEdit) (buf : List ℕ) → WhyNotTagged kept told i tag buf e → i < length kept.entries → IsThere e
@@ -158,33 +171,23 @@ device_so (edit.Changed g sig found) h kept games told base same is changed ends
 device_so edit.Failed h kept games told base same is changed ends = let e : halt.Device stop.Files ≡ h = cc in subst IsDevice e tt
 device_so edit.Memory h kept games told base same is changed ends = let e : halt.Device stop.Memory ≡ h = cc in subst IsDevice e tt
 
-pub tag_device : (e : EditError) (h : Halt) (kept : Kept) (index : Option Index) (filter : List (Option ℕ)) (saved : List SavedFilter) (seen : Seen) (s : State) → Stands (held_by kept index filter saved) seen s
+pub tag_device : (e : EditError) (h : Halt) (kept : Kept) (tables : Tables) (filter : List (Option ℕ)) (saved : List SavedFilter) (seen : Seen) (s : State) → Stands (held_by kept tables filter saved) seen s
     → IfChanged e (IfSome seen.games (λ bytes. (other : Base) → Represents kept bytes other → ⊥)) → EndsAs (refused_line e) h → IsDevice h
-tag_device e h kept index filter saved seen s st changed (inl memory) = subst IsDevice (sym memory) tt
-tag_device e h kept index filter saved seen s st changed (inr ends) = device_so e h kept st.games seen.games s.shared.base st.told st.base changed ends
-
--- ---- what the files carry then
-
-unless_carried : (r : Option (List ℕ)) (s : State) (base : Base) → (unless_refused r s base).shared.carried ≡ s.shared.carried
-unless_carried (Some line) s base = refl
-unless_carried None s base = refl
-
-there_carried : (i : ℕ) (tag : TagEdit) (s : State) (held : Option Held) → (tagged_there i tag s held).shared.carried ≡ s.shared.carried
-there_carried i tag s (Some held) = unless_carried (refusal_of s.shared.base (edited held.head tag) held.game) s (tagged i tag s.shared.base)
-there_carried i tag s None = refl
-
-pub tag_carried : (s : State) (i : ℕ) (tag : TagEdit) → (tag_after s i tag).shared.carried ≡ s.shared.carried
-tag_carried s i tag = there_carried i tag s (slice_get s.shared.base.games i)
+tag_device e h kept tables filter saved seen s st changed (inl memory) = subst IsDevice (sym memory) tt
+tag_device e h kept tables filter saved seen s st changed (inr ends) = device_so e h kept st.games seen.games s.shared.base st.told st.base changed ends
 
 -- What the command asks is what it costs.
 pub tag_price : (holding : Holding) (game : ℕ) → len_at holding.kept.entries game ≡ len_in (λ (x : Look). x.len) (slice_get (looks_in holding) game)
-tag_price holding game = len_looks holding.kept.names (rows_told holding.index) holding.kept.entries game
+tag_price holding game = len_looks holding.kept.names (rows_told holding.tables.index) holding.kept.entries game
 
--- A game that is not there: its line was written or broken off.
-pub no_game_serves : {A : Type 0} (r : Result A Halt) (holding : Holding) (seen : Seen) (s : State) (number : ℕ) (tag : TagEdit) (line : List ℕ) (told told' : Option (List ℕ)) → Stands holding seen s
-    → length holding.kept.entries ≤ number → line ≡ no_game_line number → OnOk r (told' ≡ adds told line) → Halted [] line told told' → IfErr r IsOutput → Serves works (Stands holding seen) Broken s (tag_work number tag) told told' r
-no_game_serves r holding seen s number tag line told told' st past is written halted output =
-    let none : slice_get s.shared.base.games number ≡ None = slice_get_past s.shared.base.games number (omega (arith, past, st.base.count)) in
-    let text : line ≡ tag_text s number tag = is ∙ ap (tag_line_there number tag s) (sym none) in
-    let state : s ≡ tag_after s number tag = ap (tagged_there number tag s) (sym none) in
-    line_serves r holding (tag_work number tag) line seen s told told' (subst (Stands holding seen) state st) text written halted output
+-- A game that is not there.
+no_game : (holding : Holding) (seen : Seen) (s : State) (number : ℕ) → Stands holding seen s → length holding.kept.entries ≤ number → slice_get s.shared.base.games number ≡ None
+no_game holding seen s number st past = slice_get_past s.shared.base.games number (omega (arith, past, st.base.count))
+
+pub no_game_stands : (holding : Holding) (seen : Seen) (s : State) (number : ℕ) (tag : TagEdit) → Stands holding seen s → length holding.kept.entries ≤ number → Stands holding seen (tag_after s number tag)
+no_game_stands holding seen s number tag st past =
+    let state : s ≡ tag_after s number tag = ap (tagged_there number tag s) (sym (no_game holding seen s number st past)) in
+    subst (Stands holding seen) state st
+
+pub no_game_says : (holding : Holding) (seen : Seen) (s : State) (number : ℕ) (tag : TagEdit) (line : List ℕ) → Stands holding seen s → length holding.kept.entries ≤ number → line ≡ no_game_line number → line ≡ tag_text s number tag
+no_game_says holding seen s number tag line st past is = is ∙ ap (tag_line_there number tag s) (sym (no_game holding seen s number st past))

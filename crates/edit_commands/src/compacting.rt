@@ -1,51 +1,27 @@
 //! The command that compacts the base.
-ghost use Rattle.std.specs.Prelude.{◌≡◌, ◌≤◌, ◌+◌, Ok, length, option_map, IfOk, IfErr, IfSome, OnOk};
+ghost use Rattle.std.specs.Prelude.{◌≡◌, Ok, length, option_map, IfOk, IfErr, IfSome, OnOk};
 ghost use Rattle.base_core.specs.Compacted.{compacted};
 ghost use Rattle.command_runs.specs.Counts.{Causes, counts};
-ghost use Rattle.command_runs.specs.Endings.{NoneLost, Serves};
-ghost use Rattle.compact_base.specs.Compacting.{kept_len};
 ghost use Rattle.edit_commands.specs.Compacting.{compact_after, compact_text, compacted_line, compact_work};
 ghost use Rattle.edit_commands.specs.Ends.{uncompacted};
 ghost use Rattle.edit_commands.specs.Indexed.{renumbered_index};
 ghost use Rattle.shell_state.specs.Carrying.{StillCarry};
 ghost use Rattle.shell_state.specs.Ends.{EndsAs, IsDevice};
-ghost use Rattle.shell_state.specs.Stands.{Stands, Sound, Broken, WhyHalt, Asks};
+ghost use Rattle.shell_state.specs.Stands.{Stands, Sound, WhyHalt, Asks};
 ghost use Rattle.shell_state.specs.State.{State};
-ghost use Rattle.shell_state.specs.Work.{works};
 
 use base_core::What;
-use base_files::{Files, Sink, Stop};
+use base_files::{Files, Stop};
 use compact_base::CompactError;
 use filter_seat::renumber_all;
 use game_filter::Renumbering;
 use pos_index::PosIndex;
-use shell_state::{Halt, Machine, Refusal, refusal_line, write_line};
+use shell_state::{Halt, Machine, Refusal, refusal_line};
 use std::alloc::{AllocError, Global};
 
-/// compact
-pub fn compact<F: Files, K: Sink>(
-    alloc: Global,
-    machine: &mut Machine,
-    files: &mut F,
-    out: &mut K,
-) -> Result<(), Halt>
-    requires sound { Sound machine.old (F.seen files.old) }
-    ensures serves { (s : State) → Stands machine.old (F.seen files.old) s → Serves works (Stands machine.new (F.seen files.new)) Broken s compact_work (K.taken out.old) (K.taken out.new) result }
-    ensures sound { OnOk result (Sound machine.new (F.seen files.new)) }
-    ensures carries { (s : State) → Stands machine.old (F.seen files.old) s → IfErr result (λ _. StillCarry (F.seen files.new) s (Some compacted)) }
-    ensures choices { (F.seen files.new).choices ≡ (F.seen files.old).choices }
-    ensures asks { Asks machine.old compact_work (F.asked files.old) (F.asked files.new) }
-    ensures none_lost { NoneLost (K.taken out.old) (K.taken out.new) }
-    ensures causes { Causes WhyHalt result (counts (F.faults files.old) 0 (K.faults out.old)) (counts (F.faults files.new) 0 (K.faults out.new)) }
-{
-    match compact_files(alloc, machine, files) {
-        Ok(line) => write_line(out, line.as_slice()),
-        Err(halt) => Err(halt),
-    }
-}
-
-// Leaves the games that are not deleted and moves the filters and the index with them, and gives the line for it.
-fn compact_files<F: Files>(
+/// compact, with the line for it given and not written. The games that are not deleted are left, and the filters, the index and the slots move
+/// with them.
+pub fn compact_line<F: Files>(
     alloc: Global,
     machine: &mut Machine,
     files: &mut F,
@@ -57,7 +33,7 @@ fn compact_files<F: Files>(
     ensures sound { OnOk result (Sound machine.new (F.seen files.new)) }
     ensures carries { (s : State) → Stands machine.old (F.seen files.old) s → StillCarry (F.seen files.new) s (Some compacted) }
     ensures choices { (F.seen files.new).choices ≡ (F.seen files.old).choices }
-    ensures asks { F.asked files.new ≤ F.asked files.old + kept_len machine.old.kept.entries }
+    ensures asks { Asks machine.old compact_work (F.asked files.old) (F.asked files.new) }
     ensures causes { Causes WhyHalt result (counts (F.faults files.old) 0 0) (counts (F.faults files.new) 0 0) }
 {
     let games = machine.games();
@@ -72,6 +48,7 @@ fn compact_files<F: Files>(
                 machine.seat.saved.as_mut_slice(),
                 &renumbering,
             );
+            machine.slots.renumber(alloc, &renumbering)?;
             Ok(compacted_line(alloc, games, renumbering.kept())?)
         }
         Err(error) => uncompacted(alloc, error),

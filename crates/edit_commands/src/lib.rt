@@ -3,10 +3,11 @@
 
 mod compacting;
 mod editing;
+mod retagging;
 mod saving;
 mod tagging;
 
-pub use compacting::compact;
+pub use compacting::compact_line;
 pub use editing::{delete, mark, undelete};
 pub use saving::save;
-pub use tagging::tag;
+pub use tagging::tag_line;

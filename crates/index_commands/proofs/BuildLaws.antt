@@ -1,5 +1,5 @@
 -- Laws of an index that is built.
-use Rattle.std.proofs.Common.{◌≡◌, ℕ, Bool, false, List, map, Option, Some, sym, ap, ◌∙◌, refl, None, subst, ◌+◌, ◌*◌, nat_lt, length}
+use Rattle.std.proofs.Common.{◌≡◌, ℕ, Bool, false, List, map, Option, Some, sym, ap, ◌∙◌, None, subst, ap₂, ◌+◌, ◌*◌, nat_lt, length}
 use Rattle.std.specs.Prelude.{if◌then◌else◌}
 use Rattle.base_files.specs.declared.extent.Extent.{Extent}
 use Rattle.command_runs.specs.Counts.{counts}
@@ -20,7 +20,8 @@ use Rattle.shell_state.specs.Carrying.{AreBeside}
 use Rattle.shell_state.proofs.Quietly.{held_by}
 use Rattle.shell_state.proofs.HoldingLaws.{fetch_device, fetch_why}
 use Rattle.shell_state.specs.Ends.{IsDevice}
-use Rattle.shell_state.specs.Stands.{WhyHalt, index_of, Sound, Stands}
+use Rattle.shell_state.specs.Slots.{HitTable}
+use Rattle.shell_state.specs.Stands.{WhyHalt, index_of, Sound, Stands, Tables}
 use Rattle.shell_state.specs.State.{State, games_of, with_index}
 
 -- Why it is not.
@@ -51,9 +52,9 @@ pub text_built : (s : State) (depth : ℕ) → is_too_big s depth ≡ false → 
 text_built s depth room = ap (λ (b : Bool). if b then too_big_line else index_line depth (entries_of (index_of (games_of s) depth).rows)) (sym room)
 
 -- The machine stands for the state with it.
-pub built_stands : (kept : Kept) (old : Option Index) (new : Index) (filter : List (Option ℕ)) (saved : List SavedFilter) (seen seen' : Seen) (s : State) (depth : ℕ)
+pub built_stands : (kept : Kept) (old : Tables) (new : Index) (filter : List (Option ℕ)) (saved : List SavedFilter) (seen seen' : Seen) (s : State) (depth : ℕ)
     → Stands (held_by kept old filter saved) seen s → seen' ≡ seen → new ≡ index_of (games_of s) depth
-    → Stands (held_by kept (Some new) filter saved) seen' (with_index s (Some depth))
+    → Stands (held_by kept (record old { index = Some new }) filter saved) seen' (with_index s (Some depth))
 built_stands kept old new filter saved seen seen' s depth st same is = record {
   games = st.games;
   told = ap (λ (t : Seen). t.games) same ∙ st.told;
@@ -61,12 +62,12 @@ built_stands kept old new filter saved seen seen' s depth st same is = record {
   seat = st.seat;
   unsaved = st.unsaved;
   carried = subst (λ (x : Seen). AreBeside kept x s.shared.unsaved s.shared.carried) (sym same) st.carried;
-  index = ap (λ (x : Index). Some x) is;
+  tables = ap₂ (λ (x : Index) (hits : List (Option HitTable)). record { index = Some x; hits = hits }) is (ap (λ (t : Tables). t.hits) st.tables);
 }
 
 -- And without one.
-pub dropped_stands : (kept : Kept) (old : Option Index) (filter : List (Option ℕ)) (saved : List SavedFilter) (seen : Seen) (s : State)
-    → Stands (held_by kept old filter saved) seen s → Stands (held_by kept None filter saved) seen (index_after s None)
+pub dropped_stands : (kept : Kept) (old : Tables) (filter : List (Option ℕ)) (saved : List SavedFilter) (seen : Seen) (s : State)
+    → Stands (held_by kept old filter saved) seen s → Stands (held_by kept (record old { index = None }) filter saved) seen (index_after s None)
 dropped_stands kept old filter saved seen s st = record {
   games = st.games;
   told = st.told;
@@ -74,9 +75,14 @@ dropped_stands kept old filter saved seen s st = record {
   seat = st.seat;
   unsaved = st.unsaved;
   carried = st.carried;
-  index = refl;
+  tables = ap (λ (t : Tables). record { index = None; hits = t.hits }) st.tables;
 }
 
-pub dropped_sound : (kept : Kept) (old : Option Index) (filter : List (Option ℕ)) (saved : List SavedFilter) (seen : Seen)
-    → Sound (held_by kept old filter saved) seen → Sound (held_by kept None filter saved) seen
-dropped_sound kept old filter saved seen sound = record { fits = record { filter = sound.fits.filter; saved = sound.fits.saved }; index = tt; base = sound.base; at_end = sound.at_end }
+pub dropped_sound : (kept : Kept) (old : Tables) (filter : List (Option ℕ)) (saved : List SavedFilter) (seen : Seen)
+    → Sound (held_by kept old filter saved) seen → Sound (held_by kept (record old { index = None }) filter saved) seen
+dropped_sound kept old filter saved seen sound = record {
+  fits = record { filter = sound.fits.filter; saved = sound.fits.saved };
+  tables = record { index = tt; hits = sound.tables.hits };
+  base = sound.base;
+  at_end = sound.at_end;
+}

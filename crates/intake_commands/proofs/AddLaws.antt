@@ -1,11 +1,11 @@
 -- Laws of games that come in: one that is added, and one that is put in the place of another.
-use Rattle.std.proofs.Common.{◌≡◌, ℕ, List, length, Option, Some, sym, subst, ◌+◌, ◌++◌, ap, ◌∙◌, false, None, refl, true, [], ◌∷◌, map, arith, All, Ok, Err, ◌<◌, option_map}
-use Rattle.std.specs.Prelude.{codes, IfSome}
+use Rattle.std.proofs.Common.{◌≡◌, ℕ, List, length, Option, Some, sym, subst, ◌+◌, ◌++◌, ap, ap₂, ◌∙◌, Bool, false, None, refl, true, [], ◌∷◌, map, arith, All, Ok, Err, ◌<◌, ◌≤◌, nat_lt, option_map}
+use Rattle.std.specs.Prelude.{codes, if◌then◌else◌, IfSome}
 use Rattle.base_core.specs.Base.{Base, Held}
 use Rattle.base_core.specs.Edited.{first_full, CanPlace, Places, WhyNotPlaced}
-use Rattle.base_core.specs.Edits.{end_with, names_with, added, game_replaced, held_of}
+use Rattle.base_core.specs.Edits.{changed_at, end_with, names_with, game_replaced, held_of}
 use Rattle.base_core.specs.Means.{HoldsNames}
-use Rattle.base_core.specs.Represents.{Kept, Represents}
+use Rattle.base_core.specs.Represents.{IsSound, Kept, Represents}
 use Rattle.base_core.specs.declared.fault.EditError.{EditError}
 use Rattle.base_files.specs.Seen.{Seen, appended}
 use Rattle.block_store.specs.Placing.{IsEnd, padded}
@@ -19,20 +19,28 @@ use Rattle.filter_seat.specs.SavedFilters.{kept_to_start, to_start}
 use Rattle.filter_seat.specs.declared.saved.SavedFilter.{SavedFilter}
 use Rattle.intake_commands.specs.Importing.{Intake, item_after, unless_not_added, added_line, item_text, next_number, not_added_line, the_one, unless_line, state_with, line_with}
 use Rattle.intake_commands.specs.Intakes.{Counted}
-use Rattle.std.proofs.lemmas.List.{length-set, map-set}
+use Rattle.std.proofs.lemmas.Bool.{lt-ltb}
+use Rattle.std.proofs.lemmas.List.{length-map, length-set, map-set}
 use Rattle.shell_state.specs.Indexing.{index_with_at}
-use Rattle.shell_state.proofs.IndexLaws.{put_games}
+use Rattle.shell_state.proofs.IndexLaws.{index_is, put_games}
 use Rattle.shell_state.proofs.AddingLaws.{ends_there, told_more}
 use Rattle.shell_state.proofs.CarryLaws.{beside_grown}
 use Rattle.shell_state.proofs.EditedLaws.{kept-refusal, lined_so, none_lined}
 use Rattle.shell_state.proofs.Quietly.{filter_is, held_by, saved_is, seats_are}
+use Rattle.shell_state.proofs.TableLaws.{hits_among, in_mapped, slots_follow}
 use Rattle.shell_state.specs.Adding.{IsAdded, IsNotAdded}
 use Rattle.shell_state.specs.Ends.{refused_line}
+use Rattle.shell_state.specs.Hits.{AreHits}
 use Rattle.shell_state.specs.Lines.{game_line}
 use Rattle.shell_state.specs.Refusing.{refusal_of}
-use Rattle.shell_state.specs.Stands.{Fits, Holding, Stands, index_of}
+use Rattle.shell_state.specs.Slots.{HitTable, table_in, tables_in}
+use Rattle.shell_state.specs.Stands.{Fits, Holding, Stands, Tables, index_of, tables_by}
 use Rattle.shell_state.specs.State.{State}
 use Rattle.shell_state.specs.declared.refusing.Refusal.{Refusal}
+use Rattle.tree_live.specs.Slots.{in_slot}
+use Rattle.tree_live.specs.Watching.{Watched, with_game as with_entry}
+use Rattle.tree_live.specs.declared.entry.Entry.{Entry}
+use Rattle.tree_rows.specs.declared.hit.GameHit.{GameHit}
 
 -- ---- a game that is added
 
@@ -112,36 +120,69 @@ pub index_there : (index : Option Index) (i games : ℕ) → i < games → IfSom
 index_there None i games there fits = tt
 index_there (Some index) i games there fits = omega (arith, there, fits)
 
-pub replace_stands : (old new : Kept) (index index' : Option Index) (filter filter' : List (Option ℕ)) (saved saved' : List SavedFilter) (seen seen' : Seen) (s : State) (i : ℕ) (head : Head) (game : GameTree)
-    → Stands (held_by old index filter saved) seen s → IsEnd old.end seen → Places (written_record head.tags game) (game_replaced i head game) old new
+-- And the slots have its hits there, where they show trees.
+pub tables_put : (holding : Holding) (seen : Seen) (s : State) (head : Head) (game : GameTree) (index' : Option Index) (i : ℕ) (is_in : Bool) (hits : List (Option GameHit)) (watches watches' : List (Option Watched))
+    → Stands holding seen s → i < length holding.kept.entries → index' ≡ option_map (index_with_at i game) holding.tables.index → tables_in watches ≡ holding.tables.hits
+    → length watches' ≡ length watches → AreHits watches head game hits
+    → ((k : ℕ) → in_slot watches' k ≡ option_map (λ (w : Watched). record w { games = with_entry i (record { hit = in_slot hits k; is_in = is_in }) w.games }) (in_slot watches k))
+    → record { index = index'; hits = tables_in watches' } ≡ tables_by s.shared.index s.slots (game_replaced i head game s.shared.base).games
+unfolding game_replaced
+tables_put holding seen s head game index' i is_in hits watches watches' st there put held count are follow =
+    ap₂ (λ (x : Option Index) (l : List (Option HitTable)). record { index = x; hits = l })
+    (put ∙ ap (option_map (index_with_at i game)) (index_is st) ∙ index_replaced i head game s.shared.base s.shared.index)
+    (slots_follow i is_in head game hits watches watches' s.shared.base.games (changed_at (λ (old : Held). held_of head game) i s.shared.base.games) s.slots count are follow
+    (λ query. hits_among query (held_of head game) s.shared.base.games i (omega (arith, there, st.base.count)))
+    (held ∙ ap (λ (t : Tables). t.hits) st.tables))
+
+-- There is an entry for it there.
+pub few_games : (kept : Kept) (games : ℕ) → IsSound kept → length kept.entries ≡ games → games ≤ 16777214
+few_games kept games sound count = omega (arith, sound.count, sound.header.games, count)
+
+pub room_there : (i : ℕ) (watches : List (Option Watched)) (games : ℕ) → i < games → games ≤ 16777214
+    → ((k : ℕ) → IfSome (in_slot (tables_in watches) k) (λ (table : HitTable). length table.hits ≡ games)) → (k : ℕ) → IfSome (in_slot watches k) (λ (watch : Watched). (i ≤ length watch.games) × (i < 16777214))
+room_there i watches games there few fits = λ k.
+    by (in_slot watches k) (subst (λ (o : Option HitTable). IfSome o (λ (table : HitTable). length table.hits ≡ games)) (in_mapped table_in watches k) (fits k))
+  where
+    by : (watch : Option Watched) → IfSome (option_map table_in watch) (λ (table : HitTable). length table.hits ≡ games) → IfSome watch (λ (w : Watched). (i ≤ length w.games) × (i < 16777214))
+    by None is = tt
+    by (Some watch) is = (omega (arith, is, there, length-map watch.games (λ (e : Entry). e.hit)), omega (arith, there, few))
+
+-- And as many as before.
+pub one_among : (i games entries : ℕ) → i < games → entries ≡ games → (n : ℕ) → n ≡ games → (if nat_lt i n then n else n + 1) ≡ entries
+one_among i games entries there count n is =
+    let test : nat_lt i n ≡ true = lt-ltb i n (omega (arith, there, is)) in
+    rw test (omega (arith, is, count))
+
+pub replace_stands : (old new : Kept) (tables tables' : Tables) (filter filter' : List (Option ℕ)) (saved saved' : List SavedFilter) (seen seen' : Seen) (s : State) (i : ℕ) (head : Head) (game : GameTree)
+    → Stands (held_by old tables filter saved) seen s → IsEnd old.end seen → Places (written_record head.tags game) (game_replaced i head game) old new
     → CanPlace (length (written_record head.tags game)) (first_full (length old.entries) (names_with head old.names) (end_with head game old.end))
     → seen' ≡ appended (padded old.end (written_record head.tags game)) seen → new.unsaved ≡ true → HoldsNames new.names old.names
-    → filter' ≡ to_start i filter → saved' ≡ map (kept_to_start i) saved → index' ≡ option_map (index_with_at i game) index
-    → Stands (held_by new index' filter' saved') seen' (state_with s i (the_one s.shared.base (Good head game ∷ [])))
-replace_stands old new index index' filter filter' saved saved' seen seen' s i head game st ends places room is unsaved names put left indexed =
+    → filter' ≡ to_start i filter → saved' ≡ map (kept_to_start i) saved → tables' ≡ tables_by s.shared.index s.slots (game_replaced i head game s.shared.base).games
+    → Stands (held_by new tables' filter' saved') seen' (state_with s i (the_one s.shared.base (Good head game ∷ [])))
+replace_stands old new tables tables' filter filter' saved saved' seen seen' s i head game st ends places room is unsaved names put left indexed =
     let bytes : List ℕ = padded old.end (written_record head.tags game) in
     let one : the_one s.shared.base (Good head game ∷ []) ≡ Ok (head, game) = one_fits old st.games s.shared.base head game st.base room in
-    let standing : Stands (held_by new index' filter' saved') seen' (state_with s i (Ok (head, game))) = record {
+    let standing : Stands (held_by new tables' filter' saved') seen' (state_with s i (Ok (head, game))) = record {
       games = st.games ++ bytes;
       told = told_more seen seen' st.games bytes st.told is;
       base = places st.games s.shared.base (ends_there seen.games st.games old.end st.told ends.told) st.base;
       seat = seats_are (record { filter = filter'; saved = saved' }) _ (put ∙ ap (to_start i) (filter_is st)) (left ∙ ap (map (kept_to_start i)) (saved_is st));
       unsaved = unsaved;
       carried = beside_grown old new seen seen' bytes s.shared.unsaved s.shared.carried is names st.carried;
-      index = indexed ∙ ap (option_map (index_with_at i game)) st.index ∙ index_replaced i head game s.shared.base s.shared.index;
+      tables = indexed;
     } in
-    subst (Stands (held_by new index' filter' saved') seen') (ap (state_with s i) (sym one)) standing
+    subst (Stands (held_by new tables' filter' saved') seen') (ap (state_with s i) (sym one)) standing
 
-pub replace_says : (old : Kept) (index : Option Index) (filter : List (Option ℕ)) (saved : List SavedFilter) (seen : Seen) (s : State) (i : ℕ) (head : Head) (game : GameTree) (line : List ℕ)
-    → Stands (held_by old index filter saved) seen s
+pub replace_says : (old : Kept) (tables : Tables) (filter : List (Option ℕ)) (saved : List SavedFilter) (seen : Seen) (s : State) (i : ℕ) (head : Head) (game : GameTree) (line : List ℕ)
+    → Stands (held_by old tables filter saved) seen s
     → CanPlace (length (written_record head.tags game)) (first_full (length old.entries) (names_with head old.names) (end_with head game old.end))
     → line ≡ game_line (codes "replaced ") i → line ≡ line_with i (the_one s.shared.base (Good head game ∷ []))
-replace_says old index filter saved seen s i head game line st room written =
+replace_says old tables filter saved seen s i head game line st room written =
     written ∙ ap (line_with i) (sym (one_fits old st.games s.shared.base head game st.base room))
 
-pub replace_fits : (old new : Kept) (index : Option Index) (filter filter' : List (Option ℕ)) (saved saved' : List SavedFilter) (i : ℕ) → length new.entries ≡ length old.entries → filter' ≡ to_start i filter → saved' ≡ map (kept_to_start i) saved
-    → Fits (held_by old index filter saved) → Fits (held_by new index filter' saved')
-replace_fits old new index filter filter' saved saved' i count put left fits =
+pub replace_fits : (old new : Kept) (tables tables' : Tables) (filter filter' : List (Option ℕ)) (saved saved' : List SavedFilter) (i : ℕ) → length new.entries ≡ length old.entries → filter' ≡ to_start i filter → saved' ≡ map (kept_to_start i) saved
+    → Fits (held_by old tables filter saved) → Fits (held_by new tables' filter' saved')
+replace_fits old new tables tables' filter filter' saved saved' i count put left fits =
     let P : List SavedFilter → Type 0 = λ l. All (λ (f : SavedFilter). length f.plies ≡ length new.entries) l in
     let Q : ℕ → Type 0 = λ n. All (λ (f : SavedFilter). length f.plies ≡ n) (map (kept_to_start i) saved) in
     record {
@@ -157,17 +198,17 @@ one_refused_so kept games base head game e line is why ends =
     let some : refusal_of base head game ≡ Some line = sym (kept-refusal kept games base head game is) ∙ lined_so e _ _ line why ends in
     ap (λ (r : Option (List ℕ)). unless_line r (Ok (head, game))) some
 
-pub not_replaced_stands : (kept : Kept) (index : Option Index) (filter : List (Option ℕ)) (saved : List SavedFilter) (seen seen' : Seen) (s : State) (i : ℕ) (head : Head) (game : GameTree) (e : EditError) (line : List ℕ)
-    → Stands (held_by kept index filter saved) seen s
+pub not_replaced_stands : (kept : Kept) (tables : Tables) (filter : List (Option ℕ)) (saved : List SavedFilter) (seen seen' : Seen) (s : State) (i : ℕ) (head : Head) (game : GameTree) (e : EditError) (line : List ℕ)
+    → Stands (held_by kept tables filter saved) seen s
     → WhyNotPlaced (length (written_record head.tags game)) (first_full (length kept.entries) (names_with head kept.names) (end_with head game kept.end)) e → refused_line e ≡ Ok line → seen' ≡ seen
-    → Stands (held_by kept index filter saved) seen' (state_with s i (the_one s.shared.base (Good head game ∷ [])))
-not_replaced_stands kept index filter saved seen seen' s i head game e line st why ends same =
+    → Stands (held_by kept tables filter saved) seen' (state_with s i (the_one s.shared.base (Good head game ∷ [])))
+not_replaced_stands kept tables filter saved seen seen' s i head game e line st why ends same =
     let one = one_refused_so kept st.games s.shared.base head game e line st.base why ends in
-    subst (Stands (held_by kept index filter saved) seen') (ap (state_with s i) (sym one)) (subst (λ (x : Seen). Stands (held_by kept index filter saved) x s) (sym same) st)
+    subst (Stands (held_by kept tables filter saved) seen') (ap (state_with s i) (sym one)) (subst (λ (x : Seen). Stands (held_by kept tables filter saved) x s) (sym same) st)
 
-pub not_replaced_says : (kept : Kept) (index : Option Index) (filter : List (Option ℕ)) (saved : List SavedFilter) (seen : Seen) (s : State) (i : ℕ) (head : Head) (game : GameTree) (e : EditError) (line : List ℕ)
-    → Stands (held_by kept index filter saved) seen s
+pub not_replaced_says : (kept : Kept) (tables : Tables) (filter : List (Option ℕ)) (saved : List SavedFilter) (seen : Seen) (s : State) (i : ℕ) (head : Head) (game : GameTree) (e : EditError) (line : List ℕ)
+    → Stands (held_by kept tables filter saved) seen s
     → WhyNotPlaced (length (written_record head.tags game)) (first_full (length kept.entries) (names_with head kept.names) (end_with head game kept.end)) e → refused_line e ≡ Ok line
     → line ≡ line_with i (the_one s.shared.base (Good head game ∷ []))
-not_replaced_says kept index filter saved seen s i head game e line st why ends =
+not_replaced_says kept tables filter saved seen s i head game e line st why ends =
     ap (line_with i) (sym (one_refused_so kept st.games s.shared.base head game e line st.base why ends))

@@ -1,18 +1,17 @@
 -- Laws of commands that have a body: what they owe a state, and what breaks them off.
-use Rattle.std.proofs.Common.{◌≡◌, ℕ, sym, ap, ◌∙◌, List, [], ◌++◌, Option, Result, Ok, Err, OnOk, subst, refl}
-use Rattle.std.specs.Prelude.{IfErr}
+use Rattle.std.proofs.Common.{◌≡◌, ℕ, sym, ap, ◌∙◌, List, [], ◌++◌, Option, Result, Err, subst, refl}
+use Rattle.std.specs.Global.{Vec}
 use Rattle.base_files.specs.Seen.{Seen}
-use Rattle.base_files.specs.Told.{adds}
 use Rattle.base_files.specs.declared.faults.Stop.TheVariants as stop
-use Rattle.command_runs.proofs.Joining.{halted_after, halted_unsure, written_after, halted_all, halted_more}
-use Rattle.command_runs.specs.Endings.{Done, Halted, Serves, Cut}
+use Rattle.command_runs.proofs.Joining.{halted_all, halted_more, halted_unsure}
+use Rattle.command_runs.specs.Endings.{Done, Halted, Cut}
 use Rattle.command_runs.specs.Plain.{after_all, run}
 use Rattle.pgn_read.specs.Items.{items_of}
-use Rattle.intake_commands.specs.Importing.{Intake, imported_line, intake, none_taken, taken_in, import_text, import_work}
+use Rattle.intake_commands.specs.Importing.{Intake, imported_line, intake, none_taken, taken_in, import_after, import_text, import_work}
 use Rattle.intake_commands.specs.Intakes.{IsIntake}
-use Rattle.shell_state.proofs.Causing.{broken_by_output}
+use Rattle.intake_commands.specs.LastLine.{DoneBut, ServesBut}
 use Rattle.shell_state.proofs.Served.{broken_by_body}
-use Rattle.shell_state.specs.Ends.{IsOutput, IsBodyFault}
+use Rattle.shell_state.specs.Ends.{IsBodyFault}
 use Rattle.shell_state.specs.Stands.{Holding, Stands, Broken}
 use Rattle.shell_state.specs.State.{State}
 use Rattle.shell_state.specs.Work.{works}
@@ -24,24 +23,17 @@ last_line : (holding : Holding) (seen : Seen) (i : Intake) (added refused : ℕ)
 last_line holding seen i added refused is =
     ap (λ (n : ℕ). imported_line n refused) (sym is.added) ∙ ap (λ (n : ℕ). imported_line i.added n) (sym is.refused)
 
-pub import_line : {A : Type 0} (r : Result A Halt) (holding : Holding) (seen : Seen) (s : State) (text line : List ℕ) (added refused : ℕ) (told told' told'' : Option (List ℕ))
+-- All items were taken in, and the line is made.
+pub import_done : (holding : Holding) (seen : Seen) (s : State) (text line : List ℕ) (added refused : ℕ) (told told' : Option (List ℕ))
     → Done (IsIntake holding seen added refused) (after_all intake (none_taken s) (items_of text)) (run intake (none_taken s) (items_of text)) told told'
-    → line ≡ imported_line added refused → OnOk r (told'' ≡ adds told' line) → Halted [] line told' told'' → IfErr r IsOutput
-    → Serves works (Stands holding seen) Broken s (import_work text) told told'' r
-import_line (Ok x) holding seen s text line added refused told told' told'' done is written halted output =
+    → line ≡ imported_line added refused → DoneBut (Stands holding seen) (import_after s text) (import_text s text) line told told'
+import_done holding seen s text line added refused told told' done is =
     let front : List ℕ = run intake (none_taken s) (items_of text) in
-    let all : line ≡ imported_line (taken_in s text).added (taken_in s text).refused = is ∙ last_line holding seen (taken_in s text) added refused done.stands in
     record {
       stands = done.stands.stands;
-      written = written_after front line told told' told'' done.written written ∙ ap (λ (l : List ℕ). adds told (front ++ l)) all;
-    }
-import_line (Err e) holding seen s text line added refused told told' told'' done is written halted output =
-    let front : List ℕ = run intake (none_taken s) (items_of text) in
-    let all : line ≡ imported_line (taken_in s text).added (taken_in s text).refused = is ∙ last_line holding seen (taken_in s text) added refused done.stands in
-    let P : List ℕ → Type 0 = λ l. Halted [] (front ++ l) told told'' in
-    record {
-      wrote = subst P all (halted_unsure (front ++ []) (front ++ line) told told'' (halted_after front [] line told told' told'' done.written halted));
-      broken = broken_by_output s (import_work text) e output;
+      front = front;
+      written = done.written;
+      all = ap (λ (l : List ℕ). front ++ l) (is ∙ last_line holding seen (taken_in s text) added refused done.stands);
     }
 
 -- Memory ran out behind the items.
@@ -55,11 +47,11 @@ import_short holding seen s text added refused told told' e done fault =
       broken = broken_by_body s (import_work text) e refl refl fault;
     }
 
-pub import_memory : {A : Type 0} (r : Result A Halt) (holding : Holding) (seen : Seen) (s : State) (text : List ℕ) (added refused : ℕ) (told told' : Option (List ℕ)) → r ≡ Err (halt.Device stop.Memory)
+pub import_memory : (r : Result (Vec ℕ) Halt) (holding : Holding) (seen : Seen) (s : State) (text : List ℕ) (added refused : ℕ) (told told' : Option (List ℕ)) → r ≡ Err (halt.Device stop.Memory)
     → Done (IsIntake holding seen added refused) (after_all intake (none_taken s) (items_of text)) (run intake (none_taken s) (items_of text)) told told'
-    → Serves works (Stands holding seen) Broken s (import_work text) told told' r
-import_memory {A} r holding seen s text added refused told told' is done =
-    let P : Result A Halt → Type 0 = λ x. Serves works (Stands holding seen) Broken s (import_work text) told told' x in
+    → ServesBut works (Stands holding seen) Broken s (import_work text) told told' r
+import_memory r holding seen s text added refused told told' is done =
+    let P : Result (Vec ℕ) Halt → Type 0 = λ x. ServesBut works (Stands holding seen) Broken s (import_work text) told told' x in
     subst P (sym is) (import_short holding seen s text added refused told told' (halt.Device stop.Memory) done tt)
 
 -- It was broken off among them.

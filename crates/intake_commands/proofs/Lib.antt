@@ -2,4 +2,5 @@ pub mod AddLaws
 pub mod BodyLaws
 pub mod DemoLaws
 pub mod IntakeLaws
+pub mod LastLineLaws
 pub mod OneGameLaws

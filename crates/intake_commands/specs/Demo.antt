@@ -7,9 +7,10 @@ use Rattle.demo_games.specs.Demo.{Made, demo_game}
 use Rattle.game_filter.specs.declared.op.Op.TheVariants.{Ignore}
 use Rattle.game_tree.specs.Replay.{plies_of}
 use Rattle.sig_index.specs.declared.pos_query.PosQuery.{PosQuery}
-use Rattle.search_commands.specs.Searching.{exactly, search_position_after, search_position_text, search_position_work}
+use Rattle.search_commands.specs.Searching.{search_position_after, search_position_text, search_position_work}
 use Rattle.search_commands.specs.Trees.{tree_said, tree_work}
 use Rattle.shell_state.specs.Refusing.{not_added, refusal_line}
+use Rattle.shell_state.specs.Slots.{exactly}
 use Rattle.shell_state.specs.State.{State, with_game}
 use Rattle.shell_state.specs.Work.{writing, Work, price}
 use Rattle.shell_state.specs.Work.Price.{by_state}

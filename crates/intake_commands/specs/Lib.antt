@@ -3,3 +3,4 @@ pub mod Demoing
 pub mod Ends
 pub mod Importing
 pub mod Intakes
+pub mod LastLine

@@ -41,7 +41,7 @@ pub fn demo<F: Files, K: Sink>(
     requires sound { Sound machine.old (F.seen files.old) }
     ensures serves { (s : State) → Stands machine.old (F.seen files.old) s → Serves works (Stands machine.new (F.seen files.new)) Broken s (demo_work seed games) (K.taken out.old) (K.taken out.new) result }
     ensures sound { OnOk result (Sound machine.new (F.seen files.new)) }
-    ensures carries { (s : State) → Stands machine.old (F.seen files.old) s → IfErr result (λ _. StillCarry (F.seen files.new) s None) }
+    ensures carries { (s : State) → Stands machine.old (F.seen files.old) s → StillCarry (F.seen files.new) s None }
     ensures choices { (F.seen files.new).choices ≡ (F.seen files.old).choices }
     ensures asks { (s : State) → Stands machine.old (F.seen files.old) s → F.asked files.new ≤ F.asked files.old + demo_price s seed games }
     ensures none_lost { NoneLost (K.taken out.old) (K.taken out.new) }

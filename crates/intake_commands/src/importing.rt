@@ -10,6 +10,7 @@ ghost use Rattle.pgn_read.specs.declared.item.Item.TheVariants as item;
 ghost use Rattle.intake_commands.specs.Ends.{unread_halt};
 ghost use Rattle.intake_commands.specs.Importing.{Intake, intake, item_after, item_text, next_number, import_work};
 ghost use Rattle.intake_commands.specs.Intakes.{Counted, StandsLater, TakesIn, TookIn, TookNext};
+ghost use Rattle.intake_commands.specs.LastLine.{ServesBut};
 ghost use Rattle.shell_state.specs.Carrying.{StillCarry};
 ghost use Rattle.shell_state.specs.Ends.{IsDevice, IsFault, IsOutput};
 ghost use Rattle.shell_state.specs.Stands.{Stands, Sound, WhyHalt, Broken};
@@ -23,18 +24,18 @@ use pgn_read::{Item, PgnError, Reader};
 use shell_state::{Halt, Machine, game_line, write_line};
 use std::alloc::Global;
 
-/// import <<WORD
+/// import <<WORD: takes the games of a body in, and gives the last line of its text, which is not written yet.
 pub fn import<F: Files, B: Source, K: Sink>(
     alloc: Global,
     machine: &mut Machine,
     files: &mut F,
     body: &mut B,
     out: &mut K,
-) -> Result<(), Halt>
+) -> Result<Vec<u8>, Halt>
     requires sound { Sound machine.old (F.seen files.old) }
-    ensures serves { (s : State) (text : List ℕ) → Stands machine.old (F.seen files.old) s → B.left body.old ≡ Some text → Serves works (Stands machine.new (F.seen files.new)) Broken s (import_work text) (K.taken out.old) (K.taken out.new) result }
+    ensures serves { (s : State) (text : List ℕ) → Stands machine.old (F.seen files.old) s → B.left body.old ≡ Some text → ServesBut works (Stands machine.new (F.seen files.new)) Broken s (import_work text) (K.taken out.old) (K.taken out.new) result }
     ensures sound { OnOk result (Sound machine.new (F.seen files.new)) }
-    ensures carries { (s : State) → Stands machine.old (F.seen files.old) s → IfErr result (λ _. StillCarry (F.seen files.new) s None) }
+    ensures carries { (s : State) → Stands machine.old (F.seen files.old) s → StillCarry (F.seen files.new) s None }
     ensures choices { (F.seen files.new).choices ≡ (F.seen files.old).choices }
     ensures none_asked { F.asked files.new ≡ F.asked files.old }
     ensures same { B.origin body.new ≡ B.origin body.old }
@@ -45,8 +46,7 @@ pub fn import<F: Files, B: Source, K: Sink>(
         Ok(counts) => counts,
         Err(halt) => return Err(halt),
     };
-    let line = imported_line(alloc, added, refused)?;
-    write_line(out, line.as_slice())
+    Ok(imported_line(alloc, added, refused)?)
 }
 
 // Takes the items of the body in, and says how many games were added and how many items refused.

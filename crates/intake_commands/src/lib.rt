@@ -8,4 +8,4 @@ mod replacing;
 
 pub use demoing::demo;
 pub use importing::import;
-pub use replacing::replace;
+pub use replacing::replace_line;

@@ -1,29 +1,27 @@
 //! The command that puts the game of a body in the place of another one.
-ghost use Rattle.std.specs.Prelude.{◌≡◌, ◌<◌, ℕ, List, [], ◌∷◌, length, None, Some, Ok, IfOk, IfErr, IfSome, OnOk};
+ghost use Rattle.std.specs.Prelude.{◌≡◌, ◌<◌, ℕ, List, [], ◌∷◌, length, None, Some, IfOk, IfErr, IfSome, OnOk};
 ghost use Rattle.command_runs.specs.Counts.{Causes, counts};
-ghost use Rattle.command_runs.specs.Endings.{NoneLost, Serves};
 ghost use Rattle.pgn_read.specs.Fit.{IsFitGame};
 ghost use Rattle.pgn_read.specs.Items.{AreItems, items_of};
 ghost use Rattle.pgn_read.specs.Readers.{told};
 ghost use Rattle.pgn_read.specs.Text.{At};
 ghost use Rattle.pgn_read.specs.declared.item.Item.{Item as PlainItem};
 ghost use Rattle.pgn_read.specs.declared.item.Item.TheVariants as item;
-ghost use Rattle.intake_commands.specs.Importing.{line_with, replace_after, replace_text, state_with, the_one, replace_work};
+ghost use Rattle.intake_commands.specs.Importing.{line_with, replace_after, replace_text, state_with, the_one};
 ghost use Rattle.intake_commands.specs.Intakes.{IsFitOnly, IsOnly, IsRest};
 ghost use Rattle.shell_state.specs.Carrying.{StillCarry};
 ghost use Rattle.shell_state.specs.Ends.{IsDevice, IsBodyFault};
-ghost use Rattle.shell_state.specs.Stands.{Stands, Sound, WhyHalt, Broken};
+ghost use Rattle.shell_state.specs.Stands.{Stands, Sound, WhyHalt};
 ghost use Rattle.shell_state.specs.State.{State};
-ghost use Rattle.shell_state.specs.Work.{works};
 
 use crate::importing::unread;
 use crate::item_lines::faulty_line;
-use base_files::{Files, Sink, Source, Stop};
+use base_files::{Files, Source, Stop};
 use filter_seat::put_at_start;
 use game_tree::{Game, Head};
 use pgn_read::{GameFault, Item, Reader};
 use shell_state::{
-    Halt, Machine, game_line, line_of, no_game_line, refused_line, replace_in_index, write_line,
+    Halt, Machine, game_line, hits_of, line_of, no_game_line, refused_line, replace_in_index,
 };
 use std::alloc::Global;
 
@@ -37,33 +35,8 @@ enum Only {
     Faulty(u64, GameFault),
 }
 
-/// replace G <<WORD
-pub fn replace<F: Files, B: Source, K: Sink>(
-    alloc: Global,
-    machine: &mut Machine,
-    files: &mut F,
-    body: &mut B,
-    out: &mut K,
-    number: u64,
-) -> Result<(), Halt>
-    requires sound { Sound machine.old (F.seen files.old) }
-    ensures serves { (s : State) (text : List ℕ) → Stands machine.old (F.seen files.old) s → B.left body.old ≡ Some text → Serves works (Stands machine.new (F.seen files.new)) Broken s (replace_work number text) (K.taken out.old) (K.taken out.new) result }
-    ensures sound { OnOk result (Sound machine.new (F.seen files.new)) }
-    ensures carries { (s : State) → Stands machine.old (F.seen files.old) s → IfErr result (λ _. StillCarry (F.seen files.new) s None) }
-    ensures choices { (F.seen files.new).choices ≡ (F.seen files.old).choices }
-    ensures none_asked { F.asked files.new ≡ F.asked files.old }
-    ensures same { B.origin body.new ≡ B.origin body.old }
-    ensures none_lost { NoneLost (K.taken out.old) (K.taken out.new) }
-    ensures causes { Causes WhyHalt result (counts (F.faults files.old) (B.faults body.old) (K.faults out.old)) (counts (F.faults files.new) (B.faults body.new) (K.faults out.new)) }
-{
-    match replace_number(alloc, machine, files, body, number) {
-        Ok(line) => write_line(out, line.as_slice()),
-        Err(halt) => Err(halt),
-    }
-}
-
-// Puts the game of the body in the place of the game of this number, where there is one, and gives the line for it.
-fn replace_number<F: Files, B: Source>(
+/// replace G <<WORD, with the line for it given and not written.
+pub fn replace_line<F: Files, B: Source>(
     alloc: Global,
     machine: &mut Machine,
     files: &mut F,
@@ -146,6 +119,9 @@ fn put_game<F: Files>(
                 i,
             );
             replace_in_index(alloc, &mut machine.index, i, game)?;
+            let is_in = machine.seat.filter.get(i).is_some();
+            let hits = hits_of(&machine.slots, head, game);
+            machine.slots.set_game(alloc, i, &hits, is_in)?;
             Ok(game_line(alloc, b"replaced ", u64::from(i))?)
         }
         Err(error) => refused_line(alloc, error),

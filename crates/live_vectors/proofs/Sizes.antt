@@ -1,12 +1,12 @@
 -- How many games each watch has, after each change.
-use Rattle.std.proofs.Common.{◌≡◌, ◌+◌, ◌≤◌, ◌<◌, ℕ, zero, suc, Bool, true, false, cond, List, [], ◌∷◌, ◌++◌, Option, None, Some, length, length-append, get_or, set, map, nat_lt, replicate, option_map, Result, Ok, Err, OnOk, refl, sym, ap, ◌∙◌, subst, arith}
+use Rattle.std.proofs.Common.{◌≡◌, ◌+◌, ◌≤◌, ◌<◌, ℕ, zero, suc, Bool, true, false, cond, List, [], ◌∷◌, ◌++◌, Option, None, Some, length, length-append, set, nat_lt, option_map, Result, Ok, Err, OnOk, refl, sym, ap, ◌∙◌, subst, arith}
 use Rattle.std.specs.Prelude.{IfSome}
 use Rattle.std.proofs.lemmas.List.{length-set}
 use Rattle.std.proofs.lemmas.Bool.{ltb-false, ltb-true}
 use Rattle.game_filter.specs.Renumbering.{Rises, renumbered}
 use Rattle.tree_rows.specs.declared.row.Row.{Row}
 use Rattle.tree_live.specs.declared.entry.Entry.{Entry}
-use Rattle.tree_live.specs.Slots.{AreChanged, AreShown, EachWatch, IsShown, Slotted, in_slot}
+use Rattle.tree_live.specs.Slots.{AreChanged, AreShown, EachWatch, Slotted, in_slot}
 use Rattle.tree_live.specs.Watching.{Watched, all_out, under, with_game}
 use Rattle.tree_rows.specs.declared.hit.GameHit.{GameHit}
 use Rattle.live_vectors.specs.Standing.{AreStanding}

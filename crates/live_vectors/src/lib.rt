@@ -2,6 +2,10 @@
 #![tactic(auto)]
 
 #[cfg(test)]
+mod later;
+#[cfg(test)]
+mod later_tests;
+#[cfg(test)]
 mod slot_tests;
 #[cfg(test)]
 mod standing;

@@ -13,7 +13,7 @@ use tree_live::{Slots, TableView, TreeView};
 use tree_rows::GameHit;
 
 /// What a view shows: how many rows, how many games they count, and how many changes it was told.
-type Shown = (usize, u32, u64);
+pub(crate) type Shown = (usize, u32, u64);
 
 // What the views of slots 0 and 2 show after each change, counted by hand: both are watched, with a game that goes on with e4, one that
 // goes on with d4 and one that never stands there; the first goes out and in again; a game with e4 comes in, for slot 0 alone; the first
@@ -27,7 +27,7 @@ const STAGES: [[Shown; 2]; 6] = [
     [(2, 2, 9), (1, 1, 8)],
 ];
 
-fn shown(view: &Option<Box<dyn TreeView>>) -> Shown {
+pub(crate) fn shown(view: &Option<Box<dyn TreeView>>) -> Shown {
     match view {
         None => (0, 0, 0),
         Some(view) => {
@@ -47,7 +47,7 @@ fn both(rt: &impl Abort, views: &[Option<Box<dyn TreeView>>]) -> [Shown; 2] {
 }
 
 // Watches the empty board in a slot.
-fn watch_one(
+pub(crate) fn watch_one(
     rt: &impl Abort,
     alloc: Global,
     slots: &mut Slots,
@@ -85,7 +85,7 @@ fn filtered(
 }
 
 // The hits of a game in slots 0 and 2.
-fn in_slots(zero: Option<GameHit>, two: Option<GameHit>) -> [Option<GameHit>; 8] {
+pub(crate) fn in_slots(zero: Option<GameHit>, two: Option<GameHit>) -> [Option<GameHit>; 8] {
     [zero, None, two, None, None, None, None, None]
 }
 

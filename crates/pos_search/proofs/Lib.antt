@@ -6,3 +6,4 @@ pub mod SearchLemmas
 pub mod FirstLemmas
 pub mod AsideLemmas
 pub mod TellingLemmas
+pub mod InMemoryLemmas

@@ -3,3 +3,4 @@ pub mod Passing
 pub mod Sought
 pub mod Searching
 pub mod Telling
+pub mod InMemory

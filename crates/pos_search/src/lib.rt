@@ -2,12 +2,14 @@
 #![tactic(auto)]
 
 mod boards;
+mod in_memory;
 mod laws;
 mod matching;
 mod searching;
 mod telling;
 mod walking;
 
+pub use in_memory::next_in;
 pub use laws::{first_plies_are_first, index_tells_hits, tests_are_sound};
 pub use matching::{Sought, passes};
 pub use searching::{hit, hit_sought, search};

@@ -34,7 +34,7 @@ quiet_cross old event line fits written = record {
       written ∙ (ap (cross_of event) (heads-are old.kept st.games s.shared.base st.base)
       ∙ same_text event (map (λ (g : Held). without_tags g.head) s.shared.base.games) (map (λ (g : Held). g.head) s.shared.base.games) (same_games event s.shared.base.games));
   fits = fits;
-  index = λ fits. fits;
+  tables = λ fits. fits;
   base = λ sound. sound;
   end = refl;
 }

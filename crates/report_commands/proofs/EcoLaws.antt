@@ -15,16 +15,18 @@ use Rattle.base_files.specs.declared.faults.Stop.TheVariants as stop
 use Rattle.eco_class.specs.Table.{Opening, eco_of}
 use Rattle.game_tree.specs.Game.{GameTree}
 use Rattle.name_base.specs.NameLists.{NameLists}
-use Rattle.pos_index.specs.Hits.{Index}
 use Rattle.sig_index.specs.Games.{extent_in}
+use Rattle.sig_index.specs.declared.pos_query.PosQuery.{PosQuery}
 use Rattle.filter_seat.specs.declared.saved.SavedFilter.{SavedFilter}
 use Rattle.report_commands.specs.Classifying.{with_code, classified_by, codes_of}
 use Rattle.report_commands.specs.Ends.{coded, AreCoded, IsCoded}
 use Rattle.shell_state.proofs.EditedLaws.{same_count, fits_count}
 use Rattle.shell_state.proofs.Quietly.{held_by}
+use Rattle.shell_state.proofs.TableLaws.{hits_on, tables_are}
 use Rattle.shell_state.specs.Carrying.{AreBeside}
 use Rattle.shell_state.specs.Ends.{IsDevice, IsBodyFault}
-use Rattle.shell_state.specs.Stands.{Stands, Fits, index_of}
+use Rattle.shell_state.specs.Slots.{hit_of_game}
+use Rattle.shell_state.specs.Stands.{Stands, Fits, Tables, index_of}
 use Rattle.shell_state.specs.State.{Carried, State}
 use Rattle.shell_state.specs.declared.halt.Halt.{Halt}
 use Rattle.shell_state.specs.declared.halt.Halt.TheVariants as halt
@@ -146,9 +148,19 @@ classified_games table [] = refl
 classified_games table (held ∷ games) =
     ap₂ (λ (g : GameTree) (later : List GameTree). g ∷ later) (code_game (eco_of table held.game) held) (classified_games table games)
 
-pub coded_stands : (table : List Opening) (codes : List (Option ℕ)) (old new : Kept) (index : Option Index) (filter : List (Option ℕ)) (saved : List SavedFilter) (seen : Seen) (s : State)
-    → codes ≡ codes_of table s → AreCoded codes old new → Stands (held_by old index filter saved) seen s → Stands (held_by new index filter saved) seen (classified_by s table)
-coded_stands table codes old new index filter saved seen s are coded_are st =
+-- And trees count of it what they did.
+code_hit : (query : PosQuery) (code : Option ℕ) (held : Held) → hit_of_game query (with_code code held) ≡ hit_of_game query held
+code_hit query None held = refl
+code_hit query (Some code) held = refl
+
+classified_hits : (table : List Opening) (query : PosQuery) (games : List Held) → hits_on query (map (λ (held : Held). with_code (eco_of table held.game) held) games) ≡ hits_on query games
+classified_hits table query [] = refl
+classified_hits table query (held ∷ games) =
+    ap₂ (λ (hit : Option _) (later : List (Option _)). hit ∷ later) (code_hit query (eco_of table held.game) held) (classified_hits table query games)
+
+pub coded_stands : (table : List Opening) (codes : List (Option ℕ)) (old new : Kept) (tables : Tables) (filter : List (Option ℕ)) (saved : List SavedFilter) (seen : Seen) (s : State)
+    → codes ≡ codes_of table s → AreCoded codes old new → Stands (held_by old tables filter saved) seen s → Stands (held_by new tables filter saved) seen (classified_by s table)
+coded_stands table codes old new tables filter saved seen s are coded_are st =
     let all = ap (λ (found : List (Option ℕ)). coded found s.shared.base.games) are ∙ all_coded table s.shared.base.games in
     record {
       games = st.games;
@@ -157,11 +169,13 @@ coded_stands table codes old new index filter saved seen s are coded_are st =
       seat = st.seat;
       unsaved = coded_are.unsaved ∙ ap₂ (λ (found : List (Option ℕ)) (rest : Bool). list_any is_some found || rest) are st.unsaved;
       carried = beside_coded old new seen (list_any is_some (codes_of table s)) s.shared.unsaved s.shared.carried coded_are.names st.carried;
-      index = st.index ∙ ap (λ (games : List GameTree). option_map (index_of games) s.shared.index) (sym (classified_games table s.shared.base.games));
+      tables = tables_are tables s.shared.index s.slots s.shared.base.games (map (λ (held : Held). with_code (eco_of table held.game) held) s.shared.base.games) st.tables
+          (ap (λ (games : List GameTree). option_map (index_of games) s.shared.index) (sym (classified_games table s.shared.base.games)))
+          (λ query. classified_hits table query s.shared.base.games);
     }
 
-pub coded_fits : (codes : List (Option ℕ)) (old new : Kept) (index : Option Index) (filter : List (Option ℕ)) (saved : List SavedFilter) → AreCoded codes old new → Fits (held_by old index filter saved) → Fits (held_by new index filter saved)
-coded_fits codes old new index filter saved are fits = fits_count old new index filter saved are.count fits
+pub coded_fits : (codes : List (Option ℕ)) (old new : Kept) (tables : Tables) (filter : List (Option ℕ)) (saved : List SavedFilter) → AreCoded codes old new → Fits (held_by old tables filter saved) → Fits (held_by new tables filter saved)
+coded_fits codes old new tables filter saved are fits = fits_count old new tables filter saved are.count fits
 
 -- ---- why it ends
 

@@ -1,11 +1,11 @@
 -- Laws of `twins`.
-use Rattle.std.proofs.Common.{◌≡◌, ◌+◌, ℕ, List, [], ◌∷◌, ◌++◌, refl, ◌∙◌, sym, subst, filter, Option, ap, suc, length, map, sum_by, ap₂, inl, inr, arith, Some}
+use Rattle.std.proofs.Common.{◌≡◌, ◌+◌, ℕ, List, [], ◌∷◌, ◌++◌, refl, ◌∙◌, sym, subst, filter, Option, ap, suc, length, map, sum_by, ap₂, inl, inr, arith, Some, true}
 use Rattle.std.proofs.lemmas.Bool.{cases_Bool}
 use Rattle.std.proofs.lemmas.List.{length-map}
 use Rattle.std.proofs.lemmas.List.Sums.{sum_by-cons}
 use Rattle.std.specs.List.{range_with_len}
 use Rattle.base_core.proofs.GamesLaws.{heads-are}
-use Rattle.base_core.specs.Base.{Base}
+use Rattle.base_core.specs.Base.{Base, Held}
 use Rattle.base_core.specs.Edited.{ChangedHeads, Does}
 use Rattle.base_core.specs.Edits.{deleted}
 use Rattle.base_core.specs.Entries.{extent_of, head_of}
@@ -16,8 +16,9 @@ use Rattle.command_runs.specs.Counts.{counts}
 use Rattle.game_tree.specs.Game.{GameTree}
 use Rattle.game_tree.specs.declared.head.Head.{Head}
 use Rattle.index_entry.specs.declared.entry.Entry.{Entry}
-use Rattle.pos_index.specs.Hits.{Index, rows_told}
+use Rattle.pos_index.specs.Hits.{rows_told}
 use Rattle.sig_index.specs.Games.{extent_in, head_in, Holds}
+use Rattle.sig_index.specs.declared.pos_query.PosQuery.{PosQuery}
 use Rattle.sig_index.specs.declared.signature.Sig.{Sig}
 use Rattle.twin_games.specs.Asking.{is_shared, price}
 use Rattle.twin_games.specs.Causes.{HasTwinCause}
@@ -30,12 +31,13 @@ use Rattle.report_commands.specs.Ends.{Marked, halt_of_twins}
 use Rattle.report_commands.specs.Twins.{all_deleted, with_deleted, is_read, shared_len, found_twins, twins_price}
 use Rattle.shell_state.proofs.IndexLaws.{index_stays}
 use Rattle.shell_state.proofs.CarryLaws.{beside_edited}
-use Rattle.shell_state.proofs.EditedLaws.{fits_count, same_count, index_fits_count}
+use Rattle.shell_state.proofs.EditedLaws.{fits_count, same_count, tables_fit_count}
 use Rattle.shell_state.proofs.HoldingLaws.{fetch_device, fetch_why}
 use Rattle.shell_state.proofs.PriceLaws.{by_entries}
 use Rattle.shell_state.proofs.Quietly.{held_by}
+use Rattle.shell_state.proofs.TableLaws.{hits_changed_at, hits_on, tables_are}
 use Rattle.shell_state.specs.Ends.{IsDevice}
-use Rattle.shell_state.specs.Stands.{Stands, Fits, WhyHalt, looks_in, Holding, IndexFits}
+use Rattle.shell_state.specs.Stands.{Stands, Fits, WhyHalt, looks_in, Holding, Tables, TablesFit}
 use Rattle.shell_state.specs.State.{State, games_of}
 use Rattle.shell_state.specs.Work.{Look}
 
@@ -62,28 +64,40 @@ marked_more (first ∷ games) game old mid new marked does heads = (
   heads_join old mid new marked.1 heads,
 )
 
+-- Trees count of marked games what they did.
+deleted_hits : (query : PosQuery) (games : List ℕ) (base : Base) → hits_on query (all_deleted games base).games ≡ hits_on query base.games
+unfolding deleted
+deleted_hits query [] base = refl
+deleted_hits query (game ∷ games) base =
+    deleted_hits query games (deleted game base)
+    ∙ hits_changed_at query (λ (held : Held). record held { head = record held.head { deleted = true } }) game base.games (λ held. refl)
+
 -- Where the games are marked the machine stands for the state in which they are.
-pub deleted_stands : (games : List ℕ) (old new : Kept) (index : Option Index) (filter : List (Option ℕ)) (saved : List SavedFilter) (seen : Seen) (s : State)
-    → Marked games old new → Stands (held_by old index filter saved) seen s → Stands (held_by new index filter saved) seen (with_deleted s games)
-deleted_stands [] old new index filter saved seen s same st = subst (λ (k : Kept). Stands (held_by k index filter saved) seen s) (sym same) st
-deleted_stands (game ∷ games) old new index filter saved seen s marked st = record {
+pub deleted_stands : (games : List ℕ) (old new : Kept) (tables : Tables) (filter : List (Option ℕ)) (saved : List SavedFilter) (seen : Seen) (s : State)
+    → Marked games old new → Stands (held_by old tables filter saved) seen s → Stands (held_by new tables filter saved) seen (with_deleted s games)
+deleted_stands [] old new tables filter saved seen s same st = subst (λ (k : Kept). Stands (held_by k tables filter saved) seen s) (sym same) st
+deleted_stands (game ∷ games) old new tables filter saved seen s marked st = record {
   games = st.games;
   told = st.told;
   base = marked.0 st.games s.shared.base st.base;
   seat = st.seat;
   unsaved = marked.1.unsaved;
   carried = beside_edited old new seen s.shared.unsaved s.shared.carried marked.1.names st.carried;
-  index = index_stays old new st.games s.shared.base _ index s.shared.index st.base (marked.0 st.games s.shared.base st.base) marked.1.extents st.index;
+  tables =
+      let later = all_deleted (game ∷ games) s.shared.base in
+      tables_are tables s.shared.index s.slots s.shared.base.games later.games st.tables
+      (index_stays old new st.games s.shared.base later _ s.shared.index st.base (marked.0 st.games s.shared.base st.base) marked.1.extents refl)
+      (λ query. deleted_hits query (game ∷ games) s.shared.base);
 }
 
-pub marked_fits : (games : List ℕ) (old new : Kept) (index : Option Index) (filter : List (Option ℕ)) (saved : List SavedFilter) → Marked games old new → Fits (held_by old index filter saved) → Fits (held_by new index filter saved)
-marked_fits [] old new index filter saved same fits = subst (λ (k : Kept). Fits (held_by k index filter saved)) (sym same) fits
-marked_fits (game ∷ games) old new index filter saved marked fits = fits_count old new index filter saved (same_count old new marked.1) fits
+pub marked_fits : (games : List ℕ) (old new : Kept) (tables : Tables) (filter : List (Option ℕ)) (saved : List SavedFilter) → Marked games old new → Fits (held_by old tables filter saved) → Fits (held_by new tables filter saved)
+marked_fits [] old new tables filter saved same fits = subst (λ (k : Kept). Fits (held_by k tables filter saved)) (sym same) fits
+marked_fits (game ∷ games) old new tables filter saved marked fits = fits_count old new tables filter saved (same_count old new marked.1) fits
 
-pub marked_index_fits : (games : List ℕ) (old new : Kept) (index : Option Index) (filter : List (Option ℕ)) (saved : List SavedFilter) → Marked games old new
-    → IndexFits (held_by old index filter saved) → IndexFits (held_by new index filter saved)
-marked_index_fits [] old new index filter saved same fits = subst (λ (k : Kept). IndexFits (held_by k index filter saved)) (sym same) fits
-marked_index_fits (game ∷ games) old new index filter saved marked fits = index_fits_count old new index filter saved (same_count old new marked.1) fits
+pub marked_tables_fit : (games : List ℕ) (old new : Kept) (tables : Tables) (filter : List (Option ℕ)) (saved : List SavedFilter) → Marked games old new
+    → TablesFit (held_by old tables filter saved) → TablesFit (held_by new tables filter saved)
+marked_tables_fit [] old new tables filter saved same fits = subst (λ (k : Kept). TablesFit (held_by k tables filter saved)) (sym same) fits
+marked_tables_fit (game ∷ games) old new tables filter saved marked fits = tables_fit_count old new tables filter saved (same_count old new marked.1) fits
 
 pub marked_end : (games : List ℕ) (old new : Kept) → Marked games old new → new.end ≡ old.end
 marked_end [] old new same = ap (λ (k : Kept). k.end) same
@@ -127,7 +141,7 @@ twins-price kept =
 pub price_is : (holding : Holding) (plies : List (Option ℕ)) → price (heads_of holding.kept) (extents_of holding.kept) ≡ twins_price (looks_in holding) plies
 price_is holding plies =
     let kept = holding.kept in
-    let rows = rows_told holding.index in
+    let rows = rows_told holding.tables.index in
     twins-price kept
     ∙ ap₂ (λ (heads : List Head) (lens : List ℕ). shared_len heads heads lens)
     (sym (by_entries (λ (x : Look). x.head) kept.names (λ places e. refl) rows kept.entries))

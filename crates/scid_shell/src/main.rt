@@ -1,7 +1,7 @@
 //! `scid_shell [--create] [--strict] BASE`: runs the script on standard input over a Scid base, and writes its text on standard output.
 #![tactic(auto)]
 
-ghost use Rattle.std.specs.Prelude.{◌≡◌, ◌≢◌, MatchResult};
+ghost use Rattle.std.specs.Prelude.{◌≡◌, ◌≢◌, ◌≤◌, MatchResult, length};
 ghost use Rattle.base_files.specs.Causes.{output_stop};
 ghost use Rattle.shell_session.specs.Stops.{status_of};
 ghost use Rattle.shell_session.specs.declared.status.Status.TheVariants as done;
@@ -13,10 +13,12 @@ mod tests;
 use base_files::DeviceError;
 use messages::{HELP, VERSION, message};
 use shell_session::{Status, session};
+use std::alloc::AllocError;
 use std::io::ErrorKind;
 use std::process::ExitCode;
 use std::{env, io};
 use std_devices::{DiskFiles, StdSink, StdSource};
+use tree_live::{TableView, TreeView};
 use watched_devices::{ProgressLine, Watched};
 
 fn main(rt: HostRuntime) -> ExitCode {
@@ -40,7 +42,7 @@ fn answer(rt: &HostRuntime, words: &[String]) -> ExitCode {
     match words {
         [word] if word.as_str() == "--help" => end(rt, printed(print!(rt; "{HELP}"))),
         [word] if word.as_str() == "--version" => end(rt, printed(print!(rt; "{VERSION}"))),
-        _ => end(rt, run(rt, words)),
+        _ => end(rt, run(rt, words).unwrap_or(Status::Memory)),
     }
 }
 
@@ -54,13 +56,32 @@ fn printed(outcome: io::Result<()>) -> Status
     }
 }
 
+/// Runs the session over eight slots, each with a view in memory.
+fn run(rt: &HostRuntime, words: &[String]) -> Result<Status, AllocError> {
+    let mut views: Vec<Option<Box<dyn TreeView>>> = Vec::new(rt.alloc());
+    for _slot in 0..8u8 {
+        let view: Box<dyn TreeView> = Box::new(
+            rt.alloc(),
+            TableView::new(Vec::new(rt.alloc()), None),
+        )?;
+        views.push(Some(view))?;
+    }
+    Ok(run_over(rt, words, &mut views))
+}
+
 /// Runs the session over the real files and streams, and says how far it is.
-fn run(rt: &HostRuntime, words: &[String]) -> Status {
+fn run_over(
+    rt: &HostRuntime,
+    words: &[String],
+    views: &mut Vec<Option<Box<dyn TreeView>>>,
+) -> Status
+    requires few { length views.old.items ≤ 8 }
+{
     let line = ProgressLine::new(rt);
     let mut files = Watched::new(DiskFiles::new(rt.alloc(), rt), &line);
     let mut input = Watched::new(StdSource::new(rt.stdin()), &line);
     let mut out = Watched::new(StdSink::new(rt.stdout()), &line);
-    let status = session(rt.alloc(), words, &mut files, &mut input, &mut out);
+    let status = session(rt.alloc(), words, &mut files, &mut input, &mut out, views);
     files.into_device().close();
     let outcome = out.into_device().flush();
     line.clear();

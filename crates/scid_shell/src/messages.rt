@@ -44,6 +44,9 @@ nothing. Words stand between spaces and tabs; a quoted part keeps its spaces.
   show G             the game G in PGN
   export             the games of the filter in PGN
   tree BOARD SIDE    the moves that the games of the filter made from a board
+  watch K BOARD SIDE slot K, from 0 to 7, shows this tree from then on
+  view K             the tree that slot K shows
+  unwatch K          slot K shows nothing any more
   import <<WORD      adds the games of the lines of PGN behind this one, up to
                      a line WORD
   replace G <<WORD   puts the one game of those lines in the place of game G

@@ -6,7 +6,7 @@ use Rattle.chess_text.specs.Filling.{board_named}
 use Rattle.game_filter.specs.declared.op.Op.{Op}
 use Rattle.sig_index.specs.Queries.{any_head, any_material}
 use Rattle.script_text.specs.declared.command.Command.{Command}
-use Rattle.script_text.specs.declared.command.Command.TheVariants.{Nothing, Find, SearchPosition, SearchMaterial, SearchHeader, Reset, Clear, Negate, Restrict, Keep, Take, And, Or, Drop, Hits, List as Listing, Show, Export, Import, Replace, Eco, Tag, Delete, Undelete, Mark, Tree, Cross, Twins, Index, Save, Compact, Info, Demo, Quit}
+use Rattle.script_text.specs.declared.command.Command.TheVariants.{Nothing, Find, SearchPosition, SearchMaterial, SearchHeader, Reset, Clear, Negate, Restrict, Keep, Take, And, Or, Drop, Hits, List as Listing, Show, Export, Import, Replace, Eco, Tag, Delete, Undelete, Mark, Tree, Watch, View, Unwatch, Cross, Twins, Index, Save, Compact, Info, Demo, Quit}
 use Rattle.script_text.specs.declared.fault.ScriptFault.{ScriptFault}
 use Rattle.script_text.specs.declared.fault.ScriptFault.TheVariants.{TooLong, Unknown}
 use Rattle.script_text.specs.declared.forms.SearchKind.{SearchKind}
@@ -122,6 +122,9 @@ searching name words =
     if bytes_eq name (codes "find") then made (λ given. Find given.0 given.1) (two board_named side words)
     else if bytes_eq name (codes "search") then search words
     else if bytes_eq name (codes "tree") then made (λ given. Tree given.0 given.1) (two board_named side words)
+    else if bytes_eq name (codes "watch") then made (λ given. Watch given.0 given.1 given.2) (three number board_named side words)
+    else if bytes_eq name (codes "view") then made View (one number words)
+    else if bytes_eq name (codes "unwatch") then made Unwatch (one number words)
     else filtering name words
 
 -- ---- lines

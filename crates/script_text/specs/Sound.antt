@@ -5,7 +5,7 @@ use Rattle.sig_index.specs.declared.head_query.HeadQuery.{HeadQuery}
 use Rattle.sig_index.specs.declared.mat_query.MatQuery.{MatQuery}
 use Rattle.script_text.specs.declared.command.Command.{Command}
 use Rattle.script_text.specs.declared.fault.ScriptFault.{ScriptFault}
-use Rattle.script_text.specs.declared.command.Command.TheVariants.{Nothing, Find, SearchPosition, SearchMaterial, SearchHeader, Reset, Clear, Negate, Restrict, Keep, Take, And, Or, Drop, Hits, List as Listing, Show, Export, Import, Replace, Eco, Tag, Delete, Undelete, Mark, Tree, Cross, Twins, Index, Save, Compact, Info, Demo, Quit}
+use Rattle.script_text.specs.declared.command.Command.TheVariants.{Nothing, Find, SearchPosition, SearchMaterial, SearchHeader, Reset, Clear, Negate, Restrict, Keep, Take, And, Or, Drop, Hits, List as Listing, Show, Export, Import, Replace, Eco, Tag, Delete, Undelete, Mark, Tree, Watch, View, Unwatch, Cross, Twins, Index, Save, Compact, Info, Demo, Quit}
 
 -- A mark that is asked for is one of the 18 bits.
 abbrev pub IsHeadQuery : HeadQuery → Type 0
@@ -49,6 +49,9 @@ IsSound Export = Unit {0}
 IsSound (Delete game) = Unit {0}
 IsSound (Undelete game) = Unit {0}
 IsSound (Tree board side) = Unit {0}
+IsSound (Watch slot board side) = Unit {0}
+IsSound (View slot) = Unit {0}
+IsSound (Unwatch slot) = Unit {0}
 IsSound (Cross event) = Unit {0}
 IsSound (Twins depth) = Unit {0}
 IsSound Save = Unit {0}

@@ -54,6 +54,18 @@ pub(crate) fn board_and_side(words: &[Word]) -> Result<(Board, Colour), ScriptFa
     Ok((board, side))
 }
 
+/// K BOARD SIDE
+#[tactic(auto, unfolding(crate::specs::Arguments::three))]
+pub(crate) fn slot_board_and_side(words: &[Word]) -> Result<(u64, Board, Colour), ScriptFault>
+    ensures { result ≡ three number board_named side words.now }
+{
+    let slot = number(text_at(words, 1)?).ok_or(ScriptFault::Argument(1))?;
+    let board = board(text_at(words, 2)?).ok_or(ScriptFault::Argument(2))?;
+    let side = side(text_at(words, 3)?).ok_or(ScriptFault::Argument(3))?;
+    no_more(words, 3)?;
+    Ok((slot, board, side))
+}
+
 /// One number.
 #[tactic(auto, unfolding(crate::specs::Arguments::one))]
 pub(crate) fn one_number(words: &[Word]) -> Result<u64, ScriptFault>

@@ -59,6 +59,12 @@ pub enum Command {
     Mark(u64, u8, bool),
     /// `tree BOARD SIDE`
     Tree(Board, Colour),
+    /// `watch K BOARD SIDE`
+    Watch(u64, Board, Colour),
+    /// `view K`
+    View(u64),
+    /// `unwatch K`
+    Unwatch(u64),
     /// `cross EVENT`
     Cross(Text),
     /// `twins D`, D at most 131,071.

@@ -9,7 +9,7 @@ ghost use Rattle.script_text.specs.declared.fault.CommandError.TheVariants.{Memo
 
 use crate::arguments::{
     board_and_side, demo_arguments, mark_arguments, no_more, number_and_body, one_body, one_depth,
-    one_index, one_name, one_number, one_text, text_at, two_numbers,
+    one_index, one_name, one_number, one_text, slot_board_and_side, text_at, two_numbers,
 };
 use crate::command::Command;
 use crate::fault::{CommandError, ScriptFault};
@@ -89,7 +89,7 @@ fn search(alloc: Global, words: &[Word]) -> Result<Command, CommandError>
     }
 }
 
-// Commands that look for positions.
+// Commands that look for positions, and those of watched trees.
 #[tactic(auto, unfolding(crate::specs::Reading::searching))]
 fn searching(alloc: Global, name: &[u8], words: &[Word]) -> Result<Command, CommandError>
     requires { length words.now < 4294967290 }
@@ -106,6 +106,16 @@ fn searching(alloc: Global, name: &[u8], words: &[Word]) -> Result<Command, Comm
     if name == b"tree".as_slice() {
         let (board, side) = board_and_side(words)?;
         return Ok(Command::Tree(board, side));
+    }
+    if name == b"watch".as_slice() {
+        let (slot, board, side) = slot_board_and_side(words)?;
+        return Ok(Command::Watch(slot, board, side));
+    }
+    if name == b"view".as_slice() {
+        return Ok(Command::View(one_number(words)?));
+    }
+    if name == b"unwatch".as_slice() {
+        return Ok(Command::Unwatch(one_number(words)?));
     }
     filtering(alloc, name, words)
 }

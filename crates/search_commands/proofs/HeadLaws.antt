@@ -17,11 +17,10 @@ use Rattle.index_entry.specs.declared.entry.Entry.{Entry}
 use Rattle.name_base.specs.NameLists.{NameLists}
 use Rattle.sig_index.specs.declared.head_query.HeadQuery.{HeadQuery}
 use Rattle.filter_seat.specs.declared.saved.SavedFilter.{SavedFilter}
-use Rattle.pos_index.specs.Hits.{Index}
 use Rattle.search_commands.specs.Searching.{first_by_head, search_header_work}
 use Rattle.shell_state.proofs.Quietly.{filter_is, held_by, Plies, fits_by, saved_is, seats_are}
 use Rattle.shell_state.specs.Lines.{filter_line}
-use Rattle.shell_state.specs.Stands.{Stands, Fits, Quiet}
+use Rattle.shell_state.specs.Stands.{Stands, Fits, Quiet, Tables}
 use Rattle.shell_state.specs.State.{State}
 
 -- No item of a query looks at the tags.
@@ -50,22 +49,22 @@ firsts-are query kept told base is =
     ∙ firsts-each query kept.names told kept.entries base.games is.count is.each
 
 -- `search OP header`: the filter after it, and its line.
-pub quiet_heads : (kept : Kept) (index : Option Index) (filter later : Plies) (saved : List SavedFilter) (op : Op) (query : HeadQuery) (line : List ℕ)
-    → later ≡ searched op (firsts_of query (heads_of kept) (sigs_of kept)) filter → line ≡ filter_line later → Fits (held_by kept index filter saved)
-    → Quiet (held_by kept index filter saved) (search_header_work op query) (held_by kept index later saved) line
-quiet_heads kept index filter later saved op query line found written fits =
+pub quiet_heads : (kept : Kept) (tables : Tables) (filter later : Plies) (saved : List SavedFilter) (op : Op) (query : HeadQuery) (line : List ℕ)
+    → later ≡ searched op (firsts_of query (heads_of kept) (sigs_of kept)) filter → line ≡ filter_line later → Fits (held_by kept tables filter saved)
+    → Quiet (held_by kept tables filter saved) (search_header_work op query) (held_by kept tables later saved) line
+quiet_heads kept tables filter later saved op query line found written fits =
     let after : (s : State) (told : List ℕ) → Represents kept told s.shared.base → filter ≡ s.seat.filter → later ≡ searched op (map (first_by_head query) s.shared.base.games) s.seat.filter =
     λ s told is same.
     found ∙ ap (λ (firsts : Plies). searched op firsts filter) (firsts-are query kept told s.shared.base is)
     ∙ ap (λ (plies : Plies). searched op (map (first_by_head query) s.shared.base.games) plies) same in
     record {
-      stands = λ (seen : Seen) (s : State) (st : Stands (held_by kept index filter saved) seen s).
-          record { games = st.games; told = st.told; base = st.base; seat = seats_are (record { filter = later; saved = saved }) _ (after s st.games st.base (filter_is st)) (saved_is st); unsaved = st.unsaved; carried = st.carried; index = st.index };
-      text = λ (seen : Seen) (s : State) (st : Stands (held_by kept index filter saved) seen s).
+      stands = λ (seen : Seen) (s : State) (st : Stands (held_by kept tables filter saved) seen s).
+          record { games = st.games; told = st.told; base = st.base; seat = seats_are (record { filter = later; saved = saved }) _ (after s st.games st.base (filter_is st)) (saved_is st); unsaved = st.unsaved; carried = st.carried; tables = st.tables };
+      text = λ (seen : Seen) (s : State) (st : Stands (held_by kept tables filter saved) seen s).
           written ∙ ap (λ (plies : Plies). filter_line plies) (after s st.games st.base (filter_is st));
-      fits = fits_by (held_by kept index filter saved) (held_by kept index later saved) refl refl
+      fits = fits_by (held_by kept tables filter saved) (held_by kept tables later saved) refl refl
           (ap (λ (plies : Plies). length plies) found ∙ length-searched op (firsts_of query (heads_of kept) (sigs_of kept)) filter) fits;
-      index = λ is. is;
+      tables = λ is. is;
       base = λ is. is;
       end = refl;
     }

@@ -27,4 +27,4 @@ pub price_is : (op : Op) (query : MatQuery) (plies : Plies) (holding : Holding)
     → price op query (map sig_in holding.kept.entries) (map extent_of holding.kept.entries) plies ≡ material_len op query (looks_in holding) plies
 price_is op query plies holding =
     search-price op query plies holding.kept.entries
-    ∙ searched_looks (λ (s : Sig). passes s query) op plies holding.kept.names (rows_told holding.index) holding.kept.entries
+    ∙ searched_looks (λ (s : Sig). passes s query) op plies holding.kept.names (rows_told holding.tables.index) holding.kept.entries

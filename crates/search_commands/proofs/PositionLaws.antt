@@ -28,5 +28,5 @@ search-price op query (old ∷ plies) names (row ∷ rows) (e ∷ entries) =
 
 -- What the search asks is what the command costs.
 pub price_is : (op : Op) (query : PosQuery) (plies : List (Option ℕ)) (holding : Holding)
-    → price_by (cost_of op) (are_read query (rows_told holding.index) (map sig_in holding.kept.entries)) (map extent_of holding.kept.entries) plies ≡ position_len op query (looks_in holding) plies
-price_is op query plies holding = search-price op query plies holding.kept.names (rows_told holding.index) holding.kept.entries
+    → price_by (cost_of op) (are_read query (rows_told holding.tables.index) (map sig_in holding.kept.entries)) (map extent_of holding.kept.entries) plies ≡ position_len op query (looks_in holding) plies
+price_is op query plies holding = search-price op query plies holding.kept.names (rows_told holding.tables.index) holding.kept.entries

@@ -19,7 +19,8 @@ use Rattle.sig_index.specs.declared.pos_query.PosQuery.{PosQuery}
 use Rattle.tree_rows.specs.Hits.{hit_of}
 use Rattle.tree_rows.specs.MoveText.{IsKey}
 use Rattle.tree_rows.specs.declared.hit.GameHit.{GameHit}
-use Rattle.search_commands.specs.Trees.{hit_of_game, hit_if_in, listed_hit, tree_hits}
+use Rattle.search_commands.specs.Trees.{hit_if_in, listed_hit, tree_hits}
+use Rattle.shell_state.specs.Slots.{hit_of_game}
 
 -- The move after an exact match is a key of the tree.
 pub key-from : (query : PosQuery) (ply : ℕ) (next : Option Move) → query.mode ≡ Exact → IsLegalFrom query (Some (ply, next)) → IsKey query.board query.side next

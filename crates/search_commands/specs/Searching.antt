@@ -1,5 +1,5 @@
 -- The commands that search. This project's own.
-use Rattle.std.specs.Prelude.{ℕ, List, false, min, Option, map}
+use Rattle.std.specs.Prelude.{ℕ, List, min, Option, map}
 use Rattle.base_core.specs.Base.{Held}
 use Rattle.cell_core.specs.Board.{Men}
 use Rattle.cell_core.specs.declared.man.Colour.{Colour}
@@ -14,10 +14,10 @@ use Rattle.pos_search.specs.Matching as position
 use Rattle.pos_search.specs.Searching.{is_read}
 use Rattle.sig_index.specs.declared.head_query.HeadQuery.{HeadQuery}
 use Rattle.sig_index.specs.declared.mat_query.MatQuery.{MatQuery}
-use Rattle.sig_index.specs.declared.pos_query.Mode.TheVariants.{Exact}
 use Rattle.sig_index.specs.declared.pos_query.PosQuery.{PosQuery}
 use Rattle.shell_state.specs.Lines.{filter_line, hits_text}
 use Rattle.shell_state.specs.Passing.{searched_len}
+use Rattle.shell_state.specs.Slots.{exactly}
 use Rattle.shell_state.specs.State.{State, games_of, with_filter}
 use Rattle.shell_state.specs.Work.{Work, Look, quiet, reading}
 
@@ -29,9 +29,6 @@ abbrev pub search_position_text : State → Op → PosQuery → List ℕ
 search_position_text s op query = filter_line (search_position_after s op query).seat.filter
 
 -- find BOARD SIDE: a search of all main lines for the board on all squares.
-abbrev pub exactly : Men → Colour → PosQuery
-exactly board side = record { mode = Exact; board = board; side = side; vars = false }
-
 abbrev pub find_after : State → Men → Colour → State
 find_after s board side = search_position_after s Ignore (exactly board side)
 

@@ -1,25 +1,19 @@
 -- The command that writes the opening tree of the games that are in. This project's own.
-use Rattle.std.specs.Prelude.{ℕ, Option, List, option_map, Some, None, [], ◌∷◌, ◌++◌}
+use Rattle.std.specs.Prelude.{ℕ, Option, List, Some, None, [], ◌∷◌, ◌++◌}
 use Rattle.base_core.specs.Base.{Held}
 use Rattle.cell_core.specs.Board.{Men}
 use Rattle.cell_core.specs.declared.man.Colour.{Colour}
-use Rattle.cell_core.specs.declared.step.Move.{Move}
 use Rattle.game_filter.specs.declared.op.Op.TheVariants.{And}
-use Rattle.pos_search.specs.Matching as position
 use Rattle.sig_index.specs.declared.pos_query.PosQuery.{PosQuery}
-use Rattle.tree_rows.specs.Hits.{hit_of}
 use Rattle.tree_rows.specs.Rows.{rows_of}
 use Rattle.tree_rows.specs.TreeText.{tree_text}
 use Rattle.tree_rows.specs.declared.hit.GameHit.{GameHit}
-use Rattle.search_commands.specs.Searching.{exactly, position_len}
+use Rattle.search_commands.specs.Searching.{position_len}
+use Rattle.shell_state.specs.Slots.{exactly, hit_of_game}
 use Rattle.shell_state.specs.State.{State}
 use Rattle.shell_state.specs.Work.{Work, reading}
 
--- What a tree counts of a game: its first match with the move after it, where its main line meets the position.
-abbrev pub hit_of_game : PosQuery → Held → Option GameHit
-hit_of_game query held = option_map (λ (found : ℕ × Option Move). hit_of found.1 query.side held.head) (position.hit_of query held.game)
-
--- Of a game that is in; one that is out is not counted.
+-- What the tree counts of a game that is in; one that is out is not counted.
 abbrev pub hit_if_in : PosQuery → Option ℕ → Held → Option GameHit
 hit_if_in query (Some ply) held = hit_of_game query held
 hit_if_in query None held = None

@@ -38,19 +38,38 @@ pub fn search_material<F: Files, K: Sink>(
     ensures none_lost { NoneLost (K.taken out.old) (K.taken out.new) }
     ensures causes { Causes WhyHalt result (counts (F.faults files.old) 0 (K.faults out.old)) (counts (F.faults files.new) 0 (K.faults out.new)) }
 {
+    match material_games(machine, files, op, query) {
+        Ok(()) => {}
+        Err(halt) => return Err(halt),
+    }
+    write_filter(alloc, &machine.seat.filter, out)
+}
+
+/// The search of `search OP material`, which writes nothing.
+pub fn material_games<F: Files>(
+    machine: &mut Machine,
+    files: &mut F,
+    op: Op,
+    query: &MatQuery,
+) -> Result<(), Halt>
+    requires streak { 1 ≤ query.now.streak }
+    requires sound { Sound machine.old (F.seen files.old) }
+    ensures stands { (s : State) → Stands machine.old (F.seen files.old) s → OnOk result (Stands machine.new (F.seen files.new) ((search_material_work op query.now).after s)) }
+    ensures devices { (s : State) → Stands machine.old (F.seen files.old) s → IfErr result IsDevice }
+    ensures sound { OnOk result (Sound machine.new (F.seen files.new)) }
+    ensures unchanged { F.seen files.new ≡ F.seen files.old }
+    ensures asks { Asks machine.old (search_material_work op query.now) (F.asked files.old) (F.asked files.new) }
+    ensures causes { Causes WhyHalt result (counts (F.faults files.old) 0 0) (counts (F.faults files.new) 0 0) }
+{
     let block = machine.block.as_mut_slice();
-    match search_games(
+    search_games(
         &machine.base,
         query,
         op,
         &mut machine.seat.filter,
         files,
         block,
-    ) {
-        Ok(()) => {}
-        Err(halt) => return Err(halt),
-    }
-    write_filter(alloc, &machine.seat.filter, out)
+    )
 }
 
 // Leaves in the filter what its entries become by the search. The records of the games that can match are read into `block`.

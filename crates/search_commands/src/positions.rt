@@ -41,25 +41,34 @@ pub fn find<F: Files, K: Sink>(
     ensures none_lost { NoneLost (K.taken out.old) (K.taken out.new) }
     ensures causes { Causes WhyHalt result (counts (F.faults files.old) 0 (K.faults out.old)) (counts (F.faults files.new) 0 (K.faults out.new)) }
 {
+    match find_games(machine, files, board, side) {
+        Ok(()) => hits(machine, out),
+        Err(halt) => Err(halt),
+    }
+}
+
+/// The search of `find`, which writes nothing.
+pub fn find_games<F: Files>(
+    machine: &mut Machine,
+    files: &mut F,
+    board: &Board,
+    side: Colour,
+) -> Result<(), Halt>
+    requires sound { Sound machine.old (F.seen files.old) }
+    ensures stands { (s : State) → Stands machine.old (F.seen files.old) s → OnOk result (Stands machine.new (F.seen files.new) ((find_work board.now side).after s)) }
+    ensures devices { (s : State) → Stands machine.old (F.seen files.old) s → IfErr result IsDevice }
+    ensures sound { OnOk result (Sound machine.new (F.seen files.new)) }
+    ensures unchanged { F.seen files.new ≡ F.seen files.old }
+    ensures asks { Asks machine.old (find_work board.now side) (F.asked files.old) (F.asked files.new) }
+    ensures causes { Causes WhyHalt result (counts (F.faults files.old) 0 0) (counts (F.faults files.new) 0 0) }
+{
     let query = PosQuery {
         mode: Mode::Exact,
         board: *board,
         side,
         vars: false,
     };
-    let block = machine.block.as_mut_slice();
-    match search_games(
-        &machine.base,
-        &query,
-        Op::Ignore,
-        machine.index.as_ref(),
-        &mut machine.seat.filter,
-        files,
-        block,
-    ) {
-        Ok(()) => hits(machine, out),
-        Err(halt) => Err(halt),
-    }
+    position_games(machine, files, Op::Ignore, &query)
 }
 
 /// search OP position MODE BOARD SIDE, and the same with vars
@@ -79,8 +88,30 @@ pub fn search_position<F: Files, K: Sink>(
     ensures none_lost { NoneLost (K.taken out.old) (K.taken out.new) }
     ensures causes { Causes WhyHalt result (counts (F.faults files.old) 0 (K.faults out.old)) (counts (F.faults files.new) 0 (K.faults out.new)) }
 {
+    match position_games(machine, files, op, query) {
+        Ok(()) => {}
+        Err(halt) => return Err(halt),
+    }
+    write_filter(alloc, &machine.seat.filter, out)
+}
+
+/// The search of `search OP position`, which writes nothing.
+pub fn position_games<F: Files>(
+    machine: &mut Machine,
+    files: &mut F,
+    op: Op,
+    query: &PosQuery,
+) -> Result<(), Halt>
+    requires sound { Sound machine.old (F.seen files.old) }
+    ensures stands { (s : State) → Stands machine.old (F.seen files.old) s → OnOk result (Stands machine.new (F.seen files.new) ((search_position_work op query.now).after s)) }
+    ensures devices { (s : State) → Stands machine.old (F.seen files.old) s → IfErr result IsDevice }
+    ensures sound { OnOk result (Sound machine.new (F.seen files.new)) }
+    ensures unchanged { F.seen files.new ≡ F.seen files.old }
+    ensures asks { Asks machine.old (search_position_work op query.now) (F.asked files.old) (F.asked files.new) }
+    ensures causes { Causes WhyHalt result (counts (F.faults files.old) 0 0) (counts (F.faults files.new) 0 0) }
+{
     let block = machine.block.as_mut_slice();
-    match search_games(
+    search_games(
         &machine.base,
         query,
         op,
@@ -88,11 +119,7 @@ pub fn search_position<F: Files, K: Sink>(
         &mut machine.seat.filter,
         files,
         block,
-    ) {
-        Ok(()) => {}
-        Err(halt) => return Err(halt),
-    }
-    write_filter(alloc, &machine.seat.filter, out)
+    )
 }
 
 // Leaves in the filter what its entries become by the search. The records of the games that can match and that the index does not decide are

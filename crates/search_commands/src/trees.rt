@@ -1,7 +1,7 @@
 //! The command that writes the opening tree of the games that are in.
 ghost use Rattle.std.specs.Prelude.{◌≡◌, ◌≤◌, ◌<◌, ◌+◌, ◌++◌, ℕ, if◌then◌else◌, List, Option, Some, Ok, All, length, map, option_copied, slice_get, IfOk, IfErr, IfSome, OnOk};
 ghost use Rattle.base_core.specs.Base.{Base as PlainBase, Held};
-ghost use Rattle.base_core.specs.Represents.{IsSound, Represents, extents_of, heads_of, sigs_of};
+ghost use Rattle.base_core.specs.Represents.{IsSound, Represents, extents_of, sigs_of};
 ghost use Rattle.command_runs.specs.Counts.{Causes, counts};
 ghost use Rattle.command_runs.specs.Endings.{NoneLost, Serves};
 ghost use Rattle.game_filter.specs.declared.op.Op.TheVariants.{And};
@@ -9,25 +9,25 @@ ghost use Rattle.pos_index.specs.Hits.{Index, IndexesAll, Place, places_in, rows
 ghost use Rattle.pos_search.specs.Searching.{are_read, cost_of, is_read};
 ghost use Rattle.pos_search.specs.Telling.{AreLegalHits, hits_told};
 ghost use Rattle.sig_index.specs.Costs.{price_by};
-ghost use Rattle.sig_index.specs.Games.{extent_in, head_in};
+ghost use Rattle.sig_index.specs.Games.{extent_in};
 ghost use Rattle.sig_index.specs.declared.signature.Sig.{Sig};
 ghost use Rattle.sig_index.specs.declared.pos_query.Mode.TheVariants.{Exact};
-ghost use Rattle.tree_rows.specs.Hits.{hit_of};
 ghost use Rattle.tree_rows.specs.MoveText.{IsKey};
-ghost use Rattle.search_commands.specs.Trees.{hit_if_in, hit_of_game, hits_tree, listed_hit, tree_hits, tree_of, tree_work};
+ghost use Rattle.search_commands.specs.Trees.{hit_if_in, hits_tree, listed_hit, tree_hits, tree_of, tree_work};
 ghost use Rattle.shell_state.specs.Ends.{IsDevice};
+ghost use Rattle.shell_state.specs.Slots.{hit_of_game};
 ghost use Rattle.shell_state.specs.Stands.{Stands, Sound, Broken, WhyHalt, Asks};
 ghost use Rattle.shell_state.specs.State.{State};
 ghost use Rattle.shell_state.specs.Work.{works};
 
 use base_core::Base;
 use base_files::{Files, Sink, Stop};
-use cell_core::{Board, Colour, Move};
+use cell_core::{Board, Colour};
 use game_filter::Filter;
 use pos_index::{BoardHits, PosIndex};
 use pos_search::{Sought, hit_sought, hits_told};
-use shell_state::{Halt, Machine, write_line};
-use sig_index::{Games, Mode, PosQuery};
+use shell_state::{Halt, Machine, counted, write_line};
+use sig_index::{Mode, PosQuery};
 use std::alloc::{AllocError, Global};
 use tree_rows::{GameHit, Rows, lines};
 
@@ -196,8 +196,8 @@ fn add_hit<F: Files>(
     }
 }
 
-// The hit of a game, if it meets the position. Its record is read into `block` if it can and the index does not decide it.
-fn read_hit<F: Files>(
+/// The hit of a game, if it meets the position. Its record is read into `block` if it can and the index does not decide it.
+pub fn read_hit<F: Files>(
     base: &Base,
     i: u32,
     query: &Sought<'_>,
@@ -227,19 +227,4 @@ fn read_hit<F: Files>(
         Ok(None) => Ok(None),
         Err(error) => Err(Halt::from(error)),
     }
-}
-
-// What is counted of a game that goes on with this move behind the match, if with any. Of its head only that is read.
-fn counted(base: &Base, i: u32, next: Option<Move>, side: Colour) -> GameHit
-    requires there { i < length base.now.entries }
-    ensures counted { result ≡ hit_of next side (head_in (heads_of base.now) i) }
-{
-    GameHit::of(
-        next,
-        side,
-        base.outcome(i),
-        base.white_rating(i).value,
-        base.black_rating(i).value,
-        base.date(i).year,
-    )
 }

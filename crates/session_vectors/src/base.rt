@@ -1,7 +1,10 @@
 //! A base in memory, and runs over it of which calls fail.
+ghost use Rattle.std.specs.Prelude.{◌≤◌, length};
+
 use base_files::{MemFiles, MemSink, MemSource};
 use shell_session::{Status, session};
 use std::alloc::{AllocError, Global};
+use tree_live::{TableView, TreeView};
 
 /// The beginning of an index of version 400 up to the number of games: the magic, the version and the type.
 const HEAD: &[u8; 16] = b"Scid.si\0\x01\x90\0\0\0\0\0\0";
@@ -27,6 +30,20 @@ pub(crate) struct Run<'a> {
     pub strict: bool,
 }
 
+/// Edits over two games, which a slot and an index follow, that are saved, games that come in and are saved, a game that goes, an edit that is
+/// not saved, and a search of what lies behind the depth of the index.
+pub(crate) const EDITS: Run<'static> = Run {
+    script: b"watch 0 rnbqkbnr/pppppppp/8/8/8/8/PPPPPPPP/RNBQKBNR w\ntag 0 White A\nindex 20\nsave\nimport <<X\n1. e4 *\n\n1. d4 *\nX\nsave\n\
+delete 0\ncompact\ntag 0 White B\nfind rnbB1b1r/ppk2ppp/2p5/4q3/4n3/8/PPP2PPP/2KR1BNR b\n",
+    input: &[],
+    out: &[],
+    strict: false,
+};
+
+pub(crate) const EDITS_TEXT: &[u8] =
+    b"base 2 games 0 mended\nwatching 0\ntagged 0\nindex 20 42 entries\nsaved 2 games\n\
+added 2\nadded 3\nimported 2 refused 0\nsaved 4 games\ndeleted 0\ncompacted 4 to 3\ntagged 0\n0 21\nfilter 1 of 3\nunsaved\n";
+
 // The index of that game so many times.
 fn index(alloc: Global, games: u8) -> Result<Vec<u8>, AllocError> {
     let mut index = Vec::from_slice(alloc, HEAD)?;
@@ -48,12 +65,37 @@ pub(crate) fn files_of(alloc: Global, games: u8, fails: &[u64]) -> Result<MemFil
     ))
 }
 
-/// Runs a script over files, a byte a call of the source and the sink, and gives the status and what was written.
+/// Runs a script over files and no views, a byte a call of the source and the sink, and gives the status and what was written.
 pub(crate) fn run_over(
     alloc: Global,
     files: &mut MemFiles,
     run: &Run<'_>,
 ) -> Result<(Status, Vec<u8>), AllocError> {
+    let mut views = Vec::new(alloc);
+    run_over_views(alloc, files, run, &mut views)
+}
+
+/// The same over one view.
+pub(crate) fn run_over_a_view(
+    alloc: Global,
+    files: &mut MemFiles,
+    run: &Run<'_>,
+) -> Result<(Status, Vec<u8>), AllocError> {
+    let mut views: Vec<Option<Box<dyn TreeView>>> = Vec::new(alloc);
+    let view: Box<dyn TreeView> = Box::new(alloc, TableView::new(Vec::new(alloc), None))?;
+    views.push(Some(view))?;
+    run_over_views(alloc, files, run, &mut views)
+}
+
+/// The same over these views.
+pub(crate) fn run_over_views(
+    alloc: Global,
+    files: &mut MemFiles,
+    run: &Run<'_>,
+    views: &mut Vec<Option<Box<dyn TreeView>>>,
+) -> Result<(Status, Vec<u8>), AllocError>
+    requires few { length views.old.items ≤ 8 }
+{
     let mut words = Vec::new(alloc);
     words.push(String::from_str(alloc, "base")?)?;
     if run.strict {
@@ -62,6 +104,6 @@ pub(crate) fn run_over(
     let input = Vec::from_slice(alloc, run.input)?;
     let mut input = MemSource::new(Vec::from_slice(alloc, run.script)?, 1, input);
     let mut out = MemSink::new(Vec::new(alloc), 1, Vec::from_slice(alloc, run.out)?);
-    let status = session(alloc, words.as_slice(), files, &mut input, &mut out);
+    let status = session(alloc, words.as_slice(), files, &mut input, &mut out, views);
     Ok((status, Vec::from_slice(alloc, out.taken())?))
 }

@@ -1,46 +1,40 @@
-//! Files that fail at each call of a script of edits, or in the middle of an export, and a record that changes before a compaction.
-use super::base::{Run, files_of, run_over};
+//! Files that fail at each call of a script of edits, or in the midst of a command, and a record that changes behind the opening.
+use super::base::{EDITS, EDITS_TEXT, Run, files_of, run_over, run_over_a_view};
 use base_files::{MemFiles, Swap};
 use shell_session::Status;
 use std::alloc::{AllocError, Global};
 use std::test::Fail;
 
-/// Edits that are saved, games that come in and are saved, a game that goes, and an edit that is not saved.
-const EDITS: Run<'static> = Run {
-    script: b"tag 0 White A\nsave\nimport <<X\n1. e4 *\n\n1. d4 *\nX\nsave\ndelete 0\ncompact\ntag 0 White B\nfind rnbqkbnr/pppppppp/8/8/4P3/8/PPPP1PPP/RNBQKBNR b\n",
-    input: &[],
-    out: &[],
-    strict: false,
-};
-
-const EDITS_TEXT: &[u8] =
-    b"base 1 games 0 mended\ntagged 0\nsaved 1 games\nadded 1\nadded 2\nimported 2 refused 0\nsaved 3 games\ndeleted 0\ncompacted 3 to 2\ntagged 0\n0 1\nfilter 1 of 2\nunsaved\n";
-
 /// A fault at a call from the first number up to the second leaves so much of the text written, and files that then list this. Opening takes
-/// five calls, an edit of a tag and each `save` two, a game that comes in one, `compact` one, two for each game that stays and one, and `find`
-/// one; the last run has no fault. The index is replaced last, so that a `save` has happened or not.
-const STAGES: [(u64, u64, usize, &[u8]); 10] = [
-    (0, 5, 0, OPENED),
-    (5, 7, 22, OPENED),
-    (7, 9, 31, OPENED),
-    (9, 10, 45, TAGGED),
-    (10, 11, 53, TAGGED),
-    (11, 13, 82, TAGGED),
-    (13, 19, 106, IMPORTED),
-    (19, 21, 123, COMPACTED),
-    (21, 22, 132, COMPACTED),
-    (22, 23, 158, COMPACTED),
+/// six calls, `watch` and `index` one for each game, an edit of a tag and each `save` two, a game that comes in one, `compact` one, two for each
+/// game that stays and one, and `find` one; the last run has no fault. The index is replaced last, so that a `save` has happened or not.
+const STAGES: [(u64, u64, usize, &[u8]); 12] = [
+    (0, 6, 0, OPENED),
+    (6, 8, 22, OPENED),
+    (8, 10, 33, OPENED),
+    (10, 12, 42, OPENED),
+    (12, 14, 62, OPENED),
+    (14, 15, 76, TAGGED),
+    (15, 16, 84, TAGGED),
+    (16, 18, 113, TAGGED),
+    (18, 26, 137, IMPORTED),
+    (26, 28, 154, COMPACTED),
+    (28, 29, 163, COMPACTED),
+    (29, 30, 190, COMPACTED),
 ];
 
-const OPENED: &[u8] = b"base 1 games 0 mended\n0 0 1-0 1910.??.?? B15 ? - ?\nfilter 1 of 1\n";
+const OPENED: &[u8] =
+    b"base 2 games 0 mended\n0 0 1-0 1910.??.?? B15 ? - ?\n1 0 1-0 1910.??.?? B15 ? - ?\nfilter 2 of 2\n";
 
-const TAGGED: &[u8] = b"base 1 games 0 mended\n0 0 1-0 1910.??.?? B15 A - ?\nfilter 1 of 1\n";
+const TAGGED: &[u8] =
+    b"base 2 games 0 mended\n0 0 1-0 1910.??.?? B15 A - ?\n1 0 1-0 1910.??.?? B15 ? - ?\nfilter 2 of 2\n";
 
 const IMPORTED: &[u8] =
-    b"base 3 games 0 mended\n0 0 1-0 1910.??.?? B15 A - ?\n1 0 * ????.??.?? - ? - ?\n2 0 * ????.??.?? - ? - ?\nfilter 3 of 3\n";
+    b"base 4 games 0 mended\n0 0 1-0 1910.??.?? B15 A - ?\n1 0 1-0 1910.??.?? B15 ? - ?\n\
+2 0 * ????.??.?? - ? - ?\n3 0 * ????.??.?? - ? - ?\nfilter 4 of 4\n";
 
 const COMPACTED: &[u8] =
-    b"base 2 games 0 mended\n0 0 * ????.??.?? - ? - ?\n1 0 * ????.??.?? - ? - ?\nfilter 2 of 2\n";
+    b"base 3 games 0 mended\n0 0 1-0 1910.??.?? B15 ? - ?\n1 0 * ????.??.?? - ? - ?\n2 0 * ????.??.?? - ? - ?\nfilter 3 of 3\n";
 
 const LIST: Run<'static> = Run {
     script: b"list\n",
@@ -55,21 +49,82 @@ const EXPORT: Run<'static> = Run {
     ..LIST
 };
 
-const ONE_OF_TWO: &[u8] = b"base 2 games 0 mended\n\
-[Event \"?\"]\n[Site \"?\"]\n[Date \"1910.??.??\"]\n[Round \"?\"]\n[White \"?\"]\n[Black \"?\"]\n[Result \"1-0\"]\n[ECO \"B15\"]\n\n\
-1. e4 c6 2. d4 d5 3. Nc3 dxe4 4. Nxe4 Nf6 5. Qd3 e5 6. dxe5 Qa5+ 7. Bd2 Qxe5\n\
-8. O-O-O Nxe4 9. Qd8+ Kxd8 10. Bg5+ Kc7 11. Bd8# 1-0\n\n";
+const FIND_START: Run<'static> = Run {
+    script: b"find rnbqkbnr/pppppppp/8/8/8/8/PPPPPPPP/RNBQKBNR w\n",
+    ..EXPORT
+};
+
+const FIND: Run<'static> = Run {
+    script: b"find rnbqkbnr/pppppppp/8/8/4P3/8/PPPP1PPP/RNBQKBNR b\n",
+    ..EXPORT
+};
+
+const FIND_TWICE: Run<'static> = Run {
+    script: b"find rnbqkbnr/pppppppp/8/8/4P3/8/PPPP1PPP/RNBQKBNR b\nfind rnbqkbnr/pppppppp/8/8/4P3/8/PPPP1PPP/RNBQKBNR b\n",
+    ..EXPORT
+};
+
+const SHOW: Run<'static> = Run {
+    script: b"show 0\n",
+    ..EXPORT
+};
 
 const COMPACT: Run<'static> = Run {
     script: b"compact\n",
     ..EXPORT
 };
 
-/// Black's queen goes to b5 at the seventh move and takes no pawn: a record of another legal game, behind the opening.
+/// What is written where the second game can't be read behind the opening: `export` writes game by game, `find` when it is done.
+const HALF_DONE: [(Run<'static>, &[u8]); 2] = [
+    (EXPORT, ONE_OF_TWO),
+    (FIND_START, b"base 2 games 0 mended\n"),
+];
+
+const ONE_OF_TWO: &[u8] = b"base 2 games 0 mended\n\
+[Event \"?\"]\n[Site \"?\"]\n[Date \"1910.??.??\"]\n[Round \"?\"]\n[White \"?\"]\n[Black \"?\"]\n[Result \"1-0\"]\n[ECO \"B15\"]\n\n\
+1. e4 c6 2. d4 d5 3. Nc3 dxe4 4. Nxe4 Nf6 5. Qd3 e5 6. dxe5 Qa5+ 7. Bd2 Qxe5\n\
+8. O-O-O Nxe4 9. Qd8+ Kxd8 10. Bg5+ Kc7 11. Bd8# 1-0\n\n";
+
+/// A script, a byte of the record that changes, whether the record is then that of another legal game, and what is written.
+type Change = (Run<'static>, Swap, bool, &'static [u8]);
+
+const CHANGES: [Change; 4] = [
+    (COMPACT, ANOTHER, true, b"base 1 games 0 mended\n"),
+    (SHOW, NO_END, false, b"base 1 games 0 mended\n"),
+    (FIND, NO_MOVE, false, b"base 1 games 0 mended\n"),
+    (
+        FIND_TWICE,
+        NO_MOVE_LATER,
+        false,
+        b"base 1 games 0 mended\n0 1\nfilter 1 of 1\n",
+    ),
+];
+
+/// Behind the opening Black's queen goes to b5 at the seventh move, and takes no pawn.
 const ANOTHER: Swap = Swap {
     before: 5,
     place: 16,
     byte: 0x41,
+};
+
+/// Behind the opening the game ends before its first move, and bytes follow.
+const NO_END: Swap = Swap {
+    before: 5,
+    place: 2,
+    byte: 0x0f,
+};
+
+/// Behind the opening the first move is not legal.
+const NO_MOVE: Swap = Swap {
+    before: 5,
+    place: 2,
+    byte: 0xce,
+};
+
+/// The same once the record was read again.
+const NO_MOVE_LATER: Swap = Swap {
+    before: 6,
+    ..NO_MOVE
 };
 
 /// The same contents in files that do not fail.
@@ -84,8 +139,8 @@ fn again(alloc: Global, files: &MemFiles) -> Result<MemFiles, AllocError> {
 
 /// Whether a fault at this call leaves so much written, and files that list this.
 fn leaves(alloc: Global, call: u64, size: usize, listed: &[u8]) -> Result<bool, AllocError> {
-    let mut files = files_of(alloc, 1, &[call])?;
-    let (ended, written) = run_over(alloc, &mut files, &EDITS)?;
+    let mut files = files_of(alloc, 2, &[call])?;
+    let (ended, written) = run_over_a_view(alloc, &mut files, &EDITS)?;
     let mut files = again(alloc, &files)?;
     let (opened, list) = run_over(alloc, &mut files, &LIST)?;
     let wanted = if size == EDITS_TEXT.len() {
@@ -113,11 +168,17 @@ fn carries_what_was_saved_or_compacted_at_each_fault(rt: HostRuntime) -> Result<
 }
 
 #[test]
-fn exports_the_games_before_a_fault(rt: HostRuntime) -> Result<(), Fail> {
-    let mut files = files_of(rt.alloc(), 2, &[7])?;
-    let (status, written) = run_over(rt.alloc(), &mut files, &EXPORT)?;
-    assert!(rt; status == Status::FilesFault);
-    assert!(rt; written.as_slice() == ONE_OF_TWO);
+fn ends_where_a_game_is_not_read(rt: HostRuntime) -> Result<(), Fail> {
+    let before = files_of(rt.alloc(), 2, &[])?;
+    for (run, text) in &HALF_DONE {
+        let mut files = files_of(rt.alloc(), 2, &[7])?;
+        let (status, written) = run_over(rt.alloc(), &mut files, run)?;
+        assert!(rt; status == Status::FilesFault);
+        assert!(rt; written.as_slice() == *text);
+        assert!(rt; files.index() == before.index());
+        assert!(rt; files.names() == before.names());
+        assert!(rt; files.games() == before.games());
+    }
     Ok(())
 }
 
@@ -131,21 +192,23 @@ fn changing(alloc: Global, files: &MemFiles, swap: Swap) -> Result<MemFiles, All
     ))
 }
 
-/// Whether a session ended because the record of the first game is that of another one.
-fn is_another(status: &Status) -> bool {
+/// Whether a session ended because the record of the first game is that of another one, or of none.
+fn is_changed(status: &Status, another: bool) -> bool {
     match status {
-        Status::Changed { game, found, .. } => *game == 0 && found.is_some(),
+        Status::Changed { game, found, .. } => *game == 0 && found.is_some() == another,
         _ => false,
     }
 }
 
 #[test]
-fn a_compaction_ends_where_a_record_is_that_of_another_game(rt: HostRuntime) -> Result<(), Fail> {
+fn ends_where_a_record_has_changed(rt: HostRuntime) -> Result<(), Fail> {
     let before = files_of(rt.alloc(), 1, &[])?;
-    let mut files = changing(rt.alloc(), &before, ANOTHER)?;
-    let (status, written) = run_over(rt.alloc(), &mut files, &COMPACT)?;
-    assert!(rt; is_another(&status));
-    assert!(rt; written.as_slice() == b"base 1 games 0 mended\n".as_slice());
-    assert!(rt; files.index() == before.index());
+    for (run, swap, another, text) in &CHANGES {
+        let mut files = changing(rt.alloc(), &before, *swap)?;
+        let (status, written) = run_over(rt.alloc(), &mut files, run)?;
+        assert!(rt; is_changed(&status, *another));
+        assert!(rt; written.as_slice() == *text);
+        assert!(rt; files.index() == before.index());
+    }
     Ok(())
 }

@@ -1,4 +1,4 @@
-//! Tests alone: sessions over devices in memory that fail at each call, or change.
+//! Tests alone: sessions over devices in memory that fail at each call, or change, and over views that refuse a row.
 #![tactic(auto)]
 
 #[cfg(test)]
@@ -7,3 +7,5 @@ mod base;
 mod file_tests;
 #[cfg(test)]
 mod stream_tests;
+#[cfg(test)]
+mod view_tests;

@@ -1,28 +1,26 @@
-//! A fault of the source, or of the sink, at each byte of a script with a body.
-use super::base::{Run, files_of, run_over};
+//! A fault of the source, or of the sink, at each byte of a script of edits.
+use super::base::{EDITS, EDITS_TEXT, Run, files_of, run_over_a_view};
 use shell_session::Status;
 use std::alloc::{AllocError, Global};
 use std::test::Fail;
 
-/// Two games that come in.
-const SCRIPT: Run<'static> = Run {
-    script: b"import <<X\n1. e4 *\n\n1. d4 *\nX\ninfo\n",
-    input: &[],
-    out: &[],
-    strict: false,
-};
+/// A fault of the source at a byte from the first number up to the second leaves so much of the text at least and at most: the opening line and
+/// that of each command whose line was read whole. While a body is read, the lines of its games may be there.
+const READ: [(u64, u64, usize, usize); 11] = [
+    (0, 54, 22, 22),
+    (54, 68, 33, 33),
+    (68, 77, 42, 42),
+    (77, 82, 62, 62),
+    (82, 112, 76, 92),
+    (112, 117, 113, 113),
+    (117, 126, 127, 127),
+    (126, 134, 137, 137),
+    (134, 148, 154, 154),
+    (148, 202, 163, 163),
+    (202, 203, 182, 182),
+];
 
-const TEXT: &[u8] =
-    b"base 1 games 0 mended\nadded 1\nadded 2\nimported 2 refused 0\ngames 3 deleted 0 players 1 events 1 sites 1 rounds 1 unsaved yes index off\nunsaved\n";
-
-/// How many bytes the script has, how many of them its first command, and how many bytes of the text are written once that is done.
-const SCRIPT_LEN: u64 = 35;
-
-const COMMAND_LEN: u64 = 30;
-
-const DONE_LEN: usize = 59;
-
-/// Whether the run ends so, with a front of the text that has so many bytes at least and at most.
+/// Whether a run of this script ends so, with a front of the text that has so many bytes at least and at most.
 fn ends(
     alloc: Global,
     run: &Run<'_>,
@@ -30,38 +28,47 @@ fn ends(
     least: usize,
     most: usize,
 ) -> Result<bool, AllocError> {
-    let mut files = files_of(alloc, 1, &[])?;
-    let (status, written) = run_over(alloc, &mut files, run)?;
+    let mut files = files_of(alloc, 2, &[])?;
+    let (status, written) = run_over_a_view(alloc, &mut files, run)?;
     Ok(
         status == wanted
             && least <= written.len()
             && written.len() <= most
-            && TEXT.starts_with(written.as_slice()),
+            && EDITS_TEXT.starts_with(written.as_slice()),
     )
 }
 
 #[test]
 fn ends_at_each_fault_of_the_source(rt: HostRuntime) -> Result<(), Fail> {
-    for call in 0..SCRIPT_LEN {
-        let run = Run {
-            input: &[call],
-            ..SCRIPT
-        };
-        let least = if call < COMMAND_LEN { 0 } else { DONE_LEN };
-        assert!(rt; ends(rt.alloc(), &run, Status::ReadFault, least, TEXT.len())?);
+    for (from, to, least, most) in READ {
+        for call in from..to {
+            let run = Run {
+                input: &[call],
+                ..EDITS
+            };
+            assert!(rt; ends(rt.alloc(), &run, Status::ReadFault, least, most)?);
+        }
     }
     Ok(())
 }
 
 #[test]
 fn ends_at_each_fault_of_the_sink(rt: HostRuntime) -> Result<(), Fail> {
-    for call in 0..TEXT.len() {
+    for call in 0..EDITS_TEXT.len() {
         let run = Run {
             out: &[call as u64],
-            ..SCRIPT
+            ..EDITS
         };
         assert!(rt; ends(rt.alloc(), &run, Status::WriteFault, call, call)?);
     }
-    assert!(rt; ends(rt.alloc(), &SCRIPT, Status::Done, TEXT.len(), TEXT.len())?);
+    assert!(rt;
+        ends(
+            rt.alloc(),
+            &EDITS,
+            Status::Done,
+            EDITS_TEXT.len(),
+            EDITS_TEXT.len()
+        )?
+    );
     Ok(())
 }

@@ -36,10 +36,11 @@ use Rattle.report_commands.specs.Classifying.{state_by}
 use Rattle.report_commands.specs.Twins.{all_deleted, found_twins, with_deleted}
 use Rattle.script_text.specs.Tasks.{Task}
 use Rattle.script_text.specs.declared.command.Command.{Command}
-use Rattle.script_text.specs.declared.command.Command.TheVariants.{Nothing, Find, SearchPosition, SearchMaterial, SearchHeader, Reset, Clear, Negate, Restrict, Keep, Take, And, Or, Drop, Hits, List as Listing, Show, Export, Import, Replace, Eco, Tag, Delete, Undelete, Mark, Tree, Cross, Twins, Index, Save, Info, Demo, Quit, Compact}
+use Rattle.script_text.specs.declared.command.Command.TheVariants.{Nothing, Find, SearchPosition, SearchMaterial, SearchHeader, Reset, Clear, Negate, Restrict, Keep, Take, And, Or, Drop, Hits, List as Listing, Show, Export, Import, Replace, Eco, Tag, Delete, Undelete, Mark, Tree, Watch, View, Unwatch, Cross, Twins, Index, Save, Info, Demo, Quit, Compact}
 use Rattle.shell_commands.specs.Tasks.{Order, command_work, order_work, tasks}
 use Rattle.index_commands.specs.Indexing.{is_too_big}
 use Rattle.shell_state.specs.Refusing.{not_added, refusal_of}
+use Rattle.shell_state.specs.Slots.{Slot}
 use Rattle.shell_state.specs.State.{HasFilters, Shared, State, begin, with_filter, with_game, with_index}
 use Rattle.shell_state.specs.declared.refusing.Refusal.{Refusal}
 
@@ -65,6 +66,10 @@ reshared s shared same has = record {
   };
   few = has.few;
 }
+
+-- What the slots show.
+reslotted : (s : State) (slots : List Slot) → HasFilters s → HasFilters (record s { slots = slots })
+reslotted s slots has = record { fit = record { filter = has.fit.filter; saved = has.fit.saved }; few = has.few }
 
 -- ---- edits
 
@@ -225,6 +230,9 @@ command_has s (Delete game) body has = edited_has (deleted game) s (slice_get s.
 command_has s (Undelete game) body has = edited_has (undeleted game) s (slice_get s.shared.base.games game) (undeleted_long game s.shared.base) has
 command_has s (Mark game bit on) body has = edited_has (marked game bit on) s (slice_get s.shared.base.games game) (marked_long game bit on s.shared.base) has
 command_has s (Tree board side) body has = has
+command_has s (Watch slot board side) body has = reslotted s _ has
+command_has s (View slot) body has = has
+command_has s (Unwatch slot) body has = reslotted s _ has
 command_has s (Cross event) body has = has
 command_has s (Twins depth) body has = twins_has s (found_twins s depth) has
 command_has s (Index (Some depth)) body has = indexed_has (is_too_big s depth) s depth has
@@ -244,12 +252,12 @@ task_has s t has = order_has s t.order t.body has
 
 -- ---- a script
 
-begin_has : (created : Bool) (base : Base) → HasFilters (begin created base)
-begin_has created base = record { fit = record { filter = length-replicate (length base.games) (Some 0); saved = All-nil (λ (f : SavedFilter). length f.plies ≡ length base.games) }; few = omega arith }
+begin_has : (created : Bool) (slots : List Slot) (base : Base) → HasFilters (begin created slots base)
+begin_has created slots base = record { fit = record { filter = length-replicate (length base.games) (Some 0); saved = All-nil (λ (f : SavedFilter). length f.plies ≡ length base.games) }; few = omega arith }
 
 all_have : (s : State) (done : List Task) → HasFilters s → HasFilters (after_all tasks s done)
 all_have s [] has = has
 all_have s (t ∷ done) has = all_have (tasks.after s t) done (task_has s t has)
 
-pub script_has : (created : Bool) (base : Base) (done : List Task) → HasFilters (after_all tasks (begin created base) done)
-script_has created base done = all_have (begin created base) done (begin_has created base)
+pub script_has : (created : Bool) (slots : List Slot) (base : Base) (done : List Task) → HasFilters (after_all tasks (begin created slots base) done)
+script_has created slots base done = all_have (begin created slots base) done (begin_has created slots base)

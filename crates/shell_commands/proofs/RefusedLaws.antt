@@ -1,8 +1,10 @@
 -- Laws of refused tasks: a text that begins with `error: ` leaves the state as it was.
 use Rattle.std.proofs.Common.{◌≡◌, ◌<◌, ◌+◌, ◌%◌, ◌^◌, true≢false, ℕ, zero, suc, Bool, true, false, List, [], ◌∷◌, ◌++◌, length, Option, Some, None, Result, Ok, Err, refl, sym, ap, ◌∙◌, subst, arith, append_assoc, append-nil}
-use Rattle.std.specs.Prelude.{codes, unwrap_or, if◌then◌else◌, is_some, nat_eq, nat_lt, option_and_then, slice_get}
+use Rattle.std.specs.Prelude.{codes, unwrap_or, if◌then◌else◌, is_some, nat_eq, nat_lt, option_and_then, slice_get, slice_set}
 use Rattle.std.specs.Fmt.{decimal}
 use Rattle.std.proofs.lemmas.Fmt.{decimal_by_steps}
+use Rattle.std.proofs.lemmas.List.{set-get_or}
+use Rattle.cell_core.specs.Packed.{Packed, packed_of}
 use Rattle.base_core.specs.Base.{Base, Held}
 use Rattle.base_core.specs.Edits.{added, deleted, held_of, marked, undeleted}
 use Rattle.command_runs.specs.Plain.{after_all}
@@ -19,7 +21,7 @@ use Rattle.pgn_read.specs.declared.item.Item.{Item}
 use Rattle.pgn_read.specs.declared.item.Item.TheVariants.{Bad, Good}
 use Rattle.script_text.specs.Tasks.{Task}
 use Rattle.script_text.specs.declared.command.Command.{Command}
-use Rattle.script_text.specs.declared.command.Command.TheVariants.{Nothing, Find, SearchPosition, SearchMaterial, SearchHeader, Reset, Clear, Negate, Restrict, Keep, Take, And, Or, Drop, Hits, List as Listing, Show, Export, Import, Replace, Eco, Tag, Delete, Undelete, Mark, Tree, Cross, Twins, Index, Save, Info, Demo, Quit, Compact}
+use Rattle.script_text.specs.declared.command.Command.TheVariants.{Nothing, Find, SearchPosition, SearchMaterial, SearchHeader, Reset, Clear, Negate, Restrict, Keep, Take, And, Or, Drop, Hits, List as Listing, Show, Export, Import, Replace, Eco, Tag, Delete, Undelete, Mark, Tree, Watch, View, Unwatch, Cross, Twins, Index, Save, Info, Demo, Quit, Compact}
 use Rattle.edit_commands.specs.Compacting.{compacted_line, compacted_state, is_within}
 use Rattle.edit_commands.specs.Editing.{edited_there, line_there, tag_line_there, tagged_there, unless_refused}
 use Rattle.filter_seat.specs.SavedFilters.{dropped_at, dropped_in, has_room, is_kept, joined_with, kept_at, place_of, plies_at, saved_as, taken}
@@ -37,9 +39,12 @@ use Rattle.pos_index.specs.Hits.{entries_of}
 use Rattle.shell_state.specs.Stands.{index_of}
 use Rattle.shell_state.specs.Lines.{game_line, filter_line, full_filters_line, hit_lines, hits_text, name_line, no_filter_line}
 use Rattle.shell_state.specs.Refusing.{not_added, refusal_line, refusal_of}
+use Rattle.shell_state.specs.Slots.{Slot, slot_at}
+use Rattle.shell_state.specs.Slots.Slot.{empty, idle, shows}
 use Rattle.shell_state.specs.State.{State, with_filter, with_seat, games_of, with_index}
 use Rattle.shell_state.specs.declared.refusing.Refusal.{Refusal}
 use Rattle.shell_state.specs.declared.refusing.Refusal.TheVariants.{Full}
+use Rattle.view_commands.specs.Views.{left, showing, unwatch_line, watch_line, with_slot}
 use Rattle.base_core.specs.Edits.{tagged}
 use Rattle.base_core.specs.Compacted.{compacted}
 use Rattle.base_core.specs.declared.fault.What.TheVariants.{File}
@@ -143,6 +148,20 @@ classified_so : (s : State) (table : Result (List Opening) EcoFault) → IsError
 classified_so s (Ok table) is = absurd (not_error 99 _ refl is)
 classified_so s (Err fault) is = refl
 
+-- A slot that stays as it is.
+same_slot : (s : State) (number : ℕ) (slot : Slot) → slot_at s.slots number ≡ slot → with_slot s number slot ≡ s
+same_slot s number slot is = ap (λ (l : List Slot). record s { slots = l }) (ap (λ (x : Slot). slice_set s.slots number x) (sym is) ∙ set-get_or s.slots number empty)
+
+watch_refused : (s : State) (number : ℕ) (board : Packed) (slot : Slot) → slot_at s.slots number ≡ slot → IsError (watch_line number slot) → with_slot s number (showing board slot) ≡ s
+watch_refused s number board empty same is = same_slot s number empty same
+watch_refused s number board idle same is = absurd (not_error 119 _ refl is)
+watch_refused s number board (shows other) same is = absurd (not_error 119 _ refl is)
+
+unwatch_refused : (s : State) (number : ℕ) (slot : Slot) → slot_at s.slots number ≡ slot → IsError (unwatch_line number slot) → with_slot s number (left slot) ≡ s
+unwatch_refused s number empty same is = same_slot s number empty same
+unwatch_refused s number idle same is = same_slot s number idle same
+unwatch_refused s number (shows board) same is = absurd (not_error 117 _ refl is)
+
 command_refused : (s : State) (command : Command) (body : List ℕ) → length s.seat.filter < 2 ^ 64 → IsError ((command_work command body).text s) → ((word : List ℕ) → command ≡ Import word → ⊥)
     → ((seed games : ℕ) → command ≡ Demo seed games → ⊥) → (command_work command body).after s ≡ s
 command_refused s Nothing body few is imports makes = refl
@@ -171,6 +190,9 @@ command_refused s (Delete game) body few is imports makes = edited_so 100 (codes
 command_refused s (Undelete game) body few is imports makes = edited_so 117 (codes "ndeleted ") (undeleted game) game s (slice_get s.shared.base.games game) refl is
 command_refused s (Mark game bit on) body few is imports makes = edited_so 109 (codes "arked ") (marked game bit on) game s (slice_get s.shared.base.games game) refl is
 command_refused s (Tree board side) body few is imports makes = refl
+command_refused s (Watch slot board side) body few is imports makes = watch_refused s slot (packed_of board side) (slot_at s.slots slot) refl is
+command_refused s (View slot) body few is imports makes = refl
+command_refused s (Unwatch slot) body few is imports makes = unwatch_refused s slot (slot_at s.slots slot) refl is
 command_refused s (Cross event) body few is imports makes = refl
 command_refused s (Twins depth) body few is imports makes = absurd (not_error 116 _ refl is)
 command_refused s (Index (Some depth)) body few is imports makes = indexed_so (is_too_big s depth) s depth is

@@ -4,12 +4,11 @@ use Rattle.std.specs.Global.{Vec}
 use Rattle.std.specs.Prelude.{IfErr}
 use Rattle.base_files.specs.Seen.{Seen}
 use Rattle.base_files.specs.Told.{adds}
-use Rattle.block_store.specs.Placing.{IsEnd}
 use Rattle.command_runs.proofs.Joining.{halted_none}
 use Rattle.command_runs.specs.Endings.{Halted, Serves}
 use Rattle.shell_state.proofs.Causing.{broken_by_output}
 use Rattle.shell_state.specs.Ends.{IsOutput}
-use Rattle.shell_state.specs.Stands.{Broken, Holding, Quiet, Sound, Stands}
+use Rattle.shell_state.specs.Stands.{Broken, Holding, Quiet, Stands}
 use Rattle.shell_state.specs.State.{State}
 use Rattle.shell_state.specs.Work.{Work, works}
 use Rattle.shell_state.specs.declared.halt.Halt.{Halt}
@@ -31,11 +30,3 @@ quiet_said (Err none) (Ok x) old new work seen s told told' quiet said st = absu
 quiet_said (Err none) (Err e) old new work seen s told told' quiet said st =
     let P : Option (List ℕ) → Type 0 = λ t. Halted [] (work.text s) told t in
     record { wrote = subst P (sym said.0) (halted_none (work.text s) told); broken = broken_by_output s work e said.1 }
-
-pub quiet_sound : {A E : Type 0} (answer : Result (Vec ℕ) E) (r : Result A Halt) (old new : Holding) (work : Work) (seen : Seen) (told told' : Option (List ℕ))
-    → IfOk answer (λ line. Quiet old work new line.items) → Said answer r told told' → Sound old seen → OnOk r (Sound new seen)
-quiet_sound (Ok line) (Ok x) old new work seen told told' quiet said sound =
-    record { fits = quiet.fits; index = quiet.index sound.index; base = quiet.base sound.base; at_end = subst (λ (end : ℕ). IsEnd end seen) (sym quiet.end) sound.at_end }
-quiet_sound (Ok line) (Err e) old new work seen told told' quiet said sound = tt
-quiet_sound (Err none) (Ok x) old new work seen told told' quiet said sound = absurd said
-quiet_sound (Err none) (Err e) old new work seen told told' quiet said sound = tt

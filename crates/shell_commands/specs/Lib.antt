@@ -1,3 +1,5 @@
+pub mod Parts
 pub mod Tasks
 pub mod Refused
 pub mod Saying
+pub mod Watching

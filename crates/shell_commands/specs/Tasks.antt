@@ -4,7 +4,7 @@ use Rattle.base_core.specs.Base.{Base}
 use Rattle.command_runs.specs.Plain.{Plain}
 use Rattle.script_text.specs.Tasks.{Task}
 use Rattle.script_text.specs.declared.command.Command.{Command}
-use Rattle.script_text.specs.declared.command.Command.TheVariants.{Nothing, Find, SearchPosition, SearchMaterial, SearchHeader, Reset, Clear, Negate, Restrict, Keep, Take, And, Or, Drop, Hits, List as Listing, Show, Export, Import, Replace, Eco, Tag, Delete, Undelete, Mark, Tree, Cross, Twins, Index, Save, Info, Demo, Quit, Compact}
+use Rattle.script_text.specs.declared.command.Command.TheVariants.{Nothing, Find, SearchPosition, SearchMaterial, SearchHeader, Reset, Clear, Negate, Restrict, Keep, Take, And, Or, Drop, Hits, List as Listing, Show, Export, Import, Replace, Eco, Tag, Delete, Undelete, Mark, Tree, Watch, View, Unwatch, Cross, Twins, Index, Save, Info, Demo, Quit, Compact}
 use Rattle.script_text.specs.declared.fault.ScriptFault.{ScriptFault}
 use Rattle.edit_commands.specs.Compacting.{compact_work}
 use Rattle.edit_commands.specs.Editing.{delete_work, mark_work, tag_work, undelete_work}
@@ -26,6 +26,7 @@ use Rattle.shell_state.specs.declared.halt.Halt.{Halt}
 use Rattle.text_commands.specs.GameTexts.{export_work, show_work}
 use Rattle.text_commands.specs.Listing.{list_work}
 use Rattle.text_commands.specs.Showing.{info_work, quit_work}
+use Rattle.view_commands.specs.Views.{unwatch_work, view_work, watch_work}
 
 -- A line of a script: the command that it says, or its first fault.
 abbrev pub Order : Type 0
@@ -59,6 +60,9 @@ command_work (Delete game) body = delete_work game
 command_work (Undelete game) body = undelete_work game
 command_work (Mark game bit on) body = mark_work game bit on
 command_work (Tree board side) body = tree_work board side
+command_work (Watch slot board side) body = watch_work slot board side
+command_work (View slot) body = view_work slot
+command_work (Unwatch slot) body = unwatch_work slot
 command_work (Cross event) body = cross_work event
 command_work (Twins depth) body = twins_work depth
 command_work (Index depth) body = index_work depth

@@ -1,5 +1,5 @@
 //! What one line of a script does.
-ghost use Rattle.std.specs.Prelude.{◌≡◌, ◌≤◌, ◌+◌, ℕ, List, [], false, Some, Ok, OnOk, IfErr};
+ghost use Rattle.std.specs.Prelude.{◌≡◌, ◌≤◌, ◌+◌, ℕ, List, [], false, Some, Ok, OnOk, IfErr, length};
 ghost use Rattle.command_runs.specs.Counts.{Causes, counts};
 ghost use Rattle.command_runs.specs.Endings.{NoneLost, Serves};
 ghost use Rattle.script_text.specs.Sound.{IsSound, IsSoundLine};
@@ -7,32 +7,36 @@ ghost use Rattle.script_text.specs.Tasks.{task};
 ghost use Rattle.script_text.specs.declared.command.Command.TheVariants.{Demo, Export};
 ghost use Rattle.intake_commands.specs.Demo.{demo_price};
 ghost use Rattle.shell_commands.specs.Tasks.{BrokenTask, command_work, order_left, order_price, order_work, order_writes, tasks};
+ghost use Rattle.shell_commands.specs.Watching.{ViewsDone, touches};
 ghost use Rattle.shell_state.specs.Carrying.{StillCarry};
 ghost use Rattle.shell_state.specs.Stands.{Asks, Broken, Sound, Stands, WhyHalt};
 ghost use Rattle.shell_state.specs.State.{State};
 ghost use Rattle.shell_state.specs.Work.{works};
+ghost use Rattle.view_commands.specs.Views.{AreLeft, AreRight};
 ghost use Rattle.text_commands.specs.GameTexts.{ExportCut};
 
+use crate::changes::{serve_change, serve_edit, serve_import};
+use crate::lines::serve_line;
+use crate::parts::{Part, part_of};
 use crate::saying::say;
+use crate::searches::serve_search;
+use crate::slots::serve_slot;
+use crate::texts::write_text;
 use base_files::{Files, Sink, Source};
-use edit_commands::{compact, delete, mark, save, tag, undelete};
-use filter_commands::{and, clear, drop_filter, keep_filter, negate, or, reset, restrict, take};
-use index_commands::index;
-use intake_commands::{demo, import, replace};
-use report_commands::{cross, eco, twins};
 use script_text::{Command, ScriptFault};
-use search_commands::{find, hits, search_header, search_material, search_position, tree};
 use shell_state::{Halt, Machine, fault_line};
 use std::alloc::Global;
-use text_commands::{export, info, list, quit, show};
+use tree_live::TreeView;
 
 /// A line of a script: the command that it says, or its first fault.
 pub type Order = Result<Command, ScriptFault>;
 
-/// Does what a line of a script says, and writes its text. Of a line without a body nothing of `body` is read.
+/// Does what a line of a script says, and writes its text, and keeps the views of the slots right. Of a line without a body nothing of `body`
+/// is read.
 pub fn serve<F: Files, B: Source, K: Sink>(
     alloc: Global,
     machine: &mut Machine,
+    views: &mut [Option<Box<dyn TreeView>>],
     files: &mut F,
     body: &mut B,
     out: &mut K,
@@ -43,8 +47,14 @@ pub fn serve<F: Files, B: Source, K: Sink>(
     // Its edit, its mark or its streak is within its bounds, as that of a line that was read.
     requires order { IsSoundLine order.now }
 
-    // Where the files and the body are told, the machine stands for the state after the task and its text is written, or a front part of it.
-    ensures serves { (s : State) (text : List ℕ) → Stands machine.old (F.seen files.old) s → B.left body.old ≡ Some text → Serves tasks (Stands machine.new (F.seen files.new)) BrokenTask s (task order.now text) (K.taken out.old) (K.taken out.new) result }
+    // Where the files and the body are told, and the views are right, the machine stands for the state after the task and its text is written,
+    // or a front part of it.
+    ensures serves { (s : State) (text : List ℕ) → Stands machine.old (F.seen files.old) s → B.left body.old ≡ Some text → AreRight (λ b. rows b) s views.old → Serves tasks (Stands machine.new (F.seen files.new)) BrokenTask s (task order.now text) (K.taken out.old) (K.taken out.new) result }
+
+    // Then the views are right beside it, and were told no more changes than rows differ. Views of slots that show nothing are as before.
+    ensures views { (s : State) (text : List ℕ) → Stands machine.old (F.seen files.old) s → B.left body.old ≡ Some text → AreRight (λ b. rows b) s views.old → OnOk result (ViewsDone (λ b. rows b) (λ b. told b) s (task order.now text) views.old views.new) }
+    ensures left { (s : State) (text : List ℕ) → Stands machine.old (F.seen files.old) s → B.left body.old ≡ Some text → AreRight (λ b. rows b) s views.old → AreLeft (touches s order.now) views.old views.new }
+    ensures number { length views.new ≡ length views.old }
     ensures sound { OnOk result (Sound machine.new (F.seen files.new)) }
 
     // Of an export that is broken off, the games before that one are written whole.
@@ -67,7 +77,7 @@ pub fn serve<F: Files, B: Source, K: Sink>(
     ensures causes { Causes WhyHalt result (counts (F.faults files.old) (B.faults body.old) (K.faults out.old)) (counts (F.faults files.new) (B.faults body.new) (K.faults out.new)) }
 {
     match order {
-        Ok(command) => serve_command(alloc, machine, files, body, out, command),
+        Ok(command) => serve_command(alloc, machine, views, files, body, out, command),
         Err(fault) => say(out, fault_line(alloc, *fault)),
     }
 }
@@ -76,6 +86,7 @@ pub fn serve<F: Files, B: Source, K: Sink>(
 fn serve_command<F: Files, B: Source, K: Sink>(
     alloc: Global,
     machine: &mut Machine,
+    views: &mut [Option<Box<dyn TreeView>>],
     files: &mut F,
     body: &mut B,
     out: &mut K,
@@ -83,7 +94,10 @@ fn serve_command<F: Files, B: Source, K: Sink>(
 ) -> Result<(), Halt>
     requires sound { Sound machine.old (F.seen files.old) }
     requires command { IsSound command.now }
-    ensures serves { (s : State) (text : List ℕ) → Stands machine.old (F.seen files.old) s → B.left body.old ≡ Some text → Serves works (Stands machine.new (F.seen files.new)) Broken s (command_work command.now text) (K.taken out.old) (K.taken out.new) result }
+    ensures serves { (s : State) (text : List ℕ) → Stands machine.old (F.seen files.old) s → B.left body.old ≡ Some text → AreRight (λ b. rows b) s views.old → Serves works (Stands machine.new (F.seen files.new)) Broken s (command_work command.now text) (K.taken out.old) (K.taken out.new) result }
+    ensures views { (s : State) (text : List ℕ) → Stands machine.old (F.seen files.old) s → B.left body.old ≡ Some text → AreRight (λ b. rows b) s views.old → OnOk result (ViewsDone (λ b. rows b) (λ b. told b) s (task (Ok command.now) text) views.old views.new) }
+    ensures left { (s : State) (text : List ℕ) → Stands machine.old (F.seen files.old) s → B.left body.old ≡ Some text → AreRight (λ b. rows b) s views.old → AreLeft (touches s (Ok command.now)) views.old views.new }
+    ensures number { length views.new ≡ length views.old }
     ensures sound { OnOk result (Sound machine.new (F.seen files.new)) }
     ensures whole { (s : State) → Stands machine.old (F.seen files.old) s → command.now ≡ Export → IfErr result (λ e. ExportCut s.seat.filter s.shared.base.games e (K.taken out.old) (K.taken out.new)) }
     ensures carries { (s : State) → Stands machine.old (F.seen files.old) s → IfErr result (λ _. StillCarry (F.seen files.new) s (command_work command.now []).left) }
@@ -95,44 +109,13 @@ fn serve_command<F: Files, B: Source, K: Sink>(
     ensures none_lost { NoneLost (K.taken out.old) (K.taken out.new) }
     ensures causes { Causes WhyHalt result (counts (F.faults files.old) (B.faults body.old) (K.faults out.old)) (counts (F.faults files.new) (B.faults body.new) (K.faults out.new)) }
 {
-    match command {
-        Command::Nothing => say(out, Ok(Vec::new(alloc))),
-        Command::Find(board, side) => find(machine, files, out, board, *side),
-        Command::SearchPosition(op, query) => search_position(
-            alloc, machine, files, out, *op, query,
-        ),
-        Command::SearchMaterial(op, query) => search_material(
-            alloc, machine, files, out, *op, query,
-        ),
-        Command::SearchHeader(op, query) => say(out, search_header(alloc, machine, *op, query)),
-        Command::Reset => say(out, reset(alloc, machine)),
-        Command::Clear => say(out, clear(alloc, machine)),
-        Command::Negate => say(out, negate(alloc, machine)),
-        Command::Restrict(first, last) => say(out, restrict(alloc, machine, *first, *last)),
-        Command::Keep(name) => say(out, keep_filter(alloc, machine, name)),
-        Command::Take(name) => say(out, take(alloc, machine, name)),
-        Command::And(name) => say(out, and(alloc, machine, name)),
-        Command::Or(name) => say(out, or(alloc, machine, name)),
-        Command::Drop(name) => say(out, drop_filter(alloc, machine, name)),
-        Command::Hits => hits(machine, out),
-        Command::List => list(alloc, machine, out),
-        Command::Show(number) => show(alloc, machine, files, out, *number),
-        Command::Export => export(alloc, machine, files, out),
-        Command::Import(_) => import(alloc, machine, files, body, out),
-        Command::Replace(number, _) => replace(alloc, machine, files, body, out, *number),
-        Command::Eco(_) => eco(alloc, machine, files, body, out),
-        Command::Tag(number, edit) => tag(alloc, machine, files, out, *number, edit),
-        Command::Delete(number) => say(out, delete(alloc, machine, *number)),
-        Command::Undelete(number) => say(out, undelete(alloc, machine, *number)),
-        Command::Mark(number, bit, on) => say(out, mark(alloc, machine, *number, *bit, *on)),
-        Command::Tree(board, side) => tree(alloc, machine, files, out, board, *side),
-        Command::Cross(event) => say(out, cross(alloc, machine, event)),
-        Command::Twins(depth) => twins(alloc, machine, files, out, *depth),
-        Command::Index(depth) => index(alloc, machine, files, out, *depth),
-        Command::Save => save(alloc, machine, files, out),
-        Command::Info => say(out, info(alloc, machine)),
-        Command::Demo(seed, games) => demo(alloc, machine, files, out, *seed, *games),
-        Command::Quit => say(out, quit(alloc, machine)),
-        Command::Compact => compact(alloc, machine, files, out),
+    match part_of(command) {
+        Part::Slots => serve_slot(alloc, machine, views, files, out, command),
+        Part::Lines => serve_line(alloc, machine, views, out, command),
+        Part::Searches => serve_search(alloc, machine, views, files, out, command),
+        Part::Intake => serve_import(alloc, machine, views, files, body, out),
+        Part::Edits => serve_edit(alloc, machine, views, files, body, out, command),
+        Part::Games => serve_change(alloc, machine, views, files, body, out, command),
+        Part::Texts => write_text(alloc, machine, files, out, command),
     }
 }

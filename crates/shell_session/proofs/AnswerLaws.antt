@@ -14,8 +14,10 @@ use Rattle.base_core.specs.Base.{Base}
 use Rattle.base_core.specs.Opening.{IfTold, is_created}
 use Rattle.command_runs.specs.Counts.{Why, counts}
 use Rattle.command_runs.specs.Endings.{Halted, NoneLost}
-use Rattle.shell_state.specs.Stands.{Holding, Stands}
+use Rattle.shell_state.specs.Stands.{Holding}
 use Rattle.shell_state.specs.State.{State, begin}
+use Rattle.shell_session.proofs.ViewLaws.{lives_first, show_none}
+use Rattle.shell_session.specs.Around.{Around, Lives, Views, around, none_told, slots_by}
 use Rattle.shell_session.specs.Running.{Interrupts, Opening, OpeningRefused}
 use Rattle.shell_session.specs.Session.{Answers, AreGiven, Chooses, ChoosesBase, Reads, Silent, WhyStatus, Due, Given, Inlet, Opened, RanAll, RanPart, begun, given, opening_line, opening_text}
 use Rattle.shell_session.specs.Stops.{status_of}
@@ -32,31 +34,31 @@ told seen F index names games known i n g =
     subst G g (subst N n (subst I i known))
 
 -- The contents are those that were given.
-pub as_given : (words : List (List ℕ)) (index names games script : List ℕ) (seen seen' : Seen) → SameContents seen seen' → seen.index ≡ Some index → seen.names ≡ Some names → seen.games ≡ Some games
-    → AreGiven (given words index names games script) seen'
-as_given words index names games script seen seen' same i n g = record { index = same.index ∙ i; names = same.names ∙ n; games = same.games ∙ g }
+pub as_given : (words : List (List ℕ)) (index names games script : List ℕ) (views : Views) (seen seen' : Seen) → SameContents seen seen' → seen.index ≡ Some index → seen.names ≡ Some names → seen.games ≡ Some games
+    → AreGiven (given words index names games script views) seen'
+as_given words index names games script views seen seen' same i n g = record { index = same.index ∙ i; names = same.names ∙ n; games = same.games ∙ g }
 
 -- The opening refused.
-pub opening_answers : (words : List (List ℕ)) (index names games script : List ℕ) (seen seen' : Seen) (t : Option (List ℕ)) (input : Inlet) (wanted : Wanted) (status : Status)
+pub opening_answers : (words : List (List ℕ)) (index names games script : List ℕ) (views : Views) (seen seen' : Seen) (t : Option (List ℕ)) (input : Inlet) (wanted : Wanted) (status : Status)
     → words_read words ≡ Some wanted → OpeningRefused wanted.create wanted.strict seen status → SameContents seen seen'
     → seen.index ≡ Some index → seen.names ≡ Some names → seen.games ≡ Some games
-    → Answers (given words index names games script) t t input input seen' status
-opening_answers words index names games script seen seen' t input wanted (BadBase fault) said refused same i n g =
-    (record { wanted = wanted; words = said; first = told seen _ index names games refused i n g }, record { unwritten = refl; unread = refl; files = as_given words index names games script seen seen' same i n g })
-opening_answers words index names games script seen seen' t input wanted FilesFault said refused same i n g = inl (record { unwritten = refl; unread = refl; files = as_given words index names games script seen seen' same i n g })
-opening_answers words index names games script seen seen' t input wanted Memory said refused same i n g = inl (record { unwritten = refl; unread = refl; files = as_given words index names games script seen seen' same i n g })
-opening_answers words index names games script seen seen' t input wanted Done said refused same i n g = absurd refused
-opening_answers words index names games script seen seen' t input wanted Usage said refused same i n g = absurd refused
-opening_answers words index names games script seen seen' t input wanted ReadFault said refused same i n g = absurd refused
-opening_answers words index names games script seen seen' t input wanted WriteFault said refused same i n g = absurd refused
-opening_answers words index names games script seen seen' t input wanted InputTooLong said refused same i n g = absurd refused
-opening_answers words index names games script seen seen' t input wanted (Changed game kept found) said refused same i n g = absurd refused
+    → Answers (given words index names games script views) t t input input (around seen' views none_told views) status
+opening_answers words index names games script views seen seen' t input wanted (BadBase fault) said refused same i n g =
+    (record { wanted = wanted; words = said; first = told seen _ index names games refused i n g }, record { unwritten = refl; unread = refl; files = as_given words index names games script views seen seen' same i n g; views = refl })
+opening_answers words index names games script views seen seen' t input wanted FilesFault said refused same i n g = inl (record { unwritten = refl; unread = refl; files = as_given words index names games script views seen seen' same i n g; views = refl })
+opening_answers words index names games script views seen seen' t input wanted Memory said refused same i n g = inl (record { unwritten = refl; unread = refl; files = as_given words index names games script views seen seen' same i n g; views = refl })
+opening_answers words index names games script views seen seen' t input wanted Done said refused same i n g = absurd refused
+opening_answers words index names games script views seen seen' t input wanted Usage said refused same i n g = absurd refused
+opening_answers words index names games script views seen seen' t input wanted ReadFault said refused same i n g = absurd refused
+opening_answers words index names games script views seen seen' t input wanted WriteFault said refused same i n g = absurd refused
+opening_answers words index names games script views seen seen' t input wanted InputTooLong said refused same i n g = absurd refused
+opening_answers words index names games script views seen seen' t input wanted (Changed game kept found) said refused same i n g = absurd refused
 
 -- The base was opened.
-abbrev pub opened : (words : List (List ℕ)) (index names games script : List ℕ) (seen : Seen) (wanted : Wanted) (holding : Holding) (mended : ℕ)
+abbrev pub opened : (words : List (List ℕ)) (index names games script : List ℕ) (views : Views) (seen : Seen) (wanted : Wanted) (holding : Holding) (mended : ℕ)
     → words_read words ≡ Some wanted → (o : Opening wanted.create wanted.strict index names games holding seen mended)
-    → Opened (given words index names games script) o.base mended
-opened words index names games script seen wanted holding mended said o =
+    → Opened (given words index names games script views) o.base mended
+opened words index names games script views seen wanted holding mended said o =
     record { wanted = wanted; words = said; means = o.means; mends = o.mends; faultless = o.faultless }
 
 none_rose : Rose 0 0 → ⊥
@@ -64,40 +66,40 @@ none_rose (inl rose) = absurd (omega (arith, rose))
 none_rose (inr last) = absurd (omega (arith, last))
 
 -- The opening line was broken off.
-pub line_answers : (g : Given) (t t' : Option (List ℕ)) (input : Inlet) (seen' : Seen) (base : Base) (mended : ℕ) (s : Stop) (k k' : ℕ)
-    → Opened g base mended → Halted [] (opening_line base mended) t t' → AreGiven g seen' → Why s (counts 0 0 k) (counts 0 0 k')
-    → Answers g t t' input input seen' (status_of s)
-line_answers g t t' input seen' base mended stop.Read k k' base_open wrote files why = absurd (none_rose why)
-line_answers g t t' input seen' base mended stop.Files k k' base_open wrote files why = absurd (none_rose why)
-line_answers g t t' input seen' base mended stop.Write k k' base_open wrote files why = inl (record { base = base; mended = mended; opened = base_open; wrote = wrote; unread = refl; files = files })
-line_answers g t t' input seen' base mended stop.Memory k k' base_open wrote files why = inr (inl (record { base = base; mended = mended; opened = base_open; wrote = wrote; unread = refl; files = files }))
+pub line_answers : (g : Given) (t t' : Option (List ℕ)) (input : Inlet) (around' : Around) (base : Base) (mended : ℕ) (s : Stop) (k k' : ℕ)
+    → Opened g base mended → Halted [] (opening_line base mended) t t' → AreGiven g around'.seen → around'.now ≡ around'.first → Why s (counts 0 0 k) (counts 0 0 k')
+    → Answers g t t' input input around' (status_of s)
+line_answers g t t' input around' base mended stop.Read k k' base_open wrote files views why = absurd (none_rose why)
+line_answers g t t' input around' base mended stop.Files k k' base_open wrote files views why = absurd (none_rose why)
+line_answers g t t' input around' base mended stop.Write k k' base_open wrote files views why = inl (record { base = base; mended = mended; opened = base_open; wrote = wrote; unread = refl; files = files; views = views })
+line_answers g t t' input around' base mended stop.Memory k k' base_open wrote files views why = inr (inl (record { base = base; mended = mended; opened = base_open; wrote = wrote; unread = refl; files = files; views = views }))
 
 -- The run of the script stopped.
-pub part_answers : (g : Given) (t t' : Option (List ℕ)) (input input' : Inlet) (seen' : Seen) (base : Base) (mended : ℕ) (status : Status)
-    → (o : Opened g base mended) → RanPart status (begun g base mended o) g.script (adds t (opening_line base mended)) t' input'.left seen'
-    → Answers g t t' input input' seen' status
-part_answers g t t' input input' seen' base mended ReadFault base_open ran = record { base = base; mended = mended; opened = base_open; ran = ran }
-part_answers g t t' input input' seen' base mended WriteFault base_open ran = inr (record { base = base; mended = mended; opened = base_open; ran = ran })
-part_answers g t t' input input' seen' base mended FilesFault base_open ran = inr (record { base = base; mended = mended; opened = base_open; ran = ran })
-part_answers g t t' input input' seen' base mended InputTooLong base_open ran = record { base = base; mended = mended; opened = base_open; ran = ran }
-part_answers g t t' input input' seen' base mended Memory base_open ran = inr (inr (record { base = base; mended = mended; opened = base_open; ran = ran }))
-part_answers g t t' input input' seen' base mended Done base_open ran = absurd ran.broken.broken
-part_answers g t t' input input' seen' base mended Usage base_open ran = absurd ran.broken.broken
-part_answers g t t' input input' seen' base mended (BadBase fault) base_open ran = absurd ran.broken.broken
-part_answers g t t' input input' seen' base mended (Changed game kept found) base_open ran = absurd ran.broken.broken
+pub part_answers : (g : Given) (t t' : Option (List ℕ)) (input input' : Inlet) (around' : Around) (base : Base) (mended : ℕ) (status : Status)
+    → (o : Opened g base mended) → RanPart status (begun g base mended o) g.script (adds t (opening_line base mended)) t' input'.left around'
+    → Answers g t t' input input' around' status
+part_answers g t t' input input' around' base mended ReadFault base_open ran = record { base = base; mended = mended; opened = base_open; ran = ran }
+part_answers g t t' input input' around' base mended WriteFault base_open ran = inr (record { base = base; mended = mended; opened = base_open; ran = ran })
+part_answers g t t' input input' around' base mended FilesFault base_open ran = inr (record { base = base; mended = mended; opened = base_open; ran = ran })
+part_answers g t t' input input' around' base mended InputTooLong base_open ran = record { base = base; mended = mended; opened = base_open; ran = ran }
+part_answers g t t' input input' around' base mended Memory base_open ran = inr (inr (record { base = base; mended = mended; opened = base_open; ran = ran }))
+part_answers g t t' input input' around' base mended Done base_open ran = absurd ran.broken.broken
+part_answers g t t' input input' around' base mended Usage base_open ran = absurd ran.broken.broken
+part_answers g t t' input input' around' base mended (BadBase fault) base_open ran = absurd ran.broken.broken
+part_answers g t t' input input' around' base mended (Changed game kept found) base_open ran = absurd ran.broken.broken
 
 -- Where no device has a fault, the status is due, or memory ran out.
-pub due_of : (g : Given) (t t' : Option (List ℕ)) (input input' : Inlet) (seen' : Seen) (status : Status) (f f' i i' k k' : ℕ) → Answers g t t' input input' seen' status
+pub due_of : (g : Given) (t t' : Option (List ℕ)) (input input' : Inlet) (around' : Around) (status : Status) (f f' i i' k k' : ℕ) → Answers g t t' input input' around' status
     → WhyStatus status (counts f i k) (counts f' i' k') → (Rose f f' → ⊥) → (Rose i i' → ⊥) → (Rose k k' → ⊥) → (status ≡ Memory) ⊎ Due g status
-due_of g t t' input input' seen' Done f f' i i' k k' answer why no_files no_input no_output = inr (record { base = answer.base; mended = answer.mended; opened = answer.opened }, answer.ran.within)
-due_of g t t' input input' seen' Usage f f' i i' k k' answer why no_files no_input no_output = inr answer.0
-due_of g t t' input input' seen' (BadBase fault) f f' i i' k k' answer why no_files no_input no_output = inr answer.0
-due_of g t t' input input' seen' ReadFault f f' i i' k k' answer why no_files no_input no_output = absurd (no_input why)
-due_of g t t' input input' seen' WriteFault f f' i i' k k' answer why no_files no_input no_output = absurd (no_output why)
-due_of g t t' input input' seen' FilesFault f f' i i' k k' answer why no_files no_input no_output = absurd (no_files why)
-due_of g t t' input input' seen' (Changed game kept found) f f' i i' k k' answer why no_files no_input no_output = absurd answer
-due_of g t t' input input' seen' InputTooLong f f' i i' k k' answer why no_files no_input no_output = inr (record { base = answer.base; mended = answer.mended; opened = answer.opened }, answer.ran.lines.0)
-due_of g t t' input input' seen' Memory f f' i i' k k' answer why no_files no_input no_output = inl refl
+due_of g t t' input input' around' Done f f' i i' k k' answer why no_files no_input no_output = inr (record { base = answer.base; mended = answer.mended; opened = answer.opened }, answer.ran.within)
+due_of g t t' input input' around' Usage f f' i i' k k' answer why no_files no_input no_output = inr answer.0
+due_of g t t' input input' around' (BadBase fault) f f' i i' k k' answer why no_files no_input no_output = inr answer.0
+due_of g t t' input input' around' ReadFault f f' i i' k k' answer why no_files no_input no_output = absurd (no_input why)
+due_of g t t' input input' around' WriteFault f f' i i' k k' answer why no_files no_input no_output = absurd (no_output why)
+due_of g t t' input input' around' FilesFault f f' i i' k k' answer why no_files no_input no_output = absurd (no_files why)
+due_of g t t' input input' around' (Changed game kept found) f f' i i' k k' answer why no_files no_input no_output = absurd answer
+due_of g t t' input input' around' InputTooLong f f' i i' k k' answer why no_files no_input no_output = inr (record { base = answer.base; mended = answer.mended; opened = answer.opened }, answer.ran.lines.0)
+due_of g t t' input input' around' Memory f f' i i' k k' answer why no_files no_input no_output = inl refl
 
 -- ---- for every files, input and output
 
@@ -258,8 +260,8 @@ why_running (BadBase fault) f f' f'' i i' k k' k'' files out why = tt
 -- ---- the ways in which a session returns
 
 -- The words say nothing.
-pub usage_answers : (g : Given) (t : Option (List ℕ)) (input : Inlet) (seen : Seen) → words_read g.words ≡ None → AreGiven g seen → Answers g t t input input seen Usage
-usage_answers g t input seen none files = (none, record { unwritten = refl; unread = refl; files = files })
+pub usage_answers : (g : Given) (t : Option (List ℕ)) (input : Inlet) (around' : Around) → words_read g.words ≡ None → AreGiven g around'.seen → around'.now ≡ around'.first → Answers g t t input input around' Usage
+usage_answers g t input around' none files views = (none, record { unwritten = refl; unread = refl; files = files; views = views })
 
 pub usage_due : (g : Given) → words_read g.words ≡ None → Due g Usage
 usage_due g none = none
@@ -271,9 +273,9 @@ pub usage_reads : (input : Inlet) → Reads Usage input input
 usage_reads input = refl
 
 -- The script was run to its end.
-pub whole_answers : (g : Given) (t t' : Option (List ℕ)) (input input' : Inlet) (seen' : Seen) (base : Base) (mended : ℕ)
-    → (o : Opened g base mended) → RanAll (begun g base mended o) g.script (adds t (opening_line base mended)) t' input'.left seen' → Answers g t t' input input' seen' Done
-whole_answers g t t' input input' seen' base mended base_open ran = record { base = base; mended = mended; opened = base_open; ran = ran }
+pub whole_answers : (g : Given) (t t' : Option (List ℕ)) (input input' : Inlet) (around' : Around) (base : Base) (mended : ℕ)
+    → (o : Opened g base mended) → RanAll (begun g base mended o) g.script (adds t (opening_line base mended)) t' input'.left around' → Answers g t t' input input' around' Done
+whole_answers g t t' input input' around' base mended base_open ran = record { base = base; mended = mended; opened = base_open; ran = ran }
 
 pub done_chooses : (words : List (List ℕ)) (old new : List Choice) → ChoosesBase words old new → Chooses Done words old new
 done_chooses words old new chose = chose
@@ -286,51 +288,51 @@ done_reads old new = tt
 -- The opening line of the base that was opened.
 count_of : (create strict : Bool) (index names games : List ℕ) (holding : Holding) (seen : Seen) (mended count : ℕ) → (o : Opening create strict index names games holding seen mended)
     → count ≡ length holding.kept.entries → opening_text count mended ≡ opening_line o.base mended
-count_of create strict index names games holding seen mended count o same = ap (λ n. opening_text n mended) (same ∙ o.stands.base.count)
+count_of create strict index names games holding seen mended count o same = ap (λ n. opening_text n mended) (same ∙ (o.stands (slots_by []) (show_none [])).base.count)
 
 -- The opening line was broken off.
-pub line_session : (words : List (List ℕ)) (index names games script : List ℕ) (seen seen' : Seen) (wanted : Wanted) (holding : Holding) (mended count : ℕ) (t t' : Option (List ℕ)) (input : Inlet) (s : Stop) (k k' : ℕ)
+pub line_session : (words : List (List ℕ)) (index names games script : List ℕ) (views : Views) (seen seen' : Seen) (wanted : Wanted) (holding : Holding) (mended count : ℕ) (t t' : Option (List ℕ)) (input : Inlet) (s : Stop) (k k' : ℕ)
     → words_read words ≡ Some wanted
     → IfTold seen (λ index names games. Opening wanted.create wanted.strict index names games holding seen' mended)
     → count ≡ length holding.kept.entries → Halted [] (opening_text count mended) t t' → SameContents seen seen' → Why s (counts 0 0 k) (counts 0 0 k')
     → seen.index ≡ Some index → seen.names ≡ Some names → seen.games ≡ Some games
-    → Answers (given words index names games script) t t' input input seen' (status_of s)
-line_session words index names games script seen seen' wanted holding mended count t t' input s k k' said opens same wrote files why i n g =
+    → Answers (given words index names games script views) t t' input input (around seen' views none_told views) (status_of s)
+line_session words index names games script views seen seen' wanted holding mended count t t' input s k k' said opens same wrote files why i n g =
     let o : Opening wanted.create wanted.strict index names games holding seen' mended =
     told seen (λ index names games. Opening wanted.create wanted.strict index names games holding seen' mended) index names games opens i n g in
     let P : List ℕ → Type 0 = λ text. Halted [] text t t' in
-    line_answers (given words index names games script) t t' input seen' o.base mended s k k' (opened words index names games script seen' wanted holding mended said o)
-    (subst P (count_of wanted.create wanted.strict index names games holding seen' mended count o same) wrote) (as_given words index names games script seen seen' files i n g) why
+    line_answers (given words index names games script views) t t' input (around seen' views none_told views) o.base mended s k k' (opened words index names games script views seen' wanted holding mended said o)
+    (subst P (count_of wanted.create wanted.strict index names games holding seen' mended count o same) wrote) (as_given words index names games script views seen seen' files i n g) refl why
 
 -- The script was run to its end.
-pub whole_session : (words : List (List ℕ)) (index names games script : List ℕ) (seen seen' seen'' : Seen) (wanted : Wanted) (holding : Holding) (mended count : ℕ) (t t' t'' : Option (List ℕ)) (input input' : Inlet)
+pub whole_session : (words : List (List ℕ)) (index names games script : List ℕ) (views : Views) (seen seen' seen'' : Seen) (views'' : Views) (wanted : Wanted) (holding : Holding) (mended count : ℕ) (t t' t'' : Option (List ℕ)) (input input' : Inlet)
     → words_read words ≡ Some wanted
     → IfTold seen (λ index names games. Opening wanted.create wanted.strict index names games holding seen' mended)
-    → count ≡ length holding.kept.entries → t' ≡ adds t (opening_text count mended)
-    → ((s : State) (script : List ℕ) → Stands holding seen' s → input.left ≡ Some script → RanAll s script t' t'' input'.left seen'')
+    → length views ≤ 8 → (now later : Views) → now ≡ views → later ≡ views'' → count ≡ length holding.kept.entries → t' ≡ adds t (opening_text count mended)
+    → ((s : State) (first : Views) (most : ℕ → ℕ) (script : List ℕ) → Lives holding (around seen' first most now) s → input.left ≡ Some script → RanAll s script t' t'' input'.left (around seen'' first most later))
     → seen.index ≡ Some index → seen.names ≡ Some names → seen.games ≡ Some games → input.left ≡ Some script
-    → Answers (given words index names games script) t t'' input input' seen'' Done
-whole_session words index names games script seen seen' seen'' wanted holding mended count t t' t'' input input' said opens same wrote ran i n g left =
+    → Answers (given words index names games script views) t t'' input input' (around seen'' views none_told views'') Done
+whole_session words index names games script views seen seen' seen'' views'' wanted holding mended count t t' t'' input input' said opens few now later lent left_there same wrote ran i n g left =
     let o : Opening wanted.create wanted.strict index names games holding seen' mended =
     told seen (λ index names games. Opening wanted.create wanted.strict index names games holding seen' mended) index names games opens i n g in
-    let P : Option (List ℕ) → Type 0 = λ x. RanAll (begin (is_created wanted.create index names games) o.base) script x t'' input'.left seen'' in
-    whole_answers (given words index names games script) t t'' input input' seen'' o.base mended (opened words index names games script seen' wanted holding mended said o)
-    (subst P (wrote ∙ ap (adds t) (count_of wanted.create wanted.strict index names games holding seen' mended count o same)) (ran (begin (is_created wanted.create index names games) o.base) script o.stands left))
+    let P : Option (List ℕ) → Type 0 = λ x. RanAll (begin (is_created wanted.create index names games) (slots_by views) o.base) script x t'' input'.left (around seen'' views none_told views'') in
+    whole_answers (given words index names games script views) t t'' input input' (around seen'' views none_told views'') o.base mended (opened words index names games script views seen' wanted holding mended said o)
+    (subst P (wrote ∙ ap (adds t) (count_of wanted.create wanted.strict index names games holding seen' mended count o same)) (subst (λ (v : Views). RanAll (begin (is_created wanted.create index names games) (slots_by views) o.base) script t' t'' input'.left (around seen'' views none_told v)) left_there (ran (begin (is_created wanted.create index names games) (slots_by views) o.base) views none_told script (subst (λ (v : Views). Lives holding (around seen' views none_told v) (begin (is_created wanted.create index names games) (slots_by views) o.base)) (sym lent) (lives_first holding seen' views (is_created wanted.create index names games) o.base few (o.stands (slots_by views) (show_none views)))) left)))
 
 -- The run of the script stopped.
-pub part_session : (words : List (List ℕ)) (index names games script : List ℕ) (seen seen' seen'' : Seen) (wanted : Wanted) (holding : Holding) (mended count : ℕ) (t t' t'' : Option (List ℕ)) (input input' : Inlet) (status : Status)
+pub part_session : (words : List (List ℕ)) (index names games script : List ℕ) (views : Views) (seen seen' seen'' : Seen) (views'' : Views) (wanted : Wanted) (holding : Holding) (mended count : ℕ) (t t' t'' : Option (List ℕ)) (input input' : Inlet) (status : Status)
     → words_read words ≡ Some wanted
     → IfTold seen (λ index names games. Opening wanted.create wanted.strict index names games holding seen' mended)
-    → count ≡ length holding.kept.entries → t' ≡ adds t (opening_text count mended)
-    → ((s : State) (script : List ℕ) → Stands holding seen' s → input.left ≡ Some script → RanPart status s script t' t'' input'.left seen'')
+    → length views ≤ 8 → (now later : Views) → now ≡ views → later ≡ views'' → count ≡ length holding.kept.entries → t' ≡ adds t (opening_text count mended)
+    → ((s : State) (first : Views) (most : ℕ → ℕ) (script : List ℕ) → Lives holding (around seen' first most now) s → input.left ≡ Some script → RanPart status s script t' t'' input'.left (around seen'' first most later))
     → seen.index ≡ Some index → seen.names ≡ Some names → seen.games ≡ Some games → input.left ≡ Some script
-    → Answers (given words index names games script) t t'' input input' seen'' status
-part_session words index names games script seen seen' seen'' wanted holding mended count t t' t'' input input' status said opens same wrote ran i n g left =
+    → Answers (given words index names games script views) t t'' input input' (around seen'' views none_told views'') status
+part_session words index names games script views seen seen' seen'' views'' wanted holding mended count t t' t'' input input' status said opens few now later lent left_there same wrote ran i n g left =
     let o : Opening wanted.create wanted.strict index names games holding seen' mended =
     told seen (λ index names games. Opening wanted.create wanted.strict index names games holding seen' mended) index names games opens i n g in
-    let P : Option (List ℕ) → Type 0 = λ x. RanPart status (begin (is_created wanted.create index names games) o.base) script x t'' input'.left seen'' in
-    part_answers (given words index names games script) t t'' input input' seen'' o.base mended status (opened words index names games script seen' wanted holding mended said o)
-    (subst P (wrote ∙ ap (adds t) (count_of wanted.create wanted.strict index names games holding seen' mended count o same)) (ran (begin (is_created wanted.create index names games) o.base) script o.stands left))
+    let P : Option (List ℕ) → Type 0 = λ x. RanPart status (begin (is_created wanted.create index names games) (slots_by views) o.base) script x t'' input'.left (around seen'' views none_told views'') in
+    part_answers (given words index names games script views) t t'' input input' (around seen'' views none_told views'') o.base mended status (opened words index names games script views seen' wanted holding mended said o)
+    (subst P (wrote ∙ ap (adds t) (count_of wanted.create wanted.strict index names games holding seen' mended count o same)) (subst (λ (v : Views). RanPart status (begin (is_created wanted.create index names games) (slots_by views) o.base) script t' t'' input'.left (around seen'' views none_told v)) left_there (ran (begin (is_created wanted.create index names games) (slots_by views) o.base) views none_told script (subst (λ (v : Views). Lives holding (around seen' views none_told v) (begin (is_created wanted.create index names games) (slots_by views) o.base)) (sym lent) (lives_first holding seen' views (is_created wanted.create index names games) o.base few (o.stands (slots_by views) (show_none views)))) left)))
 
 -- The opening line stands in what was written where nothing that was written is lost.
 pub opened_by : (t t' t'' : Option (List ℕ)) (games mended : ℕ) → t' ≡ adds t (opening_text games mended) → NoneLost t' t'' → (n m : ℕ) × Grew (adds t (opening_text n m)) t''

@@ -1,5 +1,5 @@
 -- Laws of a line with its body: what the script says behind the line, and what is known where the body cannot be read to its end.
-use Rattle.std.proofs.Common.{Result, inl, inr, ◌≡◌, ◌≤◌, ◌<◌, ◌+◌, ◌-◌, ◌⊎◌, ℕ, Bool, true, false, not, is_some, option_map, leb, IfSome, List, [], ◌∷◌, ◌++◌, length, take, drop, Option, Some, None, Ok, Err, refl, sym, ap, ◌∙◌, subst, arith, append_assoc, append-nil}
+use Rattle.std.proofs.Common.{Result, inl, inr, ◌≡◌, ◌≤◌, ◌<◌, ◌+◌, ◌-◌, ◌⊎◌, ℕ, Bool, true, false, not, is_some, option_map, leb, IfSome, List, [], ◌∷◌, ◌++◌, length, take, drop, Option, Some, None, Ok, Err, refl, sym, ap, ◌∙◌, subst, arith, append_assoc, append-nil, cond}
 use Rattle.std.proofs.Math.Seq.{take-add, take-append_seam}
 use Rattle.std.proofs.lemmas.Bool.Decides.{leb_tells}
 use Rattle.std.proofs.lemmas.List.{length-append, length-drop, length-take-le, take-append-drop, take_all}
@@ -40,24 +40,28 @@ use Rattle.script_text.specs.Tasks.{Task, body_word, task, word_of}
 use Rattle.script_text.specs.declared.command.Command.{Command}
 use Rattle.script_text.specs.declared.command.Command.TheVariants.{Import, Replace, Eco, Quit}
 use Rattle.report_commands.specs.Classifying.{state_by}
+use Rattle.shell_commands.proofs.SlotLaws.{task_stays}
 use Rattle.shell_commands.specs.Tasks.{order_left, order_work, Order, order_price}
 use Rattle.intake_commands.specs.Importing.{Intake, intake, item_after, none_taken, state_with, the_new, unless_not_added}
-use Rattle.shell_state.specs.Stands.{Holding, Stands, WhyHalt}
-use Rattle.shell_state.specs.Carrying.{StillCarry}
+use Rattle.shell_state.specs.Slots.{Slot, slot_at}
+use Rattle.shell_state.specs.Stands.{Holding, WhyHalt}
 use Rattle.shell_state.specs.Refusing.{not_added}
 use Rattle.shell_state.specs.State.{Carried, State}
 use Rattle.shell_state.specs.declared.refusing.Refusal.{Refusal}
 use Rattle.shell_commands.specs.Tasks.{BrokenTask, tasks}
 use Rattle.shell_state.specs.declared.halt.Halt.{Halt}
 use Rattle.shell_state.specs.declared.halt.Halt.TheVariants as halt
-use Rattle.shell_state.proofs.CarryLaws.{carry_later, carry_of}
+use Rattle.shell_state.proofs.CarryLaws.{carry_later}
 use Rattle.shell_session.specs.Running.{BehindDone, BodyDone, Finished, GoneOn, Halts, Interrupted, Interrupts, Kept, LastDid, LastDone, LastHalts, Stops, WentOn, WentOut, behind_at}
+use Rattle.shell_commands.specs.Watching.{most_told}
+use Rattle.shell_session.specs.Around.{Around, Lives, Remains, none_told, told_all, told_more}
 use Rattle.shell_session.specs.Session.{Breaks, WhyStatus, price_all}
 use Rattle.shell_session.specs.Stops.{status_in_body, status_of_reading}
 use Rattle.shell_session.specs.declared.status.Status.{Status}
 use Rattle.shell_session.specs.declared.status.Status.TheVariants.{FilesFault, InputTooLong, Memory, ReadFault, WriteFault}
 use Rattle.shell_session.proofs.PriceLaws.{price_both, price_front}
-use Rattle.shell_session.proofs.RunningLaws.{front_stops, last_then_quit, line_behind, line_last, quit_stops, then_tasks}
+use Rattle.shell_session.proofs.ViewLaws.{lives_more, lives_since, lives_twice}
+use Rattle.shell_session.proofs.RunningLaws.{remains_of, stopped_so, front_stops, last_then_quit, line_behind, line_last, quit_stops, then_tasks}
 
 -- ---- the lines that have bodies
 
@@ -135,9 +139,19 @@ carried_of order word s body (inr (inr is)) =
     let P : Order → Option Carried = λ o. (tasks.after s (task o body)).shared.carried in
     ap P is ∙ table_carried s (table_of body)
 
-pub body_carries : (order : Order) (word body : List ℕ) (holding : Holding) (seen : Seen) (s : State) → body_word order ≡ Some word → Stands holding seen (tasks.after s (task order body)) → StillCarry seen s (order_left order)
-body_carries order word body holding seen s is stands =
-    carry_later holding seen s (tasks.after s (task order body)) (order_left order) (carried_of order word s body (has_body order word is)) stands
+-- And what the slots show.
+body_slots : (order : Order) (word body : List ℕ) (s : State) → HasBody order word → (tasks.after s (task order body)).slots ≡ s.slots
+body_slots order word body s (inl is) = task_stays s (task order body) (λ k board side same. cc) (λ k same. cc)
+body_slots order word body s (inr (inl (game, is))) = task_stays s (task order body) (λ k board side same. cc) (λ k same. cc)
+body_slots order word body s (inr (inr is)) = task_stays s (task order body) (λ k board side same. cc) (λ k same. cc)
+
+pub body_remains : (order : Order) (word body : List ℕ) (holding : Holding) (around : Around) (more : ℕ → ℕ) (s : State) → body_word order ≡ Some word → Lives holding (told_more around more) (tasks.after s (task order body)) → Remains around s order
+body_remains order word body holding around more s is lives =
+    let slots : (tasks.after s (task order body)).slots ≡ s.slots = body_slots order word body s (has_body order word is) in
+    record {
+      carries = carry_later holding around.seen s (tasks.after s (task order body)) (order_left order) (carried_of order word s body (has_body order word is)) lives.stands;
+      views = λ k idle other. lives.views.idle k (ap (λ (l : List Slot). slot_at l k) slots ∙ idle);
+    }
 
 -- ---- what is said behind a line
 
@@ -197,10 +211,10 @@ longer (Some line) order word ahead m end is none more =
 
 -- ---- a line without a body
 
-pub line_on : (order : Order) (s : State) (ahead : List ℕ) (reader : Reader) (holding' : Holding) (seen' : Seen) (l t t' : Option (List ℕ)) (a a' : ℕ) → is_quit order ≡ false → body_word order ≡ None
-    → before reader.unread l ≡ Some ahead → Done (Stands holding' seen') (tasks.after s (task order [])) (tasks.text s (task order [])) t t' → a' ≤ a + order_price s order
-    → WentOn order s ahead reader.used holding' seen' reader l t t' a a'
-line_on order s ahead reader holding' seen' l t t' a a' goes none known did asked = record {
+pub line_on : (order : Order) (s : State) (ahead : List ℕ) (reader : Reader) (holding' : Holding) (around' : Around) (l t t' : Option (List ℕ)) (a a' : ℕ) → is_quit order ≡ false → body_word order ≡ None
+    → before reader.unread l ≡ Some ahead → Done (Lives holding' (told_more around' (most_told s (task order [])))) (tasks.after s (task order [])) (tasks.text s (task order [])) t t' → a' ≤ a + order_price s order
+    → WentOn order s ahead reader.used holding' around' reader l t t' a a'
+line_on order s ahead reader holding' around' l t t' a a' goes none known did asked = record {
   body = [];
   front = [];
   did = did;
@@ -210,15 +224,18 @@ line_on order s ahead reader holding' seen' l t t' a a' goes none known did aske
   asks = asked;
 }
 
-pub line_finished : (order : Order) (s : State) (ahead : List ℕ) (reader : Reader) (holding' : Holding) (seen' : Seen) (l t t' : Option (List ℕ)) (a a' : ℕ) → is_quit order ≡ true
+pub line_finished : (order : Order) (s : State) (ahead : List ℕ) (reader : Reader) (holding' : Holding) (around' : Around) (l t t' : Option (List ℕ)) (a a' : ℕ) → is_quit order ≡ true
     → before reader.unread l ≡ Some ahead → reader.used ≤ longest_script → length reader.unread ≤ piece_len
-    → Done (Stands holding' seen') (tasks.after s (task order [])) (tasks.text s (task order [])) t t' → a' ≤ a + order_price s order
-    → Finished order s ahead reader.used holding' seen' l t t' a a'
-line_finished order s ahead reader holding' seen' l t t' a a' quit known used few did asked = record {
+    → Done (Lives holding' (told_more around' (most_told s (task order [])))) (tasks.after s (task order [])) (tasks.text s (task order [])) t t' → a' ≤ a + order_price s order
+    → Finished order s ahead reader.used holding' around' l t t' a a'
+line_finished order s ahead reader holding' around' l t t' a a' quit known used few did asked = record {
   lasts = task order [] ∷ [];
   size = 0;
   front = reader.unread;
-  did = record { stands = did.stands; written = did.written ∙ ap (adds t) (sym (append-nil (tasks.text s (task order [])))) };
+  did = record {
+    stands = lives_more holding' around' (most_told s (task order [])) (told_all s (task order [] ∷ [])) _ did.stands (λ k. omega arith);
+    written = did.written ∙ ap (adds t) (sym (append-nil (tasks.text s (task order []))));
+  };
   says = on_quit then_quit order ahead quit;
   within = omega (arith, used);
   left = sym known;
@@ -227,27 +244,44 @@ line_finished order s ahead reader holding' seen' l t t' a a' quit known used fe
   asks = omega (arith, asked);
 }
 
-pub line_halts : (order : Order) (s : State) (ahead : List ℕ) (used : ℕ) (seen' : Seen) (l t t' : Option (List ℕ)) (a a' : ℕ) (status : Status) → body_word order ≡ None
-    → Interrupted status seen' s (task order []) t t' → a' ≤ a + order_price s order → Halts status seen' order s ahead used l t t' a a'
-line_halts order s ahead used seen' l t t' a a' status none cut asked =
+pub line_halts : (order : Order) (s : State) (ahead : List ℕ) (used : ℕ) (around' : Around) (l t t' : Option (List ℕ)) (a a' : ℕ) (status : Status) → body_word order ≡ None
+    → Interrupted status around' s (task order []) t t' → a' ≤ a + order_price s order → Halts status around' order s ahead used l t t' a a'
+line_halts order s ahead used around' l t t' a a' status none cut asked =
     let led = led_alone (is_quit order) order ahead refl none in
     record {
-      stopped = (front_stops seen' s (task order []) (led_on then_quit order ahead).tasks led.0 t t' status led.1 cut.cut).0;
+      stopped = (front_stops around' s (task order []) (led_on then_quit order ahead).tasks led.0 t t' status led.1 cut.cut).0;
       lines = line_behind status order ahead used l _ cut.line;
       asks = price_front s (led_on then_quit order ahead).tasks led.0 order [] a a' led.1 asked;
     }
 
 -- ---- the body that the input ends, and `quit`
 
-pub out_finished : (order : Order) (s : State) (ahead : List ℕ) (used : ℕ) (holding holding' : Holding) (seen seen' : Seen) (l t t' t'' : Option (List ℕ)) (a a' a'' : ℕ) → is_quit order ≡ false
-    → (out : WentOut order s ahead used holding seen l t t' a a')
-    → Done (Stands holding' seen') (tasks.after (tasks.after s (task order out.body)) (task (Ok Quit) [])) (tasks.text (tasks.after s (task order out.body)) (task (Ok Quit) [])) t' t''
-    → a'' ≤ a' + order_price (tasks.after s (task order out.body)) (Ok Quit) → Finished order s ahead used holding' seen' l t t'' a a''
-out_finished order s ahead used holding holding' seen seen' l t t' t'' a a' a'' goes out did asked = record {
+pub told_first : (s : State) (last : Task) (k : ℕ) → most_told s last k ≤ told_all s (then_quit last) k
+told_first s last k = by_test (is_quit last.order) s last k where
+  by_test : (test : Bool) (s : State) (last : Task) (k : ℕ) → most_told s last k ≤ told_all s (cond test (last ∷ []) (last ∷ task (Ok Quit) [] ∷ [])) k
+  by_test true s last k = omega arith
+  by_test false s last k = omega arith
+
+pub told_both : (s : State) (last : Task) → is_quit last.order ≡ false → (k : ℕ) → most_told s last k + most_told (tasks.after s last) (task (Ok Quit) []) k ≤ told_all s (then_quit last) k
+told_both s last goes k = rw goes (omega arith)
+
+pub out_finished : (order : Order) (s : State) (ahead : List ℕ) (used : ℕ) (holding holding' : Holding) (around around' : Around) (l t t' t'' : Option (List ℕ)) (a a' a'' : ℕ) → is_quit order ≡ false
+    → (out : WentOut order s ahead used holding around l t t' a a')
+    → Done (Lives holding' (told_more (told_more around' (most_told s (task order out.body))) (most_told (tasks.after s (task order out.body)) (task (Ok Quit) [])))) (tasks.after (tasks.after s (task order out.body)) (task (Ok Quit) []))
+    (tasks.text (tasks.after s (task order out.body)) (task (Ok Quit) [])) t' t''
+    → a'' ≤ a' + order_price (tasks.after s (task order out.body)) (Ok Quit) → Finished order s ahead used holding' around' l t t'' a a''
+out_finished order s ahead used holding holding' around around' l t t' t'' a a' a'' goes out did asked = record {
   lasts = then_quit (task order out.body);
   size = length ahead;
   front = ahead;
-  did = last_then_quit (Stands holding seen) (Stands holding' seen') s (task order out.body) t t' t'' goes out.did did;
+  did =
+      last_then_quit (Lives holding (told_more around (most_told s (task order out.body)))) (Lives holding' (told_more around' (told_all s (then_quit (task order out.body))))) s (task order out.body) t t' t'' goes out.did
+      (record {
+        stands =
+            lives_twice holding' around' (most_told s (task order out.body)) (most_told (tasks.after s (task order out.body)) (task (Ok Quit) [])) (told_all s (then_quit (task order out.body))) _ did.stands
+            (told_both s (task order out.body) goes);
+        written = did.written;
+      });
   says = out.says then_quit;
   within = out.within;
   left = ap (λ (x : List ℕ). Some x) (sym (append-nil ahead)) ∙ ap (before ahead) (sym out.left);
@@ -256,16 +290,17 @@ out_finished order s ahead used holding holding' seen seen' l t t' t'' a a' a'' 
   asks = price_both s (task order out.body) a a' a'' goes out.asks asked;
 }
 
-pub out_halts : (order : Order) (s : State) (ahead : List ℕ) (used : ℕ) (holding : Holding) (seen seen' : Seen) (l t t' t'' : Option (List ℕ)) (a a' a'' : ℕ) (status : Status) → is_quit order ≡ false
-    → (out : WentOut order s ahead used holding seen l t t' a a') → Interrupted status seen' (tasks.after s (task order out.body)) (task (Ok Quit) []) t' t''
-    → a'' ≤ a' + order_price (tasks.after s (task order out.body)) (Ok Quit) → Halts status seen' order s ahead used l t t'' a a''
-out_halts order s ahead used holding seen seen' l t t' t'' a a' a'' status goes out cut asked =
-    let stops : Stops status seen' s (then_quit (task order out.body)) t t'' = quit_stops (Stands holding seen) seen' s (task order out.body) t t' t'' status goes out.did cut in
+pub out_halts : (order : Order) (s : State) (ahead : List ℕ) (used : ℕ) (holding : Holding) (around around' : Around) (l t t' t'' : Option (List ℕ)) (a a' a'' : ℕ) (status : Status) → is_quit order ≡ false
+    → (out : WentOut order s ahead used holding around l t t' a a') → Interrupted status (told_more around' (most_told s (task order out.body))) (tasks.after s (task order out.body)) (task (Ok Quit) []) t' t''
+    → a'' ≤ a' + order_price (tasks.after s (task order out.body)) (Ok Quit) → Halts status around' order s ahead used l t t'' a a''
+out_halts order s ahead used holding around around' l t t' t'' a a' a'' status goes out cut asked =
+    let stops : Stops status (told_more around' (most_told s (task order out.body))) s (then_quit (task order out.body)) t t'' =
+    quit_stops (Lives holding (told_more around (most_told s (task order out.body)))) (told_more around' (most_told s (task order out.body))) s (task order out.body) t t' t'' status goes out.did cut in
     let all : then_quit (task order out.body) ≡ (led_on then_quit order ahead).tasks = sym (ap (λ (x : Script). x.tasks) (out.says then_quit)) in
-    let P : List Task → Type 0 = λ ts. Stopped tasks (Breaks status seen') s ts t t'' in
+    let P : List Task → Type 0 = λ ts. Stopped tasks (Breaks status around') s ts t t'' in
     let Q : List Task → Type 0 = λ ts. a'' ≤ a + price_all s ts in
     record {
-      stopped = subst P all stops.stopped;
+      stopped = subst P all (stopped_so status around' (most_told s (task order out.body)) s (then_quit (task order out.body)) t t'' stops.stopped);
       lines = line_behind status order ahead used l _ cut.line;
       asks = subst Q all (price_both s (task order out.body) a a' a'' goes out.asks asked);
     }
@@ -309,11 +344,11 @@ count_fits : (order : Order) (word ahead : List ℕ) (reader : Reader) (l : Opti
 count_fits order word ahead reader l b f p l' b' f' at = let h : p.reader.used ≤ reader.used + length ahead = at.stands.there ahead at.known in omega (arith, h)
 
 -- A line ended the body.
-went_on : (order : Order) (word ahead : List ℕ) (reader : Reader) (l : Option (List ℕ)) (b f : ℕ) (p : Place) (l' : Option (List ℕ)) (b' f' : ℕ) (s : State) (holding' : Holding) (seen' : Seen) (t t' : Option (List ℕ)) (a a' line : ℕ)
+went_on : (order : Order) (word ahead : List ℕ) (reader : Reader) (l : Option (List ℕ)) (b f : ℕ) (p : Place) (l' : Option (List ℕ)) (b' f' : ℕ) (s : State) (holding' : Holding) (around' : Around) (t t' : Option (List ℕ)) (a a' line : ℕ)
     → InBody order word ahead reader l b f p l' b' f' → p.at ≡ Behind line
-    → Done (Stands holding' seen') (tasks.after s (task order (body_of word true ahead).bytes)) (tasks.text s (task order (body_of word true ahead).bytes)) t t' → a' ≤ a + order_price s order
-    → WentOn order s ahead reader.used holding' seen' p.reader l' t t' a a'
-went_on order word ahead reader l b f p l' b' f' s holding' seen' t t' a a' line at is did asked =
+    → Done (Lives holding' (told_more around' (most_told s (task order (body_of word true ahead).bytes)))) (tasks.after s (task order (body_of word true ahead).bytes)) (tasks.text s (task order (body_of word true ahead).bytes)) t t' → a' ≤ a + order_price s order
+    → WentOn order s ahead reader.used holding' around' p.reader l' t t' a a'
+went_on order word ahead reader l b f p l' b' f' s holding' around' t t' a a' line at is did asked =
     let n : ℕ = p.reader.used - reader.used in
     let fits : n ≤ length ahead = count_fits order word ahead reader l b f p l' b' f' at in
     let begins : reader.used ≤ p.reader.used = at.stands.begins in
@@ -337,11 +372,11 @@ went_on order word ahead reader l b f p l' b' f' s holding' seen' t t' a a' line
     }
 
 -- The input did.
-went_out : (order : Order) (word ahead : List ℕ) (reader : Reader) (l : Option (List ℕ)) (b f : ℕ) (p : Place) (l' : Option (List ℕ)) (b' f' : ℕ) (s : State) (holding' : Holding) (seen' : Seen) (t t' : Option (List ℕ)) (a a' : ℕ)
+went_out : (order : Order) (word ahead : List ℕ) (reader : Reader) (l : Option (List ℕ)) (b f : ℕ) (p : Place) (l' : Option (List ℕ)) (b' f' : ℕ) (s : State) (holding' : Holding) (around' : Around) (t t' : Option (List ℕ)) (a a' : ℕ)
     → InBody order word ahead reader l b f p l' b' f' → p.at ≡ End
-    → Done (Stands holding' seen') (tasks.after s (task order (body_of word true ahead).bytes)) (tasks.text s (task order (body_of word true ahead).bytes)) t t' → a' ≤ a + order_price s order
-    → WentOut order s ahead reader.used holding' seen' l' t t' a a'
-went_out order word ahead reader l b f p l' b' f' s holding' seen' t t' a a' at is did asked =
+    → Done (Lives holding' (told_more around' (most_told s (task order (body_of word true ahead).bytes)))) (tasks.after s (task order (body_of word true ahead).bytes)) (tasks.text s (task order (body_of word true ahead).bytes)) t t' → a' ≤ a + order_price s order
+    → WentOut order s ahead reader.used holding' around' l' t t' a a'
+went_out order word ahead reader l b f p l' b' f' s holding' around' t t' a a' at is did asked =
     let n : ℕ = p.reader.used - reader.used in
     let fits : n ≤ length ahead = count_fits order word ahead reader l b f p l' b' f' at in
     let begins : reader.used ≤ p.reader.used = at.stands.begins in
@@ -370,14 +405,14 @@ at_end Inside reader P shut on out = absurd (not_open shut)
 at_end (Behind line) reader P shut on out = on line refl
 at_end End reader P shut on out = out refl
 
-pub body_done : (order : Order) (word ahead : List ℕ) (reader : Reader) (l : Option (List ℕ)) (b f : ℕ) (p : Place) (l' : Option (List ℕ)) (b' f' : ℕ) (s : State) (holding' : Holding) (seen' : Seen) (t t' : Option (List ℕ)) (a a' : ℕ)
+pub body_done : (order : Order) (word ahead : List ℕ) (reader : Reader) (l : Option (List ℕ)) (b f : ℕ) (p : Place) (l' : Option (List ℕ)) (b' f' : ℕ) (s : State) (holding' : Holding) (around' : Around) (t t' : Option (List ℕ)) (a a' : ℕ)
     → is_open p.at ≡ false → InBody order word ahead reader l b f p l' b' f'
-    → Done (Stands holding' seen') (tasks.after s (task order (body_of word true ahead).bytes)) (tasks.text s (task order (body_of word true ahead).bytes)) t t' → a' ≤ a + order_price s order
-    → BodyDone order s ahead reader.used holding' seen' (behind_at p.at p.reader) l' t t' a a'
-body_done order word ahead reader l b f p l' b' f' s holding' seen' t t' a a' shut at did asked =
-    at_end p.at p.reader (λ back. BodyDone order s ahead reader.used holding' seen' back l' t t' a a') shut
-    (λ line is. went_on order word ahead reader l b f p l' b' f' s holding' seen' t t' a a' line at is did asked)
-    (λ is. went_out order word ahead reader l b f p l' b' f' s holding' seen' t t' a a' at is did asked)
+    → Done (Lives holding' (told_more around' (most_told s (task order (body_of word true ahead).bytes)))) (tasks.after s (task order (body_of word true ahead).bytes)) (tasks.text s (task order (body_of word true ahead).bytes)) t t' → a' ≤ a + order_price s order
+    → BodyDone order s ahead reader.used holding' around' (behind_at p.at p.reader) l' t t' a a'
+body_done order word ahead reader l b f p l' b' f' s holding' around' t t' a a' shut at did asked =
+    at_end p.at p.reader (λ back. BodyDone order s ahead reader.used holding' around' back l' t t' a a') shut
+    (λ line is. went_on order word ahead reader l b f p l' b' f' s holding' around' t t' a a' line at is did asked)
+    (λ is. went_out order word ahead reader l b f p l' b' f' s holding' around' t t' a a' at is did asked)
 
 pub body_gone : (at : At) (old new : Reader) (b b' : ℕ) → GoneOn old b new b' → IfSome (behind_at at new) (λ later. GoneOn old b later b')
 body_gone Line old new b b' gone = tt
@@ -388,12 +423,12 @@ body_gone End old new b b' gone = tt
 -- ---- a body that cannot be read to its end
 
 -- The task was broken off by this status.
-body_cut : (order : Order) (word ahead : List ℕ) (s : State) (seen' : Seen) (t t' : Option (List ℕ)) (status : Status) → body_word order ≡ Some word
-    → Cut (Breaks status seen' s (task order (body_of word true ahead).bytes)) (tasks.text s (task order (body_of word true ahead).bytes)) t t'
-    → (q : Stopped tasks (Breaks status seen') s (led_on then_quit order ahead).tasks t t') × (q.done ≡ [])
-body_cut order word ahead s seen' t t' status is cut =
+body_cut : (order : Order) (word ahead : List ℕ) (s : State) (around' : Around) (t t' : Option (List ℕ)) (status : Status) → body_word order ≡ Some word
+    → Cut (Breaks status around' s (task order (body_of word true ahead).bytes)) (tasks.text s (task order (body_of word true ahead).bytes)) t t'
+    → (q : Stopped tasks (Breaks status around') s (led_on then_quit order ahead).tasks t t') × (q.done ≡ [])
+body_cut order word ahead s around' t t' status is cut =
     let led = led_body (body_of word true ahead).end order word ahead refl is in
-    front_stops seen' s (task order (body_of word true ahead).bytes) (led_on then_quit order ahead).tasks led.0 t t' status led.1 cut
+    front_stops around' s (task order (body_of word true ahead).bytes) (led_on then_quit order ahead).tasks led.0 t t' status led.1 cut
 
 body_paid : (order : Order) (word ahead : List ℕ) (s : State) (a a' : ℕ) → body_word order ≡ Some word → a' ≤ a + order_price s order → a' ≤ a + price_all s (led_on then_quit order ahead).tasks
 body_paid order word ahead s a a' is asked =
@@ -413,19 +448,19 @@ read_front order word ahead reader l b f p l' b' f' at =
     ap (λ x. x ++ rest.later) front ∙ append_assoc (take n ahead) p.reader.unread rest.later ∙ ap (λ x. take n ahead ++ x) rest.bytes ∙ take-append-drop n ahead in
     ap (λ (x : List ℕ). Some x) (sym all) ∙ ap (before (take (n + m) ahead)) (sym rest.is)
 
-halts_stuck : (e : ReadError) (order : Order) (word ahead : List ℕ) (reader : Reader) (l : Option (List ℕ)) (b f : ℕ) (p : Place) (l' : Option (List ℕ)) (b' f' : ℕ) (s : State) (seen' : Seen) (t t' : Option (List ℕ)) (a a' : ℕ)
-    → p.stuck ≡ Some e → InBody order word ahead reader l b f p l' b' f' → Halted [] (tasks.text s (task order (body_of word true ahead).bytes)) t t' → StillCarry seen' s (order_left order) → a' ≤ a + order_price s order
-    → Halts (status_of_reading e) seen' order s ahead reader.used l' t t' a a'
-halts_stuck error.Failed order word ahead reader l b f p l' b' f' s seen' t t' a a' is at wrote carries asked =
-    let q = body_cut order word ahead s seen' t t' ReadFault at.has (record { wrote = wrote; broken = record { broken = tt; carries = carries } }) in
+halts_stuck : (e : ReadError) (order : Order) (word ahead : List ℕ) (reader : Reader) (l : Option (List ℕ)) (b f : ℕ) (p : Place) (l' : Option (List ℕ)) (b' f' : ℕ) (s : State) (around' : Around) (t t' : Option (List ℕ)) (a a' : ℕ)
+    → p.stuck ≡ Some e → InBody order word ahead reader l b f p l' b' f' → Halted [] (tasks.text s (task order (body_of word true ahead).bytes)) t t' → Remains around' s order → a' ≤ a + order_price s order
+    → Halts (status_of_reading e) around' order s ahead reader.used l' t t' a a'
+halts_stuck error.Failed order word ahead reader l b f p l' b' f' s around' t t' a a' is at wrote remains asked =
+    let q = body_cut order word ahead s around' t t' ReadFault at.has (record { wrote = wrote; broken = record { broken = tt; remains = remains } }) in
     let front : List ℕ = take (p.reader.used - reader.used + length p.reader.unread) ahead in
     record {
       stopped = q.0;
       lines = (front, read_front order word ahead reader l b f p l' b' f' at, q.1 ∙ none_whole order word front at.has (at.stands.in_vain is ahead at.known));
       asks = body_paid order word ahead s a a' at.has asked;
     }
-halts_stuck error.TooLong order word ahead reader l b f p l' b' f' s seen' t t' a a' is at wrote carries asked =
-    let q = body_cut order word ahead s seen' t t' InputTooLong at.has (record { wrote = wrote; broken = record { broken = tt; carries = carries } }) in
+halts_stuck error.TooLong order word ahead reader l b f p l' b' f' s around' t t' a a' is at wrote remains asked =
+    let q = body_cut order word ahead s around' t t' InputTooLong at.has (record { wrote = wrote; broken = record { broken = tt; remains = remains } }) in
     let n : ℕ = p.reader.used - reader.used in
     let fits : n ≤ length ahead = count_fits order word ahead reader l b f p l' b' f' at in
     let begins : reader.used ≤ p.reader.used = at.stands.begins in
@@ -441,7 +476,7 @@ halts_stuck error.TooLong order word ahead reader l b f p l' b' f' s seen' t t' 
       lines = (omega (arith, more, few), q.1 ∙ none_whole order word (take (longest_script - reader.used) ahead) at.has none);
       asks = body_paid order word ahead s a a' at.has asked;
     }
-halts_stuck error.Memory order word ahead reader l b f p l' b' f' s seen' t t' a a' is at wrote carries asked = absurd (at.stands.no_other is)
+halts_stuck error.Memory order word ahead reader l b f p l' b' f' s around' t t' a a' is at wrote remains asked = absurd (at.stands.no_other is)
 
 none_rose : (r : ℕ) → Rose r 0 → ⊥
 none_rose r (inl rose) = absurd (omega (arith, rose))
@@ -451,54 +486,54 @@ none_rose r (inr last) = absurd (omega (arith, last))
 must_stick : (word : List ℕ) (reader : Reader) (l : Option (List ℕ)) (b f : ℕ) (p : Place) (l' : Option (List ℕ)) (b' f' r : ℕ) → Standing (start_at word reader l b f) p l' b' f' → p.stuck ≡ None → Rose r p.refused → ⊥
 must_stick word reader l b f p l' b' f' r st is rose = none_rose r (subst (λ (n : ℕ). Rose r n) (st.free is) rose)
 
-pub body_halts : (end : Halt) (stuck : Option ReadError) (order : Order) (word ahead : List ℕ) (reader : Reader) (l : Option (List ℕ)) (b f : ℕ) (p : Place) (l' : Option (List ℕ)) (b' f' : ℕ) (s : State) (seen' : Seen) (t t' : Option (List ℕ)) (a a' x x' r k k' : ℕ)
+pub body_halts : (end : Halt) (stuck : Option ReadError) (order : Order) (word ahead : List ℕ) (reader : Reader) (l : Option (List ℕ)) (b f : ℕ) (p : Place) (l' : Option (List ℕ)) (b' f' : ℕ) (s : State) (around' : Around) (t t' : Option (List ℕ)) (a a' x x' r k k' : ℕ)
     → p.stuck ≡ stuck → InBody order word ahead reader l b f p l' b' f' → Halted [] (tasks.text s (task order (body_of word true ahead).bytes)) t t'
-    → BrokenTask s (task order (body_of word true ahead).bytes) end → StillCarry seen' s (order_left order) → WhyHalt end (counts x r k) (counts x' p.refused k') → a' ≤ a + order_price s order
-    → Halts (status_in_body end stuck) seen' order s ahead reader.used l' t t' a a'
-body_halts (halt.Device stop.Read) (Some e) order word ahead reader l b f p l' b' f' s seen' t t' a a' x x' r k k' is at wrote broken carries why asked =
-    halts_stuck e order word ahead reader l b f p l' b' f' s seen' t t' a a' is at wrote carries asked
-body_halts (halt.Device stop.Read) None order word ahead reader l b f p l' b' f' s seen' t t' a a' x x' r k k' is at wrote broken carries why asked =
+    → BrokenTask s (task order (body_of word true ahead).bytes) end → Remains around' s order → WhyHalt end (counts x r k) (counts x' p.refused k') → a' ≤ a + order_price s order
+    → Halts (status_in_body end stuck) around' order s ahead reader.used l' t t' a a'
+body_halts (halt.Device stop.Read) (Some e) order word ahead reader l b f p l' b' f' s around' t t' a a' x x' r k k' is at wrote broken remains why asked =
+    halts_stuck e order word ahead reader l b f p l' b' f' s around' t t' a a' is at wrote remains asked
+body_halts (halt.Device stop.Read) None order word ahead reader l b f p l' b' f' s around' t t' a a' x x' r k k' is at wrote broken remains why asked =
     absurd (must_stick word reader l b f p l' b' f' r at.stands is why)
-body_halts (halt.Device stop.Files) stuck order word ahead reader l b f p l' b' f' s seen' t t' a a' x x' r k k' is at wrote broken carries why asked = record {
-  stopped = (body_cut order word ahead s seen' t t' FilesFault at.has (record { wrote = wrote; broken = record { broken = broken; carries = carries } })).0;
+body_halts (halt.Device stop.Files) stuck order word ahead reader l b f p l' b' f' s around' t t' a a' x x' r k k' is at wrote broken remains why asked = record {
+  stopped = (body_cut order word ahead s around' t t' FilesFault at.has (record { wrote = wrote; broken = record { broken = broken; remains = remains } })).0;
   lines = tt;
   asks = body_paid order word ahead s a a' at.has asked;
 }
-body_halts (halt.Device stop.Write) stuck order word ahead reader l b f p l' b' f' s seen' t t' a a' x x' r k k' is at wrote broken carries why asked = record {
-  stopped = (body_cut order word ahead s seen' t t' WriteFault at.has (record { wrote = wrote; broken = record { broken = tt; carries = carries } })).0;
+body_halts (halt.Device stop.Write) stuck order word ahead reader l b f p l' b' f' s around' t t' a a' x x' r k k' is at wrote broken remains why asked = record {
+  stopped = (body_cut order word ahead s around' t t' WriteFault at.has (record { wrote = wrote; broken = record { broken = tt; remains = remains } })).0;
   lines = tt;
   asks = body_paid order word ahead s a a' at.has asked;
 }
-body_halts (halt.Device stop.Memory) stuck order word ahead reader l b f p l' b' f' s seen' t t' a a' x x' r k k' is at wrote broken carries why asked = record {
-  stopped = (body_cut order word ahead s seen' t t' Memory at.has (record { wrote = wrote; broken = record { broken = tt; carries = carries } })).0;
+body_halts (halt.Device stop.Memory) stuck order word ahead reader l b f p l' b' f' s around' t t' a a' x x' r k k' is at wrote broken remains why asked = record {
+  stopped = (body_cut order word ahead s around' t t' Memory at.has (record { wrote = wrote; broken = record { broken = tt; remains = remains } })).0;
   lines = tt;
   asks = body_paid order word ahead s a a' at.has asked;
 }
-body_halts (halt.Changed game kept found) stuck order word ahead reader l b f p l' b' f' s seen' t t' a a' x x' r k k' is at wrote broken carries why asked = absurd broken
+body_halts (halt.Changed game kept found) stuck order word ahead reader l b f p l' b' f' s around' t t' a a' x x' r k k' is at wrote broken remains why asked = absurd broken
 
 -- Nothing of it was read, since memory ran out.
-pub body_short : (order : Order) (word ahead : List ℕ) (holding : Holding) (seen : Seen) (s : State) (used : ℕ) (l t : Option (List ℕ)) (a : ℕ) → body_word order ≡ Some word → Stands holding seen s
-    → Halts Memory seen order s ahead used l t t a a
-body_short order word ahead holding seen s used l t a is stands = record {
+pub body_short : (order : Order) (word ahead : List ℕ) (holding : Holding) (around : Around) (s : State) (used : ℕ) (l t : Option (List ℕ)) (a : ℕ) → body_word order ≡ Some word → Lives holding around s
+    → Halts Memory around order s ahead used l t t a a
+body_short order word ahead holding around s used l t a is stands = record {
   stopped =
-      (body_cut order word ahead s seen t t Memory is
-      (record { wrote = halted_none (tasks.text s (task order (body_of word true ahead).bytes)) t; broken = record { broken = tt; carries = carry_of holding seen s (order_left order) stands } })).0;
+      (body_cut order word ahead s around t t Memory is
+      (record { wrote = halted_none (tasks.text s (task order (body_of word true ahead).bytes)) t; broken = record { broken = tt; remains = remains_of holding around none_told s order (lives_since holding around none_told s stands) } })).0;
   lines = tt;
   asks = omega arith;
 }
 
 -- The command was done, and the rest of its body could not be read.
-pub drain_halts : (stuck : Option ReadError) (order : Order) (word ahead : List ℕ) (reader : Reader) (l : Option (List ℕ)) (b f : ℕ) (p : Place) (l' : Option (List ℕ)) (b' f' : ℕ) (s : State) (holding' : Holding) (seen' : Seen) (t t' : Option (List ℕ)) (a a' r : ℕ)
+pub drain_halts : (stuck : Option ReadError) (order : Order) (word ahead : List ℕ) (reader : Reader) (l : Option (List ℕ)) (b f : ℕ) (p : Place) (l' : Option (List ℕ)) (b' f' : ℕ) (s : State) (holding' : Holding) (around' : Around) (t t' : Option (List ℕ)) (a a' r : ℕ)
     → p.stuck ≡ stuck → InBody order word ahead reader l b f p l' b' f'
-    → Done (Stands holding' seen') (tasks.after s (task order (body_of word true ahead).bytes)) (tasks.text s (task order (body_of word true ahead).bytes)) t t'
+    → Done (Lives holding' (told_more around' (most_told s (task order (body_of word true ahead).bytes)))) (tasks.after s (task order (body_of word true ahead).bytes)) (tasks.text s (task order (body_of word true ahead).bytes)) t t'
     → Rose r p.refused → a' ≤ a + order_price s order
-    → Halts (status_in_body (halt.Device stop.Read) stuck) seen' order s ahead reader.used l' t t' a a'
-drain_halts stuck order word ahead reader l b f p l' b' f' s holding' seen' t t' a a' r is at did rose asked =
+    → Halts (status_in_body (halt.Device stop.Read) stuck) around' order s ahead reader.used l' t t' a a'
+drain_halts stuck order word ahead reader l b f p l' b' f' s holding' around' t t' a a' r is at did rose asked =
     let text : List ℕ = tasks.text s (task order (body_of word true ahead).bytes) in
     let Q : List ℕ → Type 0 = λ x. Halted [] x t t' in
-    body_halts (halt.Device stop.Read) stuck order word ahead reader l b f p l' b' f' s seen' t t' a a' 0 0 r 0 0 is at
+    body_halts (halt.Device stop.Read) stuck order word ahead reader l b f p l' b' f' s around' t t' a a' 0 0 r 0 0 is at
     (subst Q (append-nil text) (halted_within [] text text [] t t' (halted_all text t t' did.written)))
-    (reads_body order word (body_of word true ahead).bytes (has_body order word at.has)) (body_carries order word (body_of word true ahead).bytes holding' seen' s at.has did.stands) rose asked
+    (reads_body order word (body_of word true ahead).bytes (has_body order word at.has)) (body_remains order word (body_of word true ahead).bytes holding' around' _ s at.has did.stands) rose asked
 
 -- ---- for every files, input and output
 
@@ -569,23 +604,23 @@ led_nothing last order word is =
     on_open last order word [] (body_goes order word is) is (ap (λ (x : Body). x.end) (body_none word true))
     ∙ ap (λ (x : Body). script (last (task order x.bytes)) 0) (body_none word true)
 
-pub last_did : (order : Order) (word : List ℕ) (s : State) (used : ℕ) (holding' : Holding) (seen' : Seen) (l' t t' : Option (List ℕ)) (a a' : ℕ) → body_word order ≡ Some word
-    → Finished order s [] used holding' seen' l' t t' a a' → LastDid order s holding' seen' l' t t'
-last_did order word s used holding' seen' l' t t' a a' is end =
+pub last_did : (order : Order) (word : List ℕ) (s : State) (used : ℕ) (holding' : Holding) (around' : Around) (l' t t' : Option (List ℕ)) (a a' : ℕ) → body_word order ≡ Some word
+    → Finished order s [] used holding' around' l' t t' a a' → LastDid order s holding' around' l' t t'
+last_did order word s used holding' around' l' t t' a a' is end =
     let all : end.lasts ≡ then_quit (task order []) = sym (ap (λ (x : Script). x.tasks) end.says) ∙ ap (λ (x : Script). x.tasks) (led_nothing then_quit order word is) in
-    let P : List Task → Type 0 = λ ts. Done (Stands holding' seen') (after_all tasks s ts) (run tasks s ts) t t' in
+    let P : List Task → Type 0 = λ ts. Done (Lives holding' (told_more around' (told_all s ts))) (after_all tasks s ts) (run tasks s ts) t t' in
     record { did = subst P all end.did; left = (nothing_ahead end.front l' end.left).1 }
 
-pub last_asks : (order : Order) (word : List ℕ) (s : State) (used : ℕ) (holding' : Holding) (seen' : Seen) (l' t t' : Option (List ℕ)) (a a' : ℕ) → body_word order ≡ Some word
-    → Finished order s [] used holding' seen' l' t t' a a' → a' ≤ a + price_all s (then_quit (task order []))
-last_asks order word s used holding' seen' l' t t' a a' is end =
+pub last_asks : (order : Order) (word : List ℕ) (s : State) (used : ℕ) (holding' : Holding) (around' : Around) (l' t t' : Option (List ℕ)) (a a' : ℕ) → body_word order ≡ Some word
+    → Finished order s [] used holding' around' l' t t' a a' → a' ≤ a + price_all s (then_quit (task order []))
+last_asks order word s used holding' around' l' t t' a a' is end =
     let all : end.lasts ≡ then_quit (task order []) = sym (ap (λ (x : Script). x.tasks) end.says) ∙ ap (λ (x : Script). x.tasks) (led_nothing then_quit order word is) in
     subst (λ (ts : List Task). a' ≤ a + price_all s ts) all end.asks
 
 -- No line ends that body.
-pub last_not_on : (order : Order) (word : List ℕ) (s : State) (used : ℕ) (holding' : Holding) (seen' : Seen) (reader' : Reader) (l' t t' : Option (List ℕ)) (a a' : ℕ) → body_word order ≡ Some word
-    → WentOn order s [] used holding' seen' reader' l' t t' a a' → ⊥
-last_not_on order word s used holding' seen' reader' l' t t' a a' is on =
+pub last_not_on : (order : Order) (word : List ℕ) (s : State) (used : ℕ) (holding' : Holding) (around' : Around) (reader' : Reader) (l' t t' : Option (List ℕ)) (a a' : ℕ) → body_word order ≡ Some word
+    → WentOn order s [] used holding' around' reader' l' t t' a a' → ⊥
+last_not_on order word s used holding' around' reader' l' t t' a a' is on =
     let none : on.front ≡ [] = (nothing_ahead on.front (before reader'.unread l') on.left).0 in
     let e : task order on.body ∷ (script_from (λ _. []) 0 [] []).tasks ≡ [] =
     sym (ap (λ (x : Script). x.tasks) (on.says (λ _. []) [])) ∙ ap (λ (x : List ℕ). (led_on (λ _. []) order (x ++ [])).tasks) none
@@ -602,18 +637,18 @@ last_lines InputTooLong order word used l' done is few (long, whole) =
     absurd (omega (arith, long, few, size))
 last_lines _ order word used l' done is few lines = tt
 
-pub last_halts : (order : Order) (word : List ℕ) (s : State) (used : ℕ) (seen' : Seen) (l' t t' : Option (List ℕ)) (a a' : ℕ) (status : Status) → body_word order ≡ Some word → used ≤ longest_script
-    → Halts status seen' order s [] used l' t t' a a' → LastHalts status seen' order s l' t t'
-last_halts order word s used seen' l' t t' a a' status is few end =
-    let P : List Task → Type 0 = λ ts. (q : Stopped tasks (Breaks status seen') s ts t t') × BehindDone status order [] used l' q.done in
+pub last_halts : (order : Order) (word : List ℕ) (s : State) (used : ℕ) (around' : Around) (l' t t' : Option (List ℕ)) (a a' : ℕ) (status : Status) → body_word order ≡ Some word → used ≤ longest_script
+    → Halts status around' order s [] used l' t t' a a' → LastHalts status around' order s l' t t'
+last_halts order word s used around' l' t t' a a' status is few end =
+    let P : List Task → Type 0 = λ ts. (q : Stopped tasks (Breaks status around') s ts t t') × BehindDone status order [] used l' q.done in
     let q = subst P (ap (λ (x : Script). x.tasks) (led_nothing then_quit order word is)) (end.stopped, end.lines) in
     record { stopped = q.0; lines = last_lines status order word used l' q.0.done is few q.1 }
 
-pub last_halts_asks : (order : Order) (word : List ℕ) (s : State) (used : ℕ) (seen' : Seen) (l' t t' : Option (List ℕ)) (a a' : ℕ) (status : Status) → body_word order ≡ Some word
-    → Halts status seen' order s [] used l' t t' a a' → a' ≤ a + price_all s (then_quit (task order []))
-last_halts_asks order word s used seen' l' t t' a a' status is end =
+pub last_halts_asks : (order : Order) (word : List ℕ) (s : State) (used : ℕ) (around' : Around) (l' t t' : Option (List ℕ)) (a a' : ℕ) (status : Status) → body_word order ≡ Some word
+    → Halts status around' order s [] used l' t t' a a' → a' ≤ a + price_all s (then_quit (task order []))
+last_halts_asks order word s used around' l' t t' a a' status is end =
     subst (λ (ts : List Task). a' ≤ a + price_all s ts) (ap (λ (x : Script). x.tasks) (led_nothing then_quit order word is)) end.asks
 
 -- Without one.
-pub last_alone : (order : Order) (s : State) (seen' : Seen) (l t t' : Option (List ℕ)) (status : Status) → Stops status seen' s (then_quit (task order [])) t t' → LastHalts status seen' order s l t t'
-last_alone order s seen' l t t' status stops = record { stopped = stops.stopped; lines = line_last status l stops.stopped.done stops.line }
+pub last_alone : (order : Order) (s : State) (around' : Around) (l t t' : Option (List ℕ)) (status : Status) → Stops status around' s (then_quit (task order [])) t t' → LastHalts status around' order s l t t'
+last_alone order s around' l t t' status stops = record { stopped = stops.stopped; lines = line_last status l stops.stopped.done stops.line }

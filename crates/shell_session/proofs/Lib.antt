@@ -4,3 +4,5 @@ mod BodyLaws
 mod AnswerLaws
 mod OpeningLaws
 mod PriceLaws
+pub mod IdleLaws
+pub mod ViewLaws

@@ -65,7 +65,7 @@ opening_by create strict (Some index) (Some names) (Some games) seen kept holdin
       means = opens.means;
       mends = opens.mends;
       faultless = opens.sound;
-      stands = begins.stands seen created opens.base (record {
+      stands = λ slots none. begins.stands seen created slots opens.base none (record {
         contents = c;
         represents = opens.represents;
         saved = opens.saved;

@@ -1,5 +1,5 @@
 -- Laws of what the tasks of a script ask.
-use Rattle.std.proofs.Common.{◌≡◌, ◌≤◌, ◌+◌, inl, inr, ℕ, Bool, true, false, cond, List, [], ◌∷◌, ◌++◌, Option, Some, IfSome, Ok, ap, subst, arith}
+use Rattle.std.proofs.Common.{◌≡◌, ◌≤◌, ◌+◌, inl, inr, ℕ, Bool, true, false, cond, List, [], ◌∷◌, ◌++◌, length, Option, Some, IfSome, Ok, ap, subst, sym, arith}
 use Rattle.base_files.specs.Seen.{Seen}
 use Rattle.base_core.specs.Opening.{IfTold, is_created, open_cost}
 use Rattle.command_runs.specs.Plain.{after_all}
@@ -7,13 +7,15 @@ use Rattle.script_lines.specs.Script.{is_quit, script_of, then_quit}
 use Rattle.script_text.specs.Tasks.{Task, task}
 use Rattle.script_text.specs.declared.command.Command.TheVariants.{Quit}
 use Rattle.shell_commands.specs.Tasks.{Order, order_price}
-use Rattle.shell_state.specs.Stands.{Holding, Stands}
+use Rattle.shell_state.specs.Stands.{Holding}
 use Rattle.shell_state.specs.State.{State, begin}
 use Rattle.shell_commands.specs.Tasks.{tasks}
+use Rattle.shell_session.specs.Around.{Lives, Views, around, none_told, slots_by}
 use Rattle.shell_session.specs.Running.{Opening}
 use Rattle.shell_session.specs.Session.{Asks, Given, given, price_all}
 use Rattle.shell_session.specs.Words.{Wanted, words_read}
 use Rattle.shell_session.proofs.AnswerLaws.{opened, told}
+use Rattle.shell_session.proofs.ViewLaws.{lives_first, show_none}
 
 -- Some tasks, and then others.
 pub price_all-append : (s : State) (xs ys : List Task) → price_all s (xs ++ ys) ≡ price_all s xs + price_all (after_all tasks s xs) ys
@@ -58,18 +60,18 @@ price_both s last a a' a'' other first second = rw other (omega (arith, first, s
 pub asks_opening : (g : Given) (a a' : ℕ) (o : Option (List ℕ)) → o ≡ Some g.index → IfSome o (λ index. a' ≤ a + open_cost index) → Asks g a a'
 asks_opening g a a' o is known = let P : Option (List ℕ) → Type 0 = λ x. IfSome x (λ index. a' ≤ a + open_cost index) in inl (subst P is known)
 
-pub asks_script : (words : List (List ℕ)) (index names games script : List ℕ) (seen seen' : Seen) (wanted : Wanted) (holding : Holding) (mended : ℕ) (left : Option (List ℕ)) (a a' a'' : ℕ)
+pub asks_script : (words : List (List ℕ)) (index names games script : List ℕ) (views : Views) (seen seen' : Seen) (wanted : Wanted) (holding : Holding) (mended : ℕ) (left : Option (List ℕ)) (a a' a'' : ℕ)
     → words_read words ≡ Some wanted
     → IfTold seen (λ index names games. Opening wanted.create wanted.strict index names games holding seen' mended)
-    → IfSome seen.index (λ index. a' ≤ a + open_cost index)
-    → ((s : State) (script : List ℕ) → Stands holding seen' s → left ≡ Some script → a'' ≤ a' + price_all s (script_of script))
+    → length views ≤ 8 → (now : Views) → now ≡ views → IfSome seen.index (λ index. a' ≤ a + open_cost index)
+    → ((s : State) (first : Views) (most : ℕ → ℕ) (script : List ℕ) → Lives holding (around seen' first most now) s → left ≡ Some script → a'' ≤ a' + price_all s (script_of script))
     → seen.index ≡ Some index → seen.names ≡ Some names → seen.games ≡ Some games → left ≡ Some script
-    → Asks (given words index names games script) a a''
-asks_script words index names games script seen seen' wanted holding mended left a a' a'' said opens opening running i n g l =
+    → Asks (given words index names games script views) a a''
+asks_script words index names games script views seen seen' wanted holding mended left a a' a'' said opens few now lent opening running i n g l =
     let o : Opening wanted.create wanted.strict index names games holding seen' mended =
     told seen (λ index names games. Opening wanted.create wanted.strict index names games holding seen' mended) index names games opens i n g in
     let P : Option (List ℕ) → Type 0 = λ x. IfSome x (λ index. a' ≤ a + open_cost index) in
     let paid : a' ≤ a + open_cost index = subst P i opening in
-    let s : State = begin (is_created wanted.create index names games) o.base in
-    let ran : a'' ≤ a' + price_all s (script_of script) = running s script o.stands l in
-    inr (record { base = o.base; mended = mended; opened = opened words index names games script seen' wanted holding mended said o }, omega (arith, paid, ran))
+    let s : State = begin (is_created wanted.create index names games) (slots_by views) o.base in
+    let ran : a'' ≤ a' + price_all s (script_of script) = running s views none_told script (subst (λ (v : Views). Lives holding (around seen' views none_told v) (begin (is_created wanted.create index names games) (slots_by views) o.base)) (sym lent) (lives_first holding seen' views (is_created wanted.create index names games) o.base few (o.stands (slots_by views) (show_none views)))) l in
+    inr (record { base = o.base; mended = mended; opened = opened words index names games script views seen' wanted holding mended said o }, omega (arith, paid, ran))

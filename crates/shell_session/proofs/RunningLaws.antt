@@ -3,7 +3,6 @@ use Rattle.std.proofs.Common.{Result, OnOk, IfErr, inl, inr, ◌≡◌, ◌≤�
 use Rattle.std.proofs.Math.Seq.{take-append_seam}
 use Rattle.std.proofs.lemmas.List.{length-append}
 use Rattle.base_files.specs.Counters.{Rose}
-use Rattle.base_files.specs.Seen.{Seen}
 use Rattle.base_files.specs.Told.{Tells, adds, before}
 use Rattle.base_files.specs.declared.faults.Stop.TheVariants as stop
 use Rattle.base_files.proofs.Telling.{adds-nil, before-append, before-nil}
@@ -26,31 +25,49 @@ use Rattle.script_text.specs.Words.{cut}
 use Rattle.script_text.specs.declared.command.Command.TheVariants.{Quit}
 use Rattle.shell_commands.proofs.TaskLaws.{alone}
 use Rattle.shell_commands.specs.Tasks.{order_left, Order, order_writes}
-use Rattle.shell_state.specs.Stands.{Holding, Stands, WhyHalt}
-use Rattle.shell_state.specs.Carrying.{StillCarry}
+use Rattle.shell_state.specs.Stands.{Holding, WhyHalt}
 use Rattle.shell_state.specs.State.{State}
 use Rattle.shell_commands.specs.Tasks.{BrokenTask, tasks}
 use Rattle.shell_state.specs.declared.halt.Halt.{Halt}
 use Rattle.shell_state.specs.declared.halt.Halt.TheVariants as halt
 use Rattle.shell_state.proofs.CarryLaws.{carry_of, left_of}
 use Rattle.shell_session.specs.Running.{BehindDone, Finished, Halts, InLine, Interrupted, Interrupts, LastDid, LastDone, LastHalts, Ran, Stops, WentOn, joined}
+use Rattle.shell_commands.specs.Watching.{most_told}
+use Rattle.shell_session.specs.Around.{Around, Lives, Remains, told_all, told_more}
 use Rattle.shell_session.specs.Session.{Breaks, LinesDone, RanAll, RanPart, WhyStatus, price_all}
 use Rattle.shell_session.specs.Stops.{status_of_halt, status_of_reading}
 use Rattle.shell_session.specs.declared.status.Status.{Status}
 use Rattle.shell_session.specs.declared.status.Status.TheVariants.{InputTooLong, Memory, ReadFault}
 use Rattle.shell_session.proofs.PriceLaws.{paid_all, paid_one}
+use Rattle.shell_session.proofs.ViewLaws.{lives_since, lives_twice, told_all-append, told_one}
+
+-- What remains does not ask how many changes were told.
+abbrev pub breaks_so : (status : Status) (around : Around) (more : ℕ → ℕ) (s : State) (next : Task) → Breaks status (told_more around more) s next → Breaks status around s next
+breaks_so status around more s next breaks = record { broken = breaks.broken; remains = record { carries = breaks.remains.carries; views = breaks.remains.views } }
+
+abbrev pub stopped_so : (status : Status) (around : Around) (more : ℕ → ℕ) (s : State) (left : List Task) (t t' : Option (List ℕ)) → Stopped tasks (Breaks status (told_more around more)) s left t t'
+    → Stopped tasks (Breaks status around) s left t t'
+stopped_so status around more s left t t' q =
+    record { done = q.done; next = q.next; left = q.left; all = q.all; wrote = q.wrote; broken = breaks_so status around more (after_all tasks s q.done) q.next q.broken }
+
+-- What remains beside a machine that stands for a state.
+pub remains_of : (holding : Holding) (around : Around) (more : ℕ → ℕ) (s : State) (order : Order) → Lives holding (told_more around more) s → Remains around s order
+remains_of holding around more s order lives = record {
+  carries = carry_of holding around.seen s (order_left order) lives.stands;
+  views = λ k idle other. lives.views.idle k idle;
+}
 
 -- What the reader meets of whole lines.
 whole_met : (bytes : List ℕ) → whole_lines bytes ≡ (script_from (λ _. []) 0 [] bytes).tasks
 whole_met bytes = ap (λ (x : Script). x.tasks) (reader_meets (λ _. []) bytes)
 
 -- Nothing was run yet.
-pub ran_none : (s : State) (bytes : List ℕ) (l t : Option (List ℕ)) (holding : Holding) (seen : Seen) (reader : Reader) (a : ℕ) → l ≡ Some bytes → reader ≡ record { unread = []; line = []; used = 0 }
-    → Stands holding seen s → Ran s bytes t holding seen reader l t a a
-ran_none s bytes l t holding seen reader a told fresh stands = record {
+pub ran_none : (s : State) (bytes : List ℕ) (l t : Option (List ℕ)) (holding : Holding) (around : Around) (reader : Reader) (a : ℕ) → l ≡ Some bytes → reader ≡ record { unread = []; line = []; used = 0 }
+    → Lives holding around s → Ran s bytes t holding around reader l t a a
+ran_none s bytes l t holding around reader a told fresh stands = record {
   done = [];
   front = [];
-  stands = stands;
+  stands = lives_since holding around (told_all s []) s stands;
   written = sym (adds-nil t);
   left = sym told ∙ sym (before-nil l) ∙ sym (before-nil (before [] l)) ∙ ap (λ (r : Reader). before [] (before r.unread l)) (sym fresh);
   used = ap (λ (r : Reader). r.used) fresh;
@@ -66,10 +83,10 @@ told_parts bytes front (Some more) told = (more, refl, cc)
 -- ---- behind a line that was taken
 
 -- The tasks so far are done, and a line was taken, behind which these bytes are ahead.
-pub record AtLine (s : State) (bytes : List ℕ) (t₀ : Option (List ℕ)) (holding : Holding) (seen : Seen) (order : Order) (ahead : List ℕ) (used : ℕ) (t : Option (List ℕ)) (a₀ a : ℕ) : Type 0 where
+pub record AtLine (s : State) (bytes : List ℕ) (t₀ : Option (List ℕ)) (holding : Holding) (around : Around) (order : Order) (ahead : List ℕ) (used : ℕ) (t : Option (List ℕ)) (a₀ a : ℕ) : Type 0 where
   pub done : List Task
   pub front : List ℕ
-  pub stands : Stands holding seen (after_all tasks s done)
+  pub stands : Lives holding (told_more around (told_all s done)) (after_all tasks s done)
   pub written : t ≡ adds t₀ (run tasks s done)
   pub all : bytes ≡ front ++ ahead
   pub size : used ≡ length front
@@ -80,10 +97,10 @@ pub record AtLine (s : State) (bytes : List ℕ) (t₀ : Option (List ℕ)) (hol
 joined_grown : (done : List Task) (m n : ℕ) (s : Script) → joined done m (grown n s) ≡ joined done (m + n) s
 joined_grown done m n s = ap (script (done ++ s.tasks)) (omega arith)
 
-pub at_line : (s : State) (bytes : List ℕ) (t₀ : Option (List ℕ)) (holding : Holding) (seen : Seen) (reader reader' : Reader) (l l' t : Option (List ℕ)) (a₀ a : ℕ) (order : Order)
-    → Ran s bytes t₀ holding seen reader l t a₀ a → TookLine [] reader l order reader' l'
-    → (ahead : List ℕ) × (before reader'.unread l' ≡ Some ahead) × AtLine s bytes t₀ holding seen order ahead reader'.used t a₀ a
-at_line s bytes t₀ holding seen reader reader' l l' t a₀ a order ran took =
+pub at_line : (s : State) (bytes : List ℕ) (t₀ : Option (List ℕ)) (holding : Holding) (around : Around) (reader reader' : Reader) (l l' t : Option (List ℕ)) (a₀ a : ℕ) (order : Order)
+    → Ran s bytes t₀ holding around reader l t a₀ a → TookLine [] reader l order reader' l'
+    → (ahead : List ℕ) × (before reader'.unread l' ≡ Some ahead) × AtLine s bytes t₀ holding around order ahead reader'.used t a₀ a
+at_line s bytes t₀ holding around reader reader' l l' t a₀ a order ran took =
     let n : length (ran.front ++ took.front) ≡ length ran.front + length took.front = length-append ran.front took.front in
     let read : Some bytes ≡ before (ran.front ++ took.front) (before reader'.unread l') =
     ran.left ∙ ap (before ran.front) took.ahead ∙ sym (before-append ran.front took.front (before reader'.unread l')) in
@@ -110,10 +127,10 @@ joined_led : (done : List Task) (m n : ℕ) (next : Task) (s : Script) → joine
 joined_led done m n next s =
     ap (λ ts. script ts (m + (n + s.size))) (sym (append_assoc done (next ∷ []) s.tasks)) ∙ ap (script ((done ++ next ∷ []) ++ s.tasks)) (omega arith)
 
-pub ran_more : (s : State) (bytes : List ℕ) (t₀ : Option (List ℕ)) (holding holding' : Holding) (seen seen' : Seen) (order : Order) (ahead : List ℕ) (used : ℕ) (reader' : Reader) (l' t t' : Option (List ℕ)) (a₀ a a' : ℕ)
-    → (at : AtLine s bytes t₀ holding seen order ahead used t a₀ a) → WentOn order (after_all tasks s at.done) ahead used holding' seen' reader' l' t t' a a'
-    → Ran s bytes t₀ holding' seen' reader' l' t' a₀ a'
-ran_more s bytes t₀ holding holding' seen seen' order ahead used reader' l' t t' a₀ a a' at on =
+pub ran_more : (s : State) (bytes : List ℕ) (t₀ : Option (List ℕ)) (holding holding' : Holding) (around around' : Around) (order : Order) (ahead : List ℕ) (used : ℕ) (reader' : Reader) (l' t t' : Option (List ℕ)) (a₀ a a' : ℕ)
+    → (at : AtLine s bytes t₀ holding around order ahead used t a₀ a) → WentOn order (after_all tasks s at.done) ahead used holding' (told_more around' (told_all s at.done)) reader' l' t t' a a'
+    → Ran s bytes t₀ holding' around' reader' l' t' a₀ a'
+ran_more s bytes t₀ holding holding' around around' order ahead used reader' l' t t' a₀ a a' at on =
     let next : Task = task order on.body in
     let n : length (at.front ++ on.front) ≡ length at.front + length on.front = length-append at.front on.front in
     let state : tasks.after (after_all tasks s at.done) next ≡ after_all tasks s (at.done ++ next ∷ []) = sym (after_all-append tasks s at.done (next ∷ [])) in
@@ -122,7 +139,9 @@ ran_more s bytes t₀ holding holding' seen seen' order ahead used reader' l' t 
     record {
       done = at.done ++ next ∷ [];
       front = at.front ++ on.front;
-      stands = subst (Stands holding' seen') state on.did.stands;
+      stands =
+          subst (Lives holding' (told_more around' (told_all s (at.done ++ next ∷ [])))) state
+          (lives_twice holding' around' (told_all s at.done) (most_told (after_all tasks s at.done) next) (told_all s (at.done ++ next ∷ [])) _ on.did.stands (told_one s at.done next));
       written = written_after (run tasks s at.done) (tasks.text (after_all tasks s at.done) next) t₀ t t' at.written on.did.written ∙ ap (adds t₀) text;
       left = ap (λ (b : List ℕ). Some b) at.all ∙ ap (before at.front) on.left ∙ sym (before-append at.front on.front (before reader'.unread l'));
       used = omega (arith, at.size, on.taken, n);
@@ -134,18 +153,30 @@ ran_more s bytes t₀ holding holding' seen seen' order ahead used reader' l' t 
     }
 
 -- The script is at its end.
-finished_says : (s : State) (bytes : List ℕ) (t₀ : Option (List ℕ)) (holding : Holding) (seen : Seen) (order : Order) (ahead : List ℕ) (used : ℕ) (t : Option (List ℕ)) (a₀ a : ℕ)
-    → (at : AtLine s bytes t₀ holding seen order ahead used t a₀ a) → script_by then_quit bytes ≡ joined at.done (length at.front) (led_on then_quit order ahead)
-finished_says s bytes t₀ holding seen order ahead used t a₀ a at = reader_meets then_quit bytes ∙ ap (script_from then_quit 0 []) at.all ∙ at.says then_quit ahead
+finished_says : (s : State) (bytes : List ℕ) (t₀ : Option (List ℕ)) (holding : Holding) (around : Around) (order : Order) (ahead : List ℕ) (used : ℕ) (t : Option (List ℕ)) (a₀ a : ℕ)
+    → (at : AtLine s bytes t₀ holding around order ahead used t a₀ a) → script_by then_quit bytes ≡ joined at.done (length at.front) (led_on then_quit order ahead)
+finished_says s bytes t₀ holding around order ahead used t a₀ a at = reader_meets then_quit bytes ∙ ap (script_from then_quit 0 []) at.all ∙ at.says then_quit ahead
 
-pub ran_finished : (s : State) (bytes : List ℕ) (t₀ : Option (List ℕ)) (holding holding' : Holding) (seen seen' : Seen) (order : Order) (ahead : List ℕ) (used : ℕ) (l' t t' : Option (List ℕ)) (a₀ a a' : ℕ)
-    → (at : AtLine s bytes t₀ holding seen order ahead used t a₀ a) → Finished order (after_all tasks s at.done) ahead used holding' seen' l' t t' a a'
-    → RanAll s bytes t₀ t' l' seen' × (a' ≤ a₀ + price_all s (script_of bytes))
-ran_finished s bytes t₀ holding holding' seen seen' order ahead used l' t t' a₀ a a' at end =
+-- The machine stands for the state behind all tasks, and no more changes were told than those of all.
+all_told : (holding : Holding) (around : Around) (s : State) (all done lasts : List Task) → all ≡ done ++ lasts
+    → Lives holding (told_more (told_more around (told_all s done)) (told_all (after_all tasks s done) lasts)) (after_all tasks (after_all tasks s done) lasts)
+    → Lives holding (told_more around (told_all s all)) (after_all tasks s all)
+all_told holding around s all done lasts is lives =
+    let P : List Task → Type 0 = λ ts. Lives holding (told_more around (told_all s ts)) (after_all tasks s ts) in
+    subst P (sym is)
+    (subst (Lives holding (told_more around (told_all s (done ++ lasts)))) (sym (after_all-append tasks s done lasts))
+    (lives_twice holding around (told_all s done) (told_all (after_all tasks s done) lasts) (told_all s (done ++ lasts)) _ lives (λ k. omega (arith, told_all-append s done lasts k))))
+
+pub ran_finished : (s : State) (bytes : List ℕ) (t₀ : Option (List ℕ)) (holding holding' : Holding) (around around' : Around) (order : Order) (ahead : List ℕ) (used : ℕ) (l' t t' : Option (List ℕ)) (a₀ a a' : ℕ)
+    → (at : AtLine s bytes t₀ holding around order ahead used t a₀ a) → Finished order (after_all tasks s at.done) ahead used holding' (told_more around' (told_all s at.done)) l' t t' a a'
+    → RanAll s bytes t₀ t' l' around' × (a' ≤ a₀ + price_all s (script_of bytes))
+ran_finished s bytes t₀ holding holding' around around' order ahead used l' t t' a₀ a a' at end =
     let says : script_by then_quit bytes ≡ script (at.done ++ end.lasts) (length at.front + end.size) =
-    finished_says s bytes t₀ holding seen order ahead used t a₀ a at ∙ ap (joined at.done (length at.front)) end.says in
+    finished_says s bytes t₀ holding around order ahead used t a₀ a at ∙ ap (joined at.done (length at.front)) end.says in
     let all : script_of bytes ≡ at.done ++ end.lasts = ap (λ (x : Script). x.tasks) says in
     let size : script_len bytes ≡ length at.front + end.size = ap (λ (x : Script). x.size) says in
+    let lives : Lives holding' (told_more around' (told_all s (script_of bytes))) (after_all tasks s (script_of bytes)) =
+    all_told holding' around' s (script_of bytes) at.done end.lasts all end.did.stands in
     let n : length (at.front ++ end.front) ≡ length at.front + length end.front = length-append at.front end.front in (
       record {
         written =
@@ -156,9 +187,8 @@ ran_finished s bytes t₀ holding holding' seen seen' order ahead used l' t t' a
         read = ap (λ (b : List ℕ). Some b) at.all ∙ ap (before at.front) end.left ∙ sym (before-append at.front end.front l');
         enough = omega (arith, size, n, end.enough);
         no_further = omega (arith, size, n, end.no_further);
-        files =
-            left_of holding' seen' (after_all tasks s (script_of bytes))
-            (subst (Stands holding' seen') (sym (after_all-append tasks s at.done end.lasts) ∙ ap (after_all tasks s) (sym all)) end.did.stands);
+        files = left_of holding' around'.seen (after_all tasks s (script_of bytes)) lives.stands;
+        views = lives.views;
       },
       paid_all s (script_of bytes) at.done end.lasts a₀ a a' all at.paid end.asks,
     )
@@ -166,10 +196,10 @@ ran_finished s bytes t₀ holding holding' seen seen' order ahead used l' t t' a
 -- ---- what stops it
 
 -- The tasks that are done, and those that are left with one that was broken off.
-ran_stopped : (s : State) (bytes : List ℕ) (t₀ t t' : Option (List ℕ)) (l' : Option (List ℕ)) (seen' : Seen) (status : Status) (done left : List Task) → t ≡ adds t₀ (run tasks s done)
-    → script_of bytes ≡ done ++ left → (stopped : Stopped tasks (Breaks status seen') (after_all tasks s done) left t t') → LinesDone status bytes l' (done ++ stopped.done)
-    → RanPart status s bytes t₀ t' l' seen'
-ran_stopped s bytes t₀ t t' l' seen' status done left written all q lines =
+ran_stopped : (s : State) (bytes : List ℕ) (t₀ t t' : Option (List ℕ)) (l' : Option (List ℕ)) (around' : Around) (status : Status) (done left : List Task) → t ≡ adds t₀ (run tasks s done)
+    → script_of bytes ≡ done ++ left → (stopped : Stopped tasks (Breaks status around') (after_all tasks s done) left t t') → LinesDone status bytes l' (done ++ stopped.done)
+    → RanPart status s bytes t₀ t' l' around'
+ran_stopped s bytes t₀ t t' l' around' status done left written all q lines =
     let state : after_all tasks (after_all tasks s done) q.done ≡ after_all tasks s (done ++ q.done) = sym (after_all-append tasks s done q.done) in
     let text : run tasks s done ++ run tasks (after_all tasks s done) q.done ≡ run tasks s (done ++ q.done) = sym (run-append tasks s done q.done) in
     let broken_text : List ℕ = tasks.text (after_all tasks (after_all tasks s done) q.done) q.next in
@@ -181,7 +211,7 @@ ran_stopped s bytes t₀ t t' l' seen' status done left written all q lines =
     ∙ ap (λ z. run tasks s (done ++ q.done) ++ tasks.text z q.next) state in
     let P : List ℕ → Type 0 = λ x. Halted x (run tasks s (done ++ q.done) ++ tasks.text (after_all tasks s (done ++ q.done)) q.next) t₀ t' in
     let Q : List ℕ → Type 0 = λ x. Halted (run tasks s done ++ run tasks (after_all tasks s done) q.done) x t₀ t' in
-    let B : State → Type 0 = λ z. Breaks status seen' z q.next in
+    let B : State → Type 0 = λ z. Breaks status around' z q.next in
     record {
       done = done ++ q.done;
       next = q.next;
@@ -199,31 +229,31 @@ take_past (x ∷ xs) ys zero fits = absurd (omega (arith, fits))
 take_past (x ∷ xs) ys (suc n) fits = ap (λ (l : List ℕ). x ∷ l) (take_past xs ys n (omega (arith, fits)) ∙ ap (λ k. xs ++ take k ys) (omega arith))
 
 -- The whole lines of what was read, up to the line and behind it.
-lines_behind : (status : Status) (s : State) (bytes : List ℕ) (t₀ : Option (List ℕ)) (holding : Holding) (seen : Seen) (order : Order) (ahead : List ℕ) (used : ℕ) (l' t : Option (List ℕ)) (a₀ a : ℕ) (done : List Task)
-    → (at : AtLine s bytes t₀ holding seen order ahead used t a₀ a) → used ≤ longest_script → BehindDone status order ahead used l' done → LinesDone status bytes l' (at.done ++ done)
-lines_behind ReadFault s bytes t₀ holding seen order ahead used l' t a₀ a done at few (front, told, whole) = (
+lines_behind : (status : Status) (s : State) (bytes : List ℕ) (t₀ : Option (List ℕ)) (holding : Holding) (around : Around) (order : Order) (ahead : List ℕ) (used : ℕ) (l' t : Option (List ℕ)) (a₀ a : ℕ) (done : List Task)
+    → (at : AtLine s bytes t₀ holding around order ahead used t a₀ a) → used ≤ longest_script → BehindDone status order ahead used l' done → LinesDone status bytes l' (at.done ++ done)
+lines_behind ReadFault s bytes t₀ holding around order ahead used l' t a₀ a done at few (front, told, whole) = (
   at.front ++ front,
   ap (λ (b : List ℕ). Some b) at.all ∙ ap (before at.front) told ∙ sym (before-append at.front front l'),
   ap (λ x. at.done ++ x) whole ∙ sym (ap (λ (x : Script). x.tasks) (at.says (λ _. []) front)) ∙ sym (whole_met (at.front ++ front)),
 )
-lines_behind InputTooLong s bytes t₀ holding seen order ahead used l' t a₀ a done at few (long, whole) =
-    let size : script_len bytes ≡ length at.front + (led_on then_quit order ahead).size = ap (λ (x : Script). x.size) (finished_says s bytes t₀ holding seen order ahead used t a₀ a at) in
+lines_behind InputTooLong s bytes t₀ holding around order ahead used l' t a₀ a done at few (long, whole) =
+    let size : script_len bytes ≡ length at.front + (led_on then_quit order ahead).size = ap (λ (x : Script). x.size) (finished_says s bytes t₀ holding around order ahead used t a₀ a at) in
     let front : take longest_script bytes ≡ at.front ++ take (longest_script - used) ahead =
     ap (take longest_script) at.all ∙ take_past at.front ahead longest_script (omega (arith, few, at.size)) ∙ ap (λ k. at.front ++ take (longest_script - k) ahead) (sym at.size) in (
       omega (arith, size, long, at.size),
       ap (λ x. at.done ++ x) whole ∙ sym (ap (λ (x : Script). x.tasks) (at.says (λ _. []) (take (longest_script - used) ahead)))
           ∙ sym (whole_met (at.front ++ take (longest_script - used) ahead)) ∙ ap whole_lines (sym front),
     )
-lines_behind _ s bytes t₀ holding seen order ahead used l' t a₀ a done at few lines = tt
+lines_behind _ s bytes t₀ holding around order ahead used l' t a₀ a done at few lines = tt
 
 -- A task was broken off.
-pub ran_halted : (s : State) (bytes : List ℕ) (t₀ : Option (List ℕ)) (holding : Holding) (seen seen' : Seen) (order : Order) (ahead : List ℕ) (used : ℕ) (l' t t' : Option (List ℕ)) (a₀ a a' : ℕ) (status : Status)
-    → (at : AtLine s bytes t₀ holding seen order ahead used t a₀ a) → used ≤ longest_script → Halts status seen' order (after_all tasks s at.done) ahead used l' t t' a a'
-    → RanPart status s bytes t₀ t' l' seen' × (a' ≤ a₀ + price_all s (script_of bytes))
-ran_halted s bytes t₀ holding seen seen' order ahead used l' t t' a₀ a a' status at few end =
-    let all : script_of bytes ≡ at.done ++ (led_on then_quit order ahead).tasks = ap (λ (x : Script). x.tasks) (finished_says s bytes t₀ holding seen order ahead used t a₀ a at) in (
-      ran_stopped s bytes t₀ t t' l' seen' status at.done (led_on then_quit order ahead).tasks at.written all end.stopped
-          (lines_behind status s bytes t₀ holding seen order ahead used l' t a₀ a end.stopped.done at few end.lines),
+pub ran_halted : (s : State) (bytes : List ℕ) (t₀ : Option (List ℕ)) (holding : Holding) (around around' : Around) (order : Order) (ahead : List ℕ) (used : ℕ) (l' t t' : Option (List ℕ)) (a₀ a a' : ℕ) (status : Status)
+    → (at : AtLine s bytes t₀ holding around order ahead used t a₀ a) → used ≤ longest_script → Halts status (told_more around' (told_all s at.done)) order (after_all tasks s at.done) ahead used l' t t' a a'
+    → RanPart status s bytes t₀ t' l' around' × (a' ≤ a₀ + price_all s (script_of bytes))
+ran_halted s bytes t₀ holding around around' order ahead used l' t t' a₀ a a' status at few end =
+    let all : script_of bytes ≡ at.done ++ (led_on then_quit order ahead).tasks = ap (λ (x : Script). x.tasks) (finished_says s bytes t₀ holding around order ahead used t a₀ a at) in (
+      ran_stopped s bytes t₀ t t' l' around' status at.done (led_on then_quit order ahead).tasks at.written all (stopped_so status around' (told_all s at.done) (after_all tasks s at.done) (led_on then_quit order ahead).tasks t t' end.stopped)
+          (lines_behind status s bytes t₀ holding around order ahead used l' t a₀ a end.stopped.done at few end.lines),
       paid_all s (script_of bytes) at.done (led_on then_quit order ahead).tasks a₀ a a' all at.paid end.asks,
     )
 
@@ -265,9 +295,9 @@ none_told bytes front unread None told none end = cc
 none_told bytes front unread (Some more) told none end = ap (λ (b : List ℕ). Some b) (ap (λ u. u ++ more) none ∙ sym end)
 
 -- The tasks so far are done, and the last line was taken.
-pub record AtLast (s : State) (bytes : List ℕ) (t₀ : Option (List ℕ)) (holding : Holding) (seen : Seen) (order : Order) (used : ℕ) (t : Option (List ℕ)) (a₀ a : ℕ) : Type 0 where
+pub record AtLast (s : State) (bytes : List ℕ) (t₀ : Option (List ℕ)) (holding : Holding) (around : Around) (order : Order) (used : ℕ) (t : Option (List ℕ)) (a₀ a : ℕ) : Type 0 where
   pub done : List Task
-  pub stands : Stands holding seen (after_all tasks s done)
+  pub stands : Lives holding (told_more around (told_all s done)) (after_all tasks s done)
   pub written : t ≡ adds t₀ (run tasks s done)
   pub size : used ≡ length bytes
   pub says : script_by then_quit bytes ≡ script (done ++ then_quit (task order [])) (length bytes)
@@ -284,10 +314,10 @@ lines_taken done front part line says feeds =
     ∙ ap (λ (x : Script). x.tasks) (says_part done front part line (λ _. []) [] says feeds)
     ∙ append-nil done
 
-pub at_last : (s : State) (bytes : List ℕ) (t₀ : Option (List ℕ)) (holding : Holding) (seen : Seen) (reader reader' : Reader) (l l' t : Option (List ℕ)) (a₀ a : ℕ) (order : Order)
-    → Ran s bytes t₀ holding seen reader l t a₀ a → TookLast reader l reader' l' → order ≡ reading reader'.line
-    → (before reader'.unread l' ≡ Some []) × AtLast s bytes t₀ holding seen order reader'.used t a₀ a
-at_last s bytes t₀ holding seen reader reader' l l' t a₀ a order ran took is =
+pub at_last : (s : State) (bytes : List ℕ) (t₀ : Option (List ℕ)) (holding : Holding) (around : Around) (reader reader' : Reader) (l l' t : Option (List ℕ)) (a₀ a : ℕ) (order : Order)
+    → Ran s bytes t₀ holding around reader l t a₀ a → TookLast reader l reader' l' → order ≡ reading reader'.line
+    → (before reader'.unread l' ≡ Some []) × AtLast s bytes t₀ holding around order reader'.used t a₀ a
+at_last s bytes t₀ holding around reader reader' l l' t a₀ a order ran took is =
     let n : length (ran.front ++ took.part.front) ≡ length ran.front + length took.part.front = length-append ran.front took.part.front in
     let read : Some bytes ≡ before (ran.front ++ took.part.front) (before reader'.unread l') =
     ran.left ∙ ap (before ran.front) took.part.ahead ∙ sym (before-append ran.front took.part.front (before reader'.unread l')) in
@@ -308,12 +338,14 @@ at_last s bytes t₀ holding seen reader reader' l l' t a₀ a order ran took is
       },
     )
 
-pub ran_last : (s : State) (bytes : List ℕ) (t₀ : Option (List ℕ)) (holding holding' : Holding) (seen seen' : Seen) (order : Order) (used : ℕ) (l' t t' : Option (List ℕ)) (a₀ a : ℕ)
-    → (at : AtLast s bytes t₀ holding seen order used t a₀ a) → used ≤ longest_script → LastDid order (after_all tasks s at.done) holding' seen' l' t t' → RanAll s bytes t₀ t' l' seen'
-ran_last s bytes t₀ holding holding' seen seen' order used l' t t' a₀ a at few end =
+pub ran_last : (s : State) (bytes : List ℕ) (t₀ : Option (List ℕ)) (holding holding' : Holding) (around around' : Around) (order : Order) (used : ℕ) (l' t t' : Option (List ℕ)) (a₀ a : ℕ)
+    → (at : AtLast s bytes t₀ holding around order used t a₀ a) → used ≤ longest_script → LastDid order (after_all tasks s at.done) holding' (told_more around' (told_all s at.done)) l' t t' → RanAll s bytes t₀ t' l' around'
+ran_last s bytes t₀ holding holding' around around' order used l' t t' a₀ a at few end =
     let lasts : List Task = then_quit (task order []) in
     let all : script_of bytes ≡ at.done ++ lasts = ap (λ (x : Script). x.tasks) at.says in
     let size : script_len bytes ≡ length bytes = ap (λ (x : Script). x.size) at.says in
+    let lives : Lives holding' (told_more around' (told_all s (script_of bytes))) (after_all tasks s (script_of bytes)) =
+    all_told holding' around' s (script_of bytes) at.done lasts all end.did.stands in
     record {
       written =
           written_after (run tasks s at.done) (run tasks (after_all tasks s at.done) lasts) t₀ t t' at.written end.did.written
@@ -323,9 +355,8 @@ ran_last s bytes t₀ holding holding' seen seen' order used l' t t' a₀ a at f
       read = ap (λ (b : List ℕ). Some b) (sym (append-nil bytes)) ∙ ap (before bytes) (sym end.left);
       enough = omega (arith, size);
       no_further = omega (arith, size);
-      files =
-          left_of holding' seen' (after_all tasks s (script_of bytes))
-          (subst (Stands holding' seen') (sym (after_all-append tasks s at.done lasts) ∙ ap (after_all tasks s) (sym all)) end.did.stands);
+      files = left_of holding' around'.seen (after_all tasks s (script_of bytes)) lives.stands;
+      views = lives.views;
     }
 
 lines_last : (status : Status) (bytes : List ℕ) (l' : Option (List ℕ)) (whole done : List Task) → whole_lines bytes ≡ whole → LastDone status l' done → LinesDone status bytes l' (whole ++ done)
@@ -334,15 +365,16 @@ lines_last ReadFault bytes l' whole done is (left, none) =
 lines_last InputTooLong bytes l' whole done is last = absurd last
 lines_last _ bytes l' whole done is last = tt
 
-pub ran_last_halted : (s : State) (bytes : List ℕ) (t₀ : Option (List ℕ)) (holding : Holding) (seen seen' : Seen) (order : Order) (used : ℕ) (l' t t' : Option (List ℕ)) (a₀ a : ℕ) (status : Status)
-    → (at : AtLast s bytes t₀ holding seen order used t a₀ a) → LastHalts status seen' order (after_all tasks s at.done) l' t t' → RanPart status s bytes t₀ t' l' seen'
-ran_last_halted s bytes t₀ holding seen seen' order used l' t t' a₀ a status at end =
-    ran_stopped s bytes t₀ t t' l' seen' status at.done (then_quit (task order [])) at.written (ap (λ (x : Script). x.tasks) at.says) end.stopped
+pub ran_last_halted : (s : State) (bytes : List ℕ) (t₀ : Option (List ℕ)) (holding : Holding) (around around' : Around) (order : Order) (used : ℕ) (l' t t' : Option (List ℕ)) (a₀ a : ℕ) (status : Status)
+    → (at : AtLast s bytes t₀ holding around order used t a₀ a) → LastHalts status (told_more around' (told_all s at.done)) order (after_all tasks s at.done) l' t t' → RanPart status s bytes t₀ t' l' around'
+ran_last_halted s bytes t₀ holding around around' order used l' t t' a₀ a status at end =
+    ran_stopped s bytes t₀ t t' l' around' status at.done (then_quit (task order [])) at.written (ap (λ (x : Script). x.tasks) at.says)
+    (stopped_so status around' (told_all s at.done) (after_all tasks s at.done) (then_quit (task order [])) t t' end.stopped)
     (lines_last status bytes l' at.done end.stopped.done at.whole end.lines)
 
-pub paid_last : (s : State) (bytes : List ℕ) (t₀ : Option (List ℕ)) (holding : Holding) (seen : Seen) (order : Order) (used : ℕ) (t : Option (List ℕ)) (a₀ a a' : ℕ)
-    → (at : AtLast s bytes t₀ holding seen order used t a₀ a) → a' ≤ a + price_all (after_all tasks s at.done) (then_quit (task order [])) → a' ≤ a₀ + price_all s (script_of bytes)
-paid_last s bytes t₀ holding seen order used t a₀ a a' at asked =
+pub paid_last : (s : State) (bytes : List ℕ) (t₀ : Option (List ℕ)) (holding : Holding) (around : Around) (order : Order) (used : ℕ) (t : Option (List ℕ)) (a₀ a a' : ℕ)
+    → (at : AtLast s bytes t₀ holding around order used t a₀ a) → a' ≤ a + price_all (after_all tasks s at.done) (then_quit (task order [])) → a' ≤ a₀ + price_all s (script_of bytes)
+paid_last s bytes t₀ holding around order used t a₀ a a' at asked =
     paid_all s (script_of bytes) at.done (then_quit (task order [])) a₀ a a' (ap (λ (x : Script). x.tasks) at.says) at.paid asked
 
 -- ---- where no line was read
@@ -398,10 +430,10 @@ unwritten s done next t₀ t written =
     subst P (append-nil (run tasks s done)) (halted_after (run tasks s done) [] (tasks.text (after_all tasks s done) next) t₀ t t written (halted_none (tasks.text (after_all tasks s done) next) t))
 
 -- The input failed.
-pub ran_failed : (s : State) (bytes : List ℕ) (t₀ : Option (List ℕ)) (holding : Holding) (seen : Seen) (reader reader' : Reader) (l l' t : Option (List ℕ)) (a₀ a : ℕ)
-    → (ran : Ran s bytes t₀ holding seen reader l t a₀ a) → TookPart [] reader l reader' l' → reader'.unread ≡ []
-    → RanPart ReadFault s bytes t₀ t l' seen
-ran_failed s bytes t₀ holding seen reader reader' l l' t a₀ a ran took none =
+pub ran_failed : (s : State) (bytes : List ℕ) (t₀ : Option (List ℕ)) (holding : Holding) (around : Around) (reader reader' : Reader) (l l' t : Option (List ℕ)) (a₀ a : ℕ)
+    → (ran : Ran s bytes t₀ holding around reader l t a₀ a) → TookPart [] reader l reader' l' → reader'.unread ≡ []
+    → RanPart ReadFault s bytes t₀ t l' around
+ran_failed s bytes t₀ holding around reader reader' l l' t a₀ a ran took none =
     let read : Some bytes ≡ before (ran.front ++ took.front) (before reader'.unread l') =
     ran.left ∙ ap (before ran.front) took.ahead ∙ sym (before-append ran.front took.front (before reader'.unread l')) in
     let parts : (more : List ℕ) × (before reader'.unread l' ≡ Some more) × (bytes ≡ (ran.front ++ took.front) ++ more) = told_parts bytes (ran.front ++ took.front) (before reader'.unread l') read in
@@ -414,7 +446,7 @@ ran_failed s bytes t₀ holding seen reader reader' l l' t a₀ a ran took none 
       left = some.1;
       all = ap (λ (x : Script). x.tasks) says ∙ ap (λ ts. ran.done ++ ts) some.2;
       wrote = unwritten s ran.done some.0 t₀ t ran.written;
-      broken = record { broken = tt; carries = carry_of holding seen (after_all tasks s ran.done) (order_left some.0.order) ran.stands };
+      broken = record { broken = tt; remains = remains_of holding around _ (after_all tasks s ran.done) some.0.order ran.stands };
       lines = (
         ran.front ++ took.front,
         read ∙ ap (λ u. before (ran.front ++ took.front) (before u l')) none ∙ ap (before (ran.front ++ took.front)) (before-nil l'),
@@ -423,10 +455,10 @@ ran_failed s bytes t₀ holding seen reader reader' l l' t a₀ a ran took none 
     }
 
 -- The script is too long.
-pub ran_too_long : (s : State) (bytes : List ℕ) (t₀ : Option (List ℕ)) (holding : Holding) (seen : Seen) (reader reader' : Reader) (l l' t : Option (List ℕ)) (a₀ a : ℕ)
-    → (ran : Ran s bytes t₀ holding seen reader l t a₀ a) → TookPart [] reader l reader' l' → IsFull reader'
-    → RanPart InputTooLong s bytes t₀ t l' seen
-ran_too_long s bytes t₀ holding seen reader reader' l l' t a₀ a ran took full =
+pub ran_too_long : (s : State) (bytes : List ℕ) (t₀ : Option (List ℕ)) (holding : Holding) (around : Around) (reader reader' : Reader) (l l' t : Option (List ℕ)) (a₀ a : ℕ)
+    → (ran : Ran s bytes t₀ holding around reader l t a₀ a) → TookPart [] reader l reader' l' → IsFull reader'
+    → RanPart InputTooLong s bytes t₀ t l' around
+ran_too_long s bytes t₀ holding around reader reader' l l' t a₀ a ran took full =
     let n : length (ran.front ++ took.front) ≡ length ran.front + length took.front = length-append ran.front took.front in
     let read : Some bytes ≡ before (ran.front ++ took.front) (before reader'.unread l') =
     ran.left ∙ ap (before ran.front) took.ahead ∙ sym (before-append ran.front took.front (before reader'.unread l')) in
@@ -446,7 +478,7 @@ ran_too_long s bytes t₀ holding seen reader reader' l l' t a₀ a ran took ful
       left = some.1;
       all = ap (λ (x : Script). x.tasks) says ∙ ap (λ ts. ran.done ++ ts) some.2;
       wrote = unwritten s ran.done some.0 t₀ t ran.written;
-      broken = record { broken = tt; carries = carry_of holding seen (after_all tasks s ran.done) (order_left some.0.order) ran.stands };
+      broken = record { broken = tt; remains = remains_of holding around _ (after_all tasks s ran.done) some.0.order ran.stands };
       lines = (
         omega (arith, size, bigger, n, exact),
         sym (lines_taken ran.done ran.front took.front reader'.line ran.says took.feeds) ∙ ap whole_lines (sym within),
@@ -454,9 +486,9 @@ ran_too_long s bytes t₀ holding seen reader reader' l l' t a₀ a ran took ful
     }
 
 -- Memory ran out before a line was read.
-pub ran_short : (s : State) (bytes : List ℕ) (t₀ : Option (List ℕ)) (holding : Holding) (seen : Seen) (reader : Reader) (l l' t : Option (List ℕ)) (a₀ a : ℕ)
-    → (ran : Ran s bytes t₀ holding seen reader l t a₀ a) → RanPart Memory s bytes t₀ t l' seen
-ran_short s bytes t₀ holding seen reader l l' t a₀ a ran =
+pub ran_short : (s : State) (bytes : List ℕ) (t₀ : Option (List ℕ)) (holding : Holding) (around : Around) (reader : Reader) (l l' t : Option (List ℕ)) (a₀ a : ℕ)
+    → (ran : Ran s bytes t₀ holding around reader l t a₀ a) → RanPart Memory s bytes t₀ t l' around
+ran_short s bytes t₀ holding around reader l l' t a₀ a ran =
     let parts : (more : List ℕ) × (before reader.unread l ≡ Some more) × (bytes ≡ ran.front ++ more) = told_parts bytes ran.front (before reader.unread l) ran.left in
     let says : script_by then_quit bytes ≡ joined ran.done (length ran.front) (script_from then_quit 0 [] parts.0) = reader_meets then_quit bytes ∙ ap (script_from then_quit 0 []) parts.2 ∙ ran.says then_quit parts.0 in
     let some : (next : Task) × (left : List Task) × ((script_from then_quit 0 [] parts.0).tasks ≡ next ∷ left) = some_task [] parts.0 in
@@ -466,21 +498,21 @@ ran_short s bytes t₀ holding seen reader l l' t a₀ a ran =
       left = some.1;
       all = ap (λ (x : Script). x.tasks) says ∙ ap (λ ts. ran.done ++ ts) some.2;
       wrote = unwritten s ran.done some.0 t₀ t ran.written;
-      broken = record { broken = tt; carries = carry_of holding seen (after_all tasks s ran.done) (order_left some.0.order) ran.stands };
+      broken = record { broken = tt; remains = remains_of holding around _ (after_all tasks s ran.done) some.0.order ran.stands };
       lines = tt;
     }
 
 -- No line was read.
-pub ran_stuck : (e : ReadError) (s : State) (bytes : List ℕ) (t₀ : Option (List ℕ)) (holding : Holding) (seen : Seen) (reader reader' : Reader) (l l' t : Option (List ℕ)) (a₀ a : ℕ)
-    → Ran s bytes t₀ holding seen reader l t a₀ a → Stuck e reader l reader' l' → RanPart (status_of_reading e) s bytes t₀ t l' seen
-ran_stuck error.Failed s bytes t₀ holding seen reader reader' l l' t a₀ a ran stuck = ran_failed s bytes t₀ holding seen reader reader' l l' t a₀ a ran stuck.0 stuck.1
-ran_stuck error.TooLong s bytes t₀ holding seen reader reader' l l' t a₀ a ran stuck = ran_too_long s bytes t₀ holding seen reader reader' l l' t a₀ a ran stuck.0 stuck.1
-ran_stuck error.Memory s bytes t₀ holding seen reader reader' l l' t a₀ a ran stuck = ran_short s bytes t₀ holding seen reader l l' t a₀ a ran
+pub ran_stuck : (e : ReadError) (s : State) (bytes : List ℕ) (t₀ : Option (List ℕ)) (holding : Holding) (around : Around) (reader reader' : Reader) (l l' t : Option (List ℕ)) (a₀ a : ℕ)
+    → Ran s bytes t₀ holding around reader l t a₀ a → Stuck e reader l reader' l' → RanPart (status_of_reading e) s bytes t₀ t l' around
+ran_stuck error.Failed s bytes t₀ holding around reader reader' l l' t a₀ a ran stuck = ran_failed s bytes t₀ holding around reader reader' l l' t a₀ a ran stuck.0 stuck.1
+ran_stuck error.TooLong s bytes t₀ holding around reader reader' l l' t a₀ a ran stuck = ran_too_long s bytes t₀ holding around reader reader' l l' t a₀ a ran stuck.0 stuck.1
+ran_stuck error.Memory s bytes t₀ holding around reader reader' l l' t a₀ a ran stuck = ran_short s bytes t₀ holding around reader l l' t a₀ a ran
 
 -- The tasks that are done are the first of the script's.
-pub paid_done : (s : State) (bytes : List ℕ) (t₀ : Option (List ℕ)) (holding : Holding) (seen : Seen) (reader : Reader) (l t : Option (List ℕ)) (a₀ a : ℕ)
-    → Ran s bytes t₀ holding seen reader l t a₀ a → a ≤ a₀ + price_all s (script_of bytes)
-paid_done s bytes t₀ holding seen reader l t a₀ a ran =
+pub paid_done : (s : State) (bytes : List ℕ) (t₀ : Option (List ℕ)) (holding : Holding) (around : Around) (reader : Reader) (l t : Option (List ℕ)) (a₀ a : ℕ)
+    → Ran s bytes t₀ holding around reader l t a₀ a → a ≤ a₀ + price_all s (script_of bytes)
+paid_done s bytes t₀ holding around reader l t a₀ a ran =
     let parts : (more : List ℕ) × (before reader.unread l ≡ Some more) × (bytes ≡ ran.front ++ more) = told_parts bytes ran.front (before reader.unread l) ran.left in
     let says : script_by then_quit bytes ≡ joined ran.done (length ran.front) (script_from then_quit 0 [] parts.0) = reader_meets then_quit bytes ∙ ap (script_from then_quit 0 []) parts.2 ∙ ran.says then_quit parts.0 in
     paid_all s (script_of bytes) ran.done (script_from then_quit 0 [] parts.0).tasks a₀ a a (ap (λ (x : Script). x.tasks) says) ran.paid (omega arith)
@@ -488,14 +520,14 @@ paid_done s bytes t₀ holding seen reader l t a₀ a ran =
 -- ---- one line
 
 -- A command without a body that was broken off.
-pub interrupted : (halt : Halt) (seen' : Seen) (s : State) (next : Task) (t t' : Option (List ℕ)) → body_word next.order ≡ None → Cut (BrokenTask s next halt) (tasks.text s next) t t' → StillCarry seen' s (order_left next.order)
-    → Interrupted (status_of_halt halt) seen' s next t t'
-interrupted (halt.Device stop.Files) seen' s next t t' none broken_off carries = record { cut = record { wrote = broken_off.wrote; broken = record { broken = broken_off.broken; carries = carries } }; line = tt }
-interrupted (halt.Device stop.Write) seen' s next t t' none broken_off carries = record { cut = record { wrote = broken_off.wrote; broken = record { broken = tt; carries = carries } }; line = tt }
-interrupted (halt.Device stop.Memory) seen' s next t t' none broken_off carries = record { cut = record { wrote = broken_off.wrote; broken = record { broken = tt; carries = carries } }; line = tt }
-interrupted (halt.Device stop.Read) seen' s next t t' none broken_off carries =
+pub interrupted : (halt : Halt) (around' : Around) (s : State) (next : Task) (t t' : Option (List ℕ)) → body_word next.order ≡ None → Cut (BrokenTask s next halt) (tasks.text s next) t t' → Remains around' s next.order
+    → Interrupted (status_of_halt halt) around' s next t t'
+interrupted (halt.Device stop.Files) around' s next t t' none broken_off remains = record { cut = record { wrote = broken_off.wrote; broken = record { broken = broken_off.broken; remains = remains } }; line = tt }
+interrupted (halt.Device stop.Write) around' s next t t' none broken_off remains = record { cut = record { wrote = broken_off.wrote; broken = record { broken = tt; remains = remains } }; line = tt }
+interrupted (halt.Device stop.Memory) around' s next t t' none broken_off remains = record { cut = record { wrote = broken_off.wrote; broken = record { broken = tt; remains = remains } }; line = tt }
+interrupted (halt.Device stop.Read) around' s next t t' none broken_off remains =
     let e : false ≡ true = sym (alone next.order next.body none) ∙ broken_off.broken in cc
-interrupted (halt.Changed game kept found) seen' s next t t' none broken_off carries = absurd broken_off.broken
+interrupted (halt.Changed game kept found) around' s next t t' none broken_off remains = absurd broken_off.broken
 
 pub none_rose : Rose 0 0 → ⊥
 none_rose (inl rose) = absurd (omega (arith, rose))
@@ -538,22 +570,22 @@ last_then_quit Stands' Stands'' s last t t' t'' other first second =
     })
 
 -- The first of some tasks was broken off.
-pub front_stops : (seen' : Seen) (s : State) (next : Task) (all left : List Task) (t t' : Option (List ℕ)) (status : Status) → all ≡ next ∷ left → Cut (Breaks status seen' s next) (tasks.text s next) t t'
-    → (q : Stopped tasks (Breaks status seen') s all t t') × (q.done ≡ [])
-front_stops seen' s next all left t t' status is cut = (record { done = []; next = next; left = left; all = is; wrote = cut.wrote; broken = cut.broken }, refl)
+pub front_stops : (around' : Around) (s : State) (next : Task) (all left : List Task) (t t' : Option (List ℕ)) (status : Status) → all ≡ next ∷ left → Cut (Breaks status around' s next) (tasks.text s next) t t'
+    → (q : Stopped tasks (Breaks status around') s all t t') × (q.done ≡ [])
+front_stops around' s next all left t t' status is cut = (record { done = []; next = next; left = left; all = is; wrote = cut.wrote; broken = cut.broken }, refl)
 
-pub last_stops : (seen' : Seen) (s : State) (last : Task) (t t' : Option (List ℕ)) (status : Status) → Interrupted status seen' s last t t' → Stops status seen' s (then_quit last) t t'
-last_stops seen' s last t t' status cut =
+pub last_stops : (around' : Around) (s : State) (last : Task) (t t' : Option (List ℕ)) (status : Status) → Interrupted status around' s last t t' → Stops status around' s (then_quit last) t t'
+last_stops around' s last t t' status cut =
     let all : (left : List Task) × (then_quit last ≡ last ∷ left) = then_tasks (is_quit last.order) last (task (Ok Quit) []) in
-    record { stopped = (front_stops seen' s last (then_quit last) all.0 t t' status all.1 cut.cut).0; line = cut.line }
+    record { stopped = (front_stops around' s last (then_quit last) all.0 t t' status all.1 cut.cut).0; line = cut.line }
 
-pub quit_stops : (Stands' : State → Type 0) (seen' : Seen) (s : State) (last : Task) (t t' t'' : Option (List ℕ)) (status : Status) → is_quit last.order ≡ false
-    → Done Stands' (tasks.after s last) (tasks.text s last) t t' → Interrupted status seen' (tasks.after s last) (task (Ok Quit) []) t' t'' → Stops status seen' s (then_quit last) t t''
-quit_stops Stands' seen' s last t t' t'' status other did cut = record {
+pub quit_stops : (Stands' : State → Type 0) (around' : Around) (s : State) (last : Task) (t t' t'' : Option (List ℕ)) (status : Status) → is_quit last.order ≡ false
+    → Done Stands' (tasks.after s last) (tasks.text s last) t t' → Interrupted status around' (tasks.after s last) (task (Ok Quit) []) t' t'' → Stops status around' s (then_quit last) t t''
+quit_stops Stands' around' s last t t' t'' status other did cut = record {
   stopped =
-      rw other (did_stops tasks (Breaks status seen') s (tasks.after s last) (last ∷ task (Ok Quit) [] ∷ []) (task (Ok Quit) [] ∷ []) t t' t''
+      rw other (did_stops tasks (Breaks status around') s (tasks.after s last) (last ∷ task (Ok Quit) [] ∷ []) (task (Ok Quit) [] ∷ []) t t' t''
       (did_one tasks Stands' s last (task (Ok Quit) [] ∷ []) t t' did)
-      (cut_stops tasks (Breaks status seen') (tasks.after s last) (task (Ok Quit) []) [] t' t'' cut.cut));
+      (cut_stops tasks (Breaks status around') (tasks.after s last) (task (Ok Quit) []) [] t' t'' cut.cut));
   line = cut.line;
 }
 

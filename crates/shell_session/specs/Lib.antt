@@ -1,3 +1,4 @@
+pub mod Around
 pub mod Words
 pub mod Stops
 pub mod ExitCodes

@@ -12,7 +12,8 @@ use Rattle.command_runs.specs.Plain.{after_all, run}
 use Rattle.command_runs.specs.Runs.{Stopped}
 use Rattle.script_text.specs.Tasks.{Task, task}
 use Rattle.shell_commands.specs.Tasks.{Order, order_price}
-use Rattle.shell_state.specs.Stands.{Holding, Sound, Stands}
+use Rattle.shell_state.specs.Slots.{Slot}
+use Rattle.shell_state.specs.Stands.{Holding, ShowNone, Sound, Stands}
 use Rattle.shell_state.specs.State.{State, begin}
 use Rattle.shell_commands.specs.Tasks.{tasks}
 use Rattle.script_lines.specs.Reading.{Reader, grown, led_on}
@@ -20,6 +21,8 @@ use Rattle.script_lines.specs.declared.place.At.{At}
 use Rattle.script_lines.specs.declared.place.At.TheVariants.{Behind}
 use Rattle.script_lines.specs.Bytewise.{script_from}
 use Rattle.script_lines.specs.Script.{Script, led_by, longest_script, script, then_quit}
+use Rattle.shell_commands.specs.Watching.{most_told}
+use Rattle.shell_session.specs.Around.{Around, Lives, told_all, told_more}
 use Rattle.shell_session.specs.Session.{Breaks, WhyStatus, price_all}
 use Rattle.shell_session.specs.declared.status.Status.{Status}
 use Rattle.shell_session.specs.declared.status.Status.TheVariants.{BadBase, ReadFault, WriteFault, FilesFault, Changed, InputTooLong, Memory}
@@ -30,7 +33,7 @@ pub record Opening (create strict : Bool) (index names games : List ℕ) (holdin
   pub means : OpensAs create index names games base
   pub mends : Mended index base.games mended
   pub faultless : (fault : BaseFault) → Refuses create strict index names games fault → ⊥
-  pub stands : Stands holding seen (begin (is_created create index names games) base)
+  pub stands : (slots : List Slot) → ShowNone slots → Stands holding seen (begin (is_created create index names games) slots base)
 
 -- Opening ends with a fault of the files' contents, the files or memory.
 abbrev pub OpeningRefused : Bool → Bool → Seen → Status → Type 0
@@ -66,10 +69,10 @@ pub record Kept (writes : Bool) (holding' : Holding) (seen seen' : Seen) (old ne
   pub too_long : IfSome ended (λ status. status ≡ InputTooLong → budget' + longest_script < budget)
 
 -- The commands of some lines are done, and the reader stands behind the last of them.
-pub record Ran (s₀ : State) (bytes : List ℕ) (t₀ : Option (List ℕ)) (holding : Holding) (seen : Seen) (reader : Reader) (l t : Option (List ℕ)) (a₀ a : ℕ) : Type 0 where
+pub record Ran (s₀ : State) (bytes : List ℕ) (t₀ : Option (List ℕ)) (holding : Holding) (around : Around) (reader : Reader) (l t : Option (List ℕ)) (a₀ a : ℕ) : Type 0 where
   pub done : List Task
   pub front : List ℕ
-  pub stands : Stands holding seen (after_all tasks s₀ done)
+  pub stands : Lives holding (told_more around (told_all s₀ done)) (after_all tasks s₀ done)
   pub written : t ≡ adds t₀ (run tasks s₀ done)
   pub left : Some bytes ≡ before front (before reader.unread l)
   pub used : reader.used ≡ length front
@@ -83,13 +86,13 @@ InLine InputTooLong = ⊥
 InLine _ = ⊤
 
 -- A command was broken off: a front part of its text was written.
-pub record Interrupted (status : Status) (seen' : Seen) (s : State) (next : Task) (t : Option (List ℕ)) (t' : Option (List ℕ)) : Type 0 where
-  pub cut : Cut (Breaks status seen' s next) (tasks.text s next) t t'
+pub record Interrupted (status : Status) (around' : Around) (s : State) (next : Task) (t : Option (List ℕ)) (t' : Option (List ℕ)) : Type 0 where
+  pub cut : Cut (Breaks status around' s next) (tasks.text s next) t t'
   pub line : InLine status
 
 -- One of these tasks was.
-pub record Stops (status : Status) (seen' : Seen) (s : State) (left : List Task) (t : Option (List ℕ)) (t' : Option (List ℕ)) : Type 0 where
-  pub stopped : Stopped tasks (Breaks status seen') s left t t'
+pub record Stops (status : Status) (around' : Around) (s : State) (left : List Task) (t : Option (List ℕ)) (t' : Option (List ℕ)) : Type 0 where
+  pub stopped : Stopped tasks (Breaks status around') s left t t'
   pub line : InLine status
 
 -- A reader goes on where no less was taken, and each byte that was read is taken or unread.
@@ -105,30 +108,30 @@ behind_at _ reader = None
 -- ---- behind a line that was taken: these bytes are ahead, and so many were taken
 
 -- The command is done, and the script goes on behind its body.
-pub record WentOn (order : Order) (s : State) (ahead : List ℕ) (used : ℕ) (holding' : Holding) (seen' : Seen) (reader' : Reader) (l' : Option (List ℕ)) (t t' : Option (List ℕ)) (a a' : ℕ) : Type 0 where
+pub record WentOn (order : Order) (s : State) (ahead : List ℕ) (used : ℕ) (holding' : Holding) (around' : Around) (reader' : Reader) (l' : Option (List ℕ)) (t t' : Option (List ℕ)) (a a' : ℕ) : Type 0 where
   pub body : List ℕ
   pub front : List ℕ
-  pub did : Done (Stands holding' seen') (tasks.after s (task order body)) (tasks.text s (task order body)) t t'
+  pub did : Done (Lives holding' (told_more around' (most_told s (task order body)))) (tasks.after s (task order body)) (tasks.text s (task order body)) t t'
   pub left : Some ahead ≡ before front (before reader'.unread l')
   pub taken : reader'.used ≡ used + length front
   pub says : (last : Task → List Task) (more : List ℕ) → led_on last order (front ++ more) ≡ grown (length front) (led_by (task order body) (script_from last 0 [] more))
   pub asks : a' ≤ a + order_price s order
 
 -- The command is done, and the input ended its body.
-pub record WentOut (order : Order) (s : State) (ahead : List ℕ) (used : ℕ) (holding' : Holding) (seen' : Seen) (l' : Option (List ℕ)) (t t' : Option (List ℕ)) (a a' : ℕ) : Type 0 where
+pub record WentOut (order : Order) (s : State) (ahead : List ℕ) (used : ℕ) (holding' : Holding) (around' : Around) (l' : Option (List ℕ)) (t t' : Option (List ℕ)) (a a' : ℕ) : Type 0 where
   pub body : List ℕ
-  pub did : Done (Stands holding' seen') (tasks.after s (task order body)) (tasks.text s (task order body)) t t'
+  pub did : Done (Lives holding' (told_more around' (most_told s (task order body)))) (tasks.after s (task order body)) (tasks.text s (task order body)) t t'
   pub says : (last : Task → List Task) → led_on last order ahead ≡ script (last (task order body)) (length ahead)
   pub left : l' ≡ Some []
   pub within : used + length ahead ≤ longest_script
   pub asks : a' ≤ a + order_price s order
 
 -- The script is at its end: its last tasks are done.
-pub record Finished (order : Order) (s : State) (ahead : List ℕ) (used : ℕ) (holding' : Holding) (seen' : Seen) (l' : Option (List ℕ)) (t t' : Option (List ℕ)) (a a' : ℕ) : Type 0 where
+pub record Finished (order : Order) (s : State) (ahead : List ℕ) (used : ℕ) (holding' : Holding) (around' : Around) (l' : Option (List ℕ)) (t t' : Option (List ℕ)) (a a' : ℕ) : Type 0 where
   pub lasts : List Task
   pub size : ℕ
   pub front : List ℕ
-  pub did : Done (Stands holding' seen') (after_all tasks s lasts) (run tasks s lasts) t t'
+  pub did : Done (Lives holding' (told_more around' (told_all s lasts))) (after_all tasks s lasts) (run tasks s lasts) t t'
   pub says : led_on then_quit order ahead ≡ script lasts size
   pub within : used + size ≤ longest_script
   pub left : Some ahead ≡ before front l'
@@ -137,14 +140,14 @@ pub record Finished (order : Order) (s : State) (ahead : List ℕ) (used : ℕ) 
   pub asks : a' ≤ a + price_all s lasts
 
 -- A body was read, and the reader is given back where a line ended it; else the input did.
-abbrev pub BodyDone : Order → State → List ℕ → ℕ → Holding → Seen → Option Reader → Option (List ℕ) → Option (List ℕ) → Option (List ℕ) → ℕ → ℕ → Type 0
-BodyDone order s ahead used holding' seen' (Some reader') l' t t' a a' = WentOn order s ahead used holding' seen' reader' l' t t' a a'
-BodyDone order s ahead used holding' seen' None l' t t' a a' = WentOut order s ahead used holding' seen' l' t t' a a'
+abbrev pub BodyDone : Order → State → List ℕ → ℕ → Holding → Around → Option Reader → Option (List ℕ) → Option (List ℕ) → Option (List ℕ) → ℕ → ℕ → Type 0
+BodyDone order s ahead used holding' around' (Some reader') l' t t' a a' = WentOn order s ahead used holding' around' reader' l' t t' a a'
+BodyDone order s ahead used holding' around' None l' t t' a a' = WentOut order s ahead used holding' around' l' t t' a a'
 
 -- A task is done, and the reader is given back where the script goes on.
-abbrev pub TaskDone : Order → State → List ℕ → ℕ → Holding → Seen → Option Reader → Option (List ℕ) → Option (List ℕ) → Option (List ℕ) → ℕ → ℕ → Type 0
-TaskDone order s ahead used holding' seen' (Some reader') l' t t' a a' = WentOn order s ahead used holding' seen' reader' l' t t' a a'
-TaskDone order s ahead used holding' seen' None l' t t' a a' = Finished order s ahead used holding' seen' l' t t' a a'
+abbrev pub TaskDone : Order → State → List ℕ → ℕ → Holding → Around → Option Reader → Option (List ℕ) → Option (List ℕ) → Option (List ℕ) → ℕ → ℕ → Type 0
+TaskDone order s ahead used holding' around' (Some reader') l' t t' a a' = WentOn order s ahead used holding' around' reader' l' t t' a a'
+TaskDone order s ahead used holding' around' None l' t t' a a' = Finished order s ahead used holding' around' l' t t' a a'
 
 -- The tasks that are done behind the line are those whose lines, with those of their bodies, were read with their line feed, or end within
 -- the greatest length of a script.
@@ -155,15 +158,15 @@ BehindDone InputTooLong order ahead used later done =
 BehindDone _ order ahead used later done = ⊤
 
 -- The run stopped behind the line.
-pub record Halts (status : Status) (seen' : Seen) (order : Order) (s : State) (ahead : List ℕ) (used : ℕ) (l' : Option (List ℕ)) (t t' : Option (List ℕ)) (a a' : ℕ) : Type 0 where
-  pub stopped : Stopped tasks (Breaks status seen') s (led_on then_quit order ahead).tasks t t'
+pub record Halts (status : Status) (around' : Around) (order : Order) (s : State) (ahead : List ℕ) (used : ℕ) (l' : Option (List ℕ)) (t t' : Option (List ℕ)) (a a' : ℕ) : Type 0 where
+  pub stopped : Stopped tasks (Breaks status around') s (led_on then_quit order ahead).tasks t t'
   pub lines : BehindDone status order ahead used l' stopped.done
   pub asks : a' ≤ a + price_all s (led_on then_quit order ahead).tasks
 
 -- ---- the last line, behind which nothing is ahead
 
-pub record LastDid (order : Order) (s : State) (holding' : Holding) (seen' : Seen) (l' : Option (List ℕ)) (t t' : Option (List ℕ)) : Type 0 where
-  pub did : Done (Stands holding' seen') (after_all tasks s (then_quit (task order []))) (run tasks s (then_quit (task order []))) t t'
+pub record LastDid (order : Order) (s : State) (holding' : Holding) (around' : Around) (l' : Option (List ℕ)) (t t' : Option (List ℕ)) : Type 0 where
+  pub did : Done (Lives holding' (told_more around' (told_all s (then_quit (task order []))))) (after_all tasks s (then_quit (task order []))) (run tasks s (then_quit (task order []))) t t'
   pub left : l' ≡ Some []
 
 -- No task is done where its body cannot be read to its end.
@@ -172,6 +175,6 @@ LastDone ReadFault later done = (later ≡ Some []) × (done ≡ [])
 LastDone InputTooLong later done = ⊥
 LastDone _ later done = ⊤
 
-pub record LastHalts (status : Status) (seen' : Seen) (order : Order) (s : State) (l' : Option (List ℕ)) (t t' : Option (List ℕ)) : Type 0 where
-  pub stopped : Stopped tasks (Breaks status seen') s (then_quit (task order [])) t t'
+pub record LastHalts (status : Status) (around' : Around) (order : Order) (s : State) (l' : Option (List ℕ)) (t t' : Option (List ℕ)) : Type 0 where
+  pub stopped : Stopped tasks (Breaks status around') s (then_quit (task order [])) t t'
   pub lines : LastDone status l' stopped.done

@@ -13,26 +13,27 @@ use Rattle.command_runs.specs.Counts.{Counts}
 use Rattle.command_runs.specs.Endings.{Halted}
 use Rattle.command_runs.specs.Plain.{after_all, run}
 use Rattle.script_text.specs.Tasks.{Task}
-use Rattle.shell_commands.specs.Tasks.{order_left, task_work, order_price}
+use Rattle.shell_commands.specs.Tasks.{task_work, order_price}
 use Rattle.shell_state.specs.Carrying.{AreLeft}
-use Rattle.shell_state.specs.Carrying.{StillCarry}
 use Rattle.shell_state.specs.State.{State, begin}
 use Rattle.shell_commands.specs.Tasks.{tasks}
 use Rattle.script_lines.specs.Script.{longest_script, script_len, script_of, whole_lines}
+use Rattle.shell_session.specs.Around.{Around, AreBeside, Remains, Views, slots_by, told_all, told_more}
 use Rattle.shell_session.specs.Words.{Wanted, words_read}
 use Rattle.shell_session.specs.declared.status.Status.{Status}
 use Rattle.shell_session.specs.declared.status.Status.TheVariants.{Done, Usage, BadBase, ReadFault, WriteFault, FilesFault, Changed, InputTooLong, Memory}
 
--- What a session is given: its words, the three files of the base, and the script.
+-- What a session is given: its words, the three files of the base, the script, and the views of its slots.
 pub record Given : Type 0 where
   pub words : List (List ℕ)
   pub index : List ℕ
   pub names : List ℕ
   pub games : List ℕ
   pub script : List ℕ
+  pub views : Views
 
-abbrev pub given : List (List ℕ) → List ℕ → List ℕ → List ℕ → List ℕ → Given
-given words index names games script = record { words = words; index = index; names = names; games = games; script = script }
+abbrev pub given : List (List ℕ) → List ℕ → List ℕ → List ℕ → List ℕ → Views → Given
+given words index names games script views = record { words = words; index = index; names = names; games = games; script = script; views = views }
 
 -- The contents of the files are those that were given.
 pub record AreGiven (given : Given) (seen : Seen) : Type 0 where
@@ -61,7 +62,7 @@ pub record Opened (given : Given) (base : Base) (mended : ℕ) : Type 0 where
 
 -- The state in which the script begins.
 abbrev pub begun : (given : Given) (base : Base) (mended : ℕ) → Opened given base mended → State
-begun given base mended opened = begin (is_created opened.wanted.create given.index given.names given.games) base
+begun given base mended opened = begin (is_created opened.wanted.create given.index given.names given.games) (slots_by given.views) base
 
 -- The words name a base whose files have this first fault.
 pub record Faulty (given : Given) (fault : BaseFault) : Type 0 where
@@ -82,15 +83,18 @@ opening_line base mended = opening_text (length base.games) mended
 -- ---- the run of the script
 
 -- The whole script was run: its text is written, and the input was read to its end or to the line of `quit`, and at most so many bytes further.
--- The files carry the base that the last `save` or `compact` left, or the opened one, and mean it where no edit came after.
-pub record RanAll (s : State) (script : List ℕ) (told : Option (List ℕ)) (told' : Option (List ℕ)) (later : Option (List ℕ)) (seen' : Seen) : Type 0 where
+-- The files carry the base that the last `save` or `compact` left, or the opened one, and mean it where no edit came after. Each view of a
+-- slot that shows a tree has the rows of the games that are in then, and one of a slot that was never watched is as before; none was told
+-- more changes than the tasks tell it.
+pub record RanAll (s : State) (script : List ℕ) (told : Option (List ℕ)) (told' : Option (List ℕ)) (later : Option (List ℕ)) (around' : Around) : Type 0 where
   pub written : told' ≡ adds told (run tasks s (script_of script))
   pub within : script_len script ≤ longest_script
   pub front : List ℕ
   pub read : Some script ≡ before front later
   pub enough : script_len script ≤ length front
   pub no_further : length front ≤ script_len script + 32768
-  pub files : AreLeft seen' (after_all tasks s (script_of script)).shared.carried (after_all tasks s (script_of script)).shared.unsaved
+  pub files : AreLeft around'.seen (after_all tasks s (script_of script)).shared.carried (after_all tasks s (script_of script)).shared.unsaved
+  pub views : AreBeside (told_more around' (told_all s (script_of script))) (after_all tasks s (script_of script))
 
 -- What is known of the command that a status breaks off: the files fail only at one that uses them, and told files never change.
 abbrev pub BrokenBy : Status → Task → Type 0
@@ -101,10 +105,10 @@ BrokenBy InputTooLong next = ⊤
 BrokenBy Memory next = ⊤
 BrokenBy _ next = ⊥
 
--- The same, with what the files carry then.
-pub record Breaks (status : Status) (seen' : Seen) (s : State) (next : Task) : Type 0 where
+-- The same, with what remains then of the files and the views.
+pub record Breaks (status : Status) (around' : Around) (s : State) (next : Task) : Type 0 where
   pub broken : BrokenBy status next
-  pub carries : StillCarry seen' s (order_left next.order)
+  pub remains : Remains around' s next.order
 
 -- The commands that are done at a fault of the input are those whose lines were read with their line feed; at a script that is too long
 -- those whose lines end within the limit.
@@ -114,57 +118,59 @@ LinesDone InputTooLong script later done = (longest_script < script_len script) 
 LinesDone _ script later done = ⊤
 
 -- The run stopped in the command `next`: the texts of those before it are written, and of its own a front part, which may be empty.
-pub record RanPart (status : Status) (s : State) (script : List ℕ) (told : Option (List ℕ)) (told' : Option (List ℕ)) (later : Option (List ℕ)) (seen' : Seen) : Type 0 where
+pub record RanPart (status : Status) (s : State) (script : List ℕ) (told : Option (List ℕ)) (told' : Option (List ℕ)) (later : Option (List ℕ)) (around' : Around) : Type 0 where
   pub done : List Task
   pub next : Task
   pub left : List Task
   pub all : script_of script ≡ done ++ next ∷ left
   pub wrote : Halted (run tasks s done) (run tasks s done ++ tasks.text (after_all tasks s done) next) told told'
-  pub broken : Breaks status seen' (after_all tasks s done) next
+  pub broken : Breaks status around' (after_all tasks s done) next
   pub lines : LinesDone status script later done
 
 -- ---- the answers
 
--- Nothing was written, nothing was asked of the input, and no file was changed.
-pub record Unbegun (given : Given) (told : Option (List ℕ)) (told' : Option (List ℕ)) (input : Inlet) (input' : Inlet) (seen' : Seen) : Type 0 where
+-- Nothing was written, nothing was asked of the input, and no file and no view was changed.
+pub record Unbegun (given : Given) (told : Option (List ℕ)) (told' : Option (List ℕ)) (input : Inlet) (input' : Inlet) (around' : Around) : Type 0 where
   pub unwritten : told' ≡ told
   pub unread : input' ≡ input
-  pub files : AreGiven given seen'
+  pub files : AreGiven given around'.seen
+  pub views : around'.now ≡ around'.first
 
 -- The session ended in its opening line, before anything was asked of the input.
-pub record OpeningCut (given : Given) (told : Option (List ℕ)) (told' : Option (List ℕ)) (input : Inlet) (input' : Inlet) (seen' : Seen) : Type 0 where
+pub record OpeningCut (given : Given) (told : Option (List ℕ)) (told' : Option (List ℕ)) (input : Inlet) (input' : Inlet) (around' : Around) : Type 0 where
   pub base : Base
   pub mended : ℕ
   pub opened : Opened given base mended
   pub wrote : Halted [] (opening_line base mended) told told'
   pub unread : input' ≡ input
-  pub files : AreGiven given seen'
+  pub files : AreGiven given around'.seen
+  pub views : around'.now ≡ around'.first
 
 -- The opening line was written, and the run of the script stopped.
-pub record ScriptCut (status : Status) (given : Given) (told : Option (List ℕ)) (told' : Option (List ℕ)) (later : Option (List ℕ)) (seen' : Seen) : Type 0 where
+pub record ScriptCut (status : Status) (given : Given) (told : Option (List ℕ)) (told' : Option (List ℕ)) (later : Option (List ℕ)) (around' : Around) : Type 0 where
   pub base : Base
   pub mended : ℕ
   pub opened : Opened given base mended
-  pub ran : RanPart status (begun given base mended opened) given.script (adds told (opening_line base mended)) told' later seen'
+  pub ran : RanPart status (begun given base mended opened) given.script (adds told (opening_line base mended)) told' later around'
 
 -- The whole text was written: the opening line, and then what the plain machine makes of the script.
-pub record Whole (given : Given) (told : Option (List ℕ)) (told' : Option (List ℕ)) (later : Option (List ℕ)) (seen' : Seen) : Type 0 where
+pub record Whole (given : Given) (told : Option (List ℕ)) (told' : Option (List ℕ)) (later : Option (List ℕ)) (around' : Around) : Type 0 where
   pub base : Base
   pub mended : ℕ
   pub opened : Opened given base mended
-  pub ran : RanAll (begun given base mended opened) given.script (adds told (opening_line base mended)) told' later seen'
+  pub ran : RanAll (begun given base mended opened) given.script (adds told (opening_line base mended)) told' later around'
 
--- What each status says of what was given, of what was written, of what was read, and of what the files carry. Told records never change.
-abbrev pub Answers : Given → Option (List ℕ) → Option (List ℕ) → Inlet → Inlet → Seen → Status → Type 0
-Answers given told told' input input' seen' Done = Whole given told told' input'.left seen'
-Answers given told told' input input' seen' Usage = (words_read given.words ≡ None) × Unbegun given told told' input input' seen'
-Answers given told told' input input' seen' (BadBase fault) = Faulty given fault × Unbegun given told told' input input' seen'
-Answers given told told' input input' seen' ReadFault = ScriptCut ReadFault given told told' input'.left seen'
-Answers given told told' input input' seen' WriteFault = OpeningCut given told told' input input' seen' ⊎ ScriptCut WriteFault given told told' input'.left seen'
-Answers given told told' input input' seen' FilesFault = Unbegun given told told' input input' seen' ⊎ ScriptCut FilesFault given told told' input'.left seen'
-Answers given told told' input input' seen' (Changed game kept found) = ⊥
-Answers given told told' input input' seen' InputTooLong = ScriptCut InputTooLong given told told' input'.left seen'
-Answers given told told' input input' seen' Memory = Unbegun given told told' input input' seen' ⊎ (OpeningCut given told told' input input' seen' ⊎ ScriptCut Memory given told told' input'.left seen')
+-- What each status says of what was given, of what was written, of what was read, of what the files carry, and of the views. Told records never change.
+abbrev pub Answers : Given → Option (List ℕ) → Option (List ℕ) → Inlet → Inlet → Around → Status → Type 0
+Answers given told told' input input' around' Done = Whole given told told' input'.left around'
+Answers given told told' input input' around' Usage = (words_read given.words ≡ None) × Unbegun given told told' input input' around'
+Answers given told told' input input' around' (BadBase fault) = Faulty given fault × Unbegun given told told' input input' around'
+Answers given told told' input input' around' ReadFault = ScriptCut ReadFault given told told' input'.left around'
+Answers given told told' input input' around' WriteFault = OpeningCut given told told' input input' around' ⊎ ScriptCut WriteFault given told told' input'.left around'
+Answers given told told' input input' around' FilesFault = Unbegun given told told' input input' around' ⊎ ScriptCut FilesFault given told told' input'.left around'
+Answers given told told' input input' around' (Changed game kept found) = ⊥
+Answers given told told' input input' around' InputTooLong = ScriptCut InputTooLong given told told' input'.left around'
+Answers given told told' input input' around' Memory = Unbegun given told told' input input' around' ⊎ (OpeningCut given told told' input input' around' ⊎ ScriptCut Memory given told told' input'.left around')
 
 -- A base is opened, whichever it is.
 pub record Opens (given : Given) : Type 0 where

@@ -1,9 +1,10 @@
 //! The session: the one call that `main` makes.
-ghost use Rattle.std.specs.Prelude.{◌≡◌, ◌↔◌, ℕ, ◌⊎◌, List, None, Some, map, string_bytes};
+ghost use Rattle.std.specs.Prelude.{◌≡◌, ◌↔◌, ℕ, ◌⊎◌, ◌≤◌, List, None, Some, length, map, string_bytes};
 ghost use Rattle.base_files.specs.Seen.{SameContents, Seen};
 ghost use Rattle.base_files.specs.Counters.{Rose};
 ghost use Rattle.base_files.specs.Told.{Grew, adds};
 ghost use Rattle.command_runs.specs.Counts.{NoneFell, counts};
+ghost use Rattle.shell_session.specs.Around.{around, meanings, none_told};
 ghost use Rattle.shell_session.specs.Session.{Answers, Asks, Chooses, Due, Reads, Silent, WhyStatus, given, inlet, opening_text};
 ghost use Rattle.shell_session.specs.Words.{words_read};
 
@@ -13,27 +14,34 @@ use crate::status::Status;
 use crate::words::words_read;
 use base_files::{Files, Sink, Source};
 use std::alloc::Global;
+use tree_live::TreeView;
 
 /// Runs the script of the input over the base that the words name, and writes its text.
 ///
 /// The words are one base name and the options `--create` and `--strict`, each at most once, in any order. The text is a line
-/// `base G games M mended`, and then the texts of the script's commands, one a line, up to `quit` or the end of the input.
+/// `base G games M mended`, and then the texts of the script's commands, one a line, up to `quit` or the end of the input. The slots of the
+/// script are the views, where they stand; a view is told the rows of the tree that its slot shows, and dropped where the slot shows none any
+/// more.
 pub fn session<F: Files, S: Source, K: Sink>(
     alloc: Global,
     words: &[String],
     files: &mut F,
     input: &mut S,
     out: &mut K,
+    views: &mut Vec<Option<Box<dyn TreeView>>>,
 ) -> Status
-    // Where the files and the input tell their contents, the status says what was written, of what was given, and what the files carry.
+    requires few { length views.old.items ≤ 8 }
+
+    // Where the files and the input tell their contents, the status says what was written, of what was given, what the files carry, and what
+    // the views show.
     ensures answers { (index names games script : List ℕ) → (F.seen files.old).index ≡ Some index → (F.seen files.old).names ≡ Some names → (F.seen files.old).games ≡ Some games → S.left input.old ≡ Some script →
-        Answers (given (map string_bytes words.now) index names games script) (K.taken out.old) (K.taken out.new)
-        (inlet (S.left input.old) (S.budget input.old) (S.faults input.old)) (inlet (S.left input.new) (S.budget input.new) (S.faults input.new)) (F.seen files.new) result }
+        Answers (given (map string_bytes words.now) index names games script (meanings (λ b. rows b) (λ b. told b) views.old.items)) (K.taken out.old) (K.taken out.new)
+        (inlet (S.left input.old) (S.budget input.old) (S.faults input.old)) (inlet (S.left input.new) (S.budget input.new) (S.faults input.new)) (around (F.seen files.new) (meanings (λ b. rows b) (λ b. told b) views.old.items) none_told (meanings (λ b. rows b) (λ b. told b) views.new.items)) result }
 
     // Where no count of faults rises, the status is the one that is due, or memory ran out.
     ensures due { (index names games script : List ℕ) → (F.seen files.old).index ≡ Some index → (F.seen files.old).names ≡ Some names → (F.seen files.old).games ≡ Some games → S.left input.old ≡ Some script →
         ¬ Rose (F.faults files.old) (F.faults files.new) → ¬ Rose (S.faults input.old) (S.faults input.new) → ¬ Rose (K.faults out.old) (K.faults out.new) →
-        (result ≡ Status.Memory) ⊎ Due (given (map string_bytes words.now) index names games script) result }
+        (result ≡ Status.Memory) ⊎ Due (given (map string_bytes words.now) index names games script (meanings (λ b. rows b) (λ b. told b) views.old.items)) result }
 
     // The words decide alone, and first.
     ensures words { (result ≡ Status.Usage) ↔ (words_read (map string_bytes words.now) ≡ None) }
@@ -44,13 +52,16 @@ pub fn session<F: Files, S: Source, K: Sink>(
 
     // The bytes that are asked of the games file.
     ensures asks { (index names games script : List ℕ) → (F.seen files.old).index ≡ Some index → (F.seen files.old).names ≡ Some names → (F.seen files.old).games ≡ Some games → S.left input.old ≡ Some script →
-        Asks (given (map string_bytes words.now) index names games script) (F.asked files.old) (F.asked files.new) }
+        Asks (given (map string_bytes words.now) index names games script (meanings (λ b. rows b) (λ b. told b) views.old.items)) (F.asked files.old) (F.asked files.new) }
 
     // Whatever the files tell, nothing is written where the words or the files refuse.
     ensures silent { Silent result (K.taken out.old) (K.taken out.new) }
 
     // Where anything was taken of the input, the opening line stands in what was written.
     ensures opened { (S.budget input.new ≡ S.budget input.old → ⊥) → (games mended : ℕ) × Grew (adds (K.taken out.old) (opening_text games mended)) (K.taken out.new) }
+
+    // There are as many places of views as before.
+    ensures number { length views.new.items ≡ length views.old.items }
 
     // What is read of any input.
     ensures reads { Reads result (inlet (S.left input.old) (S.budget input.old) (S.faults input.old)) (inlet (S.left input.new) (S.budget input.new) (S.faults input.new)) }
@@ -69,7 +80,7 @@ pub fn session<F: Files, S: Source, K: Sink>(
     if let Err(stop) = write_opening(alloc, machine.games(), mended, out) {
         return Status::from(stop);
     }
-    match run_script(alloc, &mut machine, files, input, out) {
+    match run_script(alloc, &mut machine, views.as_mut_slice(), files, input, out) {
         Ok(()) => Status::Done,
         Err(status) => status,
     }

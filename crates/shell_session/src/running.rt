@@ -14,6 +14,8 @@ ghost use Rattle.script_text.specs.Tasks.{body_word, task};
 ghost use Rattle.script_text.specs.declared.command.Command.TheVariants as command;
 ghost use Rattle.shell_commands.specs.Tasks.{order_left, order_price, order_writes};
 ghost use Rattle.shell_state.specs.Stands.{Sound, Stands, WhyHalt};
+ghost use Rattle.shell_commands.specs.Watching.{most_told};
+ghost use Rattle.shell_session.specs.Around.{AreLeftBy, Lives, Views, around, meanings, told_all, told_more};
 ghost use Rattle.shell_state.specs.Carrying.{StillCarry};
 ghost use Rattle.shell_state.specs.State.{State};
 ghost use Rattle.shell_commands.specs.Tasks.{BrokenTask, tasks};
@@ -30,22 +32,25 @@ use shell_commands::serve;
 use shell_state::{Halt, Machine};
 use std::alloc::Global;
 use std::marker::Brand;
+use tree_live::TreeView;
 
 /// Runs the script of the input, line by line, to `quit` or its end.
 pub(crate) fn run_script<F: Files, S: Source, K: Sink>(
     alloc: Global,
     machine: &mut Machine,
+    views: &mut [Option<Box<dyn TreeView>>],
     files: &mut F,
     input: &mut S,
     out: &mut K,
 ) -> Result<(), Status>
     requires sound { Sound machine.old (F.seen files.old) }
-    ensures all { OnOk result ((s : State) (script : List ℕ) → Stands machine.old (F.seen files.old) s → S.left input.old ≡ Some script → RanAll s script (K.taken out.old) (K.taken out.new) (S.left input.new) (F.seen files.new)) }
-    ensures part { IfErr result (λ status. (s : State) (script : List ℕ) → Stands machine.old (F.seen files.old) s → S.left input.old ≡ Some script → RanPart status s script (K.taken out.old) (K.taken out.new) (S.left input.new) (F.seen files.new)) }
-    ensures asks { (s : State) (script : List ℕ) → Stands machine.old (F.seen files.old) s → S.left input.old ≡ Some script → F.asked files.new ≤ F.asked files.old + price_all s (script_of script) }
+    ensures all { OnOk result ((s : State) (first : Views) (most : ℕ → ℕ) (script : List ℕ) → Lives machine.old (around (F.seen files.old) first most (meanings (λ b. rows b) (λ b. told b) views.old)) s → S.left input.old ≡ Some script → RanAll s script (K.taken out.old) (K.taken out.new) (S.left input.new) (around (F.seen files.new) first most (meanings (λ b. rows b) (λ b. told b) views.new))) }
+    ensures part { IfErr result (λ status. (s : State) (first : Views) (most : ℕ → ℕ) (script : List ℕ) → Lives machine.old (around (F.seen files.old) first most (meanings (λ b. rows b) (λ b. told b) views.old)) s → S.left input.old ≡ Some script → RanPart status s script (K.taken out.old) (K.taken out.new) (S.left input.new) (around (F.seen files.new) first most (meanings (λ b. rows b) (λ b. told b) views.new))) }
+    ensures asks { (s : State) (first : Views) (most : ℕ → ℕ) (script : List ℕ) → Lives machine.old (around (F.seen files.old) first most (meanings (λ b. rows b) (λ b. told b) views.old)) s → S.left input.old ≡ Some script → F.asked files.new ≤ F.asked files.old + price_all s (script_of script) }
     // Where nothing of the input was taken, no file is changed, whatever it tells.
     ensures untaken { S.budget input.new ≡ S.budget input.old → F.seen files.new ≡ F.seen files.old }
     ensures none_lost { NoneLost (K.taken out.old) (K.taken out.new) }
+    ensures number { length views.new ≡ length views.old }
     ensures kept { Kept true machine.new (F.seen files.old) (F.seen files.new) (counts (F.faults files.old) (S.faults input.old) (K.faults out.old)) (counts (F.faults files.new) (S.faults input.new) (K.faults out.new)) (S.budget input.old) (S.budget input.new) (result_err result) }
 {
     let Ok(mut reader) = LineReader::new(alloc) else {
@@ -54,14 +59,14 @@ pub(crate) fn run_script<F: Files, S: Source, K: Sink>(
     'lines: loop {
         match reader.next(alloc, input) {
             Ok(Taken::Line(order)) => {
-                match run_task(alloc, machine, files, input, out, reader, order) {
+                match run_task(alloc, machine, views, files, input, out, reader, order) {
                     Ok(Some(back)) => reader = back,
                     Ok(None) => return Ok(()),
                     Err(status) => return Err(status),
                 }
             }
             Ok(Taken::Last(order)) => {
-                return run_last_task(alloc, machine, files, input, out, reader, order);
+                return run_last_task(alloc, machine, views, files, input, out, reader, order);
             }
             Err(error) => return Err(Status::from(error)),
         }
@@ -72,6 +77,7 @@ pub(crate) fn run_script<F: Files, S: Source, K: Sink>(
 fn run_task<F: Files, S: Source, K: Sink>(
     alloc: Global,
     machine: &mut Machine,
+    views: &mut [Option<Box<dyn TreeView>>],
     files: &mut F,
     input: &mut S,
     out: &mut K,
@@ -82,25 +88,28 @@ fn run_task<F: Files, S: Source, K: Sink>(
     requires order { IsSoundLine order }
     requires within { reader.used ≤ longest_script }
     requires few { length reader.unread ≤ piece_len }
-    ensures done { IfOk result (λ back. (s : State) (ahead : List ℕ) → Stands machine.old (F.seen files.old) s → before reader.unread (S.left input.old) ≡ Some ahead → TaskDone order s ahead reader.used machine.new (F.seen files.new) back (S.left input.new) (K.taken out.old) (K.taken out.new) (F.asked files.old) (F.asked files.new)) }
-    ensures halts { IfErr result (λ status. (s : State) (ahead : List ℕ) → Stands machine.old (F.seen files.old) s → before reader.unread (S.left input.old) ≡ Some ahead → Halts status (F.seen files.new) order s ahead reader.used (S.left input.new) (K.taken out.old) (K.taken out.new) (F.asked files.old) (F.asked files.new)) }
+    ensures done { IfOk result (λ back. (s : State) (first : Views) (most : ℕ → ℕ) (ahead : List ℕ) → Lives machine.old (around (F.seen files.old) first most (meanings (λ b. rows b) (λ b. told b) views.old)) s → before reader.unread (S.left input.old) ≡ Some ahead → TaskDone order s ahead reader.used machine.new (around (F.seen files.new) first most (meanings (λ b. rows b) (λ b. told b) views.new)) back (S.left input.new) (K.taken out.old) (K.taken out.new) (F.asked files.old) (F.asked files.new)) }
+    ensures halts { IfErr result (λ status. (s : State) (first : Views) (most : ℕ → ℕ) (ahead : List ℕ) → Lives machine.old (around (F.seen files.old) first most (meanings (λ b. rows b) (λ b. told b) views.old)) s → before reader.unread (S.left input.old) ≡ Some ahead → Halts status (around (F.seen files.new) first most (meanings (λ b. rows b) (λ b. told b) views.new)) order s ahead reader.used (S.left input.new) (K.taken out.old) (K.taken out.new) (F.asked files.old) (F.asked files.new)) }
     ensures goes_on { IfOk result (λ back. IfSome back (λ later. GoneOn reader (S.budget input.old) later (S.budget input.new))) }
     ensures falls { S.budget input.new ≤ S.budget input.old }
     ensures none_lost { NoneLost (K.taken out.old) (K.taken out.new) }
+    ensures number { length views.new ≡ length views.old }
     ensures kept { Kept (order_writes order) machine.new (F.seen files.old) (F.seen files.new) (counts (F.faults files.old) (S.faults input.old) (K.faults out.old)) (counts (F.faults files.new) (S.faults input.new) (K.faults out.new)) (S.budget input.old + (reader.used + length reader.unread)) (S.budget input.new) (result_err result) }
 {
     if let Some(word) = body_word(&order) {
-        match run_body(alloc, machine, files, input, out, reader, &order, word) {
+        match run_body(
+            alloc, machine, views, files, input, out, reader, &order, word,
+        ) {
             Ok(Some(later)) => return Ok(Some(later)),
             Ok(None) => {}
             Err(status) => return Err(status),
         }
-        match run_quit(alloc, machine, files, out) {
+        match run_quit(alloc, machine, views, files, out) {
             Ok(()) => return Ok(None),
             Err(status) => return Err(status),
         }
     }
-    match run_line(alloc, machine, files, out, order) {
+    match run_line(alloc, machine, views, files, out, order) {
         Ok(true) => Ok(None),
         Ok(false) => Ok(Some(reader)),
         Err(status) => Err(status),
@@ -111,17 +120,19 @@ fn run_task<F: Files, S: Source, K: Sink>(
 fn run_quit<F: Files, K: Sink>(
     alloc: Global,
     machine: &mut Machine,
+    views: &mut [Option<Box<dyn TreeView>>],
     files: &mut F,
     out: &mut K,
 ) -> Result<(), Status>
     requires sound { Sound machine.old (F.seen files.old) }
-    ensures done { OnOk result ((s : State) → Stands machine.old (F.seen files.old) s → Done (Stands machine.new (F.seen files.new)) (tasks.after s (task (Ok command.Quit) [])) (tasks.text s (task (Ok command.Quit) [])) (K.taken out.old) (K.taken out.new)) }
-    ensures interrupted { IfErr result (λ status. (s : State) → Stands machine.old (F.seen files.old) s → Interrupted status (F.seen files.new) s (task (Ok command.Quit) []) (K.taken out.old) (K.taken out.new)) }
-    ensures asks { (s : State) → Stands machine.old (F.seen files.old) s → F.asked files.new ≤ F.asked files.old + order_price s (Ok command.Quit) }
+    ensures done { OnOk result ((s : State) (first : Views) (most : ℕ → ℕ) → Lives machine.old (around (F.seen files.old) first most (meanings (λ b. rows b) (λ b. told b) views.old)) s → Done (Lives machine.new (told_more (around (F.seen files.new) first most (meanings (λ b. rows b) (λ b. told b) views.new)) (most_told s (task (Ok command.Quit) [])))) (tasks.after s (task (Ok command.Quit) [])) (tasks.text s (task (Ok command.Quit) [])) (K.taken out.old) (K.taken out.new)) }
+    ensures interrupted { IfErr result (λ status. (s : State) (first : Views) (most : ℕ → ℕ) → Lives machine.old (around (F.seen files.old) first most (meanings (λ b. rows b) (λ b. told b) views.old)) s → Interrupted status (around (F.seen files.new) first most (meanings (λ b. rows b) (λ b. told b) views.new)) s (task (Ok command.Quit) []) (K.taken out.old) (K.taken out.new)) }
+    ensures asks { (s : State) (first : Views) (most : ℕ → ℕ) → Lives machine.old (around (F.seen files.old) first most (meanings (λ b. rows b) (λ b. told b) views.old)) s → F.asked files.new ≤ F.asked files.old + order_price s (Ok command.Quit) }
     ensures none_lost { NoneLost (K.taken out.old) (K.taken out.new) }
+    ensures number { length views.new ≡ length views.old }
     ensures kept { Kept false machine.new (F.seen files.old) (F.seen files.new) (counts (F.faults files.old) 0 (K.faults out.old)) (counts (F.faults files.new) 0 (K.faults out.new)) 0 0 (result_err result) }
 {
-    match run_line(alloc, machine, files, out, Ok(Command::Quit)) {
+    match run_line(alloc, machine, views, files, out, Ok(Command::Quit)) {
         Ok(_) => Ok(()),
         Err(status) => Err(status),
     }
@@ -131,6 +142,7 @@ fn run_quit<F: Files, K: Sink>(
 fn run_last_task<F: Files, S: Source, K: Sink>(
     alloc: Global,
     machine: &mut Machine,
+    views: &mut [Option<Box<dyn TreeView>>],
     files: &mut F,
     input: &mut S,
     out: &mut K,
@@ -141,22 +153,23 @@ fn run_last_task<F: Files, S: Source, K: Sink>(
     requires order { IsSoundLine order }
     requires within { reader.used ≤ longest_script }
     requires few { length reader.unread ≤ piece_len }
-    ensures done { OnOk result ((s : State) → Stands machine.old (F.seen files.old) s → before reader.unread (S.left input.old) ≡ Some [] → LastDid order s machine.new (F.seen files.new) (S.left input.new) (K.taken out.old) (K.taken out.new)) }
-    ensures halts { IfErr result (λ status. (s : State) → Stands machine.old (F.seen files.old) s → before reader.unread (S.left input.old) ≡ Some [] → LastHalts status (F.seen files.new) order s (S.left input.new) (K.taken out.old) (K.taken out.new)) }
-    ensures asks { (s : State) → Stands machine.old (F.seen files.old) s → before reader.unread (S.left input.old) ≡ Some [] → F.asked files.new ≤ F.asked files.old + price_all s (then_quit (task order [])) }
+    ensures done { OnOk result ((s : State) (first : Views) (most : ℕ → ℕ) → Lives machine.old (around (F.seen files.old) first most (meanings (λ b. rows b) (λ b. told b) views.old)) s → before reader.unread (S.left input.old) ≡ Some [] → LastDid order s machine.new (around (F.seen files.new) first most (meanings (λ b. rows b) (λ b. told b) views.new)) (S.left input.new) (K.taken out.old) (K.taken out.new)) }
+    ensures halts { IfErr result (λ status. (s : State) (first : Views) (most : ℕ → ℕ) → Lives machine.old (around (F.seen files.old) first most (meanings (λ b. rows b) (λ b. told b) views.old)) s → before reader.unread (S.left input.old) ≡ Some [] → LastHalts status (around (F.seen files.new) first most (meanings (λ b. rows b) (λ b. told b) views.new)) order s (S.left input.new) (K.taken out.old) (K.taken out.new)) }
+    ensures asks { (s : State) (first : Views) (most : ℕ → ℕ) → Lives machine.old (around (F.seen files.old) first most (meanings (λ b. rows b) (λ b. told b) views.old)) s → before reader.unread (S.left input.old) ≡ Some [] → F.asked files.new ≤ F.asked files.old + price_all s (then_quit (task order [])) }
     ensures falls { S.budget input.new ≤ S.budget input.old }
     ensures none_lost { NoneLost (K.taken out.old) (K.taken out.new) }
+    ensures number { length views.new ≡ length views.old }
     ensures kept { Kept (order_writes order) machine.new (F.seen files.old) (F.seen files.new) (counts (F.faults files.old) (S.faults input.old) (K.faults out.old)) (counts (F.faults files.new) (S.faults input.new) (K.faults out.new)) (S.budget input.old + (reader.used + length reader.unread)) (S.budget input.new) (result_err result) }
 {
     if body_word(&order).is_none() {
-        return run_last(alloc, machine, files, out, order);
+        return run_last(alloc, machine, views, files, out, order);
     }
-    match run_task(alloc, machine, files, input, out, reader, order) {
+    match run_task(alloc, machine, views, files, input, out, reader, order) {
         Ok(None) => return Ok(()),
         Ok(Some(_)) => {}
         Err(status) => return Err(status),
     }
-    run_quit(alloc, machine, files, out)
+    run_quit(alloc, machine, views, files, out)
 }
 
 // Runs a command that has a body, which ends at the line of this word, and gives the reader back where such a line ended it; else the
@@ -164,6 +177,7 @@ fn run_last_task<F: Files, S: Source, K: Sink>(
 fn run_body<F: Files, S: Source, K: Sink>(
     alloc: Global,
     machine: &mut Machine,
+    views: &mut [Option<Box<dyn TreeView>>],
     files: &mut F,
     input: &mut S,
     out: &mut K,
@@ -175,18 +189,19 @@ fn run_body<F: Files, S: Source, K: Sink>(
     requires order { IsSoundLine order.now }
     requires word { body_word order.now ≡ Some word.now }
     requires within { reader.used ≤ longest_script }
-    ensures done { IfOk result (λ back. (s : State) (ahead : List ℕ) → Stands machine.old (F.seen files.old) s → before reader.unread (S.left input.old) ≡ Some ahead → BodyDone order.now s ahead reader.used machine.new (F.seen files.new) back (S.left input.new) (K.taken out.old) (K.taken out.new) (F.asked files.old) (F.asked files.new)) }
-    ensures halts { IfErr result (λ status. (s : State) (ahead : List ℕ) → Stands machine.old (F.seen files.old) s → before reader.unread (S.left input.old) ≡ Some ahead → Halts status (F.seen files.new) order.now s ahead reader.used (S.left input.new) (K.taken out.old) (K.taken out.new) (F.asked files.old) (F.asked files.new)) }
+    ensures done { IfOk result (λ back. (s : State) (first : Views) (most : ℕ → ℕ) (ahead : List ℕ) → Lives machine.old (around (F.seen files.old) first most (meanings (λ b. rows b) (λ b. told b) views.old)) s → before reader.unread (S.left input.old) ≡ Some ahead → BodyDone order.now s ahead reader.used machine.new (around (F.seen files.new) first most (meanings (λ b. rows b) (λ b. told b) views.new)) back (S.left input.new) (K.taken out.old) (K.taken out.new) (F.asked files.old) (F.asked files.new)) }
+    ensures halts { IfErr result (λ status. (s : State) (first : Views) (most : ℕ → ℕ) (ahead : List ℕ) → Lives machine.old (around (F.seen files.old) first most (meanings (λ b. rows b) (λ b. told b) views.old)) s → before reader.unread (S.left input.old) ≡ Some ahead → Halts status (around (F.seen files.new) first most (meanings (λ b. rows b) (λ b. told b) views.new)) order.now s ahead reader.used (S.left input.new) (K.taken out.old) (K.taken out.new) (F.asked files.old) (F.asked files.new)) }
     ensures goes_on { IfOk result (λ back. IfSome back (λ later. GoneOn reader (S.budget input.old) later (S.budget input.new))) }
     ensures falls { S.budget input.new ≤ S.budget input.old }
     ensures none_lost { NoneLost (K.taken out.old) (K.taken out.new) }
+    ensures number { length views.new ≡ length views.old }
     ensures kept { Kept (order_writes order.now) machine.new (F.seen files.old) (F.seen files.new) (counts (F.faults files.old) (S.faults input.old) (K.faults out.old)) (counts (F.faults files.new) (S.faults input.new) (K.faults out.new)) (S.budget input.old + (reader.used + length reader.unread)) (S.budget input.new) (result_err result) }
 {
     let Ok(mut place) = Place::new(alloc, reader, word.as_bytes()) else {
         return Err(Status::Memory);
     };
     if let Err(halt) = serve_in::<Brand, F, S, K>(
-        alloc, machine, files, input, out, &mut place, order,
+        alloc, machine, views, files, input, out, &mut place, order,
     ) {
         return Err(broken(&place, halt));
     }
@@ -210,6 +225,7 @@ fn reader_behind(place: Place) -> Option<LineReader>
 fn serve_in<B: Begins, F: Files, S: Source, K: Sink>(
     alloc: Global,
     machine: &mut Machine,
+    views: &mut [Option<Box<dyn TreeView>>],
     files: &mut F,
     input: &mut S,
     out: &mut K,
@@ -219,18 +235,20 @@ fn serve_in<B: Begins, F: Files, S: Source, K: Sink>(
     requires sound { Sound machine.old (F.seen files.old) }
     requires order { IsSoundLine order.now }
     requires begins { Standing B.start place.old (S.left input.old) (S.budget input.old) (S.faults input.old) }
-    ensures serves { (s : State) (text : List ℕ) → Stands machine.old (F.seen files.old) s → left_of place.old (S.left input.old) ≡ Some text → Serves tasks (Stands machine.new (F.seen files.new)) BrokenTask s (task order.now text) (K.taken out.old) (K.taken out.new) result }
+    ensures serves { (s : State) (first : Views) (most : ℕ → ℕ) (text : List ℕ) → Lives machine.old (around (F.seen files.old) first most (meanings (λ b. rows b) (λ b. told b) views.old)) s → left_of place.old (S.left input.old) ≡ Some text → Serves tasks (Lives machine.new (told_more (around (F.seen files.new) first most (meanings (λ b. rows b) (λ b. told b) views.new)) (most_told s (task order.now text)))) BrokenTask s (task order.now text) (K.taken out.old) (K.taken out.new) result }
+    ensures left { (s : State) (first : Views) (most : ℕ → ℕ) (text : List ℕ) → Lives machine.old (around (F.seen files.old) first most (meanings (λ b. rows b) (λ b. told b) views.old)) s → left_of place.old (S.left input.old) ≡ Some text → IfErr result (λ _. AreLeftBy (around (F.seen files.new) first most (meanings (λ b. rows b) (λ b. told b) views.new)) s order.now) }
     ensures stands { Standing B.start place.new (S.left input.new) (S.budget input.new) (S.faults input.new) }
     ensures sound { OnOk result (Sound machine.new (F.seen files.new)) }
     ensures carries { (s : State) → Stands machine.old (F.seen files.old) s → IfErr result (λ _. StillCarry (F.seen files.new) s (order_left order.now)) }
     ensures unchanged { order_writes order.now ≡ false → F.seen files.new ≡ F.seen files.old }
     ensures choices { (F.seen files.new).choices ≡ (F.seen files.old).choices }
-    ensures asks { (s : State) → Stands machine.old (F.seen files.old) s → F.asked files.new ≤ F.asked files.old + order_price s order.now }
+    ensures asks { (s : State) (first : Views) (most : ℕ → ℕ) → Lives machine.old (around (F.seen files.old) first most (meanings (λ b. rows b) (λ b. told b) views.old)) s → F.asked files.new ≤ F.asked files.old + order_price s order.now }
     ensures none_lost { NoneLost (K.taken out.old) (K.taken out.new) }
+    ensures number { length views.new ≡ length views.old }
     ensures causes { Causes WhyHalt result (counts (F.faults files.old) place.old.refused (K.faults out.old)) (counts (F.faults files.new) place.new.refused (K.faults out.new)) }
 {
     let mut body: Body<'_, S, B> = Body::new(input, place);
-    serve(alloc, machine, files, &mut body, out, order)
+    serve(alloc, machine, views, files, &mut body, out, order)
 }
 
 // How a command ends that was broken off with its body at this place.
@@ -247,6 +265,7 @@ fn broken(place: &Place, halt: Halt) -> Status
 fn run_last<F: Files, K: Sink>(
     alloc: Global,
     machine: &mut Machine,
+    views: &mut [Option<Box<dyn TreeView>>],
     files: &mut F,
     out: &mut K,
     order: Order,
@@ -254,24 +273,26 @@ fn run_last<F: Files, K: Sink>(
     requires sound { Sound machine.old (F.seen files.old) }
     requires order { IsSoundLine order }
     requires alone { body_word order ≡ None }
-    ensures done { OnOk result ((s : State) → Stands machine.old (F.seen files.old) s → Done (Stands machine.new (F.seen files.new)) (after_all tasks s (then_quit (task order []))) (run tasks s (then_quit (task order []))) (K.taken out.old) (K.taken out.new)) }
-    ensures stops { IfErr result (λ status. (s : State) → Stands machine.old (F.seen files.old) s → Stops status (F.seen files.new) s (then_quit (task order [])) (K.taken out.old) (K.taken out.new)) }
-    ensures asks { (s : State) → Stands machine.old (F.seen files.old) s → F.asked files.new ≤ F.asked files.old + price_all s (then_quit (task order [])) }
+    ensures done { OnOk result ((s : State) (first : Views) (most : ℕ → ℕ) → Lives machine.old (around (F.seen files.old) first most (meanings (λ b. rows b) (λ b. told b) views.old)) s → Done (Lives machine.new (told_more (around (F.seen files.new) first most (meanings (λ b. rows b) (λ b. told b) views.new)) (told_all s (then_quit (task order []))))) (after_all tasks s (then_quit (task order []))) (run tasks s (then_quit (task order []))) (K.taken out.old) (K.taken out.new)) }
+    ensures stops { IfErr result (λ status. (s : State) (first : Views) (most : ℕ → ℕ) → Lives machine.old (around (F.seen files.old) first most (meanings (λ b. rows b) (λ b. told b) views.old)) s → Stops status (around (F.seen files.new) first most (meanings (λ b. rows b) (λ b. told b) views.new)) s (then_quit (task order [])) (K.taken out.old) (K.taken out.new)) }
+    ensures asks { (s : State) (first : Views) (most : ℕ → ℕ) → Lives machine.old (around (F.seen files.old) first most (meanings (λ b. rows b) (λ b. told b) views.old)) s → F.asked files.new ≤ F.asked files.old + price_all s (then_quit (task order [])) }
     ensures none_lost { NoneLost (K.taken out.old) (K.taken out.new) }
+    ensures number { length views.new ≡ length views.old }
     ensures kept { Kept (order_writes order) machine.new (F.seen files.old) (F.seen files.new) (counts (F.faults files.old) 0 (K.faults out.old)) (counts (F.faults files.new) 0 (K.faults out.new)) 0 0 (result_err result) }
 {
-    match run_line(alloc, machine, files, out, order) {
+    match run_line(alloc, machine, views, files, out, order) {
         Ok(true) => return Ok(()),
         Ok(false) => {}
         Err(status) => return Err(status),
     }
-    run_quit(alloc, machine, files, out)
+    run_quit(alloc, machine, views, files, out)
 }
 
 // Runs one line, and tells whether it was `quit`.
 fn run_line<F: Files, K: Sink>(
     alloc: Global,
     machine: &mut Machine,
+    views: &mut [Option<Box<dyn TreeView>>],
     files: &mut F,
     out: &mut K,
     order: Order,
@@ -279,15 +300,16 @@ fn run_line<F: Files, K: Sink>(
     requires sound { Sound machine.old (F.seen files.old) }
     requires order { IsSoundLine order }
     requires alone { body_word order ≡ None }
-    ensures done { OnOk result ((s : State) → Stands machine.old (F.seen files.old) s → Done (Stands machine.new (F.seen files.new)) (tasks.after s (task order [])) (tasks.text s (task order [])) (K.taken out.old) (K.taken out.new)) }
+    ensures done { OnOk result ((s : State) (first : Views) (most : ℕ → ℕ) → Lives machine.old (around (F.seen files.old) first most (meanings (λ b. rows b) (λ b. told b) views.old)) s → Done (Lives machine.new (told_more (around (F.seen files.new) first most (meanings (λ b. rows b) (λ b. told b) views.new)) (most_told s (task order [])))) (tasks.after s (task order [])) (tasks.text s (task order [])) (K.taken out.old) (K.taken out.new)) }
     ensures quit { IfOk result (λ quit. quit ≡ is_quit order) }
-    ensures interrupted { IfErr result (λ status. (s : State) → Stands machine.old (F.seen files.old) s → Interrupted status (F.seen files.new) s (task order []) (K.taken out.old) (K.taken out.new)) }
-    ensures asks { (s : State) → Stands machine.old (F.seen files.old) s → F.asked files.new ≤ F.asked files.old + order_price s order }
+    ensures interrupted { IfErr result (λ status. (s : State) (first : Views) (most : ℕ → ℕ) → Lives machine.old (around (F.seen files.old) first most (meanings (λ b. rows b) (λ b. told b) views.old)) s → Interrupted status (around (F.seen files.new) first most (meanings (λ b. rows b) (λ b. told b) views.new)) s (task order []) (K.taken out.old) (K.taken out.new)) }
+    ensures asks { (s : State) (first : Views) (most : ℕ → ℕ) → Lives machine.old (around (F.seen files.old) first most (meanings (λ b. rows b) (λ b. told b) views.old)) s → F.asked files.new ≤ F.asked files.old + order_price s order }
     ensures none_lost { NoneLost (K.taken out.old) (K.taken out.new) }
+    ensures number { length views.new ≡ length views.old }
     ensures kept { Kept (order_writes order) machine.new (F.seen files.old) (F.seen files.new) (counts (F.faults files.old) 0 (K.faults out.old)) (counts (F.faults files.new) 0 (K.faults out.new)) 0 0 (result_err result) }
 {
     let quit = is_quit(&order);
-    match serve(alloc, machine, files, &mut NoBody, out, &order) {
+    match serve(alloc, machine, views, files, &mut NoBody, out, &order) {
         Ok(()) => Ok(quit),
         Err(halt) => Err(Status::from(halt)),
     }

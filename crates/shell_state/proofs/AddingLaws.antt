@@ -1,6 +1,7 @@
 -- Laws of a game that is added, and of a game that is placed in the place of another one.
-use Rattle.std.proofs.Common.{◌≡◌, ℕ, List, length, Option, Some, sym, subst, ◌+◌, ◌++◌, ap, ◌∙◌, true, refl, [], ◌∷◌, map, arith, ◌<◌, All, get_or, Ok, Err, Bool, false, None, option_map, ap₂}
-use Rattle.std.proofs.lemmas.List.{length-append, map-append}
+use Rattle.std.proofs.Common.{◌≡◌, ℕ, List, length, Option, Some, sym, subst, ◌+◌, ◌++◌, ap, ◌∙◌, true, refl, [], ◌∷◌, map, arith, ◌<◌, ◌≤◌, nat_lt, All, get_or, Ok, Err, Bool, false, None, option_map, ap₂}
+use Rattle.std.proofs.lemmas.Bool.{le-ltb}
+use Rattle.std.proofs.lemmas.List.{length-append, length-map, map-append}
 use Rattle.base_core.specs.Edited.{first_full, CanPlace, Places, WhyNotPlaced, WhyNotReplaced}
 use Rattle.base_core.specs.Edits.{end_with, names_with, added, held_of}
 use Rattle.base_core.specs.Means.{HoldsNames}
@@ -23,18 +24,25 @@ use Rattle.std.specs.Prelude.{IfSome, if◌then◌else◌}
 use Rattle.base_core.specs.Base.{Base, Held}
 use Rattle.shell_state.specs.declared.refusing.Refusal.TheVariants.{FullIndex}
 use Rattle.shell_state.specs.Indexing.{index_with}
-use Rattle.shell_state.proofs.IndexLaws.{depth_is}
+use Rattle.shell_state.proofs.IndexLaws.{depth_is, index_is}
 use Rattle.shell_state.proofs.CarryLaws.{beside_grown}
 use Rattle.shell_state.proofs.EditedLaws.{kept-why, none_refused, refused_so, why_not_failed}
 use Rattle.shell_state.proofs.Quietly.{filter_is, held_by, saved_is, seats_are}
+use Rattle.shell_state.proofs.TableLaws.{hits_behind, in_mapped, slots_follow}
 use Rattle.shell_state.specs.Adding.{IsAdded, IsNotAdded}
 use Rattle.shell_state.specs.Ends.{IsDevice, IsThere, refused_edit}
 use Rattle.shell_state.specs.Refusing.{not_added, index_is_full, why_not}
-use Rattle.shell_state.specs.Stands.{Fits, Stands, Holding, depth_of, index_of}
+use Rattle.shell_state.specs.Hits.{AreHits}
+use Rattle.shell_state.specs.Slots.{HitTable, table_in, tables_in}
+use Rattle.shell_state.specs.Stands.{Fits, Stands, Holding, Tables, depth_of, index_of, tables_by}
 use Rattle.shell_state.specs.State.{State, Shared}
 use Rattle.shell_state.specs.declared.halt.Halt.{Halt}
 use Rattle.shell_state.specs.declared.halt.Halt.TheVariants as halt
 use Rattle.shell_state.specs.declared.refusing.Refusal.{Refusal}
+use Rattle.tree_live.specs.Slots.{in_slot}
+use Rattle.tree_live.specs.Watching.{Watched, with_game as with_entry}
+use Rattle.tree_live.specs.declared.entry.Entry.{Entry}
+use Rattle.tree_rows.specs.declared.hit.GameHit.{GameHit}
 
 -- ---- what is told
 
@@ -52,7 +60,7 @@ told_more seen seen' games more told is = ap (λ (x : Seen). x.games) is ∙ ap 
 -- ---- the index
 
 -- It is full or not in the state too.
-pub index_open : (holding : Holding) (seen : Seen) (s : State) (full : Bool) → Stands holding seen s → index_is_full (depth_of holding.index) (length holding.kept.entries + 1) ≡ full
+pub index_open : (holding : Holding) (seen : Seen) (s : State) (full : Bool) → Stands holding seen s → index_is_full (depth_of holding.tables.index) (length holding.kept.entries + 1) ≡ full
     → index_is_full s.shared.index (length s.shared.base.games + 1) ≡ full
 index_open holding seen s full st is =
     ap₂ (λ (depth : Option ℕ) (games : ℕ). index_is_full depth (games + 1)) (sym (depth_is holding seen s st)) (sym st.base.count) ∙ is
@@ -98,18 +106,18 @@ index_last (Some index) games number is fits = is ∙ sym fits
 
 -- There is no room in it.
 pub game_shut_out : (holding : Holding) (seen : Seen) (s : State) (head : Head) (game : GameTree) → Stands holding seen s
-    → index_is_full (depth_of holding.index) (length holding.kept.entries + 1) ≡ true → IsNotAdded holding seen s head game FullIndex
+    → index_is_full (depth_of holding.tables.index) (length holding.kept.entries + 1) ≡ true → IsNotAdded holding seen s head game FullIndex
 game_shut_out holding seen s head game st full = record { stands = st; refused = full_index s.shared head game (index_open holding seen s true st full) }
 
 -- ---- a game that is added
 
-pub game_added : (old new : Kept) (index index' : Option Index) (filter filter' : List (Option ℕ)) (saved saved' : List SavedFilter) (seen seen' : Seen) (s : State) (head : Head) (game : GameTree) (number : ℕ)
-    → Stands (held_by old index filter saved) seen s → IsEnd old.end seen → Places (written_record head.tags game) (added head game) old new
+pub game_added : (old new : Kept) (tables tables' : Tables) (filter filter' : List (Option ℕ)) (saved saved' : List SavedFilter) (seen seen' : Seen) (s : State) (head : Head) (game : GameTree) (number : ℕ)
+    → Stands (held_by old tables filter saved) seen s → IsEnd old.end seen → Places (written_record head.tags game) (added head game) old new
     → CanPlace (length (written_record head.tags game)) (first_full (length old.entries + 1) (names_with head old.names) (end_with head game old.end))
     → seen' ≡ appended (padded old.end (written_record head.tags game)) seen → new.unsaved ≡ true → HoldsNames new.names old.names
-    → filter' ≡ filter ++ Some 0 ∷ [] → saved' ≡ map without_last saved → index_is_full (depth_of index) (length old.entries + 1) ≡ false
-    → index' ≡ option_map (index_with game) index → number ≡ length old.entries → IsAdded (held_by new index' filter' saved') seen' s head game number
-game_added old new index index' filter filter' saved saved' seen seen' s head game number st ends places room is unsaved names put left roomy grown last =
+    → filter' ≡ filter ++ Some 0 ∷ [] → saved' ≡ map without_last saved → index_is_full (depth_of tables.index) (length old.entries + 1) ≡ false
+    → tables' ≡ tables_by s.shared.index s.slots (added head game s.shared.base).games → number ≡ length old.entries → IsAdded (held_by new tables' filter' saved') seen' s head game number
+game_added old new tables tables' filter filter' saved saved' seen seen' s head game number st ends places room is unsaved names put left roomy grown last =
     let bytes : List ℕ = padded old.end (written_record head.tags game) in
     let more : length old.entries + 1 ≡ length s.shared.base.games + 1 = ap (λ (n : ℕ). n + 1) st.base.count in
     record {
@@ -120,12 +128,45 @@ game_added old new index index' filter filter' saved saved' seen seen' s head ga
         seat = seats_are (record { filter = filter'; saved = saved' }) _ (put ∙ ap (λ (f : List (Option ℕ)). f ++ Some 0 ∷ []) (filter_is st)) (left ∙ ap (map without_last) (saved_is st));
         unsaved = unsaved;
         carried = beside_grown old new seen seen' bytes s.shared.unsaved s.shared.carried is names st.carried;
-        index = grown ∙ ap (option_map (index_with game)) st.index ∙ index_added head game s.shared.base s.shared.index;
+        tables = grown;
       };
-      free = open_index s.shared head game (index_open (held_by old index filter saved) seen s false st roomy)
+      free = open_index s.shared head game (index_open (held_by old tables filter saved) seen s false st roomy)
           ∙ (sym (kept-why old st.games s.shared.base (length old.entries + 1) (length s.shared.base.games + 1) head game st.base more) ∙ none_refused _ _ room);
       last = last ∙ st.base.count;
     }
+
+-- The tables with it.
+pub tables_grow : (holding : Holding) (seen : Seen) (s : State) (head : Head) (game : GameTree) (index' : Option Index) (number : ℕ) (hits : List (Option GameHit)) (watches watches' : List (Option Watched))
+    → Stands holding seen s → number ≡ length holding.kept.entries → index' ≡ option_map (index_with game) holding.tables.index → tables_in watches ≡ holding.tables.hits
+    → length watches' ≡ length watches → AreHits watches head game hits
+    → ((k : ℕ) → in_slot watches' k ≡ option_map (λ (w : Watched). record w { games = with_entry number (record { hit = in_slot hits k; is_in = true }) w.games }) (in_slot watches k))
+    → record { index = index'; hits = tables_in watches' } ≡ tables_by s.shared.index s.slots (added head game s.shared.base).games
+unfolding added
+tables_grow holding seen s head game index' number hits watches watches' st last grown held count are follow =
+    ap₂ (λ (x : Option Index) (l : List (Option HitTable)). record { index = x; hits = l })
+    (grown ∙ ap (option_map (index_with game)) (index_is st) ∙ index_added head game s.shared.base s.shared.index)
+    (slots_follow number true head game hits watches watches' s.shared.base.games (s.shared.base.games ++ held_of head game ∷ []) s.slots count are follow
+    (λ query. hits_behind query (held_of head game) s.shared.base.games number (last ∙ st.base.count))
+    (held ∙ ap (λ (t : Tables). t.hits) st.tables))
+
+-- There is room for it in the slots.
+pub few_before : (new : Kept) (games : ℕ) → IsSound new → length new.entries ≡ games + 1 → games < 16777214
+few_before new games sound count = omega (arith, sound.count, sound.header.games, count)
+
+pub room_for : (number : ℕ) (watches : List (Option Watched)) (games : ℕ) → number ≡ games → games < 16777214
+    → ((k : ℕ) → IfSome (in_slot (tables_in watches) k) (λ (table : HitTable). length table.hits ≡ games)) → (k : ℕ) → IfSome (in_slot watches k) (λ (watch : Watched). (number ≤ length watch.games) × (number < 16777214))
+room_for number watches games last few fits = λ k.
+    by (in_slot watches k) (subst (λ (o : Option HitTable). IfSome o (λ (table : HitTable). length table.hits ≡ games)) (in_mapped table_in watches k) (fits k))
+  where
+    by : (watch : Option Watched) → IfSome (option_map table_in watch) (λ (table : HitTable). length table.hits ≡ games) → IfSome watch (λ (w : Watched). (number ≤ length w.games) × (number < 16777214))
+    by None is = tt
+    by (Some watch) is = (omega (arith, is, last, length-map watch.games (λ (e : Entry). e.hit)), omega (arith, last, few))
+
+-- It comes behind the others.
+pub one_behind : (number games entries : ℕ) → number ≡ games → entries ≡ games + 1 → (n : ℕ) → n ≡ games → (if nat_lt number n then n else n + 1) ≡ entries
+one_behind number games entries last count n is =
+    let test : nat_lt number n ≡ false = le-ltb number n (omega (arith, last, is)) in
+    rw test (omega (arith, is, count))
 
 -- There is room for it in the filters.
 pub filter_short : (new : Kept) (filter : List (Option ℕ)) (games : ℕ) → IsSound new → length new.entries ≡ games + 1 → length filter ≡ games → length filter < 4294967295
@@ -139,9 +180,9 @@ all_short new saved lent games sound count same fits =
     subst P (sym same) below
 
 -- The filters fit with it.
-pub add_fits : (old new : Kept) (index : Option Index) (filter filter' : List (Option ℕ)) (saved saved' : List SavedFilter) → length new.entries ≡ length old.entries + 1 → filter' ≡ filter ++ Some 0 ∷ [] → saved' ≡ map without_last saved
-    → Fits (held_by old index filter saved) → Fits (held_by new index filter' saved')
-add_fits old new index filter filter' saved saved' count put left fits =
+pub add_fits : (old new : Kept) (tables tables' : Tables) (filter filter' : List (Option ℕ)) (saved saved' : List SavedFilter) → length new.entries ≡ length old.entries + 1 → filter' ≡ filter ++ Some 0 ∷ [] → saved' ≡ map without_last saved
+    → Fits (held_by old tables filter saved) → Fits (held_by new tables' filter' saved')
+add_fits old new tables tables' filter filter' saved saved' count put left fits =
     let P : List SavedFilter → Type 0 = λ l. All (λ (f : SavedFilter). length f.plies ≡ length new.entries) l in
     let Q : ℕ → Type 0 = λ n. All (λ (f : SavedFilter). length f.plies ≡ n) (map without_last saved) in
     let long : length filter' ≡ length filter + 1 = ap (λ (f : List (Option ℕ)). length f) put ∙ length-append filter (Some 0 ∷ []) in
@@ -151,17 +192,17 @@ add_fits old new index filter filter' saved saved' count put left fits =
     }
 
 -- It is refused.
-pub game_not_added : (old new : Kept) (index : Option Index) (filter : List (Option ℕ)) (saved : List SavedFilter) (seen seen' : Seen) (s : State) (head : Head) (game : GameTree) (e : EditError) (why : Refusal)
-    → Stands (held_by old index filter saved) seen s
+pub game_not_added : (old new : Kept) (tables : Tables) (filter : List (Option ℕ)) (saved : List SavedFilter) (seen seen' : Seen) (s : State) (head : Head) (game : GameTree) (e : EditError) (why : Refusal)
+    → Stands (held_by old tables filter saved) seen s
     → WhyNotPlaced (length (written_record head.tags game)) (first_full (length old.entries + 1) (names_with head old.names) (end_with head game old.end)) e
-    → refused_edit e ≡ Ok why → new ≡ old → index_is_full (depth_of index) (length old.entries + 1) ≡ false → ((e ≡ edit.Failed → ⊥) → seen' ≡ seen) → IsNotAdded (held_by new index filter saved) seen' s head game why
-game_not_added old new index filter saved seen seen' s head game e why st not ends same roomy files =
+    → refused_edit e ≡ Ok why → new ≡ old → index_is_full (depth_of tables.index) (length old.entries + 1) ≡ false → ((e ≡ edit.Failed → ⊥) → seen' ≡ seen) → IsNotAdded (held_by new tables filter saved) seen' s head game why
+game_not_added old new tables filter saved seen seen' s head game e why st not ends same roomy files =
     let more : length old.entries + 1 ≡ length s.shared.base.games + 1 = ap (λ (n : ℕ). n + 1) st.base.count in
-    let P : Kept → Type 0 = λ k. Stands (held_by k index filter saved) seen' s in
-    let Q : Seen → Type 0 = λ x. Stands (held_by old index filter saved) x s in
+    let P : Kept → Type 0 = λ k. Stands (held_by k tables filter saved) seen' s in
+    let Q : Seen → Type 0 = λ x. Stands (held_by old tables filter saved) x s in
     record {
       stands = subst P (sym same) (subst Q (sym (files (why_not_failed e why ends))) st);
-      refused = open_index s.shared head game (index_open (held_by old index filter saved) seen s false st roomy)
+      refused = open_index s.shared head game (index_open (held_by old tables filter saved) seen s false st roomy)
           ∙ (sym (kept-why old st.games s.shared.base (length old.entries + 1) (length s.shared.base.games + 1) head game st.base more) ∙ refused_so e _ _ why not ends);
     }
 

@@ -2,7 +2,7 @@
 use Rattle.std.proofs.Common.{◌≡◌, ℕ, List, All, length, Option, sym, ◌∙◌, subst, ap, false, nat_lt, None, refl, ◌<◌, true, Some, Ok, arith, Result, Err}
 use Rattle.std.proofs.lemmas.Bool.{le-ltb, lt-ltb}
 use Rattle.std.proofs.lemmas.List.{length-map}
-use Rattle.std.specs.Prelude.{IfOk, IfSome, OnOk, option_map}
+use Rattle.std.specs.Prelude.{IfOk, OnOk, option_map}
 use Rattle.std.specs.Result.{result_map_both}
 use Rattle.base_core.specs.Base.{Base}
 use Rattle.base_core.specs.Edited.{ChangedHeads, first_full, CanPlace, WhyNotPlaced}
@@ -19,28 +19,27 @@ use Rattle.game_tree.specs.Game.{GameTree}
 use Rattle.game_tree.specs.declared.head.Head.{Head}
 use Rattle.name_base.specs.NameLists.{NameLists}
 use Rattle.filter_seat.specs.declared.saved.SavedFilter.{SavedFilter}
-use Rattle.pos_index.specs.Hits.{Index}
 use Rattle.shell_state.proofs.CarryLaws.{carry_grown, carry_same}
 use Rattle.shell_state.proofs.Quietly.{held_by}
 use Rattle.shell_state.specs.Carrying.{StillCarry}
 use Rattle.shell_state.specs.Ends.{refused_edit, refused_line}
 use Rattle.shell_state.specs.Refusing.{refusal, refusal_line, refusal_of, why_not}
-use Rattle.shell_state.specs.Stands.{Fits, Holding, IndexFits, Stands}
+use Rattle.shell_state.specs.Stands.{AreTables, Fits, Holding, Stands, Tables, TablesFit}
 use Rattle.shell_state.specs.State.{State}
 use Rattle.shell_state.specs.declared.halt.Halt.{Halt}
 use Rattle.shell_state.specs.declared.refusing.Refusal.{Refusal}
 use Rattle.shell_state.specs.declared.refusing.Refusal.TheVariants.{TooLong, Full}
 
 -- Filters that fit go on to fit where the number of games is the same.
-pub fits_count : (old new : Kept) (index : Option Index) (filter : List (Option ℕ)) (saved : List SavedFilter) → length new.entries ≡ length old.entries
-    → Fits (held_by old index filter saved) → Fits (held_by new index filter saved)
-fits_count old new index filter saved count fits =
+pub fits_count : (old new : Kept) (tables : Tables) (filter : List (Option ℕ)) (saved : List SavedFilter) → length new.entries ≡ length old.entries
+    → Fits (held_by old tables filter saved) → Fits (held_by new tables filter saved)
+fits_count old new tables filter saved count fits =
     record { filter = fits.filter ∙ sym count; saved = subst (λ (n : ℕ). All (λ (f : SavedFilter). length f.plies ≡ n) saved) (sym count) fits.saved }
 
--- And so does the index.
-pub index_fits_count : (old new : Kept) (index : Option Index) (filter : List (Option ℕ)) (saved : List SavedFilter) → length new.entries ≡ length old.entries
-    → IndexFits (held_by old index filter saved) → IndexFits (held_by new index filter saved)
-index_fits_count old new index filter saved count fits = subst (λ (n : ℕ). IfSome index (λ (x : Index). length x.rows ≡ n)) (sym count) fits
+-- And so do the tables.
+pub tables_fit_count : (old new : Kept) (tables : Tables) (filter : List (Option ℕ)) (saved : List SavedFilter) → length new.entries ≡ length old.entries
+    → TablesFit (held_by old tables filter saved) → TablesFit (held_by new tables filter saved)
+tables_fit_count old new tables filter saved count fits = subst (AreTables tables) (sym count) fits
 
 -- As many entries as places.
 pub same_count : (old new : Kept) → ChangedHeads old new → length new.entries ≡ length old.entries

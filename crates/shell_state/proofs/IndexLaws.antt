@@ -17,23 +17,26 @@ use Rattle.game_codec.specs.Record.{IsRecord}
 use Rattle.game_tree.specs.Game.{GameTree}
 use Rattle.pos_index.specs.Hits.{Index, IndexesAll}
 use Rattle.sig_index.specs.Games.{extent_in}
-use Rattle.shell_state.specs.Stands.{Holding, Stands, depth_of, index_of}
+use Rattle.shell_state.specs.Stands.{Holding, Stands, Tables, depth_of, index_of}
 use Rattle.shell_state.specs.State.{State, games_of}
 
 -- The index that is held is one of the games of the state, and has its depth.
+pub index_is : {holding : Holding} {seen : Seen} {s : State} → Stands holding seen s → holding.tables.index ≡ option_map (index_of (games_of s)) s.shared.index
+index_is st = ap (λ (t : Tables). t.index) st.tables
+
 indexes_by : (depth : Option ℕ) (games : List GameTree) → IndexesAll (option_map (index_of games) depth) games
 indexes_by None games = tt
 indexes_by (Some depth) games = refl
 
-pub indexes_all : (holding : Holding) (seen : Seen) (s : State) → Stands holding seen s → IndexesAll holding.index (games_of s)
-indexes_all holding seen s st = subst (λ (index : Option Index). IndexesAll index (games_of s)) (sym st.index) (indexes_by s.shared.index (games_of s))
+pub indexes_all : (holding : Holding) (seen : Seen) (s : State) → Stands holding seen s → IndexesAll holding.tables.index (games_of s)
+indexes_all holding seen s st = subst (λ (index : Option Index). IndexesAll index (games_of s)) (sym (index_is st)) (indexes_by s.shared.index (games_of s))
 
 depth_by : (depth : Option ℕ) (games : List GameTree) → depth_of (option_map (index_of games) depth) ≡ depth
 depth_by None games = refl
 depth_by (Some depth) games = refl
 
-pub depth_is : (holding : Holding) (seen : Seen) (s : State) → Stands holding seen s → depth_of holding.index ≡ s.shared.index
-depth_is holding seen s st = ap depth_of st.index ∙ depth_by s.shared.index (games_of s)
+pub depth_is : (holding : Holding) (seen : Seen) (s : State) → Stands holding seen s → depth_of holding.tables.index ≡ s.shared.index
+depth_is holding seen s st = ap depth_of (index_is st) ∙ depth_by s.shared.index (games_of s)
 
 -- The games of a base are those of its records, which an edit of heads leaves.
 abbrev games_in : Base → List GameTree

@@ -9,3 +9,4 @@ pub mod AddingLaws
 pub mod HoldingLaws
 pub mod Beginning
 pub mod Served
+pub mod TableLaws

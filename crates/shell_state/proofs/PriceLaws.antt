@@ -16,6 +16,7 @@ use Rattle.name_base.specs.NameLists.{NameLists}
 use Rattle.pos_index.specs.Hits.{Index, Place, rows_told}
 use Rattle.sig_index.specs.declared.signature.Sig.{Sig}
 use Rattle.base_files.specs.declared.extent.Extent.{Extent}
+use Rattle.shell_state.proofs.IndexLaws.{index_is}
 use Rattle.shell_state.proofs.PassingLaws.{sig_is}
 use Rattle.shell_state.proofs.Quietly.{filter_is}
 use Rattle.shell_state.specs.Passing.{len_if, sig_of, filtered_len, len_if_in, len_in, searched_len}
@@ -64,7 +65,7 @@ looks_each names told depth (e ∷ es) (held ∷ all) count each heads =
 
 looks_are : (holding : Holding) (seen : Seen) (s : State) → Stands holding seen s → looks_in holding ≡ looks_of s.shared
 looks_are holding seen s st =
-    ap (λ (index : Option Index). looks_at_all holding.kept.names (rows_told index) holding.kept.entries) st.index
+    ap (λ (index : Option Index). looks_at_all holding.kept.names (rows_told index) holding.kept.entries) (index_is st)
     ∙ looks_each holding.kept.names st.games s.shared.index holding.kept.entries s.shared.base.games st.base.count st.base.each (heads-are holding.kept st.games s.shared.base st.base)
 
 -- The price by what is held is that in the state for which the machine stands.
@@ -111,7 +112,7 @@ sum_looks names (row ∷ rows) (e ∷ entries) =
     ∙ sym (sum_by-cons (λ (x : Look). x.len) (look_at names row e) (looks_at_all names rows entries)))
 
 pub price_of_all : (holding : Holding) → sum_by (λ (x : Extent). x.len) (map extent_of holding.kept.entries) ≡ sum_by (λ (x : Look). x.len) (looks_in holding)
-price_of_all holding = extents_len holding.kept.entries ∙ sum_looks holding.kept.names (rows_told holding.index) holding.kept.entries
+price_of_all holding = extents_len holding.kept.entries ∙ sum_looks holding.kept.names (rows_told holding.tables.index) holding.kept.entries
 
 -- The games that are in.
 pub filtered_looks : (plies : List (Option ℕ)) (names : NameLists) (rows : List (List Place)) (entries : List Entry)

@@ -1,6 +1,6 @@
 -- Laws of lines that ask no file: what they leave stands for the state after them.
 use Rattle.std.proofs.Common.{ℕ, List, Option, ◌≡◌, length, refl, sym, subst, ap, ap₂, ◌∙◌, All, Result, Ok, Err}
-use Rattle.std.specs.Prelude.{IfErr, IfOk, IfSome}
+use Rattle.std.specs.Prelude.{IfErr, IfOk}
 use Rattle.base_core.specs.Represents.{Kept, IsSound, Represents}
 use Rattle.base_files.specs.Seen.{Seen}
 use Rattle.block_store.specs.Placing.{IsEnd}
@@ -8,13 +8,19 @@ use Rattle.filter_seat.specs.Seats.{Seat}
 use Rattle.filter_seat.specs.declared.saved.SavedFilter.{SavedFilter}
 use Rattle.pos_index.specs.Hits.{Index}
 use Rattle.shell_state.specs.Carrying.{AreBeside}
-use Rattle.shell_state.specs.Stands.{Holding, IndexFits, Sound, Stands, Fits, Quiet}
+use Rattle.shell_state.specs.Slots.{tables_in}
+use Rattle.shell_state.specs.Stands.{Holding, Sound, Stands, Fits, Quiet, Tables, TablesFit, AreTables}
 use Rattle.shell_state.specs.State.{State, with_seat}
 use Rattle.shell_state.specs.Work.{Work}
+use Rattle.tree_live.specs.Watching.{Watched}
 
 -- What is held, by its parts.
-abbrev pub held_by : Kept → Option Index → List (Option ℕ) → List SavedFilter → Holding
-held_by kept index filter saved = record { kept = kept; index = index; seat = record { filter = filter; saved = saved } }
+abbrev pub held_by : Kept → Tables → List (Option ℕ) → List SavedFilter → Holding
+held_by kept tables filter saved = record { kept = kept; tables = tables; seat = record { filter = filter; saved = saved } }
+
+-- The tables, by the index and the slots of a machine.
+abbrev pub tables_with : Option Index → List (Option Watched) → Tables
+tables_with index watches = record { index = index; hits = tables_in watches }
 
 -- Seats with the same filters are one.
 pub seats_are : (old new : Seat) → old.filter ≡ new.filter → old.saved ≡ new.saved → old ≡ new
@@ -39,20 +45,20 @@ fits_by old new kept saved len fits =
           subst P (sym saved) (subst Q e fits.saved);
     }
 
-pub found_sound : (kept : Kept) (index : Option Index) (filter later : List (Option ℕ)) (saved : List SavedFilter) (seen seen' : Seen)
-    → Sound (held_by kept index filter saved) seen → length later ≡ length filter → seen' ≡ seen → Sound (held_by kept index later saved) seen'
-found_sound kept index filter later saved seen seen' sound same unchanged = record {
-  fits = fits_by (held_by kept index filter saved) (held_by kept index later saved) refl refl same sound.fits;
-  index = sound.index;
+pub found_sound : (kept : Kept) (tables : Tables) (filter later : List (Option ℕ)) (saved : List SavedFilter) (seen seen' : Seen)
+    → Sound (held_by kept tables filter saved) seen → length later ≡ length filter → seen' ≡ seen → Sound (held_by kept tables later saved) seen'
+found_sound kept tables filter later saved seen seen' sound same unchanged = record {
+  fits = fits_by (held_by kept tables filter saved) (held_by kept tables later saved) refl refl same sound.fits;
+  tables = sound.tables;
   base = sound.base;
   at_end = subst (λ (x : Seen). IsEnd kept.end x) (sym unchanged) sound.at_end;
 }
 
--- The index fits where it and the base are as before.
-pub index_fits : (old new : Holding) → new.kept ≡ old.kept → new.index ≡ old.index → IndexFits old → IndexFits new
-index_fits old new kept index fits =
-    let P : Option Index → Kept → Type 0 = λ i k. IfSome i (λ (x : Index). length x.rows ≡ length k.entries) in
-    subst (λ (i : Option Index). P i new.kept) (sym index) (subst (P old.index) (sym kept) fits)
+-- The tables fit where they and the base are as before.
+pub tables_fit : (old new : Holding) → new.kept ≡ old.kept → new.tables ≡ old.tables → TablesFit old → TablesFit new
+tables_fit old new kept tables fits =
+    let P : Tables → Kept → Type 0 = λ t k. AreTables t (length k.entries) in
+    subst (λ (t : Tables). P t new.kept) (sym tables) (subst (P old.tables) (sym kept) fits)
 
 -- The plies of a filter, and the filters that are kept.
 abbrev pub Plies : Type 0
@@ -63,9 +69,9 @@ pub quiet_by : (F : Plies → List SavedFilter → Plies) (G : Plies → List Sa
     (old new : Holding) (work : Work) (line : List ℕ)
     → ((s : State) → work.after s ≡ with_seat s (record { filter = F s.seat.filter s.seat.saved; saved = G s.seat.filter s.seat.saved }))
     → ((s : State) → work.text s ≡ T s.seat.filter s.seat.saved)
-    → new.kept ≡ old.kept → new.index ≡ old.index → new.seat.filter ≡ F old.seat.filter old.seat.saved → new.seat.saved ≡ G old.seat.filter old.seat.saved
+    → new.kept ≡ old.kept → new.tables ≡ old.tables → new.seat.filter ≡ F old.seat.filter old.seat.saved → new.seat.saved ≡ G old.seat.filter old.seat.saved
     → line ≡ T old.seat.filter old.seat.saved → Fits new → Quiet old work new line
-quiet_by F G T old new work line after says kept index filter saved written fits = record {
+quiet_by F G T old new work line after says kept tables filter saved written fits = record {
   stands = λ (seen : Seen) (s : State) (st : Stands old seen s).
       let here : State = with_seat s (record { filter = F s.seat.filter s.seat.saved; saved = G s.seat.filter s.seat.saved }) in
       let b = subst (λ (k : Kept). Represents k st.games s.shared.base) (sym kept) st.base in
@@ -78,13 +84,13 @@ quiet_by F G T old new work line after says kept index filter saved written fits
             (saved ∙ ap (λ (x : Plies). G x old.seat.saved) (filter_is st) ∙ ap (G s.seat.filter) (saved_is st));
         unsaved = ap (λ (k : Kept). k.unsaved) kept ∙ st.unsaved;
         carried = subst (λ (k : Kept). AreBeside k seen s.shared.unsaved s.shared.carried) (sym kept) st.carried;
-        index = index ∙ st.index;
+        tables = tables ∙ st.tables;
       } in
       subst (Stands new seen) (sym (after s)) standing;
   text = λ (seen : Seen) (s : State) (st : Stands old seen s).
       written ∙ ap (λ (x : Plies). T x old.seat.saved) (filter_is st) ∙ ap (T s.seat.filter) (saved_is st) ∙ sym (says s);
   fits = fits;
-  index = index_fits old new kept index;
+  tables = tables_fit old new kept tables;
   base = λ (sound : IsSound old.kept). subst (λ (k : Kept). IsSound k) (sym kept) sound;
   end = ap (λ (k : Kept). k.end) kept;
 }

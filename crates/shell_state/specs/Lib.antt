@@ -1,5 +1,6 @@
 pub mod Passing
 pub mod Lines
+pub mod Slots
 pub mod State
 pub mod Work
 pub mod Refusing
@@ -7,4 +8,5 @@ pub mod Ends
 pub mod Carrying
 pub mod Stands
 pub mod Indexing
+pub mod Hits
 pub mod Adding

@@ -1,7 +1,7 @@
 -- How the machine stands for a plain state, beside the files of its base. This project's own.
 use Rattle.std.specs.Bool.{MatchBool}
-use Rattle.std.specs.Prelude.{ℕ, List, ◌≡◌, Option, Some, IfSome, length, ⊤, IsTrue, slice_get, [], ◌∷◌, Bool, false, ◌+◌, map, option_map, ◌≤◌}
-use Rattle.base_core.specs.Base.{Base}
+use Rattle.std.specs.Prelude.{ℕ, List, ◌≡◌, Option, Some, None, IfSome, length, replicate, ⊤, IsTrue, slice_get, [], ◌∷◌, Bool, false, ◌+◌, map, option_map, ◌≤◌}
+use Rattle.base_core.specs.Base.{Base, Held}
 use Rattle.base_core.specs.Entries.{head_of, sig_in}
 use Rattle.base_core.specs.Means.{Means}
 use Rattle.base_core.specs.Represents.{Kept, Represents, IsSound}
@@ -16,21 +16,36 @@ use Rattle.pos_index.specs.Hits.{Index, Place, row_of, rows_told}
 use Rattle.filter_seat.specs.Seats.{FitsGames, Seat}
 use Rattle.shell_state.specs.Carrying.{AreBeside, AreEmpty, Contents}
 use Rattle.shell_state.specs.Passing.{len_in}
-use Rattle.shell_state.specs.State.{State, begin, games_of}
+use Rattle.shell_state.specs.Slots.{HitTable, Slot, tables_of}
+use Rattle.shell_state.specs.State.{State, begin}
 use Rattle.shell_state.specs.Work.{Look, Work, price, Price}
 use Rattle.shell_state.specs.Work.Price.{by_looks, by_state}
+use Rattle.tree_live.specs.Slots.{in_slot}
 use Rattle.shell_state.specs.declared.halt.Halt.{Halt}
 use Rattle.shell_state.specs.declared.halt.Halt.TheVariants as halt
 
--- What a machine holds: what the open base keeps, the position index, if there is one, and the seat of its user.
+-- What is kept of the games for speed: the position index, if there is one, and the hits for each slot that shows a tree.
+pub record Tables : Type 0 where
+  pub index : Option Index
+  pub hits : List (Option HitTable)
+
+-- What a machine holds: what the open base keeps, its tables, and the seat of its user.
 pub record Holding : Type 0 where
   pub kept : Kept
-  pub index : Option Index
+  pub tables : Tables
   pub seat : Seat
 
 -- The position index of games to a depth.
 abbrev pub index_of : List GameTree → ℕ → Index
 index_of games depth = record { depth = depth; rows = map (row_of depth) (map Some games) }
+
+-- Those where there is no index, and no slot shows a tree.
+abbrev pub no_tables : Tables
+no_tables = record { index = None; hits = replicate 8 None }
+
+-- The tables of the games of a state.
+abbrev pub tables_by : Option ℕ → List Slot → List Held → Tables
+tables_by depth slots games = record { index = option_map (index_of (map (λ held. held.game) games)) depth; hits = tables_of games slots }
 
 -- The depth of an index, if there is one.
 abbrev pub depth_of : Option Index → Option ℕ
@@ -43,22 +58,26 @@ pub record Stands (holding : Holding) (seen : Seen) (s : State) : Type 0 where
   pub base : Represents holding.kept games s.shared.base
   pub unsaved : holding.kept.unsaved ≡ s.shared.unsaved
   pub carried : AreBeside holding.kept seen s.shared.unsaved s.shared.carried
-  pub index : holding.index ≡ option_map (index_of (games_of s)) s.shared.index
+  pub tables : holding.tables ≡ tables_by s.shared.index s.slots s.shared.base.games
   pub seat : holding.seat ≡ s.seat
 
 -- Each filter of a machine has an entry for each game.
 abbrev pub Fits : Holding → Type 0
 Fits holding = FitsGames holding.seat (length holding.kept.entries)
 
--- And its position index, if there is one, has a row for each.
-abbrev pub IndexFits : Holding → Type 0
-IndexFits holding = IfSome holding.index (λ (index : Index). length index.rows ≡ length holding.kept.entries)
+-- And its tables do: the position index, if there is one, has a row for each, and each slot that shows a tree has a hit or none.
+pub record AreTables (tables : Tables) (games : ℕ) : Type 0 where
+  pub index : IfSome tables.index (λ (index : Index). length index.rows ≡ games)
+  pub hits : (k : ℕ) → IfSome (in_slot tables.hits k) (λ (table : HitTable). length table.hits ≡ games)
 
--- What every machine keeps, whatever the files tell: its filters and its index fit, its base is sound, and the base ends where the games file
+abbrev pub TablesFit : Holding → Type 0
+TablesFit holding = AreTables holding.tables (length holding.kept.entries)
+
+-- What every machine keeps, whatever the files tell: its filters and its tables fit, its base is sound, and the base ends where the games file
 -- ends, within its known length.
 pub record Sound (holding : Holding) (seen : Seen) : Type 0 where
   pub fits : Fits holding
-  pub index : IndexFits holding
+  pub tables : TablesFit holding
   pub base : IsSound holding.kept
   pub at_end : IsEnd holding.kept.end seen
 
@@ -67,7 +86,7 @@ pub record Quiet (old : Holding) (work : Work) (new : Holding) (line : List ℕ)
   pub stands : (seen : Seen) (s : State) → Stands old seen s → Stands new seen (work.after s)
   pub text : (seen : Seen) (s : State) → Stands old seen s → line ≡ work.text s
   pub fits : Fits new
-  pub index : IndexFits old → IndexFits new
+  pub tables : TablesFit old → TablesFit new
   pub base : IsSound old.kept → IsSound new.kept
   pub end : new.kept.end ≡ old.kept.end
 
@@ -99,7 +118,7 @@ looks_at_all names [] (e ∷ entries) = look_at names [] e ∷ looks_at_all name
 looks_at_all names (row ∷ rows) (e ∷ entries) = look_at names row e ∷ looks_at_all names rows entries
 
 abbrev pub looks_in : Holding → List Look
-looks_in holding = looks_at_all holding.kept.names (rows_told holding.index) holding.kept.entries
+looks_in holding = looks_at_all holding.kept.names (rows_told holding.tables.index) holding.kept.entries
 
 -- A command asks no more bytes of the games file than its price by what the machine holds before it.
 abbrev pub AsksBy : Price → Holding → ℕ → ℕ → Type 0
@@ -116,8 +135,13 @@ pub record IsOpen (kept : Kept) (seen : Seen) (created : Bool) (base : Base) : T
   pub saved : kept.unsaved ≡ false
   pub means : MatchBool created (AreEmpty seen) (Means contents.index contents.names contents.games base)
 
+-- None of eight slots shows a tree.
+abbrev pub ShowNone : List Slot → Type 0
+ShowNone slots = (games : List Held) → tables_of games slots ≡ replicate 8 None
+
 -- A machine begins with what an open base keeps: it is sound where the base ends with the games file, and where a base was opened or created
 -- it stands for the state in which a script begins.
 pub record Begins (kept : Kept) (holding : Holding) : Type 0 where
   pub sound : (seen : Seen) → IsEnd kept.end seen → Sound holding seen
-  pub stands : (seen : Seen) (created : Bool) (base : Base) → IsOpen kept seen created base → Stands holding seen (begin created base)
+  pub stands : (seen : Seen) (created : Bool) (slots : List Slot) (base : Base) → ShowNone slots → IsOpen kept seen created base
+      → Stands holding seen (begin created slots base)

@@ -6,6 +6,7 @@ use Rattle.game_tree.specs.Game.{GameTree}
 use Rattle.game_tree.specs.declared.head.Head.{Head}
 use Rattle.filter_seat.specs.SavedFilters.{most_saved}
 use Rattle.filter_seat.specs.Seats.{FitsGames, Seat, first_seat, seat_with_one}
+use Rattle.shell_state.specs.Slots.{Slot}
 
 -- A base that the files carry, and whether they open again as it without a fault, however strict the opening is.
 pub record Carried : Type 0 where
@@ -24,10 +25,11 @@ pub record Shared : Type 0 where
 abbrev pub saved_whole : Shared → Base → Shared
 saved_whole shared base = record shared { base = base; carried = Some (record { base = base; sound = true }); unsaved = false }
 
--- That, and what one of them has of his own.
+-- That, and what one of them has of his own: his seat, and what his slots show.
 pub record State : Type 0 where
   pub shared : Shared
   pub seat : Seat
+  pub slots : List Slot
 
 -- The state with this base, which is not saved, with this seat, and with this filter.
 abbrev pub with_base : State → Base → State
@@ -57,9 +59,10 @@ abbrev pub with_index : State → Option ℕ → State
 with_index s depth = record s { shared = record s.shared { index = depth } }
 
 -- The state in which a script begins over a base that was opened or, in an empty folder, created: every game is in at ply 0, and nothing is
--- kept or unsaved, or indexed.
-abbrev pub begin : Bool → Base → State
-begin created base = record {
+-- kept or unsaved, or indexed. Its slots are these.
+abbrev pub begin : Bool → List Slot → Base → State
+begin created slots base = record {
   shared = record { base = base; carried = if created then None else Some (record { base = base; sound = false }); unsaved = false; index = None };
   seat = first_seat (length base.games);
+  slots = slots;
 }

@@ -2,6 +2,7 @@
 #![tactic(auto)]
 
 mod halt;
+mod hits;
 mod indexing;
 mod lines;
 mod machine;
@@ -9,6 +10,7 @@ mod refusing;
 mod writing;
 
 pub use halt::{Halt, halt_of};
+pub use hits::{counted, hits_of};
 pub use indexing::replace_in_index;
 pub use lines::{
     error_line, fault_line, filter_line, game_line, line_of, name_line, no_game_line, san_words,

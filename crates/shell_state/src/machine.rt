@@ -10,10 +10,11 @@ ghost use Rattle.shell_state.specs.Adding.{Adds};
 ghost use Rattle.shell_state.specs.Carrying.{StillCarry};
 ghost use Rattle.shell_state.specs.Ends.{IsDevice};
 ghost use Rattle.shell_state.specs.Refusing.{index_is_full};
-ghost use Rattle.shell_state.specs.Stands.{Begins, Sound, Stands, WhyHalt, depth_of};
+ghost use Rattle.shell_state.specs.Stands.{Begins, Sound, Stands, WhyHalt, depth_of, no_tables};
 ghost use Rattle.shell_state.specs.State.{State};
 
 use crate::halt::Halt;
+use crate::hits::hits_of;
 use crate::indexing::add_to_index;
 use crate::refusing::{Refusal, refused};
 use base_core::Base;
@@ -24,14 +25,17 @@ use game_tree::{Game, Head};
 use pos_index::PosIndex;
 use std::alloc::{AllocError, Global};
 use std::marker::Model;
+use tree_live::Slots;
 
-/// An open base with its position index and the seat of its user, and the memory that its commands need.
+/// An open base with its position index, and the seat and the slots of its user, and the memory that its commands need.
 #[derive(Drop)]
 pub struct Machine {
     /// The open base.
     pub base: Base,
     /// The position index of its games, if there is one.
     pub index: Option<PosIndex>,
+    /// The positions whose trees its user watches, with their hits.
+    pub slots: Slots,
     /// What its user has of his own.
     pub seat: Seat,
     /// A record is read into it: as long as the longest one may be.
@@ -42,20 +46,22 @@ pub struct Machine {
 
 impl Model for Machine {
     ghost use Rattle.std.specs.Prelude.{◌≡◌, length};
+    ghost use Rattle.shell_state.specs.Slots.{tables_in};
     ghost use Rattle.shell_state.specs.Stands.{Holding};
 
     ghost Value = { Holding };
 
-    ghost view = { λ machine. record { kept = machine.base; index = machine.index; seat = record { filter = machine.seat.filter; saved = machine.seat.saved.items } } };
+    ghost view = { λ machine. record { kept = machine.base; tables = record { index = machine.index; hits = tables_in machine.slots.watches }; seat = record { filter = machine.seat.filter; saved = machine.seat.saved.items } } };
 
-    ghost invariant = { λ machine. length machine.block.items ≡ 131072 };
+    ghost invariant = { λ machine. (length machine.block.items ≡ 131072) × ((machine.slots.first ≡ 0) × (machine.slots.count ≡ 8)) };
 }
 
 impl Machine {
-    /// The machine over a base that was opened: every game is in, no filter is kept, and there is no index. `block` holds 131,072 bytes.
+    /// The machine over a base that was opened: every game is in, no filter is kept, there is no index, and no slot shows a tree. `block` holds
+    /// 131,072 bytes.
     pub fn new(alloc: Global, base: Base, block: Vec<u8>) -> Result<Machine, AllocError>
         requires room { length block.items ≡ 131072 }
-        ensures holds { IfOk result (λ machine. machine ≡ record { kept = base; index = None; seat = first_seat (length base.entries) }) }
+        ensures holds { IfOk result (λ machine. machine ≡ record { kept = base; tables = no_tables; seat = first_seat (length base.entries) }) }
 
         // Where its base was opened without changes, it stands for the state in which a script begins.
         ensures begins { IfOk result (Begins base) }
@@ -64,6 +70,7 @@ impl Machine {
         Ok(Machine {
             base,
             index: None,
+            slots: Slots::new(0, 8),
             seat: Seat {
                 filter,
                 saved: Vec::new(alloc),
@@ -101,7 +108,7 @@ impl Machine {
 
     /// Whether the position index, if there is one, has no room for one more game.
     pub fn index_is_full(&self) -> bool
-        ensures full { result ≡ index_is_full (depth_of self.now.index) (length self.now.kept.entries + 1) }
+        ensures full { result ≡ index_is_full (depth_of self.now.tables.index) (length self.now.kept.entries + 1) }
     {
         match &self.index {
             Some(index) => !index.room(self.games() + 1),
@@ -139,6 +146,8 @@ impl Machine {
                 self.seat.filter.push(alloc, Some(0))?;
                 leave_out(alloc, self.seat.saved.as_mut_slice())?;
                 add_to_index(alloc, &mut self.index, number, game)?;
+                let hits = hits_of(&self.slots, head, game);
+                self.slots.set_game(alloc, number, &hits, true)?;
                 Ok(Ok(number))
             }
             Err(error) => match refused(error) {

@@ -143,10 +143,10 @@ text_read games told kept all held i head game text same is at found written =
 
 -- What the two ask is what they cost.
 pub show_price : (holding : Holding) (game : ℕ) → len_at holding.kept.entries game ≡ len_in (λ (x : Look). x.len) (slice_get (looks_in holding) game)
-show_price holding game = len_looks holding.kept.names (rows_told holding.index) holding.kept.entries game
+show_price holding game = len_looks holding.kept.names (rows_told holding.tables.index) holding.kept.entries game
 
 pub exported_price : (plies : List (Option ℕ)) (holding : Holding) → exported_len plies holding.kept.entries ≡ filtered_len (λ (x : Look). x.len) plies (looks_in holding)
-exported_price plies holding = filtered_looks plies holding.kept.names (rows_told holding.index) holding.kept.entries
+exported_price plies holding = filtered_looks plies holding.kept.names (rows_told holding.tables.index) holding.kept.entries
 
 -- `show` of a game that is not there, whose line was written or broken off.
 pub no_game_serves : {A : Type 0} (r : Result A Halt) (holding : Holding) (seen : Seen) (s : State) (number : ℕ) (line : List ℕ) (told told' : Option (List ℕ)) → Stands holding seen s → length holding.kept.entries ≤ number

@@ -26,7 +26,7 @@ pub quiet_info : (old : Holding) (line : List ℕ) (games deleted players events
     → Fits old → line ≡ info_line games deleted players events sites rounds unsaved index
     → games ≡ length old.kept.entries → deleted ≡ count_by (λ (h : Head). h.deleted) (heads_of old.kept)
     → players ≡ length old.kept.names.players → events ≡ length old.kept.names.events → sites ≡ length old.kept.names.sites → rounds ≡ length old.kept.names.rounds
-    → unsaved ≡ old.kept.unsaved → index ≡ depth_of old.index → Quiet old info_work old line
+    → unsaved ≡ old.kept.unsaved → index ≡ depth_of old.tables.index → Quiet old info_work old line
 quiet_info old line games deleted players events sites rounds unsaved index fits written g d p e t r u x = record {
   stands = λ (seen : Seen) (s : State) (st : Stands old seen s). st;
   text = λ (seen : Seen) (s : State) (st : Stands old seen s).
@@ -42,7 +42,7 @@ quiet_info old line games deleted players events sites rounds unsaved index fits
       let index' : index ≡ s.shared.index = x ∙ depth_is old seen s st in
       written ∙ cc;
   fits = fits;
-  index = λ fits. fits;
+  tables = λ fits. fits;
   base = λ sound. sound;
   end = refl;
 }

@@ -1,5 +1,5 @@
 -- Games by their marks, the changes that this counts, and the keys at which their rows differ.
-use Rattle.std.proofs.Common.{◌≡◌, ℕ, zero, suc, ◌+◌, ◌<◌, ◌≤◌, ◌&&◌, ◌||◌, Bool, true, false, cond, List, [], ◌∷◌, ◌++◌, Option, Some, None, is_some, nat_lt, length, take, get_or, set, Result, Ok, Err, OnOk, option_to_list, length-append, append-nil, refl, sym, ap, subst, ◌∙◌, add-one, arith}
+use Rattle.std.proofs.Common.{◌≡◌, ℕ, zero, suc, ◌+◌, ◌<◌, ◌≤◌, ◌&&◌, ◌||◌, Bool, true, false, cond, List, [], ◌∷◌, ◌++◌, Option, Some, None, is_some, nat_lt, length, take, get_or, set, Result, Ok, Err, OnOk, option_to_list, length-append, refl, sym, ap, ◌∙◌, add-one, arith}
 use Rattle.std.proofs.lemmas.Bool.{false≢true, lt-ltb, le-ltb, ltb-true, ltb-false}
 use Rattle.std.proofs.lemmas.List.{set-get_or, set_at, get_or_default}
 use Rattle.std.proofs.lemmas.List.Elements.{All-nil, All-same}

@@ -2,3 +2,6 @@ mod ViewLaws
 mod HitLaws
 mod GameLaws
 mod SlotLaws
+mod RowChangeLaws
+pub mod HeldLaws
+pub mod FewLaws

@@ -1,11 +1,11 @@
 -- A change that is brought to one slot after the other.
-use Rattle.std.proofs.Common.{◌≡◌, ℕ, ◌+◌, ◌<◌, ◌≤◌, ◌==◌, Bool, true, false, zero, suc, nat_lt, List, [], ◌∷◌, Option, Some, None, length, option_map, get_or, replicate, set, IfSome, refl, sym, ap, subst, ◌∙◌, arith}
+use Rattle.std.proofs.Common.{◌≡◌, ℕ, ◌+◌, ◌<◌, ◌≤◌, ◌==◌, Bool, true, false, zero, suc, nat_lt, List, [], ◌∷◌, Option, Some, None, length, option_map, replicate, set, refl, sym, ap, subst, ◌∙◌, arith}
 use Rattle.std.proofs.lemmas.Bool.{eqb-true, eqb-false, ltb-true, ltb-false}
 use Rattle.std.proofs.lemmas.List.{get_or_past, get_or-set_same, get_or-set_other, length-set}
 use Rattle.tree_rows.specs.declared.row.Row.{Row}
 use Rattle.tree_live.specs.declared.change.Change.{Change}
 use Rattle.tree_live.specs.Watching.{Watched}
-use Rattle.tree_live.specs.Slots.{AreBelow, in_slot, IsShown, IsTold, changed, most_told, Fits}
+use Rattle.tree_live.specs.Slots.{AreBelow, in_slot, IsShown, IsTold, changed, most_told}
 use Rattle.tree_live.specs.Bringing.{ToldAt, DoneAt, ToldAll, Brought}
 
 -- what was told to a slot of which the slot is the same

@@ -1,15 +1,14 @@
 -- What a view shows after rows of it were set.
-use Rattle.std.proofs.Common.{◌≡◌, ℕ, zero, suc, ◌+◌, ◌<◌, ◌≤◌, ◌||◌, Bool, true, false, cond, List, [], ◌∷◌, ◌++◌, Option, Some, None, Result, Ok, Err, OnOk, length, take, get_or, set, refl, sym, ap, subst, ◌∙◌, add-one, append-nil, arith}
+use Rattle.std.proofs.Common.{◌≡◌, ℕ, ◌+◌, ◌<◌, ◌≤◌, ◌||◌, Bool, true, false, cond, List, [], ◌∷◌, ◌++◌, Option, Some, None, Result, Ok, Err, OnOk, length, take, get_or, set, refl, sym, ap, subst, ◌∙◌, add-one, arith}
 use Rattle.std.proofs.lemmas.Bool.{false≢true}
 use Rattle.std.proofs.lemmas.List.{take_more}
 use Rattle.std.specs.List.{remove}
 use Rattle.cell_core.specs.declared.step.Move.{Move}
-use Rattle.tree_rows.specs.declared.hit.GameHit.{GameHit}
 use Rattle.tree_rows.specs.declared.row.Row.{Row}
 use Rattle.tree_rows.specs.Keys.{same_key}
-use Rattle.tree_rows.specs.Rows.{row_at, rows_of, KeysDiffer}
+use Rattle.tree_rows.specs.Rows.{row_at, KeysDiffer}
 use Rattle.tree_rows.proofs.KeyLaws.{one-key, told-apart}
-use Rattle.tree_live.specs.Views.{Sets, Shows}
+use Rattle.tree_live.specs.Views.{Sets}
 use Rattle.tree_live.specs.Keeping.{place_of, is_among, Tells}
 
 -- ---- keys
@@ -94,10 +93,10 @@ not-same a b h = by (same_key b a) refl
     by true e = absurd (false≢true (sym h ∙ ap (λ (k : Option Move). same_key k b) (sym (one-key b a e)) ∙ same-itself b))
     by false e = refl
 
-passed : (row : Row) (rows : List Row) (key : Option Move) → same_key row.key key ≡ false → row_at key (row ∷ rows) ≡ row_at key rows
+pub passed : (row : Row) (rows : List Row) (key : Option Move) → same_key row.key key ≡ false → row_at key (row ∷ rows) ≡ row_at key rows
 passed row rows key other = rw other refl
 
-met : (row : Row) (rows : List Row) (key : Option Move) → row.key ≡ key → row_at key (row ∷ rows) ≡ Some row
+pub met : (row : Row) (rows : List Row) (key : Option Move) → row.key ≡ key → row_at key (row ∷ rows) ≡ Some row
 met row rows key is = let same : same_key row.key key ≡ true = ap (λ (k : Option Move). same_key k key) is ∙ same-itself key in rw same refl
 
 -- a row of another key before
@@ -181,7 +180,7 @@ push-differ (first ∷ rows) row none h = by (same_key first.key row.key) refl (
         (push-others first.key rows row (not-same first.key row.key e) ∙ h.0, rest left h.1)
 
 -- a row less
-remove-own : (key : Option Move) (rows : List Row) → KeysDiffer rows → row_at key (remove rows (place_of key rows)) ≡ None
+pub remove-own : (key : Option Move) (rows : List Row) → KeysDiffer rows → row_at key (remove rows (place_of key rows)) ≡ None
 remove-own key [] h = refl
 remove-own key (first ∷ rows) h = by (same_key first.key key) refl (remove-own key rows h.1)
   where
@@ -190,7 +189,7 @@ remove-own key (first ∷ rows) h = by (same_key first.key key) refl (remove-own
     by true e rest = rw e (ap (λ (k : Option Move). row_at k rows) (sym (one-key first.key key e)) ∙ h.0)
     by false e rest = rw (e, add-one) (passed first (remove rows (place_of key rows)) key e ∙ rest)
 
-remove-others : (key other : Option Move) (rows : List Row) → same_key key other ≡ false → row_at other (remove rows (place_of key rows)) ≡ row_at other rows
+pub remove-others : (key other : Option Move) (rows : List Row) → same_key key other ≡ false → row_at other (remove rows (place_of key rows)) ≡ row_at other rows
 remove-others key other [] not = refl
 remove-others key other (first ∷ rows) not = by (same_key first.key key) refl (remove-others key other rows not)
   where
@@ -201,7 +200,7 @@ remove-others key other (first ∷ rows) not = by (same_key first.key key) refl 
         rw e (sym (passed first rows other there))
     by false e rest = rw (e, add-one) (both-past first (remove rows (place_of key rows)) rows other rest)
 
-remove-differ : (key : Option Move) (rows : List Row) → KeysDiffer rows → KeysDiffer (remove rows (place_of key rows))
+pub remove-differ : (key : Option Move) (rows : List Row) → KeysDiffer rows → KeysDiffer (remove rows (place_of key rows))
 remove-differ key [] h = tt
 remove-differ key (first ∷ rows) h = by (same_key first.key key) refl (remove-differ key rows h.1)
   where

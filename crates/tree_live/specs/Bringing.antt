@@ -37,3 +37,9 @@ pub record Brought {B : Type 0} (rows : B → List Row) (told : B → ℕ) (chan
   pub left : (j : ℕ) → k ≤ j → in_slot watches_after j ≡ in_slot watches j
   pub left_views : (j : ℕ) → k ≤ j → in_slot views_after (first + j) ≡ in_slot views (first + j)
   pub number : length watches_after ≡ length watches
+
+-- The change was brought to the watches below k, and to no view.
+pub record Followed (change : Change) (k : ℕ) (watches watches_after : List (Option Watched)) : Type 0 where
+  pub watch : (j : ℕ) → j < k → in_slot watches_after j ≡ option_map (changed change j) (in_slot watches j)
+  pub left : (j : ℕ) → k ≤ j → in_slot watches_after j ≡ in_slot watches j
+  pub number : length watches_after ≡ length watches

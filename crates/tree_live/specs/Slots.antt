@@ -1,10 +1,13 @@
 -- The slots of a list of views, some of which are watched (this project's own).
-use Rattle.std.specs.Prelude.{◌≡◌, ℕ, ◌+◌, ◌<◌, ◌≤◌, Bool, List, Option, Some, None, length, option_map, slice_index_or, IfSome}
+use Rattle.std.specs.Prelude.{◌≡◌, ℕ, ◌+◌, ◌<◌, ◌≤◌, false, List, Option, Some, None, length, option_map, slice_index_or, IfSome, IsSome}
 use Rattle.game_filter.specs.Renumbering.{renumbered}
+use Rattle.tree_rows.specs.declared.hit.GameHit.{GameHit}
 use Rattle.tree_rows.specs.declared.row.Row.{Row}
+use Rattle.tree_rows.specs.Rows.{rows_of}
 use Rattle.tree_live.specs.declared.change.Change.{Change}
 use Rattle.tree_live.specs.declared.change.Change.TheVariants.{Filter, Game, Numbers}
 use Rattle.tree_live.specs.Views.{Shows}
+use Rattle.tree_live.specs.RowChanges.{rows_changed}
 use Rattle.tree_live.specs.Watching.{Watched, hits_in, all_changes, staying, under, with_game}
 
 -- The slot k is the view with the number first + k, for each k below the count; where it is watched, its watch.
@@ -30,6 +33,28 @@ IsShown rows (Some watch) (Some view) = Shows (hits_in watch.games) (rows view)
 abbrev pub AreShown : {B : Type 0} → (B → List Row) → Slotted → List (Option B) → Type 0
 AreShown rows slots views = (k : ℕ) → IsShown rows (in_slot slots.watches k) (in_slot views (slots.first + k))
 
+-- A slot that is watched shows the rows of the hits that are in, if it holds a view.
+abbrev pub IsShownIf : {B : Type 0} → (B → List Row) → Option Watched → Option B → Type 0
+IsShownIf rows None slot = Unit {0}
+IsShownIf rows (Some watch) None = Unit {0}
+IsShownIf rows (Some watch) (Some view) = Shows (hits_in watch.games) (rows view)
+
+abbrev pub AreShownIf : {B : Type 0} → (B → List Row) → Slotted → List (Option B) → Type 0
+AreShownIf rows slots views = (k : ℕ) → IsShownIf rows (in_slot slots.watches k) (in_slot views (slots.first + k))
+
+-- A view stands in each slot that is watched.
+abbrev pub AreHeld : {B : Type 0} → Slotted → List (Option B) → Type 0
+AreHeld slots views = (k : ℕ) → IfSome (in_slot slots.watches k) (λ _. IsSome (in_slot views (slots.first + k)))
+
+-- The hit that is kept of a game, if there is a watch and such a game, and it has one.
+abbrev pub kept_hit : Option Watched → ℕ → Option GameHit
+kept_hit None i = None
+kept_hit (Some watch) i = (slice_index_or watch.games i (record { hit = None; is_in = false })).hit
+
+-- The rows of a watch: those of the hits that are in.
+abbrev pub rows_in : Watched → List Row
+rows_in watch = rows_of (hits_in watch.games)
+
 -- A slot that may be told so many changes holds its view, which was told no more; one that is told nothing is as before.
 abbrev pub IsTold : {B : Type 0} → (B → ℕ) → Option ℕ → Option B → Option B → Type 0
 IsTold told None before after = after ≡ before
@@ -40,6 +65,21 @@ IsTold told (Some most) (Some before) (Some after) = told after ≤ told before 
 -- So is each slot, and every other view is as before.
 pub record AreTold {B : Type 0} (told : B → ℕ) (slots : Slotted) (most : ℕ → Watched → ℕ) (before after : List (Option B)) : Type 0 where
   pub views : (k : ℕ) → IsTold told (option_map (most k) (in_slot slots.watches k)) (in_slot before (slots.first + k)) (in_slot after (slots.first + k))
+  pub others : (i : ℕ) → i < slots.first → in_slot after i ≡ in_slot before i
+  pub number : length after ≡ length before
+
+-- A slot that is to show these rows holds its view, if it held one, which was told no more changes than rows differ from those of the hits
+-- that it showed; one that is to show nothing is as before.
+abbrev pub IsToldRows : {B : Type 0} → (B → List Row) → (B → ℕ) → Option (List Row) → Option B → Option B → Type 0
+IsToldRows rows told None before after = after ≡ before
+IsToldRows rows told (Some later) None after = after ≡ None
+IsToldRows rows told (Some later) (Some before) None = ⊥
+IsToldRows rows told (Some later) (Some before) (Some after) =
+    (hits : List GameHit) → Shows hits (rows before) → told after ≤ told before + rows_changed (rows_of hits) later
+
+-- So is each slot, where its watch becomes another, and every other view is as before.
+pub record AreToldRows {B : Type 0} (rows : B → List Row) (told : B → ℕ) (change : Watched → Watched) (slots : Slotted) (before after : List (Option B)) : Type 0 where
+  pub views : (k : ℕ) → IsToldRows rows told (option_map (λ watch. rows_in (change watch)) (in_slot slots.watches k)) (in_slot before (slots.first + k)) (in_slot after (slots.first + k))
   pub others : (i : ℕ) → i < slots.first → in_slot after i ≡ in_slot before i
   pub number : length after ≡ length before
 

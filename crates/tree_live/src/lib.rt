@@ -1,12 +1,17 @@
-//! Live trees: the rows of a position that is watched, which a view shows and which follow the filter and the games, told row by row.
+//! Live trees: the rows of a position that is watched, which a view shows and which follow the filter and the games, told row by row, with
+//! each change or later by one call.
 #![tactic(auto)]
 
 mod bringing;
 mod change;
 mod entry;
+mod following;
 mod keys;
+mod laws;
 mod marks;
 mod place;
+mod row_changes;
+mod showing;
 mod slot;
 mod slots;
 mod table_view;
@@ -15,6 +20,7 @@ mod view;
 mod watch;
 
 pub use entry::Entry;
+pub use laws::rows_change_with_games;
 pub use slots::{NoView, Slots};
 pub use table_view::TableView;
 pub use view::TreeView;

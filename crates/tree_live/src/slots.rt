@@ -1,6 +1,8 @@
 //! The slots of a list of views.
 use crate::bringing::bring_all;
 use crate::change::Change;
+use crate::following::follow_all;
+use crate::showing::show_all;
 use crate::slot::attach;
 use crate::view::TreeView;
 use crate::watch::Watch;
@@ -39,7 +41,7 @@ impl Slots {
     ghost use Rattle.std.specs.Prelude.{◌≡◌, ◌+◌, ◌<◌, ◌≤◌, ◌&&◌, ℕ, Some, None, nat_lt, is_some, length, option_copied, option_map, replicate, slice_set, IfSome, IsSome, OnOk, OnErr, MatchResult};
     ghost use Rattle.game_filter.specs.Renumbering.{renumbered};
     ghost use Rattle.tree_live.specs.Watching.{all_changes, all_out, hits_in, staying, under, with_game};
-    ghost use Rattle.tree_live.specs.Slots.{AreBelow, AreChanged, AreShown, AreTold, EachWatch, Fits, IsTold, changed, in_slot, most_told};
+    ghost use Rattle.tree_live.specs.Slots.{AreBelow, AreChanged, AreShown, AreShownIf, AreTold, AreToldRows, EachWatch, Fits, IsShown, IsTold, changed, in_slot, kept_hit, most_told};
 
     /// None of the slots is watched. There are `count` of them, and the last is below 8.
     pub fn new(first: u8, count: u8) -> Slots
@@ -56,6 +58,7 @@ impl Slots {
     /// Whether slot `k` is one of them and a view stands there.
     pub fn holds(&self, views: &[Option<Box<dyn TreeView>>], k: u8) -> bool
         ensures holds { result ≡ (nat_lt k self.now.count && is_some (in_slot views.now (self.now.first + k))) }
+        ensures eight { length self.now.watches ≡ 8 }
     {
         let place = usize::from(self.first) + usize::from(k);
         k < self.count && place < views.len() && views[place].is_some()
@@ -65,6 +68,7 @@ impl Slots {
     pub fn watched(&self, k: u8) -> Option<&PackedBoard>
         ensures board { option_copied result ≡ option_map (λ watch. watch.board) (in_slot self.now.watches k) }
         ensures below { AreBelow self.now.count self.now.watches }
+        ensures eight { length self.now.watches ≡ 8 }
     {
         let watches = self.watches.as_slice();
         let place = usize::from(k);
@@ -91,12 +95,13 @@ impl Slots {
         requires holds { IsSome (in_slot views.old (self.old.first + k)) }
         requires same_games { length hits.items ≡ length filter.now }
         requires few { length hits.items ≤ 16777214 }
-        requires shown { AreShown (λ b. rows b) self.old views.old }
         ensures watched { OnOk result (self.new ≡ record self.old { watches = slice_set self.old.watches k (Some (record { board = board; games = under filter.now (all_out hits.items) })) }) }
         ensures unchanged { OnErr result (self.new ≡ self.old) }
-        ensures shown { OnOk result (AreShown (λ b. rows b) self.new views.new) }
+        ensures here { OnOk result (IsShown (λ b. rows b) (in_slot self.new.watches k) (in_slot views.new (self.old.first + k))) }
+        ensures shown { AreShown (λ b. rows b) self.old views.old → OnOk result (AreShown (λ b. rows b) self.new views.new) }
         ensures told { IsTold (λ b. told b) (Some (1 + length (hits_in (under filter.now (all_out hits.items))))) (in_slot views.old (self.old.first + k)) (in_slot views.new (self.old.first + k)) }
         ensures others { (i : ℕ) → (i ≡ self.old.first + k → ⊥) → in_slot views.new i ≡ in_slot views.old i }
+        ensures number { length views.new ≡ length views.old }
     {
         let place = usize::from(self.first) + usize::from(k);
         let watch = attach(alloc, &mut views[place], board, hits, filter)?;
@@ -106,21 +111,24 @@ impl Slots {
 
     /// Watches slot `k` no more: its view is dropped, and nothing stands there.
     pub fn unwatch(&mut self, views: &mut [Option<Box<dyn TreeView>>], k: u8) -> Result<(), NoView>
-        requires shown { AreShown (λ b. rows b) self.old views.old }
         ensures answer { MatchResult result (λ _. IsSome (in_slot self.old.watches k)) (λ _. in_slot self.old.watches k ≡ None) }
         ensures watched { OnOk result (self.new ≡ record self.old { watches = slice_set self.old.watches k None }) }
         ensures gone { OnOk result (in_slot views.new (self.old.first + k) ≡ None) }
-        ensures shown { AreShown (λ b. rows b) self.new views.new }
+        ensures shown { AreShown (λ b. rows b) self.old views.old → AreShown (λ b. rows b) self.new views.new }
         ensures others { (i : ℕ) → (i ≡ self.old.first + k → ⊥) → in_slot views.new i ≡ in_slot views.old i }
         ensures unchanged { OnErr result (self.new ≡ self.old) }
         ensures same_views { OnErr result (views.new ≡ views.old) }
+        ensures number { length views.new ≡ length views.old }
+        ensures eight { length self.old.watches ≡ 8 }
     {
         let place = usize::from(self.first) + usize::from(k);
-        if k >= 8 || place >= views.len() || self.watches[usize::from(k)].is_none() {
+        if k >= 8 || self.watches[usize::from(k)].is_none() {
             return Err(NoView);
         }
         self.watches[usize::from(k)] = None;
-        views[place] = None;
+        if place < views.len() {
+            views[place] = None;
+        }
         Ok(())
     }
 
@@ -184,6 +192,84 @@ impl Slots {
         ensures slots { (self.new.first ≡ self.old.first) × (self.new.count ≡ self.old.count) }
     {
         self.bring(alloc, views, &Change::Numbers(renumbering))
+    }
+
+    /// Game `i` has become another, or is added: its hit in each slot, and whether it is in. No view is told yet.
+    pub fn set_game(
+        &mut self,
+        alloc: Global,
+        i: u32,
+        hits: &[Option<GameHit>; 8],
+        is_in: bool,
+    ) -> Result<(), AllocError>
+        requires game { EachWatch (λ watch. (i ≤ length watch.games) × (i < 16777214)) self.old }
+        ensures watched { OnOk result (AreChanged (λ k watch. record watch { games = with_game i (record { hit = in_slot hits.now k; is_in = is_in }) watch.games }) self.old self.new) }
+        ensures slots { (self.new.first ≡ self.old.first) × (self.new.count ≡ self.old.count) }
+        ensures number { length self.new.watches ≡ length self.old.watches }
+    {
+        self.follow(
+            alloc,
+            &Change::Game {
+                i,
+                hits: hits.as_slice(),
+                is_in,
+            },
+        )
+    }
+
+    /// The games have become those that stay, with their new numbers. No view is told yet.
+    pub fn renumber(&mut self, alloc: Global, renumbering: &Renumbering) -> Result<(), AllocError>
+        requires same_games { EachWatch (λ watch. length renumbering.now.to ≡ length watch.games) self.old }
+        ensures watched { OnOk result (AreChanged (λ k watch. record watch { games = renumbered renumbering.now.to watch.games }) self.old self.new) }
+        ensures slots { (self.new.first ≡ self.old.first) × (self.new.count ≡ self.old.count) }
+        ensures number { length self.new.watches ≡ length self.old.watches }
+    {
+        self.follow(alloc, &Change::Numbers(renumbering))
+    }
+
+    /// The hit that slot `k` keeps of game `i`: none where it is not watched, or where there is no such game.
+    pub fn hit(&self, k: u8, i: u32) -> Option<GameHit>
+        ensures hit { result ≡ kept_hit (in_slot self.now.watches k) i }
+    {
+        let watches = self.watches.as_slice();
+        let place = usize::from(k);
+        if place >= watches.len() {
+            return None;
+        }
+        match &watches[place] {
+            None => None,
+            Some(watch) => watch.hit(i),
+        }
+    }
+
+    /// Takes the games of the filter in and the others out, and tells each view of a slot that is watched the rows that differ from those
+    /// it shows.
+    pub fn show(
+        &mut self,
+        alloc: Global,
+        views: &mut [Option<Box<dyn TreeView>>],
+        filter: &Filter,
+    ) -> Result<(), AllocError>
+        requires same_games { EachWatch (λ watch. length filter.now ≡ length watch.games) self.old }
+        ensures watched { OnOk result (AreChanged (λ k watch. record watch { games = under filter.now watch.games }) self.old self.new) }
+        ensures shown { OnOk result (AreShownIf (λ b. rows b) self.new views.new) }
+        ensures told { AreToldRows (λ b. rows b) (λ b. told b) (λ watch. record watch { games = under filter.now watch.games }) self.old views.old views.new }
+        ensures slots { (self.new.first ≡ self.old.first) × (self.new.count ≡ self.old.count) }
+        ensures number { length self.new.watches ≡ length self.old.watches }
+    {
+        self.follow(alloc, &Change::Filter(filter))?;
+        let first = usize::from(self.first);
+        show_all(alloc, first, self.watches.as_slice(), views)
+    }
+
+    // Brings a change to each watch, and to no view.
+    fn follow(&mut self, alloc: Global, change: &Change<'_>) -> Result<(), AllocError>
+        requires fits { EachWatch (Fits change.now) self.old }
+        ensures watched { OnOk result (AreChanged (changed change.now) self.old self.new) }
+        ensures slots { (self.new.first ≡ self.old.first) × (self.new.count ≡ self.old.count) }
+        ensures number { length self.new.watches ≡ length self.old.watches }
+    {
+        follow_all(alloc, &mut self.watches, change)
     }
 
     // Brings a change to each slot that is watched.

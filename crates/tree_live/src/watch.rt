@@ -4,6 +4,7 @@ ghost use Rattle.std.specs.Prelude.{◌≡◌, length};
 use crate::entry::{Entry, same_counted, stayed};
 use crate::keys::note;
 use crate::marks::Marks;
+use crate::row_changes::keys_changed;
 use crate::telling::tell;
 use crate::view::TreeView;
 use cell_core::{Move, PackedBoard};
@@ -39,10 +40,12 @@ impl Watch {
     ghost use Rattle.std.specs.Prelude.{◌≡◌, ◌+◌, ◌<◌, ◌≤◌, [], ◌∷◌, ◌++◌, List, Option, Some, None, length, option_to_list, slice_index_or, slice_set, IfOk, OnOk, OnErr, false};
     ghost use Rattle.cell_core.specs.declared.step.Move.{Move as MoveValue};
     ghost use Rattle.game_filter.specs.Renumbering.{renumbered};
+    ghost use Rattle.tree_rows.specs.declared.hit.GameHit.{GameHit as HitValue};
     ghost use Rattle.tree_rows.specs.Keys.{same_key};
     ghost use Rattle.tree_rows.specs.Rows.{row_at, rows_of};
     ghost use Rattle.tree_live.specs.declared.entry.Entry.{Entry as EntryValue};
     ghost use Rattle.tree_live.specs.Views.{Shows};
+    ghost use Rattle.tree_live.specs.RowChanges.{rows_changed};
     ghost use Rattle.tree_live.specs.Watching.{all_changes, all_out, by_marks, changes, counted, hits_in, staying, under, with_game};
     ghost use Rattle.tree_live.specs.Keeping.{DifferAt, entry_at, marked, no_game, reaching};
 
@@ -127,6 +130,61 @@ impl Watch {
     {
         self.follow(alloc, view, Marks::Numbers, renumbering.to())?;
         self.move_games(alloc, renumbering.to())
+    }
+
+    /// The hit that is kept of game `i`, if there is one.
+    pub(crate) fn hit(&self, i: u32) -> Option<GameHit>
+        ensures hit { result ≡ (entry_at self.now.games i).hit }
+    {
+        let place = i as usize;
+        if place >= self.games.len() {
+            return None;
+        }
+        self.games[place].hit
+    }
+
+    /// Game `i` has become another, or is added. No view is told.
+    pub(crate) fn set_game(&mut self, alloc: Global, i: u32, game: Entry) -> Result<(), AllocError>
+        requires game { i ≤ length self.old.games }
+        requires room { i < 16777214 }
+        ensures watched { OnOk result (self.new ≡ record self.old { games = with_game i game self.old.games }) }
+    {
+        let place = i as usize;
+        self.reach(place)?;
+        let mut keys = Vec::new(alloc);
+        self.change(place, game, &mut keys)
+    }
+
+    /// The games have become those that stay, with their new numbers. No view is told.
+    pub(crate) fn renumber(
+        &mut self,
+        alloc: Global,
+        renumbering: &Renumbering,
+    ) -> Result<(), AllocError>
+        requires same_games { length renumbering.now.to ≡ length self.old.games }
+        ensures watched { OnOk result (self.new ≡ record self.old { games = renumbered renumbering.now.to self.old.games }) }
+    {
+        let mut keys = Vec::new(alloc);
+        self.settle(Marks::Numbers, renumbering.to(), &mut keys)?;
+        self.move_games(alloc, renumbering.to())
+    }
+
+    /// The filter has become this one, of the same games. No view is told.
+    pub(crate) fn set_filter(&mut self, alloc: Global, filter: &Filter) -> Result<(), AllocError>
+        requires same_games { length filter.now ≡ length self.old.games }
+        ensures watched { OnOk result (self.new ≡ record self.old { games = under filter.now self.old.games }) }
+    {
+        let mut keys = Vec::new(alloc);
+        self.settle(Marks::Plies, filter.plies(), &mut keys)
+    }
+
+    /// Tells a view the rows that differ from those that it shows.
+    pub(crate) fn show(&self, alloc: Global, view: &mut dyn TreeView) -> Result<(), AllocError>
+        ensures shown { OnOk result (Shows (hits_in self.now.games) (rows view.new)) }
+        ensures told { (hits : List HitValue) → Shows hits (rows view.old) → told view.new ≤ told view.old + rows_changed (rows_of hits) (rows_of (hits_in self.now.games)) }
+    {
+        let keys = keys_changed(alloc, &*view, self.table.as_slice())?;
+        tell(&self.table, view, keys.as_slice())
     }
 
     /// Watches no more: the box is dropped.

@@ -10,4 +10,4 @@ mod SameBoard
 mod NeededLaws
 mod SharedSigns
 mod SharedTexts
-mod SameText
+pub mod SameText

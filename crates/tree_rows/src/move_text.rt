@@ -1,13 +1,39 @@
 //! The text of a move of a tree.
-ghost use Rattle.std.specs.Prelude.{◌≡◌};
+ghost use Rattle.std.specs.Prelude.{◌≡◌, ◌↔◌, IsTrue};
 ghost use Rattle.chess_laws.specs.Position.{Sound, setup_of};
 ghost use Rattle.chess_text.specs.SanText.{san_text};
-ghost use Rattle.tree_rows.specs.MoveText.{IsFrom, needed, right_needed, square_needed};
+ghost use Rattle.tree_rows.specs.MoveText.{IsFrom, IsKey, needed, right_needed, square_needed};
 
 use arrayvec::ArrayVec;
 use cell_core::{Board, Colour, Move, Square};
 use chess_laws::{Effect, Position, Wing};
 use chess_text::write_san;
+
+/// Whether a key is one of a tree of this board and side: a move that is legal from some position of them, or none, for `end`.
+pub fn is_key(board: &Board, side: Colour, key: &Option<Move>) -> bool
+    ensures key { IsTrue result ↔ IsKey board.now side key.now }
+{
+    match key {
+        Some(m) => is_from(board, side, m),
+        None => true,
+    }
+}
+
+// Whether a move is legal from some position of this board and side: from the one whose only right and en passant square are those that
+// the move needs.
+fn is_from(board: &Board, side: Colour, m: &Move) -> bool
+    ensures from { IsTrue result ↔ IsFrom board.now side m.now }
+{
+    let Ok(bare) = Position::try_new(*board, side, 0, None) else {
+        return false;
+    };
+    let effect = bare.effect(m);
+    let right = right_needed(effect, side);
+    match Position::try_new(*board, side, right, square_needed(effect, m)) {
+        Ok(position) => position.is_legal(*m),
+        Err(_) => false,
+    }
+}
 
 /// The move in Standard Algebraic Notation, in the position of this board and side whose only right and en passant square are those that
 /// the move needs.

@@ -2,16 +2,17 @@ use Rattle.std.proofs.Common.{◌<◌, ℕ, length, refl, sym, subst}
 use Rattle.std.specs.Prelude.{codes}
 use Rattle.base_core.specs.Edited.{Does}
 use Rattle.base_core.specs.Edits.{undeleted}
-use Rattle.edit_commands.proofs.EditLaws.{quiet_edit}
+use Rattle.edit_commands.proofs.EditLaws.{hits_undeleted, quiet_edit}
 use Rattle.edit_commands.proofs.editing.undelete.Goals as goal
 use Rattle.edit_commands.specs.Editing.{undelete_work}
-use Rattle.shell_state.proofs.Quietly.{held_by, if_ok}
+use Rattle.shell_state.proofs.Quietly.{held_by, if_ok, tables_with}
 use Rattle.shell_state.specs.Stands.{Fits, Holding, Quiet}
 use Rattle.shell_state.specs.Work.{quiet}
 
 pub returns : goal.returns
 returns c =
     let base = c.machine.inside.base in
+    let tables = tables_with c.machine.inside.index c.machine.inside.slots.watches in
     let filter = c.machine.inside.seat.filter in
     let saved = c.machine.inside.seat.saved.items in
     let fits = subst (λ (h : Holding). Fits h) (sym c.machine.view_is) c.requires.fits in
@@ -21,9 +22,9 @@ returns c =
     record {
       quiet = if_ok _ _ c.game_line.result
           (λ line is.
-          let P : Holding → Type 0 = λ h. Quiet h (undelete_work c.args.number) (held_by c.undelete.new.self c.machine.inside.index filter saved) line.items in
+          let P : Holding → Type 0 = λ h. Quiet h (undelete_work c.args.number) (held_by c.undelete.new.self tables filter saved) line.items in
           subst P c.machine.view_is
-          (quiet_edit (codes "undeleted ") (undeleted c.args.number) c.args.number base c.undelete.new.self c.machine.inside.index filter saved (undelete_work c.args.number) line.items
-          (λ s. refl) (λ s. refl) there does c.in_default-undelete.ensures.heads c.keeps_sound.ensures.sound is fits))
+          (quiet_edit (codes "undeleted ") (undeleted c.args.number) c.args.number base c.undelete.new.self tables filter saved (undelete_work c.args.number) line.items
+          (λ s. refl) (λ s. refl) there does c.in_default-undelete.ensures.heads (hits_undeleted c.args.number) c.keeps_sound.ensures.sound is fits))
           c.game_line.ensures;
     }

@@ -2,7 +2,7 @@ use Rattle.std.proofs.Common.{None, arith, refl}
 use Rattle.intake_commands.proofs.DemoLaws.{carry_adding, demo_asks, demo_serves, refusal_serves}
 use Rattle.intake_commands.proofs.demoing.demo.Goals as goal
 use Rattle.intake_commands.specs.Demo.{adding, demo_text, demo_work}
-use Rattle.shell_state.proofs.CarryLaws.{carry_same, if_err}
+use Rattle.shell_state.proofs.CarryLaws.{carry_same}
 use Rattle.shell_state.proofs.Served.{search_cuts}
 
 pub returns-in-Ok-Plies-clause-serves : goal.returns-in-Ok-Plies-clause-serves
@@ -21,9 +21,8 @@ pub returns-in-Ok-Plies-clause-carries : goal.returns-in-Ok-Plies-clause-carries
 returns-in-Ok-Plies-clause-carries g c = λ s st.
     let adds = rw c.in-Ok-Plies.field-0-is at c.in-Ok-Plies.ensures.adds in
     let all = adds s st in
-    if_err c.show.result _
-    (carry_adding (g.F.Files.seen c.show.new.files) s c.args.seed c.args.games
-    (carry_same c.add_games.new.machine (g.F.Files.seen c.add_games.new.files) (g.F.Files.seen c.show.new.files) (adding s c.args.seed c.args.games).state None c.show.ensures.unchanged all.0))
+    carry_adding (g.F.Files.seen c.show.new.files) s c.args.seed c.args.games
+    (carry_same c.add_games.new.machine (g.F.Files.seen c.add_games.new.files) (g.F.Files.seen c.show.new.files) (adding s c.args.seed c.args.games).state None c.show.ensures.unchanged all.0)
 
 pub returns-in-Ok-Refused-clause-serves : goal.returns-in-Ok-Refused-clause-serves
 returns-in-Ok-Refused-clause-serves g c = λ s st.
@@ -32,7 +31,7 @@ returns-in-Ok-Refused-clause-serves g c = λ s st.
     c.write_refusal.ensures.written c.write_refusal.ensures.halted c.write_refusal.ensures.output
 
 pub returns-in-Ok-Refused-clause-carries : goal.returns-in-Ok-Refused-clause-carries
-returns-in-Ok-Refused-clause-carries g c = λ s st. if_err c.write_refusal.result _ (c.add_games.ensures.carries s st)
+returns-in-Ok-Refused-clause-carries g c = λ s st. c.add_games.ensures.carries s st
 
 pub returns-in-Err-clause-serves : goal.returns-in-Err-clause-serves
 returns-in-Err-clause-serves g c = λ s st.

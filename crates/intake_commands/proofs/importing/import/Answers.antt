@@ -1,9 +1,8 @@
 use Rattle.std.proofs.Common.{◌≡◌, Err, ap, ◌∙◌}
 use Rattle.std.proofs.lemmas.Result.{err_from_is_err_and}
 use Rattle.base_files.specs.declared.faults.Stop.TheVariants as stop
-use Rattle.intake_commands.proofs.BodyLaws.{import_cut, import_line, import_memory}
+use Rattle.intake_commands.proofs.BodyLaws.{import_cut, import_done, import_memory}
 use Rattle.intake_commands.proofs.importing.import.Goals as goal
-use Rattle.shell_state.proofs.CarryLaws.{if_err}
 use Rattle.shell_state.specs.declared.halt.Halt.{Halt}
 use Rattle.shell_state.specs.declared.halt.Halt.TheVariants as halt
 
@@ -12,8 +11,8 @@ returns-in-Err-clause-serves g c = λ s text st left.
     let took = c.in-Err.ensures.takes s text st left in
     import_cut s text (g.K.Sink.taken c.args.out.now) (g.K.Sink.taken c.take_in.new.out) c.in-Err.halt took.0 took.1
 
-pub returns-in_err-line-clause-serves : goal.returns-in_err-line-clause-serves
-returns-in_err-line-clause-serves g c =
+pub returns-in_err-imported_line-clause-serves : goal.returns-in_err-imported_line-clause-serves
+returns-in_err-imported_line-clause-serves g c =
     let made = err_from_is_err_and c.from_residual.result c.from_residual.ensures.1 in
     let memory : c.from_residual.result ≡ Err (halt.Device stop.Memory) = made.1 ∙ ap (λ (e : Halt). Err e) made.2 in
     λ s text st left.
@@ -22,9 +21,5 @@ returns-in_err-line-clause-serves g c =
 
 pub returns-clause-serves : goal.returns-clause-serves
 returns-clause-serves g c = λ s text st left.
-    import_line c.write_line.result c.take_in.new.machine (g.F.Files.seen c.take_in.new.files) s text c.as_slice.result.now c.in-Ok.counts.0 c.in-Ok.counts.1
-    (g.K.Sink.taken c.args.out.now) (g.K.Sink.taken c.take_in.new.out) (g.K.Sink.taken c.write_line.new.out) (c.in-Ok.ensures.takes s text st left)
-    (c.as_slice.ensures.value ∙ c.in_ok-line.ensures.line) c.write_line.ensures.written c.write_line.ensures.halted c.write_line.ensures.output
-
-pub returns-clause-carries : goal.returns-clause-carries
-returns-clause-carries g c = λ s st. if_err c.write_line.result _ (c.take_in.ensures.carries s st)
+    import_done c.take_in.new.machine (g.F.Files.seen c.take_in.new.files) s text _ c.in-Ok.counts.0 c.in-Ok.counts.1 (g.K.Sink.taken c.args.out.now) (g.K.Sink.taken c.take_in.new.out)
+    (c.in-Ok.ensures.takes s text st left) c.in_ok-imported_line.ensures.line

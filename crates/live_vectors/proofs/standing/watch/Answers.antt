@@ -9,4 +9,4 @@ returns-clause-stand g c =
     (λ watched. set-sized (length c.args.filter.now) c.args.k c.args.slots.now c.watch.new.self
     (record { board = c.args.board; games = under c.args.filter.now (all_out c.args.hits.items) }) c.args.hits.items c.args.filter.now watched refl
     c.requires.same_games c.requires.stand.sized)
-    c.watch.ensures.watched c.watch.ensures.shown
+    c.watch.ensures.watched (c.watch.ensures.shown c.requires.stand.shown)

@@ -11,9 +11,9 @@ use Rattle.report_commands.proofs.EcoLaws.{coded_fits, coded_stands}
 use Rattle.report_commands.proofs.classifying.classify_by.Goals as goal
 use Rattle.report_commands.specs.Classifying.{classified_by, classified_line, eco_work}
 use Rattle.report_commands.specs.Ends.{AreCoded, IsCode}
-use Rattle.shell_state.proofs.EditedLaws.{index_fits_count}
+use Rattle.shell_state.proofs.EditedLaws.{tables_fit_count}
 use Rattle.shell_state.proofs.PriceLaws.{price_of_all}
-use Rattle.shell_state.proofs.Quietly.{held_by}
+use Rattle.shell_state.proofs.Quietly.{held_by, tables_with}
 use Rattle.shell_state.specs.Stands.{Holding, Sound, Stands, Asks}
 use Rattle.shell_state.specs.State.{games_of}
 
@@ -48,8 +48,8 @@ returns-clause-stands g c = λ s st.
     let filter = c.machine.inside.seat.filter in
     let saved = c.machine.inside.seat.saved.items in
     let coded = subst (λ (codes : List (Option ℕ)). AreCoded codes base new) (c.as_slice-codes.ensures.value) c.set_codes.ensures.coded in
-    let here = coded_stands c.args.table.now c.in-Ok.found.items base new c.machine.inside.index filter saved seen s found coded st' in
-    subst (λ (x : Seen). Stands (held_by new c.machine.inside.index filter saved) x (classified_by s c.args.table.now)) (sym c.find_codes.ensures.unchanged) here
+    let here = coded_stands c.args.table.now c.in-Ok.found.items base new (tables_with c.machine.inside.index c.machine.inside.slots.watches) filter saved seen s found coded st' in
+    subst (λ (x : Seen). Stands (held_by new (tables_with c.machine.inside.index c.machine.inside.slots.watches) filter saved) x (classified_by s c.args.table.now)) (sym c.find_codes.ensures.unchanged) here
 
 pub returns-clause-sound : goal.returns-clause-sound
 returns-clause-sound g c =
@@ -59,8 +59,8 @@ returns-clause-sound g c =
     let new = c.set_codes.new.base in
     let coded = subst (λ (codes : List (Option ℕ)). AreCoded codes base new) c.as_slice-codes.ensures.value c.set_codes.ensures.coded in
     record {
-      index = index_fits_count base new c.machine.inside.index c.machine.inside.seat.filter c.machine.inside.seat.saved.items coded.count sound.index;
-      fits = coded_fits c.in-Ok.found.items base new c.machine.inside.index c.machine.inside.seat.filter c.machine.inside.seat.saved.items coded sound.fits;
+      tables = tables_fit_count base new (tables_with c.machine.inside.index c.machine.inside.slots.watches) c.machine.inside.seat.filter c.machine.inside.seat.saved.items coded.count sound.tables;
+      fits = coded_fits c.in-Ok.found.items base new (tables_with c.machine.inside.index c.machine.inside.slots.watches) c.machine.inside.seat.filter c.machine.inside.seat.saved.items coded sound.fits;
       base = c.keeps_sound.ensures.sound;
       at_end = subst (λ (x : Seen). IsEnd new.end x) (sym c.find_codes.ensures.unchanged)
           (subst (λ (end : ℕ). IsEnd end seen) (sym coded.end) sound.at_end);
@@ -69,17 +69,17 @@ returns-clause-sound g c =
 pub returns-clause-asks : goal.returns-clause-asks
 returns-clause-asks g c =
     let P : Holding → Type 0 = λ h. Asks h (eco_work []) (g.F.Files.asked c.args.files.now) (g.F.Files.asked c.find_codes.new.files) in
-    subst P c.machine.view_is (omega (arith, c.find_codes.ensures.asks, price_of_all (held_by c.machine.inside.base c.machine.inside.index c.machine.inside.seat.filter c.machine.inside.seat.saved.items)))
+    subst P c.machine.view_is (omega (arith, c.find_codes.ensures.asks, price_of_all (held_by c.machine.inside.base (tables_with c.machine.inside.index c.machine.inside.slots.watches) c.machine.inside.seat.filter c.machine.inside.seat.saved.items)))
 
 pub returns-in-Err-clause-asks : goal.returns-in-Err-clause-asks
 returns-in-Err-clause-asks g c =
     let P : Holding → Type 0 = λ h. Asks h (eco_work []) (g.F.Files.asked c.args.files.now) (g.F.Files.asked c.find_codes.new.files) in
-    subst P c.machine.view_is (omega (arith, c.find_codes.ensures.asks, price_of_all (held_by c.machine.inside.base c.machine.inside.index c.machine.inside.seat.filter c.machine.inside.seat.saved.items)))
+    subst P c.machine.view_is (omega (arith, c.find_codes.ensures.asks, price_of_all (held_by c.machine.inside.base (tables_with c.machine.inside.index c.machine.inside.slots.watches) c.machine.inside.seat.filter c.machine.inside.seat.saved.items)))
 
 pub returns-in_err-line-clause-asks : goal.returns-in_err-line-clause-asks
 returns-in_err-line-clause-asks g c =
     let P : Holding → Type 0 = λ h. Asks h (eco_work []) (g.F.Files.asked c.args.files.now) (g.F.Files.asked c.find_codes.new.files) in
-    subst P c.machine.view_is (omega (arith, c.find_codes.ensures.asks, price_of_all (held_by c.machine.inside.base c.machine.inside.index c.machine.inside.seat.filter c.machine.inside.seat.saved.items)))
+    subst P c.machine.view_is (omega (arith, c.find_codes.ensures.asks, price_of_all (held_by c.machine.inside.base (tables_with c.machine.inside.index c.machine.inside.slots.watches) c.machine.inside.seat.filter c.machine.inside.seat.saved.items)))
 
 pub returns-in-Err-clause-devices : goal.returns-in-Err-clause-devices
 returns-in-Err-clause-devices g c = λ s st.

@@ -4,11 +4,11 @@ use Rattle.base_core.proofs.GamesLaws.{are-within, holds}
 use Rattle.base_core.specs.Entries.{sig_in}
 use Rattle.base_files.specs.Seen.{Seen}
 use Rattle.block_store.specs.Placing.{IsEnd}
-use Rattle.report_commands.proofs.TwinLaws.{deleted_stands, found_are, marked_end, marked_fits, price_is, marked_index_fits}
+use Rattle.report_commands.proofs.TwinLaws.{deleted_stands, found_are, marked_end, marked_fits, price_is, marked_tables_fit}
 use Rattle.report_commands.proofs.twin_marks.mark_twins.Goals as goal
 use Rattle.report_commands.specs.Ends.{Marked}
 use Rattle.report_commands.specs.Twins.{found_twins, twins_line, with_deleted, twins_work}
-use Rattle.shell_state.proofs.Quietly.{held_by}
+use Rattle.shell_state.proofs.Quietly.{held_by, tables_with}
 use Rattle.shell_state.specs.Stands.{Holding, Sound, Stands, Asks}
 use Rattle.shell_state.specs.State.{games_of}
 
@@ -42,9 +42,9 @@ returns-clause-stands g c = λ s st.
     let filter = c.machine.inside.seat.filter in
     let saved = c.machine.inside.seat.saved.items in
     let marked = subst (λ (games : List ℕ). Marked games base new) c.as_slice.ensures.value c.delete_all.ensures.marked in
-    let here = deleted_stands c.in-Ok.found.items base new c.machine.inside.index filter saved seen s marked st' in
-    subst (λ (x : Seen). Stands (held_by new c.machine.inside.index filter saved) x (with_deleted s (found_twins s c.args.depth))) (sym c.find_twins.ensures.unchanged)
-    (subst (λ (games : List ℕ). Stands (held_by new c.machine.inside.index filter saved) seen (with_deleted s games)) (found_are base st'.games s c.in-Ok.found.items c.args.depth st'.base found) here)
+    let here = deleted_stands c.in-Ok.found.items base new (tables_with c.machine.inside.index c.machine.inside.slots.watches) filter saved seen s marked st' in
+    subst (λ (x : Seen). Stands (held_by new (tables_with c.machine.inside.index c.machine.inside.slots.watches) filter saved) x (with_deleted s (found_twins s c.args.depth))) (sym c.find_twins.ensures.unchanged)
+    (subst (λ (games : List ℕ). Stands (held_by new (tables_with c.machine.inside.index c.machine.inside.slots.watches) filter saved) seen (with_deleted s games)) (found_are base st'.games s c.in-Ok.found.items c.args.depth st'.base found) here)
 
 pub returns-clause-sound : goal.returns-clause-sound
 returns-clause-sound g c =
@@ -54,8 +54,8 @@ returns-clause-sound g c =
     let new = c.delete_all.new.base in
     let marked = subst (λ (games : List ℕ). Marked games base new) c.as_slice.ensures.value c.delete_all.ensures.marked in
     record {
-      fits = marked_fits c.in-Ok.found.items base new c.machine.inside.index c.machine.inside.seat.filter c.machine.inside.seat.saved.items marked sound.fits;
-      index = marked_index_fits c.in-Ok.found.items base new c.machine.inside.index c.machine.inside.seat.filter c.machine.inside.seat.saved.items marked sound.index;
+      fits = marked_fits c.in-Ok.found.items base new (tables_with c.machine.inside.index c.machine.inside.slots.watches) c.machine.inside.seat.filter c.machine.inside.seat.saved.items marked sound.fits;
+      tables = marked_tables_fit c.in-Ok.found.items base new (tables_with c.machine.inside.index c.machine.inside.slots.watches) c.machine.inside.seat.filter c.machine.inside.seat.saved.items marked sound.tables;
       base = c.keeps_sound.ensures.sound;
       at_end = subst (λ (x : Seen). IsEnd new.end x) (sym c.find_twins.ensures.unchanged)
           (subst (λ (end : ℕ). IsEnd end seen) (sym (marked_end c.in-Ok.found.items base new marked)) sound.at_end);
@@ -64,17 +64,17 @@ returns-clause-sound g c =
 pub returns-clause-asks : goal.returns-clause-asks
 returns-clause-asks g c =
     let P : Holding → Type 0 = λ h. Asks h (twins_work c.args.depth) (g.F.Files.asked c.args.files.now) (g.F.Files.asked c.find_twins.new.files) in
-    subst P c.machine.view_is (omega (arith, c.find_twins.ensures.asks, price_is (held_by c.machine.inside.base c.machine.inside.index c.machine.inside.seat.filter c.machine.inside.seat.saved.items) c.machine.inside.seat.filter))
+    subst P c.machine.view_is (omega (arith, c.find_twins.ensures.asks, price_is (held_by c.machine.inside.base (tables_with c.machine.inside.index c.machine.inside.slots.watches) c.machine.inside.seat.filter c.machine.inside.seat.saved.items) c.machine.inside.seat.filter))
 
 pub returns-in-Err-clause-asks : goal.returns-in-Err-clause-asks
 returns-in-Err-clause-asks g c =
     let P : Holding → Type 0 = λ h. Asks h (twins_work c.args.depth) (g.F.Files.asked c.args.files.now) (g.F.Files.asked c.find_twins.new.files) in
-    subst P c.machine.view_is (omega (arith, c.find_twins.ensures.asks, price_is (held_by c.machine.inside.base c.machine.inside.index c.machine.inside.seat.filter c.machine.inside.seat.saved.items) c.machine.inside.seat.filter))
+    subst P c.machine.view_is (omega (arith, c.find_twins.ensures.asks, price_is (held_by c.machine.inside.base (tables_with c.machine.inside.index c.machine.inside.slots.watches) c.machine.inside.seat.filter c.machine.inside.seat.saved.items) c.machine.inside.seat.filter))
 
 pub returns-in_err-line-clause-asks : goal.returns-in_err-line-clause-asks
 returns-in_err-line-clause-asks g c =
     let P : Holding → Type 0 = λ h. Asks h (twins_work c.args.depth) (g.F.Files.asked c.args.files.now) (g.F.Files.asked c.find_twins.new.files) in
-    subst P c.machine.view_is (omega (arith, c.find_twins.ensures.asks, price_is (held_by c.machine.inside.base c.machine.inside.index c.machine.inside.seat.filter c.machine.inside.seat.saved.items) c.machine.inside.seat.filter))
+    subst P c.machine.view_is (omega (arith, c.find_twins.ensures.asks, price_is (held_by c.machine.inside.base (tables_with c.machine.inside.index c.machine.inside.slots.watches) c.machine.inside.seat.filter c.machine.inside.seat.saved.items) c.machine.inside.seat.filter))
 
 pub returns-in-Err-clause-devices : goal.returns-in-Err-clause-devices
 returns-in-Err-clause-devices g c = λ s st.

@@ -1,54 +1,8 @@
-use Rattle.std.proofs.Common.{refl, sym, ap, subst, arith}
-use Rattle.base_core.proofs.GamesLaws.{are-within, holds}
-use Rattle.mat_search.specs.Matching.{firsts_of}
-use Rattle.search_commands.proofs.FindingLaws.{searched_stands}
-use Rattle.search_commands.proofs.MaterialLaws.{price_is}
+use Rattle.std.proofs.Common.{refl}
 use Rattle.search_commands.proofs.material.search_material.Goals as goal
 use Rattle.search_commands.specs.Searching.{search_material_text, search_material_work}
-use Rattle.shell_state.proofs.Quietly.{filter_is, found_sound, held_by}
-use Rattle.shell_state.proofs.Served.{search_cuts, on_ok, line_serves}
-use Rattle.shell_state.specs.Lines.{filter_line}
-use Rattle.shell_state.specs.Stands.{Holding, Stands, Sound, Asks}
-use Rattle.shell_state.specs.State.{games_of}
-
-pub search_games-requires-clause-within : goal.search_games-requires-clause-within
-search_games-requires-clause-within g c =
-    let sound = subst (λ (h : Holding). Sound h (g.F.Files.seen c.args.files.now)) (sym c.machine.view_is) c.requires.sound in
-    are-within c.machine.inside.base (g.F.Files.seen c.args.files.now).known sound.base (omega (arith, sound.at_end.known))
+use Rattle.shell_state.proofs.Served.{search_cuts}
 
 pub returns-in-Err-clause-serves : goal.returns-in-Err-clause-serves
 returns-in-Err-clause-serves g c = λ s st.
-    let st' = subst (λ (h : Holding). Stands h (g.F.Files.seen c.args.files.now) s) (sym c.machine.view_is) st in
-    search_cuts c.in-Err.halt s (search_material_work c.args.op c.args.query.now) (search_material_text s c.args.op c.args.query.now) (g.K.Sink.taken c.args.out.now) refl
-    (c.in-Err.ensures.devices st'.games (games_of s) st'.told (holds c.machine.inside.base st'.games s.shared.base st'.base))
-
-pub returns-clause-serves : goal.returns-clause-serves
-returns-clause-serves g c = λ s st.
-    let st' = subst (λ (h : Holding). Stands h (g.F.Files.seen c.args.files.now) s) (sym c.machine.view_is) st in
-    let op = c.args.op in
-    let query = c.args.query.now in
-    let filtered = c.in-Ok.ensures.found st'.games (games_of s) st'.told (holds c.machine.inside.base st'.games s.shared.base st'.base) in
-    let here = searched_stands c.machine.inside.base c.machine.inside.index c.machine.inside.seat.filter c.search_games.new.filter c.machine.inside.seat.saved.items (g.F.Files.seen c.args.files.now)
-    (g.F.Files.seen c.search_games.new.files) s op (firsts_of query (games_of s)) st' c.search_games.ensures.unchanged filtered in
-    line_serves c.write_filter.result _ (search_material_work op query) (filter_line c.search_games.new.filter) (g.F.Files.seen c.search_games.new.files) s _ _
-    here (ap filter_line (filter_is here)) c.write_filter.ensures.written c.write_filter.ensures.halted c.write_filter.ensures.output
-
-pub returns-clause-sound : goal.returns-clause-sound
-returns-clause-sound g c =
-    let seen = g.F.Files.seen c.args.files.now in
-    let sound = subst (λ (h : Holding). Sound h seen) (sym c.machine.view_is) c.requires.sound in
-    on_ok _ c.write_filter.result
-    (found_sound c.machine.inside.base c.machine.inside.index c.machine.inside.seat.filter c.search_games.new.filter c.machine.inside.seat.saved.items seen (g.F.Files.seen c.search_games.new.files)
-    sound c.search_games.ensures.entries c.search_games.ensures.unchanged)
-
-pub returns-clause-asks : goal.returns-clause-asks
-returns-clause-asks g c =
-    let P : Holding → Type 0 = λ h. Asks h (search_material_work c.args.op c.args.query.now) (g.F.Files.asked c.args.files.now) (g.F.Files.asked c.search_games.new.files) in
-    subst P c.machine.view_is
-    (omega (arith, c.search_games.ensures.asks, price_is c.args.op c.args.query.now c.machine.inside.seat.filter (held_by c.machine.inside.base c.machine.inside.index c.machine.inside.seat.filter c.machine.inside.seat.saved.items)))
-
-pub returns-in-Err-clause-asks : goal.returns-in-Err-clause-asks
-returns-in-Err-clause-asks g c =
-    let P : Holding → Type 0 = λ h. Asks h (search_material_work c.args.op c.args.query.now) (g.F.Files.asked c.args.files.now) (g.F.Files.asked c.search_games.new.files) in
-    subst P c.machine.view_is
-    (omega (arith, c.search_games.ensures.asks, price_is c.args.op c.args.query.now c.machine.inside.seat.filter (held_by c.machine.inside.base c.machine.inside.index c.machine.inside.seat.filter c.machine.inside.seat.saved.items)))
+    search_cuts c.in-Err.halt s (search_material_work c.args.op c.args.query.now) (search_material_text s c.args.op c.args.query.now) (g.K.Sink.taken c.args.out.now) refl (c.in-Err.ensures.devices s st)

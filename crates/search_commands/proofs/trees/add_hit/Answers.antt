@@ -1,4 +1,4 @@
-use Rattle.std.proofs.Common.{Option, rules, subst}
+use Rattle.std.proofs.Common.{Option, subst}
 use Rattle.std.specs.Prelude.{IfSome}
 use Rattle.tree_rows.specs.MoveText.{IsKey}
 use Rattle.tree_rows.specs.declared.hit.GameHit.{GameHit}

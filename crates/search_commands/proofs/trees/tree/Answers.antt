@@ -3,7 +3,6 @@ use Rattle.game_filter.specs.declared.op.Op.TheVariants.{And}
 use Rattle.search_commands.proofs.PositionLaws.{price_is}
 use Rattle.search_commands.proofs.trees.tree.Goals as goal
 use Rattle.search_commands.proofs.trees.tree.Goals.{in-Ok, in-Err}
-use Rattle.search_commands.specs.Searching.{exactly}
 use Rattle.search_commands.specs.Trees.{tree_work, tree_said, tree_of}
 use Rattle.base_core.specs.Represents.{extents_of, sigs_of}
 use Rattle.base_files.specs.Seen.{Seen}
@@ -13,7 +12,8 @@ use Rattle.sig_index.specs.Costs.{price_by}
 use Rattle.shell_state.specs.State.{games_of}
 use Rattle.shell_state.proofs.Served.{line_serves, search_cuts}
 use Rattle.shell_state.proofs.IndexLaws.{indexes_all}
-use Rattle.shell_state.proofs.Quietly.{held_by, filter_is}
+use Rattle.shell_state.proofs.Quietly.{held_by, filter_is, tables_with}
+use Rattle.shell_state.specs.Slots.{exactly}
 use Rattle.shell_state.specs.Stands.{Asks, Holding, Stands}
 
 pub returns-clause-asks : goal.returns-clause-asks
@@ -22,14 +22,14 @@ returns-clause-asks g c =
     let machine = c.machine.inside in
     let as-held = ap (λ (i : Option Index). price_by (cost_of And) (are_read (exactly c.args.board.now c.args.side) (rows_told i) (sigs_of machine.base)) (extents_of machine.base) machine.seat.filter) c.as_ref.ensures.value in
     subst P c.machine.view_is
-    (omega (arith, c.read_tree.ensures.asks, as-held, price_is And (exactly c.args.board.now c.args.side) machine.seat.filter (held_by machine.base machine.index machine.seat.filter machine.seat.saved.items)))
+    (omega (arith, c.read_tree.ensures.asks, as-held, price_is And (exactly c.args.board.now c.args.side) machine.seat.filter (held_by machine.base (tables_with machine.index machine.slots.watches) machine.seat.filter machine.seat.saved.items)))
 
 pub returns-clause-serves : goal.returns-clause-serves
 returns-clause-serves g c = λ s st.
     let st' = subst (λ (h : Holding). Stands h (g.F.Files.seen c.args.files.now) s) (sym c.machine.view_is) st in
     let is = subst (λ (i : Option Index). IndexesAll i (games_of s)) (sym c.as_ref.ensures.value) (indexes_all _ _ s st') in
     let machine = c.machine.inside in
-    let here : Holding = held_by machine.base machine.index machine.seat.filter machine.seat.saved.items in
+    let here : Holding = held_by machine.base (tables_with machine.index machine.slots.watches) machine.seat.filter machine.seat.saved.items in
     elim c.match-read_tree.branch [
       | in-Ok w ↦
           rw (w.result-is, w.out-is)

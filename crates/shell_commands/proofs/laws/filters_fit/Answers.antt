@@ -5,4 +5,4 @@ pub returns-clause-task : goal.returns-clause-task
 returns-clause-task c = λ s t has. task_has s t has
 
 pub returns-clause-script : goal.returns-clause-script
-returns-clause-script c = λ created base done. script_has created base done
+returns-clause-script c = λ created slots base done. script_has created slots base done

@@ -6,10 +6,15 @@ use Rattle.shell_session.specs.Running.{Interrupted, Kept}
 use Rattle.shell_session.specs.declared.status.Status.{Status}
 use Rattle.shell_session.proofs.KeptLaws.{kept_halt}
 use Rattle.shell_session.proofs.RunningLaws.{interrupted}
+use Rattle.shell_session.proofs.ViewLaws.{left_by, lives_behind, right_out}
+use Rattle.shell_session.specs.Around.{around, meanings}
 use Rattle.shell_session.proofs.running.run_line.Goals as goal
 
 pub returns-in-Ok-clause-done : goal.returns-in-Ok-clause-done
-returns-in-Ok-clause-done g c = λ s stands. c.in-Ok.ensures.serves s [] stands refl
+returns-in-Ok-clause-done g c = λ s first most lives.
+    let right = right_out (λ b. (goal.TreeView-dyn g (b.vtable, b.value)).rows b.value) (λ b. (goal.TreeView-dyn g (b.vtable, b.value)).told b.value) s c.args.views.now lives.views.right in
+    lives_behind (λ b. (goal.TreeView-dyn g (b.vtable, b.value)).rows b.value) (λ b. (goal.TreeView-dyn g (b.vtable, b.value)).told b.value) s (task c.args.order []) c.args.machine.now c.serve.new.machine (g.F.Files.seen c.args.files.now) (g.F.Files.seen c.serve.new.files) first most c.args.views.now c.serve.new.views _ _ _ lives
+    (c.in-Ok.ensures.serves s [] lives.stands refl right) (c.in-Ok.ensures.views s [] lives.stands refl right) (c.serve.ensures.left s [] lives.stands refl right)
 
 pub returns-in-Ok-clause-kept : goal.returns-in-Ok-clause-kept
 returns-in-Ok-clause-kept g c = record {
@@ -23,10 +28,16 @@ returns-in-Ok-clause-kept g c = record {
 }
 
 pub returns-clause-interrupted : goal.returns-clause-interrupted
-returns-clause-interrupted g c = λ s stands.
-    let P : Status → Type 0 = λ status. Interrupted status (g.F.Files.seen c.serve.new.files) s (task c.args.order []) (g.K.Sink.taken c.args.out.now) (g.K.Sink.taken c.serve.new.out) in
+returns-clause-interrupted g c = λ s first most lives.
+    let here = around (g.F.Files.seen c.serve.new.files) first most (meanings (λ b. (goal.TreeView-dyn g (b.vtable, b.value)).rows b.value) (λ b. (goal.TreeView-dyn g (b.vtable, b.value)).told b.value) c.serve.new.views) in
+    let right = right_out (λ b. (goal.TreeView-dyn g (b.vtable, b.value)).rows b.value) (λ b. (goal.TreeView-dyn g (b.vtable, b.value)).told b.value) s c.args.views.now lives.views.right in
+    let P : Status → Type 0 = λ status. Interrupted status here s (task c.args.order []) (g.K.Sink.taken c.args.out.now) (g.K.Sink.taken c.serve.new.out) in
     subst P (sym c.from.ensures)
-    (interrupted c.in-Err.halt (g.F.Files.seen c.serve.new.files) s (task c.args.order []) _ _ c.requires.alone (c.in-Err.ensures.serves s [] stands refl) (c.in-Err.ensures.carries s stands))
+    (interrupted c.in-Err.halt here s (task c.args.order []) _ _ c.requires.alone (c.in-Err.ensures.serves s [] lives.stands refl right)
+    (record {
+      carries = c.in-Err.ensures.carries s lives.stands;
+      views = left_by (λ b. (goal.TreeView-dyn g (b.vtable, b.value)).rows b.value) (λ b. (goal.TreeView-dyn g (b.vtable, b.value)).told b.value) s (task c.args.order []) c.args.machine.now (g.F.Files.seen c.args.files.now) (g.F.Files.seen c.serve.new.files) first most c.args.views.now c.serve.new.views lives (c.serve.ensures.left s [] lives.stands refl right);
+    }))
 
 pub returns-clause-kept : goal.returns-clause-kept
 returns-clause-kept g c =

@@ -1,6 +1,6 @@
 use Rattle.std.proofs.Common.{arith, List, ℕ, Option, sym, subst}
 use Rattle.base_files.specs.Seen.{Seen}
-use Rattle.shell_state.proofs.Quietly.{filter_is, held_by}
+use Rattle.shell_state.proofs.Quietly.{filter_is, held_by, tables_with}
 use Rattle.shell_state.specs.Stands.{Holding, Stands, Asks}
 use Rattle.text_commands.proofs.GameTextLaws.{export_breaks, export_serves, exported_price}
 use Rattle.text_commands.proofs.game_texts.export.Goals as goal
@@ -9,7 +9,7 @@ use Rattle.text_commands.specs.GameTexts.{export_work}
 
 pub returns-clause-serves : goal.returns-clause-serves
 returns-clause-serves g c = λ s st.
-    let here : Holding = held_by c.machine.inside.base c.machine.inside.index c.machine.inside.seat.filter c.machine.inside.seat.saved.items in
+    let here : Holding = held_by c.machine.inside.base (tables_with c.machine.inside.index c.machine.inside.slots.watches) c.machine.inside.seat.filter c.machine.inside.seat.saved.items in
     let st' : Stands here (g.F.Files.seen c.args.files.now) s = subst (λ (h : Holding). Stands h (g.F.Files.seen c.args.files.now) s) (sym c.machine.view_is) st in
     let later = subst (λ (seen : Seen). Stands here seen s) (sym c.write_games.ensures.unchanged) st' in
     let P : List (Option ℕ) → Type 0 = λ plies. GamesEnd c.write_games.result plies s.shared.base.games (g.K.Sink.taken c.args.out.now) (g.K.Sink.taken c.write_games.new.out) in
@@ -18,7 +18,7 @@ returns-clause-serves g c = λ s st.
 
 pub returns-clause-cut : goal.returns-clause-cut
 returns-clause-cut g c = λ s st.
-    let here : Holding = held_by c.machine.inside.base c.machine.inside.index c.machine.inside.seat.filter c.machine.inside.seat.saved.items in
+    let here : Holding = held_by c.machine.inside.base (tables_with c.machine.inside.index c.machine.inside.slots.watches) c.machine.inside.seat.filter c.machine.inside.seat.saved.items in
     let st' : Stands here (g.F.Files.seen c.args.files.now) s = subst (λ (h : Holding). Stands h (g.F.Files.seen c.args.files.now) s) (sym c.machine.view_is) st in
     let P : List (Option ℕ) → Type 0 = λ plies. GamesEnd c.write_games.result plies s.shared.base.games (g.K.Sink.taken c.args.out.now) (g.K.Sink.taken c.write_games.new.out) in
     export_breaks c.write_games.result s.seat.filter s.shared.base.games (g.K.Sink.taken c.args.out.now) (g.K.Sink.taken c.write_games.new.out)
@@ -26,6 +26,6 @@ returns-clause-cut g c = λ s st.
 
 pub returns-clause-asks : goal.returns-clause-asks
 returns-clause-asks g c =
-    let here : Holding = held_by c.machine.inside.base c.machine.inside.index c.machine.inside.seat.filter c.machine.inside.seat.saved.items in
+    let here : Holding = held_by c.machine.inside.base (tables_with c.machine.inside.index c.machine.inside.slots.watches) c.machine.inside.seat.filter c.machine.inside.seat.saved.items in
     let P : Holding → Type 0 = λ h. Asks h export_work (g.F.Files.asked c.args.files.now) (g.F.Files.asked c.write_games.new.files) in
     subst P c.machine.view_is (omega (arith, c.write_games.ensures.asks, exported_price c.machine.inside.seat.filter here))

@@ -1,6 +1,6 @@
 use Rattle.std.proofs.Common.{arith, ◌<◌, length, sym, subst}
 use Rattle.base_files.specs.Seen.{Seen}
-use Rattle.shell_state.proofs.Quietly.{held_by}
+use Rattle.shell_state.proofs.Quietly.{held_by, tables_with}
 use Rattle.shell_state.specs.Stands.{Holding, Stands, Asks}
 use Rattle.text_commands.proofs.GameTextLaws.{show_price, show_serves}
 use Rattle.text_commands.proofs.game_texts.show_there.Goals as goal
@@ -8,7 +8,7 @@ use Rattle.text_commands.specs.GameTexts.{show_work}
 
 pub returns-clause-serves : goal.returns-clause-serves
 returns-clause-serves g c = λ s st.
-    let here : Holding = held_by c.machine.inside.base c.machine.inside.index c.machine.inside.seat.filter c.machine.inside.seat.saved.items in
+    let here : Holding = held_by c.machine.inside.base (tables_with c.machine.inside.index c.machine.inside.slots.watches) c.machine.inside.seat.filter c.machine.inside.seat.saved.items in
     let st' : Stands here (g.F.Files.seen c.args.files.now) s = subst (λ (h : Holding). Stands h (g.F.Files.seen c.args.files.now) s) (sym c.machine.view_is) st in
     let later = subst (λ (seen : Seen). Stands here seen s) (sym c.write_one.ensures.unchanged) st' in
     show_serves c.write_one.result here (g.F.Files.seen c.write_one.new.files) s c.args.i (g.K.Sink.taken c.args.out.now) (g.K.Sink.taken c.write_one.new.out)
@@ -17,6 +17,6 @@ returns-clause-serves g c = λ s st.
 
 pub returns-clause-asks : goal.returns-clause-asks
 returns-clause-asks g c =
-    let here : Holding = held_by c.machine.inside.base c.machine.inside.index c.machine.inside.seat.filter c.machine.inside.seat.saved.items in
+    let here : Holding = held_by c.machine.inside.base (tables_with c.machine.inside.index c.machine.inside.slots.watches) c.machine.inside.seat.filter c.machine.inside.seat.saved.items in
     let P : Holding → Type 0 = λ h. Asks h (show_work c.args.i) (g.F.Files.asked c.args.files.now) (g.F.Files.asked c.write_one.new.files) in
     subst P c.machine.view_is (omega (arith, c.write_one.ensures.asks, show_price here c.args.i))

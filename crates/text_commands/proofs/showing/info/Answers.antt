@@ -1,7 +1,7 @@
 use Rattle.std.proofs.Common.{length, sym, ap, subst, ◌∙◌}
 use Rattle.index_entry.specs.declared.index.IndexHead.{IndexHead}
 use Rattle.name_base.specs.NameLists.{NameLists}
-use Rattle.shell_state.proofs.Quietly.{held_by, if_ok}
+use Rattle.shell_state.proofs.Quietly.{held_by, if_ok, tables_with}
 use Rattle.shell_state.specs.Stands.{Holding, Fits, Quiet}
 use Rattle.shell_state.specs.Work.{quiet}
 use Rattle.text_commands.proofs.Informing.{quiet_info}
@@ -10,7 +10,7 @@ use Rattle.text_commands.specs.Showing.{info_work}
 
 pub returns : goal.returns
 returns c =
-    let old : Holding = held_by c.machine.inside.base c.machine.inside.index c.machine.inside.seat.filter c.machine.inside.seat.saved.items in
+    let old : Holding = held_by c.machine.inside.base (tables_with c.machine.inside.index c.machine.inside.slots.watches) c.machine.inside.seat.filter c.machine.inside.seat.saved.items in
     let fits = subst Fits (sym c.machine.view_is) c.requires.fits in
     let named = c.names-names.ensures.names in
     record {

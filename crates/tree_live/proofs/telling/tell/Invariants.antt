@@ -1,4 +1,4 @@
-use Rattle.std.proofs.Common.{◌≡◌, ◌+◌, ◌≤◌, take}
+use Rattle.std.proofs.Common.{◌+◌, ◌≤◌, take}
 use Rattle.tree_live.specs.Keeping.{Tells}
 use Rattle.tree_live.proofs.telling.tell.Given as goal
 

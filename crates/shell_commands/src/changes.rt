@@ -1,0 +1,180 @@
+//! The commands that change games, and show in the views of slots what has changed.
+ghost use Rattle.std.specs.Prelude.{◌≡◌, ◌≤◌, ◌+◌, ℕ, List, [], false, None, Some, Ok, IfErr, IfOk, OnOk, length};
+ghost use Rattle.command_runs.specs.Counts.{Causes, counts};
+ghost use Rattle.command_runs.specs.Endings.{NoneLost, Serves};
+ghost use Rattle.script_text.specs.Sound.{IsSound};
+ghost use Rattle.script_text.specs.Tasks.{task};
+ghost use Rattle.script_text.specs.declared.command.Command.TheVariants.{Demo, Import};
+ghost use Rattle.intake_commands.specs.Demo.{demo_price};
+ghost use Rattle.intake_commands.specs.Importing.{import_work};
+ghost use Rattle.shell_commands.specs.Parts.{part_of};
+ghost use Rattle.shell_commands.specs.Tasks.{command_work};
+ghost use Rattle.shell_commands.specs.Watching.{ViewsDone, touches};
+ghost use Rattle.shell_commands.specs.declared.parts.Part.TheVariants.{Edits, Games};
+ghost use Rattle.shell_state.specs.Carrying.{StillCarry};
+ghost use Rattle.shell_state.specs.Stands.{Asks, Broken, Sound, Stands, WhyHalt};
+ghost use Rattle.shell_state.specs.State.{State};
+ghost use Rattle.shell_state.specs.Work.{works};
+ghost use Rattle.view_commands.specs.Views.{AreLeft, AreRight};
+
+use crate::showing::{show_line, show_rows};
+use base_files::{Files, Sink, Source};
+use edit_commands::{compact_line, tag_line};
+use intake_commands::{demo, import, replace_line};
+use report_commands::{eco, twins};
+use script_text::Command;
+use shell_state::{Halt, Machine};
+use std::alloc::Global;
+use tree_live::TreeView;
+
+// Takes the games of a body in, and shows them before the last line is written.
+pub(crate) fn serve_import<F: Files, B: Source, K: Sink>(
+    alloc: Global,
+    machine: &mut Machine,
+    views: &mut [Option<Box<dyn TreeView>>],
+    files: &mut F,
+    body: &mut B,
+    out: &mut K,
+) -> Result<(), Halt>
+    requires sound { Sound machine.old (F.seen files.old) }
+    ensures serves { (s : State) (text : List ℕ) → Stands machine.old (F.seen files.old) s → B.left body.old ≡ Some text → Serves works (Stands machine.new (F.seen files.new)) Broken s (import_work text) (K.taken out.old) (K.taken out.new) result }
+    ensures views { (s : State) (word text : List ℕ) → Stands machine.old (F.seen files.old) s → B.left body.old ≡ Some text → AreRight (λ b. rows b) s views.old → OnOk result (ViewsDone (λ b. rows b) (λ b. told b) s (task (Ok (Import word)) text) views.old views.new) }
+    ensures left { (s : State) (word text : List ℕ) → Stands machine.old (F.seen files.old) s → B.left body.old ≡ Some text → AreRight (λ b. rows b) s views.old → AreLeft (touches s (Ok (Import word))) views.old views.new }
+    ensures number { length views.new ≡ length views.old }
+    ensures sound { OnOk result (Sound machine.new (F.seen files.new)) }
+    ensures carries { (s : State) → Stands machine.old (F.seen files.old) s → IfErr result (λ _. StillCarry (F.seen files.new) s None) }
+    ensures choices { (F.seen files.new).choices ≡ (F.seen files.old).choices }
+    ensures none_asked { F.asked files.new ≡ F.asked files.old }
+    ensures same { B.origin body.new ≡ B.origin body.old }
+    ensures none_lost { NoneLost (K.taken out.old) (K.taken out.new) }
+    ensures causes { Causes WhyHalt result (counts (F.faults files.old) (B.faults body.old) (K.faults out.old)) (counts (F.faults files.new) (B.faults body.new) (K.faults out.new)) }
+{
+    match import(alloc, machine, files, body, out) {
+        Ok(line) => show_line(alloc, machine, views, out, line.as_slice()),
+        Err(halt) => Err(halt),
+    }
+}
+
+// Edits games, and shows them before the line for it is written.
+pub(crate) fn serve_edit<F: Files, B: Source, K: Sink>(
+    alloc: Global,
+    machine: &mut Machine,
+    views: &mut [Option<Box<dyn TreeView>>],
+    files: &mut F,
+    body: &mut B,
+    out: &mut K,
+    command: &Command,
+) -> Result<(), Halt>
+    requires sound { Sound machine.old (F.seen files.old) }
+    requires command { IsSound command.now }
+    requires part { part_of command.now ≡ Edits }
+    ensures serves { (s : State) (text : List ℕ) → Stands machine.old (F.seen files.old) s → B.left body.old ≡ Some text → Serves works (Stands machine.new (F.seen files.new)) Broken s (command_work command.now text) (K.taken out.old) (K.taken out.new) result }
+    ensures views { (s : State) (text : List ℕ) → Stands machine.old (F.seen files.old) s → B.left body.old ≡ Some text → AreRight (λ b. rows b) s views.old → OnOk result (ViewsDone (λ b. rows b) (λ b. told b) s (task (Ok command.now) text) views.old views.new) }
+    ensures left { (s : State) (text : List ℕ) → Stands machine.old (F.seen files.old) s → B.left body.old ≡ Some text → AreRight (λ b. rows b) s views.old → AreLeft (touches s (Ok command.now)) views.old views.new }
+    ensures number { length views.new ≡ length views.old }
+    ensures sound { OnOk result (Sound machine.new (F.seen files.new)) }
+    ensures carries { (s : State) → Stands machine.old (F.seen files.old) s → IfErr result (λ _. StillCarry (F.seen files.new) s (command_work command.now []).left) }
+    ensures choices { (F.seen files.new).choices ≡ (F.seen files.old).choices }
+    ensures asks { Asks machine.old (command_work command.now []) (F.asked files.old) (F.asked files.new) }
+    ensures same { B.origin body.new ≡ B.origin body.old }
+    ensures none_lost { NoneLost (K.taken out.old) (K.taken out.new) }
+    ensures causes { Causes WhyHalt result (counts (F.faults files.old) (B.faults body.old) (K.faults out.old)) (counts (F.faults files.new) (B.faults body.new) (K.faults out.new)) }
+{
+    match edit_line(alloc, machine, files, body, command) {
+        Ok(line) => show_line(alloc, machine, views, out, line.as_slice()),
+        Err(halt) => Err(halt),
+    }
+}
+
+// Edits them, and gives the line for it.
+fn edit_line<F: Files, B: Source>(
+    alloc: Global,
+    machine: &mut Machine,
+    files: &mut F,
+    body: &mut B,
+    command: &Command,
+) -> Result<Vec<u8>, Halt>
+    requires sound { Sound machine.old (F.seen files.old) }
+    requires command { IsSound command.now }
+    requires part { part_of command.now ≡ Edits }
+    ensures line { (s : State) (text : List ℕ) → Stands machine.old (F.seen files.old) s → B.left body.old ≡ Some text → IfOk result (λ line. line.items ≡ (command_work command.now text).text s) }
+    ensures stands { (s : State) (text : List ℕ) → Stands machine.old (F.seen files.old) s → B.left body.old ≡ Some text → OnOk result (Stands machine.new (F.seen files.new) ((command_work command.now text).after s)) }
+    ensures broken { (s : State) (text : List ℕ) → Stands machine.old (F.seen files.old) s → IfErr result (λ e. Broken s (command_work command.now text) e) }
+    ensures sound { OnOk result (Sound machine.new (F.seen files.new)) }
+    ensures carries { (s : State) → Stands machine.old (F.seen files.old) s → StillCarry (F.seen files.new) s (command_work command.now []).left }
+    ensures choices { (F.seen files.new).choices ≡ (F.seen files.old).choices }
+    ensures asks { Asks machine.old (command_work command.now []) (F.asked files.old) (F.asked files.new) }
+    ensures same { B.origin body.new ≡ B.origin body.old }
+    ensures causes { Causes WhyHalt result (counts (F.faults files.old) (B.faults body.old) 0) (counts (F.faults files.new) (B.faults body.new) 0) }
+{
+    match command {
+        Command::Replace(number, _) => replace_line(alloc, machine, files, body, *number),
+        Command::Tag(number, edit) => tag_line(alloc, machine, files, *number, edit),
+        Command::Compact => compact_line(alloc, machine, files),
+        _ => unreachable!(),
+    }
+}
+
+// Does what another such command says, and then shows what has changed.
+pub(crate) fn serve_change<F: Files, B: Source, K: Sink>(
+    alloc: Global,
+    machine: &mut Machine,
+    views: &mut [Option<Box<dyn TreeView>>],
+    files: &mut F,
+    body: &mut B,
+    out: &mut K,
+    command: &Command,
+) -> Result<(), Halt>
+    requires sound { Sound machine.old (F.seen files.old) }
+    requires command { IsSound command.now }
+    requires part { part_of command.now ≡ Games }
+    ensures serves { (s : State) (text : List ℕ) → Stands machine.old (F.seen files.old) s → B.left body.old ≡ Some text → Serves works (Stands machine.new (F.seen files.new)) Broken s (command_work command.now text) (K.taken out.old) (K.taken out.new) result }
+    ensures views { (s : State) (text : List ℕ) → Stands machine.old (F.seen files.old) s → B.left body.old ≡ Some text → AreRight (λ b. rows b) s views.old → OnOk result (ViewsDone (λ b. rows b) (λ b. told b) s (task (Ok command.now) text) views.old views.new) }
+    ensures left { (s : State) (text : List ℕ) → Stands machine.old (F.seen files.old) s → B.left body.old ≡ Some text → AreRight (λ b. rows b) s views.old → AreLeft (touches s (Ok command.now)) views.old views.new }
+    ensures number { length views.new ≡ length views.old }
+    ensures sound { OnOk result (Sound machine.new (F.seen files.new)) }
+    ensures carries { (s : State) → Stands machine.old (F.seen files.old) s → IfErr result (λ _. StillCarry (F.seen files.new) s (command_work command.now []).left) }
+    ensures unchanged { (command_work command.now []).writes ≡ false → F.seen files.new ≡ F.seen files.old }
+    ensures choices { (F.seen files.new).choices ≡ (F.seen files.old).choices }
+    ensures asks { Asks machine.old (command_work command.now []) (F.asked files.old) (F.asked files.new) }
+    ensures asks_demo { (s : State) (seed games : ℕ) → Stands machine.old (F.seen files.old) s → command.now ≡ Demo seed games → F.asked files.new ≤ F.asked files.old + demo_price s seed games }
+    ensures same { B.origin body.new ≡ B.origin body.old }
+    ensures none_lost { NoneLost (K.taken out.old) (K.taken out.new) }
+    ensures causes { Causes WhyHalt result (counts (F.faults files.old) (B.faults body.old) (K.faults out.old)) (counts (F.faults files.new) (B.faults body.new) (K.faults out.new)) }
+{
+    match change_games(alloc, machine, files, body, out, command) {
+        Ok(()) => show_rows(alloc, machine, views),
+        Err(halt) => Err(halt),
+    }
+}
+
+// Does what it says, and shows nothing.
+fn change_games<F: Files, B: Source, K: Sink>(
+    alloc: Global,
+    machine: &mut Machine,
+    files: &mut F,
+    body: &mut B,
+    out: &mut K,
+    command: &Command,
+) -> Result<(), Halt>
+    requires sound { Sound machine.old (F.seen files.old) }
+    requires command { IsSound command.now }
+    requires part { part_of command.now ≡ Games }
+    ensures serves { (s : State) (text : List ℕ) → Stands machine.old (F.seen files.old) s → B.left body.old ≡ Some text → Serves works (Stands machine.new (F.seen files.new)) Broken s (command_work command.now text) (K.taken out.old) (K.taken out.new) result }
+    ensures sound { OnOk result (Sound machine.new (F.seen files.new)) }
+    ensures carries { (s : State) → Stands machine.old (F.seen files.old) s → StillCarry (F.seen files.new) s (command_work command.now []).left }
+    ensures unchanged { (command_work command.now []).writes ≡ false → F.seen files.new ≡ F.seen files.old }
+    ensures choices { (F.seen files.new).choices ≡ (F.seen files.old).choices }
+    ensures asks { Asks machine.old (command_work command.now []) (F.asked files.old) (F.asked files.new) }
+    ensures asks_demo { (s : State) (seed games : ℕ) → Stands machine.old (F.seen files.old) s → command.now ≡ Demo seed games → F.asked files.new ≤ F.asked files.old + demo_price s seed games }
+    ensures same { B.origin body.new ≡ B.origin body.old }
+    ensures none_lost { NoneLost (K.taken out.old) (K.taken out.new) }
+    ensures causes { Causes WhyHalt result (counts (F.faults files.old) (B.faults body.old) (K.faults out.old)) (counts (F.faults files.new) (B.faults body.new) (K.faults out.new)) }
+{
+    match command {
+        Command::Eco(_) => eco(alloc, machine, files, body, out),
+        Command::Twins(depth) => twins(alloc, machine, files, out, *depth),
+        Command::Demo(seed, games) => demo(alloc, machine, files, out, *seed, *games),
+        _ => unreachable!(),
+    }
+}

@@ -1,0 +1,78 @@
+//! The commands that change the filter or a game without the files, and answer a line.
+ghost use Rattle.std.specs.Prelude.{◌≡◌, ℕ, List, [], Ok, IfOk, OnOk, length};
+ghost use Rattle.base_files.specs.Seen.{Seen};
+ghost use Rattle.command_runs.specs.Counts.{Causes, counts};
+ghost use Rattle.command_runs.specs.Endings.{NoneLost, Serves};
+ghost use Rattle.script_text.specs.Sound.{IsSound};
+ghost use Rattle.script_text.specs.Tasks.{task};
+ghost use Rattle.shell_commands.specs.Parts.{part_of};
+ghost use Rattle.shell_commands.specs.Tasks.{command_work};
+ghost use Rattle.shell_commands.specs.Watching.{ViewsDone, touches};
+ghost use Rattle.shell_commands.specs.declared.parts.Part.TheVariants.{Lines};
+ghost use Rattle.shell_state.specs.Stands.{Broken, Fits, Quiet, Sound, Stands, TablesFit, WhyHalt};
+ghost use Rattle.shell_state.specs.State.{State};
+ghost use Rattle.shell_state.specs.Work.{works};
+ghost use Rattle.view_commands.specs.Views.{AreLeft, AreRight};
+
+use crate::showing::show_line;
+use base_files::{Sink, Stop};
+use edit_commands::{delete, mark, undelete};
+use filter_commands::{and, clear, negate, or, reset, restrict, take};
+use script_text::Command;
+use search_commands::search_header;
+use shell_state::{Halt, Machine};
+use std::alloc::{AllocError, Global};
+use tree_live::TreeView;
+
+// Does what such a command says, and shows it before its line is written.
+pub(crate) fn serve_line<K: Sink>(
+    alloc: Global,
+    machine: &mut Machine,
+    views: &mut [Option<Box<dyn TreeView>>],
+    out: &mut K,
+    command: &Command,
+) -> Result<(), Halt>
+    requires fits { Fits machine.old }
+    requires tables { TablesFit machine.old }
+    requires command { IsSound command.now }
+    requires part { part_of command.now ≡ Lines }
+    ensures serves { (seen : Seen) (s : State) (text : List ℕ) → Stands machine.old seen s → Serves works (Stands machine.new seen) Broken s (command_work command.now text) (K.taken out.old) (K.taken out.new) result }
+    ensures views { (seen : Seen) (s : State) (text : List ℕ) → Stands machine.old seen s → AreRight (λ b. rows b) s views.old → OnOk result (ViewsDone (λ b. rows b) (λ b. told b) s (task (Ok command.now) text) views.old views.new) }
+    ensures left { (seen : Seen) (s : State) (text : List ℕ) → Stands machine.old seen s → AreRight (λ b. rows b) s views.old → AreLeft (touches s (Ok command.now)) views.old views.new }
+    ensures number { length views.new ≡ length views.old }
+    ensures sound { (seen : Seen) → Sound machine.old seen → OnOk result (Sound machine.new seen) }
+    ensures none_lost { NoneLost (K.taken out.old) (K.taken out.new) }
+    ensures causes { Causes WhyHalt result (counts 0 0 (K.faults out.old)) (counts 0 0 (K.faults out.new)) }
+{
+    match change_line(alloc, machine, command) {
+        Ok(line) => show_line(alloc, machine, views, out, line.as_slice()),
+        Err(AllocError) => Err(Halt::Device(Stop::Memory)),
+    }
+}
+
+// Does what it says, and gives its line.
+fn change_line(
+    alloc: Global,
+    machine: &mut Machine,
+    command: &Command,
+) -> Result<Vec<u8>, AllocError>
+    requires fits { Fits machine.old }
+    requires command { IsSound command.now }
+    requires part { part_of command.now ≡ Lines }
+    ensures quiet { (text : List ℕ) → IfOk result (λ line. Quiet machine.old (command_work command.now text) machine.new line.items) }
+{
+    match command {
+        Command::SearchHeader(op, query) => search_header(alloc, machine, *op, query),
+        Command::Reset => reset(alloc, machine),
+        Command::Clear => clear(alloc, machine),
+        Command::Negate => negate(alloc, machine),
+        Command::Restrict(first, last) => restrict(alloc, machine, *first, *last),
+        Command::Take(name) => take(alloc, machine, name),
+        Command::And(name) => and(alloc, machine, name),
+        Command::Or(name) => or(alloc, machine, name),
+        Command::Delete(number) => delete(alloc, machine, *number),
+        Command::Undelete(number) => undelete(alloc, machine, *number),
+        Command::Mark(number, bit, on) => mark(alloc, machine, *number, *bit, *on),
+        _ => unreachable!(),
+    }
+}

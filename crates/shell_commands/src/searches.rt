@@ -1,0 +1,99 @@
+//! The commands that search games which they read, and show in the views of slots what has changed before the text is written.
+ghost use Rattle.std.specs.Prelude.{◌≡◌, ℕ, List, [], Ok, IfErr, OnOk, length};
+ghost use Rattle.base_files.specs.Seen.{Seen};
+ghost use Rattle.command_runs.specs.Counts.{Causes, counts};
+ghost use Rattle.command_runs.specs.Endings.{NoneLost, Serves};
+ghost use Rattle.script_text.specs.Sound.{IsSound};
+ghost use Rattle.script_text.specs.Tasks.{task};
+ghost use Rattle.shell_commands.specs.Parts.{part_of};
+ghost use Rattle.shell_commands.specs.Tasks.{command_work};
+ghost use Rattle.shell_commands.specs.Watching.{ViewsDone, touches};
+ghost use Rattle.shell_commands.specs.declared.parts.Part.TheVariants.{Searches};
+ghost use Rattle.shell_state.specs.Ends.{IsDevice};
+ghost use Rattle.shell_state.specs.Stands.{Asks, Broken, Sound, Stands, WhyHalt};
+ghost use Rattle.shell_state.specs.State.{State};
+ghost use Rattle.shell_state.specs.Work.{works};
+ghost use Rattle.view_commands.specs.Views.{AreLeft, AreRight};
+
+use crate::showing::show_rows;
+use base_files::{Files, Sink};
+use script_text::Command;
+use search_commands::{find_games, hits, material_games, position_games};
+use shell_state::{Halt, Machine, write_filter};
+use std::alloc::Global;
+use tree_live::TreeView;
+
+// Does what such a command says, and shows it before its text is written.
+pub(crate) fn serve_search<F: Files, K: Sink>(
+    alloc: Global,
+    machine: &mut Machine,
+    views: &mut [Option<Box<dyn TreeView>>],
+    files: &mut F,
+    out: &mut K,
+    command: &Command,
+) -> Result<(), Halt>
+    requires sound { Sound machine.old (F.seen files.old) }
+    requires command { IsSound command.now }
+    requires part { part_of command.now ≡ Searches }
+    ensures serves { (s : State) (text : List ℕ) → Stands machine.old (F.seen files.old) s → Serves works (Stands machine.new (F.seen files.new)) Broken s (command_work command.now text) (K.taken out.old) (K.taken out.new) result }
+    ensures views { (s : State) (text : List ℕ) → Stands machine.old (F.seen files.old) s → AreRight (λ b. rows b) s views.old → OnOk result (ViewsDone (λ b. rows b) (λ b. told b) s (task (Ok command.now) text) views.old views.new) }
+    ensures left { (s : State) (text : List ℕ) → Stands machine.old (F.seen files.old) s → AreRight (λ b. rows b) s views.old → AreLeft (touches s (Ok command.now)) views.old views.new }
+    ensures number { length views.new ≡ length views.old }
+    ensures sound { OnOk result (Sound machine.new (F.seen files.new)) }
+    ensures unchanged { F.seen files.new ≡ F.seen files.old }
+    ensures asks { Asks machine.old (command_work command.now []) (F.asked files.old) (F.asked files.new) }
+    ensures none_lost { NoneLost (K.taken out.old) (K.taken out.new) }
+    ensures causes { Causes WhyHalt result (counts (F.faults files.old) 0 (K.faults out.old)) (counts (F.faults files.new) 0 (K.faults out.new)) }
+{
+    match search_games(machine, files, command) {
+        Ok(()) => {}
+        Err(halt) => return Err(halt),
+    }
+    match show_rows(alloc, machine, views) {
+        Ok(()) => write_found(alloc, machine, out, command),
+        Err(halt) => Err(halt),
+    }
+}
+
+// Its search.
+fn search_games<F: Files>(
+    machine: &mut Machine,
+    files: &mut F,
+    command: &Command,
+) -> Result<(), Halt>
+    requires sound { Sound machine.old (F.seen files.old) }
+    requires command { IsSound command.now }
+    requires part { part_of command.now ≡ Searches }
+    ensures stands { (s : State) (text : List ℕ) → Stands machine.old (F.seen files.old) s → OnOk result (Stands machine.new (F.seen files.new) ((command_work command.now text).after s)) }
+    ensures devices { (s : State) → Stands machine.old (F.seen files.old) s → IfErr result IsDevice }
+    ensures sound { OnOk result (Sound machine.new (F.seen files.new)) }
+    ensures unchanged { F.seen files.new ≡ F.seen files.old }
+    ensures asks { Asks machine.old (command_work command.now []) (F.asked files.old) (F.asked files.new) }
+    ensures causes { Causes WhyHalt result (counts (F.faults files.old) 0 0) (counts (F.faults files.new) 0 0) }
+{
+    match command {
+        Command::Find(board, side) => find_games(machine, files, board, *side),
+        Command::SearchPosition(op, query) => position_games(machine, files, *op, query),
+        Command::SearchMaterial(op, query) => material_games(machine, files, *op, query),
+        _ => unreachable!(),
+    }
+}
+
+// Its text, behind the search.
+fn write_found<K: Sink>(
+    alloc: Global,
+    machine: &mut Machine,
+    out: &mut K,
+    command: &Command,
+) -> Result<(), Halt>
+    requires part { part_of command.now ≡ Searches }
+    ensures same { machine.new ≡ machine.old }
+    ensures serves { (seen : Seen) (s : State) (text : List ℕ) → Stands machine.old seen ((command_work command.now text).after s) → Serves works (Stands machine.new seen) Broken s (command_work command.now text) (K.taken out.old) (K.taken out.new) result }
+    ensures none_lost { NoneLost (K.taken out.old) (K.taken out.new) }
+    ensures causes { Causes WhyHalt result (counts 0 0 (K.faults out.old)) (counts 0 0 (K.faults out.new)) }
+{
+    match command {
+        Command::Find(..) => hits(machine, out),
+        _ => write_filter(alloc, &machine.seat.filter, out),
+    }
+}

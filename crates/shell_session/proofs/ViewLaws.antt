@@ -1,0 +1,175 @@
+-- Laws of the views beside a state.
+use Rattle.std.proofs.Common.{◌≡◌, ◌≤◌, ◌+◌, ℕ, zero, suc, Bool, false, List, Option, Some, None, Result, Ok, Err, [], ◌∷◌, ◌++◌, length, map, option_map, replicate, arith, ap₂, refl, sym, subst, ap, ◌∙◌}
+use Rattle.std.proofs.lemmas.List.{get_or_past, length-map}
+use Rattle.std.specs.List.{range_with_len}
+use Rattle.std.specs.Prelude.{IfErr, OnOk}
+use Rattle.base_core.specs.Base.{Base, Held}
+use Rattle.base_files.specs.Seen.{Seen}
+use Rattle.command_runs.specs.Endings.{Done, Serves}
+use Rattle.command_runs.specs.Plain.{after_all}
+use Rattle.script_text.specs.Tasks.{Task}
+use Rattle.shell_commands.specs.Tasks.{BrokenTask, tasks}
+use Rattle.shell_commands.specs.Watching.{ViewsDone, most_told, touches}
+use Rattle.shell_state.proofs.TableLaws.{in_mapped}
+use Rattle.shell_state.specs.Slots.{HitTable, Slot, slot_at, table_of, tables_of}
+use Rattle.shell_state.specs.Slots.Slot.{empty, idle, shows}
+use Rattle.shell_state.specs.Stands.{Holding, ShowNone, Stands}
+use Rattle.shell_state.specs.State.{State, begin}
+use Rattle.shell_state.specs.declared.halt.Halt.{Halt}
+use Rattle.tree_live.specs.Slots.{in_slot}
+use Rattle.tree_rows.specs.declared.row.Row.{Row}
+use Rattle.view_commands.specs.Views.{AreLeft, AreRight, IsRight, IsToldAtMost}
+use Rattle.shell_session.proofs.IdleLaws.{idle_before}
+use Rattle.shell_session.specs.Around.{AreLeftBy, Around, Lives, Meaning, Views, around, meanings, none_told, slot_by, slots_by, told_all, told_by, told_more}
+
+-- ---- views and what they mean
+
+abbrev meaning : {B : Type 0} → (B → List Row) → (B → ℕ) → B → Meaning
+meaning rows told view = record { rows = rows view; told = told view }
+
+pub in_meanings : {B : Type 0} (rows : B → List Row) (told : B → ℕ) (views : List (Option B)) (k : ℕ) → in_slot (meanings rows told views) k ≡ option_map (meaning rows told) (in_slot views k)
+in_meanings rows told views k = in_mapped (meaning rows told) views k
+
+is_right : {B : Type 0} (rows : B → List Row) (told : B → ℕ) (s : State) (slot : Slot) (view : Option B) → IsRight rows s slot view → IsRight (λ (m : Meaning). m.rows) s slot (option_map (meaning rows told) view)
+is_right rows told s empty view is = ap (option_map (meaning rows told)) is
+is_right rows told s idle None is = cc
+is_right rows told s idle (Some view) is = refl
+is_right rows told s (shows board) None is = is
+is_right rows told s (shows board) (Some view) is = is
+
+was_right : {B : Type 0} (rows : B → List Row) (told : B → ℕ) (s : State) (slot : Slot) (view : Option B) → IsRight (λ (m : Meaning). m.rows) s slot (option_map (meaning rows told) view) → IsRight rows s slot view
+was_right rows told s empty None is = refl
+was_right rows told s empty (Some view) is = cc
+was_right rows told s idle None is = cc
+was_right rows told s idle (Some view) is = refl
+was_right rows told s (shows board) None is = is
+was_right rows told s (shows board) (Some view) is = is
+
+pub right_in : {B : Type 0} (rows : B → List Row) (told : B → ℕ) (s : State) (views : List (Option B)) → AreRight rows s views → AreRight (λ (m : Meaning). m.rows) s (meanings rows told views)
+right_in rows told s views are k =
+    subst (IsRight (λ (m : Meaning). m.rows) s (slot_at s.slots k)) (sym (in_meanings rows told views k)) (is_right rows told s (slot_at s.slots k) (in_slot views k) (are k))
+
+pub right_out : {B : Type 0} (rows : B → List Row) (told : B → ℕ) (s : State) (views : List (Option B)) → AreRight (λ (m : Meaning). m.rows) s (meanings rows told views) → AreRight rows s views
+right_out rows told s views are k =
+    was_right rows told s (slot_at s.slots k) (in_slot views k) (subst (IsRight (λ (m : Meaning). m.rows) s (slot_at s.slots k)) (in_meanings rows told views k) (are k))
+
+-- ---- a task that is done or broken off
+
+-- The views of idle slots that it does not watch are as they were at the beginning.
+pub left_by : {B : Type 0} (rows : B → List Row) (told : B → ℕ) (s : State) (t : Task) (holding : Holding) (seen seen' : Seen) (first : Views) (most : ℕ → ℕ) (views views' : List (Option B))
+    → Lives holding (around seen first most (meanings rows told views)) s → AreLeft (touches s t.order) views views' → AreLeftBy (around seen' first most (meanings rows told views')) s t.order
+left_by rows told s t holding seen seen' first most views views' lives left k is other =
+    let untouched : touches s t.order k ≡ false = rw (is, other) refl in
+    in_meanings rows told views' k ∙ (ap (option_map (meaning rows told)) (left k untouched) ∙ (sym (in_meanings rows told views k) ∙ lives.views.idle k is))
+
+told_step : {B : Type 0} (rows : B → List Row) (told : B → ℕ) (most : ℕ) (before after : Option B) → IsToldAtMost told most before after
+    → told_by (option_map (meaning rows told) after) ≤ told_by (option_map (meaning rows told) before) + most
+told_step rows told most None after is =
+    let none : told_by (option_map (meaning rows told) after) ≡ 0 = ap (λ view. told_by (option_map (meaning rows told) view)) is in
+    omega (arith, none)
+told_step rows told most (Some before) None is = omega arith
+told_step rows told most (Some before) (Some after) is = is
+
+pub lives_behind : {B : Type 0} (rows : B → List Row) (told : B → ℕ) (s : State) (t : Task) (holding holding' : Holding) (seen seen' : Seen) (first : Views) (most : ℕ → ℕ) (views views' : List (Option B)) (text : List ℕ) (before after : Option (List ℕ))
+    → Lives holding (around seen first most (meanings rows told views)) s → Done (Stands holding' seen') (tasks.after s t) text before after → ViewsDone rows told s t views views' → AreLeft (touches s t.order) views views'
+    → Done (Lives holding' (told_more (around seen' first most (meanings rows told views')) (most_told s t))) (tasks.after s t) text before after
+lives_behind rows told s t holding holding' seen seen' first most views views' text before after lives did done left = record {
+  stands = record {
+    stands = did.stands;
+    views = record {
+      right = right_in rows told (tasks.after s t) views' done.right;
+      idle = λ k is.
+          let earlier = idle_before s t k is in
+          left_by rows told s t holding seen seen' first most views views' lives left k earlier.0 earlier.1;
+      told = λ k.
+          let old : told_by (in_slot (meanings rows told views) k) ≡ told_by (option_map (meaning rows told) (in_slot views k)) = ap told_by (in_meanings rows told views k) in
+          let new : told_by (in_slot (meanings rows told views') k) ≡ told_by (option_map (meaning rows told) (in_slot views' k)) = ap told_by (in_meanings rows told views' k) in
+          omega (arith, old, new, told_step rows told (most_told s t k) (in_slot views k) (in_slot views' k) (done.counted k), lives.views.told k);
+    };
+  };
+  written = did.written;
+}
+
+pub serves_alive : {A B : Type 0} (rows : B → List Row) (told : B → ℕ) (s : State) (t : Task) (holding holding' : Holding) (seen seen' : Seen) (first : Views) (most : ℕ → ℕ) (views views' : List (Option B)) (before after : Option (List ℕ)) (result : Result A Halt)
+    → Lives holding (around seen first most (meanings rows told views)) s → Serves tasks (Stands holding' seen') BrokenTask s t before after result → OnOk result (ViewsDone rows told s t views views')
+    → AreLeft (touches s t.order) views views' → Serves tasks (Lives holding' (told_more (around seen' first most (meanings rows told views')) (most_told s t))) BrokenTask s t before after result
+serves_alive rows told s t holding holding' seen seen' first most views views' before after (Ok x) lives serves done left =
+    lives_behind rows told s t holding holding' seen seen' first most views views' (tasks.text s t) before after lives serves done left
+serves_alive rows told s t holding holding' seen seen' first most views views' before after (Err e) lives serves done left = serves
+
+-- A fact of whatever error there is.
+pub whatever_error : {A E : Type 0} (r : Result A E) (X : Type 0) → X → IfErr r (λ (e : E). X)
+whatever_error (Ok x) X so = tt
+whatever_error (Err e) X so = so
+
+-- ---- how many changes were told
+
+-- No fewer than these.
+pub lives_more : (holding : Holding) (here : Around) (more later : ℕ → ℕ) (s : State) → Lives holding (told_more here more) s → ((k : ℕ) → more k ≤ later k) → Lives holding (told_more here later) s
+lives_more holding here more later s lives less = record {
+  stands = lives.stands;
+  views = record { right = lives.views.right; idle = lives.views.idle; told = λ k. omega (arith, lives.views.told k, less k) };
+}
+
+pub lives_since : (holding : Holding) (here : Around) (more : ℕ → ℕ) (s : State) → Lives holding here s → Lives holding (told_more here more) s
+lives_since holding here more s lives = record {
+  stands = lives.stands;
+  views = record { right = lives.views.right; idle = lives.views.idle; told = λ k. omega (arith, lives.views.told k) };
+}
+
+pub lives_twice : (holding : Holding) (here : Around) (more again later : ℕ → ℕ) (s : State) → Lives holding (told_more (told_more here more) again) s → ((k : ℕ) → more k + again k ≤ later k)
+    → Lives holding (told_more here later) s
+lives_twice holding here more again later s lives less = record {
+  stands = lives.stands;
+  views = record { right = lives.views.right; idle = lives.views.idle; told = λ k. omega (arith, lives.views.told k, less k) };
+}
+
+-- Some tasks, and then others.
+pub told_all-append : (s : State) (xs ys : List Task) (k : ℕ) → told_all s (xs ++ ys) k ≡ told_all s xs k + told_all (after_all tasks s xs) ys k
+told_all-append s [] ys k = omega arith
+told_all-append s (x ∷ xs) ys k =
+    let rest : told_all (tasks.after s x) (xs ++ ys) k ≡ told_all (tasks.after s x) xs k + told_all (after_all tasks (tasks.after s x) xs) ys k = told_all-append (tasks.after s x) xs ys k in
+    omega (arith, rest)
+
+pub told_one : (s : State) (done : List Task) (next : Task) (k : ℕ) → told_all s done k + most_told (after_all tasks s done) next k ≤ told_all s (done ++ next ∷ []) k
+told_one s done next k = omega (arith, told_all-append s done (next ∷ []) k)
+
+-- ---- the beginning
+
+-- No slot shows a tree then.
+slot_none : (games : List Held) (view : Option Meaning) → table_of games (slot_by view) ≡ None
+slot_none games None = refl
+slot_none games (Some view) = refl
+
+none_shown : (views : Views) (games : List Held) (from n : ℕ) → tables_of games (map (λ (k : ℕ). slot_by (in_slot views k)) (range_with_len from n)) ≡ replicate n None
+none_shown views games from zero = refl
+none_shown views games from (suc n) = ap₂ (λ (x : Option HitTable) (l : List (Option HitTable)). x ∷ l) (slot_none games (in_slot views from)) (none_shown views games (from + 1) n)
+
+pub show_none : (views : Views) → ShowNone (slots_by views)
+show_none views games = none_shown views games 0 8
+
+-- And each view is right.
+slot_right : (s : State) (view : Option Meaning) → IsRight (λ (m : Meaning). m.rows) s (slot_by view) view
+slot_right s None = refl
+slot_right s (Some view) = refl
+
+in_range : (views : Views) (from n k : ℕ) → length views ≤ from + n → slot_at (map (λ (j : ℕ). slot_by (in_slot views j)) (range_with_len from n)) k ≡ slot_by (in_slot views (from + k))
+in_range views from zero k few = ap slot_by (sym (get_or_past views (from + k) None (omega (arith, few))))
+in_range views from (suc n) zero few = ap (λ (j : ℕ). slot_by (in_slot views j)) (omega arith)
+in_range views from (suc n) (suc k) few = in_range views (from + 1) n k (omega (arith, few)) ∙ ap (λ (j : ℕ). slot_by (in_slot views j)) (omega arith)
+
+pub lives_first : (holding : Holding) (seen : Seen) (views : Views) (created : Bool) (base : Base) → length views ≤ 8 → Stands holding seen (begin created (slots_by views) base)
+    → Lives holding (around seen views none_told views) (begin created (slots_by views) base)
+lives_first holding seen views created base few stands =
+    let s : State = begin created (slots_by views) base in
+    record {
+      stands = stands;
+      views = record {
+        right = λ k. subst (λ (slot : Slot). IsRight (λ (m : Meaning). m.rows) s slot (in_slot views k)) (sym (in_range views 0 8 k few ∙ ap (λ (j : ℕ). slot_by (in_slot views j)) (omega arith))) (slot_right s (in_slot views k));
+        idle = λ k is. refl;
+        told = λ k. omega arith;
+      };
+    }
+
+pub meanings_few : {B : Type 0} (rows : B → List Row) (told : B → ℕ) (views : List (Option B)) → length views ≤ 8 → length (meanings rows told views) ≤ 8
+meanings_few rows told views few = omega (arith, few, length-map views (option_map (meaning rows told)))

@@ -1,0 +1,81 @@
+-- What stands around the machine of a session: what the files tell, and the views of the slots, at its beginning and now, with how many
+-- changes each was told since then at most. This project's own.
+use Rattle.std.specs.Prelude.{◌≡◌, ◌≤◌, ◌+◌, ℕ, false, List, [], ◌∷◌, Option, Some, None, map, option_map}
+use Rattle.std.specs.List.{range_with_len}
+use Rattle.base_files.specs.Seen.{Seen}
+use Rattle.script_text.specs.Tasks.{Task}
+use Rattle.shell_commands.specs.Tasks.{Order, order_left, tasks}
+use Rattle.shell_commands.specs.Watching.{most_told, watches}
+use Rattle.shell_state.specs.Carrying.{StillCarry}
+use Rattle.shell_state.specs.Slots.{Slot, slot_at}
+use Rattle.shell_state.specs.Slots.Slot.{empty, idle}
+use Rattle.shell_state.specs.Stands.{Holding, Stands}
+use Rattle.shell_state.specs.State.{State}
+use Rattle.tree_live.specs.Slots.{in_slot}
+use Rattle.tree_rows.specs.declared.row.Row.{Row}
+use Rattle.view_commands.specs.Views.{AreRight}
+
+-- What a view means: its rows, and how many changes it was told.
+pub record Meaning : Type 0 where
+  pub rows : List Row
+  pub told : ℕ
+
+abbrev pub Views : Type 0
+Views = List (Option Meaning)
+
+abbrev pub meanings : {B : Type 0} → (B → List Row) → (B → ℕ) → List (Option B) → Views
+meanings rows told views = map (option_map (λ view. record { rows = rows view; told = told view })) views
+
+-- The slots over some views: one is idle where a view stands, and empty else.
+abbrev pub slot_by : Option Meaning → Slot
+slot_by None = empty
+slot_by (Some view) = idle
+
+abbrev pub slots_by : Views → List Slot
+slots_by views = map (λ k. slot_by (in_slot views k)) (range_with_len 0 8)
+
+pub record Around : Type 0 where
+  pub seen : Seen
+  pub first : Views
+  pub most : ℕ → ℕ
+  pub now : Views
+
+abbrev pub around : Seen → Views → (ℕ → ℕ) → Views → Around
+around seen first most now = record { seen = seen; first = first; most = most; now = now }
+
+-- No change was told yet; and so many more.
+abbrev pub none_told : ℕ → ℕ
+none_told k = 0
+
+abbrev pub told_more : Around → (ℕ → ℕ) → Around
+told_more around more = record around { most = λ k. around.most k + more k }
+
+-- How many changes a view was told that stands in a slot.
+abbrev pub told_by : Option Meaning → ℕ
+told_by None = 0
+told_by (Some view) = view.told
+
+-- How many changes some tasks tell the view of a slot at most, one after the other.
+abbrev pub told_all : State → List Task → ℕ → ℕ
+told_all s [] k = 0
+told_all s (next ∷ later) k = most_told s next k + told_all (tasks.after s next) later k
+
+-- The views beside a state: each is right, one whose slot is idle is as it was at the beginning, and each was told no more changes.
+pub record AreBeside (around : Around) (s : State) : Type 0 where
+  pub right : AreRight (λ (view : Meaning). view.rows) s around.now
+  pub idle : (k : ℕ) → slot_at s.slots k ≡ idle → in_slot around.now k ≡ in_slot around.first k
+  pub told : (k : ℕ) → told_by (in_slot around.now k) ≤ told_by (in_slot around.first k) + around.most k
+
+-- The machine stands for a state, with such views.
+pub record Lives (holding : Holding) (around : Around) (s : State) : Type 0 where
+  pub stands : Stands holding around.seen s
+  pub views : AreBeside around s
+
+-- Behind a command that was broken off, the views of idle slots that it does not watch are as they were at the beginning.
+abbrev pub AreLeftBy : Around → State → Order → Type 0
+AreLeftBy around s order = (k : ℕ) → slot_at s.slots k ≡ idle → watches order k ≡ false → in_slot around.now k ≡ in_slot around.first k
+
+-- What remains then: the files carry what they carried, or what the command leaves, and such views.
+pub record Remains (around : Around) (s : State) (order : Order) : Type 0 where
+  pub carries : StillCarry around.seen s (order_left order)
+  pub views : AreLeftBy around s order

@@ -1,0 +1,5 @@
+use Rattle.tree_live.proofs.FewLaws.{rows-few}
+use Rattle.tree_live.proofs.laws.rows_change_with_games.Goals as goal
+
+pub returns : goal.returns
+returns c = record { few = rows-few }

@@ -1,0 +1,5 @@
+mod HitLaws
+mod KeyLaws
+mod PriceLaws
+mod ReadLaws
+mod SlotLaws

@@ -1,0 +1,110 @@
+-- The commands on slots, each of which shows the tree of a position in a view, and keeps it right. This project's own.
+use Rattle.std.specs.Prelude.{◌≡◌, ◌≤◌, ℕ, ◌+◌, Bool, true, false, List, [], Option, Some, None, IsSome, codes, slice_set}
+use Rattle.cell_core.specs.Board.{Men}
+use Rattle.cell_core.specs.Packed.{Packed, packed_of}
+use Rattle.cell_core.specs.declared.man.Colour.{Colour}
+use Rattle.game_filter.specs.declared.op.Op.TheVariants.{Ignore}
+use Rattle.search_commands.specs.Searching.{position_len}
+use Rattle.search_commands.specs.Trees.{tree_hits, tree_of}
+use Rattle.shell_state.specs.Lines.{game_line}
+use Rattle.shell_state.specs.Slots.{Slot, exactly, exactly_on, slot_at}
+use Rattle.shell_state.specs.Slots.Slot.{empty, idle, shows}
+use Rattle.shell_state.specs.State.{State}
+use Rattle.shell_state.specs.Work.{Work, quiet, reading}
+use Rattle.tree_live.specs.RowChanges.{rows_changed}
+use Rattle.tree_live.specs.Slots.{in_slot}
+use Rattle.tree_live.specs.Views.{Shows}
+use Rattle.tree_rows.specs.Rows.{rows_of}
+use Rattle.tree_rows.specs.declared.hit.GameHit.{GameHit}
+use Rattle.tree_rows.specs.declared.row.Row.{Row}
+
+-- The state with another slot of a number.
+abbrev pub with_slot : State → ℕ → Slot → State
+with_slot s k slot = record s { slots = slice_set s.slots k slot }
+
+abbrev pub no_view_line : ℕ → List ℕ
+no_view_line k = game_line (codes "error: no view ") k
+
+-- watch K BOARD SIDE: a slot that has a view shows the tree of this position from now on.
+abbrev pub showing : Packed → Slot → Slot
+showing board empty = empty
+showing board idle = shows board
+showing board (shows other) = shows board
+
+abbrev pub watch_line : ℕ → Slot → List ℕ
+watch_line k empty = no_view_line k
+watch_line k idle = game_line (codes "watching ") k
+watch_line k (shows other) = game_line (codes "watching ") k
+
+abbrev pub watch_work : ℕ → Men → Colour → Work
+watch_work k board side = reading (λ s. with_slot s k (showing (packed_of board side) (slot_at s.slots k))) (λ s. watch_line k (slot_at s.slots k)) (position_len Ignore (exactly board side))
+
+-- view K: the text of the tree that a slot shows, over the games that are in.
+abbrev pub view_text : State → ℕ → Slot → List ℕ
+view_text s k empty = no_view_line k
+view_text s k idle = no_view_line k
+view_text s k (shows board) = tree_of (exactly_on board) s.seat.filter s.shared.base.games
+
+abbrev pub view_work : ℕ → Work
+view_work k = quiet (λ s. s) (λ s. view_text s k (slot_at s.slots k))
+
+-- unwatch K: a slot that shows a tree loses its view.
+abbrev pub left : Slot → Slot
+left empty = empty
+left idle = idle
+left (shows board) = empty
+
+abbrev pub unwatch_line : ℕ → Slot → List ℕ
+unwatch_line k empty = no_view_line k
+unwatch_line k idle = no_view_line k
+unwatch_line k (shows board) = game_line (codes "unwatched ") k
+
+abbrev pub unwatch_work : ℕ → Work
+unwatch_work k = quiet (λ s. with_slot s k (left (slot_at s.slots k))) (λ s. unwatch_line k (slot_at s.slots k))
+
+-- ---- views beside a state
+
+-- The hits that the tree of a board counts in a state.
+abbrev pub shown_hits : State → Packed → List GameHit
+shown_hits s board = tree_hits (exactly_on board) s.seat.filter s.shared.base.games
+
+-- A view is right beside a state: there is none in an empty slot, one in an idle slot, and in one that shows a tree one with its rows.
+abbrev pub IsRight : {B : Type 0} → (B → List Row) → State → Slot → Option B → Type 0
+IsRight rows s empty view = view ≡ None
+IsRight rows s idle view = IsSome view
+IsRight rows s (shows board) None = ⊥
+IsRight rows s (shows board) (Some view) = Shows (shown_hits s board) (rows view)
+
+-- So is each.
+abbrev pub AreRight : {B : Type 0} → (B → List Row) → State → List (Option B) → Type 0
+AreRight rows s views = (k : ℕ) → IsRight rows s (slot_at s.slots k) (in_slot views k)
+
+-- Whether a slot shows a tree, and the hits that its tree counts in a state.
+abbrev pub is_shown : Slot → Bool
+is_shown empty = false
+is_shown idle = false
+is_shown (shows board) = true
+
+abbrev pub slot_hits : State → Slot → List GameHit
+slot_hits s empty = []
+slot_hits s idle = []
+slot_hits s (shows board) = shown_hits s board
+
+-- How many rows of the tree that a slot shows differ between two states.
+abbrev pub changes_of : State → State → Slot → ℕ
+changes_of s later empty = 0
+changes_of s later idle = 0
+changes_of s later (shows board) = rows_changed (rows_of (shown_hits s board)) (rows_of (shown_hits later board))
+
+-- A view that stays was told no more than so many changes; there is none where there was none.
+abbrev pub IsToldAtMost : {B : Type 0} → (B → ℕ) → ℕ → Option B → Option B → Type 0
+IsToldAtMost told most None after = after ≡ None
+IsToldAtMost told most (Some before) None = Unit {0}
+IsToldAtMost told most (Some before) (Some after) = told after ≤ told before + most
+
+abbrev pub AreToldAtMost : {B : Type 0} → (B → ℕ) → (ℕ → ℕ) → List (Option B) → List (Option B) → Type 0
+AreToldAtMost told most before after = (k : ℕ) → IsToldAtMost told (most k) (in_slot before k) (in_slot after k)
+
+-- Every view but those of some slots is as before.
+abbrev pub AreLeft : {B : Type 0} → (ℕ → Bool) → List (Option B) → List (Option B) → Type 0
+AreLeft touched before after = (k : ℕ) → touched k ≡ false → in_slot after k ≡ in_slot before k

@@ -1,0 +1,10 @@
+//! The commands on the slots that show trees, and the one call that brings their views up to date.
+#![tactic(auto)]
+
+mod showing;
+mod viewing;
+mod watching;
+
+pub use showing::show;
+pub use viewing::{unwatch, view};
+pub use watching::watch;
