@@ -5,8 +5,9 @@ named and that nothing is lost.
 usage: cases/spoiled.py [PROGRAM [PART ..]]
 
 Every byte of two small bases is changed to three values, and every file of theirs is cut at each length. Disks are full, files may not grow, a
-folder can't be written, a file vanishes between two commands; scripts have 1 GiB, a base a million games, and memory has a limit. Parts that
-look at a clock run where they are named: whether what is refused is refused in time that grows no faster than its bytes (bench/refusals/run).
+folder can't be written, a file vanishes between two commands; scripts have 1 GiB, a base a million games, and memory has a limit, or is refused
+once, at each place in turn. Parts that look at a clock run where they are named: whether what is refused is refused in time that grows no faster
+than its bytes (bench/refusals/run).
 """
 import itertools
 import os
@@ -39,10 +40,11 @@ NOWHERE = "7k/8/8/8/8/8/8/KQ6 w"
 READING = (
     f"info\nlist\nfind {START}\ntree {START}\nsearch ignore position exact {NOWHERE} vars\nsearch ignore material wq=5..5\n"
     "search ignore header year=1..2047\nreset\nhits\nshow 0\nexport\ncross ?\nindex 3\n"
-    f"find {START}\ntree {START}\ninfo\nquit\n"
+    f"find {START}\ntree {START}\nwatch 0 {START}\nnegate\nview 0\nunwatch 0\ninfo\nquit\n"
 )
 
 VIENNA = (made.index([made.VIENNA]), made.VIENNA_NAMES, made.VIENNA_RECORD)
+PAWNS = (made.index(made.PAWNS), made.PAWNS_NAMES, made.PAWNS_RECORDS)
 
 
 def base_of(games, names):
@@ -151,7 +153,7 @@ LONG = "x" * 9_000
 # What changes the files, and the answer that tells that it was done.
 CHANGES = [
     ("tag 0 White C\nsave\n", "saved 5 games"),
-    ("delete 1\ncompact\n", "compacted 5 to 3"),
+    (f"index 2\nwatch 0 {START}\ndelete 1\ncompact\n", "compacted 5 to 3"),
     (f"import <<END\n1. e4 {{{LONG}}} *\nEND\nsave\n", "saved 6 games"),
     ("demo 1 100\nsave\n", "saved 105 games"),
 ]
@@ -360,7 +362,7 @@ def a_million_games(folder):
     part of the whole text, and the base is that of the last save or compaction."""
     base, count = str(Path(folder, "base")), 1_000_000
     files = of_many(count, made.game(made.E4), plies=1, home=(11,))
-    script = f"find {NOWHERE}\nreset\ntwins 2\nsave\nindex 2\nundelete 5\nsave\ncompact\ninfo\n"
+    script = f"find {NOWHERE}\nreset\ntwins 2\nsave\nindex 2\nwatch 0 {START}\nundelete 5\nsave\ncompact\nview 0\ninfo\n"
     counts = [(count, 0), (count, count - 1), (count, count - 2), (2, 0)]
     told = [f"games {games} deleted {deleted} players 2 events 1 sites 1 rounds 1 unsaved no index off" for games, deleted in counts]
     whole, statuses = None, []
@@ -381,6 +383,107 @@ def a_million_games(folder):
     reached = sorted({saved for status, saved in statuses if status == MEMORY})
     assert len(reached) > 1, statuses
     return f"{sum(status == MEMORY for status, _ in statuses)} of {len(statuses)} runs out of memory, with {reached} of 3 saves done"
+
+
+# Memory that is refused once
+
+# A growth is an allocation, or one that becomes longer. The one of this number is refused, and a file made that says so.
+REFUSING = """
+#include <errno.h>
+#include <fcntl.h>
+#include <stddef.h>
+#include <stdlib.h>
+#include <unistd.h>
+
+void *__libc_malloc(size_t);
+void *__libc_realloc(void *, size_t);
+
+static int refused(void) {
+    static long left = -1;
+    if (left < 0)
+        left = atol(getenv("GROWTH"));
+    if (left == 0 || --left)
+        return 0;
+    close(creat(getenv("REFUSED"), 0600));
+    errno = ENOMEM;
+    return 1;
+}
+
+void *malloc(size_t size) { return refused() ? NULL : __libc_malloc(size); }
+void *realloc(void *old, size_t size) { return refused() ? NULL : __libc_realloc(old, size); }
+"""
+# The files before, the words, and a script: a game that comes in, one that takes the place of another, edits that a slot and an index follow.
+GROWING = [
+    (None, ["--create"], (TOP / "cases/import_vienna/script").read_text()),
+    (VIENNA, [], f"replace 0 <<X\n1. d4 *\nX\nfind {START}\nreplace 0 <<X\nX\ninfo\ncompact\ninfo\n"),
+    (PAWNS, [], f"watch 0 {START}\ntag 0 WhiteElo 2600\nsearch and header result=1-0\ndelete 0\ncompact\nview 0\nunwatch 0\nview 0\n"),
+    (SHOWN, [], f"index 2\nwatch 0 {START}\nkeep a\nimport <<X\n1. d4 *\nX\nsave\ntag 1 White C\nshow 0\nuse a\nlist\ntree {START}\nview 0\n"),
+]
+
+
+def each_growth_refused(folder):
+    """Each growth of the program's memory is refused once, until none is: the run is out of memory, with a front part of the whole text, or is
+    done where it asked again; and the base is that of the last save or compaction, or of the one that was at work."""
+    compiler = shutil.which("cc")
+    if not compiler:
+        return "left out: there is no C compiler"
+    refusing, source = str(Path(folder, "refusing.so")), Path(folder, "refusing.c")
+    source.write_text(REFUSING)
+    subprocess.run([compiler, "-shared", "-fPIC", "-O1", "-o", refusing, str(source)], check=True)
+    statuses = Counter()
+    with ThreadPoolExecutor(AT_ONCE) as pool:
+        for number, (files, words, script) in enumerate(GROWING):
+            room = Path(folder, str(number))
+            room.mkdir()
+            whole, saved = saved_bases(str(room / "base"), files, words, script)
+            for first in itertools.count(1, AT_ONCE):
+                tried = range(first, first + AT_ONCE)
+                ended = [*pool.map(lambda growth: refuse(room / str(growth), files, words, script, whole, saved, refusing, growth), tried)]
+                statuses.update(status for status in ended if status is not None)
+                if None in ended:
+                    break
+    if not statuses:
+        return "left out: the program does not take its memory from the C library"
+    return f"{statuses[MEMORY]} growths that end a run, {statuses[DONE]} that were asked for again"
+
+
+def saved_bases(base, files, words, script):
+    """The whole text of a script, and as `list` tells them the bases before it and behind each save of it."""
+    lines, saved, text = script.splitlines(keepends=True), [], ""
+    for count in [0, *(number for number, line in enumerate(lines, 1) if line in ("save\n", "compact\n")), len(lines)]:
+        if files:
+            write(base, files)
+        status, text, errors = run(base, "".join(lines[:count]), words)
+        assert (status, errors) == (DONE, ""), (script, status, errors)
+        saved.append(heads(base) if files or count else None)
+        for path in Path(base).parent.iterdir():
+            path.unlink()
+    return text, saved[:-1]
+
+
+def refuse(room, files, words, script, whole, saved, refusing, growth):
+    """How a run ended of which this growth was refused, or none where it has no such growth."""
+    room.mkdir()
+    base, mark = str(room / "base"), room / "refused"
+    if files:
+        write(base, files)
+    status, text, errors = run(base, script, words, env={"LD_PRELOAD": refusing, "GROWTH": str(growth), "REFUSED": str(mark)})
+    where = (script, growth, status, text, errors)
+    assert (status, errors) in ((DONE, ""), (MEMORY, "out of memory\n")), where
+    assert whole.startswith(text) and (status == MEMORY or text == whole), where
+    refused = mark.exists()
+    assert refused or status == DONE, where
+    mark.unlink(missing_ok=True)
+    there = contents(room)
+    assert sorted(there) in ([], sorted(f"base.{ending}" for ending in ENDINGS)), (where, sorted(there))
+    done = len(re.findall("^(?:saved|compacted) ", text, flags=re.M))
+    if there.get("base.si4"):
+        assert heads(base) in saved[done:done + 2], (where, heads(base), saved)
+    else:
+        # A base that was created and not saved is none.
+        assert files is None and done == 0, where
+    shutil.rmtree(room)
+    return status if refused else None
 
 
 # Time
@@ -440,8 +543,8 @@ NESTED = dict(plies=1, home=(11,), counts=(15, 0, 0))
 # Two bases, the second with so many times the bytes of the first or with as many bytes in longer records, and the fault of both.
 FAULTY = [
     ("long names, one of them twice", lambda: long_names(16_384), lambda: long_names(131_072), 8, "a name that stands twice"),
-    ("equal entries of one record", lambda: equal_entries(100_000, made.game(made.E4), plies=1, home=(11,)),
-     lambda: equal_entries(800_000, made.game(made.E4), plies=1, home=(11,)), 8, "no site has its id"),
+    ("equal entries of one record", lambda: equal_entries(2_000_000, made.game(made.E4), plies=1, home=(11,)),
+     lambda: equal_entries(16_000_000, made.game(made.E4), plies=1, home=(11,)), 8, "no site has its id"),
     ("equal entries of the longest record", lambda: equal_entries(150, nags(LONGEST_RECORD), **NAGS),
      lambda: equal_entries(1_200, nags(LONGEST_RECORD), **NAGS), 8, "no site has its id"),
     ("records of NAGs", lambda: records_of_their_own([nags(8_191)] * 1023 + [nags(8_191)[:-1]], **NAGS),
@@ -529,6 +632,7 @@ PARTS = [
     a_file_that_vanishes,
     scripts_of_a_gibibyte,
     a_million_games,
+    each_growth_refused,
 ]
 
 # These look at a clock, and run where they are named alone, as `bench/refusals/run` does.

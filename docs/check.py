@@ -2,8 +2,8 @@
 """docs/check.py: looks whether the documents name what is there.
 
 Each word that a row of docs/CLAIMS.md names as the call or clause of something proved has to be a function, a type, a clause, a definition or
-a field of the repository. docs/TRUSTED.md has to list the files of specs/ that the theorem of the program rests on, and apart from them those
-that other public clauses rest on, as docs/trusted.py finds them."""
+a field of the repository; of the table of answers each clause has to be one of the call's own. docs/TRUSTED.md has to list the files of specs/
+that the theorem of the program rests on, and apart from them those that other public clauses rest on, as docs/trusted.py finds them."""
 import re
 import sys
 
@@ -49,8 +49,53 @@ def unknown_words():
                     yield f"docs/CLAIMS.md:{number}: nothing is named {part}"
 
 
+def clauses_of(crate, call):
+    """The names of the clauses that the functions of this name have in a crate, for those of the type that is named before it."""
+    *kind, name = call.split("::")
+    found = []
+    for path in (TOP / "crates" / crate / "src").rglob("*.rt"):
+        block = ""
+        for part in re.split(r"^(?=(?:pub )?(?:impl|trait)\b)|^(?=\s*(?:pub(?:\(crate\))? )?fn )", path.read_text(), flags=re.M):
+            if head := re.match(r"(?:pub )?(?:impl|trait)\b.*", part):
+                block = head[0]
+            if re.match(rf"\s*(?:pub )?fn {name}\b", part) and (not kind or re.search(rf"\b{kind[0]}\b", block)):
+                found.append(set(re.findall(r"\bensures (\w+)", part)))
+    return found
+
+
+def answers():
+    """The rows of the table of answers: the line's number, the calls with their crate, and the clauses that they name."""
+    here, calls = False, []
+    for number, line in enumerate((TOP / "docs/CLAIMS.md").read_text().splitlines(), 1):
+        here = line == "## Answers and their causes" or here and not line.startswith("## ")
+        cells = [it.strip() for it in line.strip("|").split("|")]
+        if here and len(cells) == 4 and "`" in line:
+            if cells[0]:
+                first, *others = re.findall(r"`([^`]+)`", cells[0])
+                crate, *kind, name = first.split("::")
+                calls = [(crate, "::".join([*kind, it])) for it in (name, *others)]
+            for cell in cells[2:]:
+                outside = re.sub(r"\([^)]*\)", "", cell)
+                yield number, calls, re.findall(r"`(\w+)`", outside), re.findall(r"`(\w+)`", cell)
+
+
+def unknown_answers():
+    there = names_there()
+    for number, calls, clauses, words in answers():
+        for crate, call in calls:
+            found = clauses_of(crate, call)
+            if not found:
+                yield f"docs/CLAIMS.md:{number}: {crate} has no {call}"
+            for clause in clauses:
+                if not any(clause in of for of in found):
+                    yield f"docs/CLAIMS.md:{number}: {call} of {crate} has no clause {clause}"
+        for word in words:
+            if word not in there:
+                yield f"docs/CLAIMS.md:{number}: nothing is named {word}"
+
+
 def main():
-    faults = [*unknown_words(), *trusted.faults()]
+    faults = [*unknown_words(), *unknown_answers(), *trusted.faults()]
     for fault in faults:
         print(fault)
     return 1 if faults else 0

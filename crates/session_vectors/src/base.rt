@@ -75,14 +75,15 @@ pub(crate) fn run_over(
     run_over_views(alloc, files, run, &mut views)
 }
 
-/// The same over one view.
+/// The same over one view, which refuses the put of this number, if of any.
 pub(crate) fn run_over_a_view(
     alloc: Global,
     files: &mut MemFiles,
     run: &Run<'_>,
+    refuse: Option<u64>,
 ) -> Result<(Status, Vec<u8>), AllocError> {
     let mut views: Vec<Option<Box<dyn TreeView>>> = Vec::new(alloc);
-    let view: Box<dyn TreeView> = Box::new(alloc, TableView::new(Vec::new(alloc), None))?;
+    let view: Box<dyn TreeView> = Box::new(alloc, TableView::new(Vec::new(alloc), refuse))?;
     views.push(Some(view))?;
     run_over_views(alloc, files, run, &mut views)
 }

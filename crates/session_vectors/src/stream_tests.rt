@@ -29,7 +29,7 @@ fn ends(
     most: usize,
 ) -> Result<bool, AllocError> {
     let mut files = files_of(alloc, 2, &[])?;
-    let (status, written) = run_over_a_view(alloc, &mut files, run)?;
+    let (status, written) = run_over_a_view(alloc, &mut files, run, None)?;
     Ok(
         status == wanted
             && least <= written.len()
