@@ -134,14 +134,14 @@ price_within plies extents n (suc m) less = elim (cases_eq n (suc m)) [
 ]
 
 -- Bytes that are no record show that the game's record has changed.
-pub changed : (games : Option (List ℕ)) (extents : List Extent) (sigs : List Sig) (i : ℕ) (buffer bytes : List ℕ) (len : ℕ) (extent : Extent) (sig : Sig)
-    → extent ≡ extent_in extents i → len ≡ (extent_in extents i).len → bytes ≡ take extent.len buffer
+pub changed : (games : Option (List ℕ)) (extents : List Extent) (sigs : List Sig) (i : ℕ) (buffer bytes : List ℕ) (len : ℕ) (sig : Sig)
+    → len ≡ (extent_in extents i).len → bytes ≡ take len buffer
     → Tells (record_told games (extent_in extents i)) (take len buffer) → slice_get sigs i ≡ Some sig → (IsSomeRecord bytes → ⊥)
     → HasChanged sigs extents games buffer i sig None
-changed games extents sigs i buffer bytes len extent sig there has front tells kept none = record {
+changed games extents sigs i buffer bytes len sig has front tells kept none = record {
   is_kept = kept;
   is_told = subst (λ (n : ℕ). Tells (record_told games (extent_in extents i)) (take n buffer)) has tells;
-  is_shown = λ is. none (subst IsSomeRecord (sym (front ∙ ap (λ (x : Extent). take x.len buffer) there)) is);
+  is_shown = λ is. none (subst IsSomeRecord (sym (front ∙ ap (λ (n : ℕ). take n buffer) has)) is);
   is_other = λ e. absurd (cc);
 }
 

@@ -57,7 +57,7 @@ impl Book {
     /// The pages of these boards, the first of which is the start of the book, over the games of a filter: at most 16,777,214 games, and
     /// an entry of the filter for each. The ways that the pages tell are at most so deep.
     ///
-    /// The record of each game of the filter is read, once, and so many bytes count as asked. `buf` has 131,072 bytes.
+    /// The record of each game of the filter is read, once, and so many bytes count as asked. `buf` has at least 131,072 bytes.
     pub fn read<G: Games, F: Files>(
         alloc: Global,
         games: &G,
@@ -69,12 +69,11 @@ impl Book {
     ) -> Result<Book, BookError>
         requires games { length filter.now ≡ length (G.sigs games.now) }
         requires few { length filter.now ≤ 16777214 }
-        requires room { length buf.old ≡ 131072 }
+        requires room { 131072 ≤ length buf.old }
         requires within { AreWithin (F.seen files.old).known (G.extents games.now) }
         // Over a games file that is told and holds the records of these games.
         ensures rows { (told : List ℕ) (list : List GameTree) → (F.seen files.old).games ≡ Some told → Holds told (G.extents games.now) (G.sigs games.now) list → IfOk result (λ book. ShowTrees filter.now (G.heads games.now) list book) }
         ensures boards { IfOk result (λ book. book.boards ≡ boards.keys) }
-        ensures room { length buf.new ≡ 131072 }
         ensures unchanged { F.seen files.new ≡ F.seen files.old }
         ensures asks { F.asked files.new ≤ F.asked files.old + price filter.now (G.extents games.now) }
         ensures counts { F.faults files.old ≤ F.faults files.new }
@@ -194,11 +193,10 @@ fn count_games<G: Games, F: Files>(
     requires boards { AreBoards boards.now fewest }
     requires count { length tallies.old ≡ length boards.now.keys }
     requires each { All IsUncounted tallies.old }
-    requires room { length buf.old ≡ 131072 }
+    requires room { 131072 ≤ length buf.old }
     requires within { AreWithin (F.seen files.old).known (G.extents games.now) }
     ensures kept { OnOk result (AreTallies boards.now.keys (length filter.now) tallies.new) }
     ensures counted { (told : List ℕ) (list : List GameTree) → (F.seen files.old).games ≡ Some told → Holds told (G.extents games.now) (G.sigs games.now) list → OnOk result (HaveCounted boards.now.keys filter.now (G.heads games.now) list (length filter.now) tallies.new) }
-    ensures room { length buf.new ≡ 131072 }
     ensures unchanged { F.seen files.new ≡ F.seen files.old }
     ensures asks { F.asked files.new ≤ F.asked files.old + price filter.now (G.extents games.now) }
     ensures counts { F.faults files.old ≤ F.faults files.new }
@@ -243,11 +241,10 @@ fn count_game<G: Games, F: Files>(
     requires few { i ≤ 16777213 }
     requires boards { AreBoards boards.now fewest }
     requires kept { AreTallies boards.now.keys i tallies.old }
-    requires room { length buf.old ≡ 131072 }
+    requires room { 131072 ≤ length buf.old }
     requires within { AreWithin (F.seen files.old).known (G.extents games.now) }
     ensures kept { OnOk result (AreTallies boards.now.keys (i + 1) tallies.new) }
     ensures counted { (told : List ℕ) (list : List GameTree) (game : GameTree) → (F.seen files.old).games ≡ Some told → Holds told (G.extents games.now) (G.sigs games.now) list → slice_get list i ≡ Some game → OnOk result (AreCountedIf boards.now.keys i ply (head_in (G.heads games.now) i) game tallies.old tallies.new) }
-    ensures room { length buf.new ≡ 131072 }
     ensures unchanged { F.seen files.new ≡ F.seen files.old }
     ensures asks { F.asked files.new ≤ F.asked files.old + len_if_in ply (extent_in (G.extents games.now) i).len }
     ensures counts { F.faults files.old ≤ F.faults files.new }
@@ -256,11 +253,10 @@ fn count_game<G: Games, F: Files>(
     let Some(_) = ply else {
         return Ok(());
     };
-    let len = games.extent(i).len as usize;
-    match games.fetch(i, files, buf) {
-        Ok(_) => {}
+    let len = match games.fetch(i, files, buf) {
+        Ok(len) => len,
         Err(error) => return Err(BookError::Fetch(error)),
-    }
+    };
     let game = counted(games, i);
     let read = match count_record(
         alloc,
@@ -270,7 +266,7 @@ fn count_game<G: Games, F: Files>(
         trails,
         depth,
         &game,
-        buf.split_at(len).0,
+        buf.split_at(len as usize).0,
     ) {
         Ok(read) => read,
         Err(_) => return Err(BookError::Memory),

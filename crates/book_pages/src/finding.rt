@@ -31,7 +31,7 @@ pub struct Boards {
 /// The boards that have a page: the start, and each one that as many games of the filter reach as are asked for. Where that would be more
 /// than 20,000, so many games more are asked for that it is not.
 ///
-/// The record of each game of the filter is read, once, and so many bytes count as asked. `buf` has 131,072 bytes.
+/// The record of each game of the filter is read, once, and so many bytes count as asked. `buf` has at least 131,072 bytes.
 pub fn find_boards<G: Games, F: Files>(
     alloc: Global,
     games: &G,
@@ -41,11 +41,10 @@ pub fn find_boards<G: Games, F: Files>(
     buf: &mut [u8],
 ) -> Result<Boards, BookError>
     requires games { length filter.now ≡ length (G.sigs games.now) }
-    requires room { length buf.old ≡ 131072 }
+    requires room { 131072 ≤ length buf.old }
     requires within { AreWithin (F.seen files.old).known (G.extents games.now) }
     ensures start { IfOk result (λ found. slice_get found.boards.keys 0 ≡ Some reach.now.start) }
     ensures few { IfOk result (λ found. length found.boards.keys ≤ 20000) }
-    ensures room { length buf.new ≡ 131072 }
     ensures unchanged { F.seen files.new ≡ F.seen files.old }
     ensures asks { F.asked files.new ≤ F.asked files.old + price filter.now (G.extents games.now) }
     ensures counts { F.faults files.old ≤ F.faults files.new }
@@ -73,9 +72,8 @@ fn meet_game<G: Games, F: Files>(
     buf: &mut [u8],
 ) -> Result<(), BookError>
     requires game { i < length (G.sigs games.now) }
-    requires room { length buf.old ≡ 131072 }
+    requires room { 131072 ≤ length buf.old }
     requires within { AreWithin (F.seen files.old).known (G.extents games.now) }
-    ensures room { length buf.new ≡ 131072 }
     ensures unchanged { F.seen files.new ≡ F.seen files.old }
     ensures asks { F.asked files.new ≤ F.asked files.old + len_if_in ply (extent_in (G.extents games.now) i).len }
     ensures counts { F.faults files.old ≤ F.faults files.new }
@@ -84,12 +82,11 @@ fn meet_game<G: Games, F: Files>(
     let Some(_) = ply else {
         return Ok(());
     };
-    let len = games.extent(i).len as usize;
-    match games.fetch(i, files, buf) {
-        Ok(_) => {}
+    let len = match games.fetch(i, files, buf) {
+        Ok(len) => len,
         Err(error) => return Err(BookError::Fetch(error)),
-    }
-    match meet_record(counts, i, buf.split_at(len).0, reach) {
+    };
+    match meet_record(counts, i, buf.split_at(len as usize).0, reach) {
         Ok(true) => Ok(()),
         Ok(false) => Err(BookError::Fetch(FetchError::Changed {
             game: i,

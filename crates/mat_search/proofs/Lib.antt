@@ -4,5 +4,5 @@ pub mod ComingLemmas
 pub mod PassLemmas
 pub mod WalkLemmas
 pub mod ReadLemmas
-pub mod SearchLemmas
+mod PriceLemmas
 pub mod FirstLemmas

@@ -25,12 +25,11 @@ pub(crate) fn read_places<G: Games, F: Files>(
     buf: &mut [u8],
 ) -> Result<Places, BuildError>
     requires depth { depth ≤ 40 }
-    requires room { length buf.old ≡ 131072 }
+    requires room { 131072 ≤ length buf.old }
     requires within { AreWithin (F.seen files.old).known (G.extents games.now) }
     ensures games { IfOk result (λ places. length places ≡ length (G.sigs games.now)) }
     ensures short { IfOk result (λ places. All (IsRow (depth + 1)) places) }
     ensures read { (told : List ℕ) (list : List GameTree) → (F.seen files.old).games ≡ Some told → Holds told (G.extents games.now) (G.sigs games.now) list → IfOk result (λ places. places ≡ map (row_of depth) (map Some list)) }
-    ensures room { length buf.new ≡ 131072 }
     ensures unchanged { F.seen files.new ≡ F.seen files.old }
     ensures asks { F.asked files.new ≤ F.asked files.old + price (G.extents games.now) }
     ensures counts { F.faults files.old ≤ F.faults files.new }
@@ -59,22 +58,20 @@ fn read_game<G: Games, F: Files>(
     requires depth { depth ≤ 40 }
     requires game { i < length (G.sigs games.now) }
     requires last { i ≡ length places.old }
-    requires room { length buf.old ≡ 131072 }
+    requires room { 131072 ≤ length buf.old }
     requires within { AreWithin (F.seen files.old).known (G.extents games.now) }
     ensures short { OnOk result (AddsRow (depth + 1) places.old places.new) }
     ensures read { (told : List ℕ) (list : List GameTree) (game : GameTree) → (F.seen files.old).games ≡ Some told → Holds told (G.extents games.now) (G.sigs games.now) list → slice_get list i ≡ Some game → OnOk result (places.new ≡ places.old ++ places_of depth game ∷ []) }
-    ensures room { length buf.new ≡ 131072 }
     ensures unchanged { F.seen files.new ≡ F.seen files.old }
     ensures asks { F.asked files.new ≤ F.asked files.old + (extent_in (G.extents games.now) i).len }
     ensures counts { F.faults files.old ≤ F.faults files.new }
     ensures cause { IfErr result (λ e. HasBuildCause e (G.sigs games.now) (G.extents games.now) (F.seen files.old).games buf.new (F.faults files.old) (F.faults files.new)) }
 {
-    let len = games.extent(i).len as usize;
-    match games.fetch(i, files, buf) {
-        Ok(_) => {}
+    let len = match games.fetch(i, files, buf) {
+        Ok(len) => len,
         Err(error) => return Err(BuildError::Fetch(error)),
-    }
-    match add_record(alloc, places, i, buf.split_at(len).0, depth) {
+    };
+    match add_record(alloc, places, i, buf.split_at(len as usize).0, depth) {
         Ok(true) => Ok(()),
         Ok(false) => Err(BuildError::Fetch(FetchError::Changed {
             game: i,

@@ -48,7 +48,7 @@ impl PosIndex {
     ghost use Rattle.pos_index.specs.Hits.{Fits, Indexes, IsFrom, entries_of, first_on, hits_from, hits_of, places_in, places_of};
 
     /// The index of the games of a base, up to a depth of at most 40: their records are read, each once, and so many bytes count as asked.
-    /// `buf` has 131,072 bytes.
+    /// `buf` has at least 131,072 bytes.
     pub fn build<G: Games, F: Files>(
         alloc: Global,
         games: &G,
@@ -58,13 +58,12 @@ impl PosIndex {
     ) -> Result<PosIndex, BuildError>
         requires depth { depth ≤ 40 }
         requires fits { Fits depth (length (G.sigs games.now)) }
-        requires room { length buf.old ≡ 131072 }
+        requires room { 131072 ≤ length buf.old }
         requires within { AreWithin (F.seen files.old).known (G.extents games.now) }
         ensures depth { IfOk result (λ index. index.depth ≡ depth) }
         ensures games { IfOk result (λ index. length index.rows ≡ length (G.sigs games.now)) }
         // Over a games file that is told and holds the records of these games.
         ensures indexed { (told : List ℕ) (list : List GameTree) → (F.seen files.old).games ≡ Some told → Holds told (G.extents games.now) (G.sigs games.now) list → IfOk result (λ index. Indexes index (map Some list)) }
-        ensures room { length buf.new ≡ 131072 }
         ensures unchanged { F.seen files.new ≡ F.seen files.old }
         ensures asks { F.asked files.new ≤ F.asked files.old + price (G.extents games.now) }
         ensures counts { F.faults files.old ≤ F.faults files.new }

@@ -6,4 +6,5 @@ pub mod SearchLemmas
 pub mod FirstLemmas
 pub mod AsideLemmas
 pub mod TellingLemmas
+mod AskingLemmas
 pub mod InMemoryLemmas

@@ -1,6 +1,6 @@
 -- What the places that an index has of a game tell for a query.
 use Rattle.std.proofs.Common.{◌≡◌, ℕ, zero, suc, ◌+◌, ◌≤◌, Bool, true, false, cond, ◌&&◌, List, [], ◌∷◌, Option, None, Some, length, map, min, refl, sym, ap, ◌∙◌, subst, arith, inl, inr}
-use Rattle.std.specs.Prelude.{IfSome, is_none, option_map, slice_get}
+use Rattle.std.specs.Prelude.{IfSome, option_map, slice_get}
 use Rattle.std.specs.List.{find, range_with_len}
 use Rattle.std.specs.Option.{option_or}
 use Rattle.std.proofs.lemmas.Bool.{and_from, and_parts, both_ways, cases_Bool}
@@ -9,14 +9,12 @@ use Rattle.cell_core.specs.declared.step.Move.{Move}
 use Rattle.cell_core.specs.Packed.{Packed, cells_of, men_of, packed_of}
 use Rattle.cell_core.proofs.Packing.{given_back}
 use Rattle.chess_laws.specs.Position.{Sound}
-use Rattle.chess_laws.specs.Step.{Legal}
 use Rattle.chess_laws.specs.declared.setup.Setup.{Setup}
 use Rattle.chess_laws.proofs.MovedKings.{Sound-after}
 use Rattle.game_tree.specs.Game.{GameTree}
 use Rattle.game_tree.specs.Legal.{IsLegalGame}
 use Rattle.game_tree.specs.Replay.{next_at, plies_of, position_at}
-use Rattle.pos_index.specs.Hits.{Index, IndexesAll, Place, first_on, hits_from, place_at, places_in, places_of, ply_and_next, row_of, rows_told, same_packed}
-use Rattle.pos_index.specs.Hits.{IsFrom as IsFromBoard}
+use Rattle.pos_index.specs.Hits.{Index, IndexesAll, IsFrom, Place, first_on, hits_from, place_at, places_in, places_of, ply_and_next, row_of, rows_told, same_packed}
 use Rattle.pos_index.specs.declared.hit.Hit.{Hit}
 use Rattle.pos_index.proofs.KeyLemmas.{same_packed-Decides}
 use Rattle.sig_index.specs.Games.{Holds}
@@ -28,12 +26,11 @@ use Rattle.base_files.specs.declared.extent.Extent.{Extent}
 use Rattle.sig_index.proofs.PrefixLemmas.{moves_at}
 use Rattle.sig_index.proofs.Ranges.{find_first, found_first}
 use Rattle.sig_index.proofs.RecordLemmas.{game_legal, game_sound}
-use Rattle.pos_search.specs.Matching.{IsFrom, IsLegalFrom, first_if_aside, first_of, first_on_main, hit_aside, hit_of, hit_on_main, matches, matches_at}
-use Rattle.pos_search.specs.Searching.{are_read, hit_told, is_exact, is_read, is_told, ply_of}
+use Rattle.pos_search.specs.Matching.{IsLegalFrom, first_if_aside, first_on_main, hit_aside, hit_of, hit_on_main, matches, matches_at}
+use Rattle.pos_search.specs.Searching.{are_read, hit_told, is_exact, is_read, is_told}
 use Rattle.pos_search.specs.Telling.{TellsHit, hits_told}
 use Rattle.pos_search.proofs.FirstLemmas.{matches_from}
 use Rattle.pos_search.proofs.MatchLemmas.{matched}
-use Rattle.pos_search.proofs.SearchLemmas.{ply_by}
 
 -- ---- one place
 
@@ -224,35 +221,20 @@ first_hit query rows hits i first is firsts = elim (cases_Bool (is_exact query.m
 
 -- ---- the move after a match
 
-legal_move : (query : PosQuery) (next : Option Move) (m : Move) → length query.board ≡ 64 → next ≡ Some m → IfSome next (IsFromBoard (packed_of query.board query.side))
-    → IsFrom query m
-legal_move query None m board is from = absurd (cc)
-legal_move query (Some n) m board is from =
+legal_move : (board : Packed) (next : Option Move) (m : Move) → next ≡ Some m → IfSome next (IsFrom board) → IsFrom board m
+legal_move board None m is from = absurd (cc)
+legal_move board (Some n) m is from =
     let same : n ≡ m = cc in
-    let back : men_of (cells_of from.position.board) ≡ from.position.board = given_back from.position.board from.sound.squares in
-    record {
-      position = from.position;
-      sound = from.sound;
-      board = sym back ∙ ap (λ (k : Packed). men_of k.cells) from.stands ∙ given_back query.board board;
-      side = ap (λ (k : Packed). k.side) from.stands;
-      legal = subst (λ (k : Move). Legal from.position k) same from.legal;
-    }
+    subst (IsFrom board) same from
 
-pub legal_first : (query : PosQuery) (hit : Option (ℕ × Option Move)) → length query.board ≡ 64
-    → IfSome hit (λ first. IfSome first.1 (IsFromBoard (packed_of query.board query.side))) → IsLegalFrom query hit
-legal_first query None long from ply m exact same = absurd (cc)
-legal_first query (Some hit) long from ply m exact same =
+pub legal_first : (query : PosQuery) (hit : Option (ℕ × Option Move)) → IfSome hit (λ first. IfSome first.1 (IsFrom (packed_of query.board query.side)))
+    → IsLegalFrom query hit
+legal_first query None from ply m exact same = absurd (cc)
+legal_first query (Some hit) from ply m exact same =
     let pair : hit ≡ (ply, Some m) = cc in
-    legal_move query hit.1 m long (ap (λ (h : ℕ × Option Move). h.1) pair) from
+    legal_move (packed_of query.board query.side) hit.1 m (ap (λ (h : ℕ × Option Move). h.1) pair) from
 
 -- ---- the price
-
-none_ply : (hit : Option (ℕ × Option Move)) → is_none (ply_of hit) ≡ is_none hit
-none_ply None = refl
-none_ply (Some hit) = refl
-
-pub known_is : (known : Option ℕ) (query : PosQuery) (places : List Place) → known ≡ ply_of (hit_told query places) → is_none known ≡ is_none (hit_told query places)
-known_is known query places is = ap is_none is ∙ none_ply (hit_told query places)
 
 pub read_at : (query : PosQuery) (rows : List (List Place)) (sigs : List Sig) (i : ℕ) (sig : Sig) → slice_get sigs i ≡ Some sig
     → slice_get (are_read query rows sigs) i ≡ Some (is_read query (places_in rows i) sig)
@@ -261,15 +243,3 @@ read_at query [] (s ∷ sigs) zero sig there = ap (λ (z : Sig). Some (is_read q
 read_at query [] (s ∷ sigs) (suc i) sig there = read_at query [] sigs i sig there
 read_at query (row ∷ rows) (s ∷ sigs) zero sig there = ap (λ (z : Sig). Some (is_read query row z)) (let same : s ≡ sig = cc in same)
 read_at query (row ∷ rows) (s ∷ sigs) (suc i) sig there = read_at query rows sigs i sig there
-
--- A ply that is told is the first.
-told_some : (hit : Option (ℕ × Option Move)) (first : Option ℕ) → ((h : ℕ × Option Move) → hit ≡ Some h → first ≡ ply_of (Some h)) → IfSome (ply_of hit) (λ (ply : ℕ). Some ply ≡ first)
-told_some None first right = tt
-told_some (Some h) first right = sym (right h refl)
-
-pub known_first : (known : Option ℕ) (query : PosQuery) (places : List Place) (game : GameTree) → known ≡ ply_of (hit_told query places) → TellsHit query places game
-    → IfSome known (λ (ply : ℕ). Some ply ≡ first_of query game)
-known_first known query places game is tells =
-    subst (λ (k : Option ℕ). IfSome k (λ (ply : ℕ). Some ply ≡ first_of query game)) (sym is)
-    (told_some (hit_told query places) (first_of query game)
-    (λ h says. sym (ply_by (first_on_main query game) (first_if_aside query game) (next_at game)) ∙ ap ply_of (tells h says)))

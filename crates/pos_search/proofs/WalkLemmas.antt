@@ -3,6 +3,7 @@ use Rattle.std.proofs.Common.{◌≡◌, ℕ, ◌+◌, ◌<◌, ◌≤◌, true,
 use Rattle.std.specs.Prelude.{option_map}
 use Rattle.std.proofs.lemmas.Bool.{cases_eq, cases_lt}
 use Rattle.cell_core.specs.declared.step.Move.{Move}
+use Rattle.cell_core.specs.Packed.{packed_of}
 use Rattle.chess_laws.specs.Position.{Sound}
 use Rattle.chess_laws.specs.Step.{Step}
 use Rattle.chess_laws.specs.declared.setup.Setup.{Setup}
@@ -75,7 +76,7 @@ legal_hit query p q ply next sound holds steps k m exact same =
     let pair : (ply, next) ≡ (k, Some m) = cc in
     let is : next ≡ Some m = ap (λ (t : ℕ × Option Move). t.1) pair in
     let found = matched query p holds in
-    record { position = p; sound = sound; board = found.exact exact; side = found.side; legal = (q, steps m is) }
+    record { position = p; sound = sound; stands = λ j. packed_of (found.exact exact j) (found.side j); legal = (q, steps m is) }
 
 -- No match has no move.
 pub legal_none : (query : PosQuery) → IsLegalFrom query None

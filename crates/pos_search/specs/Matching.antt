@@ -10,14 +10,14 @@ use Rattle.cell_core.specs.declared.man.Man.{Man}
 use Rattle.cell_core.specs.declared.step.Move.{Move}
 use Rattle.cell_core.specs.Board.{Men, man_at, same_men}
 use Rattle.cell_core.specs.Man.{is_man, same_colour, same_kind}
+use Rattle.cell_core.specs.Packed.{packed_of}
 use Rattle.chess_laws.specs.Counts.{counts_of}
 use Rattle.chess_laws.specs.Geometry.{square}
-use Rattle.chess_laws.specs.Position.{Sound}
-use Rattle.chess_laws.specs.Step.{Legal}
 use Rattle.chess_laws.specs.declared.setup.Setup.{Setup}
 use Rattle.game_codec.specs.Visits.{places}
 use Rattle.game_tree.specs.Game.{GameTree}
 use Rattle.game_tree.specs.Replay.{next_at, plies_of, position_at}
+use Rattle.pos_index.specs.Hits.{IsFrom}
 use Rattle.sig_index.specs.declared.pos_query.Mode.{Mode}
 use Rattle.sig_index.specs.declared.pos_query.Mode.TheVariants.{Exact, Pawns, Files, Material}
 use Rattle.sig_index.specs.declared.pos_query.PosQuery.{PosQuery}
@@ -124,14 +124,6 @@ hit_of query game = option_or (hit_on_main query game) (option_map hit_aside (fi
 abbrev pub firsts_of : PosQuery → List GameTree → List (Option ℕ)
 firsts_of query games = map (first_of query) games
 
--- A move is legal from some position with the board and the side of a query.
-pub record IsFrom (query : PosQuery) (m : Move) : Type 0 where
-  pub position : Setup
-  pub sound : Sound position
-  pub board : position.board ≡ query.board
-  pub side : position.side ≡ query.side
-  pub legal : Legal position m
-
--- The move after a match of an exact search is one.
+-- The move after a match of an exact search is legal in some position that keeps the rules, with the query's board and side to move.
 abbrev pub IsLegalFrom : PosQuery → Option (ℕ × Option Move) → Type 0
-IsLegalFrom query hit = (ply : ℕ) (m : Move) → query.mode ≡ Exact → hit ≡ Some (ply, Some m) → IsFrom query m
+IsLegalFrom query hit = (ply : ℕ) (m : Move) → query.mode ≡ Exact → hit ≡ Some (ply, Some m) → IsFrom (packed_of query.board query.side) m

@@ -1,11 +1,8 @@
--- What an index tells of games, and what a search of all games asks of the games file (this project's own).
-use Rattle.std.specs.Prelude.{ℕ, ◌&&◌, if◌then◌else◌, is_none, Bool, true, false, List, [], ◌∷◌, Option, option_map}
+-- What an index tells of games, and which of them a search of all games has to read (this project's own).
+use Rattle.std.specs.Prelude.{ℕ, ◌&&◌, is_none, Bool, true, false, List, [], ◌∷◌, Option, option_map}
 use Rattle.std.specs.List.{find}
-use Rattle.base_files.specs.declared.extent.Extent.{Extent}
 use Rattle.cell_core.specs.Packed.{packed_of}
 use Rattle.cell_core.specs.declared.step.Move.{Move}
-use Rattle.game_filter.specs.Search.{looks_at}
-use Rattle.game_filter.specs.declared.op.Op.{Op}
 use Rattle.pos_index.specs.Hits.{Place, ply_and_next, same_packed}
 use Rattle.sig_index.specs.declared.pos_query.Mode.{Mode}
 use Rattle.sig_index.specs.declared.pos_query.Mode.TheVariants.{Exact, Pawns, Files, Material}
@@ -41,8 +38,3 @@ abbrev pub are_read : PosQuery → List (List Place) → List Sig → List Bool
 are_read query rows [] = []
 are_read query [] (sig ∷ sigs) = is_read query [] sig ∷ are_read query [] sigs
 are_read query (row ∷ rows) (sig ∷ sigs) = is_read query row sig ∷ are_read query rows sigs
-
--- The bytes that one game costs, which has to be read or not, and has this entry in the filter: the length of its record, if it is looked
--- at and has to be read.
-abbrev pub cost_of : Op → Bool → Extent → Option ℕ → ℕ
-cost_of op read extent old = if looks_at op old && read then extent.len else 0

@@ -1,6 +1,7 @@
 //! Search of games by a position: games that an index decides or whose signatures cannot match are not read, and no memory is taken.
 #![tactic(auto)]
 
+mod asking;
 mod boards;
 mod in_memory;
 mod laws;

@@ -1,19 +1,20 @@
 //! The search of all games.
-ghost use Rattle.std.specs.Prelude.{◌≡◌, ◌≤◌, ◌<◌, ◌+◌, ◌&&◌, ℕ, false, is_none, if◌then◌else◌, List, Option, None, Some, length, option_copied, slice_get, slice_index_or, slice_set, take, IfOk, IfErr, IfSome, OnOk, OnErr};
+ghost use Rattle.std.specs.Prelude.{◌≡◌, ◌≤◌, ◌<◌, ◌+◌, ℕ, false, if◌then◌else◌, List, Option, None, Some, length, option_copied, slice_get, slice_index_or, take, IfOk, IfErr, OnOk};
 ghost use Rattle.game_filter.specs.Search.{entry_after, looks_at, searched};
 ghost use Rattle.game_tree.specs.Game.{GameTree};
 ghost use Rattle.pos_index.specs.Hits.{Index, IndexesAll, Place, places_in, rows_told};
 ghost use Rattle.sig_index.specs.Costs.{EndsAt, KeepsOthers, LeavesRest, price_by};
 ghost use Rattle.sig_index.specs.Games.{AreWithin, HasFetchCause, Holds, Names, extent_in};
 ghost use Rattle.sig_index.specs.declared.signature.Sig.{Sig};
-ghost use Rattle.pos_search.specs.Matching.{first_of, firsts_of, hit_of, IsLegalFrom};
-ghost use Rattle.pos_search.specs.Passing.{passes};
-ghost use Rattle.pos_search.specs.Searching.{are_read, cost_of, is_read};
-ghost use Rattle.pos_search.specs.Telling.{AreLegalHits, TellsHit, hits_told};
+ghost use Rattle.pos_search.specs.Matching.{firsts_of, hit_of, IsLegalFrom};
+ghost use Rattle.game_search.specs.Questions.{cost_of};
+ghost use Rattle.pos_search.specs.Searching.{are_read, hit_told, is_read, ply_of};
+ghost use Rattle.pos_search.specs.Telling.{AreLegalHits, hits_told};
 
+use crate::asking::Asked;
 use crate::matching::Sought;
-use crate::telling::{hit_told, hits_told, ply_told};
-use crate::walking::{first_sought, ply_sought};
+use crate::telling::{hit_told, hits_told};
+use crate::walking::first_sought;
 use base_files::Files;
 use cell_core::Move;
 use game_filter::{Filter, Op};
@@ -21,8 +22,8 @@ use pos_index::{BoardHits, PosIndex};
 use sig_index::{FetchError, Games, PosQuery};
 
 /// The first ply at which game `i` matches, with the move after it on the main line and none in a variation, or `None` where it never does.
-/// `i` is below the number of games, and `buf` has 131,072 bytes. An index, if there is one, is meant to be one of these games. The game's
-/// record is read if it can match and the index does not decide it, and so many bytes count as asked.
+/// `i` is below the number of games, and `buf` has at least 131,072 bytes. An index, if there is one, is meant to be one of these games. The
+/// game's record is read if it can match and the index does not decide it, and so many bytes count as asked.
 pub fn hit<G: Games, F: Files>(
     games: &G,
     i: u32,
@@ -32,12 +33,11 @@ pub fn hit<G: Games, F: Files>(
     buf: &mut [u8],
 ) -> Result<Option<(u32, Option<Move>)>, FetchError>
     requires game { i < length (G.sigs games.now) }
-    requires room { length buf.old ≡ 131072 }
+    requires room { 131072 ≤ length buf.old }
     requires within { AreWithin (F.seen files.old).known (G.extents games.now) }
     // Over a games file that is told and holds the records of these games, with an index of them or none.
     ensures found { (told : List ℕ) (list : List GameTree) (game : GameTree) → (F.seen files.old).games ≡ Some told → Holds told (G.extents games.now) (G.sigs games.now) list → slice_get list i ≡ Some game → IndexesAll (option_copied index.entry) list → IfOk result (λ hit. hit ≡ hit_of q.now game) }
     ensures legal { IfOk result (λ hit. IsLegalFrom q.now hit) }
-    ensures room { length buf.new ≡ 131072 }
     ensures unchanged { F.seen files.new ≡ F.seen files.old }
     ensures asks { (sig : Sig) → slice_get (G.sigs games.now) i ≡ Some sig → F.asked files.new ≤ F.asked files.old + (if is_read q.now (places_in (rows_told (option_copied index.entry)) i) sig then (extent_in (G.extents games.now) i).len else 0) }
     ensures counts { F.faults files.old ≤ F.faults files.new }
@@ -54,9 +54,10 @@ pub fn hit<G: Games, F: Files>(
     )
 }
 
-/// Leaves in the filter what its entries become by a search of a position. The filter has one entry per game, and `buf` has 131,072 bytes.
-/// An index, if there is one, is meant to be one of these games. A game is read where `op` looks at it, it can match and the index does not decide it,
-/// and so many bytes count as asked. After an error the games before the refused one have their new entries, and the others the old.
+/// Leaves in the filter what its entries become by a search of a position. The filter has one entry per game, and `buf` has at least
+/// 131,072 bytes. An index, if there is one, is meant to be one of these games. A game is read where `op` looks at it, it can match and the
+/// index does not decide it, and so many bytes count as asked. After an error the games before the refused one have their new entries, and
+/// the others the old.
 pub fn search<G: Games, F: Files>(
     games: &G,
     q: &PosQuery,
@@ -67,7 +68,7 @@ pub fn search<G: Games, F: Files>(
     buf: &mut [u8],
 ) -> Result<(), FetchError>
     requires games { length filter.old ≡ length (G.sigs games.now) }
-    requires room { length buf.old ≡ 131072 }
+    requires room { 131072 ≤ length buf.old }
     requires within { AreWithin (F.seen files.old).known (G.extents games.now) }
     // Over a games file that is told and holds the records of these games, with an index of them or none.
     ensures found { (told : List ℕ) (list : List GameTree) → (F.seen files.old).games ≡ Some told → Holds told (G.extents games.now) (G.sigs games.now) list → IndexesAll (option_copied index.entry) list → OnOk result (filter.new ≡ searched op (firsts_of q.now list) filter.old) }
@@ -75,64 +76,19 @@ pub fn search<G: Games, F: Files>(
     ensures rest { IfErr result (λ e. LeavesRest e filter.old filter.new) }
     // Whatever the files hold and however the search ends, a game that `op` does not look at keeps its entry.
     ensures kept { KeepsOthers (looks_at op) filter.old filter.new }
+    // And a game that is not read has the ply that the index tells of it, or no matching ply where the index tells none.
+    ensures skipped { OnOk result ((i : ℕ) (sig : Sig) → slice_get (G.sigs games.now) i ≡ Some sig → is_read q.now (places_in (rows_told (option_copied index.entry)) i) sig ≡ false → slice_index_or filter.new i None ≡ entry_after op (slice_index_or filter.old i None) (ply_of (hit_told q.now (places_in (rows_told (option_copied index.entry)) i)))) }
     ensures entries { length filter.new ≡ length filter.old }
-    ensures room { length buf.new ≡ 131072 }
     ensures unchanged { F.seen files.new ≡ F.seen files.old }
     ensures asks { F.asked files.new ≤ F.asked files.old + price_by (cost_of op) (are_read q.now (rows_told (option_copied index.entry)) (G.sigs games.now)) (G.extents games.now) filter.old }
     ensures counts { F.faults files.old ≤ F.faults files.new }
     ensures cause { IfErr result (λ e. HasFetchCause e (G.sigs games.now) (G.extents games.now) (F.seen files.old).games buf.new (F.faults files.old) (F.faults files.new)) }
 {
-    let sought = Sought::new(q);
-    let mut told = hits_told(q, index);
-    for i in 0..games.len() {
-        match search_game(games, i, &sought, &mut told, op, filter, files, buf) {
-            Ok(()) => {}
-            Err(error) => return Err(error),
-        }
-    }
-    Ok(())
-}
-
-// Joins the first matching ply of one game.
-fn search_game<G: Games, F: Files>(
-    games: &G,
-    i: u32,
-    q: &Sought<'_>,
-    told: &mut BoardHits<'_>,
-    op: Op,
-    filter: &mut Filter,
-    files: &mut F,
-    buf: &mut [u8],
-) -> Result<(), FetchError>
-    requires game { i < length (G.sigs games.now) }
-    requires games { length filter.old ≡ length (G.sigs games.now) }
-    requires room { length buf.old ≡ 131072 }
-    requires within { AreWithin (F.seen files.old).known (G.extents games.now) }
-    ensures joined { (contents : List ℕ) (list : List GameTree) (game : GameTree) (rows : List (List Place)) → (F.seen files.old).games ≡ Some contents → Holds contents (G.extents games.now) (G.sigs games.now) list → slice_get list i ≡ Some game
-        → told.old ≡ hits_told q.now rows → TellsHit q.now (places_in rows i) game
-        → OnOk result (filter.new ≡ slice_set filter.old i (entry_after op (slice_index_or filter.old i None) (first_of q.now game))) }
-    ensures same { told.new ≡ told.old }
-    ensures entry { OnOk result ((ply : Option ℕ) × (filter.new ≡ slice_set filter.old i ply)) }
-    ensures passed { looks_at op (slice_index_or filter.old i None) ≡ false → filter.new ≡ filter.old }
-    ensures left { OnErr result (filter.new ≡ filter.old) }
-    ensures room { length buf.new ≡ 131072 }
-    ensures unchanged { F.seen files.new ≡ F.seen files.old }
-    ensures asks { (sig : Sig) (rows : List (List Place)) → slice_get (G.sigs games.now) i ≡ Some sig → told.old ≡ hits_told q.now rows → F.asked files.new ≤ F.asked files.old + cost_of op (is_read q.now (places_in rows i) sig) (extent_in (G.extents games.now) i) (slice_index_or filter.old i None) }
-    ensures counts { F.faults files.old ≤ F.faults files.new }
-    ensures cause { IfErr result (λ e. HasFetchCause e (G.sigs games.now) (G.extents games.now) (F.seen files.old).games buf.new (F.faults files.old) (F.faults files.new)) }
-    ensures own { IfErr result (λ e. Names e i) }
-{
-    let old = filter.get(i);
-    if !op.looks_at(old) {
-        return Ok(());
-    }
-    let known = ply_told(told, i);
-    let ply = ply_in(games, i, q, known, files, buf)?;
-    // A game that was out and stays out is not written.
-    if old.is_some() || ply.is_some() {
-        filter.set(i, ply);
-    }
-    Ok(())
+    let mut asked = Asked {
+        sought: Sought::new(q),
+        told: hits_told(q, index),
+    };
+    game_search::search(games, &mut asked, op, filter, files, buf)
 }
 
 /// The same as `hit`, of what is sought, with the hits that an index of these games tells of it, if there is one.
@@ -145,13 +101,12 @@ pub fn hit_sought<G: Games, F: Files>(
     buf: &mut [u8],
 ) -> Result<Option<(u32, Option<Move>)>, FetchError>
     requires game { i < length (G.sigs games.now) }
-    requires room { length buf.old ≡ 131072 }
+    requires room { 131072 ≤ length buf.old }
     requires within { AreWithin (F.seen files.old).known (G.extents games.now) }
     ensures found { (contents : List ℕ) (list : List GameTree) (game : GameTree) (index : Option Index) → (F.seen files.old).games ≡ Some contents → Holds contents (G.extents games.now) (G.sigs games.now) list → slice_get list i ≡ Some game
         → length q.now.board ≡ 64 → told.old ≡ hits_told q.now (rows_told index) → IndexesAll index list → IfOk result (λ hit. hit ≡ hit_of q.now game) }
-    ensures legal { length q.now.board ≡ 64 → AreLegalHits q.now told.old → IfOk result (λ hit. IsLegalFrom q.now hit) }
+    ensures legal { AreLegalHits q.now told.old → IfOk result (λ hit. IsLegalFrom q.now hit) }
     ensures same { told.new ≡ told.old }
-    ensures room { length buf.new ≡ 131072 }
     ensures unchanged { F.seen files.new ≡ F.seen files.old }
     ensures asks { (sig : Sig) (rows : List (List Place)) → slice_get (G.sigs games.now) i ≡ Some sig → told.old ≡ hits_told q.now rows → F.asked files.new ≤ F.asked files.old + (if is_read q.now (places_in rows i) sig then (extent_in (G.extents games.now) i).len else 0) }
     ensures counts { F.faults files.old ≤ F.faults files.new }
@@ -176,11 +131,10 @@ fn hit_read<G: Games, F: Files>(
     buf: &mut [u8],
 ) -> Result<Option<(u32, Option<Move>)>, FetchError>
     requires game { i < length (G.sigs games.now) }
-    requires room { length buf.old ≡ 131072 }
+    requires room { 131072 ≤ length buf.old }
     requires within { AreWithin (F.seen files.old).known (G.extents games.now) }
     ensures found { (told : List ℕ) (list : List GameTree) (game : GameTree) → (F.seen files.old).games ≡ Some told → Holds told (G.extents games.now) (G.sigs games.now) list → slice_get list i ≡ Some game → IfOk result (λ hit. hit ≡ hit_of q.now game) }
     ensures legal { IfOk result (λ hit. IsLegalFrom q.now hit) }
-    ensures room { length buf.new ≡ 131072 }
     ensures unchanged { F.seen files.new ≡ F.seen files.old }
     ensures asks { F.asked files.new ≤ F.asked files.old + (extent_in (G.extents games.now) i).len }
     ensures counts { F.faults files.old ≤ F.faults files.new }
@@ -190,66 +144,6 @@ fn hit_read<G: Games, F: Files>(
     let len = games.fetch(i, files, buf)?;
     match first_sought(buf.split_at(len as usize).0, q) {
         Ok(hit) => Ok(hit),
-        Err(_) => Err(FetchError::Changed {
-            game: i,
-            kept: games.sig(i),
-            found: None,
-        }),
-    }
-}
-
-// The first matching ply of one game, which is read if it is not known and can match.
-fn ply_in<G: Games, F: Files>(
-    games: &G,
-    i: u32,
-    q: &Sought<'_>,
-    known: Option<u32>,
-    files: &mut F,
-    buf: &mut [u8],
-) -> Result<Option<u32>, FetchError>
-    requires game { i < length (G.sigs games.now) }
-    requires room { length buf.old ≡ 131072 }
-    requires within { AreWithin (F.seen files.old).known (G.extents games.now) }
-    ensures found { (told : List ℕ) (list : List GameTree) (game : GameTree) → (F.seen files.old).games ≡ Some told → Holds told (G.extents games.now) (G.sigs games.now) list → slice_get list i ≡ Some game → IfSome known (λ ply. Some ply ≡ first_of q.now game) → IfOk result (λ ply. ply ≡ first_of q.now game) }
-    ensures room { length buf.new ≡ 131072 }
-    ensures unchanged { F.seen files.new ≡ F.seen files.old }
-    ensures asks { (sig : Sig) → slice_get (G.sigs games.now) i ≡ Some sig → F.asked files.new ≤ F.asked files.old + (if is_none known && passes sig q.now then (extent_in (G.extents games.now) i).len else 0) }
-    ensures counts { F.faults files.old ≤ F.faults files.new }
-    ensures cause { IfErr result (λ e. HasFetchCause e (G.sigs games.now) (G.extents games.now) (F.seen files.old).games buf.new (F.faults files.old) (F.faults files.new)) }
-    ensures own { IfErr result (λ e. Names e i) }
-{
-    if known.is_some() {
-        return Ok(known);
-    }
-    if q.passes(&games.brief(i)) {
-        ply_read(games, i, q, files, buf)
-    } else {
-        Ok(None)
-    }
-}
-
-// The first matching ply of one game, whose record is read into `buf`.
-fn ply_read<G: Games, F: Files>(
-    games: &G,
-    i: u32,
-    q: &Sought<'_>,
-    files: &mut F,
-    buf: &mut [u8],
-) -> Result<Option<u32>, FetchError>
-    requires game { i < length (G.sigs games.now) }
-    requires room { length buf.old ≡ 131072 }
-    requires within { AreWithin (F.seen files.old).known (G.extents games.now) }
-    ensures found { (told : List ℕ) (list : List GameTree) (game : GameTree) → (F.seen files.old).games ≡ Some told → Holds told (G.extents games.now) (G.sigs games.now) list → slice_get list i ≡ Some game → IfOk result (λ ply. ply ≡ first_of q.now game) }
-    ensures room { length buf.new ≡ 131072 }
-    ensures unchanged { F.seen files.new ≡ F.seen files.old }
-    ensures asks { F.asked files.new ≤ F.asked files.old + (extent_in (G.extents games.now) i).len }
-    ensures counts { F.faults files.old ≤ F.faults files.new }
-    ensures cause { IfErr result (λ e. HasFetchCause e (G.sigs games.now) (G.extents games.now) (F.seen files.old).games buf.new (F.faults files.old) (F.faults files.new)) }
-    ensures own { IfErr result (λ e. Names e i) }
-{
-    let len = games.fetch(i, files, buf)?;
-    match ply_sought(buf.split_at(len as usize).0, q) {
-        Ok(ply) => Ok(ply),
         Err(_) => Err(FetchError::Changed {
             game: i,
             kept: games.sig(i),

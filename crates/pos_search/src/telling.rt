@@ -1,5 +1,5 @@
 //! What an index tells of the games for a query.
-ghost use Rattle.std.specs.Prelude.{◌≡◌, List, length, option_copied};
+ghost use Rattle.std.specs.Prelude.{◌≡◌, List, option_copied};
 ghost use Rattle.pos_index.specs.Hits.{Place, places_in, rows_told};
 ghost use Rattle.sig_index.specs.declared.pos_query.PosQuery.{PosQuery as Query};
 ghost use Rattle.pos_search.specs.Matching.{IsLegalFrom};
@@ -28,7 +28,7 @@ pub fn hits_told<'a>(q: &PosQuery, index: Option<&'a PosIndex>) -> BoardHits<'a>
 pub(crate) fn hit_told(told: &mut BoardHits<'_>, i: u32) -> Option<(u32, Option<Move>)>
     ensures same { told.new ≡ told.old }
     ensures told { (query : Query) (rows : List (List Place)) → told.old ≡ hits_told query rows → result ≡ hit_told query (places_in rows i) }
-    ensures legal { (query : Query) → length query.board ≡ 64 → AreLegalHits query told.old → IsLegalFrom query result }
+    ensures legal { (query : Query) → AreLegalHits query told.old → IsLegalFrom query result }
 {
     told.first(i)
 }

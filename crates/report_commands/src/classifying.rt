@@ -164,12 +164,11 @@ fn find_code<G: Games, F: Files>(
     ensures asks { F.asked files.new ≤ F.asked files.old + (extent_in (G.extents games.now) i).len }
     ensures causes { Causes WhyHalt result (counts (F.faults files.old) 0 0) (counts (F.faults files.new) 0 0) }
 {
-    let len = games.extent(i).len as usize;
-    match games.fetch(i, files, block) {
-        Ok(_) => {}
+    let len = match games.fetch(i, files, block) {
+        Ok(len) => len,
         Err(unread) => return Err(Halt::from(unread)),
-    }
-    match table.classify(block.split_at(len).0) {
+    };
+    match table.classify(block.split_at(len as usize).0) {
         Ok(code) => Ok(code),
         Err(_) => Err(Halt::Changed {
             game: i,

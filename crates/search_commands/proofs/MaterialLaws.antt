@@ -4,7 +4,8 @@ use Rattle.base_core.specs.Entries.{extent_of, sig_in}
 use Rattle.game_filter.specs.declared.op.Op.{Op}
 use Rattle.index_entry.specs.declared.entry.Entry.{Entry}
 use Rattle.mat_search.specs.Passing.{passes}
-use Rattle.mat_search.specs.Searching.{cost_of, price}
+use Rattle.game_search.specs.Questions.{cost_of}
+use Rattle.mat_search.specs.Searching.{price}
 use Rattle.pos_index.specs.Hits.{rows_told}
 use Rattle.sig_index.specs.declared.mat_query.MatQuery.{MatQuery}
 use Rattle.sig_index.specs.declared.signature.Sig.{Sig}
@@ -20,7 +21,7 @@ search-price op query [] [] = refl
 search-price op query [] (e ∷ entries) = refl
 search-price op query (old ∷ plies) [] = refl
 search-price op query (old ∷ plies) (e ∷ entries) =
-    ap (λ (n : ℕ). cost_of op query (sig_in e) (extent_of e) old + n) (search-price op query plies entries)
+    ap (λ (n : ℕ). cost_of op (passes (sig_in e) query) (extent_of e) old + n) (search-price op query plies entries)
 
 -- What the search asks is what the command costs.
 pub price_is : (op : Op) (query : MatQuery) (plies : Plies) (holding : Holding)

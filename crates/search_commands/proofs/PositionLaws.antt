@@ -6,7 +6,8 @@ use Rattle.game_filter.specs.declared.op.Op.{Op}
 use Rattle.index_entry.specs.declared.entry.Entry.{Entry}
 use Rattle.name_base.specs.NameLists.{NameLists}
 use Rattle.pos_index.specs.Hits.{Place, rows_told}
-use Rattle.pos_search.specs.Searching.{are_read, cost_of, is_read}
+use Rattle.game_search.specs.Questions.{cost_of}
+use Rattle.pos_search.specs.Searching.{are_read, is_read}
 use Rattle.sig_index.specs.Costs.{price_by}
 use Rattle.sig_index.specs.declared.pos_query.PosQuery.{PosQuery}
 use Rattle.search_commands.specs.Searching.{position_len}

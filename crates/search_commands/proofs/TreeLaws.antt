@@ -10,6 +10,8 @@ use Rattle.base_core.specs.Represents.{Kept, Represents, heads_of}
 use Rattle.cell_core.specs.declared.man.Colour.{Colour}
 use Rattle.cell_core.specs.declared.man.Colour.TheVariants.{White, Black}
 use Rattle.cell_core.specs.declared.step.Move.{Move}
+use Rattle.cell_core.specs.Packed.{Packed, men_of}
+use Rattle.cell_core.proofs.Packing.{given_back}
 use Rattle.game_tree.specs.Head.{without_tags}
 use Rattle.game_tree.specs.declared.head.Head.{Head}
 use Rattle.pos_search.specs.Matching.{IsLegalFrom, hit_of as found_of}
@@ -23,11 +25,18 @@ use Rattle.search_commands.specs.Trees.{hit_if_in, listed_hit, tree_hits}
 use Rattle.shell_state.specs.Slots.{hit_of_game}
 
 -- The move after an exact match is a key of the tree.
-pub key-from : (query : PosQuery) (ply : ℕ) (next : Option Move) → query.mode ≡ Exact → IsLegalFrom query (Some (ply, next)) → IsKey query.board query.side next
-key-from query ply None exact legal = tt
-key-from query ply (Some m) exact legal =
+pub key-from : (query : PosQuery) (ply : ℕ) (next : Option Move) → length query.board ≡ 64 → query.mode ≡ Exact → IsLegalFrom query (Some (ply, next))
+    → IsKey query.board query.side next
+key-from query ply None squares exact legal = tt
+key-from query ply (Some m) squares exact legal =
     let from = legal ply m exact refl in
-    record { position = from.position; sound = from.sound; board = from.board; to_move = from.side; legal = from.legal }
+    record {
+      position = from.position;
+      sound = from.sound;
+      board = sym (given_back from.position.board from.sound.squares) ∙ ap (λ (k : Packed). men_of k.cells) from.stands ∙ given_back query.board squares;
+      to_move = ap (λ (k : Packed). k.side) from.stands;
+      legal = from.legal;
+    }
 
 -- What is counted of a game does not look at its tags.
 untagged : (next : Option Move) (side : Colour) (head : Head) → hit_of next side (without_tags head) ≡ hit_of next side head

@@ -9,6 +9,6 @@ mod trees;
 
 pub use heads::search_header;
 pub use hit_lines::hits;
-pub use material::{material_games, search_material};
-pub use positions::{find, find_games, position_games, search_position};
+pub use material::material_games;
+pub use positions::{find_games, position_games, search_position};
 pub use trees::{read_hit, tree};

@@ -1,7 +1,6 @@
-//! The command that searches the games for counts of men.
-ghost use Rattle.std.specs.Prelude.{◌≡◌, ◌≤◌, ◌<◌, ◌+◌, ℕ, List, Some, Ok, length, IfErr, OnOk};
+//! The search for counts of men.
+ghost use Rattle.std.specs.Prelude.{◌≡◌, ◌≤◌, ◌+◌, ℕ, List, Some, Ok, length, IfErr, OnOk};
 ghost use Rattle.command_runs.specs.Counts.{Causes, counts};
-ghost use Rattle.command_runs.specs.Endings.{NoneLost, Serves};
 ghost use Rattle.game_filter.specs.Search.{searched};
 ghost use Rattle.game_tree.specs.Game.{GameTree};
 ghost use Rattle.mat_search.specs.Matching.{firsts_of};
@@ -9,43 +8,16 @@ ghost use Rattle.mat_search.specs.Searching.{price};
 ghost use Rattle.sig_index.specs.Games.{AreWithin, Holds};
 ghost use Rattle.search_commands.specs.Searching.{search_material_work};
 ghost use Rattle.shell_state.specs.Ends.{IsDevice};
-ghost use Rattle.shell_state.specs.Stands.{Stands, Sound, Broken, WhyHalt, Asks};
+ghost use Rattle.shell_state.specs.Stands.{Stands, Sound, WhyHalt, Asks};
 ghost use Rattle.shell_state.specs.State.{State};
-ghost use Rattle.shell_state.specs.Work.{works};
 
-use base_files::{Files, Sink};
+use base_files::Files;
 use game_filter::{Filter, Op};
 use mat_search::search;
-use shell_state::{Halt, Machine, write_filter};
+use shell_state::{Halt, Machine};
 use sig_index::{Games, MatQuery};
-use std::alloc::Global;
 
-/// search OP material ITEM ..
-pub fn search_material<F: Files, K: Sink>(
-    alloc: Global,
-    machine: &mut Machine,
-    files: &mut F,
-    out: &mut K,
-    op: Op,
-    query: &MatQuery,
-) -> Result<(), Halt>
-    requires streak { 1 ≤ query.now.streak }
-    requires sound { Sound machine.old (F.seen files.old) }
-    ensures serves { (s : State) → Stands machine.old (F.seen files.old) s → Serves works (Stands machine.new (F.seen files.new)) Broken s (search_material_work op query.now) (K.taken out.old) (K.taken out.new) result }
-    ensures sound { OnOk result (Sound machine.new (F.seen files.new)) }
-    ensures unchanged { F.seen files.new ≡ F.seen files.old }
-    ensures asks { Asks machine.old (search_material_work op query.now) (F.asked files.old) (F.asked files.new) }
-    ensures none_lost { NoneLost (K.taken out.old) (K.taken out.new) }
-    ensures causes { Causes WhyHalt result (counts (F.faults files.old) 0 (K.faults out.old)) (counts (F.faults files.new) 0 (K.faults out.new)) }
-{
-    match material_games(machine, files, op, query) {
-        Ok(()) => {}
-        Err(halt) => return Err(halt),
-    }
-    write_filter(alloc, &machine.seat.filter, out)
-}
-
-/// The search of `search OP material`, which writes nothing.
+/// search OP material ITEM ..: it leaves the games that are in, and writes nothing yet.
 pub fn material_games<F: Files>(
     machine: &mut Machine,
     files: &mut F,

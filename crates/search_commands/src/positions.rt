@@ -1,4 +1,4 @@
-//! The commands that search the games for a position.
+//! The searches for a position.
 ghost use Rattle.std.specs.Prelude.{◌≡◌, ◌≤◌, ◌+◌, ℕ, List, Some, Ok, length, option_copied, IfErr, OnOk};
 ghost use Rattle.command_runs.specs.Counts.{Causes, counts};
 ghost use Rattle.command_runs.specs.Endings.{NoneLost, Serves};
@@ -6,7 +6,8 @@ ghost use Rattle.game_filter.specs.Search.{searched};
 ghost use Rattle.game_tree.specs.Game.{GameTree};
 ghost use Rattle.pos_index.specs.Hits.{IndexesAll, rows_told};
 ghost use Rattle.pos_search.specs.Matching.{firsts_of};
-ghost use Rattle.pos_search.specs.Searching.{are_read, cost_of};
+ghost use Rattle.game_search.specs.Questions.{cost_of};
+ghost use Rattle.pos_search.specs.Searching.{are_read};
 ghost use Rattle.sig_index.specs.Costs.{price_by};
 ghost use Rattle.sig_index.specs.Games.{AreWithin, Holds};
 ghost use Rattle.search_commands.specs.Searching.{search_position_work, find_work};
@@ -15,7 +16,6 @@ ghost use Rattle.shell_state.specs.Stands.{Stands, Sound, Broken, WhyHalt, Asks}
 ghost use Rattle.shell_state.specs.State.{State};
 ghost use Rattle.shell_state.specs.Work.{works};
 
-use crate::hit_lines::hits;
 use base_files::{Files, Sink};
 use cell_core::{Board, Colour};
 use game_filter::{Filter, Op};
@@ -25,29 +25,7 @@ use shell_state::{Halt, Machine, write_filter};
 use sig_index::{Games, Mode, PosQuery};
 use std::alloc::Global;
 
-/// find BOARD SIDE
-pub fn find<F: Files, K: Sink>(
-    machine: &mut Machine,
-    files: &mut F,
-    out: &mut K,
-    board: &Board,
-    side: Colour,
-) -> Result<(), Halt>
-    requires sound { Sound machine.old (F.seen files.old) }
-    ensures serves { (s : State) → Stands machine.old (F.seen files.old) s → Serves works (Stands machine.new (F.seen files.new)) Broken s (find_work board.now side) (K.taken out.old) (K.taken out.new) result }
-    ensures sound { OnOk result (Sound machine.new (F.seen files.new)) }
-    ensures unchanged { F.seen files.new ≡ F.seen files.old }
-    ensures asks { Asks machine.old (find_work board.now side) (F.asked files.old) (F.asked files.new) }
-    ensures none_lost { NoneLost (K.taken out.old) (K.taken out.new) }
-    ensures causes { Causes WhyHalt result (counts (F.faults files.old) 0 (K.faults out.old)) (counts (F.faults files.new) 0 (K.faults out.new)) }
-{
-    match find_games(machine, files, board, side) {
-        Ok(()) => hits(machine, out),
-        Err(halt) => Err(halt),
-    }
-}
-
-/// The search of `find`, which writes nothing.
+/// find BOARD SIDE: it leaves the games that are in, and writes nothing yet.
 pub fn find_games<F: Files>(
     machine: &mut Machine,
     files: &mut F,
@@ -95,7 +73,7 @@ pub fn search_position<F: Files, K: Sink>(
     write_filter(alloc, &machine.seat.filter, out)
 }
 
-/// The search of `search OP position`, which writes nothing.
+/// The same, but that nothing is written yet.
 pub fn position_games<F: Files>(
     machine: &mut Machine,
     files: &mut F,

@@ -1,5 +1,5 @@
 -- What is read of games whose records are held.
-use Rattle.std.proofs.Common.{◌≡◌, ◌<◌, ℕ, List, zero, suc, [], ◌∷◌, length, get_or, take, Option, Some, sym, ap, subst, ◌∙◌, inl, inr, arith}
+use Rattle.std.proofs.Common.{◌≡◌, ◌<◌, ℕ, List, zero, suc, [], ◌∷◌, length, get_or, take, Option, Some, sym, ap, subst, inl, inr, arith}
 use Rattle.std.specs.Prelude.{slice_get}
 use Rattle.std.proofs.lemmas.Option.{slice_get_cases}
 use Rattle.base_files.specs.Told.{Tells}
@@ -38,10 +38,8 @@ game_read games told extents sigs list i game bytes same holds below there tells
     (held.tags, subst P (sym read) held.is_record)
 
 -- The front of the buffer is what was read.
-pub front_is : (games : Option (List ℕ)) (extents : List Extent) (i : ℕ) (buffer bytes : List ℕ) (len : ℕ) (extent : Extent)
-    → extent ≡ extent_in extents i → len ≡ (extent_in extents i).len → bytes ≡ take extent.len buffer
+pub front_is : (games : Option (List ℕ)) (extents : List Extent) (i : ℕ) (buffer bytes : List ℕ) (len : ℕ) → bytes ≡ take len buffer
     → Tells (record_told games (extent_in extents i)) (take len buffer) → Tells (record_told games (extent_in extents i)) bytes
-front_is games extents i buffer bytes len extent there has front tells =
-    let same : extent.len ≡ len = ap (λ (x : Extent). x.len) there ∙ sym has in
+front_is games extents i buffer bytes len front tells =
     let T : List ℕ → Type 0 = λ b. Tells (record_told games (extent_in extents i)) b in
-    subst T (sym (front ∙ ap (λ (n : ℕ). take n buffer) same)) tells
+    subst T (sym front) tells

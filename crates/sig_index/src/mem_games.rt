@@ -3,6 +3,7 @@ ghost use Rattle.std.specs.Prelude.{◌≡◌, ◌≤◌, ◌<◌, ◌^◌, [], 
 ghost use Rattle.base_files.specs.Counters.{Rose, raised};
 ghost use Rattle.base_files.specs.Told.{Tells};
 ghost use Rattle.game_codec.specs.Record.{IsRecord};
+ghost use Rattle.game_codec.specs.Written.{IfTooLong, longest, written_record};
 ghost use Rattle.game_tree.specs.Head.{head_of, without_tags, HasTexts, IsTag};
 ghost use Rattle.game_tree.specs.Legal.{IsLegalGame};
 ghost use Rattle.sig_index.specs.declared.signature.Sig.{Sig as Signature};
@@ -83,6 +84,7 @@ impl MemGames {
         requires room { length self.old < u32.MAX }
         ensures added { OnOk result ((sig : Signature) × ((bytes : List ℕ) × ((IsSig game.now sig × IsRecord bytes head.tags game.now)
             × ((self.new ≡ self.old ++ kept_of head sig (length file.old.items) (length bytes) ∷ []) × (file.new.items ≡ file.old.items ++ bytes))))) }
+        ensures too_long { IfErr result (IfTooLong (λ n. (n ≡ length (written_record head.tags game.now)) × (longest < n))) }
         ensures unchanged { OnErr result ((self.new ≡ self.old) × (file.new.items ≡ file.old.items)) }
     {
         let bytes = encode_game(alloc, game, head.tags.as_slice())?;

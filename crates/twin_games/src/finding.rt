@@ -16,8 +16,8 @@ use std::alloc::{AllocError, Global};
 
 /// The numbers of the games that are twins, in rising order: of each undeleted game before which an undeleted one stands with the same
 /// names of White and Black, date, result and start position, and the same first `depth` moves of the main line, each line cut where it
-/// ends. `buf` has 131,072 bytes. A game's record is read, once, if it is undeleted and has the names, the date and the result of another
-/// undeleted game, and so many bytes count as asked.
+/// ends. `buf` has at least 131,072 bytes. A game's record is read, once, if it is undeleted and has the names, the date and the result of
+/// another undeleted game, and so many bytes count as asked.
 pub fn twins<G: Games, F: Files>(
     alloc: Global,
     games: &G,
@@ -25,13 +25,12 @@ pub fn twins<G: Games, F: Files>(
     files: &mut F,
     buf: &mut [u8],
 ) -> Result<Vec<u32>, TwinError>
-    requires room { length buf.old ≡ 131072 }
+    requires room { 131072 ≤ length buf.old }
     requires within { AreWithin (F.seen files.old).known (G.extents games.now) }
     // Over a games file that is told and holds the records of these games.
     ensures found { (told : List ℕ) (list : List GameTree) → (F.seen files.old).games ≡ Some told → Holds told (G.extents games.now) (G.sigs games.now) list → IfOk result (λ twins. twins.items ≡ twins_of (G.heads games.now) list depth) }
     ensures rising { IfOk result (λ twins. AllPairs (λ i j. i < j) twins.items) }
     ensures there { IfOk result (λ twins. All (λ i. i < length (G.sigs games.now)) twins.items) }
-    ensures room { length buf.new ≡ 131072 }
     ensures unchanged { F.seen files.new ≡ F.seen files.old }
     ensures asks { F.asked files.new ≤ F.asked files.old + price (G.heads games.now) (G.extents games.now) }
     ensures counts { F.faults files.old ≤ F.faults files.new }

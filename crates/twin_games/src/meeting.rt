@@ -38,13 +38,12 @@ pub(crate) fn meet<'a, G: Games, F: Files>(
     requires game { i < length (G.sigs games.now) }
     requires heads { length (G.heads games.now) ≡ length (G.sigs games.now) }
     requires counts { AreCounts counts.now (G.heads games.now) }
-    requires room { length buf.old ≡ 131072 }
+    requires room { 131072 ≤ length buf.old }
     requires within { AreWithin (F.seen files.old).known (G.extents games.now) }
     ensures twin { (told : List ℕ) (list : List GameTree) → (F.seen files.old).games ≡ Some told → Holds told (G.extents games.now) (G.sigs games.now) list
         → HasMet (G.heads games.now) list depth i met.old → IfOk result (λ twin. twin ≡ is_twin (G.heads games.now) list depth i) }
     ensures met { (told : List ℕ) (list : List GameTree) → (F.seen files.old).games ≡ Some told → Holds told (G.extents games.now) (G.sigs games.now) list
         → HasMet (G.heads games.now) list depth i met.old → OnOk result (HasMet (G.heads games.now) list depth (i + 1) met.new) }
-    ensures room { length buf.new ≡ 131072 }
     ensures unchanged { F.seen files.new ≡ F.seen files.old }
     ensures asks { F.asked files.new ≤ F.asked files.old + (if is_shared (G.heads games.now) i then (extent_in (G.extents games.now) i).len else 0) }
     ensures counts { F.faults files.old ≤ F.faults files.new }
@@ -72,21 +71,19 @@ fn read_opening<G: Games, F: Files>(
     buf: &mut [u8],
 ) -> Result<Opening, TwinError>
     requires game { i < length (G.sigs games.now) }
-    requires room { length buf.old ≡ 131072 }
+    requires room { 131072 ≤ length buf.old }
     requires within { AreWithin (F.seen files.old).known (G.extents games.now) }
     ensures opening { (told : List ℕ) (list : List GameTree) (game : GameTree) → (F.seen files.old).games ≡ Some told → Holds told (G.extents games.now) (G.sigs games.now) list → slice_get list i ≡ Some game → IfOk result (λ opening. IsOpening depth opening game) }
-    ensures room { length buf.new ≡ 131072 }
     ensures unchanged { F.seen files.new ≡ F.seen files.old }
     ensures asks { F.asked files.new ≤ F.asked files.old + (extent_in (G.extents games.now) i).len }
     ensures counts { F.faults files.old ≤ F.faults files.new }
     ensures cause { IfErr result (λ e. HasTwinCause e (G.sigs games.now) (G.extents games.now) (F.seen files.old).games buf.new (F.faults files.old) (F.faults files.new)) }
 {
-    let len = games.extent(i).len as usize;
-    match games.fetch(i, files, buf) {
-        Ok(_) => {}
+    let len = match games.fetch(i, files, buf) {
+        Ok(len) => len,
         Err(error) => return Err(TwinError::Fetch(error)),
-    }
-    let read = match opening_of(alloc, buf.split_at(len).0, depth) {
+    };
+    let read = match opening_of(alloc, buf.split_at(len as usize).0, depth) {
         Ok(read) => read,
         Err(_) => return Err(TwinError::Memory),
     };

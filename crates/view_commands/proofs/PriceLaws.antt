@@ -9,7 +9,8 @@ use Rattle.base_core.specs.Entries.{extent_of, sig_in}
 use Rattle.base_core.specs.Represents.{Kept, extents_of, sigs_of}
 use Rattle.game_filter.specs.declared.op.Op.TheVariants.{Ignore}
 use Rattle.pos_index.specs.Hits.{Place, places_in}
-use Rattle.pos_search.specs.Searching.{are_read, cost_of, is_read}
+use Rattle.game_search.specs.Questions.{cost_of}
+use Rattle.pos_search.specs.Searching.{are_read, is_read}
 use Rattle.pos_search.proofs.TellingLemmas.{read_at}
 use Rattle.shell_state.specs.Slots.{hit_of_game}
 use Rattle.sig_index.specs.Costs.{price_by}

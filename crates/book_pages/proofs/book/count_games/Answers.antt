@@ -25,7 +25,6 @@ loop-i-preserved g c =
           counted_more c.args.boards.now.keys plies (g.G.Games.heads c.args.games.now) list i c.get.result game.0 c.loop-i.tallies c.count_game.new.tallies
           c.get.ensures.entry game.1 (c.in-Ok.ensures.kept.count ∙ sym c.loop-i.invariant.kept.count) (c.loop-i.invariant.counted told list same holds)
           (c.in-Ok.ensures.counted told list game.0 told_now holds game.1);
-      room = c.count_game.ensures.room;
       unchanged = c.count_game.ensures.unchanged ∙ c.loop-i.invariant.unchanged;
       asks = omega (arith, c.count_game.ensures.asks, c.loop-i.invariant.asks, next);
       counts = omega (arith, c.loop-i.invariant.counts, c.count_game.ensures.counts);

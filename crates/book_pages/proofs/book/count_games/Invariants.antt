@@ -1,4 +1,4 @@
-use Rattle.std.proofs.Common.{◌≡◌, ◌≤◌, ℕ, ◌+◌, List, Some, length}
+use Rattle.std.proofs.Common.{◌≡◌, ◌≤◌, ℕ, ◌+◌, List, Some}
 use Rattle.game_tree.specs.Game.{GameTree}
 use Rattle.sig_index.specs.Games.{Holds}
 use Rattle.book_pages.specs.Asking.{price_below}
@@ -12,7 +12,6 @@ invariant-loop-i g l = record {
   counted : (told : List ℕ) (list : List GameTree) → (g.F.Files.seen l.fn.files).games ≡ Some told
       → Holds told (g.G.Games.extents l.games) (g.G.Games.sigs l.games) list
       → HaveCounted l.boards.keys l.filter (g.G.Games.heads l.games) list l.i l.tallies;
-  room : length l.buf ≡ 131072;
   unchanged : g.F.Files.seen l.files ≡ g.F.Files.seen l.fn.files;
   asks : g.F.Files.asked l.files ≤ g.F.Files.asked l.fn.files + price_below l.filter (g.G.Games.extents l.games) l.i;
   counts : g.F.Files.faults l.fn.files ≤ g.F.Files.faults l.files;

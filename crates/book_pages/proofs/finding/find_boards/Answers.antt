@@ -14,7 +14,6 @@ pub loop-i-preserved : goal.loop-i-preserved
 loop-i-preserved g c =
     let next = price_next c.args.filter.now (g.G.Games.extents c.args.games.now) c.loop-i.i c.get.result c.get.ensures.entry in
     record {
-      room = c.meet_game.ensures.room;
       unchanged = c.meet_game.ensures.unchanged ∙ c.loop-i.invariant.unchanged;
       asks = omega (arith, c.meet_game.ensures.asks, c.loop-i.invariant.asks, next);
       counts = omega (arith, c.loop-i.invariant.counts, c.meet_game.ensures.counts);

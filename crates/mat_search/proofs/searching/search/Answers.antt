@@ -1,66 +1,26 @@
-use Rattle.std.proofs.Common.{◌<◌, ℕ, ◌+◌, List, None, Option, get_or, length, take, ap, ◌∙◌, arith}
-use Rattle.std.proofs.lemmas.List.{length-set}
-use Rattle.base_files.specs.Seen.{Seen}
-use Rattle.sig_index.specs.Games.{extent_in}
-use Rattle.sig_index.proofs.ReadLemmas.{some_at}
-use Rattle.mat_search.specs.Searching.{cost_of, price}
-use Rattle.sig_index.proofs.CostLemmas.{asked_all, asked_more, kept_more, price_front, price_more, untouched_more}
-use Rattle.mat_search.proofs.SearchLemmas.{all_searched, game_more}
-use Rattle.game_filter.specs.Search.{looks_at}
+use Rattle.std.proofs.Common.{◌≤◌, ◌+◌, Bool, List, refl, subst}
+use Rattle.game_search.specs.Questions.{cost_of}
+use Rattle.sig_index.specs.Costs.{price_by}
+use Rattle.mat_search.proofs.PriceLemmas.{reads_are, unread_of}
+use Rattle.mat_search.proofs.ReadLemmas.{unread}
 use Rattle.mat_search.proofs.searching.search.Goals as goal
-
-pub returns-in-Err-clause-asks : goal.returns-in-Err-clause-asks
-returns-in-Err-clause-asks g c =
-    let op = c.args.op in
-    let q = c.args.q.now in
-    let old = c.args.filter.now in
-    let i = c.loop-i.i in
-    let sigs = g.G.Games.sigs c.args.games.now in
-    let extents = g.G.Games.extents c.args.games.now in
-    let inside : i < length extents = omega (arith, c.len-i-end.ensures.one_extent_each, c.loop-i-test.true) in
-    let here : i < length old = omega (arith, c.requires.games, c.len-i-end.ensures.one_sig_each, c.loop-i-test.true) in
-    let sig = some_at sigs i (omega (arith, c.len-i-end.ensures.one_sig_each, c.loop-i-test.true)) in
-    let cost : Option ℕ → ℕ = cost_of op q sig.0 (extent_in extents i) in
-    asked_all (g.F.Files.asked c.args.files.now) (g.F.Files.asked c.search_game.new.files) (price op q (take (i + 1) sigs) extents old) (price op q sigs extents old)
-    (asked_more (g.F.Files.asked c.args.files.now) (g.F.Files.asked c.loop-i.files) (g.F.Files.asked c.search_game.new.files) (price op q (take i sigs) extents old)
-    (cost (get_or c.loop-i.filter i None)) (cost (get_or old i None)) (price op q (take (i + 1) sigs) extents old)
-    c.loop-i.invariant.asks (c.search_game.ensures.asks sig.0 sig.1) (ap cost (c.loop-i.invariant.rest i (omega arith)))
-    (price_more (cost_of op q) sigs extents old i sig.0 sig.1 inside here))
-    (price_front (cost_of op q) sigs extents old (i + 1))
-
-pub loop-i-preserved : goal.loop-i-preserved
-loop-i-preserved g c =
-    let op = c.args.op in
-    let q = c.args.q.now in
-    let old = c.args.filter.now in
-    let i = c.loop-i.i in
-    let sigs = g.G.Games.sigs c.args.games.now in
-    let extents = g.G.Games.extents c.args.games.now in
-    let inside : i < length extents = omega (arith, c.len-i-end.ensures.one_extent_each, c.loop-i-test.true) in
-    let here : i < length old = omega (arith, c.requires.games, c.len-i-end.ensures.one_sig_each, c.loop-i-test.true) in
-    let sig = some_at sigs i (omega (arith, c.len-i-end.ensures.one_sig_each, c.loop-i-test.true)) in
-    let cost : Option ℕ → ℕ = cost_of op q sig.0 (extent_in extents i) in
-    let entry = c.in-Ok.ensures.entry in
-    record {
-      done = λ told list same holds.
-          let told_now = ap (λ (s : Seen). s.games) c.loop-i.invariant.unchanged ∙ same in
-          let in_list : i < length list = omega (arith, holds.count, c.len-i-end.ensures.one_sig_each, c.loop-i-test.true) in
-          let game = some_at list i in_list in
-          game_more op q list old c.loop-i.filter c.search_game.new.filter i game.0 (c.loop-i.invariant.done told list same holds) in_list here game.1
-          (c.in-Ok.ensures.joined told list game.0 told_now holds game.1);
-      rest = untouched_more old c.loop-i.filter c.search_game.new.filter i entry.0 entry.1 c.loop-i.invariant.rest;
-      kept = kept_more (looks_at op) old c.loop-i.filter c.search_game.new.filter i entry.0 entry.1 c.search_game.ensures.passed c.loop-i.invariant.rest c.loop-i.invariant.kept;
-      entries = ap (λ (f : List (Option ℕ)). length f) entry.1 ∙ (length-set c.loop-i.filter i entry.0 ∙ c.loop-i.invariant.entries);
-      room = c.search_game.ensures.room;
-      unchanged = c.search_game.ensures.unchanged ∙ c.loop-i.invariant.unchanged;
-      asks = asked_more (g.F.Files.asked c.args.files.now) (g.F.Files.asked c.loop-i.files) (g.F.Files.asked c.search_game.new.files) (price op q (take i sigs) extents old)
-          (cost (get_or c.loop-i.filter i None)) (cost (get_or old i None)) (price op q (take (i + 1) sigs) extents old)
-          c.loop-i.invariant.asks (c.search_game.ensures.asks sig.0 sig.1) (ap cost (c.loop-i.invariant.rest i (omega arith)))
-          (price_more (cost_of op q) sigs extents old i sig.0 sig.1 inside here);
-      counts = omega (arith, c.loop-i.invariant.counts, c.search_game.ensures.counts);
-    }
 
 pub returns-clause-found : goal.returns-clause-found
 returns-clause-found g c = λ told list same holds.
-    all_searched c.args.op c.args.q.now list c.args.filter.now c.loop-i.filter c.loop-i.i (c.loop-i.invariant.done told list same holds)
-    (omega (arith, holds.count, c.len-i-end.ensures.one_sig_each, c.loop-i-test.false))
+    c.search.ensures.found (unread_of c.args.q.now) told list (λ i sig. refl, λ i. refl) same holds
+    (λ i sig game kept there not. unread told (g.G.Games.extents c.args.games.now) (g.G.Games.sigs c.args.games.now) list i sig game c.args.q.now holds kept there c.requires.streak not)
+
+pub returns-clause-ended : goal.returns-clause-ended
+returns-clause-ended g c = λ told list same holds.
+    c.search.ensures.ended (unread_of c.args.q.now) told list (λ i sig. refl, λ i. refl) same holds
+    (λ i sig game kept there not. unread told (g.G.Games.extents c.args.games.now) (g.G.Games.sigs c.args.games.now) list i sig game c.args.q.now holds kept there c.requires.streak not)
+
+pub returns-clause-skipped : goal.returns-clause-skipped
+returns-clause-skipped g c = c.search.ensures.skipped (unread_of c.args.q.now) (λ i sig. refl, λ i. refl)
+
+pub returns-clause-asks : goal.returns-clause-asks
+returns-clause-asks g c =
+    subst
+    (λ (reads : List Bool). g.F.Files.asked c.search.new.files ≤ g.F.Files.asked c.args.files.now + price_by (cost_of c.args.op) reads (g.G.Games.extents c.args.games.now) c.args.filter.now)
+    (reads_are c.args.q.now 0 (g.G.Games.sigs c.args.games.now))
+    (c.search.ensures.asks (unread_of c.args.q.now) (λ i sig. refl, λ i. refl))

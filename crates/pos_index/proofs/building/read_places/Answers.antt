@@ -24,7 +24,6 @@ loop-i-preserved g c =
           let game = some_at list i (omega (arith, holds.count, c.len-i-end.ensures.one_sig_each, c.loop-i-test.true)) in
           rows_next c.args.depth list i game.0 c.loop-i.places c.read_game.new.places game.1 (c.loop-i.invariant.read told list same holds)
           (c.in-Ok.ensures.read told list game.0 told_now holds game.1);
-      room = c.read_game.ensures.room;
       unchanged = c.read_game.ensures.unchanged ∙ c.loop-i.invariant.unchanged;
       asks = omega (arith, c.read_game.ensures.asks, c.loop-i.invariant.asks, asked_next extents i within);
       counts = omega (arith, c.loop-i.invariant.counts, c.read_game.ensures.counts);

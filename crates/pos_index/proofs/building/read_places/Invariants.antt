@@ -13,7 +13,6 @@ invariant-loop-i g l = record {
   short : AreShort (l.depth + 1) l.places;
   read : (told : List ℕ) (list : List GameTree) → (g.F.Files.seen l.fn.files).games ≡ Some told → Holds told (g.G.Games.extents l.games) (g.G.Games.sigs l.games) list
       → l.places ≡ map (row_of l.depth) (map Some (take l.i list));
-  room : length l.buf ≡ 131072;
   unchanged : g.F.Files.seen l.files ≡ g.F.Files.seen l.fn.files;
   asks : g.F.Files.asked l.files ≤ g.F.Files.asked l.fn.files + sum_by (λ (extent : Extent). extent.len) (take l.i (g.G.Games.extents l.games));
   counts : g.F.Files.faults l.fn.files ≤ g.F.Files.faults l.files;

@@ -20,9 +20,9 @@ returns-then-not-passes-clause-found g c = λ contents list game index same hold
     unread contents (g.G.Games.extents c.args.games.now) (g.G.Games.sigs c.args.games.now) list c.args.i c.brief.result game c.args.q.now holds c.brief.ensures.kept there (sym c.passes.ensures.passes ∙ c.if-not-passes.true)
 
 pub returns-in-Some-clause-legal : goal.returns-in-Some-clause-legal
-returns-in-Some-clause-legal g c = λ squares legal.
+returns-in-Some-clause-legal g c = λ legal.
     let found : c.hit_told.result ≡ Some c.in-Some.found = search rules in
-    subst (IsLegalFrom c.args.q.now) found (c.hit_told.ensures.legal c.args.q.now squares legal)
+    subst (IsLegalFrom c.args.q.now) found (c.hit_told.ensures.legal c.args.q.now legal)
 
 pub returns-clause-found : goal.returns-clause-found
 returns-clause-found g c = λ contents list game index same holds there squares told is. c.hit_read.ensures.found contents list game same holds there

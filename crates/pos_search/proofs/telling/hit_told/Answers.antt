@@ -5,4 +5,4 @@ pub returns-clause-told : goal.returns-clause-told
 returns-clause-told c = λ query rows is. first_hit query rows c.args.told.now c.args.i c.first.result is c.first.ensures.first
 
 pub returns-clause-legal : goal.returns-clause-legal
-returns-clause-legal c = λ query long legal. legal_first query c.first.result long (c.first.ensures.legal _ legal)
+returns-clause-legal c = λ query legal. legal_first query c.first.result (c.first.ensures.legal _ legal)

@@ -3,7 +3,8 @@ use Rattle.base_core.proofs.GamesLaws.{are-within, holds}
 use Rattle.base_core.specs.Represents.{extents_of, sigs_of}
 use Rattle.pos_index.specs.Hits.{Index, IndexesAll, rows_told}
 use Rattle.pos_search.specs.Matching.{firsts_of}
-use Rattle.pos_search.specs.Searching.{are_read, cost_of}
+use Rattle.game_search.specs.Questions.{cost_of}
+use Rattle.pos_search.specs.Searching.{are_read}
 use Rattle.search_commands.proofs.FindingLaws.{search_stands}
 use Rattle.search_commands.proofs.PositionLaws.{price_is}
 use Rattle.search_commands.proofs.positions.position_games.Goals as goal

@@ -31,7 +31,7 @@ returns-in-Ok-Some-clause-key g c =
     let query = c.args.query.now in
     let L : Option (ℕ × Option Move) → Type 0 = λ found. IsLegalFrom query found in
     let K : GameHit → Type 0 = λ hit. IsKey query.board query.side hit.next in
-    subst K (sym c.counted.ensures.counted) (key-from query c.in-Ok-Some.field-0-0-0 c.in-Ok-Some.next c.requires.exact (subst L c.in-Ok-Some.field-0-is (c.in-Ok-Some.ensures.legal c.requires.squares c.requires.legal)))
+    subst K (sym c.counted.ensures.counted) (key-from query c.in-Ok-Some.field-0-0-0 c.in-Ok-Some.next c.requires.squares c.requires.exact (subst L c.in-Ok-Some.field-0-is (c.in-Ok-Some.ensures.legal c.requires.legal)))
 
 pub returns-in-Ok-None-clause-hit : goal.returns-in-Ok-None-clause-hit
 returns-in-Ok-None-clause-hit g c = λ contents all held index same is at told indexed.

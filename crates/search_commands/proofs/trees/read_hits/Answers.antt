@@ -8,7 +8,8 @@ use Rattle.base_core.specs.Represents.{extents_of, sigs_of}
 use Rattle.base_files.specs.Seen.{Seen}
 use Rattle.game_filter.specs.declared.op.Op.TheVariants.{And}
 use Rattle.pos_index.specs.Hits.{places_in}
-use Rattle.pos_search.specs.Searching.{are_read, cost_of, is_read}
+use Rattle.game_search.specs.Questions.{cost_of}
+use Rattle.pos_search.specs.Searching.{are_read, is_read}
 use Rattle.pos_search.specs.Telling.{AreLegalHits}
 use Rattle.pos_search.proofs.TellingLemmas.{read_at}
 use Rattle.sig_index.specs.Costs.{price_by}

@@ -3,7 +3,8 @@ use Rattle.base_core.specs.Base.{Base, Held}
 use Rattle.base_core.specs.Represents.{Represents, extents_of, sigs_of}
 use Rattle.game_filter.specs.declared.op.Op.TheVariants.{And}
 use Rattle.pos_index.specs.Hits.{Index, IndexesAll, Place, rows_told}
-use Rattle.pos_search.specs.Searching.{are_read, cost_of}
+use Rattle.game_search.specs.Questions.{cost_of}
+use Rattle.pos_search.specs.Searching.{are_read}
 use Rattle.pos_search.specs.Telling.{AreLegalHits, hits_told}
 use Rattle.sig_index.specs.Costs.{price_by}
 use Rattle.tree_rows.specs.MoveText.{IsKey}

@@ -7,7 +7,8 @@ use Rattle.search_commands.specs.Trees.{tree_work, tree_said, tree_of}
 use Rattle.base_core.specs.Represents.{extents_of, sigs_of}
 use Rattle.base_files.specs.Seen.{Seen}
 use Rattle.pos_index.specs.Hits.{Index, IndexesAll, rows_told}
-use Rattle.pos_search.specs.Searching.{are_read, cost_of}
+use Rattle.game_search.specs.Questions.{cost_of}
+use Rattle.pos_search.specs.Searching.{are_read}
 use Rattle.sig_index.specs.Costs.{price_by}
 use Rattle.shell_state.specs.State.{games_of}
 use Rattle.shell_state.proofs.Served.{line_serves, search_cuts}

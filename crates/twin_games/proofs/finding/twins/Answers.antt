@@ -10,7 +10,6 @@ pub loop-i-init : goal.loop-i-init
 loop-i-init g c = record {
   done = λ told list same holds. (c.new-twins.ensures.items, none_met (g.G.Games.heads c.args.games.now) list c.args.depth c.new-met.result c.new-met.ensures.empty);
   rises = rises_none c.new-twins.result.items c.new-twins.ensures.items;
-  room = c.requires.room;
   unchanged = refl;
   asks = omega arith;
   counts = omega arith;
@@ -30,7 +29,6 @@ loop-i-preserved g c =
             c.in-Ok.ensures.met told list told_now holds before.1,
           );
       rises = rises_more c.loop-i.twins.items c.list_if.new.twins.items i c.in-Ok.twin c.in_ok-list_if.ensures c.loop-i.invariant.rises;
-      room = c.meet.ensures.room;
       unchanged = c.meet.ensures.unchanged ∙ c.loop-i.invariant.unchanged;
       asks = omega (arith, c.meet.ensures.asks, c.loop-i.invariant.asks, price_with heads extents i);
       counts = omega (arith, c.loop-i.invariant.counts, c.meet.ensures.counts);

@@ -1,4 +1,4 @@
-use Rattle.std.proofs.Common.{◌≡◌, ◌≤◌, ℕ, ◌+◌, List, Some, filter, length}
+use Rattle.std.proofs.Common.{◌≡◌, ◌≤◌, ℕ, ◌+◌, List, Some, filter}
 use Rattle.std.specs.List.{range_with_len}
 use Rattle.game_tree.specs.Game.{GameTree}
 use Rattle.sig_index.specs.Games.{Holds}
@@ -16,7 +16,6 @@ invariant-loop-i g l = record {
       → (l.twins.items ≡ filter (is_twin (g.G.Games.heads l.games) list l.depth) (range_with_len 0 l.i))
       × HasMet (g.G.Games.heads l.games) list l.depth l.i l.met;
   rises : Rises l.twins.items l.i;
-  room : length l.buf ≡ 131072;
   unchanged : g.F.Files.seen l.files ≡ g.F.Files.seen l.fn.files;
   asks : g.F.Files.asked l.files ≤ g.F.Files.asked l.fn.files + price_below (g.G.Games.heads l.games) (g.G.Games.extents l.games) l.i;
   counts : g.F.Files.faults l.fn.files ≤ g.F.Files.faults l.files;

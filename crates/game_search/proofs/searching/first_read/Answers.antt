@@ -2,10 +2,10 @@ use Rattle.std.proofs.Common.{ℕ, List, subst, sym}
 use Rattle.base_files.specs.Told.{Tells}
 use Rattle.sig_index.specs.Games.{extent_in, record_told}
 use Rattle.sig_index.proofs.ReadLemmas.{game_read}
-use Rattle.pos_search.proofs.searching.ply_read.Goals as goal
+use Rattle.game_search.proofs.searching.first_read.Goals as goal
 
-pub returns-in-Ok-clause-found : goal.returns-in-Ok-clause-found
-returns-in-Ok-clause-found g c = λ told list game same holds there.
+pub returns-in-Ok-clause-first : goal.returns-in-Ok-clause-first
+returns-in-Ok-clause-first g c = λ told list game same holds there.
     let games = (g.F.Files.seen c.args.files.now).games in
     let extents = g.G.Games.extents c.args.games.now in
     let T : List ℕ → Type 0 = λ b. Tells (record_told games (extent_in extents c.args.i)) b in

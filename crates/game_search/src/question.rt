@@ -1,0 +1,33 @@
+//! What a search asks of each game.
+ghost use Rattle.std.specs.Prelude.{◌≡◌, ◌≤◌, ℕ, List, Option, length, is_none, IfSome, IfOk, OnErr};
+ghost use Rattle.game_codec.specs.Record.{IsRecord, IsSomeRecord};
+ghost use Rattle.game_tree.specs.Game.{GameTree};
+ghost use Rattle.game_tree.specs.declared.head.Tag.{Tag};
+ghost use Rattle.sig_index.specs.Signature.{IsSigBounded};
+ghost use Rattle.game_search.specs.Questions.{Unread};
+
+use game_codec::RecordFault;
+use sig_index::Brief;
+
+/// What a search asks of each game: the first ply at which it matches.
+pub trait Question {
+    // The first matching ply of a game.
+    ghost first: { Self → GameTree → Option ℕ };
+
+    // Which games have to be read, and what is known of the others.
+    ghost tells: { Self → Unread → Type 0 };
+
+    /// The first matching ply of game `i` of this signature, if it has one, where that is known without its record; `None` where the record
+    /// has to be read.
+    fn unread(&mut self, i: u32, sig: &Brief<'_>) -> Option<Option<u32>>
+        requires bounded { IsSigBounded sig.now }
+        ensures same { self.new ≡ self.old }
+        ensures reads { (unread : Unread) → tells self.old unread → is_none result ≡ unread.reads i sig.now }
+        ensures known { (unread : Unread) → tells self.old unread → IfSome result (λ ply. ply ≡ unread.ply i) };
+
+    /// The first matching ply of the game of a record, if it has one; a fault comes only where the bytes are no record.
+    fn in_record(&self, record: &[u8]) -> Result<Option<u32>, RecordFault>
+        requires short { length record.now ≤ 131071 }
+        ensures first { IfOk result (λ ply. (tags : List Tag) (game : GameTree) → IsRecord record.now tags game → ply ≡ first self.now game) }
+        ensures fault { OnErr result (IsSomeRecord record.now → ⊥) };
+}

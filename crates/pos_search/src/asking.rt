@@ -1,0 +1,47 @@
+//! What a search of a position asks of each game.
+ghost use Rattle.std.specs.Prelude.{◌≡◌, ◌≤◌, length, is_none, IfSome, IfOk, OnErr};
+ghost use Rattle.game_codec.specs.Record.{IsRecord, IsSomeRecord};
+ghost use Rattle.pos_search.specs.Telling.{first_asked, tells};
+
+use crate::matching::Sought;
+use crate::telling::ply_told;
+use crate::walking::ply_sought;
+use game_codec::RecordFault;
+use game_search::Question;
+use pos_index::BoardHits;
+use sig_index::Brief;
+use std::marker::Model;
+
+/// What is sought, with the hits that an index tells of it, if there is one.
+#[derive(Drop)]
+pub(crate) struct Asked<'s, 'a> {
+    pub(crate) sought: Sought<'s>,
+    pub(crate) told: BoardHits<'a>,
+}
+
+impl<'s, 'a> Model for Asked<'s, 'a> {
+    ghost use Rattle.pos_search.specs.Telling.{Asked as PlainAsked};
+
+    ghost Value = { PlainAsked };
+
+    ghost view = { λ asked. record { query = asked.sought; hits = asked.told } };
+}
+
+impl<'s, 'a> Question for Asked<'s, 'a> {
+    ghost first = { first_asked };
+
+    ghost tells = { tells };
+
+    fn unread(&mut self, i: u32, sig: &Brief<'_>) -> Option<Option<u32>> {
+        let known = ply_told(&mut self.told, i);
+        if known.is_none() && self.sought.passes(sig) {
+            None
+        } else {
+            Some(known)
+        }
+    }
+
+    fn in_record(&self, record: &[u8]) -> Result<Option<u32>, RecordFault> {
+        ply_sought(record, &self.sought)
+    }
+}
