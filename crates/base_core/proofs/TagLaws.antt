@@ -54,15 +54,15 @@ unread-so kept told i edit buf error.Failed why = tt
 unread-so kept told i edit buf error.Memory why = tt
 
 -- And where it is not placed.
-pub unplaced-so : (kept : Kept) (told : Option (List ℕ)) (i : ℕ) (edit : TagEdit) (buf : List ℕ) (head : Head) (game : GameTree) (e : EditError) → IfSome told (λ games. IsGameAt kept games i head game) →
+pub unplaced-so : (kept : Kept) (told : Option (List ℕ)) (i : ℕ) (edit : TagEdit) (buf : List ℕ) (head : Head) (game : GameTree) (e : EditError) → IsShown kept i buf head game → IfSome told (λ games. IsGameAt kept games i head game) →
     WhyNotReplaced kept i (length (written_record (edited head edit).tags game)) (first_full (length kept.entries) (names_with (edited head edit) kept.names) (end_with (edited head edit) game kept.end)) e →
     WhyNotTagged kept told i edit buf e
-unplaced-so kept told i edit buf head game (error.NoGame n) read why = why
-unplaced-so kept told i edit buf head game (error.Changed g sig found) read why = absurd why
-unplaced-so kept told i edit buf head game (error.TooLong n) read why = record { head = head; game = game; read = read; why = why }
-unplaced-so kept told i edit buf head game (error.Full w) read why = record { head = head; game = game; read = read; why = why }
-unplaced-so kept told i edit buf head game error.Failed read why = tt
-unplaced-so kept told i edit buf head game error.Memory read why = tt
+unplaced-so kept told i edit buf head game (error.NoGame n) shown read why = why
+unplaced-so kept told i edit buf head game (error.Changed g sig found) shown read why = absurd why
+unplaced-so kept told i edit buf head game (error.TooLong n) shown read why = record { head = head; game = game; shown = shown; read = read; why = why }
+unplaced-so kept told i edit buf head game (error.Full w) shown read why = record { head = head; game = game; shown = shown; read = read; why = why }
+unplaced-so kept told i edit buf head game error.Failed shown read why = tt
+unplaced-so kept told i edit buf head game error.Memory shown read why = tt
 
 -- ---- where the edit was done, and where it was refused.
 
@@ -97,10 +97,10 @@ there-is r x kept i ok none =
       | inr past ↦ absurd (ok_err r x (error.NoGame i) ok (none (ltb-false i (length kept.entries) past)))
     ]
 
-pub unplaced-all : {A : Type 0} (r : Result A EditError) (kept : Kept) (told : Option (List ℕ)) (i : ℕ) (edit : TagEdit) (buf : List ℕ) (head next : Head) (game : GameTree) → next ≡ edited head edit →
+pub unplaced-all : {A : Type 0} (r : Result A EditError) (kept : Kept) (told : Option (List ℕ)) (i : ℕ) (edit : TagEdit) (buf : List ℕ) (head next : Head) (game : GameTree) → next ≡ edited head edit → IsShown kept i buf head game →
     IfSome told (λ games. IsGameAt kept games i head game) →
     IfErr r (WhyNotReplaced kept i (length (written_record next.tags game)) (first_full (length kept.entries) (names_with next kept.names) (end_with next game kept.end))) → IfErr r (WhyNotTagged kept told i edit buf)
-unplaced-all (Ok x) kept told i edit buf head next game is read why = tt
-unplaced-all (Err e) kept told i edit buf head next game is read why =
+unplaced-all (Ok x) kept told i edit buf head next game is shown read why = tt
+unplaced-all (Err e) kept told i edit buf head next game is shown read why =
     let W : Head → Type 0 = λ h. WhyNotReplaced kept i (length (written_record h.tags game)) (first_full (length kept.entries) (names_with h kept.names) (end_with h game kept.end)) e in
-    unplaced-so kept told i edit buf head game e read (subst W is why)
+    unplaced-so kept told i edit buf head game e shown read (subst W is why)

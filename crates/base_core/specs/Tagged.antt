@@ -31,10 +31,11 @@ abbrev pub Tags : ℕ → TagEdit → Kept → Kept → Option (List ℕ) → Op
 Tags i edit old new told now =
     IfSome told (λ games. IfSome now (λ after. (base : Base) → Represents old games base → Represents new after (tagged i edit base)))
 
--- The game that was read can't be placed with its head edited.
-pub record IsNotPlaced (kept : Kept) (told : Option (List ℕ)) (i : ℕ) (edit : TagEdit) (e : EditError) : Type 0 where
+-- The game that was read into the buffer can't be placed with its head edited.
+pub record IsNotPlaced (kept : Kept) (told : Option (List ℕ)) (i : ℕ) (edit : TagEdit) (buf : List ℕ) (e : EditError) : Type 0 where
   pub head : Head
   pub game : GameTree
+  pub shown : IsShown kept i buf head game
   pub read : IfSome told (λ games. IsGameAt kept games i head game)
   pub why : WhyNotPlaced (length (written_record (edited head edit).tags game)) (first_full (length kept.entries) (names_with (edited head edit) kept.names) (end_with (edited head edit) game kept.end)) e
 
@@ -42,7 +43,7 @@ pub record IsNotPlaced (kept : Kept) (told : Option (List ℕ)) (i : ℕ) (edit 
 abbrev pub WhyNotTagged : Kept → Option (List ℕ) → ℕ → TagEdit → List ℕ → EditError → Type 0
 WhyNotTagged kept told i edit buf (error.NoGame game) = (game ≡ i) × (length kept.entries ≤ i)
 WhyNotTagged kept told i edit buf (error.Changed game sig found) = IsChanged kept told i buf game sig found
-WhyNotTagged kept told i edit buf (error.TooLong n) = IsNotPlaced kept told i edit (error.TooLong n)
-WhyNotTagged kept told i edit buf (error.Full what) = IsNotPlaced kept told i edit (error.Full what)
+WhyNotTagged kept told i edit buf (error.TooLong n) = IsNotPlaced kept told i edit buf (error.TooLong n)
+WhyNotTagged kept told i edit buf (error.Full what) = IsNotPlaced kept told i edit buf (error.Full what)
 WhyNotTagged kept told i edit buf error.Failed = ⊤
 WhyNotTagged kept told i edit buf error.Memory = ⊤

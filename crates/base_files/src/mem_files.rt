@@ -6,6 +6,7 @@ ghost use Rattle.base_files.specs.Parts.{of_part};
 ghost use Rattle.base_files.specs.Causes.{HasCause};
 ghost use Rattle.base_files.specs.Planned.{Served, FailedAsPlanned, Refused};
 ghost use Rattle.base_files.specs.Shelves.{Shelf, new_shelf, changing_shelf, changed, seen_of, put_on, committed_on};
+ghost use Rattle.base_files.specs.Told.{IsPrefix};
 
 use crate::chosen::Choices;
 use crate::faults::{DeviceError, Failed};
@@ -17,7 +18,8 @@ use std::alloc::{AllocError, Global};
 use std::marker::Model;
 use std::mem;
 
-/// Three contents in memory, which are always there, and the new games file. The games file may change by itself: then nothing is told of them.
+/// Three contents in memory, which are always there, and the new games file. Where adding to the games file fails, a front part is
+/// written. The games file may change by itself: then nothing is told of them.
 #[derive(Drop)]
 pub struct MemFiles {
     index: Vec<u8>,
@@ -216,7 +218,8 @@ impl Files for MemFiles {
     fn append_games(&mut self, pad: u32, bytes: &[u8]) -> Result<(), DeviceError>
         ensures added { OnOk result (self.new.games ≡ (changed self.old).games ++ (replicate pad 0 ++ bytes.now)) }
         ensures now_known { OnOk result (self.new.known ≡ self.old.known + length (replicate pad 0 ++ bytes.now)) }
-        ensures none_added { OnErr result ((self.new.games ≡ (changed self.old).games) × (self.new.known ≡ self.old.known)) }
+        ensures in_part { OnErr result (IsPrefix (changed self.old).games self.new.games × (self.new.known ≡ self.old.known)) }
+        ensures none_added { IsErrOf result DeviceError.Memory → self.new.games ≡ (changed self.old).games }
         ensures counts { self.old.calls.faults ≤ self.new.calls.faults }
         ensures cause { IfErr result (λ e. HasCause e self.old.calls.faults self.new.calls.faults) }
         ensures memory { IsErrOf result DeviceError.Memory → self.new.calls.faults ≡ self.old.calls.faults }
@@ -226,7 +229,10 @@ impl Files for MemFiles {
         ensures rest { self.new ≡ record (changed self.old) { games = self.new.games; known = self.new.known; calls = self.new.calls } }
     {
         self.change();
-        self.plan.begin()?;
+        if let Err(failed) = self.plan.begin() {
+            add_torn(&mut self.games, pad, bytes);
+            return Err(DeviceError::from(failed));
+        }
         add_padded(&mut self.games, pad, bytes)?;
         self.known += pad as u64 + bytes.len() as u64;
         Ok(())
@@ -321,4 +327,11 @@ fn add_padded(list: &mut Vec<u8>, pad: u32, bytes: &[u8]) -> Result<(), AllocErr
         return Err(refused);
     }
     Ok(())
+}
+
+// Adds what a device has written when it fails: the zero bytes and the first half of the bytes, or nothing where memory runs out.
+fn add_torn(list: &mut Vec<u8>, pad: u32, bytes: &[u8])
+    ensures in_part { IsPrefix list.old.items list.new.items }
+{
+    let _ = add_padded(list, pad, &bytes[..bytes.len() / 2]);
 }

@@ -1,6 +1,8 @@
-//! What no clause says: that the calls succeed with ample memory.
+//! What no clause says: that the calls succeed with ample memory, and how much is written of what a device fails at.
 
-use base_files::{DeviceError, Input, MemSink, MemSource, Source, read_to_limit, write_all};
+use base_files::{
+    DeviceError, Files, Input, MemFiles, MemSink, MemSource, Source, read_to_limit, write_all,
+};
 use std::alloc::Global;
 use std::test::Fail;
 
@@ -44,5 +46,17 @@ fn a_sink_takes_all_in_pieces(rt: HostRuntime) -> Result<(), Fail> {
     let mut sink = MemSink::new(taken, 2, Vec::new(rt.alloc()));
     assert_eq!(rt; write_all(&mut sink, b"one"), Ok(()));
     assert_eq!(rt; sink.taken(), b">one".as_slice());
+    Ok(())
+}
+
+#[test]
+fn a_front_part_is_added_where_adding_fails(rt: HostRuntime) -> Result<(), Fail> {
+    let games = b"ab".to_vec(rt.alloc())?;
+    let fails = Vec::from_slice(rt.alloc(), &[0])?;
+    let mut files = MemFiles::new(Vec::new(rt.alloc()), Vec::new(rt.alloc()), games, fails);
+    assert_eq!(rt; files.append_games(1, b"cdef"), Err(DeviceError::Failed));
+    assert_eq!(rt; files.games(), b"ab\0cd".as_slice());
+    assert_eq!(rt; files.append_games(0, b"!"), Ok(()));
+    assert_eq!(rt; files.games(), b"ab\0cd!".as_slice());
     Ok(())
 }

@@ -4,8 +4,15 @@ use Rattle.base_files.specs.Told.{adds}
 use Rattle.base_files.proofs.Telling.{adds-nil}
 use Rattle.command_runs.specs.Plain.{Plain, after_all, run}
 use Rattle.command_runs.specs.Endings.{Done, Halted, Cut}
-use Rattle.command_runs.specs.Runs.{Did, Stopped}
+use Rattle.command_runs.specs.Runs.{Stopped}
 use Rattle.command_runs.proofs.Joining.{halted_after, halted_more, halted_unsure, written_after}
+
+-- From one state, the commands that were left and what was told, some of the commands led to another.
+pub record Did {S C : Type 0} (m : Plain S C) (s : S) (cs : List C) (told : Option (List ℕ)) (s' : S) (cs' : List C) (told' : Option (List ℕ)) : Type 0 where
+  pub done : List C
+  pub all : cs ≡ done ++ cs'
+  pub state : s' ≡ after_all m s done
+  pub written : told' ≡ adds told (run m s done)
 
 -- One list of commands after the other.
 pub after_all-append : {S C : Type 0} (m : Plain S C) (s : S) (xs ys : List C) → after_all m s (xs ++ ys) ≡ after_all m (after_all m s xs) ys
@@ -61,7 +68,7 @@ did_all m Stands s s' cs t t' p stands =
     }
 
 -- A run that goes on from another, and stops.
-pub did_stops : {S C : Type 0} (m : Plain S C) (Broken : S → C → Type 0) (s s' : S) (cs cs' : List C) (t t' t'' : Option (List ℕ))
+pub did_stops : {S C : Type 0} (m : Plain S C) (Broken : S → C → Option (List ℕ) → Type 0) (s s' : S) (cs cs' : List C) (t t' t'' : Option (List ℕ))
     → Did m s cs t s' cs' t' → Stopped m Broken s' cs' t' t'' → Stopped m Broken s cs t t''
 did_stops {S} m Broken s s' cs cs' t t' t'' p q =
     let state : after_all m s' q.done ≡ after_all m s (p.done ++ q.done) =
@@ -84,21 +91,25 @@ did_stops {S} m Broken s s' cs cs' t t' t'' p q =
           let P : List ℕ → Type 0 = λ l. Halted l (run m s (p.done ++ q.done) ++ m.text (after_all m s (p.done ++ q.done)) q.next) t t'' in
           let Q : List ℕ → Type 0 = λ l. Halted (run m s p.done ++ run m s' q.done) l t t'' in
           subst P text (subst Q most wrote);
-      broken = let B : S → Type 0 = λ z. Broken z q.next in subst B state q.broken;
+      broken =
+          let told : adds t' (run m s' q.done) ≡ adds t (run m s (p.done ++ q.done)) =
+          written_after (run m s p.done) (run m s' q.done) t t' (adds t' (run m s' q.done)) p.written refl ∙ ap (adds t) text in
+          let B : S → Type 0 = λ z. Broken z q.next (adds t (run m s (p.done ++ q.done))) in
+          subst B state (subst (Broken (after_all m s' q.done) q.next) told q.broken);
     }
 
 -- A command that was broken off stops the run that it begins.
-pub cut_stops : {S C : Type 0} (m : Plain S C) (Broken : S → C → Type 0) (s : S) (c : C) (cs : List C) (t t' : Option (List ℕ))
-    → Cut (Broken s c) (m.text s c) t t' → Stopped m Broken s (c ∷ cs) t t'
-cut_stops m Broken s c cs t t' cut = record { done = []; next = c; left = cs; all = refl; wrote = cut.wrote; broken = cut.broken }
+pub cut_stops : {S C : Type 0} (m : Plain S C) (Broken : S → C → Option (List ℕ) → Type 0) (s : S) (c : C) (cs : List C) (t t' : Option (List ℕ))
+    → Cut (Broken s c t) (m.text s c) t t' → Stopped m Broken s (c ∷ cs) t t'
+cut_stops m Broken s c cs t t' cut = record { done = []; next = c; left = cs; all = refl; wrote = cut.wrote; broken = subst (Broken s c) (sym (adds-nil t)) cut.broken }
 
 -- A run so far and a command that was broken off.
-pub stops : {S C : Type 0} (m : Plain S C) (Broken : S → C → Type 0) (s s' : S) (cs : List C) (c : C) (cs' : List C) (t t' t'' : Option (List ℕ))
-    → Did m s cs t s' (c ∷ cs') t' → Cut (Broken s' c) (m.text s' c) t' t'' → Stopped m Broken s cs t t''
+pub stops : {S C : Type 0} (m : Plain S C) (Broken : S → C → Option (List ℕ) → Type 0) (s s' : S) (cs : List C) (c : C) (cs' : List C) (t t' t'' : Option (List ℕ))
+    → Did m s cs t s' (c ∷ cs') t' → Cut (Broken s' c t') (m.text s' c) t' t'' → Stopped m Broken s cs t t''
 stops m Broken s s' cs c cs' t t' t'' p cut = did_stops m Broken s s' cs (c ∷ cs') t t' t'' p (cut_stops m Broken s' c cs' t' t'' cut)
 
 -- What a run that stopped has written is a front part of the whole text.
-pub stopped_begins : {S C : Type 0} (m : Plain S C) (Broken : S → C → Type 0) (s : S) (cs : List C) (t t' : Option (List ℕ))
+pub stopped_begins : {S C : Type 0} (m : Plain S C) (Broken : S → C → Option (List ℕ) → Type 0) (s : S) (cs : List C) (t t' : Option (List ℕ))
     → Stopped m Broken s cs t t' → Halted [] (run m s cs) t t'
 stopped_begins m Broken s cs t t' q =
     let more : run m s (q.done ++ q.next ∷ q.left)
@@ -111,6 +122,6 @@ stopped_begins m Broken s cs t t' q =
     (halted_unsure (run m s q.done) (run m s q.done ++ m.text (after_all m s q.done) q.next) t t' q.wrote))
 
 -- A run of items that stopped broke off the command whose text begins with the texts of its items.
-pub cut_at : {S C : Type 0} (m : Plain S C) (Broken : S → C → Type 0) (s : S) (cs : List C) (behind : List ℕ) (t t' : Option (List ℕ))
+pub cut_at : {S C : Type 0} (m : Plain S C) (Broken : S → C → Option (List ℕ) → Type 0) (s : S) (cs : List C) (behind : List ℕ) (t t' : Option (List ℕ))
     → Stopped m Broken s cs t t' → Halted [] (run m s cs ++ behind) t t'
 cut_at m Broken s cs behind t t' q = halted_more [] (run m s cs) behind t t' (stopped_begins m Broken s cs t t' q)

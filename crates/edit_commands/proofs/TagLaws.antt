@@ -116,7 +116,7 @@ tag_says old new tables filter saved seen seen' buf s i tag line st there is wri
 
 -- It was refused.
 not_placed : (e : EditError) (kept : Kept) (told : Option (List ℕ)) (i : ℕ) (tag : TagEdit) (buf : List ℕ) (line : List ℕ) → WhyNotTagged kept told i tag buf e → i < length kept.entries → refused_line e ≡ Ok line
-    → IsNotPlaced kept told i tag e
+    → IsNotPlaced kept told i tag buf e
 not_placed (edit.TooLong n) kept told i tag buf line why there ends = why
 not_placed (edit.Full what) kept told i tag buf line why there ends = why
 not_placed (edit.NoGame n) kept told i tag buf line why there ends = absurd (omega (arith, why.1, there))

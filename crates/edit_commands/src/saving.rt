@@ -4,7 +4,7 @@ ghost use Rattle.command_runs.specs.Counts.{Causes, counts};
 ghost use Rattle.command_runs.specs.Endings.{NoneLost, Serves};
 ghost use Rattle.edit_commands.specs.Ends.{unsaved_halt};
 ghost use Rattle.edit_commands.specs.Saving.{save_after, saved_line, save_work};
-ghost use Rattle.shell_state.specs.Carrying.{StillCarry};
+ghost use Rattle.shell_state.specs.Carrying.{Settled, StillCarry};
 ghost use Rattle.shell_state.specs.Ends.{IsDevice};
 ghost use Rattle.shell_state.specs.Stands.{Stands, Sound, Broken, WhyHalt};
 ghost use Rattle.shell_state.specs.State.{State};
@@ -26,6 +26,8 @@ pub fn save<F: Files, K: Sink>(
     ensures serves { (s : State) → Stands machine.old (F.seen files.old) s → Serves works (Stands machine.new (F.seen files.new)) Broken s save_work (K.taken out.old) (K.taken out.new) result }
     ensures sound { OnOk result (Sound machine.new (F.seen files.new)) }
     ensures carries { (s : State) → Stands machine.old (F.seen files.old) s → IfErr result (λ _. StillCarry (F.seen files.new) s (Some (λ base. base))) }
+    // Nothing of its line was written before the files carry the base.
+    ensures settled { (s : State) → Stands machine.old (F.seen files.old) s → IfErr result (λ _. Settled (F.seen files.new) (save_after s) (K.taken out.old) (K.taken out.new)) }
     ensures choices { (F.seen files.new).choices ≡ (F.seen files.old).choices }
     ensures none_asked { F.asked files.new ≡ F.asked files.old }
     ensures none_lost { NoneLost (K.taken out.old) (K.taken out.new) }

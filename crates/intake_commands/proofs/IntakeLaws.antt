@@ -5,10 +5,9 @@ use Rattle.base_files.proofs.Telling.{adds-nil}
 use Rattle.base_files.specs.Seen.{Seen}
 use Rattle.base_files.specs.Told.{adds}
 use Rattle.command_runs.proofs.Joining.{written_after, halted_all, halted_more, halted_unsure}
-use Rattle.command_runs.proofs.Running.{after_all-append, run-append, stopped_begins, stops}
+use Rattle.command_runs.proofs.Running.{Did, after_all-append, run-append, stopped_begins, stops}
 use Rattle.command_runs.specs.Endings.{Done, Halted, Cut, Serves}
 use Rattle.command_runs.specs.Plain.{after_all, run}
-use Rattle.command_runs.specs.Runs.{Did}
 use Rattle.game_tree.specs.Game.{GameTree}
 use Rattle.game_tree.specs.declared.head.Head.{Head}
 use Rattle.pgn_read.proofs.CountLaws.{listed_alone, are_items}
@@ -152,8 +151,8 @@ took_cut holding seen s text ahead ahead' told told' told'' added refused item e
     let rest = behind_next text ahead ahead' took.done item took.behind follows in
     let did : Did intake (none_taken s) (items_of text) told (after_all intake (none_taken s) took.done) (item ∷ rest.0) told' =
     record { done = took.done; all = rest.1; state = refl; written = took.written } in
-    stopped_begins intake (λ _ _. IsFault e) (none_taken s) (items_of text) told told''
-    (stops intake (λ _ _. IsFault e) (none_taken s) (after_all intake (none_taken s) took.done) (items_of text) item rest.0 told told' told'' did cut)
+    stopped_begins intake (λ _ _ _. IsFault e) (none_taken s) (items_of text) told told''
+    (stops intake (λ _ _ _. IsFault e) (none_taken s) (after_all intake (none_taken s) took.done) (items_of text) item rest.0 told told' told'' did cut)
 
 -- ---- what ends it early
 

@@ -5,10 +5,13 @@ use shell_session::Status;
 use std::alloc::{AllocError, Global};
 use std::test::Fail;
 
-/// A fault at a call from the first number up to the second leaves so much of the text written, and files that then list this. Opening takes
+/// What files hold: what they list, and the heads and the movetexts of the games that they export.
+type Held = (&'static [u8], &'static [&'static [u8]]);
+
+/// A fault at a call from the first number up to the second leaves so much of the text written, and files that then hold this. Opening takes
 /// six calls, `watch` and `index` one for each game, an edit of a tag and each `save` two, a game that comes in one, `compact` one, two for each
 /// game that stays and one, and `find` one; the last run has no fault. The index is replaced last, so that a `save` has happened or not.
-const STAGES: [(u64, u64, usize, &[u8]); 12] = [
+const STAGES: [(u64, u64, usize, Held); 12] = [
     (0, 6, 0, OPENED),
     (6, 8, 22, OPENED),
     (8, 10, 33, OPENED),
@@ -25,7 +28,7 @@ const STAGES: [(u64, u64, usize, &[u8]); 12] = [
 
 /// The same where the view refuses the put of this number: of the first move's row when the slot is watched, of two rows behind the games that
 /// came in, of one behind the compaction, which has taken place, and of one when all games but one leave the filter; the last is not asked for.
-const REFUSED: [(u64, usize, &[u8]); 6] = [
+const REFUSED: [(u64, usize, Held); 6] = [
     (0, 22, OPENED),
     (1, 92, TAGGED),
     (2, 92, TAGGED),
@@ -34,21 +37,60 @@ const REFUSED: [(u64, usize, &[u8]); 6] = [
     (5, 190, COMPACTED),
 ];
 
-const OPENED: &[u8] =
-    b"base 2 games 0 mended\n0 0 1-0 1910.??.?? B15 ? - ?\n1 0 1-0 1910.??.?? B15 ? - ?\nfilter 2 of 2\n";
+const OPENED: Held = (
+    b"base 2 games 0 mended\n0 0 1-0 1910.??.?? B15 ? - ?\n1 0 1-0 1910.??.?? B15 ? - ?\nfilter 2 of 2\n",
+    &[UNNAMED, MATE, UNNAMED, MATE],
+);
 
-const TAGGED: &[u8] =
-    b"base 2 games 0 mended\n0 0 1-0 1910.??.?? B15 A - ?\n1 0 1-0 1910.??.?? B15 ? - ?\nfilter 2 of 2\n";
+const TAGGED: Held = (
+    b"base 2 games 0 mended\n0 0 1-0 1910.??.?? B15 A - ?\n1 0 1-0 1910.??.?? B15 ? - ?\nfilter 2 of 2\n",
+    &[WHITE_NAMED, MATE, UNNAMED, MATE],
+);
 
-const IMPORTED: &[u8] =
+const IMPORTED: Held = (
     b"base 4 games 0 mended\n0 0 1-0 1910.??.?? B15 A - ?\n1 0 1-0 1910.??.?? B15 ? - ?\n\
-2 0 * ????.??.?? - ? - ?\n3 0 * ????.??.?? - ? - ?\nfilter 4 of 4\n";
+2 0 * ????.??.?? - ? - ?\n3 0 * ????.??.?? - ? - ?\nfilter 4 of 4\n",
+    &[
+        WHITE_NAMED,
+        MATE,
+        UNNAMED,
+        MATE,
+        NO_TAGS,
+        KING_PAWN,
+        NO_TAGS,
+        QUEEN_PAWN,
+    ],
+);
 
-const COMPACTED: &[u8] =
-    b"base 3 games 0 mended\n0 0 1-0 1910.??.?? B15 ? - ?\n1 0 * ????.??.?? - ? - ?\n2 0 * ????.??.?? - ? - ?\nfilter 3 of 3\n";
+const COMPACTED: Held = (
+    b"base 3 games 0 mended\n0 0 1-0 1910.??.?? B15 ? - ?\n1 0 * ????.??.?? - ? - ?\n2 0 * ????.??.?? - ? - ?\nfilter 3 of 3\n",
+    &[UNNAMED, MATE, NO_TAGS, KING_PAWN, NO_TAGS, QUEEN_PAWN],
+);
 
-const LIST: Run<'static> = Run {
-    script: b"list\n",
+/// The heads of the games: of those of the base, of the first when its White has a name, and of those that come in.
+const UNNAMED: &[u8] =
+    b"[Event \"?\"]\n[Site \"?\"]\n[Date \"1910.??.??\"]\n[Round \"?\"]\n[White \"?\"]\n[Black \"?\"]\n\
+[Result \"1-0\"]\n[ECO \"B15\"]\n\n";
+
+const WHITE_NAMED: &[u8] =
+    b"[Event \"?\"]\n[Site \"?\"]\n[Date \"1910.??.??\"]\n[Round \"?\"]\n[White \"A\"]\n[Black \"?\"]\n\
+[Result \"1-0\"]\n[ECO \"B15\"]\n\n";
+
+const NO_TAGS: &[u8] =
+    b"[Event \"?\"]\n[Site \"?\"]\n[Date \"????.??.??\"]\n[Round \"?\"]\n[White \"?\"]\n[Black \"?\"]\n\
+[Result \"*\"]\n\n";
+
+/// And their movetexts.
+const MATE: &[u8] =
+    b"1. e4 c6 2. d4 d5 3. Nc3 dxe4 4. Nxe4 Nf6 5. Qd3 e5 6. dxe5 Qa5+ 7. Bd2 Qxe5\n\
+8. O-O-O Nxe4 9. Qd8+ Kxd8 10. Bg5+ Kc7 11. Bd8# 1-0\n\n";
+
+const KING_PAWN: &[u8] = b"1. e4 *\n\n";
+
+const QUEEN_PAWN: &[u8] = b"1. d4 *\n\n";
+
+const LIST_AND_EXPORT: Run<'static> = Run {
+    script: b"list\nexport\n",
     input: &[],
     out: &[],
     strict: true,
@@ -57,7 +99,7 @@ const LIST: Run<'static> = Run {
 const EXPORT: Run<'static> = Run {
     script: b"export\n",
     strict: false,
-    ..LIST
+    ..LIST_AND_EXPORT
 };
 
 const FIND_START: Run<'static> = Run {
@@ -86,15 +128,12 @@ const COMPACT: Run<'static> = Run {
 };
 
 /// What is written where the second game can't be read behind the opening: `export` writes game by game, `find` when it is done.
-const HALF_DONE: [(Run<'static>, &[u8]); 2] = [
-    (EXPORT, ONE_OF_TWO),
-    (FIND_START, b"base 2 games 0 mended\n"),
+const HALF_DONE: [(Run<'static>, Held); 2] = [
+    (EXPORT, (ONE_LINE, &[UNNAMED, MATE])),
+    (FIND_START, (ONE_LINE, &[])),
 ];
 
-const ONE_OF_TWO: &[u8] = b"base 2 games 0 mended\n\
-[Event \"?\"]\n[Site \"?\"]\n[Date \"1910.??.??\"]\n[Round \"?\"]\n[White \"?\"]\n[Black \"?\"]\n[Result \"1-0\"]\n[ECO \"B15\"]\n\n\
-1. e4 c6 2. d4 d5 3. Nc3 dxe4 4. Nxe4 Nf6 5. Qd3 e5 6. dxe5 Qa5+ 7. Bd2 Qxe5\n\
-8. O-O-O Nxe4 9. Qd8+ Kxd8 10. Bg5+ Kc7 11. Bd8# 1-0\n\n";
+const ONE_LINE: &[u8] = b"base 2 games 0 mended\n";
 
 /// A script, a byte of the record that changes, whether the record is then that of another legal game, and what is written.
 type Change = (Run<'static>, Swap, bool, &'static [u8]);
@@ -148,7 +187,17 @@ fn again(alloc: Global, files: &MemFiles) -> Result<MemFiles, AllocError> {
     ))
 }
 
-/// Whether a run of the edits over files of which these calls fail, and a view that refuses a row, leaves so much written, and files that list
+/// Whether a text is what is listed and then the games that are exported.
+fn is_text(alloc: Global, text: &[u8], held: &Held) -> Result<bool, AllocError> {
+    let (listed, games) = *held;
+    let mut wanted = Vec::from_slice(alloc, listed)?;
+    for part in games {
+        wanted.extend_from_slice(part)?;
+    }
+    Ok(text == wanted.as_slice())
+}
+
+/// Whether a run of the edits over files of which these calls fail, and a view that refuses a row, leaves so much written, and files that hold
 /// this. It is done where the whole text is written.
 fn leaves(
     alloc: Global,
@@ -156,12 +205,12 @@ fn leaves(
     refuse: Option<u64>,
     fault: Status,
     size: usize,
-    listed: &[u8],
+    held: &Held,
 ) -> Result<bool, AllocError> {
     let mut files = files_of(alloc, 2, fails)?;
     let (ended, written) = run_over_a_view(alloc, &mut files, &EDITS, refuse)?;
     let mut files = again(alloc, &files)?;
-    let (opened, list) = run_over(alloc, &mut files, &LIST)?;
+    let (opened, text) = run_over(alloc, &mut files, &LIST_AND_EXPORT)?;
     let wanted = if size == EDITS_TEXT.len() {
         Status::Done
     } else {
@@ -172,15 +221,15 @@ fn leaves(
             && written.len() == size
             && EDITS_TEXT.starts_with(written.as_slice())
             && opened == Status::Done
-            && list.as_slice() == listed,
+            && is_text(alloc, text.as_slice(), held)?,
     )
 }
 
 #[test]
 fn carries_what_was_saved_or_compacted_at_each_fault(rt: HostRuntime) -> Result<(), Fail> {
-    for (from, to, size, listed) in STAGES {
-        for call in from..to {
-            let left = leaves(rt.alloc(), &[call], None, Status::FilesFault, size, listed)?;
+    for (from, to, size, held) in &STAGES {
+        for call in *from..*to {
+            let left = leaves(rt.alloc(), &[call], None, Status::FilesFault, *size, held)?;
             assert!(rt; left);
         }
     }
@@ -189,8 +238,8 @@ fn carries_what_was_saved_or_compacted_at_each_fault(rt: HostRuntime) -> Result<
 
 #[test]
 fn carries_the_same_at_each_row_that_is_refused(rt: HostRuntime) -> Result<(), Fail> {
-    for (put, size, listed) in REFUSED {
-        assert!(rt; leaves(rt.alloc(), &[], Some(put), Status::Memory, size, listed)?);
+    for (put, size, held) in &REFUSED {
+        assert!(rt; leaves(rt.alloc(), &[], Some(*put), Status::Memory, *size, held)?);
     }
     Ok(())
 }
@@ -198,11 +247,11 @@ fn carries_the_same_at_each_row_that_is_refused(rt: HostRuntime) -> Result<(), F
 #[test]
 fn ends_where_a_game_is_not_read(rt: HostRuntime) -> Result<(), Fail> {
     let before = files_of(rt.alloc(), 2, &[])?;
-    for (run, text) in HALF_DONE {
+    for (run, text) in &HALF_DONE {
         let mut files = files_of(rt.alloc(), 2, &[7])?;
-        let (status, written) = run_over(rt.alloc(), &mut files, &run)?;
+        let (status, written) = run_over(rt.alloc(), &mut files, run)?;
         assert!(rt; status == Status::FilesFault);
-        assert!(rt; written.as_slice() == text);
+        assert!(rt; is_text(rt.alloc(), written.as_slice(), text)?);
         assert!(rt; files.index() == before.index());
         assert!(rt; files.names() == before.names());
         assert!(rt; files.games() == before.games());

@@ -1,6 +1,7 @@
-//! A fault of the source, or of the sink, at each byte of a script of edits.
+//! A fault of the source, or of the sink, at each byte of a script of edits, and what a source still has behind `quit`.
 use super::base::{EDITS, EDITS_TEXT, Run, files_of, run_over_a_view};
-use shell_session::Status;
+use base_files::{DeviceError, Input, MemSink, MemSource, read_to_limit};
+use shell_session::{Status, session};
 use std::alloc::{AllocError, Global};
 use std::test::Fail;
 
@@ -38,6 +39,36 @@ fn ends(
     )
 }
 
+/// So many bytes stand behind the line of `quit`, and at most so many of them are read.
+const BEHIND: usize = 65_536;
+
+const FURTHER: usize = 32_768;
+
+/// The status of a session that ends with `quit`, and how many of the bytes behind that line its source still has.
+fn left_behind_quit(alloc: Global) -> Result<(Status, usize), DeviceError> {
+    let mut script = Vec::from_slice(alloc, b"quit\n")?;
+    let behind = vec![in alloc; b'\n'; BEHIND]?;
+    script.extend_from_slice(behind.as_slice())?;
+    let mut words = Vec::new(alloc);
+    words.push(String::from_str(alloc, "base")?)?;
+    let mut files = files_of(alloc, 1, &[])?;
+    let mut input = MemSource::new(script, 131_072, Vec::new(alloc));
+    let mut out = MemSink::new(Vec::new(alloc), 1, Vec::new(alloc));
+    let mut views = Vec::new(alloc);
+    let status = session(
+        alloc,
+        words.as_slice(),
+        &mut files,
+        &mut input,
+        &mut out,
+        &mut views,
+    );
+    match read_to_limit(alloc, &mut input, BEHIND)? {
+        Input::Whole(rest) => Ok((status, rest.len())),
+        Input::TooLong => Ok((status, 0)),
+    }
+}
+
 #[test]
 fn ends_at_each_fault_of_the_source(rt: HostRuntime) -> Result<(), Fail> {
     for (from, to, least, most) in READ {
@@ -70,5 +101,13 @@ fn ends_at_each_fault_of_the_sink(rt: HostRuntime) -> Result<(), Fail> {
             EDITS_TEXT.len()
         )?
     );
+    Ok(())
+}
+
+#[test]
+fn leaves_what_stands_far_behind_quit(rt: HostRuntime) -> Result<(), Fail> {
+    let (status, left) = left_behind_quit(rt.alloc()).ok().ok_or("no memory")?;
+    assert!(rt; status == Status::Done);
+    assert!(rt; left >= BEHIND - FURTHER);
     Ok(())
 }

@@ -18,12 +18,27 @@ const WATCH_AND_IMPORT: &[u8] =
 const IMPORT_WATCH_AND_IMPORT: &[u8] =
     b"import <<X\n1. d4 *\nX\nwatch 0 rnbqkbnr/pppppppp/8/8/8/8/PPPPPPPP/RNBQKBNR w\nimport <<X\n1. c4 *\nX\n";
 
-/// Sessions over a base of one game and one view, which refuses the put of this number, if of any: what is written, and how many rows the view
-/// shows at the end, if it is still there.
-type Session = (&'static [u8], Option<u64>, &'static [u8], Option<usize>);
+/// Each kind of command that may change a row: a tag and a deletion change none, `clear` and `reset` the one, each game that comes in one, and
+/// a game that goes one.
+const FOLLOW: &[u8] =
+    b"watch 0 rnbqkbnr/pppppppp/8/8/8/8/PPPPPPPP/RNBQKBNR w\ntag 0 White A\nclear\nreset\nimport <<X\n1. d4 *\n\n1. e4 *\nX\ndelete 1\ncompact\n";
 
-const DONE: [Session; 3] = [
-    (WATCH, None, b"base 1 games 0 mended\nwatching 0\n", Some(1)),
+/// Sessions over a base of one game and one view, which refuses the put of this number, if of any: what is written, and how many rows the view
+/// shows at the end and how many changes it was told, if it is still there. A slot that is watched is cleared first.
+type Session = (
+    &'static [u8],
+    Option<u64>,
+    &'static [u8],
+    Option<(usize, u64)>,
+);
+
+const DONE: [Session; 4] = [
+    (
+        WATCH,
+        None,
+        b"base 1 games 0 mended\nwatching 0\n",
+        Some((1, 2)),
+    ),
     (
         WATCH_AND_UNWATCH,
         None,
@@ -34,23 +49,30 @@ const DONE: [Session; 3] = [
         WATCH_AND_IMPORT,
         Some(2),
         b"base 1 games 0 mended\nwatching 0\nadded 1\nimported 1 refused 0\nunsaved\n",
-        Some(2),
+        Some((2, 3)),
+    ),
+    (
+        FOLLOW,
+        None,
+        b"base 1 games 0 mended\nwatching 0\ntagged 0\nfilter 0 of 1\nfilter 1 of 1\n\
+added 1\nadded 2\nimported 2 refused 0\ndeleted 1\ncompacted 3 to 2\n",
+        Some((1, 7)),
     ),
 ];
 
 const OUT_OF_MEMORY: [Session; 3] = [
-    (WATCH, Some(0), b"base 1 games 0 mended\n", Some(0)),
+    (WATCH, Some(0), b"base 1 games 0 mended\n", Some((0, 1))),
     (
         WATCH_AND_IMPORT,
         Some(1),
         b"base 1 games 0 mended\nwatching 0\nadded 1\n",
-        Some(1),
+        Some((1, 2)),
     ),
     (
         IMPORT_WATCH_AND_IMPORT,
         Some(2),
         b"base 1 games 0 mended\nadded 1\nimported 1 refused 0\nwatching 0\nadded 2\n",
-        Some(2),
+        Some((2, 3)),
     ),
 ];
 
@@ -65,23 +87,23 @@ fn run_of(script: &[u8]) -> Run<'_> {
     }
 }
 
-/// How many rows the one view shows, if it is there.
-fn shown(views: &[Option<Box<dyn TreeView>>]) -> Option<usize> {
+/// How many rows the one view shows and how many changes it was told, if it is there.
+fn shown(views: &[Option<Box<dyn TreeView>>]) -> Option<(usize, u64)> {
     match views {
-        [Some(view)] => Some(view.len()),
+        [Some(view)] => Some((view.len(), view.told())),
         _ => None,
     }
 }
 
 /// Whether a session ends so.
 fn ends(alloc: Global, session: &Session, wanted: Status) -> Result<bool, AllocError> {
-    let (script, refuse, text, rows) = *session;
+    let (script, refuse, text, view_left) = *session;
     let mut views: Vec<Option<Box<dyn TreeView>>> = Vec::new(alloc);
     let view: Box<dyn TreeView> = Box::new(alloc, TableView::new(Vec::new(alloc), refuse))?;
     views.push(Some(view))?;
     let mut files = files_of(alloc, 1, &[])?;
     let (status, written) = run_over_views(alloc, &mut files, &run_of(script), &mut views)?;
-    Ok(status == wanted && written.as_slice() == text && shown(views.as_slice()) == rows)
+    Ok(status == wanted && written.as_slice() == text && shown(views.as_slice()) == view_left)
 }
 
 #[test]

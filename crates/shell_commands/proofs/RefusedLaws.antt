@@ -25,7 +25,7 @@ use Rattle.script_text.specs.declared.command.Command.TheVariants.{Nothing, Find
 use Rattle.edit_commands.specs.Compacting.{compacted_line, compacted_state, is_within}
 use Rattle.edit_commands.specs.Editing.{edited_there, line_there, tag_line_there, tagged_there, unless_refused}
 use Rattle.filter_seat.specs.SavedFilters.{dropped_at, dropped_in, has_room, is_kept, joined_with, kept_at, place_of, plies_at, saved_as, taken}
-use Rattle.intake_commands.specs.Demo.{Adding, adding, one_more, unless_ended, unless_refusal, unless_shown}
+use Rattle.intake_commands.specs.Demo.{Adding, adding, one_more, unless_ended, unless_refusal, unless_said, unless_shown}
 use Rattle.intake_commands.specs.Importing.{Intake, intake, item_after, line_with, none_taken, state_with, the_new, unless_not_added}
 use Rattle.report_commands.specs.Classifying.{state_by, text_by}
 use Rattle.shell_commands.specs.Refused.{IsError}
@@ -41,7 +41,7 @@ use Rattle.shell_state.specs.Lines.{game_line, filter_line, full_filters_line, h
 use Rattle.shell_state.specs.Refusing.{not_added, refusal_line, refusal_of}
 use Rattle.shell_state.specs.Slots.{Slot, slot_at}
 use Rattle.shell_state.specs.Slots.Slot.{empty, idle, shows}
-use Rattle.shell_state.specs.State.{State, with_filter, with_seat, games_of, with_index}
+use Rattle.shell_state.specs.State.{State, with_filter, with_game, with_seat, games_of, with_index}
 use Rattle.shell_state.specs.declared.refusing.Refusal.{Refusal}
 use Rattle.shell_state.specs.declared.refusing.Refusal.TheVariants.{Full}
 use Rattle.view_commands.specs.Views.{left, showing, unwatch_line, watch_line, with_slot}
@@ -214,22 +214,39 @@ refused s t few is imports makes = order_refused s t.order t.body few is imports
 
 -- ---- games are added behind the others
 
-abbrev Adds : State → State → Type 0
-Adds old new = (more : List Held) × (new.shared.base.games ≡ old.shared.base.games ++ more)
+-- Games came in behind the others, and where none did the state is as it was.
+record Adds (old new : State) : Type 0 where
+  more : List Held
+  is : new.shared.base.games ≡ old.shared.base.games ++ more
+  still : more ≡ [] → new ≡ old
 
 none_added : (s : State) → Adds s s
-none_added s = ([], sym (append-nil s.shared.base.games))
+none_added s = record { more = []; is = sym (append-nil s.shared.base.games); still = λ none. refl }
+
+none_both : (first later : List Held) → first ++ later ≡ [] → (first ≡ []) × (later ≡ [])
+none_both [] later none = (refl, none)
+none_both (held ∷ first) later none = absurd cc
 
 adds_on : (s s' s'' : State) → Adds s s' → Adds s' s'' → Adds s s''
-adds_on s s' s'' first later = (first.0 ++ later.0, later.1 ∙ ap (λ (l : List Held). l ++ later.0) first.1 ∙ append_assoc s.shared.base.games first.0 later.0)
+adds_on s s' s'' first later = record {
+  more = first.more ++ later.more;
+  is = later.is ∙ ap (λ (l : List Held). l ++ later.more) first.is ∙ append_assoc s.shared.base.games first.more later.more;
+  still = λ none. let both = none_both first.more later.more none in later.still both.1 ∙ first.still both.0;
+}
 
 added_games : (head : Head) (game : GameTree) (base : Base) → (added head game base).games ≡ base.games ++ held_of head game ∷ []
 unfolding added
 added_games head game base = refl
 
+one_there : (held : Held) → held ∷ [] ≡ [] → ⊥
+one_there held none = cc
+
+one_added : (s : State) (head : Head) (game : GameTree) → Adds s (with_game s head game)
+one_added s head game = record { more = held_of head game ∷ []; is = added_games head game s.shared.base; still = λ none. absurd (one_there (held_of head game) none) }
+
 item_by : (why : Option Refusal) (i : Intake) (head : Head) (game : GameTree) → Adds i.state (unless_not_added why i head game).state
 item_by (Some why) i head game = none_added i.state
-item_by None i head game = (held_of head game ∷ [], added_games head game i.state.shared.base)
+item_by None i head game = one_added i.state head game
 
 item_adds : (i : Intake) (item : Item) → Adds i.state (item_after i item).state
 item_adds i (Good head game) = item_by (not_added i.state.shared head game) i head game
@@ -239,12 +256,12 @@ items_add : (i : Intake) (items : List Item) → Adds i.state (after_all intake 
 items_add i [] = none_added i.state
 items_add i (item ∷ items) = adds_on i.state (item_after i item).state (after_all intake (item_after i item) items).state (item_adds i item) (items_add (item_after i item) items)
 
-pub imported : (s : State) (word body : List ℕ) → Adds s (tasks.after s (record { order = Ok (Import word); body = body }))
-imported s word body = items_add (none_taken s) (items_of body)
+pub imported : (s : State) (word body : List ℕ) → (more : List Held) × ((tasks.after s (record { order = Ok (Import word); body = body })).shared.base.games ≡ s.shared.base.games ++ more)
+imported s word body = let adds = items_add (none_taken s) (items_of body) in (adds.more, adds.is)
 
 made_by : (why : Option Refusal) (a : Adding) (made : Made) → Adds a.state (unless_refusal why a made).state
 made_by (Some why) a made = none_added a.state
-made_by None a made = (held_of made.head made.game ∷ [], added_games made.head made.game a.state.shared.base)
+made_by None a made = one_added a.state made.head made.game
 
 one_by : (why : Option Refusal) (a : Adding) (made : Made) → Adds a.state (unless_ended why a made).state
 one_by (Some why) a made = none_added a.state
@@ -255,9 +272,31 @@ adding_adds s seed zero = none_added s
 adding_adds s seed (suc games) =
     adds_on s (adding s seed games).state (one_more (adding s seed games) games).state (adding_adds s seed games) (one_by (adding s seed games).refused (adding s seed games) (demo_game (adding s seed games).number games))
 
-shown_by : (why : Option Refusal) (s s' : State) → Adds s s' → Adds s (unless_shown why s')
-shown_by (Some why) s s' adds = adds
-shown_by None s s' adds = adds
+shown_games : (why : Option Refusal) (s : State) → (unless_shown why s).shared.base.games ≡ s.shared.base.games
+shown_games (Some why) s = refl
+shown_games None s = refl
 
-pub made : (s : State) (seed games : ℕ) (body : List ℕ) → Adds s (tasks.after s (record { order = Ok (Demo seed games); body = body }))
-made s seed games body = shown_by (adding s seed games).refused s (adding s seed games).state (adding_adds s seed games)
+pub made : (s : State) (seed games : ℕ) (body : List ℕ) → (more : List Held) × ((tasks.after s (record { order = Ok (Demo seed games); body = body })).shared.base.games ≡ s.shared.base.games ++ more)
+made s seed games body = let adds = adding_adds s seed games in (adds.more, shown_games (adding s seed games).refused (adding s seed games).state ∙ adds.is)
+
+-- ---- where no game is added
+
+no_more : (games more : List Held) → games ++ more ≡ games → more ≡ []
+no_more [] more is = is
+no_more (held ∷ games) more is =
+    let rest : games ++ more ≡ games = cc in
+    no_more games more rest
+
+same_then : (s s' : State) → Adds s s' → s'.shared.base.games ≡ s.shared.base.games → s' ≡ s
+same_then s s' adds same = adds.still (no_more s.shared.base.games adds.more (sym adds.is ∙ same))
+
+pub imported_none : (s : State) (word body : List ℕ) → (tasks.after s (record { order = Ok (Import word); body = body })).shared.base.games ≡ s.shared.base.games → tasks.after s (record { order = Ok (Import word); body = body }) ≡ s
+imported_none s word body same = same_then s (after_all intake (none_taken s) (items_of body)).state (items_add (none_taken s) (items_of body)) same
+
+ended_so : (why : Option Refusal) (games plies : ℕ) (s s' : State) → Adds s s' → IsError (unless_said why games plies s') → (unless_shown why s').shared.base.games ≡ s.shared.base.games → unless_shown why s' ≡ s
+ended_so (Some why) games plies s s' adds is same = same_then s s' adds same
+ended_so None games plies s s' adds is same = absurd (not_error 100 _ refl is)
+
+pub made_none : (s : State) (seed games : ℕ) (body : List ℕ) → IsError (tasks.text s (record { order = Ok (Demo seed games); body = body }))
+    → (tasks.after s (record { order = Ok (Demo seed games); body = body })).shared.base.games ≡ s.shared.base.games → tasks.after s (record { order = Ok (Demo seed games); body = body }) ≡ s
+made_none s seed games body is same = ended_so (adding s seed games).refused games (adding s seed games).plies s (adding s seed games).state (adding_adds s seed games) is same

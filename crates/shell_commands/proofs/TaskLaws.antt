@@ -1,18 +1,25 @@
 -- Laws of tasks: what a command owes is what its task owes.
-use Rattle.std.proofs.Common.{◌≡◌, ◌≤◌, ◌+◌, ℕ, false, [], List, Option, None, Result, Ok, Err, refl, sym, subst}
+use Rattle.std.proofs.Common.{◌≡◌, ◌≤◌, ◌+◌, ℕ, Bool, true, false, [], List, Option, None, Some, Result, Ok, Err, refl, sym, subst, inl}
+use Rattle.std.specs.Prelude.{IfErr, IfSome}
+use Rattle.base_core.specs.Base.{Base}
 use Rattle.base_files.specs.Seen.{Seen}
 use Rattle.command_runs.specs.Endings.{Serves}
-use Rattle.script_text.specs.Tasks.{Task, body_word, word_of}
+use Rattle.script_text.specs.Tasks.{Task, body_word, task, word_of}
 use Rattle.script_text.specs.declared.command.Command.{Command}
-use Rattle.script_text.specs.declared.command.Command.TheVariants.{Demo, Import, Replace, Eco}
+use Rattle.script_text.specs.declared.command.Command.TheVariants.{Compact, Demo, Import, Replace, Eco, Save}
 use Rattle.intake_commands.specs.Demo.{demo_price}
+use Rattle.shell_state.proofs.CarryLaws.{if_err, settled_of}
 use Rattle.shell_state.proofs.PriceLaws.{asked_told}
+use Rattle.shell_state.specs.Carrying.{Settled}
 use Rattle.shell_state.specs.Stands.{Asks, AsksBy, Broken, Holding, Stands}
 use Rattle.shell_state.specs.State.{State}
 use Rattle.shell_state.specs.Work.{Look, Price, Work, price_by, works}
 use Rattle.shell_state.specs.Work.Price.{by_looks}
 use Rattle.shell_state.specs.declared.halt.Halt.{Halt}
-use Rattle.shell_commands.specs.Tasks.{BrokenTask, Order, order_price, command_work, order_work, task_work, tasks}
+use Rattle.shell_commands.specs.Parts.{part_of}
+use Rattle.shell_commands.specs.declared.parts.Part.{Part}
+use Rattle.shell_commands.specs.declared.parts.Part.TheVariants.{Edits, Texts}
+use Rattle.shell_commands.specs.Tasks.{BrokenTask, Order, SettledTask, order_left, order_price, command_work, order_work, task_work, tasks}
 
 pub task_serves : {A : Type 0} (r : Result A Halt) (new : Holding) (seen : Seen) (s : State) (t : Task) (told told' : Option (List ℕ))
     → Serves works (Stands new seen) Broken s (task_work t) told told' r → Serves tasks (Stands new seen) BrokenTask s t told told' r
@@ -42,3 +49,34 @@ pub asked_by : (holding : Holding) (seen : Seen) (s : State) (command : Command)
     → ((seed games : ℕ) → command ≡ Demo seed games → new ≤ old + demo_price s seed games) → new ≤ old + order_price s (Ok command)
 asked_by holding seen s (Demo seed games) old new st asked demo = demo seed games refl
 asked_by holding seen s command old new st asked demo = asks_so (command_work command []) _ holding seen s old new refl st asked
+
+-- ---- commands that leave a base in the place of the files
+
+-- The parts in which there are any.
+abbrev pub may_leave : Part → Bool
+may_leave Edits = true
+may_leave Texts = true
+may_leave _ = false
+
+none_left : (command : Command) → may_leave (part_of command) ≡ false → order_left (Ok command) ≡ None
+none_left Save still = cc
+none_left Compact still = cc
+none_left _ still = refl
+
+pub still_settled : {A : Type 0} (r : Result A Halt) (seen : Seen) (s : State) (command : Command) (text : List ℕ) (told told' : Option (List ℕ)) → may_leave (part_of command) ≡ false
+    → IfErr r (λ _. SettledTask seen s (task (Ok command) text) told told')
+still_settled r seen s command text told told' still =
+    let P : Option (Base → Base) → Type 0 = λ o. IfSome o (λ left. Settled seen (tasks.after s (task (Ok command) text)) told told') in
+    if_err r _ (subst P (sym (none_left command still)) tt)
+
+settled_so : (left : Option (Base → Base)) (P : Type 0) → P → IfSome left (λ _. P)
+settled_so None P is = tt
+settled_so (Some base) P is = is
+
+-- Nothing was written.
+pub task_unsettled : (seen : Seen) (s : State) (t : Task) (told : Option (List ℕ)) → SettledTask seen s t told told
+task_unsettled seen s t told = settled_so (order_left t.order) (Settled seen (tasks.after s t) told told) (inl refl)
+
+-- The state behind it stood before anything was.
+pub task_settled : {A : Type 0} (r : Result A Halt) (holding : Holding) (seen : Seen) (s : State) (t : Task) (told told' : Option (List ℕ)) → Stands holding seen (tasks.after s t) → IfErr r (λ _. SettledTask seen s t told told')
+task_settled r holding seen s t told told' st = if_err r _ (settled_so (order_left t.order) _ (settled_of holding seen (tasks.after s t) told told' st))

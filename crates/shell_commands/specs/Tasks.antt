@@ -1,5 +1,6 @@
 -- The plain machine over the tasks of a script, its lines with their bodies: what each command does. This project's own.
-use Rattle.std.specs.Prelude.{ℕ, Bool, List, [], Option, Result, Ok, Err}
+use Rattle.std.specs.Prelude.{ℕ, Bool, List, [], Option, IfSome, Result, Ok, Err}
+use Rattle.base_files.specs.Seen.{Seen}
 use Rattle.base_core.specs.Base.{Base}
 use Rattle.command_runs.specs.Plain.{Plain}
 use Rattle.script_text.specs.Tasks.{Task}
@@ -18,6 +19,7 @@ use Rattle.report_commands.specs.Crosstables.{cross_work}
 use Rattle.report_commands.specs.Twins.{twins_work}
 use Rattle.search_commands.specs.Searching.{find_work, hits_work, search_header_work, search_material_work, search_position_work}
 use Rattle.search_commands.specs.Trees.{tree_work}
+use Rattle.shell_state.specs.Carrying.{Settled}
 use Rattle.shell_state.specs.Lines.{fault_line}
 use Rattle.shell_state.specs.Stands.{Broken}
 use Rattle.shell_state.specs.State.{State}
@@ -94,6 +96,11 @@ order_writes order = (order_work order []).writes
 
 abbrev pub order_left : Order → Option (Base → Base)
 order_left order = (order_work order []).left
+
+-- What is known of the files where a task was broken off that leaves a base in their place: nothing of its text was written, or they carry what
+-- the state behind it says.
+abbrev pub SettledTask : Seen → State → Task → Option (List ℕ) → Option (List ℕ) → Type 0
+SettledTask seen s t told told' = IfSome (order_left t.order) (λ left. Settled seen (tasks.after s t) told told')
 
 abbrev pub order_price : State → Order → ℕ
 order_price s order = price s (order_work order [])

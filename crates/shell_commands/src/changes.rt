@@ -8,7 +8,7 @@ ghost use Rattle.script_text.specs.declared.command.Command.TheVariants.{Demo, I
 ghost use Rattle.intake_commands.specs.Demo.{demo_price};
 ghost use Rattle.intake_commands.specs.Importing.{import_work};
 ghost use Rattle.shell_commands.specs.Parts.{part_of};
-ghost use Rattle.shell_commands.specs.Tasks.{command_work};
+ghost use Rattle.shell_commands.specs.Tasks.{command_work, SettledTask};
 ghost use Rattle.shell_commands.specs.Watching.{ViewsDone, touches};
 ghost use Rattle.shell_commands.specs.declared.parts.Part.TheVariants.{Edits, Games};
 ghost use Rattle.shell_state.specs.Carrying.{StillCarry};
@@ -74,6 +74,7 @@ pub(crate) fn serve_edit<F: Files, B: Source, K: Sink>(
     ensures number { length views.new ≡ length views.old }
     ensures sound { OnOk result (Sound machine.new (F.seen files.new)) }
     ensures carries { (s : State) → Stands machine.old (F.seen files.old) s → IfErr result (λ _. StillCarry (F.seen files.new) s (command_work command.now []).left) }
+    ensures settled { (s : State) (text : List ℕ) → Stands machine.old (F.seen files.old) s → B.left body.old ≡ Some text → IfErr result (λ _. SettledTask (F.seen files.new) s (task (Ok command.now) text) (K.taken out.old) (K.taken out.new)) }
     ensures choices { (F.seen files.new).choices ≡ (F.seen files.old).choices }
     ensures asks { Asks machine.old (command_work command.now []) (F.asked files.old) (F.asked files.new) }
     ensures same { B.origin body.new ≡ B.origin body.old }

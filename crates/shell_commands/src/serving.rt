@@ -6,7 +6,7 @@ ghost use Rattle.script_text.specs.Sound.{IsSound, IsSoundLine};
 ghost use Rattle.script_text.specs.Tasks.{task};
 ghost use Rattle.script_text.specs.declared.command.Command.TheVariants.{Demo, Export};
 ghost use Rattle.intake_commands.specs.Demo.{demo_price};
-ghost use Rattle.shell_commands.specs.Tasks.{BrokenTask, command_work, order_left, order_price, order_work, order_writes, tasks};
+ghost use Rattle.shell_commands.specs.Tasks.{BrokenTask, command_work, order_left, order_price, order_work, order_writes, SettledTask, tasks};
 ghost use Rattle.shell_commands.specs.Watching.{ViewsDone, touches};
 ghost use Rattle.shell_state.specs.Carrying.{StillCarry};
 ghost use Rattle.shell_state.specs.Stands.{Asks, Broken, Sound, Stands, WhyHalt};
@@ -63,6 +63,9 @@ pub fn serve<F: Files, B: Source, K: Sink>(
     // Where it is broken off the files carry what they carried, or perhaps what `save` saves or `compact` leaves.
     ensures carries { (s : State) → Stands machine.old (F.seen files.old) s → IfErr result (λ _. StillCarry (F.seen files.new) s (order_left order.now)) }
 
+    // Where it is one that leaves a base in their place, nothing of its text was written before they carry that.
+    ensures settled { (s : State) (text : List ℕ) → Stands machine.old (F.seen files.old) s → B.left body.old ≡ Some text → IfErr result (λ _. SettledTask (F.seen files.new) s (task order.now text) (K.taken out.old) (K.taken out.new)) }
+
     // Whatever the files tell, they change by a line alone that may change them, and no base is chosen.
     ensures unchanged { order_writes order.now ≡ false → F.seen files.new ≡ F.seen files.old }
     ensures choices { (F.seen files.new).choices ≡ (F.seen files.old).choices }
@@ -101,6 +104,7 @@ fn serve_command<F: Files, B: Source, K: Sink>(
     ensures sound { OnOk result (Sound machine.new (F.seen files.new)) }
     ensures whole { (s : State) → Stands machine.old (F.seen files.old) s → command.now ≡ Export → IfErr result (λ e. ExportCut s.seat.filter s.shared.base.games e (K.taken out.old) (K.taken out.new)) }
     ensures carries { (s : State) → Stands machine.old (F.seen files.old) s → IfErr result (λ _. StillCarry (F.seen files.new) s (command_work command.now []).left) }
+    ensures settled { (s : State) (text : List ℕ) → Stands machine.old (F.seen files.old) s → B.left body.old ≡ Some text → IfErr result (λ _. SettledTask (F.seen files.new) s (task (Ok command.now) text) (K.taken out.old) (K.taken out.new)) }
     ensures unchanged { (command_work command.now []).writes ≡ false → F.seen files.new ≡ F.seen files.old }
     ensures choices { (F.seen files.new).choices ≡ (F.seen files.old).choices }
     ensures asks { Asks machine.old (command_work command.now []) (F.asked files.old) (F.asked files.new) }

@@ -1,11 +1,12 @@
 //! The commands that leave slots, filter and games, and write a text.
-ghost use Rattle.std.specs.Prelude.{◌≡◌, ℕ, List, [], false, IfErr, OnOk};
+ghost use Rattle.std.specs.Prelude.{◌≡◌, ℕ, List, [], false, Ok, IfErr, OnOk};
 ghost use Rattle.command_runs.specs.Counts.{Causes, counts};
 ghost use Rattle.command_runs.specs.Endings.{NoneLost, Serves};
 ghost use Rattle.script_text.specs.Sound.{IsSound};
+ghost use Rattle.script_text.specs.Tasks.{task};
 ghost use Rattle.script_text.specs.declared.command.Command.TheVariants.{Export};
 ghost use Rattle.shell_commands.specs.Parts.{part_of};
-ghost use Rattle.shell_commands.specs.Tasks.{command_work};
+ghost use Rattle.shell_commands.specs.Tasks.{command_work, SettledTask};
 ghost use Rattle.shell_commands.specs.declared.parts.Part.TheVariants.{Texts};
 ghost use Rattle.shell_state.specs.Carrying.{StillCarry};
 ghost use Rattle.shell_state.specs.Stands.{Asks, Broken, Sound, Stands, WhyHalt};
@@ -40,6 +41,7 @@ pub(crate) fn write_text<F: Files, K: Sink>(
     ensures sound { OnOk result (Sound machine.new (F.seen files.new)) }
     ensures whole { (s : State) → Stands machine.old (F.seen files.old) s → command.now ≡ Export → IfErr result (λ e. ExportCut s.seat.filter s.shared.base.games e (K.taken out.old) (K.taken out.new)) }
     ensures carries { (s : State) → Stands machine.old (F.seen files.old) s → IfErr result (λ _. StillCarry (F.seen files.new) s (command_work command.now []).left) }
+    ensures settled { (s : State) (text : List ℕ) → Stands machine.old (F.seen files.old) s → IfErr result (λ _. SettledTask (F.seen files.new) s (task (Ok command.now) text) (K.taken out.old) (K.taken out.new)) }
     ensures unchanged { (command_work command.now []).writes ≡ false → F.seen files.new ≡ F.seen files.old }
     ensures choices { (F.seen files.new).choices ≡ (F.seen files.old).choices }
     ensures asks { Asks machine.old (command_work command.now []) (F.asked files.old) (F.asked files.new) }

@@ -9,6 +9,7 @@ use Rattle.base_files.specs.Seen.{Seen}
 use Rattle.base_files.specs.Told.{adds, before}
 use Rattle.base_files.specs.declared.faults.Stop.TheVariants as stop
 use Rattle.base_files.proofs.Telling.{before-nil}
+use Rattle.base_core.specs.Base.{Base}
 use Rattle.command_runs.specs.Counts.{counts}
 use Rattle.command_runs.specs.Endings.{Cut, Done, Halted}
 use Rattle.command_runs.specs.Plain.{after_all, run}
@@ -43,12 +44,13 @@ use Rattle.report_commands.specs.Classifying.{state_by}
 use Rattle.shell_commands.proofs.SlotLaws.{task_stays}
 use Rattle.shell_commands.specs.Tasks.{order_left, order_work, Order, order_price}
 use Rattle.intake_commands.specs.Importing.{Intake, intake, item_after, none_taken, state_with, the_new, unless_not_added}
+use Rattle.shell_state.specs.Carrying.{Settled}
 use Rattle.shell_state.specs.Slots.{Slot, slot_at}
 use Rattle.shell_state.specs.Stands.{Holding, WhyHalt}
 use Rattle.shell_state.specs.Refusing.{not_added}
 use Rattle.shell_state.specs.State.{Carried, State}
 use Rattle.shell_state.specs.declared.refusing.Refusal.{Refusal}
-use Rattle.shell_commands.specs.Tasks.{BrokenTask, tasks}
+use Rattle.shell_commands.specs.Tasks.{BrokenTask, SettledTask, tasks}
 use Rattle.shell_state.specs.declared.halt.Halt.{Halt}
 use Rattle.shell_state.specs.declared.halt.Halt.TheVariants as halt
 use Rattle.shell_state.proofs.CarryLaws.{carry_later}
@@ -152,6 +154,17 @@ body_remains order word body holding around more s is lives =
       carries = carry_later holding around.seen s (tasks.after s (task order body)) (order_left order) (carried_of order word s body (has_body order word is)) lives.stands;
       views = λ k idle other. lives.views.idle k (ap (λ (l : List Slot). slot_at l k) slots ∙ idle);
     }
+
+-- They leave no base in the place of the files.
+left_none : (order : Order) (word : List ℕ) → HasBody order word → order_left order ≡ None
+left_none order word (inl is) = ap order_left is
+left_none order word (inr (inl (game, is))) = ap order_left is
+left_none order word (inr (inr is)) = ap order_left is
+
+body_settled : (seen : Seen) (s : State) (order : Order) (body word : List ℕ) (t t' : Option (List ℕ)) → body_word order ≡ Some word → SettledTask seen s (task order body) t t'
+body_settled seen s order body word t t' is =
+    let P : Option (Base → Base) → Type 0 = λ o. IfSome o (λ left. Settled seen (tasks.after s (task order body)) t t') in
+    subst P (sym (left_none order word (has_body order word is))) tt
 
 -- ---- what is said behind a line
 
@@ -297,7 +310,7 @@ out_halts order s ahead used holding around around' l t t' t'' a a' a'' status g
     let stops : Stops status (told_more around' (most_told s (task order out.body))) s (then_quit (task order out.body)) t t'' =
     quit_stops (Lives holding (told_more around (most_told s (task order out.body)))) (told_more around' (most_told s (task order out.body))) s (task order out.body) t t' t'' status goes out.did cut in
     let all : then_quit (task order out.body) ≡ (led_on then_quit order ahead).tasks = sym (ap (λ (x : Script). x.tasks) (out.says then_quit)) in
-    let P : List Task → Type 0 = λ ts. Stopped tasks (Breaks status around') s ts t t'' in
+    let P : List Task → Type 0 = λ ts. Stopped tasks (Breaks status around' t'') s ts t t'' in
     let Q : List Task → Type 0 = λ ts. a'' ≤ a + price_all s ts in
     record {
       stopped = subst P all (stopped_so status around' (most_told s (task order out.body)) s (then_quit (task order out.body)) t t'' stops.stopped);
@@ -424,8 +437,8 @@ body_gone End old new b b' gone = tt
 
 -- The task was broken off by this status.
 body_cut : (order : Order) (word ahead : List ℕ) (s : State) (around' : Around) (t t' : Option (List ℕ)) (status : Status) → body_word order ≡ Some word
-    → Cut (Breaks status around' s (task order (body_of word true ahead).bytes)) (tasks.text s (task order (body_of word true ahead).bytes)) t t'
-    → (q : Stopped tasks (Breaks status around') s (led_on then_quit order ahead).tasks t t') × (q.done ≡ [])
+    → Cut (Breaks status around' t' s (task order (body_of word true ahead).bytes) t) (tasks.text s (task order (body_of word true ahead).bytes)) t t'
+    → (q : Stopped tasks (Breaks status around' t') s (led_on then_quit order ahead).tasks t t') × (q.done ≡ [])
 body_cut order word ahead s around' t t' status is cut =
     let led = led_body (body_of word true ahead).end order word ahead refl is in
     front_stops around' s (task order (body_of word true ahead).bytes) (led_on then_quit order ahead).tasks led.0 t t' status led.1 cut
@@ -452,7 +465,7 @@ halts_stuck : (e : ReadError) (order : Order) (word ahead : List ℕ) (reader : 
     → p.stuck ≡ Some e → InBody order word ahead reader l b f p l' b' f' → Halted [] (tasks.text s (task order (body_of word true ahead).bytes)) t t' → Remains around' s order → a' ≤ a + order_price s order
     → Halts (status_of_reading e) around' order s ahead reader.used l' t t' a a'
 halts_stuck error.Failed order word ahead reader l b f p l' b' f' s around' t t' a a' is at wrote remains asked =
-    let q = body_cut order word ahead s around' t t' ReadFault at.has (record { wrote = wrote; broken = record { broken = tt; remains = remains } }) in
+    let q = body_cut order word ahead s around' t t' ReadFault at.has (record { wrote = wrote; broken = record { broken = tt; remains = remains; settled = body_settled around'.seen s order (body_of word true ahead).bytes word t t' at.has } }) in
     let front : List ℕ = take (p.reader.used - reader.used + length p.reader.unread) ahead in
     record {
       stopped = q.0;
@@ -460,7 +473,7 @@ halts_stuck error.Failed order word ahead reader l b f p l' b' f' s around' t t'
       asks = body_paid order word ahead s a a' at.has asked;
     }
 halts_stuck error.TooLong order word ahead reader l b f p l' b' f' s around' t t' a a' is at wrote remains asked =
-    let q = body_cut order word ahead s around' t t' InputTooLong at.has (record { wrote = wrote; broken = record { broken = tt; remains = remains } }) in
+    let q = body_cut order word ahead s around' t t' InputTooLong at.has (record { wrote = wrote; broken = record { broken = tt; remains = remains; settled = body_settled around'.seen s order (body_of word true ahead).bytes word t t' at.has } }) in
     let n : ℕ = p.reader.used - reader.used in
     let fits : n ≤ length ahead = count_fits order word ahead reader l b f p l' b' f' at in
     let begins : reader.used ≤ p.reader.used = at.stands.begins in
@@ -495,17 +508,17 @@ body_halts (halt.Device stop.Read) (Some e) order word ahead reader l b f p l' b
 body_halts (halt.Device stop.Read) None order word ahead reader l b f p l' b' f' s around' t t' a a' x x' r k k' is at wrote broken remains why asked =
     absurd (must_stick word reader l b f p l' b' f' r at.stands is why)
 body_halts (halt.Device stop.Files) stuck order word ahead reader l b f p l' b' f' s around' t t' a a' x x' r k k' is at wrote broken remains why asked = record {
-  stopped = (body_cut order word ahead s around' t t' FilesFault at.has (record { wrote = wrote; broken = record { broken = broken; remains = remains } })).0;
+  stopped = (body_cut order word ahead s around' t t' FilesFault at.has (record { wrote = wrote; broken = record { broken = broken; remains = remains; settled = body_settled around'.seen s order (body_of word true ahead).bytes word t t' at.has } })).0;
   lines = tt;
   asks = body_paid order word ahead s a a' at.has asked;
 }
 body_halts (halt.Device stop.Write) stuck order word ahead reader l b f p l' b' f' s around' t t' a a' x x' r k k' is at wrote broken remains why asked = record {
-  stopped = (body_cut order word ahead s around' t t' WriteFault at.has (record { wrote = wrote; broken = record { broken = tt; remains = remains } })).0;
+  stopped = (body_cut order word ahead s around' t t' WriteFault at.has (record { wrote = wrote; broken = record { broken = tt; remains = remains; settled = body_settled around'.seen s order (body_of word true ahead).bytes word t t' at.has } })).0;
   lines = tt;
   asks = body_paid order word ahead s a a' at.has asked;
 }
 body_halts (halt.Device stop.Memory) stuck order word ahead reader l b f p l' b' f' s around' t t' a a' x x' r k k' is at wrote broken remains why asked = record {
-  stopped = (body_cut order word ahead s around' t t' Memory at.has (record { wrote = wrote; broken = record { broken = tt; remains = remains } })).0;
+  stopped = (body_cut order word ahead s around' t t' Memory at.has (record { wrote = wrote; broken = record { broken = tt; remains = remains; settled = body_settled around'.seen s order (body_of word true ahead).bytes word t t' at.has } })).0;
   lines = tt;
   asks = body_paid order word ahead s a a' at.has asked;
 }
@@ -517,7 +530,7 @@ pub body_short : (order : Order) (word ahead : List ℕ) (holding : Holding) (ar
 body_short order word ahead holding around s used l t a is stands = record {
   stopped =
       (body_cut order word ahead s around t t Memory is
-      (record { wrote = halted_none (tasks.text s (task order (body_of word true ahead).bytes)) t; broken = record { broken = tt; remains = remains_of holding around none_told s order (lives_since holding around none_told s stands) } })).0;
+      (record { wrote = halted_none (tasks.text s (task order (body_of word true ahead).bytes)) t; broken = record { broken = tt; remains = remains_of holding around none_told s order (lives_since holding around none_told s stands); settled = body_settled around.seen s order (body_of word true ahead).bytes word t t is } })).0;
   lines = tt;
   asks = omega arith;
 }
@@ -640,7 +653,7 @@ last_lines _ order word used l' done is few lines = tt
 pub last_halts : (order : Order) (word : List ℕ) (s : State) (used : ℕ) (around' : Around) (l' t t' : Option (List ℕ)) (a a' : ℕ) (status : Status) → body_word order ≡ Some word → used ≤ longest_script
     → Halts status around' order s [] used l' t t' a a' → LastHalts status around' order s l' t t'
 last_halts order word s used around' l' t t' a a' status is few end =
-    let P : List Task → Type 0 = λ ts. (q : Stopped tasks (Breaks status around') s ts t t') × BehindDone status order [] used l' q.done in
+    let P : List Task → Type 0 = λ ts. (q : Stopped tasks (Breaks status around' t') s ts t t') × BehindDone status order [] used l' q.done in
     let q = subst P (ap (λ (x : Script). x.tasks) (led_nothing then_quit order word is)) (end.stopped, end.lines) in
     record { stopped = q.0; lines = last_lines status order word used l' q.0.done is few q.1 }
 

@@ -3,6 +3,7 @@ use Rattle.std.proofs.Common.{Result, OnOk, IfErr, inl, inr, ◌≡◌, ◌≤�
 use Rattle.std.proofs.Math.Seq.{take-append_seam}
 use Rattle.std.proofs.lemmas.List.{length-append}
 use Rattle.base_files.specs.Counters.{Rose}
+use Rattle.base_files.specs.Seen.{Seen}
 use Rattle.base_files.specs.Told.{Tells, adds, before}
 use Rattle.base_files.specs.declared.faults.Stop.TheVariants as stop
 use Rattle.base_files.proofs.Telling.{adds-nil, before-append, before-nil}
@@ -23,11 +24,11 @@ use Rattle.script_text.specs.Reading.{reading, shorn}
 use Rattle.script_text.specs.Tasks.{Task, body_word, task}
 use Rattle.script_text.specs.Words.{cut}
 use Rattle.script_text.specs.declared.command.Command.TheVariants.{Quit}
-use Rattle.shell_commands.proofs.TaskLaws.{alone}
+use Rattle.shell_commands.proofs.TaskLaws.{alone, task_unsettled}
 use Rattle.shell_commands.specs.Tasks.{order_left, Order, order_writes}
 use Rattle.shell_state.specs.Stands.{Holding, WhyHalt}
 use Rattle.shell_state.specs.State.{State}
-use Rattle.shell_commands.specs.Tasks.{BrokenTask, tasks}
+use Rattle.shell_commands.specs.Tasks.{BrokenTask, SettledTask, tasks}
 use Rattle.shell_state.specs.declared.halt.Halt.{Halt}
 use Rattle.shell_state.specs.declared.halt.Halt.TheVariants as halt
 use Rattle.shell_state.proofs.CarryLaws.{carry_of, left_of}
@@ -42,13 +43,13 @@ use Rattle.shell_session.proofs.PriceLaws.{paid_all, paid_one}
 use Rattle.shell_session.proofs.ViewLaws.{lives_since, lives_twice, told_all-append, told_one}
 
 -- What remains does not ask how many changes were told.
-abbrev pub breaks_so : (status : Status) (around : Around) (more : ℕ → ℕ) (s : State) (next : Task) → Breaks status (told_more around more) s next → Breaks status around s next
-breaks_so status around more s next breaks = record { broken = breaks.broken; remains = record { carries = breaks.remains.carries; views = breaks.remains.views } }
+abbrev pub breaks_so : (status : Status) (around : Around) (more : ℕ → ℕ) (t t' : Option (List ℕ)) (s : State) (next : Task) → Breaks status (told_more around more) t' s next t → Breaks status around t' s next t
+breaks_so status around more t t' s next breaks = record { broken = breaks.broken; remains = record { carries = breaks.remains.carries; views = breaks.remains.views }; settled = breaks.settled }
 
-abbrev pub stopped_so : (status : Status) (around : Around) (more : ℕ → ℕ) (s : State) (left : List Task) (t t' : Option (List ℕ)) → Stopped tasks (Breaks status (told_more around more)) s left t t'
-    → Stopped tasks (Breaks status around) s left t t'
+abbrev pub stopped_so : (status : Status) (around : Around) (more : ℕ → ℕ) (s : State) (left : List Task) (t t' : Option (List ℕ)) → Stopped tasks (Breaks status (told_more around more) t') s left t t'
+    → Stopped tasks (Breaks status around t') s left t t'
 stopped_so status around more s left t t' q =
-    record { done = q.done; next = q.next; left = q.left; all = q.all; wrote = q.wrote; broken = breaks_so status around more (after_all tasks s q.done) q.next q.broken }
+    record { done = q.done; next = q.next; left = q.left; all = q.all; wrote = q.wrote; broken = breaks_so status around more (adds t (run tasks s q.done)) t' (after_all tasks s q.done) q.next q.broken }
 
 -- What remains beside a machine that stands for a state.
 pub remains_of : (holding : Holding) (around : Around) (more : ℕ → ℕ) (s : State) (order : Order) → Lives holding (told_more around more) s → Remains around s order
@@ -197,7 +198,7 @@ ran_finished s bytes t₀ holding holding' around around' order ahead used l' t 
 
 -- The tasks that are done, and those that are left with one that was broken off.
 ran_stopped : (s : State) (bytes : List ℕ) (t₀ t t' : Option (List ℕ)) (l' : Option (List ℕ)) (around' : Around) (status : Status) (done left : List Task) → t ≡ adds t₀ (run tasks s done)
-    → script_of bytes ≡ done ++ left → (stopped : Stopped tasks (Breaks status around') (after_all tasks s done) left t t') → LinesDone status bytes l' (done ++ stopped.done)
+    → script_of bytes ≡ done ++ left → (stopped : Stopped tasks (Breaks status around' t') (after_all tasks s done) left t t') → LinesDone status bytes l' (done ++ stopped.done)
     → RanPart status s bytes t₀ t' l' around'
 ran_stopped s bytes t₀ t t' l' around' status done left written all q lines =
     let state : after_all tasks (after_all tasks s done) q.done ≡ after_all tasks s (done ++ q.done) = sym (after_all-append tasks s done q.done) in
@@ -211,14 +212,16 @@ ran_stopped s bytes t₀ t t' l' around' status done left written all q lines =
     ∙ ap (λ z. run tasks s (done ++ q.done) ++ tasks.text z q.next) state in
     let P : List ℕ → Type 0 = λ x. Halted x (run tasks s (done ++ q.done) ++ tasks.text (after_all tasks s (done ++ q.done)) q.next) t₀ t' in
     let Q : List ℕ → Type 0 = λ x. Halted (run tasks s done ++ run tasks (after_all tasks s done) q.done) x t₀ t' in
-    let B : State → Type 0 = λ z. Breaks status around' z q.next in
+    let told : adds t (run tasks (after_all tasks s done) q.done) ≡ adds t₀ (run tasks s (done ++ q.done)) =
+    written_after (run tasks s done) (run tasks (after_all tasks s done) q.done) t₀ t (adds t (run tasks (after_all tasks s done) q.done)) written refl ∙ ap (adds t₀) text in
+    let B : State → Type 0 = λ z. Breaks status around' t' z q.next (adds t₀ (run tasks s (done ++ q.done))) in
     record {
       done = done ++ q.done;
       next = q.next;
       left = q.left;
       all = all ∙ ap (λ x. done ++ x) q.all ∙ sym (append_assoc done q.done (q.next ∷ q.left));
       wrote = subst P text (subst Q most wrote);
-      broken = subst B state q.broken;
+      broken = subst B state (subst (Breaks status around' t' (after_all tasks (after_all tasks s done) q.done) q.next) told q.broken);
       lines = lines;
     }
 
@@ -429,6 +432,10 @@ unwritten s done next t₀ t written =
     let P : List ℕ → Type 0 = λ x. Halted x (run tasks s done ++ tasks.text (after_all tasks s done) next) t₀ t in
     subst P (append-nil (run tasks s done)) (halted_after (run tasks s done) [] (tasks.text (after_all tasks s done) next) t₀ t t written (halted_none (tasks.text (after_all tasks s done) next) t))
 
+-- Nor anything of the next one, whatever it leaves.
+unsettled : (seen : Seen) (s : State) (done : List Task) (next : Task) (t₀ t : Option (List ℕ)) → t ≡ adds t₀ (run tasks s done) → SettledTask seen (after_all tasks s done) next (adds t₀ (run tasks s done)) t
+unsettled seen s done next t₀ t written = subst (λ (told : Option (List ℕ)). SettledTask seen (after_all tasks s done) next told t) written (task_unsettled seen (after_all tasks s done) next t)
+
 -- The input failed.
 pub ran_failed : (s : State) (bytes : List ℕ) (t₀ : Option (List ℕ)) (holding : Holding) (around : Around) (reader reader' : Reader) (l l' t : Option (List ℕ)) (a₀ a : ℕ)
     → (ran : Ran s bytes t₀ holding around reader l t a₀ a) → TookPart [] reader l reader' l' → reader'.unread ≡ []
@@ -446,7 +453,7 @@ ran_failed s bytes t₀ holding around reader reader' l l' t a₀ a ran took non
       left = some.1;
       all = ap (λ (x : Script). x.tasks) says ∙ ap (λ ts. ran.done ++ ts) some.2;
       wrote = unwritten s ran.done some.0 t₀ t ran.written;
-      broken = record { broken = tt; remains = remains_of holding around _ (after_all tasks s ran.done) some.0.order ran.stands };
+      broken = record { broken = tt; remains = remains_of holding around _ (after_all tasks s ran.done) some.0.order ran.stands; settled = unsettled around.seen s ran.done some.0 t₀ t ran.written };
       lines = (
         ran.front ++ took.front,
         read ∙ ap (λ u. before (ran.front ++ took.front) (before u l')) none ∙ ap (before (ran.front ++ took.front)) (before-nil l'),
@@ -478,7 +485,7 @@ ran_too_long s bytes t₀ holding around reader reader' l l' t a₀ a ran took f
       left = some.1;
       all = ap (λ (x : Script). x.tasks) says ∙ ap (λ ts. ran.done ++ ts) some.2;
       wrote = unwritten s ran.done some.0 t₀ t ran.written;
-      broken = record { broken = tt; remains = remains_of holding around _ (after_all tasks s ran.done) some.0.order ran.stands };
+      broken = record { broken = tt; remains = remains_of holding around _ (after_all tasks s ran.done) some.0.order ran.stands; settled = unsettled around.seen s ran.done some.0 t₀ t ran.written };
       lines = (
         omega (arith, size, bigger, n, exact),
         sym (lines_taken ran.done ran.front took.front reader'.line ran.says took.feeds) ∙ ap whole_lines (sym within),
@@ -498,7 +505,7 @@ ran_short s bytes t₀ holding around reader l l' t a₀ a ran =
       left = some.1;
       all = ap (λ (x : Script). x.tasks) says ∙ ap (λ ts. ran.done ++ ts) some.2;
       wrote = unwritten s ran.done some.0 t₀ t ran.written;
-      broken = record { broken = tt; remains = remains_of holding around _ (after_all tasks s ran.done) some.0.order ran.stands };
+      broken = record { broken = tt; remains = remains_of holding around _ (after_all tasks s ran.done) some.0.order ran.stands; settled = unsettled around.seen s ran.done some.0 t₀ t ran.written };
       lines = tt;
     }
 
@@ -521,13 +528,13 @@ paid_done s bytes t₀ holding around reader l t a₀ a ran =
 
 -- A command without a body that was broken off.
 pub interrupted : (halt : Halt) (around' : Around) (s : State) (next : Task) (t t' : Option (List ℕ)) → body_word next.order ≡ None → Cut (BrokenTask s next halt) (tasks.text s next) t t' → Remains around' s next.order
-    → Interrupted (status_of_halt halt) around' s next t t'
-interrupted (halt.Device stop.Files) around' s next t t' none broken_off remains = record { cut = record { wrote = broken_off.wrote; broken = record { broken = broken_off.broken; remains = remains } }; line = tt }
-interrupted (halt.Device stop.Write) around' s next t t' none broken_off remains = record { cut = record { wrote = broken_off.wrote; broken = record { broken = tt; remains = remains } }; line = tt }
-interrupted (halt.Device stop.Memory) around' s next t t' none broken_off remains = record { cut = record { wrote = broken_off.wrote; broken = record { broken = tt; remains = remains } }; line = tt }
-interrupted (halt.Device stop.Read) around' s next t t' none broken_off remains =
+    → SettledTask around'.seen s next t t' → Interrupted (status_of_halt halt) around' s next t t'
+interrupted (halt.Device stop.Files) around' s next t t' none broken_off remains settled = record { cut = record { wrote = broken_off.wrote; broken = record { broken = broken_off.broken; remains = remains; settled = settled } }; line = tt }
+interrupted (halt.Device stop.Write) around' s next t t' none broken_off remains settled = record { cut = record { wrote = broken_off.wrote; broken = record { broken = tt; remains = remains; settled = settled } }; line = tt }
+interrupted (halt.Device stop.Memory) around' s next t t' none broken_off remains settled = record { cut = record { wrote = broken_off.wrote; broken = record { broken = tt; remains = remains; settled = settled } }; line = tt }
+interrupted (halt.Device stop.Read) around' s next t t' none broken_off remains settled =
     let e : false ≡ true = sym (alone next.order next.body none) ∙ broken_off.broken in cc
-interrupted (halt.Changed game kept found) around' s next t t' none broken_off remains = absurd broken_off.broken
+interrupted (halt.Changed game kept found) around' s next t t' none broken_off remains settled = absurd broken_off.broken
 
 pub none_rose : Rose 0 0 → ⊥
 none_rose (inl rose) = absurd (omega (arith, rose))
@@ -570,9 +577,9 @@ last_then_quit Stands' Stands'' s last t t' t'' other first second =
     })
 
 -- The first of some tasks was broken off.
-pub front_stops : (around' : Around) (s : State) (next : Task) (all left : List Task) (t t' : Option (List ℕ)) (status : Status) → all ≡ next ∷ left → Cut (Breaks status around' s next) (tasks.text s next) t t'
-    → (q : Stopped tasks (Breaks status around') s all t t') × (q.done ≡ [])
-front_stops around' s next all left t t' status is cut = (record { done = []; next = next; left = left; all = is; wrote = cut.wrote; broken = cut.broken }, refl)
+pub front_stops : (around' : Around) (s : State) (next : Task) (all left : List Task) (t t' : Option (List ℕ)) (status : Status) → all ≡ next ∷ left → Cut (Breaks status around' t' s next t) (tasks.text s next) t t'
+    → (q : Stopped tasks (Breaks status around' t') s all t t') × (q.done ≡ [])
+front_stops around' s next all left t t' status is cut = (record { done = []; next = next; left = left; all = is; wrote = cut.wrote; broken = subst (Breaks status around' t' s next) (sym (adds-nil t)) cut.broken }, refl)
 
 pub last_stops : (around' : Around) (s : State) (last : Task) (t t' : Option (List ℕ)) (status : Status) → Interrupted status around' s last t t' → Stops status around' s (then_quit last) t t'
 last_stops around' s last t t' status cut =
@@ -583,9 +590,9 @@ pub quit_stops : (Stands' : State → Type 0) (around' : Around) (s : State) (la
     → Done Stands' (tasks.after s last) (tasks.text s last) t t' → Interrupted status around' (tasks.after s last) (task (Ok Quit) []) t' t'' → Stops status around' s (then_quit last) t t''
 quit_stops Stands' around' s last t t' t'' status other did cut = record {
   stopped =
-      rw other (did_stops tasks (Breaks status around') s (tasks.after s last) (last ∷ task (Ok Quit) [] ∷ []) (task (Ok Quit) [] ∷ []) t t' t''
+      rw other (did_stops tasks (Breaks status around' t'') s (tasks.after s last) (last ∷ task (Ok Quit) [] ∷ []) (task (Ok Quit) [] ∷ []) t t' t''
       (did_one tasks Stands' s last (task (Ok Quit) [] ∷ []) t t' did)
-      (cut_stops tasks (Breaks status around') (tasks.after s last) (task (Ok Quit) []) [] t' t'' cut.cut));
+      (cut_stops tasks (Breaks status around' t'') (tasks.after s last) (task (Ok Quit) []) [] t' t'' cut.cut));
   line = cut.line;
 }
 

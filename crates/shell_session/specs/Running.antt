@@ -87,12 +87,12 @@ InLine _ = ⊤
 
 -- A command was broken off: a front part of its text was written.
 pub record Interrupted (status : Status) (around' : Around) (s : State) (next : Task) (t : Option (List ℕ)) (t' : Option (List ℕ)) : Type 0 where
-  pub cut : Cut (Breaks status around' s next) (tasks.text s next) t t'
+  pub cut : Cut (Breaks status around' t' s next t) (tasks.text s next) t t'
   pub line : InLine status
 
 -- One of these tasks was.
 pub record Stops (status : Status) (around' : Around) (s : State) (left : List Task) (t : Option (List ℕ)) (t' : Option (List ℕ)) : Type 0 where
-  pub stopped : Stopped tasks (Breaks status around') s left t t'
+  pub stopped : Stopped tasks (Breaks status around' t') s left t t'
   pub line : InLine status
 
 -- A reader goes on where no less was taken, and each byte that was read is taken or unread.
@@ -159,7 +159,7 @@ BehindDone _ order ahead used later done = ⊤
 
 -- The run stopped behind the line.
 pub record Halts (status : Status) (around' : Around) (order : Order) (s : State) (ahead : List ℕ) (used : ℕ) (l' : Option (List ℕ)) (t t' : Option (List ℕ)) (a a' : ℕ) : Type 0 where
-  pub stopped : Stopped tasks (Breaks status around') s (led_on then_quit order ahead).tasks t t'
+  pub stopped : Stopped tasks (Breaks status around' t') s (led_on then_quit order ahead).tasks t t'
   pub lines : BehindDone status order ahead used l' stopped.done
   pub asks : a' ≤ a + price_all s (led_on then_quit order ahead).tasks
 
@@ -176,5 +176,5 @@ LastDone InputTooLong later done = ⊥
 LastDone _ later done = ⊤
 
 pub record LastHalts (status : Status) (around' : Around) (order : Order) (s : State) (l' : Option (List ℕ)) (t t' : Option (List ℕ)) : Type 0 where
-  pub stopped : Stopped tasks (Breaks status around') s (then_quit (task order [])) t t'
+  pub stopped : Stopped tasks (Breaks status around' t') s (then_quit (task order [])) t t'
   pub lines : LastDone status l' stopped.done

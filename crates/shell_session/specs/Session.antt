@@ -13,7 +13,7 @@ use Rattle.command_runs.specs.Counts.{Counts}
 use Rattle.command_runs.specs.Endings.{Halted}
 use Rattle.command_runs.specs.Plain.{after_all, run}
 use Rattle.script_text.specs.Tasks.{Task}
-use Rattle.shell_commands.specs.Tasks.{task_work, order_price}
+use Rattle.shell_commands.specs.Tasks.{SettledTask, task_work, order_price}
 use Rattle.shell_state.specs.Carrying.{AreLeft}
 use Rattle.shell_state.specs.State.{State, begin}
 use Rattle.shell_commands.specs.Tasks.{tasks}
@@ -105,10 +105,12 @@ BrokenBy InputTooLong next = ⊤
 BrokenBy Memory next = ⊤
 BrokenBy _ next = ⊥
 
--- The same, with what remains then of the files and the views.
-pub record Breaks (status : Status) (around' : Around) (s : State) (next : Task) : Type 0 where
+-- The same, with what remains then of the files and the views. Of a command that leaves a base in the place of the files nothing was written
+-- behind what was told, or they carry what the state behind it says.
+pub record Breaks (status : Status) (around' : Around) (told' : Option (List ℕ)) (s : State) (next : Task) (told : Option (List ℕ)) : Type 0 where
   pub broken : BrokenBy status next
   pub remains : Remains around' s next.order
+  pub settled : SettledTask around'.seen s next told told'
 
 -- The commands that are done at a fault of the input are those whose lines were read with their line feed; at a script that is too long
 -- those whose lines end within the limit.
@@ -124,7 +126,7 @@ pub record RanPart (status : Status) (s : State) (script : List ℕ) (told : Opt
   pub left : List Task
   pub all : script_of script ≡ done ++ next ∷ left
   pub wrote : Halted (run tasks s done) (run tasks s done ++ tasks.text (after_all tasks s done) next) told told'
-  pub broken : Breaks status around' (after_all tasks s done) next
+  pub broken : Breaks status around' told' (after_all tasks s done) next (adds told (run tasks s done))
   pub lines : LinesDone status script later done
 
 -- ---- the answers

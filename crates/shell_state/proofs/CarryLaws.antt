@@ -9,7 +9,7 @@ use Rattle.base_core.specs.Represents.{Kept}
 use Rattle.base_files.specs.Seen.{Seen, appended}
 use Rattle.base_files.specs.Told.{adds, Grew}
 use Rattle.name_base.specs.NameLists.{NameLists}
-use Rattle.shell_state.specs.Carrying.{IsFaultless, Beside, Contents, AreBeside, AreLeft, CarryIt, MayCarry, StillCarry}
+use Rattle.shell_state.specs.Carrying.{IsFaultless, Beside, CarryAfter, Contents, AreBeside, AreLeft, CarryIt, MayCarry, Settled, StillCarry}
 use Rattle.shell_state.specs.Stands.{Holding, Stands}
 use Rattle.shell_state.specs.State.{Carried, State}
 use Rattle.shell_state.specs.declared.halt.Halt.{Halt}
@@ -38,6 +38,14 @@ may_carry kept seen unsaved None left base b = tt
 
 pub left_of : (holding : Holding) (seen : Seen) (s : State) → Stands holding seen s → AreLeft seen s.shared.carried s.shared.unsaved
 left_of holding seen s st = carried_left holding.kept seen s.shared.unsaved s.shared.carried st.carried
+
+carry_after : (kept : Kept) (seen : Seen) (unsaved : Bool) (carried : Option Carried) → AreBeside kept seen unsaved carried → CarryAfter seen carried
+carry_after kept seen unsaved (Some own) b = (b.contents, b.carries)
+carry_after kept seen unsaved None b = tt
+
+-- Beside a machine that stands for the state behind a command.
+pub settled_of : (holding : Holding) (seen : Seen) (later : State) (told told' : Option (List ℕ)) → Stands holding seen later → Settled seen later told told'
+settled_of holding seen later told told' st = inr (carry_after holding.kept seen later.shared.unsaved later.shared.carried st.carried)
 
 pub carry_of : (holding : Holding) (seen : Seen) (s : State) (left : Option (Base → Base)) → Stands holding seen s → StillCarry seen s left
 carry_of holding seen s left st = may_carry holding.kept seen s.shared.unsaved s.shared.carried left s.shared.base st.carried

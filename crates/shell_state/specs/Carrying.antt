@@ -69,3 +69,12 @@ MayCarry seen None left base = ⊤
 
 abbrev pub StillCarry : Seen → State → Option (Base → Base) → Type 0
 StillCarry seen s left = MayCarry seen s.shared.carried left s.shared.base
+
+-- The files carry the base that a state says, where there is one.
+abbrev pub CarryAfter : Seen → Option Carried → Type 0
+CarryAfter seen (Some carried) = CarryIt seen carried.base
+CarryAfter seen None = ⊤
+
+-- Nothing of a text was written, or the files carry what the state behind its command says: so they do before the text goes out.
+abbrev pub Settled : Seen → State → Option (List ℕ) → Option (List ℕ) → Type 0
+Settled seen later told told' = (told' ≡ told) ⊎ CarryAfter seen later.shared.carried

@@ -1,14 +1,7 @@
 -- Which games the searches read, by their signatures, and the bytes of their records. This project's own.
-use Rattle.std.specs.Prelude.{ℕ, Option, Some, None, ◌+◌, List, [], ◌∷◌, min, if◌then◌else◌, Bool, ◌&&◌}
+use Rattle.std.specs.Prelude.{ℕ, Option, Some, None, ◌+◌, List, [], ◌∷◌, if◌then◌else◌, Bool, ◌&&◌}
 use Rattle.game_filter.specs.Search.{looks_at}
 use Rattle.game_filter.specs.declared.op.Op.{Op}
-use Rattle.game_tree.specs.Counts.{variations_of, comments_of, nags_of}
-use Rattle.game_tree.specs.Game.{GameTree, has_own_start}
-use Rattle.game_tree.specs.Promotions.{has_promotion, has_underpromotion}
-use Rattle.game_tree.specs.Replay.{plies_of, position_at}
-use Rattle.index_entry.specs.Counts.{count_code}
-use Rattle.sig_index.specs.Signature.{material_of, left_of, home_list}
-use Rattle.sig_index.specs.declared.signature.Sig.{Sig}
 
 -- The length of the record of a game, if there is one.
 abbrev pub len_in : {A : Type 0} → (A → ℕ) → Option A → ℕ
@@ -26,25 +19,11 @@ filtered_len len [] games = 0
 filtered_len len (ply ∷ plies) [] = 0
 filtered_len len (ply ∷ plies) (game ∷ games) = len_if_in ply (len game) + filtered_len len plies games
 
--- The signature of a game; a game has no other.
-unfoldable pub sig_of : GameTree → Sig
-sig_of game = record {
-  material = material_of (position_at game (plies_of game)).board;
-  home = home_list (if has_own_start game then [] else left_of game);
-  plies = min (plies_of game) 1023;
-  promo = has_promotion game;
-  under = has_underpromotion game;
-  own_start = has_own_start game;
-  vars = count_code (variations_of game);
-  comments = count_code (comments_of game);
-  nags = count_code (nags_of game);
-}
-
 -- The length of the record of a game that is read.
 abbrev pub len_if : Bool → ℕ → ℕ
 len_if reads len = if reads then len else 0
 
--- The lengths of the records of the games that are by_looks at and pass a test, all told.
+-- The lengths of the records of the games that are looked at and pass a test, all told.
 abbrev pub searched_len : {A : Type 0} → (A → ℕ) → (A → Bool) → Op → List (Option ℕ) → List A → ℕ
 searched_len len test op [] games = 0
 searched_len len test op (old ∷ plies) [] = 0

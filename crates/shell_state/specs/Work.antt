@@ -7,8 +7,8 @@ use Rattle.game_tree.specs.Game.{GameTree}
 use Rattle.game_tree.specs.Head.{without_tags}
 use Rattle.game_tree.specs.declared.head.Head.{Head}
 use Rattle.pos_index.specs.Hits.{Place, places_of}
+use Rattle.sig_index.specs.Signature.{sig_of}
 use Rattle.sig_index.specs.declared.signature.Sig.{Sig}
-use Rattle.shell_state.specs.Passing.{sig_of}
 use Rattle.shell_state.specs.State.{Shared, State, with_seat}
 
 -- What the price of a command looks at in a game: the length of its record, its signature, its head, and the places that the position index

@@ -5,3 +5,4 @@ mod SlotLaws
 mod RowChangeLaws
 pub mod HeldLaws
 pub mod FewLaws
+mod StayingLaws

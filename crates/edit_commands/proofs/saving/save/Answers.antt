@@ -2,7 +2,7 @@ use Rattle.std.proofs.Common.{ap, ◌∙◌}
 use Rattle.edit_commands.proofs.SaveLaws.{saved_carry}
 use Rattle.edit_commands.proofs.saving.save.Goals as goal
 use Rattle.edit_commands.specs.Saving.{saved_line, save_work}
-use Rattle.shell_state.proofs.CarryLaws.{if_err}
+use Rattle.shell_state.proofs.CarryLaws.{if_err, settled_of}
 use Rattle.shell_state.proofs.Served.{line_serves}
 
 pub returns-in_err-line-clause-carries : goal.returns-in_err-line-clause-carries
@@ -19,3 +19,7 @@ returns-clause-serves g c = λ s st.
 pub returns-clause-carries : goal.returns-clause-carries
 returns-clause-carries g c = λ s st.
     if_err c.write_line.result _ (saved_carry c.save_files.new.machine (g.F.Files.seen c.save_files.new.files) s (c.in_default.ensures.stands s st))
+
+pub returns-clause-settled : goal.returns-clause-settled
+returns-clause-settled g c = λ s st.
+    if_err c.write_line.result _ (settled_of c.save_files.new.machine (g.F.Files.seen c.save_files.new.files) _ _ _ (c.in_default.ensures.stands s st))

@@ -1,6 +1,8 @@
-use Rattle.std.proofs.Common.{◌∙◌}
+use Rattle.std.proofs.Common.{◌∙◌, Ok}
+use Rattle.script_text.specs.Tasks.{task}
 use Rattle.command_runs.proofs.Joining.{halted_none}
 use Rattle.shell_commands.proofs.ShownLaws.{shown_serves}
+use Rattle.shell_commands.proofs.TaskLaws.{task_settled, task_unsettled}
 use Rattle.shell_commands.proofs.ViewLaws.{moves_none, not_edits, shown_left, views_shown}
 use Rattle.shell_commands.proofs.changes.serve_edit.Goals as goal
 use Rattle.shell_commands.specs.Tasks.{command_work}
@@ -31,3 +33,11 @@ returns-in-Err-clause-serves g c = λ s text st told. record {
   wrote = halted_none ((command_work c.args.command.now text).text s) (g.K.Sink.taken c.args.out.now);
   broken = c.in-Err.ensures.broken s text st;
 }
+
+pub returns-in-Ok-clause-settled : goal.returns-in-Ok-clause-settled
+returns-in-Ok-clause-settled g c = λ s text st told.
+    task_settled c.show_line.result c.edit_line.new.machine (g.F.Files.seen c.edit_line.new.files) s (task (Ok c.args.command.now) text) _ _ (c.in-Ok.ensures.stands s text st told)
+
+pub returns-in-Err-clause-settled : goal.returns-in-Err-clause-settled
+returns-in-Err-clause-settled g c = λ s text st told.
+    task_unsettled (g.F.Files.seen c.edit_line.new.files) s (task (Ok c.args.command.now) text) (g.K.Sink.taken c.args.out.now)

@@ -1,4 +1,4 @@
-use Rattle.shell_commands.proofs.RefusedLaws.{imported, made, refused}
+use Rattle.shell_commands.proofs.RefusedLaws.{imported, imported_none, made, made_none, refused}
 use Rattle.shell_commands.proofs.laws.refused_tasks_change_nothing.Goals as goal
 
 pub returns-clause-refused : goal.returns-clause-refused
@@ -9,3 +9,9 @@ returns-clause-imported c = λ s word body. imported s word body
 
 pub returns-clause-made : goal.returns-clause-made
 returns-clause-made c = λ s seed games body. made s seed games body
+
+pub returns-clause-imported_none : goal.returns-clause-imported_none
+returns-clause-imported_none c = λ s word body same. imported_none s word body same
+
+pub returns-clause-made_none : goal.returns-clause-made_none
+returns-clause-made_none c = λ s seed games body is same. made_none s seed games body is same

@@ -32,3 +32,9 @@ returns-in-Err-clause-views g c = λ s text st told right. rw c.in-Err.is (on_ok
 
 pub returns-in-Err-clause-carries : goal.returns-in-Err-clause-carries
 returns-in-Err-clause-carries g c = λ s st. if_err c.say.result _ (carry_of c.args.machine.now (g.F.Files.seen c.args.files.now) s _ st)
+
+pub returns-in-Ok-clause-settled : goal.returns-in-Ok-clause-settled
+returns-in-Ok-clause-settled g c = λ s text st told. rw c.in-Ok.is (c.serve_command.ensures.settled s text st told)
+
+pub returns-in-Err-clause-settled : goal.returns-in-Err-clause-settled
+returns-in-Err-clause-settled g c = λ s text st told. rw c.in-Err.is (if_err c.say.result _ tt)

@@ -37,7 +37,8 @@ returns-clause-interrupted g c = λ s first most lives.
     (record {
       carries = c.in-Err.ensures.carries s lives.stands;
       views = left_by (λ b. (goal.TreeView-dyn g (b.vtable, b.value)).rows b.value) (λ b. (goal.TreeView-dyn g (b.vtable, b.value)).told b.value) s (task c.args.order []) c.args.machine.now (g.F.Files.seen c.args.files.now) (g.F.Files.seen c.serve.new.files) first most c.args.views.now c.serve.new.views lives (c.serve.ensures.left s [] lives.stands refl right);
-    }))
+    })
+    (c.in-Err.ensures.settled s [] lives.stands refl))
 
 pub returns-clause-kept : goal.returns-clause-kept
 returns-clause-kept g c =

@@ -20,7 +20,7 @@ returns-clause-tagged g c =
 pub returns-clause-why : goal.returns-clause-why
 returns-clause-why g c =
     unplaced-all c.replace_game.result c.args.self.now (g.F.Files.seen c.args.files.now).games c.args.i c.args.edit.now c.game.new.buf c.in_ok-head.head c.apply.new.head c.in_ok-head.game c.in_ok-apply.ensures.ok
-    c.in_ok-head.ensures.found c.replace_game.ensures.why
+    c.in_ok-head.ensures.shown c.in_ok-head.ensures.found c.replace_game.ensures.why
 
 pub returns-clause-none_added : goal.returns-clause-none_added
 returns-clause-none_added g c =
