@@ -227,10 +227,14 @@ LONGEST_RECORD = game(b"\x0c", (b"x" * 130_995,), tags=tag(b"Z", b"z" * 68))
 def edits():
     """The bases of the cases of edits and of saving."""
     ids = (0, 1, 0, 0, 0)
-    for case in ("edit_and_save", "edits_of_no_game", "edits_not_saved", "names_not_replaced", "index_not_replaced", "filters_after_edits"):
+    for case in ("edit_and_save", "edits_of_no_game", "edits_not_saved", "names_not_replaced", "index_not_replaced", "filters_after_edits",
+                 "rating_taken_away"):
         write(case, "pawns", index(PAWNS), PAWNS_NAMES, PAWNS_RECORDS)
     write("edit_and_save", "pawns", index(EDITED), PAWNS_NAMES, TAGGED_RECORDS, "after")
     write("open_what_was_saved", "pawns", index(EDITED), PAWNS_NAMES, TAGGED_RECORDS)
+    # A rating of 0 has no kind, whatever the tag's is.
+    unrated = entry(12, 6, ids=ids, result=1, dates=PAWNS_DATE, ratings=(2500, 0), plies=3, home=(11, 4, 12))
+    write("rating_taken_away", "pawns", index([unrated, PAWNS[1]]), PAWNS_NAMES, TAGGED_RECORDS, "after")
     write("edits_not_saved", "pawns", index(PAWNS), PAWNS_NAMES, TAGGED_RECORDS, "after")
     write("filters_after_edits", "pawns", index(PAWNS), PAWNS_NAMES, TAGGED_RECORDS, "after")
     write("names_not_replaced", "pawns", index(PAWNS), PAWNS_NAMES, TAGGED_RECORDS, "after")
@@ -250,6 +254,9 @@ def edits():
     write("event_dates_by_tag", "dated", index([entry(8, 25, dates=date, **dated)]), names, DATED_RECORD * 2 + EVENT_TAGGED_RECORD, "after")
     write("event_date_near", "dated", index([entry(0, 4, dates=date, **dated)]), names, DATED_RECORD)
     write("event_date_near", "dated", index([entry(4, 4, dates=EVENT_DATE | date, **dated)]), names, DATED_RECORD * 2, "after")
+    month = game(E4, tags=tag(b"EventDate", b"????.05.??"))
+    write("event_date_of_a_month_alone", "dated", index([entry(0, 4, dates=date, **dated)]), names, DATED_RECORD)
+    write("event_date_of_a_month_alone", "dated", index([entry(4, len(month), dates=date, **dated)]), names, DATED_RECORD + month, "after")
     long = entry(0, len(LONG_COMMENT), ids=ids, counts=(0, 1, 0))
     tagged = entry(131_072, len(LONGEST_RECORD), ids=ids, counts=(0, 1, 0))
     write("record_too_long", "long", index([long]), names, LONG_COMMENT)
@@ -262,10 +269,15 @@ def imports():
     """The bases of the cases of games that come in."""
     write("import_vienna", "vienna", index([VIENNA]), VIENNA_NAMES, VIENNA_RECORD, "after")
     write("import_two_games", "pawns", index(PAWNS), PAWNS_NAMES, PAWNS_RECORDS, "after")
-    # Comments, NAGs, variations and a null move; an event date near the game's, and one that is a tag of the record
-    dates = [(DATED_RECORD, dict(dates=EVENT_DATE | DATE, plies=1, home=(11,))), (EVENT_TAGGED_RECORD, dict(dates=DATE, plies=1, home=(11,)))]
-    entries, records = all_of([(record, {**says, "ids": (0, 0, 0, 0, 0)}) for record, says in SHOWN[1:3] + dates])
-    names = names_file([("?", 8)], [("?", 4)], [("?", 4)], [("?", 4)])
+    # Comments, NAGs, variations and a null move; event dates near the game's, behind and before it, and such that are a tag of the record;
+    # comments at the beginning of the game and of its variation
+    near = [EVENT_DATE, (4 - 3) << 29 | 1 << 25 | 2 << 20]
+    far = [EVENT_TAGGED_RECORD, game(E4, tags=tag(b"EventDate", b"1996.01.02"))]
+    dates = [(DATED_RECORD, dict(dates=date | DATE, plies=1, home=(11,))) for date in near]
+    dates += [(record, dict(dates=DATE, plies=1, home=(11,))) for record in far]
+    leads = (game(b"\x0c" + E4 + b"\x0d\x0c" + D4 + b"\x0e", (b"a", b"b")), dict(counts=(1, 2, 0), plies=1, home=(11,)))
+    entries, records = all_of([(record, {**says, "ids": (0, 0, 0, 0, 0)}) for record, says in [*SHOWN[1:3], *dates, leads]])
+    names = names_file([("?", 14)], [("?", 7)], [("?", 7)], [("?", 7)])
     write("import_marks_and_dates", "marks", index(entries), names, records, "after")
     # A base that was created and not saved has its games file alone.
     clock = b"\n[%clk 0:01:00]"

@@ -11,6 +11,7 @@ import stat
 import subprocess
 import sys
 import tempfile
+import time
 from pathlib import Path
 
 TOP = Path(__file__).resolve().parent.parent
@@ -33,9 +34,9 @@ def run(base, script, words=(), before=()):
 class Session:
     """A session that stays open between its commands, each of which answers one line."""
 
-    def __init__(self, base):
+    def __init__(self, base, before=()):
         pipes = {"stdin": subprocess.PIPE, "stdout": subprocess.PIPE, "stderr": subprocess.PIPE}
-        self.process = subprocess.Popen([PROGRAM, base], text=True, bufsize=1, **pipes)
+        self.process = subprocess.Popen([*before, PROGRAM, base], text=True, bufsize=1, **pipes)
         self.opened = self.process.stdout.readline()
 
     def ask(self, line):
@@ -71,7 +72,7 @@ def heads(base, words=("--strict",)):
 
 def a_changed_file_is_never_saved_over(folder):
     """Each of the three files, changed in its place, replaced or removed by another program."""
-    for ending, how, what in itertools.product(ENDINGS, ("write", "replace", "remove"), ("tag 0 White C", "save", "compact")):
+    for ending, how, what in itertools.product(ENDINGS, ("write", "replace", "remove"), ("tag 0 White C", "demo 1 1", "save", "compact")):
         base = make_base(folder)
         session = Session(base)
         session.ask("mark 0 W on")
@@ -199,11 +200,12 @@ def edits_go_on_after_a_compaction(folder):
 
 def a_record_that_changes_ends_the_run(folder):
     """A record that another program writes over after the opening, with bytes that are none or with the record of another game: whoever reads
-    it ends there, and leaves the files as they are. Searches go along the moves alone, and a tree to the move behind the position."""
+    it ends there, and leaves the files as they are. Searches go along the moves alone, and a tree to the move behind the position. A demo of no
+    games has said so before it searches."""
     read = ("show 0", "export", "tag 0 White C")
     start = "rnbqkbnr/pppppppp/8/8/8/8/PPPPPPPP/RNBQKBNR w"
     search = (f"find {start}", f"search ignore position exact {start}", f"search ignore position pawns {start}", "search ignore material wp=8..8",
-              f"tree {start}")
+              f"tree {start}", "demo 1 0")
     none, another, no_move = b"\xce", b"\0\0\xcf\x0c\x0f", b"\0\0\xce"
     for what, new in (*((what, none) for what in (*read, *search)), *((what, another) for what in read), (f"tree {start}", no_move)):
         for before in ((), search[:1]):
@@ -214,8 +216,41 @@ def a_record_that_changes_ends_the_run(folder):
             first = session.ask(what)
             status, errors = session.end()
             assert (status, errors) == (CHANGED_GAME, "changed game 0\n"), (what, status, errors)
-            assert first == "" and contents(folder) == then, (what, first)
+            said = "demo 0 games 0 plies\n" if what == "demo 1 0" else ""
+            assert first == said and contents(folder) == then, (what, first)
             clear(folder)
+
+
+def a_move_that_changes_ends_the_search_that_comes_to_it(folder):
+    """A move of a record that another program makes illegal behind the opening. The record begins as before, so that only a search which goes on
+    to that move can tell; one of them goes into a variation."""
+    knights = ["rnbqkbnr/pppp1ppp/8/4p3/4P3/5N2/PPPP1PPP/RNBQKB1R b", "rnbqkbnr/pppp1ppp/8/4p3/4P3/2N5/PPPP1PPP/R1BQKBNR b"]
+    longest = 131_066 * "x"
+    record = b"\0\0\xcf\xcf\x67\x0d\x28\x0e\x0f"
+    rows = (
+        ("search ignore material wp=8..8 ply=1..131071", 2),
+        ("search ignore material wp=8..8 streak=3", 3),
+        (f"search ignore position exact {knights[0]}", 4),
+        (f"search ignore position exact {knights[1]} vars", 4),
+        (f"search ignore position exact {knights[1]} vars", 6),
+        (f"find {knights[0]}", 4),
+    )
+    for what, place in rows:
+        base = os.path.join(folder, "knights")
+        script = f"import <<END\n1. e4 e5 2. Nf3 (2. Nc3) *\n\n{{{longest}}} *\nEND\nsave\n"
+        assert run(base, script, ["--create"])[0] == 0
+        session = Session(base)
+        assert session.ask("info").startswith("games 2 "), session.end()
+        with Path(f"{base}.sg4").open("r+b") as file:
+            assert file.read(len(record)) == record
+            file.seek(place)
+            file.write(b"\xce")
+        then = contents(folder)
+        first = session.ask(what)
+        status, errors = session.end()
+        assert (status, errors, first) == (CHANGED_GAME, "changed game 0\n", ""), (what, place, status, errors, first)
+        assert contents(folder) == then, (what, place)
+        clear(folder)
 
 
 def two_blocks(folder, before):
@@ -345,6 +380,27 @@ def an_error_at_each_call(folder, what, answer, edits):
     return f"{len(tried)} calls of {what}"
 
 
+def a_new_file_that_grows_takes_no_place(folder):
+    """A new games file to which another program adds a byte before it is handed on to the disk: it goes, and the base stays as it was. strace holds
+    the program back there for a second."""
+    base = make_base(folder)
+    new = Path(f"{base}.sg4.new")
+    session = Session(base, ["strace", "-qq", "-f", "-o", "/dev/null", "-e", "inject=fsync:delay_enter=1000000:when=1"])
+    session.ask("delete 1")
+    then = contents(folder)
+    session.process.stdin.write("compact\n")
+    session.process.stdin.flush()
+    end = time.monotonic() + 30
+    while not (new.exists() and new.stat().st_size) and time.monotonic() < end:
+        time.sleep(0.01)
+    with new.open("ab") as file:
+        file.write(b"x")
+    assert session.process.stdout.readline() == ""
+    status, errors = session.end()
+    assert status == FILES_FAULT and f"{new}: {CHANGED} while it was made" in errors, (status, errors)
+    assert contents(folder) == then
+
+
 def files_are_handed_on_in_order(folder):
     """The games file before the index that names its records, each new file before it takes its place, and then its folder."""
     base = make_base(folder)
@@ -418,6 +474,7 @@ def main():
         (modes_and_links_stay,),
         (edits_go_on_after_a_compaction,),
         (a_record_that_changes_ends_the_run,),
+        (a_move_that_changes_ends_the_search_that_comes_to_it,),
         (a_mended_base_opens_again,),
         (a_word_that_is_no_text,),
         (a_broken_off_run_that_was_not_alone,),
@@ -425,6 +482,7 @@ def main():
     if shutil.which("strace"):
         shows += [
             (files_are_handed_on_in_order,),
+            (a_new_file_that_grows_takes_no_place,),
             (an_error_at_each_call, "save", "saved", ["tag 0 White C"]),
             (an_error_at_each_call, "compact", "compacted", ["delete 1", "tag 0 White C"]),
             (an_end_at_each_call, "save", "saved", ["tag 0 White C"]),

@@ -56,6 +56,8 @@ SIGNATURES = [
     (record_of("e2e4 g8f6 e4e5 d7d5 e5d6 h7h6"), (FULL, (1, 2, 2, 2, 7)), 6, (11, 4, 0), 0, (0, 0, 0)),
     (record_of("e2e4 d7d5 d2d4"), (FULL, FULL), 3, (11, 4, 12), 0, (0, 0, 0)),
     (NESTED, (FULL, FULL), 2, (11, 3), 0, (2, 2, 2)),
+    # {a} 1. e4 ({b} 1. d4): a comment at the beginning of a line counts.
+    (b"\x00\x00\x0c\xcf\x0d\x0c\xbf\x0e\x0fa\x00b\x00", (FULL, FULL), 1, (11,), 0, (1, 2, 0)),
     *((knights(plies), (FULL, FULL), min(plies, 1023), (), 0, (0, 0, 0)) for plies in (1022, 1023, 1024, 1100)),
 ]
 

@@ -396,7 +396,9 @@ REFUSING = """
 #include <unistd.h>
 
 void *__libc_malloc(size_t);
+void *__libc_calloc(size_t, size_t);
 void *__libc_realloc(void *, size_t);
+void *__libc_memalign(size_t, size_t);
 
 static int refused(void) {
     static long left = -1;
@@ -410,8 +412,18 @@ static int refused(void) {
 }
 
 void *malloc(size_t size) { return refused() ? NULL : __libc_malloc(size); }
+void *calloc(size_t count, size_t size) { return refused() ? NULL : __libc_calloc(count, size); }
 void *realloc(void *old, size_t size) { return refused() ? NULL : __libc_realloc(old, size); }
+void *aligned_alloc(size_t alignment, size_t size) { return refused() ? NULL : __libc_memalign(alignment, size); }
+
+int posix_memalign(void **place, size_t alignment, size_t size) {
+    *place = refused() ? NULL : __libc_memalign(alignment, size);
+    return *place ? 0 : ENOMEM;
+}
 """
+# The number of the growth for the list of the words on the command line, where the base is the only one; each other word has one before it.
+# It alone is asked for again, with less.
+LIST_OF_WORDS = 5
 # The files before, the words, and a script: a game that comes in, one that takes the place of another, edits that a slot and an index follow.
 GROWING = [
     (None, ["--create"], (TOP / "cases/import_vienna/script").read_text()),
@@ -423,7 +435,7 @@ GROWING = [
 
 def each_growth_refused(folder):
     """Each growth of the program's memory is refused once, until none is: the run is out of memory, with a front part of the whole text, or is
-    done where it asked again; and the base is that of the last save or compaction, or of the one that was at work."""
+    done where the list of its words asked again; and the base is that of the last save or compaction, or of the one that was at work."""
     compiler = shutil.which("cc")
     if not compiler:
         return "left out: there is no C compiler"
@@ -473,6 +485,7 @@ def refuse(room, files, words, script, whole, saved, refusing, growth):
     assert whole.startswith(text) and (status == MEMORY or text == whole), where
     refused = mark.exists()
     assert refused or status == DONE, where
+    assert not refused or status == MEMORY or growth == LIST_OF_WORDS + len(words), where
     mark.unlink(missing_ok=True)
     there = contents(room)
     assert sorted(there) in ([], sorted(f"base.{ending}" for ending in ENDINGS)), (where, sorted(there))

@@ -2,7 +2,8 @@
 """docs/check.py: looks whether the documents name what is there.
 
 Each word that a row of docs/CLAIMS.md names as the call or clause of something proved has to be a function, a type, a clause, a definition or
-a field of the repository; of the table of answers each clause has to be one of the call's own. docs/TRUSTED.md has to list the files of specs/
+a field of the repository; of the table of answers each clause has to be one of the call's own, and each call that the crates hand out and that
+can answer an error other than want of memory has to be in it. docs/TRUSTED.md has to list the files of specs/
 that the theorem of the program rests on, and apart from them those that other public clauses rest on, as docs/trusted.py finds them."""
 import re
 import sys
@@ -76,7 +77,7 @@ def answers():
                 calls = [(crate, "::".join([*kind, it])) for it in (name, *others)]
             for cell in cells[2:]:
                 outside = re.sub(r"\([^)]*\)", "", cell)
-                yield number, calls, re.findall(r"`(\w+)`", outside), re.findall(r"`(\w+)`", cell)
+                yield number, calls, re.findall(r"`([a-z]\w*)`", outside), re.findall(r"`(\w+)`", cell)
 
 
 def unknown_answers():
@@ -94,8 +95,31 @@ def unknown_answers():
                 yield f"docs/CLAIMS.md:{number}: nothing is named {word}"
 
 
+def refusing():
+    """The calls that the crates hand out and that answer an error other than want of memory, those of the programs apart."""
+    for path in sources("src", ".rt"):
+        crate, owner, is_trait = trusted.crate_of(path), None, False
+        there = trusted.exported(crate)
+        for part in re.split(r"^(?=(?:pub )?(?:impl|trait)\b|\})|^(?=\s*(?:pub(?:\(crate\))? )?fn )", path.read_text(), flags=re.M):
+            if block := trusted.OWNER.match(part):
+                owner, is_trait = None if block[1] else block[3], bool(block[2])
+            elif part.startswith("}"):
+                owner = None
+            head = re.match(r"\s*(pub )?fn (\w+)[^{]*?-> Result<((?:[^<>]|<(?:[^<>]|<[^<>]*>)*>)*)>", part)
+            handed_out = head and (head[1] or owner and is_trait) and there and (owner or head[2]) in there
+            if handed_out and not head[3].endswith(", AllocError"):
+                yield crate, f"{owner}::{head[2]}" if owner else head[2]
+
+
+def missing_answers():
+    listed = {call for _, calls, _, _ in answers() for call in calls}
+    for crate, call in refusing():
+        if (crate, call) not in listed:
+            yield f"docs/CLAIMS.md: the table of answers has no row of {crate}::{call}"
+
+
 def main():
-    faults = [*unknown_words(), *unknown_answers(), *trusted.faults()]
+    faults = [*unknown_words(), *unknown_answers(), *missing_answers(), *trusted.faults()]
     for fault in faults:
         print(fault)
     return 1 if faults else 0

@@ -24,7 +24,7 @@ const TWO: &str = "rnbqkb1r/ppp1pppp/3p1n2/8/8/3P1N2/PPP1PPPP/RNBQKB1R w KQkq - 
 
 const PINNED: &str = "4k3/8/8/8/1b6/2N5/8/4K1N1 w - - 0 1";
 
-const READ: [(&str, &str, Result<(u8, u8, Option<Kind>), SanFault>); 30] = [
+const READ: [(&str, &str, Result<(u8, u8, Option<Kind>), SanFault>); 32] = [
     (CHECKED, "--", Err(SanFault::NoMove)),
     (TWO, "Nd2", Err(SanFault::Two)),
     (PINNED, "Ne2", Ok((6, 12, None))),
@@ -33,7 +33,9 @@ const READ: [(&str, &str, Result<(u8, u8, Option<Kind>), SanFault>); 30] = [
     (START, "e4+#", Ok((12, 28, None))),
     (START, "e5", Err(SanFault::NoMove)),
     (START, "--", Ok((4, 4, None))),
+    (START, "--+", Ok((4, 4, None))),
     (CASTLES, "0-0", Ok((4, 6, None))),
+    (CASTLES, "0-0-0", Ok((4, 2, None))),
     (CASTLES, "O-O-O+", Ok((4, 2, None))),
     (CASTLES, "Kg1", Err(SanFault::NoMove)),
     (PROMOTES, "e8", Err(SanFault::NoMove)),

@@ -1,7 +1,8 @@
-//! The move after a board in a game that is in memory.
+//! The move after a board in a game that is in memory, and the moves of its main line.
 use cell_core::{Colour, pack};
 use chess_text::read_board;
 use game_codec::decode_game;
+use game_tree::main_line;
 use pos_search::next_in;
 use std::alloc::Global;
 use std::test::Fail;
@@ -42,5 +43,15 @@ fn the_first_place_on_the_main_line_counts(rt: HostRuntime) -> Result<(), Fail> 
     assert!(rt; squares_after(alloc, SHORT, ASIDE, Colour::Black)?.is_none());
     assert!(rt; squares_after(alloc, TWICE, START, Colour::White)? == Some(Some((6, 21))));
     assert!(rt; squares_after(alloc, TWICE, START, Colour::Black)?.is_none());
+    Ok(())
+}
+
+#[test]
+fn the_main_line_leaves_variations_out(rt: HostRuntime) -> Result<(), Fail> {
+    let (game, _) = decode_game(rt.alloc(), SHORT.split_at(SHORT.len().min(100)).0)?;
+    let moves = main_line(rt.alloc(), &game)?;
+    assert!(rt; moves.len() == 2);
+    assert!(rt; moves[0].from.index() == 12 && moves[0].to.index() == 28);
+    assert!(rt; moves[1].from.index() == 52 && moves[1].to.index() == 36);
     Ok(())
 }

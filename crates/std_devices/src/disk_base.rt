@@ -311,7 +311,7 @@ impl DiskBase {
         };
         let held = fresh.finish().on(spot)?;
         if held.len() != added || !held.stands_at(system, self.places.path(spot)).on(spot)? {
-            return Err(Trouble::new(spot, Why::Changed));
+            return Err(Trouble::new(spot, Why::Disturbed));
         }
         self.like_current(system, Kind::Games, &held.file).on(spot)?;
         Ok(held)

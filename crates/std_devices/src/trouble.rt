@@ -12,6 +12,8 @@ pub enum Why {
     System(io::Error),
     /// It is not the file that was loaded, or was written since.
     Changed,
+    /// It is a new file, and another program wrote to it too.
+    Disturbed,
     /// It stands where a new file or one that is set aside would have to, and this run did not make it.
     InTheWay,
     /// Another run is at work on the base.
@@ -42,7 +44,7 @@ impl Trouble {
     pub fn kind(&self) -> ErrorKind {
         match &self.why {
             Why::System(error) => error.kind(),
-            Why::Changed | Why::Busy | Why::SetAside => ErrorKind::InvalidData,
+            Why::Changed | Why::Disturbed | Why::Busy | Why::SetAside => ErrorKind::InvalidData,
             Why::InTheWay => ErrorKind::AlreadyExists,
         }
     }
@@ -63,6 +65,9 @@ impl Display for Why {
             Why::System(error) => Display::fmt(error, f),
             Why::Changed => f.write_str(
                 "another program changed it since it was loaded; it stays as it is",
+            ),
+            Why::Disturbed => f.write_str(
+                "another program changed it while it was made; it is taken away",
             ),
             Why::InTheWay => f.write_str(
                 "it is in the way, and this run did not make it; it stays as it is",
