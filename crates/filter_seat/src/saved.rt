@@ -156,22 +156,18 @@ pub fn forget(saved: &mut Vec<SavedFilter>, name: &[u8]) -> bool
 }
 
 /// Puts the filter of a name in the place of this one; `false` where there is none.
-pub fn take_from(
-    alloc: Global,
-    filter: &mut Filter,
-    saved: &[SavedFilter],
-    name: &[u8],
-) -> Result<bool, AllocError>
+#[tactic(auto, using(crate::proofs::SavedLaws::length_joined))]
+pub fn take_from(filter: &mut Filter, saved: &[SavedFilter], name: &[u8]) -> bool
     requires same_games { All (λ kept. length kept.plies ≡ length filter.old) saved.now }
-    ensures joined { OnOk result (filter.new ≡ joined_with taken filter.old (saved_named saved.now name.now)) }
-    ensures games { OnOk result (length filter.new ≡ length filter.old) }
-    ensures kept { IfOk result (λ kept. kept ≡ is_kept saved.now name.now) }
+    ensures joined { filter.new ≡ joined_with taken filter.old (saved_named saved.now name.now) }
+    ensures games { length filter.new ≡ length filter.old }
+    ensures kept { result ≡ is_kept saved.now name.now }
 {
     let Some(place) = place_of(saved, name) else {
-        return Ok(false);
+        return false;
     };
-    *filter = saved[place].plies.copy(alloc)?;
-    Ok(true)
+    filter.take_over(&saved[place].plies);
+    true
 }
 
 /// Keeps the games that are in this filter and in the one of a name; `false` where there is none.

@@ -50,6 +50,17 @@ impl Filter {
         })
     }
 
+    /// Takes the entries of another filter of as many games.
+    pub fn take_over(&mut self, other: &Filter)
+        requires same_games { length self.old ≡ length other.now }
+        ensures same { self.new ≡ other.now }
+    {
+        self.plies
+            .as_mut_slice()
+            .copy_from_slice(other.plies.as_slice());
+        self.count = other.count;
+    }
+
     /// Adds the entry of one more game. After an error the filter is as it was.
     ///
     /// The entries grow by the allocator that they were made with.

@@ -172,7 +172,7 @@ fn show_start<F: Files, K: Sink>(
     ensures causes { Causes WhyHalt result (counts (F.faults files.old) 0 (K.faults out.old)) (counts (F.faults files.new) 0 (K.faults out.new)) }
 {
     let query = at_start();
-    match search_position(alloc, machine, files, out, Op::Ignore, &query) {
+    match search_position(machine, files, out, Op::Ignore, &query) {
         Ok(()) => tree(alloc, machine, files, out, &query.board, Colour::White),
         Err(halt) => Err(halt),
     }

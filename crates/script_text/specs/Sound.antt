@@ -19,8 +19,8 @@ IsMatQuery query = 1 ≤ query.streak
 abbrev pub IsDepth : Option ℕ → Type 0
 IsDepth depth = IfSome depth (λ plies. plies ≤ 40)
 
--- An edit is within the bounds of heads, a mark is one of the 18 bits, a streak has a ply, the word that ends a body is short, and an
--- index is not deeper than 40 plies.
+-- An edit is within the bounds of heads, a mark is one of the 18 bits, a streak has a ply, the word that ends a body and the name of a filter
+-- are short, and an index is not deeper than 40 plies.
 abbrev pub IsSound : Command → Type 0
 IsSound (Tag game edit) = IsEdit edit
 IsSound (Mark game bit on) = bit < 18
@@ -29,6 +29,11 @@ IsSound (SearchMaterial op query) = IsMatQuery query
 IsSound (Import end) = length end ≤ 32
 IsSound (Replace game end) = length end ≤ 32
 IsSound (Eco end) = length end ≤ 32
+IsSound (Keep name) = length name ≤ 32
+IsSound (Take name) = length name ≤ 32
+IsSound (And name) = length name ≤ 32
+IsSound (Or name) = length name ≤ 32
+IsSound (Drop name) = length name ≤ 32
 IsSound (Index depth) = IsDepth depth
 IsSound Nothing = Unit {0}
 IsSound (Find board side) = Unit {0}
@@ -37,11 +42,6 @@ IsSound Reset = Unit {0}
 IsSound Clear = Unit {0}
 IsSound Negate = Unit {0}
 IsSound (Restrict first last) = Unit {0}
-IsSound (Keep name) = Unit {0}
-IsSound (Take name) = Unit {0}
-IsSound (And name) = Unit {0}
-IsSound (Or name) = Unit {0}
-IsSound (Drop name) = Unit {0}
 IsSound Hits = Unit {0}
 IsSound Listing = Unit {0}
 IsSound (Show game) = Unit {0}

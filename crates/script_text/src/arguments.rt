@@ -92,6 +92,7 @@ pub(crate) fn two_numbers(words: &[Word]) -> Result<(u64, u64), ScriptFault>
 pub(crate) fn one_name(words: &[Word]) -> Result<&[u8], ScriptFault>
     ensures named { MatchResult result (λ name. one filter_name words.now ≡ Ok name.now) (λ fault. one filter_name words.now ≡ Err fault) }
     ensures free { IfOk result (λ name. IsZeroFree name.now) }
+    ensures short { IfOk result (λ name. length name.now ≤ 32) }
 {
     let name = filter_name(text_at(words, 1)?).ok_or(ScriptFault::Argument(1))?;
     no_more(words, 1)?;

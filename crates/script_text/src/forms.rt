@@ -167,6 +167,7 @@ fn place_of(byte: u8, bytes: &[u8]) -> Option<u8>
 pub(crate) fn filter_name(word: &[u8]) -> Option<&[u8]>
     ensures named { option_map (λ name. name.now) result ≡ filter_name word.now }
     ensures free { IfSome result (λ name. IsZeroFree name.now) }
+    ensures short { IfSome result (λ name. length name.now ≤ 32) }
 {
     if 1 <= word.len() && word.len() <= 32 && has_name_bytes_alone(word) {
         Some(word)

@@ -1,5 +1,5 @@
 //! Writing the games of a filter.
-ghost use Rattle.std.specs.Prelude.{◌≡◌, ◌≤◌, [], ◌∷◌, ◌++◌, ◌^◌, ◌<◌, length, count_by, is_some, string_bytes, Ok, OnOk, IfErr};
+ghost use Rattle.std.specs.Prelude.{◌≡◌, ◌≤◌, [], ◌∷◌, ◌++◌, ◌^◌, ◌<◌, length, count_by, is_some, Ok, OnOk, IfErr};
 ghost use Rattle.base_files.specs.Causes.{HasCause};
 ghost use Rattle.base_files.specs.Seen.{Seen};
 ghost use Rattle.base_files.specs.Told.{Grew, adds};
@@ -13,7 +13,7 @@ ghost use Rattle.shell_state.specs.Work.{works};
 
 use base_files::{DeviceError, Sink, Stop, write_all};
 use game_filter::Filter;
-use shell_state::{Halt, Machine, PIECE};
+use shell_state::{Halt, Machine, PIECE, count_line, hit_line};
 use std::alloc::AllocError;
 
 /// hits
@@ -33,7 +33,7 @@ pub fn hits<K: Sink>(machine: &mut Machine, out: &mut K) -> Result<(), Halt>
 #[tactic(auto, using(command_runs::proofs::Joining::halted_by, command_runs::proofs::Joining::none_lost_by))]
 pub(crate) fn write_hits<K: Sink>(
     filter: &Filter,
-    page: &mut String,
+    page: &mut Vec<u8>,
     out: &mut K,
 ) -> Result<(), Stop>
     ensures written { OnOk result (K.taken out.new ≡ adds (K.taken out.old) (hits_text filter.now)) }
@@ -52,12 +52,12 @@ pub(crate) fn write_hits<K: Sink>(
 fn put_hits<K: Sink>(
     hits: &[Option<u32>],
     count: u32,
-    text: &mut String,
+    text: &mut Vec<u8>,
     out: &mut K,
 ) -> Result<(), DeviceError>
     requires few { length hits.now < 2 ^ 32 }
     requires counted { count ≡ count_by is_some hits.now }
-    requires empty { string_bytes text.old ≡ [] }
+    requires empty { text.old.items ≡ [] }
     ensures written { OnOk result (K.taken out.new ≡ adds (K.taken out.old) (hits_text hits.now)) }
     ensures none_lost { Grew (K.taken out.old) (K.taken out.new) }
     ensures no_more { Grew (K.taken out.new) (adds (K.taken out.old) (hits_text hits.now)) }
@@ -70,19 +70,19 @@ fn put_hits<K: Sink>(
         game += 1;
     }
     put_count(text, count, game)?;
-    write_all(out, text.as_bytes())
+    write_all(out, text.as_slice())
 }
 
 // Puts the line of a game behind the text, if it is in, and writes the text where it is long enough.
 fn put_game<K: Sink>(
-    text: &mut String,
+    text: &mut Vec<u8>,
     game: u32,
     hit: Option<u32>,
     out: &mut K,
 ) -> Result<(), DeviceError>
-    ensures put { OnOk result (adds (K.taken out.new) (string_bytes text.new) ≡ adds (K.taken out.old) (string_bytes text.old ++ hit_lines game (hit ∷ []))) }
+    ensures put { OnOk result (adds (K.taken out.new) (text.new.items) ≡ adds (K.taken out.old) (text.old.items ++ hit_lines game (hit ∷ []))) }
     ensures none_lost { Grew (K.taken out.old) (K.taken out.new) }
-    ensures no_more { Grew (K.taken out.new) (adds (K.taken out.old) (string_bytes text.old ++ hit_lines game (hit ∷ []))) }
+    ensures no_more { Grew (K.taken out.new) (adds (K.taken out.old) (text.old.items ++ hit_lines game (hit ∷ []))) }
     ensures counts { K.faults out.old ≤ K.faults out.new }
     ensures cause { IfErr result (λ e. HasCause e (K.faults out.old) (K.faults out.new)) }
 {
@@ -91,22 +91,23 @@ fn put_game<K: Sink>(
     };
     push_hit(text, game, ply)?;
     if text.len() >= PIECE {
-        write_all(out, text.as_bytes())?;
+        write_all(out, text.as_slice())?;
         text.clear();
     }
     Ok(())
 }
 
 // Puts the line of a game that is in behind the text.
-fn push_hit(text: &mut String, game: u32, ply: u32) -> Result<(), AllocError>
-    ensures { OnOk result (string_bytes text.new ≡ string_bytes text.old ++ hit_line game ply) }
+fn push_hit(text: &mut Vec<u8>, game: u32, ply: u32) -> Result<(), AllocError>
+    ensures { OnOk result (text.new.items ≡ text.old.items ++ hit_line game ply) }
 {
-    write!(text, "{game} {ply}\n")
+    text.extend_from_slice(hit_line(game, ply).as_slice())
 }
 
 // Puts the line that counts the games that are in behind the text.
-fn put_count(text: &mut String, count: u32, games: u32) -> Result<(), AllocError>
-    ensures { OnOk result (string_bytes text.new ≡ string_bytes text.old ++ count_line count games) }
+fn put_count(text: &mut Vec<u8>, count: u32, games: u32) -> Result<(), AllocError>
+    ensures { OnOk result (text.new.items ≡ text.old.items ++ count_line count games) }
 {
-    write!(text, "filter {count} of {games}\n")
+    let line = count_line(u64::from(count), u64::from(games));
+    text.extend_from_slice(line.as_slice())
 }

@@ -23,7 +23,6 @@ use pos_index::PosIndex;
 use pos_search::search;
 use shell_state::{Halt, Machine, write_filter};
 use sig_index::{Games, Mode, PosQuery};
-use std::alloc::Global;
 
 /// find BOARD SIDE: it leaves the games that are in, and writes nothing yet.
 pub fn find_games<F: Files>(
@@ -51,7 +50,6 @@ pub fn find_games<F: Files>(
 
 /// search OP position MODE BOARD SIDE, and the same with vars
 pub fn search_position<F: Files, K: Sink>(
-    alloc: Global,
     machine: &mut Machine,
     files: &mut F,
     out: &mut K,
@@ -70,7 +68,7 @@ pub fn search_position<F: Files, K: Sink>(
         Ok(()) => {}
         Err(halt) => return Err(halt),
     }
-    write_filter(alloc, &machine.seat.filter, out)
+    write_filter(&machine.seat.filter, out)
 }
 
 /// The same, but that nothing is written yet.

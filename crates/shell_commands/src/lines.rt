@@ -1,5 +1,5 @@
 //! The commands that change the filter or a game without the files, and answer a line.
-ghost use Rattle.std.specs.Prelude.{◌≡◌, ℕ, List, [], Ok, IfOk, OnOk, length};
+ghost use Rattle.std.specs.Prelude.{◌≡◌, ℕ, List, [], Ok, OnOk, length};
 ghost use Rattle.base_files.specs.Seen.{Seen};
 ghost use Rattle.command_runs.specs.Counts.{Causes, counts};
 ghost use Rattle.command_runs.specs.Endings.{NoneLost, Serves};
@@ -15,13 +15,13 @@ ghost use Rattle.shell_state.specs.Work.{works};
 ghost use Rattle.view_commands.specs.Views.{AreLeft, AreRight};
 
 use crate::showing::show_line;
-use base_files::{Sink, Stop};
+use base_files::Sink;
 use edit_commands::{delete, mark, undelete};
 use filter_commands::{and, clear, negate, or, reset, restrict, take};
 use script_text::Command;
 use search_commands::search_header;
-use shell_state::{Halt, Machine};
-use std::alloc::{AllocError, Global};
+use shell_state::{Halt, Line, Machine};
+use std::alloc::Global;
 use tree_live::TreeView;
 
 // Does what such a command says, and shows it before its line is written.
@@ -44,35 +44,29 @@ pub(crate) fn serve_line<K: Sink>(
     ensures none_lost { NoneLost (K.taken out.old) (K.taken out.new) }
     ensures causes { Causes WhyHalt result (counts 0 0 (K.faults out.old)) (counts 0 0 (K.faults out.new)) }
 {
-    match change_line(alloc, machine, command) {
-        Ok(line) => show_line(alloc, machine, views, out, line.as_slice()),
-        Err(AllocError) => Err(Halt::Device(Stop::Memory)),
-    }
+    let line = change_line(machine, command);
+    show_line(alloc, machine, views, out, line.as_slice())
 }
 
 // Does what it says, and gives its line.
-fn change_line(
-    alloc: Global,
-    machine: &mut Machine,
-    command: &Command,
-) -> Result<Vec<u8>, AllocError>
+fn change_line(machine: &mut Machine, command: &Command) -> Line
     requires fits { Fits machine.old }
     requires command { IsSound command.now }
     requires part { part_of command.now ≡ Lines }
-    ensures quiet { (text : List ℕ) → IfOk result (λ line. Quiet machine.old (command_work command.now text) machine.new line.items) }
+    ensures quiet { (text : List ℕ) → Quiet machine.old (command_work command.now text) machine.new result.items }
 {
     match command {
-        Command::SearchHeader(op, query) => search_header(alloc, machine, *op, query),
-        Command::Reset => reset(alloc, machine),
-        Command::Clear => clear(alloc, machine),
-        Command::Negate => negate(alloc, machine),
-        Command::Restrict(first, last) => restrict(alloc, machine, *first, *last),
-        Command::Take(name) => take(alloc, machine, name),
-        Command::And(name) => and(alloc, machine, name),
-        Command::Or(name) => or(alloc, machine, name),
-        Command::Delete(number) => delete(alloc, machine, *number),
-        Command::Undelete(number) => undelete(alloc, machine, *number),
-        Command::Mark(number, bit, on) => mark(alloc, machine, *number, *bit, *on),
+        Command::SearchHeader(op, query) => search_header(machine, *op, query),
+        Command::Reset => reset(machine),
+        Command::Clear => clear(machine),
+        Command::Negate => negate(machine),
+        Command::Restrict(first, last) => restrict(machine, *first, *last),
+        Command::Take(name) => take(machine, name),
+        Command::And(name) => and(machine, name),
+        Command::Or(name) => or(machine, name),
+        Command::Delete(number) => delete(machine, *number),
+        Command::Undelete(number) => undelete(machine, *number),
+        Command::Mark(number, bit, on) => mark(machine, *number, *bit, *on),
         _ => unreachable!(),
     }
 }

@@ -50,7 +50,7 @@ pub(crate) fn serve_search<F: Files, K: Sink>(
         Err(halt) => return Err(halt),
     }
     match show_rows(alloc, machine, views) {
-        Ok(()) => write_found(alloc, machine, out, command),
+        Ok(()) => write_found(machine, out, command),
         Err(halt) => Err(halt),
     }
 }
@@ -80,12 +80,7 @@ fn search_games<F: Files>(
 }
 
 // Its text, behind the search.
-fn write_found<K: Sink>(
-    alloc: Global,
-    machine: &mut Machine,
-    out: &mut K,
-    command: &Command,
-) -> Result<(), Halt>
+fn write_found<K: Sink>(machine: &mut Machine, out: &mut K, command: &Command) -> Result<(), Halt>
     requires part { part_of command.now ≡ Searches }
     ensures same { machine.new ≡ machine.old }
     ensures serves { (seen : Seen) (s : State) (text : List ℕ) → Stands machine.old seen ((command_work command.now text).after s) → Serves works (Stands machine.new seen) Broken s (command_work command.now text) (K.taken out.old) (K.taken out.new) result }
@@ -94,6 +89,6 @@ fn write_found<K: Sink>(
 {
     match command {
         Command::Find(..) => hits(machine, out),
-        _ => write_filter(alloc, &machine.seat.filter, out),
+        _ => write_filter(&machine.seat.filter, out),
     }
 }

@@ -22,7 +22,7 @@ use index_commands::index;
 use report_commands::cross;
 use script_text::Command;
 use search_commands::{hits, tree};
-use shell_state::{Halt, Machine};
+use shell_state::{Halt, Machine, write_line};
 use std::alloc::Global;
 use text_commands::{export, info, list, quit, show};
 
@@ -51,9 +51,9 @@ pub(crate) fn write_text<F: Files, K: Sink>(
     match command {
         Command::Nothing => say(out, Ok(Vec::new(alloc))),
         Command::Keep(name) => say(out, keep_filter(alloc, machine, name)),
-        Command::Drop(name) => say(out, drop_filter(alloc, machine, name)),
+        Command::Drop(name) => write_line(out, drop_filter(machine, name).as_slice()),
         Command::Hits => hits(machine, out),
-        Command::List => list(alloc, machine, out),
+        Command::List => list(machine, out),
         Command::Show(number) => show(alloc, machine, files, out, *number),
         Command::Export => export(alloc, machine, files, out),
         Command::Tree(board, side) => tree(alloc, machine, files, out, board, *side),

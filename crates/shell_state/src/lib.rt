@@ -7,14 +7,16 @@ mod indexing;
 mod lines;
 mod machine;
 mod refusing;
+mod short_lines;
 mod writing;
 
 pub use halt::{Halt, halt_of};
 pub use hits::{counted, hits_of};
 pub use indexing::replace_in_index;
-pub use lines::{
-    error_line, fault_line, filter_line, game_line, line_of, name_line, no_game_line, san_words,
-};
+pub use lines::{error_line, fault_line, game_line, line_of, no_game_line, san_words};
 pub use machine::Machine;
 pub use refusing::{Refusal, refusal_line, refused_line};
-pub use writing::{PIECE, write_filter, write_line};
+pub use short_lines::{
+    Line, count_line, filter_line, hit_line, name_line, number_line, unknown_game_line,
+};
+pub use writing::{PAGE, PIECE, write_filter, write_line};

@@ -1,38 +1,16 @@
 //! The lines that commands write.
-ghost use Rattle.std.specs.Prelude.{◌≡◌, IfOk, ◌<◌};
-ghost use Rattle.shell_state.specs.Lines.{error_line, game_line, no_game_line, filter_line, name_line, line_of, fault_line, argument_line, san_words};
+ghost use Rattle.std.specs.Prelude.{◌≡◌, IfOk};
+ghost use Rattle.shell_state.specs.Lines.{error_line, game_line, no_game_line, line_of, fault_line, argument_line, san_words};
 
-use cell_core::Text;
 use chess_text::SanFault;
-use game_filter::Filter;
 use script_text::ScriptFault;
 use std::alloc::{AllocError, Global};
-
-/// `filter N of M`.
-pub fn filter_line(alloc: Global, filter: &Filter) -> Result<Vec<u8>, AllocError>
-    ensures { IfOk result (λ line. line.items ≡ filter_line filter.now) }
-{
-    let count = filter.count();
-    let games = filter.len();
-    let line = format!(in alloc; "filter {count} of {games}\n")?;
-    Ok(line.into_bytes())
-}
 
 /// A line of these words.
 pub fn line_of(alloc: Global, words: &[u8]) -> Result<Vec<u8>, AllocError>
     ensures { IfOk result (λ line. line.items ≡ line_of words.now) }
 {
     let mut line = Vec::from_slice(alloc, words)?;
-    line.push(b'\n')?;
-    Ok(line)
-}
-
-/// A line of words and a name.
-pub fn name_line(alloc: Global, words: &[u8], name: &Text) -> Result<Vec<u8>, AllocError>
-    ensures { IfOk result (λ line. line.items ≡ name_line words.now name.now) }
-{
-    let mut line = Vec::from_slice(alloc, words)?;
-    line.extend_from_slice(name.as_bytes())?;
     line.push(b'\n')?;
     Ok(line)
 }

@@ -17,6 +17,7 @@ use crate::halt::Halt;
 use crate::hits::hits_of;
 use crate::indexing::add_to_index;
 use crate::refusing::{Refusal, refused};
+use crate::writing::PAGE;
 use base_core::Base;
 use base_files::Files;
 use filter_seat::{Seat, leave_out};
@@ -40,8 +41,8 @@ pub struct Machine {
     pub seat: Seat,
     /// A record is read into it: as long as the longest one may be.
     pub block: Vec<u8>,
-    /// Text that is put together before it is written.
-    pub page: String,
+    /// Text that is put together before it is written, in room that is taken when the machine is made.
+    pub page: Vec<u8>,
 }
 
 impl Model for Machine {
@@ -67,6 +68,7 @@ impl Machine {
         ensures begins { IfOk result (Begins base) }
     {
         let filter = Filter::new(alloc, base.header().games)?;
+        let page = Vec::with_capacity(alloc, PAGE)?;
         Ok(Machine {
             base,
             index: None,
@@ -76,7 +78,7 @@ impl Machine {
                 saved: Vec::new(alloc),
             },
             block,
-            page: String::new(alloc),
+            page,
         })
     }
 

@@ -22,25 +22,32 @@ use game_tree::{HeadRef, eco_text};
 use itoa::Buffer;
 use shell_state::{Halt, Machine, PIECE, filter_line};
 use sig_index::Games;
-use std::alloc::{AllocError, Global};
+use std::alloc::AllocError;
 
 /// list
-pub fn list<K: Sink>(alloc: Global, machine: &Machine, out: &mut K) -> Result<(), Halt>
-    requires fits { Fits machine.now }
-    requires sound { IsSound machine.now.kept }
-    ensures serves { (seen : Seen) (s : State) → Stands machine.now seen s → Serves works (Stands machine.now seen) Broken s list_work (K.taken out.old) (K.taken out.new) result }
+pub fn list<K: Sink>(machine: &mut Machine, out: &mut K) -> Result<(), Halt>
+    requires fits { Fits machine.old }
+    requires sound { IsSound machine.old.kept }
+    ensures same { machine.new ≡ machine.old }
+    ensures serves { (seen : Seen) (s : State) → Stands machine.old seen s → Serves works (Stands machine.new seen) Broken s list_work (K.taken out.old) (K.taken out.new) result }
     ensures none_lost { NoneLost (K.taken out.old) (K.taken out.new) }
     ensures causes { Causes WhyHalt result (counts 0 0 (K.faults out.old)) (counts 0 0 (K.faults out.new)) }
 {
-    match write_list(alloc, &machine.base, &machine.seat.filter, out) {
-        Ok(()) => Ok(()),
-        Err(stop) => Err(Halt::Device(stop)),
+    match write_list(&machine.base, &machine.seat.filter, &mut machine.page, out) {
+        Ok(()) => {}
+        Err(stop) => return Err(Halt::Device(stop)),
     }
+    Ok(())
 }
 
-// Writes a line for each game that is in, and then how many of how many there are.
+// Writes a line for each game that is in, and then how many of how many there are. The text goes out in pieces, by way of `page`.
 #[tactic(auto, using(command_runs::proofs::Joining::halted_by, command_runs::proofs::Joining::none_lost_by))]
-fn write_list<K: Sink>(alloc: Global, base: &Base, filter: &Filter, out: &mut K) -> Result<(), Stop>
+fn write_list<K: Sink>(
+    base: &Base,
+    filter: &Filter,
+    page: &mut Vec<u8>,
+    out: &mut K,
+) -> Result<(), Stop>
     requires games { length filter.now ≡ length base.now.entries }
     requires sound { IsSound base.now }
     ensures written { OnOk result (K.taken out.new ≡ adds (K.taken out.old) (list_of filter.now (heads_of base.now))) }
@@ -48,19 +55,21 @@ fn write_list<K: Sink>(alloc: Global, base: &Base, filter: &Filter, out: &mut K)
     ensures none_lost { NoneLost (K.taken out.old) (K.taken out.new) }
     ensures causes { Causes Why result (counts 0 0 (K.faults out.old)) (counts 0 0 (K.faults out.new)) }
 {
-    match put_list(alloc, base, filter, out) {
+    page.clear();
+    match put_list(base, filter, page, out) {
         Ok(()) => Ok(()),
         Err(error) => Err(error.of_output()),
     }
 }
 
-// Writes the lines. The text goes out in pieces.
+// Writes the lines. `text` is empty.
 fn put_list<K: Sink>(
-    alloc: Global,
     base: &Base,
     filter: &Filter,
+    text: &mut Vec<u8>,
     out: &mut K,
 ) -> Result<(), DeviceError>
+    requires empty { text.old.items ≡ [] }
     requires games { length filter.now ≡ length base.now.entries }
     requires sound { IsSound base.now }
     ensures written { OnOk result (K.taken out.new ≡ adds (K.taken out.old) (list_of filter.now (heads_of base.now))) }
@@ -69,11 +78,10 @@ fn put_list<K: Sink>(
     ensures counts { K.faults out.old ≤ K.faults out.new }
     ensures cause { IfErr result (λ e. HasCause e (K.faults out.old) (K.faults out.new)) }
 {
-    let mut text = Vec::new(alloc);
     for i in 0..filter.len() {
-        put_game(&mut text, base, i, filter.get(i), out)?;
+        put_game(text, base, i, filter.get(i), out)?;
     }
-    push_count(alloc, &mut text, filter)?;
+    push_count(text, filter)?;
     write_all(out, text.as_slice())
 }
 
@@ -177,9 +185,9 @@ fn push_players(text: &mut Vec<u8>, head: &HeadRef<'_>) -> Result<(), AllocError
 }
 
 // Puts the line that counts the games that are in behind the text.
-fn push_count(alloc: Global, text: &mut Vec<u8>, filter: &Filter) -> Result<(), AllocError>
+fn push_count(text: &mut Vec<u8>, filter: &Filter) -> Result<(), AllocError>
     ensures { OnOk result (text.new.items ≡ text.old.items ++ filter_line filter.now) }
 {
-    let line = filter_line(alloc, filter)?;
+    let line = filter_line(filter);
     text.extend_from_slice(line.as_slice())
 }

@@ -5,7 +5,7 @@ use Rattle.base_core.specs.Edits.{marked}
 use Rattle.edit_commands.proofs.EditLaws.{hits_marked, quiet_edit}
 use Rattle.edit_commands.proofs.editing.mark.Goals as goal
 use Rattle.edit_commands.specs.Editing.{mark_work}
-use Rattle.shell_state.proofs.Quietly.{held_by, if_ok, tables_with}
+use Rattle.shell_state.proofs.Quietly.{held_by, tables_with}
 use Rattle.shell_state.specs.Stands.{Fits, Holding, Quiet}
 use Rattle.shell_state.specs.Work.{quiet}
 
@@ -20,11 +20,9 @@ returns c =
     let there = subst (λ (n : ℕ). n < length base.entries) c.in-Some.ensures.at.0 here in
     let does = subst (λ (n : ℕ). Does (marked n c.args.bit c.args.on) base c.mark.new.self) c.in-Some.ensures.at.0 c.in_default-mark.ensures.marked in
     record {
-      quiet = if_ok _ _ c.game_line.result
-          (λ line is.
-          let P : Holding → Type 0 = λ h. Quiet h (mark_work c.args.number c.args.bit c.args.on) (held_by c.mark.new.self tables filter saved) line.items in
+      quiet =
+          let P : Holding → Type 0 = λ h. Quiet h (mark_work c.args.number c.args.bit c.args.on) (held_by c.mark.new.self tables filter saved) c.number_line.result.items in
           subst P c.machine.view_is
-          (quiet_edit (codes "marked ") (marked c.args.number c.args.bit c.args.on) c.args.number base c.mark.new.self tables filter saved (mark_work c.args.number c.args.bit c.args.on) line.items
-          (λ s. refl) (λ s. refl) there does c.in_default-mark.ensures.heads (hits_marked c.args.number c.args.bit c.args.on) c.keeps_sound.ensures.sound is fits))
-          c.game_line.ensures;
+          (quiet_edit (codes "marked ") (marked c.args.number c.args.bit c.args.on) c.args.number base c.mark.new.self tables filter saved (mark_work c.args.number c.args.bit c.args.on) c.number_line.result.items
+          (λ s. refl) (λ s. refl) there does c.in_default-mark.ensures.heads (hits_marked c.args.number c.args.bit c.args.on) c.keeps_sound.ensures.sound c.number_line.ensures.line fits);
     }

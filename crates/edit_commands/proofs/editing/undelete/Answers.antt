@@ -5,7 +5,7 @@ use Rattle.base_core.specs.Edits.{undeleted}
 use Rattle.edit_commands.proofs.EditLaws.{hits_undeleted, quiet_edit}
 use Rattle.edit_commands.proofs.editing.undelete.Goals as goal
 use Rattle.edit_commands.specs.Editing.{undelete_work}
-use Rattle.shell_state.proofs.Quietly.{held_by, if_ok, tables_with}
+use Rattle.shell_state.proofs.Quietly.{held_by, tables_with}
 use Rattle.shell_state.specs.Stands.{Fits, Holding, Quiet}
 use Rattle.shell_state.specs.Work.{quiet}
 
@@ -20,11 +20,9 @@ returns c =
     let there = subst (λ (n : ℕ). n < length base.entries) c.in-Some.ensures.at.0 here in
     let does = subst (λ (n : ℕ). Does (undeleted n) base c.undelete.new.self) c.in-Some.ensures.at.0 c.in_default-undelete.ensures.undeleted in
     record {
-      quiet = if_ok _ _ c.game_line.result
-          (λ line is.
-          let P : Holding → Type 0 = λ h. Quiet h (undelete_work c.args.number) (held_by c.undelete.new.self tables filter saved) line.items in
+      quiet =
+          let P : Holding → Type 0 = λ h. Quiet h (undelete_work c.args.number) (held_by c.undelete.new.self tables filter saved) c.number_line.result.items in
           subst P c.machine.view_is
-          (quiet_edit (codes "undeleted ") (undeleted c.args.number) c.args.number base c.undelete.new.self tables filter saved (undelete_work c.args.number) line.items
-          (λ s. refl) (λ s. refl) there does c.in_default-undelete.ensures.heads (hits_undeleted c.args.number) c.keeps_sound.ensures.sound is fits))
-          c.game_line.ensures;
+          (quiet_edit (codes "undeleted ") (undeleted c.args.number) c.args.number base c.undelete.new.self tables filter saved (undelete_work c.args.number) c.number_line.result.items
+          (λ s. refl) (λ s. refl) there does c.in_default-undelete.ensures.heads (hits_undeleted c.args.number) c.keeps_sound.ensures.sound c.number_line.ensures.line fits);
     }

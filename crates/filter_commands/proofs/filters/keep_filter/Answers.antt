@@ -6,7 +6,8 @@ use Rattle.shell_state.specs.Work.{quiet}
 
 pub returns : goal.returns
 returns c = record {
-  quiet = if_ok _ _ c.name_line.result
-      (λ line is. keep_quiet c.args.machine.now _ _ _ _ _ c.args.name.now line.items (sym c.machine.view_is) c.in_ok-keep.ensures.saved (sym c.in_ok-keep.ensures.kept ∙ c.if-not-branch.false) is c.in_ok-keep.ensures.same_games c.requires.fits)
-      c.name_line.ensures;
+  quiet = if_ok _ _ c.from_slice.result
+      (λ line is. keep_quiet c.args.machine.now _ _ _ _ _ c.args.name.now line.items (sym c.machine.view_is) c.in_ok-keep.ensures.saved (sym c.in_ok-keep.ensures.kept ∙ c.if-not-branch.false)
+      (is ∙ (c.as_slice.ensures.value ∙ c.name_line-line.ensures.line)) c.in_ok-keep.ensures.same_games c.requires.fits)
+      c.from_slice.ensures.items;
 }

@@ -25,11 +25,11 @@ pub returns-in_err-put_count-clause-no_more : goal.returns-in_err-put_count-clau
 returns-in_err-put_count-clause-no_more g c = waiting _ _ _ c.args.hits.now c.loop-hit.hit-index c.loop-hit.invariant.lines
 
 -- What was taken and the last piece are the whole text.
-whole_text : (g : given.Over) (c : goal.After-write_all g) → adds (g.K.Sink.taken c.loop-hit.out) c.as_bytes.result.now ≡ adds (g.K.Sink.taken c.args.out.now) (hits_text c.args.hits.now)
+whole_text : (g : given.Over) (c : goal.After-write_all g) → adds (g.K.Sink.taken c.loop-hit.out) c.as_slice.result.now ≡ adds (g.K.Sink.taken c.args.out.now) (hits_text c.args.hits.now)
 whole_text g c =
     let end : length c.args.hits.now ≤ c.loop-hit.hit-index = c.loop-hit-test.false in
     let games : c.loop-hit.game ≡ length c.args.hits.now = omega (arith, end, c.loop-hit.invariant.game, c.loop-hit.auto.hit-index-end) in
-    all_put _ _ _ _ c.args.hits.now c.loop-hit.hit-index _ _ end c.requires.counted games c.loop-hit.invariant.lines (c.as_bytes.ensures.value ∙ c.in_ok-put_count.ensures)
+    all_put _ _ _ _ c.args.hits.now c.loop-hit.hit-index _ _ end c.requires.counted games c.loop-hit.invariant.lines (c.as_slice.ensures.value ∙ c.in_ok-put_count.ensures)
 
 pub returns-clause-written : goal.returns-clause-written
 returns-clause-written g c =

@@ -1,6 +1,10 @@
+use Rattle.std.proofs.Common.{ℕ, List, sym, subst}
+use Rattle.filter_commands.specs.Filters.{drop_work}
 use Rattle.shell_commands.proofs.SayLaws.{quiet_said}
 use Rattle.shell_commands.proofs.texts.write_text.Goals as goal
 use Rattle.shell_state.proofs.CarryLaws.{carry_of, carry_same, if_err}
+use Rattle.shell_state.proofs.Served.{quiet_serves}
+use Rattle.shell_state.specs.Stands.{Quiet}
 
 pub returns-in-Nothing-clause-carries : goal.returns-in-Nothing-clause-carries
 returns-in-Nothing-clause-carries g c = λ s st. if_err c.say.result _ (carry_of c.args.machine.now (g.F.Files.seen c.args.files.now) s _ st)
@@ -14,10 +18,13 @@ returns-in-Keep-clause-carries g c = λ s st. if_err c.say-in-Keep.result _ (car
 
 pub returns-in-Drop-clause-serves : goal.returns-in-Drop-clause-serves
 returns-in-Drop-clause-serves g c = λ s text st.
-    rw c.in-Drop.is (quiet_said c.drop_filter.result c.say-in-Drop.result c.args.machine.now c.drop_filter.new.machine _ (g.F.Files.seen c.args.files.now) s _ _ c.drop_filter.ensures.quiet c.say-in-Drop.ensures.said st)
+    let P : List ℕ → Type 0 = λ line. Quiet c.args.machine.now (drop_work c.in-Drop.name) c.drop_filter.new.machine line in
+    rw c.in-Drop.is
+    (quiet_serves c.write_line.result c.args.machine.now c.drop_filter.new.machine _ c.as_slice.result.now (g.F.Files.seen c.args.files.now) s _ _
+    (subst P (sym c.as_slice.ensures.value) c.drop_filter.ensures.quiet) st c.write_line.ensures.written c.write_line.ensures.halted c.write_line.ensures.output)
 
 pub returns-in-Drop-clause-carries : goal.returns-in-Drop-clause-carries
-returns-in-Drop-clause-carries g c = λ s st. if_err c.say-in-Drop.result _ (carry_of c.args.machine.now (g.F.Files.seen c.args.files.now) s _ st)
+returns-in-Drop-clause-carries g c = λ s st. if_err c.write_line.result _ (carry_of c.args.machine.now (g.F.Files.seen c.args.files.now) s _ st)
 
 pub returns-in-Cross-clause-serves : goal.returns-in-Cross-clause-serves
 returns-in-Cross-clause-serves g c = λ s text st.

@@ -8,10 +8,10 @@ use Rattle.text_commands.proofs.ListingLaws.{listed_text}
 use Rattle.text_commands.proofs.listing.list.Goals as goal
 use Rattle.text_commands.specs.Listing.{list_work}
 
-pub returns-in-Ok-clause-serves : goal.returns-in-Ok-clause-serves
-returns-in-Ok-clause-serves g c = λ seen s st.
+pub returns-clause-serves : goal.returns-clause-serves
+returns-clause-serves g c = λ seen s st.
     let st' = subst (λ (h : Holding). Stands h seen s) (sym c.machine.view_is) st in
-    record { stands = st; written = c.in-Ok.ensures.written ∙ ap (adds (g.K.Sink.taken c.args.out.now)) (listed_text _ seen s st') }
+    record { stands = st'; written = c.in-Ok.ensures.written ∙ ap (adds (g.K.Sink.taken c.args.out.now)) (listed_text _ seen s st') }
 
 pub returns-in-Err-clause-serves : goal.returns-in-Err-clause-serves
 returns-in-Err-clause-serves g c = λ seen s st.

@@ -35,7 +35,7 @@ returns-in_err-push_count-clause-no_more g c =
     begun_waiting listed_if_in _ _ _ c.loop-i.i c.args.filter.now (heads_of c.args.base.now) (filter_line c.args.filter.now) c.loop-i.invariant.lines
 
 -- What was taken and the last piece are the whole text.
-whole_text : (g : given.Over) (c : goal.After-drop-text-2 g) → adds (g.K.Sink.taken c.loop-i.out) c.as_slice.result.now ≡ adds (g.K.Sink.taken c.args.out.now) (list_of c.args.filter.now (heads_of c.args.base.now))
+whole_text : (g : given.Over) (c : goal.After-write_all g) → adds (g.K.Sink.taken c.loop-i.out) c.as_slice.result.now ≡ adds (g.K.Sink.taken c.args.out.now) (list_of c.args.filter.now (heads_of c.args.base.now))
 whole_text g c =
     let all : length c.args.filter.now ≤ c.loop-i.i = omega (arith, c.loop-i-test.false, c.len-i-end.ensures.len) in
     let every : length (heads_of c.args.base.now) ≤ c.loop-i.i =
