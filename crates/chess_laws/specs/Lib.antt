@@ -4,6 +4,7 @@ pub mod Castling
 pub mod Position
 pub mod Step
 pub mod Counts
+pub mod CountWords
 pub mod Rays
 pub mod LegalTests
 pub mod Between

@@ -3,7 +3,7 @@ ghost use Rattle.std.specs.Prelude.{◌≡◌, ◌↔◌, ℕ, ◌<◌, ◌≤�
 ghost use Rattle.std.specs.List.{position};
 ghost use Rattle.cell_core.specs.Man.{is_of, is_man};
 ghost use Rattle.cell_core.specs.declared.man.Kind.TheVariants.{King};
-ghost use Rattle.chess_laws.specs.Counts.{counts_of, count_of, fewer, is_home, slot};
+ghost use Rattle.chess_laws.specs.Counts.{count_of, is_home};
 ghost use Rattle.chess_laws.specs.Position.{king_square};
 
 use cell_core::{Board, Colour, Kind, Man, Square};
@@ -41,7 +41,8 @@ pub fn count_side(board: &Board, colour: Colour) -> usize
 /// How many men of this colour and kind there are.
 fn count(board: &Board, colour: Colour, kind: Kind) -> usize
     ensures number { result ≡ count_of board.now colour kind }
-    ensures squares { result ≤ 64 }
+    ensures few { result ≤ 64 }
+    ensures squares { length board.now ≡ 64 }
 {
     board.of_man(colour, kind).count_ones() as usize
 }
@@ -56,61 +57,12 @@ pub fn holds(cell: &Option<Man>, colour: Colour, kind: Kind) -> bool
     }
 }
 
-/// How many queens, rooks, bishops, knights and pawns White has, and then Black.
-pub fn counts(board: &Board) -> [u8; 10]
-    ensures { result ≡ counts_of board.now }
-{
-    [
-        number(board, Colour::White, Kind::Queen),
-        number(board, Colour::White, Kind::Rook),
-        number(board, Colour::White, Kind::Bishop),
-        number(board, Colour::White, Kind::Knight),
-        number(board, Colour::White, Kind::Pawn),
-        number(board, Colour::Black, Kind::Queen),
-        number(board, Colour::Black, Kind::Rook),
-        number(board, Colour::Black, Kind::Bishop),
-        number(board, Colour::Black, Kind::Knight),
-        number(board, Colour::Black, Kind::Pawn),
-    ]
-}
-
 /// How many men of this colour and kind there are, as a small number.
-fn number(board: &Board, colour: Colour, kind: Kind) -> u8
+pub fn number(board: &Board, colour: Colour, kind: Kind) -> u8
     ensures number { result ≡ count_of board.now colour kind }
+    ensures squares { length board.now ≡ 64 }
 {
     count(board, colour, kind) as u8
-}
-
-// One less of the man on this square, where one stands there that is counted.
-#[inline(always)]
-pub fn count_out(all: &mut [u8; 10], cell: &Option<Man>)
-    ensures { all.new ≡ fewer all.old cell.now }
-{
-    if let Some(man) = cell {
-        let place = slot(man);
-        if place < 10 {
-            all[place] = all[place].saturating_sub(1);
-        }
-    }
-}
-
-// The place of a man's count among the ten, and 10 for a king.
-#[inline(always)]
-fn slot(man: &Man) -> usize
-    ensures { result ≡ slot man.now }
-{
-    let first = match man.colour {
-        Colour::White => 0,
-        Colour::Black => 5,
-    };
-    match man.kind {
-        Kind::King => 10,
-        Kind::Queen => first,
-        Kind::Rook => first + 1,
-        Kind::Bishop => first + 2,
-        Kind::Knight => first + 3,
-        Kind::Pawn => first + 4,
-    }
 }
 
 /// The home values of the pawns that stand on their own squares, as bits.

@@ -7,6 +7,7 @@ mod between;
 mod cases;
 mod castling;
 mod census;
+mod counts;
 mod effect;
 mod fault;
 mod leaps;
@@ -22,6 +23,7 @@ mod setup;
 mod targets;
 
 pub use castling::{king_target, rook_home, rook_target};
+pub use counts::Counts;
 pub use effect::Effect;
 pub use fault::PlaceFault;
 pub use moves::is_before;

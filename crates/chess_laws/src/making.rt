@@ -13,7 +13,7 @@ ghost use Rattle.chess_laws.specs.Step.{after, effect_of, Legal};
 
 use super::attack::{attacks, opens};
 use super::cases::reaches;
-use super::census::{self, count_out};
+use super::counts::Counts;
 use super::effect::Effect;
 use super::legal::is_calm;
 use super::next::{change, change_calm};
@@ -25,7 +25,7 @@ use cell_core::{Board, Colour, Man, Move, Square};
 #[inline(always)]
 pub fn make(
     p: &mut Setup,
-    counts: &mut [u8; 10],
+    counts: &mut Counts,
     m: &Move,
     effect: Effect,
     standing: Option<Man>,
@@ -85,14 +85,14 @@ fn takes_target(effect: Effect) -> bool
 
 // The counts of the board, which are those before without the man that was taken, if that is all.
 #[inline(always)]
-fn recount(counts: &mut [u8; 10], board: &Board, taken: &Option<Man>, alone: bool)
+fn recount(counts: &mut Counts, board: &Board, taken: &Option<Man>, alone: bool)
     ensures one { OnTrue alone (counts.new ≡ fewer counts.old taken.now) }
     ensures all { OnFalse alone (counts.new ≡ counts_of board.now) }
 {
     if alone {
-        count_out(counts, taken);
+        counts.count_out(taken);
     } else {
-        *counts = census::counts(board);
+        *counts = Counts::of(board);
     }
 }
 

@@ -9,7 +9,8 @@ ghost use Rattle.chess_laws.specs.Position.{Sound, Breaks, setup_of};
 
 use super::attack::attacks;
 use super::castling::king_home;
-use super::census::{counts, home_set, only_king};
+use super::census::{home_set, only_king};
+use super::counts::Counts;
 use super::effect::Effect;
 use super::fault::PlaceFault;
 use super::legal::{is_legal, is_legal_as, is_legal_plain, king_after};
@@ -31,7 +32,7 @@ pub struct Position {
     white_king: Square,
     black_king: Square,
     checked: bool,
-    counts: [u8; 10],
+    counts: Counts,
 }
 
 impl Model for Position {
@@ -74,7 +75,7 @@ impl Position {
             white_king: king_home(Colour::White),
             black_king: king_home(Colour::Black),
             checked: false,
-            counts: [1, 2, 2, 2, 8, 1, 2, 2, 2, 8],
+            counts: Counts::start(),
         }
     }
 
@@ -178,7 +179,14 @@ impl Position {
     pub fn counts(&self) -> [u8; 10]
         ensures counts { result ≡ counts_of self.now.board }
     {
-        self.counts
+        self.counts.numbers()
+    }
+
+    /// The same ten counts, in the form in which counts are compared.
+    pub fn census(&self) -> &Counts
+        ensures counts { result.now ≡ counts_of self.now.board }
+    {
+        &self.counts
     }
 
     /// The home values of the pawns that stand on their own squares, as bits: 15 down to 8 for a2 to h2, and 7 down to 0
@@ -231,7 +239,7 @@ fn place(
         white_king,
         black_king,
         checked,
-        counts: counts(board),
+        counts: Counts::of(board),
     })
 }
 

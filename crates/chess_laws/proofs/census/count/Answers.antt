@@ -12,5 +12,6 @@ returns c =
     let told : count_ones c.of_man.result ≡ count_by (is_man c.args.colour c.args.kind) c.args.board.now = ap count_ones c.of_man.ensures.squares ∙ ones-set_of (is_man c.args.colour c.args.kind) c.args.board.now in
     record {
       number = told;
-      squares = rw told (omega (arith, count_by-le-length (is_man c.args.colour c.args.kind) c.args.board.now, c.of_man.ensures.on_board));
+      few = rw told (omega (arith, count_by-le-length (is_man c.args.colour c.args.kind) c.args.board.now, c.of_man.ensures.on_board));
+      squares = c.of_man.ensures.on_board;
     }

@@ -53,7 +53,7 @@ invariant_of-result c =
       white_king = c.in-Some.ensures.1;
       black_king = c.in-Some-only_king.ensures.1;
       check = same_from_decides c.rests_in_check-checked.result (in_check p) decides (in_check-Decides p.board p.side);
-      census = c.counts.ensures;
+      census = c.of.ensures.counts;
     }
 
 pub returns-clause-sound : goal.returns-clause-sound

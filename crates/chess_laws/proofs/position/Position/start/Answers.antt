@@ -8,4 +8,4 @@ use Rattle.chess_laws.proofs.position.Position.start.Goals as goal
 pub invariant_of-result : goal.invariant_of-result
 unfolding in_check_now attacks_now some_below leaps_now walks_now runs_now shift
 invariant_of-result c =
-    rw (c.start_board-board.ensures) (record { sound = start-sound; white_king = c.king_home.ensures; black_king = c.king_home-2.ensures; check = refl; census = refl })
+    rw (c.start_board-board.ensures) (record { sound = start-sound; white_king = c.king_home.ensures; black_king = c.king_home-2.ensures; check = refl; census = c.start.ensures.counts })
