@@ -169,7 +169,7 @@ impl Filter {
         ensures kept { length self.new ≡ renumbering.now.kept }
         ensures entries { (i number : ℕ) → slice_get renumbering.now.to i ≡ Some (Some number) → slice_get self.new number ≡ slice_get self.old i }
     {
-        self.count = plies::renumber(self.plies.as_mut_slice(), renumbering.to());
-        self.plies.truncate(renumbering.kept() as usize);
+        renumbering.apply(&mut self.plies);
+        self.count = plies::count(self.plies.as_slice());
     }
 }

@@ -1,7 +1,6 @@
-//! The passes over the entries of a filter. Each returns how many games are in afterwards.
+//! The passes over the entries of a filter. Each tells how many games are in afterwards.
 ghost use Rattle.std.specs.Prelude.{◌≡◌, ◌^◌, ◌<◌, length, take};
 ghost use Rattle.game_filter.specs.Filter.{turned, negated, in_both, in_either, intersection, union, count_in, entry_within, restricted};
-ghost use Rattle.game_filter.specs.Renumbering.{renumbered};
 
 fn turn(ply: Option<u32>) -> Option<u32>
     ensures turned { result ≡ turned ply }
@@ -90,22 +89,13 @@ pub fn restrict(plies: &mut [Option<u32>], first: u32, last: u32) -> u32
     count
 }
 
-/// Moves the entries of the games that stay, those with a new number in `to`, to the front, in their order. What stands behind them is
-/// of no use.
-pub fn renumber(plies: &mut [Option<u32>], to: &[Option<u32>]) -> u32
-    requires same_games { length to.now ≡ length plies.old }
-    requires few_games { length plies.old < 2 ^ 32 }
-    ensures moved { take (length (renumbered to.now plies.old)) plies.new ≡ renumbered to.now plies.old }
-    ensures count { result ≡ count_in (renumbered to.now plies.old) }
-    ensures len { length plies.new ≡ length plies.old }
+/// Counts the games that are in.
+pub fn count(plies: &[Option<u32>]) -> u32
+    requires few_games { length plies.now < 2 ^ 32 }
+    ensures count { result ≡ count_in plies.now }
 {
-    let mut kept = 0;
     let mut count = 0;
-    for i in 0..plies.len() {
-        // What is put here of a game that goes is put over by the next that stays.
-        let ply = both(plies[i], to[i]);
-        plies[kept] = ply;
-        kept += usize::from(to[i].is_some());
+    for ply in plies {
         count += u32::from(ply.is_some());
     }
     count

@@ -1,4 +1,7 @@
 //! How the games of a base are numbered anew where some of them go.
+ghost use Rattle.std.specs.Prelude.{◌≡◌, length, take};
+ghost use Rattle.game_filter.specs.Renumbering.{renumbered};
+
 use std::alloc::{AllocError, Global};
 use std::marker::Model;
 
@@ -23,8 +26,8 @@ impl Model for Renumbering {
 }
 
 impl Renumbering {
-    ghost use Rattle.std.specs.Prelude.{◌≡◌, ◌<◌, ◌+◌, ◌∷◌, [], ◌++◌, Some, None, length, IfOk, OnOk, OnErr};
-    ghost use Rattle.game_filter.specs.Renumbering.{Rises};
+    ghost use Rattle.std.specs.Prelude.{◌≡◌, ◌<◌, ◌+◌, ◌∷◌, [], ◌++◌, ℕ, Some, None, length, slice_get, IfOk, OnOk, OnErr};
+    ghost use Rattle.game_filter.specs.Renumbering.{Rises, renumbered};
 
     /// The renumbering of a base without games.
     pub fn new(alloc: Global) -> Renumbering
@@ -70,5 +73,32 @@ impl Renumbering {
         ensures kept { result ≡ self.now.kept }
     {
         self.kept
+    }
+
+    /// Leaves of a list of as many games what is listed of those that stay, in their order. Nothing is copied elsewhere.
+    pub fn apply<T: Drop>(&self, list: &mut Vec<T>)
+        requires same_games { length self.now.to ≡ length list.old.items }
+        ensures stayed { list.new.items ≡ renumbered self.now.to list.old.items }
+        ensures kept { length list.new.items ≡ self.now.kept }
+        ensures entries { (i number : ℕ) → slice_get self.now.to i ≡ Some (Some number) → slice_get list.new.items number ≡ slice_get list.old.items i }
+    {
+        move_to_front(list.as_mut_slice(), self.to.as_slice());
+        list.truncate(self.kept as usize);
+    }
+}
+
+// Moves what is listed of the games that stay, those with a new number in `to`, to the front, in their order. What stands behind it is of no
+// use.
+fn move_to_front<T>(list: &mut [T], to: &[Option<u32>])
+    requires same_games { length to.now ≡ length list.old }
+    ensures moved { take (length (renumbered to.now list.old)) list.new ≡ renumbered to.now list.old }
+    ensures len { length list.new ≡ length list.old }
+{
+    let mut kept = 0;
+    for i in 0..list.len() {
+        if to[i].is_some() {
+            list.swap(kept, i);
+            kept += 1;
+        }
     }
 }

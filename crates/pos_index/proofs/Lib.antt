@@ -2,7 +2,6 @@ mod PointLemmas
 mod MovedLemmas
 mod SpotLemmas
 mod ListedLemmas
-mod RowLemmas
 pub mod KeyLemmas
 mod PlaceLemmas
 mod GameLemmas

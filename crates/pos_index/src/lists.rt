@@ -144,10 +144,8 @@ impl Lists {
         requires same_games { length renumbering.now.to ≡ length self.old.rows }
         ensures { self.new ≡ record self.old { rows = renumbered renumbering.now.to self.old.rows } }
     {
-        let to = renumbering.to();
-        renumber_lists(self.lists.as_mut_slice(), to);
-        let kept = renumber_rows(self.rows.as_mut_slice(), to);
-        self.rows.truncate(kept);
+        renumber_lists(self.lists.as_mut_slice(), renumbering.to());
+        renumbering.apply(&mut self.rows);
     }
 }
 
@@ -220,21 +218,4 @@ fn renumber_lists(lists: &mut [Hits], to: &[Option<u32>])
     for k in 0..lists.len() {
         lists[k].renumber(to);
     }
-}
-
-// Moves the rows of the games that stay to the front, in their order, and answers how many they are.
-fn renumber_rows(rows: &mut [Row], to: &[Option<u32>]) -> usize
-    requires { length to.now ≡ length rows.old }
-    ensures moved { take result rows.new ≡ renumbered to.now rows.old }
-    ensures len { length rows.new ≡ length rows.old }
-    ensures within { result ≤ length rows.old }
-{
-    let mut kept = 0;
-    for k in 0..rows.len() {
-        if to[k].is_some() {
-            rows.swap(kept, k);
-            kept += 1;
-        }
-    }
-    kept
 }

@@ -1,7 +1,7 @@
 -- Laws of `tree`.
 use Rattle.std.proofs.Common.{◌≡◌, ℕ, Option, Some, None, refl, ◌+◌, List, [], ◌∷◌, ◌++◌, All, map, option_map, ap, ◌∙◌, ◌≤◌, sym, zero, suc, take, append_assoc, append-nil, add-one, length}
 use Rattle.std.proofs.lemmas.List.{take_all}
-use Rattle.std.proofs.lemmas.List.Elements.{All-push, All-same}
+use Rattle.std.proofs.lemmas.List.Elements.{All-nil, All-same}
 use Rattle.std.proofs.lemmas.Option.{slice_get-map, get_or_from_slice_get, same_Some}
 use Rattle.std.specs.Prelude.{slice_get}
 use Rattle.base_core.proofs.GamesLaws.{heads-are}
@@ -20,7 +20,10 @@ use Rattle.sig_index.specs.declared.pos_query.Mode.TheVariants.{Exact}
 use Rattle.sig_index.specs.declared.pos_query.PosQuery.{PosQuery}
 use Rattle.tree_rows.specs.Hits.{hit_of}
 use Rattle.tree_rows.specs.MoveText.{IsKey}
+use Rattle.tree_rows.specs.Rows.{rows_of}
 use Rattle.tree_rows.specs.declared.hit.GameHit.{GameHit}
+use Rattle.tree_rows.specs.declared.row.Row.{Row}
+use Rattle.tree_rows.proofs.HitKeys.{keys-hold}
 use Rattle.search_commands.specs.Trees.{hit_if_in, listed_hit, tree_hits}
 use Rattle.shell_state.specs.Slots.{hit_of_game}
 
@@ -43,13 +46,10 @@ untagged : (next : Option Move) (side : Colour) (head : Head) → hit_of next si
 untagged next White head = refl
 untagged next Black head = refl
 
--- The keys of hits, one more.
-pub keys-push : (query : PosQuery) (hits later : List GameHit) (hit : GameHit) → later ≡ hits ++ hit ∷ []
-    → All (λ (h : GameHit). IsKey query.board query.side h.next) hits → IsKey query.board query.side hit.next
-    → All (λ (h : GameHit). IsKey query.board query.side h.next) later
-keys-push query hits later hit same keys key =
-    let P : GameHit → Type 0 = λ h. IsKey query.board query.side h.next in
-    All-same P later (hits ++ hit ∷ []) same (All-push P hits hit keys key)
+-- The rows of no hit have no key.
+pub no-keys : (query : PosQuery) (rows : List Row) → rows ≡ rows_of [] → All (λ (row : Row). IsKey query.board query.side row.key) rows
+no-keys query rows is =
+    All-same (λ (row : Row). IsKey query.board query.side row.key) rows (rows_of []) is (keys-hold (IsKey query.board query.side) [] (All-nil (λ (hit : GameHit). IsKey query.board query.side hit.next)))
 
 -- The game at a place.
 pub game-at : (games : List Held) (i : ℕ) (held : Held) → slice_get games i ≡ Some held → slice_get (map (λ (h : Held). h.game) games) i ≡ Some held.game
@@ -84,17 +84,16 @@ more query (suc i) (q ∷ plies) (y ∷ games) ply held p x =
     ap (λ (l : List GameHit). listed_hit (hit_if_in query q y) ++ l) (more query i plies games ply held p x)
     ∙ sym (append_assoc (listed_hit (hit_if_in query q y)) (tree_hits query (take i plies) (take i games)) (listed_hit (hit_if_in query ply held)))
 
-pub hits-more : (query : PosQuery) (i : ℕ) (plies : List (Option ℕ)) (games : List Held) (ply : Option ℕ) (held : Held) (before after : List GameHit)
-    → slice_get plies i ≡ Some ply → slice_get games i ≡ Some held
-    → before ≡ tree_hits query (take i plies) (take i games) → after ≡ before ++ listed_hit (hit_if_in query ply held)
-    → after ≡ tree_hits query (take (i + 1) plies) (take (i + 1) games)
-hits-more query i plies games ply held before after p x so_far now =
-    now ∙ ap (λ (l : List GameHit). l ++ listed_hit (hit_if_in query ply held)) so_far
-    ∙ sym (more query i plies games ply held p x)
-    ∙ ap (λ (k : ℕ). tree_hits query (take k plies) (take k games)) (sym (add-one i))
+pub rows-more : (query : PosQuery) (i : ℕ) (plies : List (Option ℕ)) (games : List Held) (ply : Option ℕ) (held : Held) (after : List Row)
+    → slice_get plies i ≡ Some ply → slice_get games i ≡ Some held → after ≡ rows_of (tree_hits query (take i plies) (take i games) ++ listed_hit (hit_if_in query ply held))
+    → after ≡ rows_of (tree_hits query (take (i + 1) plies) (take (i + 1) games))
+rows-more query i plies games ply held after p x now =
+    now ∙ ap rows_of (sym (more query i plies games ply held p x))
+    ∙ ap (λ (k : ℕ). rows_of (tree_hits query (take k plies) (take k games))) (sym (add-one i))
 
 -- No game more.
-pub hits-all : (query : PosQuery) (i : ℕ) (plies : List (Option ℕ)) (games : List Held) (hits : List GameHit) → length plies ≤ i → length games ≤ i
-    → hits ≡ tree_hits query (take i plies) (take i games) → hits ≡ tree_hits query plies games
-hits-all query i plies games hits all every so_far =
-    so_far ∙ ap (λ (l : List (Option ℕ)). tree_hits query l (take i games)) (take_all i plies all) ∙ ap (λ (l : List Held). tree_hits query plies l) (take_all i games every)
+pub rows-all : (query : PosQuery) (i : ℕ) (plies : List (Option ℕ)) (games : List Held) (rows : List Row) → length plies ≤ i → length games ≤ i
+    → rows ≡ rows_of (tree_hits query (take i plies) (take i games)) → rows ≡ rows_of (tree_hits query plies games)
+rows-all query i plies games rows all every so_far =
+    so_far ∙ ap (λ (l : List (Option ℕ)). rows_of (tree_hits query l (take i games))) (take_all i plies all)
+    ∙ ap (λ (l : List Held). rows_of (tree_hits query plies l)) (take_all i games every)

@@ -28,13 +28,9 @@ tree_hits query [] games = []
 tree_hits query (ply ∷ plies) [] = []
 tree_hits query (ply ∷ plies) (held ∷ games) = listed_hit (hit_if_in query ply held) ++ tree_hits query plies games
 
--- The text of the rows of hits.
-abbrev pub hits_tree : PosQuery → List GameHit → List ℕ
-hits_tree query hits = tree_text query.board query.side (rows_of hits)
-
 -- tree BOARD SIDE: the rows of the games that are in and meet the board on all squares.
 abbrev pub tree_of : PosQuery → List (Option ℕ) → List Held → List ℕ
-tree_of query plies games = hits_tree query (tree_hits query plies games)
+tree_of query plies games = tree_text query.board query.side (rows_of (tree_hits query plies games))
 
 abbrev pub tree_said : State → Men → Colour → List ℕ
 tree_said s board side = tree_of (exactly board side) s.seat.filter s.shared.base.games

@@ -14,7 +14,9 @@ ghost use Rattle.sig_index.specs.Games.{extent_in};
 ghost use Rattle.sig_index.specs.declared.signature.Sig.{Sig};
 ghost use Rattle.sig_index.specs.declared.pos_query.Mode.TheVariants.{Exact};
 ghost use Rattle.tree_rows.specs.MoveText.{IsKey};
-ghost use Rattle.search_commands.specs.Trees.{hit_if_in, hits_tree, listed_hit, tree_hits, tree_of, tree_work};
+ghost use Rattle.tree_rows.specs.Rows.{AreRows, rows_of};
+ghost use Rattle.tree_rows.specs.declared.hit.GameHit.{GameHit as Hit};
+ghost use Rattle.search_commands.specs.Trees.{hit_if_in, listed_hit, tree_hits, tree_of, tree_work};
 ghost use Rattle.shell_state.specs.Ends.{IsDevice};
 ghost use Rattle.shell_state.specs.Slots.{hit_of_game};
 ghost use Rattle.shell_state.specs.Stands.{Stands, Sound, Broken, WhyHalt, Asks};
@@ -94,30 +96,19 @@ fn read_tree<F: Files>(
 {
     let sought = Sought::new(query);
     let mut told = hits_told(query, index);
-    let hits = match read_hits(alloc, base, filter, &sought, &mut told, files, block) {
-        Ok(hits) => hits,
+    let rows = match read_rows(alloc, base, filter, &sought, &mut told, files, block) {
+        Ok(rows) => rows,
         Err(halt) => return Err(halt),
     };
-    match text_of(alloc, hits.as_slice(), query) {
-        Ok(text) => Ok(text),
+    let mut text = Vec::new(alloc);
+    match lines(alloc, rows.as_slice(), &query.board, query.side, &mut text) {
+        Ok(()) => Ok(text),
         Err(AllocError) => Err(Halt::Device(Stop::Memory)),
     }
 }
 
-// The text of the rows of hits of a position.
-fn text_of(alloc: Global, hits: &[GameHit], query: &PosQuery) -> Result<Vec<u8>, AllocError>
-    requires few { length hits.now ≤ 16777214 }
-    requires keys { All (λ hit. IsKey query.now.board query.now.side hit.next) hits.now }
-    ensures text { IfOk result (λ text. text.items ≡ hits_tree query.now hits.now) }
-{
-    let rows = Rows::from_scratch(alloc, hits)?;
-    let mut text = Vec::new(alloc);
-    lines(alloc, rows.as_slice(), &query.board, query.side, &mut text)?;
-    Ok(text)
-}
-
-// The hits of the games that are in, in their order. An index tells `told` of them.
-fn read_hits<F: Files>(
+// The rows of the games that are in: each hit is summed as it is read, so that memory goes by rows. An index tells `told` of the hits.
+fn read_rows<F: Files>(
     alloc: Global,
     base: &Base,
     filter: &Filter,
@@ -125,7 +116,7 @@ fn read_hits<F: Files>(
     told: &mut BoardHits<'_>,
     files: &mut F,
     block: &mut [u8],
-) -> Result<Vec<GameHit>, Halt>
+) -> Result<Rows, Halt>
     requires exact { query.now.mode ≡ Exact }
     requires squares { length query.now.board ≡ 64 }
     requires legal { AreLegalHits query.now told.old }
@@ -134,29 +125,28 @@ fn read_hits<F: Files>(
     requires room { length block.old ≡ 131072 }
     requires within { base.now.end ≤ (F.seen files.old).known }
     ensures same { told.new ≡ told.old }
-    ensures hits { (contents : List ℕ) (all : PlainBase) (index : Option Index) → (F.seen files.old).games ≡ Some contents → Represents base.now contents all
-        → told.old ≡ hits_told query.now (rows_told index) → IndexesAll index (map (λ held. held.game) all.games) → IfOk result (λ hits. hits.items ≡ tree_hits query.now filter.now all.games) }
+    ensures rows { (contents : List ℕ) (all : PlainBase) (index : Option Index) → (F.seen files.old).games ≡ Some contents → Represents base.now contents all
+        → told.old ≡ hits_told query.now (rows_told index) → IndexesAll index (map (λ held. held.game) all.games) → IfOk result (λ rows. rows ≡ rows_of (tree_hits query.now filter.now all.games)) }
     ensures devices { (told : List ℕ) (all : PlainBase) → (F.seen files.old).games ≡ Some told → Represents base.now told all → IfErr result IsDevice }
-    ensures few { IfOk result (λ hits. length hits.items ≤ length filter.now) }
-    ensures keys { IfOk result (λ hits. All (λ hit. IsKey query.now.board query.now.side hit.next) hits.items) }
+    ensures keys { IfOk result (λ rows. All (λ row. IsKey query.now.board query.now.side row.key) rows) }
     ensures room { length block.new ≡ 131072 }
     ensures unchanged { F.seen files.new ≡ F.seen files.old }
     ensures asks { (rows : List (List Place)) → told.old ≡ hits_told query.now rows → F.asked files.new ≤ F.asked files.old + price_by (cost_of And) (are_read query.now rows (sigs_of base.now)) (extents_of base.now) filter.now }
     ensures causes { Causes WhyHalt result (counts (F.faults files.old) 0 0) (counts (F.faults files.new) 0 0) }
 {
-    let mut hits = Vec::new(alloc);
+    let mut rows = Rows::new(alloc);
     for i in 0..filter.len() {
-        match add_hit(&mut hits, base, i, filter.get(i), query, told, files, block) {
+        match add_game(&mut rows, base, i, filter.get(i), query, told, files, block) {
             Ok(()) => {}
             Err(halt) => return Err(halt),
         }
     }
-    Ok(hits)
+    Ok(rows)
 }
 
-// Puts the hit of a game behind the others, if the game is in and meets the position.
-fn add_hit<F: Files>(
-    hits: &mut Vec<GameHit>,
+// Counts the hit of a game in the rows of those before it, if the game is in and meets the position.
+fn add_game<F: Files>(
+    rows: &mut Rows,
     base: &Base,
     i: u32,
     ply: Option<u32>,
@@ -169,15 +159,16 @@ fn add_hit<F: Files>(
     requires squares { length query.now.board ≡ 64 }
     requires legal { AreLegalHits query.now told.old }
     requires there { i < length base.now.entries }
+    requires counted { AreRows i rows.old }
     requires sound { IsSound base.now }
     requires room { length block.old ≡ 131072 }
     requires within { base.now.end ≤ (F.seen files.old).known }
     ensures same { told.new ≡ told.old }
-    ensures added { (contents : List ℕ) (all : PlainBase) (held : Held) (index : Option Index) → (F.seen files.old).games ≡ Some contents → Represents base.now contents all → slice_get all.games i ≡ Some held
-        → told.old ≡ hits_told query.now (rows_told index) → IndexesAll index (map (λ h. h.game) all.games) → OnOk result (hits.new.items ≡ hits.old.items ++ listed_hit (hit_if_in query.now ply held)) }
+    ensures added { (contents : List ℕ) (all : PlainBase) (held : Held) (index : Option Index) (hits : List Hit) → (F.seen files.old).games ≡ Some contents → Represents base.now contents all → slice_get all.games i ≡ Some held
+        → told.old ≡ hits_told query.now (rows_told index) → IndexesAll index (map (λ h. h.game) all.games) → rows.old ≡ rows_of hits → OnOk result (rows.new ≡ rows_of (hits ++ listed_hit (hit_if_in query.now ply held))) }
     ensures devices { (told : List ℕ) (all : PlainBase) → (F.seen files.old).games ≡ Some told → Represents base.now told all → IfErr result IsDevice }
-    ensures few { OnOk result (length hits.new.items ≤ length hits.old.items + 1) }
-    ensures keys { All (λ hit. IsKey query.now.board query.now.side hit.next) hits.old.items → OnOk result (All (λ hit. IsKey query.now.board query.now.side hit.next) hits.new.items) }
+    ensures counted { OnOk result (AreRows (i + 1) rows.new) }
+    ensures keys { All (λ row. IsKey query.now.board query.now.side row.key) rows.old → OnOk result (All (λ row. IsKey query.now.board query.now.side row.key) rows.new) }
     ensures room { length block.new ≡ 131072 }
     ensures unchanged { F.seen files.new ≡ F.seen files.old }
     ensures asks { (sig : Sig) (rows : List (List Place)) → slice_get (sigs_of base.now) i ≡ Some sig → told.old ≡ hits_told query.now rows → F.asked files.new ≤ F.asked files.old + cost_of And (is_read query.now (places_in rows i) sig) (extent_in (extents_of base.now) i) ply }
@@ -186,14 +177,14 @@ fn add_hit<F: Files>(
     let Some(_) = ply else {
         return Ok(());
     };
-    let found = match read_hit(base, i, query, told, files, block) {
-        Ok(Some(found)) => found,
+    let hit = match read_hit(base, i, query, told, files, block) {
+        Ok(Some(hit)) => hit,
         Ok(None) => return Ok(()),
         Err(halt) => return Err(halt),
     };
-    match hits.push(found) {
+    match rows.add_hit(&hit) {
         Ok(()) => Ok(()),
-        Err(_) => Err(Halt::Device(Stop::Memory)),
+        Err(AllocError) => Err(Halt::Device(Stop::Memory)),
     }
 }
 

@@ -1,5 +1,5 @@
 -- Games by their marks, the changes that this counts, and the keys at which their rows differ.
-use Rattle.std.proofs.Common.{◌≡◌, ℕ, zero, suc, ◌+◌, ◌<◌, ◌≤◌, ◌&&◌, ◌||◌, Bool, true, false, cond, List, [], ◌∷◌, ◌++◌, Option, Some, None, is_some, nat_lt, length, take, get_or, set, Result, Ok, Err, OnOk, option_to_list, length-append, refl, sym, ap, ◌∙◌, add-one, arith}
+use Rattle.std.proofs.Common.{◌≡◌, ℕ, zero, suc, ◌+◌, ◌<◌, ◌≤◌, ◌&&◌, ◌||◌, Bool, true, false, cond, List, [], ◌∷◌, ◌++◌, Option, Some, None, nat_lt, length, take, get_or, set, Result, Ok, Err, OnOk, option_to_list, length-append, refl, sym, ap, ◌∙◌, add-one, arith}
 use Rattle.std.proofs.lemmas.Bool.{false≢true, lt-ltb, le-ltb, ltb-true, ltb-false}
 use Rattle.std.proofs.lemmas.List.{set-get_or, set_at, get_or_default}
 use Rattle.std.proofs.lemmas.List.Elements.{All-nil, All-same}
@@ -216,58 +216,26 @@ entry-read items games i game same below at =
 
 -- ---- games that are numbered anew
 
-cons-cond : (b : Bool) (x : Entry) (l m : List Entry) → x ∷ cond b l m ≡ cond b (x ∷ l) (x ∷ m)
-cons-cond true x l m = refl
-cons-cond false x l m = refl
-
-renumbered-next : (to : List (Option ℕ)) (games : List Entry) (i : ℕ) (d : Entry) → i < length to → length to ≡ length games
-    → renumbered (take (suc i) to) games
-    ≡ cond (is_some (get_or to i None)) (renumbered (take i to) games ++ get_or games i d ∷ []) (renumbered (take i to) games)
-renumbered-next [] games i d below same = absurd (omega (arith, below))
-renumbered-next (n ∷ to) [] i d below same = absurd (omega (arith, same))
-renumbered-next (None ∷ to) (g ∷ games) zero d below same = refl
-renumbered-next (Some n ∷ to) (g ∷ games) zero d below same = refl
-renumbered-next (None ∷ to) (g ∷ games) (suc i) d below same = renumbered-next to games i d (omega (arith, below)) (omega (arith, same))
-renumbered-next (Some n ∷ to) (g ∷ games) (suc i) d below same =
-    ap (λ (rest : List Entry). g ∷ rest) (renumbered-next to games i d (omega (arith, below)) (omega (arith, same)))
-    ∙ cons-cond (is_some (get_or to i None)) g (renumbered (take i to) games ++ get_or games i d ∷ []) (renumbered (take i to) games)
-
-pub renumbered-more : (to : List (Option ℕ)) (games now after : List Entry) (i : ℕ) (game : Entry) → i < length to → length to ≡ length games
-    → game ≡ get_or games i game → now ≡ renumbered (take i to) games → after ≡ cond (is_some (get_or to i None)) (now ++ game ∷ []) now
-    → after ≡ renumbered (take (i + 1) to) games
-renumbered-more to games now after i game below same at so_far put =
-    put
-    ∙ ap (λ (list : List Entry). cond (is_some (get_or to i None)) (list ++ game ∷ []) list) so_far
-    ∙ ap (λ (g : Entry). cond (is_some (get_or to i None)) (renumbered (take i to) games ++ g ∷ []) (renumbered (take i to) games)) at
-    ∙ sym (renumbered-next to games i game below same)
-    ∙ ap (λ (n : ℕ). renumbered (take n to) games) (sym (add-one i))
-
-pub renumbered-few : (to : List (Option ℕ)) (games : List Entry) → length (renumbered to games) ≤ length games
-renumbered-few [] games = omega arith
-renumbered-few (n ∷ to) [] = omega arith
-renumbered-few (None ∷ to) (g ∷ games) = omega (arith, renumbered-few to games)
-renumbered-few (Some n ∷ to) (g ∷ games) = omega (arith, renumbered-few to games)
-
-pub moved-sums : (to : List (Option ℕ)) (slice items games after : List Entry) (rows : List Row) → slice ≡ items → items ≡ games
-    → hits_in (renumbered to games) ≡ hits_in games → after ≡ renumbered to slice → Sums items rows → Sums after rows
-moved-sums to slice items games after rows same is out moved sums =
+pub moved-sums : (to : List (Option ℕ)) (items games after : List Entry) (rows : List Row) → items ≡ games
+    → hits_in (renumbered to games) ≡ hits_in games → after ≡ renumbered to items → Sums items rows → Sums after rows
+moved-sums to items games after rows is out moved sums =
     let hits : hits_in after ≡ hits_in items
-    = ap hits_in (moved ∙ ap (λ (list : List Entry). renumbered to list) (same ∙ is)) ∙ out ∙ ap hits_in (sym is) in
+    = ap hits_in (moved ∙ ap (λ (list : List Entry). renumbered to list) is) ∙ out ∙ ap hits_in (sym is) in
     record { summed = sums.summed ∙ ap rows_of (sym hits); ranges = All-same IsHit (hits_in after) (hits_in items) hits sums.ranges }
 
-pub renumbered-out : (to again numbers : List (Option ℕ)) (games now : List Entry) → to ≡ numbers → again ≡ numbers → now ≡ by_marks Numbers to games
-    → length numbers ≡ length games → hits_in (renumbered again now) ≡ hits_in now
-renumbered-out to again numbers games now first second is same =
-    ap (λ (list : List Entry). hits_in (renumbered again list)) is
-    ∙ ap (λ (list : List (Option ℕ)). hits_in (renumbered list (by_marks Numbers to games))) (second ∙ sym first)
-    ∙ renumbered-hits to games (ap (λ (list : List (Option ℕ)). length list) first ∙ same) ∙ ap hits_in (sym is)
+pub renumbered-out : (to numbers : List (Option ℕ)) (games now : List Entry) → to ≡ numbers → now ≡ by_marks Numbers to games
+    → length numbers ≡ length games → hits_in (renumbered numbers now) ≡ hits_in now
+renumbered-out to numbers games now given is same =
+    ap (λ (list : List Entry). hits_in (renumbered numbers list)) is
+    ∙ ap (λ (list : List (Option ℕ)). hits_in (renumbered list (by_marks Numbers to games))) (sym given)
+    ∙ renumbered-hits to games (ap (λ (list : List (Option ℕ)). length list) given ∙ same) ∙ ap hits_in (sym is)
 
-pub renumbered-games : (to again numbers : List (Option ℕ)) (games now : List Entry) → to ≡ numbers → again ≡ numbers → now ≡ by_marks Numbers to games
-    → renumbered again now ≡ renumbered numbers games
-renumbered-games to again numbers games now first second is =
-    ap (λ (list : List Entry). renumbered again list) is
-    ∙ ap (λ (list : List (Option ℕ)). renumbered list (by_marks Numbers to games)) (second ∙ sym first)
-    ∙ renumbered-marks to games ∙ ap (λ (list : List (Option ℕ)). renumbered list games) first
+pub renumbered-games : (to numbers : List (Option ℕ)) (games now : List Entry) → to ≡ numbers → now ≡ by_marks Numbers to games
+    → renumbered numbers now ≡ renumbered numbers games
+renumbered-games to numbers games now given is =
+    ap (λ (list : List Entry). renumbered numbers list) is
+    ∙ ap (λ (list : List (Option ℕ)). renumbered list (by_marks Numbers to games)) (sym given)
+    ∙ renumbered-marks to games ∙ ap (λ (list : List (Option ℕ)). renumbered list games) given
 
 -- ---- games that are all out
 

@@ -1,7 +1,7 @@
 //! A position that is watched.
 ghost use Rattle.std.specs.Prelude.{◌≡◌, length};
 
-use crate::entry::{Entry, same_counted, stayed};
+use crate::entry::{Entry, same_counted};
 use crate::keys::note;
 use crate::marks::Marks;
 use crate::row_changes::keys_changed;
@@ -129,7 +129,8 @@ impl Watch {
         ensures told { told view.new ≤ told view.old + all_changes self.old.games (staying renumbering.now.to self.old.games) }
     {
         self.follow(alloc, view, Marks::Numbers, renumbering.to())?;
-        self.move_games(alloc, renumbering.to())
+        self.move_games(renumbering);
+        Ok(())
     }
 
     /// The hit that is kept of game `i`, if there is one.
@@ -166,7 +167,8 @@ impl Watch {
     {
         let mut keys = Vec::new(alloc);
         self.settle(Marks::Numbers, renumbering.to(), &mut keys)?;
-        self.move_games(alloc, renumbering.to())
+        self.move_games(renumbering);
+        Ok(())
     }
 
     /// The filter has become this one, of the same games. No view is told.
@@ -393,13 +395,12 @@ impl Watch {
     }
 
     // The games that stay come to their new numbers; of those that go nothing is counted.
-    fn move_games(&mut self, alloc: Global, to: &[Option<u32>]) -> Result<(), AllocError>
-        requires same_games { length to.now ≡ length self.old.games }
-        requires out { hits_in (renumbered to.now self.old.games) ≡ hits_in self.old.games }
-        ensures watched { OnOk result (self.new ≡ record self.old { games = renumbered to.now self.old.games }) }
+    fn move_games(&mut self, renumbering: &Renumbering)
+        requires same_games { length renumbering.now.to ≡ length self.old.games }
+        requires out { hits_in (renumbered renumbering.now.to self.old.games) ≡ hits_in self.old.games }
+        ensures watched { self.new ≡ record self.old { games = renumbered renumbering.now.to self.old.games } }
     {
-        self.games = stayed(alloc, self.games.as_slice(), to)?;
-        Ok(())
+        renumbering.apply(&mut self.games);
     }
 }
 

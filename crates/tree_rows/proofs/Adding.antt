@@ -23,7 +23,7 @@ Rises (k ∷ keys) = AllByRecursion (λ q. key_cmp k q ≡ Less) keys × Rises k
 abbrev Lacks : Option Move → List (Option Move) → Type 0
 Lacks key keys = AllByRecursion (λ k. same_key k key ≡ false) keys
 
-all-mapped : (P Q : Option Move → Type 0) (keys : List (Option Move)) → ((k : Option Move) → P k → Q k) → AllByRecursion P keys → AllByRecursion Q keys
+pub all-mapped : (P Q : Option Move → Type 0) (keys : List (Option Move)) → ((k : Option Move) → P k → Q k) → AllByRecursion P keys → AllByRecursion Q keys
 all-mapped P Q [] f h = tt
 all-mapped P Q (k ∷ keys) f h = (f k h.0, all-mapped P Q keys f h.1)
 

@@ -2,6 +2,7 @@ pub mod KeyLaws
 mod RowLaws
 mod Placing
 mod Adding
+mod Finding
 pub mod HitKeys
 mod Dropping
 pub mod OneRow

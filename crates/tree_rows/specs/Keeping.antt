@@ -1,5 +1,5 @@
 -- What the functions of this crate keep on their way.
-use Rattle.std.specs.Prelude.{ℕ, zero, suc, ◌+◌, ◌-◌, ◌*◌, ◌^◌, ◌<◌, ◌≤◌, if◌then◌else◌, Bool, false, List, [], ◌∷◌, Option}
+use Rattle.std.specs.Prelude.{◌≡◌, ℕ, zero, suc, ◌+◌, ◌-◌, ◌*◌, ◌^◌, ◌<◌, ◌≤◌, if◌then◌else◌, Bool, false, List, [], ◌∷◌, Option}
 use Rattle.std.specs.Ordering.{match_ordering, is_lt}
 use Rattle.cell_core.specs.declared.step.Move.{Move}
 use Rattle.game_tree.specs.declared.head.Outcome.TheVariants.{Unknown, White, Black, Draw}
@@ -7,7 +7,7 @@ use Rattle.tree_rows.specs.declared.hit.GameHit.{GameHit}
 use Rattle.tree_rows.specs.declared.row.Row.{Row}
 use Rattle.tree_rows.specs.declared.numbers.Numbers.{Numbers}
 use Rattle.tree_rows.specs.Keys.{key_cmp, same_key}
-use Rattle.tree_rows.specs.Rows.{ended, known}
+use Rattle.tree_rows.specs.Rows.{ended, known, rows_of}
 use Rattle.tree_rows.specs.TreeText.{row_before}
 
 -- A row of no hit, and a row with one hit more and with one less.
@@ -89,6 +89,11 @@ pub record HasRoom (row : Row) : Type 0 where
   pub other_rated : row.other_rated < 2 ^ 31
   pub year_sum : row.year_sum < 2 ^ 63
   pub dated : row.dated < 2 ^ 31
+
+-- These are the rows of some hits, so that their keys rise.
+pub record AreSums (rows : List Row) : Type 0 where
+  pub hits : List GameHit
+  pub summed : rows ≡ rows_of hits
 
 -- How many rows stand before a key, and whether the row at a place has it.
 abbrev pub place_in : List Row → Option Move → ℕ

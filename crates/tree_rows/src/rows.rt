@@ -1,7 +1,7 @@
 //! The rows of a tree.
 ghost use Rattle.std.specs.Prelude.{◌≡◌, ◌≤◌, length};
 ghost use Rattle.tree_rows.specs.Rows.{row_at};
-ghost use Rattle.tree_rows.specs.Keeping.{has_key, place_in};
+ghost use Rattle.tree_rows.specs.Keeping.{AreSums, has_key, place_in};
 
 use crate::hit::GameHit;
 use crate::key::key_order;
@@ -21,10 +21,13 @@ pub struct Rows {
 impl Model for Rows {
     ghost use Rattle.std.specs.Prelude.{List};
     ghost use Rattle.tree_rows.specs.declared.row.Row.{Row as RowValue};
+    ghost use Rattle.tree_rows.specs.Keeping.{AreSums};
 
     ghost Value = { List RowValue };
 
     ghost view = { λ r. r.rows.items };
+
+    ghost invariant = { λ r. AreSums r.rows.items };
 }
 
 impl Rows {
@@ -126,17 +129,11 @@ impl Rows {
 
 // How many rows stand before a key.
 fn place_in(rows: &[Row], key: &Option<Move>) -> usize
+    requires { AreSums rows.now }
     ensures place { result ≡ place_in rows.now key.now }
     ensures within { result ≤ length rows.now }
 {
-    let mut place = 0;
-    for row in rows {
-        if !key_order(&row.key, key).is_lt() {
-            return place;
-        }
-        place += 1;
-    }
-    place
+    rows.partition_point(|row| key_order(&row.key, key).is_lt())
 }
 
 // Whether the row at a place, if there is one, has this key.
@@ -150,14 +147,15 @@ fn has_key(rows: &[Row], place: usize, key: &Option<Move>) -> bool
     key_order(&rows[place].key, key).is_eq()
 }
 
-// The first row that has this key.
+// The row that has this key, if there is one.
 fn find_in(rows: &[Row], key: &Option<Move>) -> Option<Row>
+    requires { AreSums rows.now }
     ensures { result ≡ row_at key.now rows.now }
 {
-    for row in rows {
-        if key_order(&row.key, key).is_eq() {
-            return Some(*row);
-        }
+    let place = place_in(rows, key);
+    if has_key(rows, place, key) {
+        Some(rows[place])
+    } else {
+        None
     }
-    None
 }

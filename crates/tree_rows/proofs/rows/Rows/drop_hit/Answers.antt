@@ -1,4 +1,4 @@
-use Rattle.std.proofs.Common.{arith}
+use Rattle.std.proofs.Common.{◌++◌, arith}
 use Rattle.tree_rows.proofs.Dropping.{drops-of, drop-within, drop-counted, drop-gone, drop-smaller}
 use Rattle.tree_rows.proofs.rows.Rows.drop_hit.Goals as goal
 
@@ -48,3 +48,24 @@ returns-else-index-eq1 c = record {
       drop-smaller c.as_slice.result.now c.self.inside.rows.items _ c.args.hit.now c.place_in-place.result c.index.result.now c.index_mut.result.now c.drop_hit.new.self
       c.as_slice.ensures.value c.place_in-place.ensures.place c.index.ensures c.if-index-eq1.false c.index_mut.ensures.value within c.drop_hit.ensures drops;
 }
+
+pub invariant_of-self : goal.invariant_of-self
+invariant_of-self c =
+    let hit = c.requires.counted in
+    let drops = drops-of c.as_slice.result.now c.self.inside.rows.items c.args.self.now hit.before hit.behind c.args.hit.now c.as_slice.ensures.value c.self.view_is hit.summed in
+    record {
+      hits = hit.before ++ hit.behind;
+      summed = drop-gone c.as_slice.result.now c.self.inside.rows.items _ c.remove.new.self.items c.args.hit.now c.place_in-place.result c.index.result.now
+          c.as_slice.ensures.value c.place_in-place.ensures.place c.index.ensures c.if-index-eq1.true c.remove.ensures.items drops;
+    }
+
+pub invariant_of-self-else-index-eq1 : goal.invariant_of-self-else-index-eq1
+invariant_of-self-else-index-eq1 c =
+    let hit = c.requires.counted in
+    let drops = drops-of c.as_slice.result.now c.self.inside.rows.items c.args.self.now hit.before hit.behind c.args.hit.now c.as_slice.ensures.value c.self.view_is hit.summed in
+    let within = drop-within c.as_slice.result.now c.self.inside.rows.items _ c.args.hit.now c.place_in-place.result c.as_slice.ensures.value c.place_in-place.ensures.place drops in
+    record {
+      hits = hit.before ++ hit.behind;
+      summed = drop-smaller c.as_slice.result.now c.self.inside.rows.items _ c.args.hit.now c.place_in-place.result c.index.result.now c.index_mut.result.now c.drop_hit.new.self
+          c.as_slice.ensures.value c.place_in-place.ensures.place c.index.ensures c.if-index-eq1.false c.index_mut.ensures.value within c.drop_hit.ensures drops;
+    }

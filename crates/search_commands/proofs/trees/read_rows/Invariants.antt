@@ -8,18 +8,19 @@ use Rattle.pos_search.specs.Searching.{are_read}
 use Rattle.pos_search.specs.Telling.{AreLegalHits, hits_told}
 use Rattle.sig_index.specs.Costs.{price_by}
 use Rattle.tree_rows.specs.MoveText.{IsKey}
-use Rattle.search_commands.proofs.trees.read_hits.Given as goal
+use Rattle.tree_rows.specs.Rows.{AreRows, rows_of}
+use Rattle.search_commands.proofs.trees.read_rows.Given as goal
 use Rattle.search_commands.specs.Trees.{tree_hits}
 
--- The hits of the games before this one, and no more than their records was asked.
+-- The rows of the games before this one, and no more than their records was asked.
 abbrev pub invariant-loop-i : goal.invariant-loop-i
 invariant-loop-i g l = record {
   told : l.told ≡ l.fn.told;
   legal : AreLegalHits l.query l.told;
-  hits : (contents : List ℕ) (all : Base) (index : Option Index) → (g.F.Files.seen l.fn.files).games ≡ Some contents → Represents l.base contents all
-      → l.fn.told ≡ hits_told l.query (rows_told index) → IndexesAll index (map (λ (held : Held). held.game) all.games) → l.hits.items ≡ tree_hits l.query (take l.i l.filter) (take l.i all.games);
-  few : length l.hits.items ≤ l.i;
-  keys : All (λ hit. IsKey l.query.board l.query.side hit.next) l.hits.items;
+  rows : (contents : List ℕ) (all : Base) (index : Option Index) → (g.F.Files.seen l.fn.files).games ≡ Some contents → Represents l.base contents all
+      → l.fn.told ≡ hits_told l.query (rows_told index) → IndexesAll index (map (λ (held : Held). held.game) all.games) → l.rows ≡ rows_of (tree_hits l.query (take l.i l.filter) (take l.i all.games));
+  counted : AreRows l.i l.rows;
+  keys : All (λ row. IsKey l.query.board l.query.side row.key) l.rows;
   room : length l.block ≡ 131072;
   seen : g.F.Files.seen l.files ≡ g.F.Files.seen l.fn.files;
   asks : (rows : List (List Place)) → l.fn.told ≡ hits_told l.query rows

@@ -1,5 +1,6 @@
-use Rattle.std.proofs.Common.{◌<◌, ◌≤◌, ◌+◌, None, length, get_or, take, arith, ap, sym, subst, ◌∙◌}
+use Rattle.std.proofs.Common.{◌<◌, ◌≤◌, ◌+◌, [], None, length, get_or, take, arith, refl, ap, sym, subst, ◌∙◌}
 use Rattle.std.proofs.lemmas.List.{length-map}
+use Rattle.std.proofs.lemmas.List.Elements.{All-nil}
 use Rattle.std.proofs.lemmas.Option.{get_or_from_slice_get}
 use Rattle.base_core.proofs.GamesLaws.{at-map}
 use Rattle.base_core.proofs.Lists.{get_some}
@@ -15,8 +16,23 @@ use Rattle.pos_search.proofs.TellingLemmas.{read_at}
 use Rattle.sig_index.specs.Costs.{price_by}
 use Rattle.sig_index.specs.Games.{extent_in}
 use Rattle.sig_index.proofs.CostLemmas.{asked_all, asked_more, price_front, price_more}
-use Rattle.search_commands.proofs.TreeLaws.{hits-all, hits-more}
-use Rattle.search_commands.proofs.trees.read_hits.Goals as goal
+use Rattle.tree_rows.specs.Rows.{IsHit}
+use Rattle.search_commands.proofs.TreeLaws.{no-keys, rows-all, rows-more}
+use Rattle.search_commands.specs.Trees.{tree_hits}
+use Rattle.search_commands.proofs.trees.read_rows.Goals as goal
+
+pub loop-i-init : goal.loop-i-init
+loop-i-init g c = record {
+  told = refl;
+  legal = c.requires.legal;
+  rows = λ contents all index same is told indexed. c.new-rows.ensures.none;
+  counted = record { hits = []; summed = c.new-rows.ensures.none; few = omega arith; ranges = All-nil IsHit };
+  keys = no-keys c.args.query.now c.new-rows.result c.new-rows.ensures.none;
+  room = c.requires.room;
+  seen = refl;
+  asks = λ rows told. omega arith;
+  files = omega arith;
+}
 
 pub returns-in-Err-clause-devices : goal.returns-in-Err-clause-devices
 returns-in-Err-clause-devices g c = λ told all same is.
@@ -35,10 +51,10 @@ returns-in-Err-clause-asks g c = λ rows told.
     let read = is_read query (places_in rows i) (sig_in e.0) in
     let cost = cost_of And in
     let first = g.F.Files.asked c.args.files.now in
-    asked_all first (g.F.Files.asked c.add_hit.new.files) (price_by cost (take (i + 1) reads) extents plies) (price_by cost reads extents plies)
-    (asked_more first (g.F.Files.asked c.loop-i.files) (g.F.Files.asked c.add_hit.new.files) (price_by cost (take i reads) extents plies)
+    asked_all first (g.F.Files.asked c.add_game.new.files) (price_by cost (take (i + 1) reads) extents plies) (price_by cost reads extents plies)
+    (asked_more first (g.F.Files.asked c.loop-i.files) (g.F.Files.asked c.add_game.new.files) (price_by cost (take i reads) extents plies)
     (cost read (extent_in extents i) c.get.result) (cost read (extent_in extents i) (get_or plies i None)) (price_by cost (take (i + 1) reads) extents plies)
-    (c.loop-i.invariant.asks rows told) (c.add_hit.ensures.asks (sig_in e.0) rows (at-map sig_in kept.entries i e.0 e.1) (c.loop-i.invariant.told ∙ told))
+    (c.loop-i.invariant.asks rows told) (c.add_game.ensures.asks (sig_in e.0) rows (at-map sig_in kept.entries i e.0 e.1) (c.loop-i.invariant.told ∙ told))
     (ap (cost read (extent_in extents i)) (sym (get_or_from_slice_get plies i c.get.result None c.get.ensures.entry)))
     (price_more cost reads extents plies i read (read_at query rows (sigs_of kept) i (sig_in e.0) (at-map sig_in kept.entries i e.0 e.1))
     (omega (arith, here, length-map kept.entries extent_of)) (omega (arith, here, c.requires.games))))
@@ -54,36 +70,36 @@ loop-i-preserved g c =
     let here : i < length kept.entries = omega (arith, c.loop-i-test.true, c.len-i-end.ensures.len, c.requires.games) in
     let e = get_some kept.entries i here in
     record {
-      told = c.add_hit.ensures.same ∙ c.loop-i.invariant.told;
-      legal = subst (AreLegalHits query) (sym c.add_hit.ensures.same) c.loop-i.invariant.legal;
-      hits = λ contents all index same is told indexed.
+      told = c.add_game.ensures.same ∙ c.loop-i.invariant.told;
+      legal = subst (AreLegalHits query) (sym c.add_game.ensures.same) c.loop-i.invariant.legal;
+      rows = λ contents all index same is told indexed.
           let held = get_some all.games i (omega (arith, here, is.count)) in
-          hits-more query i plies all.games c.get.result held.0 c.loop-i.hits.items c.add_hit.new.hits.items c.get.ensures.entry held.1
-          (c.loop-i.invariant.hits contents all index same is told indexed)
-          (c.in-Ok.ensures.added contents all held.0 index (ap (λ (s : Seen). s.games) c.loop-i.invariant.seen ∙ same) is held.1 (c.loop-i.invariant.told ∙ told) indexed);
-      few = omega (arith, c.in-Ok.ensures.few, c.loop-i.invariant.few);
+          rows-more query i plies all.games c.get.result held.0 c.add_game.new.rows c.get.ensures.entry held.1
+          (c.in-Ok.ensures.added contents all held.0 index (tree_hits query (take i plies) (take i all.games)) (ap (λ (s : Seen). s.games) c.loop-i.invariant.seen ∙ same) is held.1
+          (c.loop-i.invariant.told ∙ told) indexed (c.loop-i.invariant.rows contents all index same is told indexed));
+      counted = c.in-Ok.ensures.counted;
       keys = c.in-Ok.ensures.keys c.loop-i.invariant.keys;
-      room = c.add_hit.ensures.room;
-      seen = c.add_hit.ensures.unchanged ∙ c.loop-i.invariant.seen;
+      room = c.add_game.ensures.room;
+      seen = c.add_game.ensures.unchanged ∙ c.loop-i.invariant.seen;
       asks = λ rows told.
           let reads = are_read query rows (sigs_of kept) in
           let read = is_read query (places_in rows i) (sig_in e.0) in
           let cost = cost_of And in
           let first = g.F.Files.asked c.args.files.now in
-          asked_more first (g.F.Files.asked c.loop-i.files) (g.F.Files.asked c.add_hit.new.files) (price_by cost (take i reads) extents plies)
+          asked_more first (g.F.Files.asked c.loop-i.files) (g.F.Files.asked c.add_game.new.files) (price_by cost (take i reads) extents plies)
           (cost read (extent_in extents i) c.get.result) (cost read (extent_in extents i) (get_or plies i None)) (price_by cost (take (i + 1) reads) extents plies)
-          (c.loop-i.invariant.asks rows told) (c.add_hit.ensures.asks (sig_in e.0) rows (at-map sig_in kept.entries i e.0 e.1) (c.loop-i.invariant.told ∙ told))
+          (c.loop-i.invariant.asks rows told) (c.add_game.ensures.asks (sig_in e.0) rows (at-map sig_in kept.entries i e.0 e.1) (c.loop-i.invariant.told ∙ told))
           (ap (cost read (extent_in extents i)) (sym (get_or_from_slice_get plies i c.get.result None c.get.ensures.entry)))
           (price_more cost reads extents plies i read (read_at query rows (sigs_of kept) i (sig_in e.0) (at-map sig_in kept.entries i e.0 e.1))
           (omega (arith, here, length-map kept.entries extent_of)) (omega (arith, here, c.requires.games)));
-      files = omega (arith, c.add_hit.ensures.causes.none_fell.files, c.loop-i.invariant.files);
+      files = omega (arith, c.add_game.ensures.causes.none_fell.files, c.loop-i.invariant.files);
     }
 
-pub returns-clause-hits : goal.returns-clause-hits
-returns-clause-hits g c = λ contents all index same is told indexed.
+pub returns-clause-rows : goal.returns-clause-rows
+returns-clause-rows g c = λ contents all index same is told indexed.
     let done : length c.args.filter.now ≤ c.loop-i.i = omega (arith, c.loop-i-test.false, c.len-i-end.ensures.len) in
-    hits-all c.args.query.now c.loop-i.i c.args.filter.now all.games c.loop-i.hits.items done (omega (arith, done, c.requires.games, is.count))
-    (c.loop-i.invariant.hits contents all index same is told indexed)
+    rows-all c.args.query.now c.loop-i.i c.args.filter.now all.games c.loop-i.rows done (omega (arith, done, c.requires.games, is.count))
+    (c.loop-i.invariant.rows contents all index same is told indexed)
 
 pub returns-clause-asks : goal.returns-clause-asks
 returns-clause-asks g c = λ rows told.
