@@ -1,5 +1,6 @@
 //! The search of all games.
 ghost use Rattle.std.specs.Prelude.{◌≡◌, ◌≤◌, ◌<◌, ◌+◌, ℕ, false, if◌then◌else◌, List, Option, None, Some, length, map, slice_get, slice_index_or, slice_set, take, IfOk, IfErr, OnOk, OnErr};
+ghost use Rattle.base_files.specs.Counters.{raised};
 ghost use Rattle.game_filter.specs.Search.{entry_after, looks_at, searched};
 ghost use Rattle.game_search.specs.Questions.{AreRight, Unread, cost_of, reads_from};
 ghost use Rattle.game_tree.specs.Game.{GameTree};
@@ -40,6 +41,7 @@ pub fn search<Q: Question, G: Games, F: Files>(
     ensures same { q.new ≡ q.old }
     ensures unchanged { F.seen files.new ≡ F.seen files.old }
     ensures asks { (unread : Unread) → Q.tells q.old unread → F.asked files.new ≤ F.asked files.old + price_by (cost_of op) (reads_from unread.reads 0 (G.sigs games.now)) (G.extents games.now) filter.old }
+    ensures asked { (unread : Unread) → Q.tells q.old unread → OnOk result (raised (F.asked files.old) (price_by (cost_of op) (reads_from unread.reads 0 (G.sigs games.now)) (G.extents games.now) filter.old) ≤ F.asked files.new) }
     ensures counts { F.faults files.old ≤ F.faults files.new }
     ensures cause { IfErr result (λ e. HasFetchCause e (G.sigs games.now) (G.extents games.now) (F.seen files.old).games buf.new (F.faults files.old) (F.faults files.new)) }
 {
@@ -75,6 +77,7 @@ fn search_game<Q: Question, G: Games, F: Files>(
     ensures same { q.new ≡ q.old }
     ensures unchanged { F.seen files.new ≡ F.seen files.old }
     ensures asks { (unread : Unread) (sig : Sig) → Q.tells q.old unread → slice_get (G.sigs games.now) i ≡ Some sig → F.asked files.new ≤ F.asked files.old + cost_of op (unread.reads i sig) (extent_in (G.extents games.now) i) (slice_index_or filter.old i None) }
+    ensures asked { (unread : Unread) (sig : Sig) → Q.tells q.old unread → slice_get (G.sigs games.now) i ≡ Some sig → OnOk result (raised (F.asked files.old) (cost_of op (unread.reads i sig) (extent_in (G.extents games.now) i) (slice_index_or filter.old i None)) ≤ F.asked files.new) }
     ensures counts { F.faults files.old ≤ F.faults files.new }
     ensures cause { IfErr result (λ e. HasFetchCause e (G.sigs games.now) (G.extents games.now) (F.seen files.old).games buf.new (F.faults files.old) (F.faults files.new)) }
     ensures own { IfErr result (λ e. Names e i) }
@@ -107,6 +110,7 @@ fn first_in<Q: Question, G: Games, F: Files>(
     ensures same { q.new ≡ q.old }
     ensures unchanged { F.seen files.new ≡ F.seen files.old }
     ensures asks { (unread : Unread) (sig : Sig) → Q.tells q.old unread → slice_get (G.sigs games.now) i ≡ Some sig → F.asked files.new ≤ F.asked files.old + (if unread.reads i sig then (extent_in (G.extents games.now) i).len else 0) }
+    ensures asked { (unread : Unread) (sig : Sig) → Q.tells q.old unread → slice_get (G.sigs games.now) i ≡ Some sig → OnOk result (raised (F.asked files.old) (if unread.reads i sig then (extent_in (G.extents games.now) i).len else 0) ≤ F.asked files.new) }
     ensures counts { F.faults files.old ≤ F.faults files.new }
     ensures cause { IfErr result (λ e. HasFetchCause e (G.sigs games.now) (G.extents games.now) (F.seen files.old).games buf.new (F.faults files.old) (F.faults files.new)) }
     ensures own { IfErr result (λ e. Names e i) }
@@ -131,6 +135,7 @@ fn first_read<Q: Question, G: Games, F: Files>(
     ensures first { (told : List ℕ) (list : List GameTree) (game : GameTree) → (F.seen files.old).games ≡ Some told → Holds told (G.extents games.now) (G.sigs games.now) list → slice_get list i ≡ Some game → IfOk result (λ ply. ply ≡ Q.first q.now game) }
     ensures unchanged { F.seen files.new ≡ F.seen files.old }
     ensures asks { F.asked files.new ≤ F.asked files.old + (extent_in (G.extents games.now) i).len }
+    ensures asked { OnOk result (raised (F.asked files.old) (extent_in (G.extents games.now) i).len ≤ F.asked files.new) }
     ensures counts { F.faults files.old ≤ F.faults files.new }
     ensures cause { IfErr result (λ e. HasFetchCause e (G.sigs games.now) (G.extents games.now) (F.seen files.old).games buf.new (F.faults files.old) (F.faults files.new)) }
     ensures own { IfErr result (λ e. Names e i) }

@@ -1,5 +1,6 @@
 //! The search of all games.
 ghost use Rattle.std.specs.Prelude.{◌≡◌, ◌≤◌, ◌<◌, ◌+◌, ℕ, false, List, None, Some, length, slice_get, slice_index_or, take, IfOk, IfErr, OnOk, OnErr};
+ghost use Rattle.base_files.specs.Counters.{raised};
 ghost use Rattle.game_filter.specs.Search.{entry_after, looks_at, searched};
 ghost use Rattle.game_codec.specs.Record.{IsRecord, IsSomeRecord};
 ghost use Rattle.game_tree.specs.Game.{GameTree};
@@ -80,6 +81,7 @@ pub fn search<G: Games, F: Files>(
     ensures entries { length filter.new ≡ length filter.old }
     ensures unchanged { F.seen files.new ≡ F.seen files.old }
     ensures asks { F.asked files.new ≤ F.asked files.old + price op q.now (G.sigs games.now) (G.extents games.now) filter.old }
+    ensures asked { OnOk result (raised (F.asked files.old) (price op q.now (G.sigs games.now) (G.extents games.now) filter.old) ≤ F.asked files.new) }
     ensures counts { F.faults files.old ≤ F.faults files.new }
     ensures cause { IfErr result (λ e. HasFetchCause e (G.sigs games.now) (G.extents games.now) (F.seen files.old).games buf.new (F.faults files.old) (F.faults files.new)) }
 {

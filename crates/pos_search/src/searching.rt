@@ -1,5 +1,6 @@
 //! The search of all games.
 ghost use Rattle.std.specs.Prelude.{◌≡◌, ◌≤◌, ◌<◌, ◌+◌, ℕ, false, if◌then◌else◌, List, Option, None, Some, length, option_copied, slice_get, slice_index_or, take, IfOk, IfErr, OnOk};
+ghost use Rattle.base_files.specs.Counters.{raised};
 ghost use Rattle.game_filter.specs.Search.{entry_after, looks_at, searched};
 ghost use Rattle.game_tree.specs.Game.{GameTree};
 ghost use Rattle.pos_index.specs.Hits.{Index, IndexesAll, Place, places_in, rows_told};
@@ -40,6 +41,7 @@ pub fn hit<G: Games, F: Files>(
     ensures legal { IfOk result (λ hit. IsLegalFrom q.now hit) }
     ensures unchanged { F.seen files.new ≡ F.seen files.old }
     ensures asks { (sig : Sig) → slice_get (G.sigs games.now) i ≡ Some sig → F.asked files.new ≤ F.asked files.old + (if is_read q.now (places_in (rows_told (option_copied index.entry)) i) sig then (extent_in (G.extents games.now) i).len else 0) }
+    ensures asked { (sig : Sig) → slice_get (G.sigs games.now) i ≡ Some sig → OnOk result (raised (F.asked files.old) (if is_read q.now (places_in (rows_told (option_copied index.entry)) i) sig then (extent_in (G.extents games.now) i).len else 0) ≤ F.asked files.new) }
     ensures counts { F.faults files.old ≤ F.faults files.new }
     ensures cause { IfErr result (λ e. HasFetchCause e (G.sigs games.now) (G.extents games.now) (F.seen files.old).games buf.new (F.faults files.old) (F.faults files.new)) }
     ensures own { IfErr result (λ e. Names e i) }
@@ -81,6 +83,7 @@ pub fn search<G: Games, F: Files>(
     ensures entries { length filter.new ≡ length filter.old }
     ensures unchanged { F.seen files.new ≡ F.seen files.old }
     ensures asks { F.asked files.new ≤ F.asked files.old + price_by (cost_of op) (are_read q.now (rows_told (option_copied index.entry)) (G.sigs games.now)) (G.extents games.now) filter.old }
+    ensures asked { OnOk result (raised (F.asked files.old) (price_by (cost_of op) (are_read q.now (rows_told (option_copied index.entry)) (G.sigs games.now)) (G.extents games.now) filter.old) ≤ F.asked files.new) }
     ensures counts { F.faults files.old ≤ F.faults files.new }
     ensures cause { IfErr result (λ e. HasFetchCause e (G.sigs games.now) (G.extents games.now) (F.seen files.old).games buf.new (F.faults files.old) (F.faults files.new)) }
 {
@@ -109,6 +112,7 @@ pub fn hit_sought<G: Games, F: Files>(
     ensures same { told.new ≡ told.old }
     ensures unchanged { F.seen files.new ≡ F.seen files.old }
     ensures asks { (sig : Sig) (rows : List (List Place)) → slice_get (G.sigs games.now) i ≡ Some sig → told.old ≡ hits_told q.now rows → F.asked files.new ≤ F.asked files.old + (if is_read q.now (places_in rows i) sig then (extent_in (G.extents games.now) i).len else 0) }
+    ensures asked { (sig : Sig) (rows : List (List Place)) → slice_get (G.sigs games.now) i ≡ Some sig → told.old ≡ hits_told q.now rows → OnOk result (raised (F.asked files.old) (if is_read q.now (places_in rows i) sig then (extent_in (G.extents games.now) i).len else 0) ≤ F.asked files.new) }
     ensures counts { F.faults files.old ≤ F.faults files.new }
     ensures cause { IfErr result (λ e. HasFetchCause e (G.sigs games.now) (G.extents games.now) (F.seen files.old).games buf.new (F.faults files.old) (F.faults files.new)) }
     ensures own { IfErr result (λ e. Names e i) }
@@ -137,6 +141,7 @@ fn hit_read<G: Games, F: Files>(
     ensures legal { IfOk result (λ hit. IsLegalFrom q.now hit) }
     ensures unchanged { F.seen files.new ≡ F.seen files.old }
     ensures asks { F.asked files.new ≤ F.asked files.old + (extent_in (G.extents games.now) i).len }
+    ensures asked { OnOk result (raised (F.asked files.old) (extent_in (G.extents games.now) i).len ≤ F.asked files.new) }
     ensures counts { F.faults files.old ≤ F.faults files.new }
     ensures cause { IfErr result (λ e. HasFetchCause e (G.sigs games.now) (G.extents games.now) (F.seen files.old).games buf.new (F.faults files.old) (F.faults files.new)) }
     ensures own { IfErr result (λ e. Names e i) }

@@ -1,5 +1,6 @@
 //! The search for counts of men.
 ghost use Rattle.std.specs.Prelude.{◌≡◌, ◌≤◌, ◌+◌, ℕ, List, Some, Ok, length, IfErr, OnOk};
+ghost use Rattle.base_files.specs.Counters.{raised};
 ghost use Rattle.command_runs.specs.Counts.{Causes, counts};
 ghost use Rattle.game_filter.specs.Search.{searched};
 ghost use Rattle.game_tree.specs.Game.{GameTree};
@@ -8,7 +9,7 @@ ghost use Rattle.mat_search.specs.Searching.{price};
 ghost use Rattle.sig_index.specs.Games.{AreWithin, Holds};
 ghost use Rattle.search_commands.specs.Searching.{search_material_work};
 ghost use Rattle.shell_state.specs.Ends.{IsDevice};
-ghost use Rattle.shell_state.specs.Stands.{Stands, Sound, WhyHalt, Asks};
+ghost use Rattle.shell_state.specs.Stands.{Stands, Sound, WhyHalt, Asks, AsksAll};
 ghost use Rattle.shell_state.specs.State.{State};
 
 use base_files::Files;
@@ -31,6 +32,7 @@ pub fn material_games<F: Files>(
     ensures sound { OnOk result (Sound machine.new (F.seen files.new)) }
     ensures unchanged { F.seen files.new ≡ F.seen files.old }
     ensures asks { Asks machine.old (search_material_work op query.now) (F.asked files.old) (F.asked files.new) }
+    ensures asked { OnOk result (AsksAll machine.old (search_material_work op query.now) (F.asked files.old) (F.asked files.new)) }
     ensures causes { Causes WhyHalt result (counts (F.faults files.old) 0 0) (counts (F.faults files.new) 0 0) }
 {
     let block = machine.block.as_mut_slice();
@@ -63,6 +65,7 @@ fn search_games<G: Games, F: Files>(
     ensures room { length block.new ≡ 131072 }
     ensures unchanged { F.seen files.new ≡ F.seen files.old }
     ensures asks { F.asked files.new ≤ F.asked files.old + price op query.now (G.sigs games.now) (G.extents games.now) filter.old }
+    ensures asked { OnOk result (raised (F.asked files.old) (price op query.now (G.sigs games.now) (G.extents games.now) filter.old) ≤ F.asked files.new) }
     ensures causes { Causes WhyHalt result (counts (F.faults files.old) 0 0) (counts (F.faults files.new) 0 0) }
 {
     match search(games, query, op, filter, files, block) {

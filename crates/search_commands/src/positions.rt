@@ -1,5 +1,6 @@
 //! The searches for a position.
 ghost use Rattle.std.specs.Prelude.{◌≡◌, ◌≤◌, ◌+◌, ℕ, List, Some, Ok, length, option_copied, IfErr, OnOk};
+ghost use Rattle.base_files.specs.Counters.{raised};
 ghost use Rattle.command_runs.specs.Counts.{Causes, counts};
 ghost use Rattle.command_runs.specs.Endings.{NoneLost, Serves};
 ghost use Rattle.game_filter.specs.Search.{searched};
@@ -12,7 +13,7 @@ ghost use Rattle.sig_index.specs.Costs.{price_by};
 ghost use Rattle.sig_index.specs.Games.{AreWithin, Holds};
 ghost use Rattle.search_commands.specs.Searching.{search_position_work, find_work};
 ghost use Rattle.shell_state.specs.Ends.{IsDevice};
-ghost use Rattle.shell_state.specs.Stands.{Stands, Sound, Broken, WhyHalt, Asks};
+ghost use Rattle.shell_state.specs.Stands.{Stands, Sound, Broken, WhyHalt, Asks, AsksAll};
 ghost use Rattle.shell_state.specs.State.{State};
 ghost use Rattle.shell_state.specs.Work.{works};
 
@@ -37,6 +38,7 @@ pub fn find_games<F: Files>(
     ensures sound { OnOk result (Sound machine.new (F.seen files.new)) }
     ensures unchanged { F.seen files.new ≡ F.seen files.old }
     ensures asks { Asks machine.old (find_work board.now side) (F.asked files.old) (F.asked files.new) }
+    ensures asked { OnOk result (AsksAll machine.old (find_work board.now side) (F.asked files.old) (F.asked files.new)) }
     ensures causes { Causes WhyHalt result (counts (F.faults files.old) 0 0) (counts (F.faults files.new) 0 0) }
 {
     let query = PosQuery {
@@ -61,6 +63,7 @@ pub fn search_position<F: Files, K: Sink>(
     ensures sound { OnOk result (Sound machine.new (F.seen files.new)) }
     ensures unchanged { F.seen files.new ≡ F.seen files.old }
     ensures asks { Asks machine.old (search_position_work op query.now) (F.asked files.old) (F.asked files.new) }
+    ensures asked { OnOk result (AsksAll machine.old (search_position_work op query.now) (F.asked files.old) (F.asked files.new)) }
     ensures none_lost { NoneLost (K.taken out.old) (K.taken out.new) }
     ensures causes { Causes WhyHalt result (counts (F.faults files.old) 0 (K.faults out.old)) (counts (F.faults files.new) 0 (K.faults out.new)) }
 {
@@ -84,6 +87,7 @@ pub fn position_games<F: Files>(
     ensures sound { OnOk result (Sound machine.new (F.seen files.new)) }
     ensures unchanged { F.seen files.new ≡ F.seen files.old }
     ensures asks { Asks machine.old (search_position_work op query.now) (F.asked files.old) (F.asked files.new) }
+    ensures asked { OnOk result (AsksAll machine.old (search_position_work op query.now) (F.asked files.old) (F.asked files.new)) }
     ensures causes { Causes WhyHalt result (counts (F.faults files.old) 0 0) (counts (F.faults files.new) 0 0) }
 {
     let block = machine.block.as_mut_slice();
@@ -118,6 +122,7 @@ fn search_games<G: Games, F: Files>(
     ensures room { length block.new ≡ 131072 }
     ensures unchanged { F.seen files.new ≡ F.seen files.old }
     ensures asks { F.asked files.new ≤ F.asked files.old + price_by (cost_of op) (are_read query.now (rows_told (option_copied index.entry)) (G.sigs games.now)) (G.extents games.now) filter.old }
+    ensures asked { OnOk result (raised (F.asked files.old) (price_by (cost_of op) (are_read query.now (rows_told (option_copied index.entry)) (G.sigs games.now)) (G.extents games.now) filter.old) ≤ F.asked files.new) }
     ensures causes { Causes WhyHalt result (counts (F.faults files.old) 0 0) (counts (F.faults files.new) 0 0) }
 {
     match search(games, query, op, index, filter, files, block) {

@@ -2,6 +2,7 @@
 ghost use Rattle.std.specs.Prelude.{◌≡◌, ◌≤◌, ◌<◌, ◌+◌, ◌++◌, ℕ, if◌then◌else◌, List, Option, Some, Ok, All, length, map, option_copied, slice_get, IfOk, IfErr, IfSome, OnOk};
 ghost use Rattle.base_core.specs.Base.{Base as PlainBase, Held};
 ghost use Rattle.base_core.specs.Represents.{IsSound, Represents, extents_of, sigs_of};
+ghost use Rattle.base_files.specs.Counters.{raised};
 ghost use Rattle.command_runs.specs.Counts.{Causes, counts};
 ghost use Rattle.command_runs.specs.Endings.{NoneLost, Serves};
 ghost use Rattle.game_filter.specs.declared.op.Op.TheVariants.{And};
@@ -19,7 +20,7 @@ ghost use Rattle.tree_rows.specs.declared.hit.GameHit.{GameHit as Hit};
 ghost use Rattle.search_commands.specs.Trees.{hit_if_in, listed_hit, tree_hits, tree_of, tree_work};
 ghost use Rattle.shell_state.specs.Ends.{IsDevice};
 ghost use Rattle.shell_state.specs.Slots.{hit_of_game};
-ghost use Rattle.shell_state.specs.Stands.{Stands, Sound, Broken, WhyHalt, Asks};
+ghost use Rattle.shell_state.specs.Stands.{Stands, Sound, Broken, WhyHalt, Asks, AsksAll};
 ghost use Rattle.shell_state.specs.State.{State};
 ghost use Rattle.shell_state.specs.Work.{works};
 
@@ -48,6 +49,7 @@ pub fn tree<F: Files, K: Sink>(
     ensures serves { (s : State) → Stands machine.old (F.seen files.old) s → Serves works (Stands machine.new (F.seen files.new)) Broken s (tree_work board.now side) (K.taken out.old) (K.taken out.new) result }
     ensures unchanged { F.seen files.new ≡ F.seen files.old }
     ensures asks { Asks machine.old (tree_work board.now side) (F.asked files.old) (F.asked files.new) }
+    ensures asked { OnOk result (AsksAll machine.old (tree_work board.now side) (F.asked files.old) (F.asked files.new)) }
     ensures none_lost { NoneLost (K.taken out.old) (K.taken out.new) }
     ensures causes { Causes WhyHalt result (counts (F.faults files.old) 0 (K.faults out.old)) (counts (F.faults files.new) 0 (K.faults out.new)) }
 {
@@ -92,6 +94,7 @@ fn read_tree<F: Files>(
     ensures room { length block.new ≡ 131072 }
     ensures unchanged { F.seen files.new ≡ F.seen files.old }
     ensures asks { F.asked files.new ≤ F.asked files.old + price_by (cost_of And) (are_read query.now (rows_told (option_copied index.entry)) (sigs_of base.now)) (extents_of base.now) filter.now }
+    ensures asked { OnOk result (raised (F.asked files.old) (price_by (cost_of And) (are_read query.now (rows_told (option_copied index.entry)) (sigs_of base.now)) (extents_of base.now) filter.now) ≤ F.asked files.new) }
     ensures causes { Causes WhyHalt result (counts (F.faults files.old) 0 0) (counts (F.faults files.new) 0 0) }
 {
     let sought = Sought::new(query);
@@ -132,6 +135,7 @@ fn read_rows<F: Files>(
     ensures room { length block.new ≡ 131072 }
     ensures unchanged { F.seen files.new ≡ F.seen files.old }
     ensures asks { (rows : List (List Place)) → told.old ≡ hits_told query.now rows → F.asked files.new ≤ F.asked files.old + price_by (cost_of And) (are_read query.now rows (sigs_of base.now)) (extents_of base.now) filter.now }
+    ensures asked { (rows : List (List Place)) → told.old ≡ hits_told query.now rows → OnOk result (raised (F.asked files.old) (price_by (cost_of And) (are_read query.now rows (sigs_of base.now)) (extents_of base.now) filter.now) ≤ F.asked files.new) }
     ensures causes { Causes WhyHalt result (counts (F.faults files.old) 0 0) (counts (F.faults files.new) 0 0) }
 {
     let mut rows = Rows::new(alloc);
@@ -172,6 +176,7 @@ fn add_game<F: Files>(
     ensures room { length block.new ≡ 131072 }
     ensures unchanged { F.seen files.new ≡ F.seen files.old }
     ensures asks { (sig : Sig) (rows : List (List Place)) → slice_get (sigs_of base.now) i ≡ Some sig → told.old ≡ hits_told query.now rows → F.asked files.new ≤ F.asked files.old + cost_of And (is_read query.now (places_in rows i) sig) (extent_in (extents_of base.now) i) ply }
+    ensures asked { (sig : Sig) (rows : List (List Place)) → slice_get (sigs_of base.now) i ≡ Some sig → told.old ≡ hits_told query.now rows → OnOk result (raised (F.asked files.old) (cost_of And (is_read query.now (places_in rows i) sig) (extent_in (extents_of base.now) i) ply) ≤ F.asked files.new) }
     ensures causes { Causes WhyHalt result (counts (F.faults files.old) 0 0) (counts (F.faults files.new) 0 0) }
 {
     let Some(_) = ply else {
@@ -212,6 +217,7 @@ pub fn read_hit<F: Files>(
     ensures room { length block.new ≡ 131072 }
     ensures unchanged { F.seen files.new ≡ F.seen files.old }
     ensures asks { (sig : Sig) (rows : List (List Place)) → slice_get (sigs_of base.now) i ≡ Some sig → told.old ≡ hits_told query.now rows → F.asked files.new ≤ F.asked files.old + (if is_read query.now (places_in rows i) sig then (extent_in (extents_of base.now) i).len else 0) }
+    ensures asked { (sig : Sig) (rows : List (List Place)) → slice_get (sigs_of base.now) i ≡ Some sig → told.old ≡ hits_told query.now rows → OnOk result (raised (F.asked files.old) (if is_read query.now (places_in rows i) sig then (extent_in (extents_of base.now) i).len else 0) ≤ F.asked files.new) }
     ensures causes { Causes WhyHalt result (counts (F.faults files.old) 0 0) (counts (F.faults files.new) 0 0) }
 {
     match hit_sought(base, i, query, told, files, block) {

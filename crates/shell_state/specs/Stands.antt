@@ -5,6 +5,7 @@ use Rattle.base_core.specs.Base.{Base, Held}
 use Rattle.base_core.specs.Entries.{head_of, sig_in}
 use Rattle.base_core.specs.Means.{Means}
 use Rattle.base_core.specs.Represents.{Kept, Represents, IsSound}
+use Rattle.base_files.specs.Counters.{raised}
 use Rattle.base_files.specs.Seen.{Seen}
 use Rattle.base_files.specs.declared.faults.Stop.TheVariants as stop
 use Rattle.block_store.specs.Placing.{IsEnd}
@@ -127,6 +128,14 @@ AsksBy (by_state price) holding old new = ⊤
 
 abbrev pub Asks : Holding → Work → ℕ → ℕ → Type 0
 Asks holding work old new = AsksBy work.price holding old new
+
+-- And no fewer, of one whose price is what it asks where it is done; a counter of bytes stands still at its last value.
+abbrev pub AsksAllBy : Price → Holding → ℕ → ℕ → Type 0
+AsksAllBy (by_looks price) holding old new = raised old (price (looks_in holding) holding.seat.filter) ≤ new
+AsksAllBy (by_state price) holding old new = ⊤
+
+abbrev pub AsksAll : Holding → Work → ℕ → ℕ → Type 0
+AsksAll holding work old new = AsksAllBy work.price holding old new
 
 -- A base was opened or created, beside files that are told: what is kept stands for it, without changes, and the files mean it or are empty.
 pub record IsOpen (kept : Kept) (seen : Seen) (created : Bool) (base : Base) : Type 0 where

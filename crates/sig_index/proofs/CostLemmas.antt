@@ -1,9 +1,11 @@
 -- The search through the games, one after the other: what it asks, and the entries that it leaves.
-use Rattle.std.proofs.Common.{◌≡◌, ◌≢◌, ℕ, ◌+◌, ◌<◌, ◌≤◌, zero, suc, Bool, true, false, List, [], ◌∷◌, Option, None, Some, get_or, length, set, take, sym, ap, ◌∙◌, inl, inr, arith, add-one, true≢false}
+use Rattle.std.proofs.Common.{◌≡◌, ◌≢◌, ℕ, ◌+◌, ◌<◌, ◌≤◌, zero, suc, Bool, true, false, List, [], ◌∷◌, Option, None, Some, get_or, length, set, take, refl, sym, ap, ◌∙◌, subst, inl, inr, arith, add-one, true≢false}
 use Rattle.std.specs.Prelude.{slice_get}
 use Rattle.std.proofs.lemmas.Bool.{cases_order}
 use Rattle.std.proofs.lemmas.List.{get_or-set_other}
 use Rattle.std.proofs.lemmas.Option.{get_or_from_slice_get}
+use Rattle.base_files.proofs.Rising.{raised-more}
+use Rattle.base_files.specs.Counters.{raised}
 use Rattle.base_files.specs.declared.extent.Extent.{Extent}
 use Rattle.sig_index.specs.Costs.{KeepsOthers, price_by}
 use Rattle.sig_index.specs.Games.{extent_in}
@@ -50,12 +52,29 @@ price_front cost (s ∷ sigs) (x ∷ extents) [] (suc k) = omega arith
 price_front cost (s ∷ sigs) (x ∷ extents) (o ∷ plies) (suc k) =
     add_both (cost s x o) (price_by cost (take k sigs) extents plies) (price_by cost sigs extents plies) (price_front cost sigs extents plies k)
 
+-- The first games cost as much as all where there are no more entries in the filter.
+pub price_all : {T : Type 0} (cost : T → Extent → Option ℕ → ℕ) (sigs : List T) (extents : List Extent) (plies : List (Option ℕ)) (k : ℕ) → length plies ≤ k
+    → price_by cost (take k sigs) extents plies ≡ price_by cost sigs extents plies
+price_all cost [] extents plies zero past = refl
+price_all cost [] extents plies (suc k) past = refl
+price_all cost (s ∷ sigs) [] [] zero past = refl
+price_all cost (s ∷ sigs) (x ∷ extents) [] zero past = refl
+price_all cost (s ∷ sigs) extents (o ∷ plies) zero past = absurd (omega (arith, past))
+price_all cost (s ∷ sigs) [] plies (suc k) past = refl
+price_all cost (s ∷ sigs) (x ∷ extents) [] (suc k) past = refl
+price_all cost (s ∷ sigs) (x ∷ extents) (o ∷ plies) (suc k) past = ap (λ (n : ℕ). cost s x o + n) (price_all cost sigs extents plies k (omega (arith, past)))
+
 -- What was asked for with one game more, and so far with this one of all.
 pub asked_more : (first old new price cost cost' more : ℕ) → old ≤ first + price → new ≤ old + cost → cost ≡ cost' → more ≡ price + cost' → new ≤ first + more
 asked_more first old new price cost cost' more before asks same is = omega arith
 
 pub asked_all : (first new more all : ℕ) → new ≤ first + more → more ≤ all → new ≤ first + all
 asked_all first new more all asks h = omega arith
+
+-- And at least what was asked for.
+pub least_more : (first old new price cost cost' more : ℕ) → raised first price ≤ old → raised old cost ≤ new → cost ≡ cost' → more ≡ price + cost' → raised first more ≤ new
+least_more first old new price cost cost' more before asked same is =
+    subst (λ (n : ℕ). raised first n ≤ new) (ap (λ (n : ℕ). price + n) same ∙ sym is) (raised-more first old new price cost before asked)
 
 -- ---- the entries
 

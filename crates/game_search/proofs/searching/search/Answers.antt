@@ -1,12 +1,13 @@
-use Rattle.std.proofs.Common.{◌≡◌, ◌<◌, ℕ, ◌+◌, List, None, Option, get_or, length, set, take, sym, ap, ◌∙◌, arith, subst}
+use Rattle.std.proofs.Common.{◌≡◌, ◌<◌, ◌≤◌, ℕ, ◌+◌, List, None, Option, get_or, length, set, take, sym, ap, ◌∙◌, arith, subst}
 use Rattle.std.specs.Prelude.{slice_get}
 use Rattle.std.proofs.lemmas.List.{length-set}
 use Rattle.std.proofs.lemmas.Option.{slice_get_within}
+use Rattle.base_files.specs.Counters.{raised}
 use Rattle.base_files.specs.Seen.{Seen}
 use Rattle.sig_index.specs.Costs.{price_by}
 use Rattle.sig_index.specs.Games.{extent_in}
 use Rattle.sig_index.proofs.ReadLemmas.{some_at}
-use Rattle.sig_index.proofs.CostLemmas.{asked_all, asked_more, kept_more, price_front, price_more, untouched_more}
+use Rattle.sig_index.proofs.CostLemmas.{asked_all, asked_more, kept_more, least_more, price_all, price_front, price_more, untouched_more}
 use Rattle.game_filter.specs.Search.{entry_after, looks_at}
 use Rattle.game_search.specs.Questions.{cost_of, reads_from}
 use Rattle.game_search.proofs.SearchLemmas.{all_searched, entry_more, game_more, is_read_at}
@@ -68,6 +69,13 @@ loop-i-preserved g c =
           (cost (get_or c.loop-i.filter i None)) (cost (get_or old i None)) (price_by (cost_of op) (take (i + 1) reads) extents old)
           (c.loop-i.invariant.asks unread tells) (c.search_game.ensures.asks unread sig.0 (rw c.loop-i.invariant.same tells) sig.1) (ap cost (c.loop-i.invariant.rest i (omega arith)))
           (price_more (cost_of op) reads extents old i (unread.reads i sig.0) (is_read_at unread.reads i sigs sig.0 sig.1) inside here);
+      asked = λ unread tells.
+          let reads = reads_from unread.reads 0 sigs in
+          let cost : Option ℕ → ℕ = cost_of op (unread.reads i sig.0) (extent_in extents i) in
+          least_more (g.F.Files.asked c.args.files.now) (g.F.Files.asked c.loop-i.files) (g.F.Files.asked c.search_game.new.files) (price_by (cost_of op) (take i reads) extents old)
+          (cost (get_or c.loop-i.filter i None)) (cost (get_or old i None)) (price_by (cost_of op) (take (i + 1) reads) extents old)
+          (c.loop-i.invariant.asked unread tells) (c.in-Ok.ensures.asked unread sig.0 (rw c.loop-i.invariant.same tells) sig.1) (ap cost (c.loop-i.invariant.rest i (omega arith)))
+          (price_more (cost_of op) reads extents old i (unread.reads i sig.0) (is_read_at unread.reads i sigs sig.0 sig.1) inside here);
       counts = omega (arith, c.loop-i.invariant.counts, c.search_game.ensures.counts);
     }
 
@@ -90,3 +98,10 @@ returns-clause-asks g c = λ unread tells.
     let cost = cost_of c.args.op in
     asked_all (g.F.Files.asked c.args.files.now) (g.F.Files.asked c.loop-i.files) (price_by cost (take c.loop-i.i reads) extents old) (price_by cost reads extents old)
     (c.loop-i.invariant.asks unread tells) (price_front cost reads extents old c.loop-i.i)
+
+pub returns-clause-asked : goal.returns-clause-asked
+returns-clause-asked g c = λ unread tells.
+    let reads = reads_from unread.reads 0 (g.G.Games.sigs c.args.games.now) in
+    let past : length c.args.filter.now ≤ c.loop-i.i = omega (arith, c.requires.games, c.len-i-end.ensures.one_sig_each, c.loop-i-test.false) in
+    subst (λ (n : ℕ). raised (g.F.Files.asked c.args.files.now) n ≤ g.F.Files.asked c.loop-i.files)
+    (price_all (cost_of c.args.op) reads (g.G.Games.extents c.args.games.now) c.args.filter.now c.loop-i.i past) (c.loop-i.invariant.asked unread tells)

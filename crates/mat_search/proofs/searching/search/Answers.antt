@@ -1,4 +1,5 @@
-use Rattle.std.proofs.Common.{◌≤◌, ◌+◌, Bool, List, refl, subst}
+use Rattle.std.proofs.Common.{◌≤◌, ◌+◌, Bool, List, OnOk, refl, subst}
+use Rattle.base_files.specs.Counters.{raised}
 use Rattle.game_search.specs.Questions.{cost_of}
 use Rattle.sig_index.specs.Costs.{price_by}
 use Rattle.mat_search.proofs.PriceLemmas.{reads_are, unread_of}
@@ -24,3 +25,10 @@ returns-clause-asks g c =
     (λ (reads : List Bool). g.F.Files.asked c.search.new.files ≤ g.F.Files.asked c.args.files.now + price_by (cost_of c.args.op) reads (g.G.Games.extents c.args.games.now) c.args.filter.now)
     (reads_are c.args.q.now 0 (g.G.Games.sigs c.args.games.now))
     (c.search.ensures.asks (unread_of c.args.q.now) (λ i sig. refl, λ i. refl))
+
+pub returns-clause-asked : goal.returns-clause-asked
+returns-clause-asked g c =
+    subst
+    (λ (reads : List Bool). OnOk c.search.result (raised (g.F.Files.asked c.args.files.now) (price_by (cost_of c.args.op) reads (g.G.Games.extents c.args.games.now) c.args.filter.now) ≤ g.F.Files.asked c.search.new.files))
+    (reads_are c.args.q.now 0 (g.G.Games.sigs c.args.games.now))
+    (c.search.ensures.asked (unread_of c.args.q.now) (λ i sig. refl, λ i. refl))

@@ -1,5 +1,6 @@
 use Rattle.std.proofs.Common.{◌≡◌, ◌≤◌, ◌+◌, ℕ, Bool, List, Some, None, IfErr, OnOk, false, take, subst, sym, ap, ◌∙◌}
 use Rattle.std.specs.Prelude.{option_copied, slice_get, slice_index_or}
+use Rattle.base_files.specs.Counters.{raised}
 use Rattle.game_filter.specs.Search.{entry_after, searched}
 use Rattle.pos_index.specs.Hits.{places_in, rows_told}
 use Rattle.sig_index.specs.Costs.{EndsAt, price_by}
@@ -53,3 +54,14 @@ returns-clause-asks g c =
     (λ (reads : List Bool). g.F.Files.asked c.search.new.files ≤ g.F.Files.asked c.args.files.now + price_by (cost_of c.args.op) reads (g.G.Games.extents c.args.games.now) c.args.filter.now)
     (reads_are query rows sigs ∙ ap (λ (q : PosQuery). are_read q rows sigs) c.new.ensures.query)
     (c.search.ensures.asks (unread_of query rows) (tells_so (record { query = query; hits = c.hits_told.result }) rows told_so))
+
+pub returns-clause-asked : goal.returns-clause-asked
+returns-clause-asked g c =
+    let query = c.new.result in
+    let rows = rows_told (option_copied c.args.index) in
+    let sigs = g.G.Games.sigs c.args.games.now in
+    let told_so = c.hits_told.ensures.told ∙ ap (λ (q : PosQuery). hits_told q rows) (sym c.new.ensures.query) in
+    subst
+    (λ (reads : List Bool). OnOk c.search.result (raised (g.F.Files.asked c.args.files.now) (price_by (cost_of c.args.op) reads (g.G.Games.extents c.args.games.now) c.args.filter.now) ≤ g.F.Files.asked c.search.new.files))
+    (reads_are query rows sigs ∙ ap (λ (q : PosQuery). are_read q rows sigs) c.new.ensures.query)
+    (c.search.ensures.asked (unread_of query rows) (tells_so (record { query = query; hits = c.hits_told.result }) rows told_so))

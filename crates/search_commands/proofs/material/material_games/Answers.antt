@@ -1,5 +1,6 @@
-use Rattle.std.proofs.Common.{sym, subst, arith}
+use Rattle.std.proofs.Common.{◌≤◌, ℕ, OnOk, sym, subst, arith}
 use Rattle.base_core.proofs.GamesLaws.{are-within, holds}
+use Rattle.base_files.specs.Counters.{raised}
 use Rattle.mat_search.specs.Matching.{firsts_of}
 use Rattle.search_commands.proofs.FindingLaws.{search_stands}
 use Rattle.search_commands.proofs.MaterialLaws.{price_is}
@@ -7,7 +8,7 @@ use Rattle.search_commands.proofs.material.material_games.Goals as goal
 use Rattle.search_commands.specs.Searching.{search_material_work}
 use Rattle.shell_state.proofs.Quietly.{found_sound, held_by, tables_with}
 use Rattle.shell_state.proofs.Served.{on_ok}
-use Rattle.shell_state.specs.Stands.{Holding, Stands, Sound, Asks}
+use Rattle.shell_state.specs.Stands.{Holding, Stands, Sound, Asks, AsksAll}
 use Rattle.shell_state.specs.State.{games_of}
 
 pub search_games-requires-clause-within : goal.search_games-requires-clause-within
@@ -40,3 +41,13 @@ returns-clause-asks g c =
     let P : Holding → Type 0 = λ h. Asks h (search_material_work c.args.op c.args.query.now) (g.F.Files.asked c.args.files.now) (g.F.Files.asked c.search_games.new.files) in
     subst P c.machine.view_is
     (omega (arith, c.search_games.ensures.asks, price_is c.args.op c.args.query.now c.machine.inside.seat.filter (held_by c.machine.inside.base (tables_with c.machine.inside.index c.machine.inside.slots.watches) c.machine.inside.seat.filter c.machine.inside.seat.saved.items)))
+
+pub returns-clause-asked : goal.returns-clause-asked
+returns-clause-asked g c =
+    let first = g.F.Files.asked c.args.files.now in
+    let new = g.F.Files.asked c.search_games.new.files in
+    let P : Holding → Type 0 = λ h. OnOk c.search_games.result (AsksAll h (search_material_work c.args.op c.args.query.now) first new) in
+    subst P c.machine.view_is
+    (subst (λ (n : ℕ). OnOk c.search_games.result (raised first n ≤ new))
+    (price_is c.args.op c.args.query.now c.machine.inside.seat.filter (held_by c.machine.inside.base (tables_with c.machine.inside.index c.machine.inside.slots.watches) c.machine.inside.seat.filter c.machine.inside.seat.saved.items))
+    c.search_games.ensures.asked)

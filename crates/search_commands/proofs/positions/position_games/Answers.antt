@@ -1,6 +1,7 @@
-use Rattle.std.proofs.Common.{sym, ap, subst, arith, Option}
+use Rattle.std.proofs.Common.{◌≤◌, ℕ, Option, OnOk, sym, ap, subst, ◌∙◌, arith}
 use Rattle.base_core.proofs.GamesLaws.{are-within, holds}
 use Rattle.base_core.specs.Represents.{extents_of, sigs_of}
+use Rattle.base_files.specs.Counters.{raised}
 use Rattle.pos_index.specs.Hits.{Index, IndexesAll, rows_told}
 use Rattle.pos_search.specs.Matching.{firsts_of}
 use Rattle.game_search.specs.Questions.{cost_of}
@@ -13,7 +14,7 @@ use Rattle.sig_index.specs.Costs.{price_by}
 use Rattle.shell_state.proofs.IndexLaws.{indexes_all}
 use Rattle.shell_state.proofs.Quietly.{found_sound, held_by, tables_with}
 use Rattle.shell_state.proofs.Served.{on_ok}
-use Rattle.shell_state.specs.Stands.{Holding, Stands, Sound, Asks}
+use Rattle.shell_state.specs.Stands.{Holding, Stands, Sound, Asks, AsksAll}
 use Rattle.shell_state.specs.State.{games_of}
 
 pub search_games-requires-clause-within : goal.search_games-requires-clause-within
@@ -48,3 +49,14 @@ returns-clause-asks g c =
     let as-held = ap (λ (i : Option Index). price_by (cost_of c.args.op) (are_read c.args.query.now (rows_told i) (sigs_of c.machine.inside.base)) (extents_of c.machine.inside.base) c.machine.inside.seat.filter) c.as_ref.ensures.value in
     subst P c.machine.view_is
     (omega (arith, c.search_games.ensures.asks, as-held, price_is c.args.op c.args.query.now c.machine.inside.seat.filter (held_by c.machine.inside.base (tables_with c.machine.inside.index c.machine.inside.slots.watches) c.machine.inside.seat.filter c.machine.inside.seat.saved.items)))
+
+pub returns-clause-asked : goal.returns-clause-asked
+returns-clause-asked g c =
+    let first = g.F.Files.asked c.args.files.now in
+    let new = g.F.Files.asked c.search_games.new.files in
+    let P : Holding → Type 0 = λ h. OnOk c.search_games.result (AsksAll h (search_position_work c.args.op c.args.query.now) first new) in
+    let as-held = ap (λ (i : Option Index). price_by (cost_of c.args.op) (are_read c.args.query.now (rows_told i) (sigs_of c.machine.inside.base)) (extents_of c.machine.inside.base) c.machine.inside.seat.filter) c.as_ref.ensures.value in
+    subst P c.machine.view_is
+    (subst (λ (n : ℕ). OnOk c.search_games.result (raised first n ≤ new))
+    (as-held ∙ price_is c.args.op c.args.query.now c.machine.inside.seat.filter (held_by c.machine.inside.base (tables_with c.machine.inside.index c.machine.inside.slots.watches) c.machine.inside.seat.filter c.machine.inside.seat.saved.items))
+    c.search_games.ensures.asked)

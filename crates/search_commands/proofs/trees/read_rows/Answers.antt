@@ -1,4 +1,4 @@
-use Rattle.std.proofs.Common.{◌<◌, ◌≤◌, ◌+◌, [], None, length, get_or, take, arith, refl, ap, sym, subst, ◌∙◌}
+use Rattle.std.proofs.Common.{ℕ, ◌<◌, ◌≤◌, ◌+◌, [], None, length, get_or, take, arith, refl, ap, sym, subst, ◌∙◌}
 use Rattle.std.proofs.lemmas.List.{length-map}
 use Rattle.std.proofs.lemmas.List.Elements.{All-nil}
 use Rattle.std.proofs.lemmas.Option.{get_or_from_slice_get}
@@ -6,6 +6,7 @@ use Rattle.base_core.proofs.GamesLaws.{at-map}
 use Rattle.base_core.proofs.Lists.{get_some}
 use Rattle.base_core.specs.Entries.{extent_of, sig_in}
 use Rattle.base_core.specs.Represents.{extents_of, sigs_of}
+use Rattle.base_files.specs.Counters.{raised}
 use Rattle.base_files.specs.Seen.{Seen}
 use Rattle.game_filter.specs.declared.op.Op.TheVariants.{And}
 use Rattle.pos_index.specs.Hits.{places_in}
@@ -15,7 +16,7 @@ use Rattle.pos_search.specs.Telling.{AreLegalHits}
 use Rattle.pos_search.proofs.TellingLemmas.{read_at}
 use Rattle.sig_index.specs.Costs.{price_by}
 use Rattle.sig_index.specs.Games.{extent_in}
-use Rattle.sig_index.proofs.CostLemmas.{asked_all, asked_more, price_front, price_more}
+use Rattle.sig_index.proofs.CostLemmas.{asked_all, asked_more, least_more, price_all, price_front, price_more}
 use Rattle.tree_rows.specs.Rows.{IsHit}
 use Rattle.search_commands.proofs.TreeLaws.{no-keys, rows-all, rows-more}
 use Rattle.search_commands.specs.Trees.{tree_hits}
@@ -31,6 +32,7 @@ loop-i-init g c = record {
   room = c.requires.room;
   seen = refl;
   asks = λ rows told. omega arith;
+  asked = λ rows told. omega arith;
   files = omega arith;
 }
 
@@ -92,6 +94,17 @@ loop-i-preserved g c =
           (ap (cost read (extent_in extents i)) (sym (get_or_from_slice_get plies i c.get.result None c.get.ensures.entry)))
           (price_more cost reads extents plies i read (read_at query rows (sigs_of kept) i (sig_in e.0) (at-map sig_in kept.entries i e.0 e.1))
           (omega (arith, here, length-map kept.entries extent_of)) (omega (arith, here, c.requires.games)));
+      asked = λ rows told.
+          let reads = are_read query rows (sigs_of kept) in
+          let read = is_read query (places_in rows i) (sig_in e.0) in
+          let cost = cost_of And in
+          let first = g.F.Files.asked c.args.files.now in
+          least_more first (g.F.Files.asked c.loop-i.files) (g.F.Files.asked c.add_game.new.files) (price_by cost (take i reads) extents plies)
+          (cost read (extent_in extents i) c.get.result) (cost read (extent_in extents i) (get_or plies i None)) (price_by cost (take (i + 1) reads) extents plies)
+          (c.loop-i.invariant.asked rows told) (c.in-Ok.ensures.asked (sig_in e.0) rows (at-map sig_in kept.entries i e.0 e.1) (c.loop-i.invariant.told ∙ told))
+          (ap (cost read (extent_in extents i)) (sym (get_or_from_slice_get plies i c.get.result None c.get.ensures.entry)))
+          (price_more cost reads extents plies i read (read_at query rows (sigs_of kept) i (sig_in e.0) (at-map sig_in kept.entries i e.0 e.1))
+          (omega (arith, here, length-map kept.entries extent_of)) (omega (arith, here, c.requires.games)));
       files = omega (arith, c.add_game.ensures.causes.none_fell.files, c.loop-i.invariant.files);
     }
 
@@ -108,3 +121,11 @@ returns-clause-asks g c = λ rows told.
     let cost = cost_of And in
     asked_all (g.F.Files.asked c.args.files.now) (g.F.Files.asked c.loop-i.files) (price_by cost (take c.loop-i.i reads) (extents_of kept) c.args.filter.now)
     (price_by cost reads (extents_of kept) c.args.filter.now) (c.loop-i.invariant.asks rows told) (price_front cost reads (extents_of kept) c.args.filter.now c.loop-i.i)
+
+pub returns-clause-asked : goal.returns-clause-asked
+returns-clause-asked g c = λ rows told.
+    let kept = c.args.base.now in
+    let reads = are_read c.args.query.now rows (sigs_of kept) in
+    let past : length c.args.filter.now ≤ c.loop-i.i = omega (arith, c.loop-i-test.false, c.len-i-end.ensures.len) in
+    subst (λ (n : ℕ). raised (g.F.Files.asked c.args.files.now) n ≤ g.F.Files.asked c.loop-i.files)
+    (price_all (cost_of And) reads (extents_of kept) c.args.filter.now c.loop-i.i past) (c.loop-i.invariant.asked rows told)

@@ -1,6 +1,7 @@
 use Rattle.std.proofs.Common.{◌≡◌, ◌≤◌, ◌+◌, ℕ, List, Option, Some, All, length, map, take}
 use Rattle.base_core.specs.Base.{Base, Held}
 use Rattle.base_core.specs.Represents.{Represents, extents_of, sigs_of}
+use Rattle.base_files.specs.Counters.{raised}
 use Rattle.game_filter.specs.declared.op.Op.TheVariants.{And}
 use Rattle.pos_index.specs.Hits.{Index, IndexesAll, Place, rows_told}
 use Rattle.game_search.specs.Questions.{cost_of}
@@ -12,7 +13,7 @@ use Rattle.tree_rows.specs.Rows.{AreRows, rows_of}
 use Rattle.search_commands.proofs.trees.read_rows.Given as goal
 use Rattle.search_commands.specs.Trees.{tree_hits}
 
--- The rows of the games before this one, and no more than their records was asked.
+-- The rows of the games before this one, and their records were asked, no more and no less.
 abbrev pub invariant-loop-i : goal.invariant-loop-i
 invariant-loop-i g l = record {
   told : l.told ≡ l.fn.told;
@@ -25,5 +26,7 @@ invariant-loop-i g l = record {
   seen : g.F.Files.seen l.files ≡ g.F.Files.seen l.fn.files;
   asks : (rows : List (List Place)) → l.fn.told ≡ hits_told l.query rows
       → g.F.Files.asked l.files ≤ g.F.Files.asked l.fn.files + price_by (cost_of And) (take l.i (are_read l.query rows (sigs_of l.base))) (extents_of l.base) l.filter;
+  asked : (rows : List (List Place)) → l.fn.told ≡ hits_told l.query rows
+      → raised (g.F.Files.asked l.fn.files) (price_by (cost_of And) (take l.i (are_read l.query rows (sigs_of l.base))) (extents_of l.base) l.filter) ≤ g.F.Files.asked l.files;
   files : g.F.Files.faults l.fn.files ≤ g.F.Files.faults l.files;
 }
