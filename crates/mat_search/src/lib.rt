@@ -5,6 +5,7 @@ mod first_ply;
 mod laws;
 mod matching;
 mod searching;
+mod standing;
 mod streaks;
 
 pub use laws::{first_plies_are_first, tests_are_sound};

@@ -1,10 +1,10 @@
 //! Streaks of plies whose counts are in a range, along a main line.
 ghost use Rattle.std.specs.Prelude.{◌≡◌, ◌<◌, ◌&&◌, ◌||◌, ◌==◌};
-ghost use Rattle.mat_search.specs.Matching.{in_range};
-ghost use Rattle.mat_search.specs.Streaks.{can_match_later, is_over, streak_after};
+ghost use Rattle.sig_index.specs.declared.mat_query.MatRange.{MatRange};
+ghost use Rattle.mat_search.specs.Streaks.{IsStanding, is_over, streak_after};
 
-use crate::matching::in_range;
-use sig_index::{MatQuery, MatRange, can_come};
+use crate::standing::Standing;
+use sig_index::MatQuery;
 
 // How many of the last plies have counts in the range, and in the exchanged one: as many as can be the beginning of a match.
 #[derive(Clone, Copy, Debug, PartialEq, Eq)]
@@ -22,22 +22,16 @@ impl Streaks {
         Streaks { own: 0, other: 0 }
     }
 
-    // The streaks after one more ply with these counts. `other` is the range of the query with the colours exchanged.
-    pub(crate) fn after(
-        &self,
-        q: &MatQuery,
-        other: &MatRange,
-        ply: u32,
-        counts: &[u8; 10],
-    ) -> Streaks
+    // The streaks after one more ply, of whose counts this is said.
+    pub(crate) fn after(&self, q: &MatQuery, ply: u32, standing: &Standing) -> Streaks
         requires own { self.now.own < q.now.streak }
         requires other { self.now.other < q.now.streak }
-        ensures own { result.own ≡ streak_after q.now self.now.own ply (in_range q.now.range counts.now) }
-        ensures other { result.other ≡ streak_after q.now self.now.other ply (q.now.swap && in_range other.now counts.now) }
+        ensures own { result.own ≡ streak_after q.now self.now.own ply standing.now.own }
+        ensures other { result.other ≡ streak_after q.now self.now.other ply standing.now.other }
     {
         Streaks {
-            own: streak_after(q, self.own, ply, in_range(&q.range, counts)),
-            other: streak_after(q, self.other, ply, q.swap && in_range(other, counts)),
+            own: streak_after(q, self.own, ply, standing.own),
+            other: streak_after(q, self.other, ply, standing.other),
         }
     }
 
@@ -68,17 +62,10 @@ fn streak_after(q: &MatQuery, streak: u32, ply: u32, fits: bool) -> u32
     }
 }
 
-// Whether no match begins behind this ply, at which no streak is under way. `other` is the range of the query with the colours exchanged.
+// Whether no match begins behind this ply, at which no streak is under way and of whose counts this is said.
 #[tactic(auto, unfolding(crate::specs::Streaks::is_over))]
-pub(crate) fn is_over(q: &MatQuery, other: &MatRange, ply: u32, counts: &[u8; 10]) -> bool
-    ensures { result ≡ is_over q.now other.now ply counts.now }
+pub(crate) fn is_over(q: &MatQuery, ply: u32, standing: &Standing) -> bool
+    ensures { (other : MatRange) → IsStanding q.now other standing.now → result ≡ is_over q.now other ply standing.now.counts }
 {
-    q.ply_hi <= ply || !can_match_later(q, other, counts)
-}
-
-// Whether the counts can come into the range, or with `swap` into the other one.
-fn can_match_later(q: &MatQuery, other: &MatRange, counts: &[u8; 10]) -> bool
-    ensures { result ≡ can_match_later q.now other.now counts.now }
-{
-    can_come(&q.range, counts) || q.swap && can_come(other, counts)
+    q.ply_hi <= ply || !standing.later
 }

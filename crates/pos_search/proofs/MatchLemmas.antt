@@ -108,8 +108,9 @@ files_all a b each = sym (all_from (same_file a b) 0 8 (λ file from less. each 
 -- ---- a position that is sought
 
 -- the ten counts are compared
-pub counts_same : (a b : Men) (counts sought : List ℕ) (t : Bool) → Decides t (counts ≡ sought) → counts ≡ counts_of a → sought ≡ counts_of b → t ≡ same_counts a b
-counts_same a b counts sought t is count count' = same_from_decides t (same_counts a b) (rw (count, count') at is) (counts-Decides a b)
+pub counts_same : (a b : Men) (sought counts : List ℕ) (t : Bool) → Decides t (sought ≡ counts) → sought ≡ counts_of b → counts ≡ counts_of a → t ≡ same_counts a b
+counts_same a b sought counts t is count' count =
+    same_from_decides t (same_counts a b) (λ h. sym (let told : counts_of b ≡ counts_of a = rw (count, count') at (is.0 h) in told), λ same. is.1 (count' ∙ sym same ∙ sym count)) (counts-Decides a b)
 
 -- the same men can come
 enough : (a b d e p : ℕ) → leb (a - a + (b - b + (d - d) + (e - e)) + p) p ≡ true

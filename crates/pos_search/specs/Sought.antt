@@ -1,5 +1,5 @@
 -- What the functions of this crate keep of a query, and when they end a walk.
-use Rattle.std.specs.Prelude.{◌≡◌, ℕ, Bool, true, not, ◌&&◌, ◌||◌, if◌then◌else◌, Option, Some, None}
+use Rattle.std.specs.Prelude.{◌≡◌, ℕ, List, Bool, true, not, ◌&&◌, ◌||◌, if◌then◌else◌, Option, Some, None}
 use Rattle.std.specs.List.{list_all}
 use Rattle.std.specs.Option.{option_or}
 use Rattle.cell_core.specs.Board.{Men}
@@ -15,9 +15,12 @@ use Rattle.sig_index.specs.Homes.{home_set}
 use Rattle.sig_index.specs.Signature.{all_homes}
 use Rattle.pos_search.specs.Matching.{matches}
 use Rattle.pos_search.specs.Passing.{fixes_pawns, just}
+use Rattle.pos_search.specs.declared.coming.Coming.{Coming}
 
--- What is counted on the board of a query: its ten counts, as the only ones of a range, and its pawns at home.
-pub record IsCounted (query : PosQuery) (range : MatRange) (homes : ℕ) : Type 0 where
+-- What is counted on the board of a query: its ten counts, the same as the only ones of a range, and
+-- its pawns at home.
+pub record IsCounted (query : PosQuery) (counts : List ℕ) (range : MatRange) (homes : ℕ) : Type 0 where
+  pub numbers : counts ≡ counts_of query.board
   pub counted : range ≡ just (counts_of query.board)
   pub at_home : homes ≡ home_set query.board
 
@@ -28,6 +31,10 @@ has_homes sought men = list_all (λ value. not (is_home sought value) || is_home
 -- A position that is sought can still come after this one: no man is missing, and where the mode fixes them no pawn at home.
 unfoldable pub can_follow : PosQuery → Setup → Bool
 can_follow query p = can_come (just (counts_of query.board)) (counts_of p.board) && (not (fixes_pawns query.mode) || has_homes query.board p.board)
+
+-- What was kept of the counts of a ply: whether the men that are missing to those of the query can still come.
+abbrev pub IsTold : PosQuery → Coming → Type 0
+IsTold query coming = coming.can ≡ can_come (just (counts_of query.board)) coming.counts
 
 -- The ply of the first place in a variation that was found so far: this one, where none was found before it.
 abbrev pub found_aside : PosQuery → Option ℕ → AllWalked → Option ℕ

@@ -1,54 +1,11 @@
 //! What two boards have in common.
-ghost use Rattle.std.specs.Prelude.{◌≡◌, ◌↔◌, ◌≤◌, ◌<◌, IsTrue, length};
+ghost use Rattle.std.specs.Prelude.{◌≡◌, ◌<◌};
 ghost use Rattle.cell_core.specs.Man.{is_man};
-ghost use Rattle.chess_laws.specs.Counts.{count_of, counts_of, is_home};
+ghost use Rattle.chess_laws.specs.Counts.{is_home};
 ghost use Rattle.sig_index.specs.Homes.{home_set};
 ghost use Rattle.pos_search.specs.Matching.{pawn_on, pawns_below, same_file, same_files, same_pawn, same_pawns};
 
 use cell_core::{Board, Colour, Kind, Man, Square};
-
-// How many queens, rooks, bishops, knights and pawns White has, and then Black.
-pub(crate) fn counts(board: &Board) -> [u8; 10]
-    ensures counts { result ≡ counts_of board.now }
-    ensures squares { length board.now ≡ 64 }
-{
-    [
-        count(board, Colour::White, Kind::Queen),
-        count(board, Colour::White, Kind::Rook),
-        count(board, Colour::White, Kind::Bishop),
-        count(board, Colour::White, Kind::Knight),
-        count(board, Colour::White, Kind::Pawn),
-        count(board, Colour::Black, Kind::Queen),
-        count(board, Colour::Black, Kind::Rook),
-        count(board, Colour::Black, Kind::Bishop),
-        count(board, Colour::Black, Kind::Knight),
-        count(board, Colour::Black, Kind::Pawn),
-    ]
-}
-
-// Whether ten numbers are the same.
-pub(crate) fn same_numbers(a: &[u8; 10], b: &[u8; 10]) -> bool
-    ensures { IsTrue result ↔ (a.now ≡ b.now) }
-{
-    for place in 0..10u8 {
-        if a[place as usize] != b[place as usize] {
-            return false;
-        }
-    }
-    true
-}
-
-// How many men of this colour and kind there are.
-fn count(board: &Board, colour: Colour, kind: Kind) -> u8
-    ensures count { result ≡ count_of board.now colour kind }
-    ensures squares { length board.now ≡ 64 }
-{
-    let cells = board.cells();
-    cells
-        .iter()
-        .filter(|cell| is_man(cell, colour, kind))
-        .count() as u8
-}
 
 // Whether a man of this colour and kind stands on a square.
 fn is_man(cell: &Option<Man>, colour: Colour, kind: Kind) -> bool

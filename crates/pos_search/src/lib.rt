@@ -3,6 +3,7 @@
 
 mod asking;
 mod boards;
+mod coming;
 mod in_memory;
 mod laws;
 mod matching;

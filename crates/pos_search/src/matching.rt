@@ -6,11 +6,12 @@ ghost use Rattle.sig_index.specs.Coming.{can_come};
 ghost use Rattle.sig_index.specs.Homes.{IsHomeList};
 ghost use Rattle.pos_search.specs.Matching.{alike, matches, same_counts};
 ghost use Rattle.pos_search.specs.Passing.{fixes_pawns, just, passes};
-ghost use Rattle.pos_search.specs.Sought.{can_follow, has_homes};
+ghost use Rattle.pos_search.specs.Sought.{IsTold, can_follow, has_homes};
 
-use crate::boards::{counts, home_set, same_files, same_numbers, same_pawns};
-use cell_core::{Board, Colour};
-use chess_laws::Position;
+use crate::boards::{home_set, same_files, same_pawns};
+use crate::coming::Coming;
+use cell_core::Colour;
+use chess_laws::{Counts, Position};
 use sig_index::{Brief, MatRange, Mode, PosQuery, can_come, can_stand, home_allows};
 use std::marker::Model;
 
@@ -29,7 +30,8 @@ pub fn passes(s: &Brief<'_>, q: &PosQuery) -> bool
 #[derive(Drop)]
 pub struct Sought<'a> {
     query: &'a PosQuery,
-    // The ten counts as the only ones.
+    // The ten counts, and the same as the only ones of a range.
+    counts: Counts,
     range: MatRange,
     // The pawns at home.
     homes: u16,
@@ -43,7 +45,7 @@ impl<'a> Model for Sought<'a> {
 
     ghost view = { λ s. s.query.now };
 
-    ghost invariant = { λ s. IsCounted s.query.now s.range s.homes };
+    ghost invariant = { λ s. IsCounted s.query.now s.counts s.range s.homes };
 }
 
 impl<'a> Sought<'a> {
@@ -52,12 +54,14 @@ impl<'a> Sought<'a> {
         ensures query { result ≡ query.now }
         ensures squares { length result.board ≡ 64 }
     {
-        let counts = counts(&query.board);
+        let counts = Counts::of(&query.board);
+        let numbers = counts.numbers();
         Sought {
             query,
+            counts,
             range: MatRange {
-                lo: counts,
-                hi: counts,
+                lo: numbers,
+                hi: numbers,
             },
             homes: home_set(&query.board),
         }
@@ -117,26 +121,35 @@ impl<'a> Sought<'a> {
     fn has_counts(&self, p: &Position) -> bool
         ensures { result ≡ same_counts p.now.board self.now.board }
     {
-        same_numbers(&p.counts(), &self.range.lo)
+        self.counts.is_same(p.census())
     }
 
     // Whether a position that is sought can still come after this one.
     #[tactic(auto, unfolding(crate::specs::Sought::can_follow))]
-    pub(crate) fn can_follow(&self, p: &Position) -> bool
-        ensures { result ≡ can_follow self.now p.now }
+    pub(crate) fn can_follow(&self, p: &Position, coming: &mut Coming) -> bool
+        requires told { IsTold self.now coming.old }
+        ensures follows { result ≡ can_follow self.now p.now }
+        ensures told { IsTold self.now coming.new }
     {
-        self.men_can_come(p) && (!fixes_pawns(self.query.mode) || self.has_homes(p))
+        coming.follow(self, p.census());
+        coming.can && (!fixes_pawns(self.query.mode) || self.has_homes(p))
     }
 
-    // Whether the men of the sought board that are missing can still be made. Where none is, it is seen at once.
-    fn men_can_come(&self, p: &Position) -> bool
-        ensures { result ≡ can_come (just (counts_of self.now.board)) (counts_of p.now.board) }
+    // What is known before a ply is looked at: where no man is missing, all can come.
+    pub(crate) fn at_first(&self) -> Coming
+        ensures told { IsTold self.now result }
     {
-        let counts = p.counts();
-        if !same_numbers(&counts, &self.range.lo) {
-            return can_come(&self.range, &counts);
+        Coming {
+            counts: self.counts,
+            can: true,
         }
-        true
+    }
+
+    // Whether the men of the sought board that are missing can still be made where there are so many.
+    pub(crate) fn men_can_come(&self, counts: &Counts) -> bool
+        ensures { result ≡ can_come (just (counts_of self.now.board)) counts.now }
+    {
+        can_come(&self.range, &counts.numbers())
     }
 
     // Whether each pawn at home on the sought board stands at home.

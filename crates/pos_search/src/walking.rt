@@ -177,12 +177,13 @@ fn walk_to(walk: &mut Walk<'_>, q: &Sought<'_>) -> Result<Option<u32>, RecordFau
     ensures bytes { OnOk result (walk.new.bytes ≡ walk.old.bytes) }
     ensures fault { IfErr result (λ _. IsSomeRecord walk.old.bytes → ⊥) }
 {
+    let mut coming = q.at_first();
     loop {
         let ply = walk.ply();
         if q.matches(walk.position()) {
             return Ok(Some(ply));
         }
-        if !q.can_follow(walk.position()) {
+        if !q.can_follow(walk.position(), &mut coming) {
             return Ok(None);
         }
         match walk.step() {
