@@ -1,6 +1,6 @@
 //! Reading a game of an open base.
 ghost use Rattle.std.specs.Prelude.{◌≡◌, ◌≤◌, ◌<◌, ◌+◌, ◌↔◌, ◌^◌, All, List, Some, length, slice_get, IfOk, IfErr, IfSome, IsErrOf, OnOk};
-ghost use Rattle.base_files.specs.Counters.{Rose};
+ghost use Rattle.base_files.specs.Counters.{Rose, raised};
 ghost use Rattle.game_tree.specs.Head.{HasTexts, IsBounded, IsName, IsTag, head_of as fields_with};
 ghost use Rattle.game_tree.specs.Legal.{IsLegalGame};
 ghost use Rattle.game_tree.specs.Settle.{IsSettled, settled};
@@ -58,6 +58,7 @@ impl Base {
         ensures cause { IfErr result (λ error. error ≡ EditError.Failed → Rose (F.faults files.old) (F.faults files.new)) }
         ensures counts { F.faults files.old ≤ F.faults files.new }
         ensures asks { (e : EntryValue) → slice_get self.now.entries i ≡ Some e → F.asked files.new ≤ F.asked files.old + e.len }
+        ensures asked { (e : EntryValue) → slice_get self.now.entries i ≡ Some e → OnOk result (raised (F.asked files.old) e.len ≤ F.asked files.new) }
         ensures none_asked { IsErrOf result (EditError.NoGame i) → F.asked files.new ≡ F.asked files.old }
         ensures same_files { F.seen files.new ≡ F.seen files.old }
     {
@@ -100,6 +101,7 @@ impl Base {
         ensures cause { IfErr result (λ error. error ≡ EditError.Failed → Rose (F.faults files.old) (F.faults files.new)) }
         ensures counts { F.faults files.old ≤ F.faults files.new }
         ensures asks { (e : EntryValue) → slice_get self.now.entries i ≡ Some e → F.asked files.new ≤ F.asked files.old + e.len }
+        ensures asked { (e : EntryValue) → slice_get self.now.entries i ≡ Some e → OnOk result (raised (F.asked files.old) e.len ≤ F.asked files.new) }
         ensures same_files { F.seen files.new ≡ F.seen files.old }
     {
         let entry = self.entry(i);

@@ -1,5 +1,5 @@
 -- Laws of `tag`.
-use Rattle.std.proofs.Common.{◌≡◌, ℕ, List, Option, Some, IfSome, subst, sym, ap, ◌∙◌, ◌<◌, true, ◌++◌, length, None, arith, Ok, Err, inl, inr, refl, ◌≤◌, map, option_map, Bool, ap₂}
+use Rattle.std.proofs.Common.{◌≡◌, ℕ, List, Option, Some, IfSome, subst, sym, ap, ◌∙◌, ◌<◌, true, ◌++◌, length, None, arith, Ok, Err, inl, inr, refl, ◌≤◌, map, option_map, Bool, ap₂, Result, [], ◌∷◌}
 use Rattle.std.proofs.lemmas.Option.{slice_get_past}
 use Rattle.std.specs.Prelude.{slice_get, unwrap_or, codes}
 use Rattle.base_core.proofs.Lists.{get_some}
@@ -21,7 +21,7 @@ use Rattle.game_tree.specs.TagEdit.{edited}
 use Rattle.game_tree.specs.declared.head.Head.{Head}
 use Rattle.game_tree.specs.declared.tag_edit.TagEdit.{TagEdit}
 use Rattle.pos_index.specs.Hits.{Index, rows_told}
-use Rattle.edit_commands.specs.Editing.{tag_after, tagged_there, unless_refused, tag_line_there, tag_text}
+use Rattle.edit_commands.specs.Editing.{DidTag, tag_after, tagged_there, unless_refused, tag_line_there, tag_text}
 use Rattle.filter_seat.specs.declared.saved.SavedFilter.{SavedFilter}
 use Rattle.edit_commands.proofs.RetagLaws.{slots_tagged}
 use Rattle.edit_commands.specs.Retagging.{AreAgain}
@@ -191,3 +191,38 @@ no_game_stands holding seen s number tag st past =
 
 pub no_game_says : (holding : Holding) (seen : Seen) (s : State) (number : ℕ) (tag : TagEdit) (line : List ℕ) → Stands holding seen s → length holding.kept.entries ≤ number → line ≡ no_game_line number → line ≡ tag_text s number tag
 no_game_says holding seen s number tag line st past is = is ∙ ap (tag_line_there number tag s) (sym (no_game holding seen s number st past))
+
+-- The first byte of a line: an error line has another one than the line of a tag that was set.
+abbrev first_byte : List ℕ → ℕ
+first_byte [] = 0
+first_byte (byte ∷ bytes) = byte
+
+no_tagged : (line : List ℕ) (game : ℕ) → first_byte line ≡ 101 → line ≡ game_line (codes "tagged ") game → ⊥
+no_tagged line game error same =
+    let e : 101 ≡ 116 = sym error ∙ ap first_byte same in
+    omega (arith, e)
+
+abbrev first_of : Result (List ℕ) Halt → ℕ
+first_of (Ok line) = first_byte line
+first_of (Err halt) = 101
+
+first_refused : (error : EditError) → first_of (refused_line error) ≡ 101
+first_refused (edit.NoGame game) = refl
+first_refused (edit.TooLong size) = refl
+first_refused (edit.Full what) = refl
+first_refused (edit.Changed game kept found) = refl
+first_refused edit.Failed = refl
+first_refused edit.Memory = refl
+
+-- A tag that was set; an edit that was refused; and no game.
+pub did_tag : (game : ℕ) (tag : TagEdit) (old new : Kept) (before after : Seen) (buffer line : List ℕ) → line ≡ game_line (codes "tagged ") game → IsTagged game tag old new before after buffer
+    → DidTag game tag old new before after line
+did_tag game tag old new before after buffer line is tagged = record { tagged = λ same. (buffer, tagged); refused = λ no. absurd (no is) }
+
+pub refused_tag : (game : ℕ) (tag : TagEdit) (old new : Kept) (before after : Seen) (error : EditError) (line : List ℕ) → refused_line error ≡ Ok line → new ≡ old
+    → DidTag game tag old new before after line
+refused_tag game tag old new before after error line is same =
+    record { tagged = λ says. absurd (no_tagged line game (sym (ap first_of is) ∙ first_refused error) says); refused = λ no. same }
+
+pub untagged : (game : ℕ) (tag : TagEdit) (old : Kept) (before after : Seen) (line : List ℕ) → line ≡ no_game_line game → DidTag game tag old old before after line
+untagged game tag old before after line is = record { tagged = λ says. absurd (no_tagged line game (ap first_byte is) says); refused = λ no. refl }

@@ -1,7 +1,10 @@
 -- The commands that edit a game of the base. Filters stay as they are. This project's own.
-use Rattle.std.specs.Prelude.{Option, Some, None, ℕ, List, slice_get, Bool, unwrap_or, codes}
+use Rattle.std.specs.Prelude.{◌≡◌, Option, Some, None, ℕ, List, slice_get, Bool, unwrap_or, codes}
 use Rattle.base_core.specs.Base.{Base, Held}
 use Rattle.base_core.specs.Edits.{deleted, undeleted, marked, tagged}
+use Rattle.base_core.specs.Represents.{Kept}
+use Rattle.base_core.specs.Tagged.{IsTagged}
+use Rattle.base_files.specs.Seen.{Seen}
 use Rattle.game_tree.specs.TagEdit.{edited}
 use Rattle.game_tree.specs.declared.tag_edit.TagEdit.{TagEdit}
 use Rattle.shell_state.specs.Lines.{no_game_line, game_line}
@@ -54,6 +57,12 @@ tag_after s game edit = tagged_there game edit s (slice_get s.shared.base.games 
 
 abbrev pub tag_text : State → ℕ → TagEdit → List ℕ
 tag_text s game edit = tag_line_there game edit s (slice_get s.shared.base.games game)
+
+-- What `tag` did, whatever the files tell: where its line says so, the tag was set in a game that was read, a record of one with the kept
+-- signature; where it says another thing, what is kept is as it was.
+pub record DidTag (game : ℕ) (edit : TagEdit) (old new : Kept) (before after : Seen) (line : List ℕ) : Type 0 where
+  pub tagged : line ≡ game_line (codes "tagged ") game → (buffer : List ℕ) × IsTagged game edit old new before after buffer
+  pub refused : (line ≡ game_line (codes "tagged ") game → ⊥) → new ≡ old
 
 -- What the commands do: the record of a game whose tag is set is read.
 abbrev pub delete_work : ℕ → Work

@@ -2,7 +2,7 @@
 ghost use Rattle.std.specs.Prelude.{◌≡◌, ◌<◌, length, IfOk, IfErr, OnOk};
 ghost use Rattle.command_runs.specs.Counts.{Causes, counts};
 ghost use Rattle.game_tree.specs.TagEdit.{IsEdit};
-ghost use Rattle.edit_commands.specs.Editing.{tag_after, tag_text, tag_work};
+ghost use Rattle.edit_commands.specs.Editing.{DidTag, tag_after, tag_text, tag_work};
 ghost use Rattle.shell_state.specs.Carrying.{StillCarry};
 ghost use Rattle.shell_state.specs.Ends.{IsDevice};
 ghost use Rattle.shell_state.specs.Stands.{Stands, Sound, WhyHalt, Asks};
@@ -30,6 +30,7 @@ pub fn tag_line<F: Files>(
     ensures sound { OnOk result (Sound machine.new (F.seen files.new)) }
     ensures carries { (s : State) → Stands machine.old (F.seen files.old) s → StillCarry (F.seen files.new) s None }
     ensures choices { (F.seen files.new).choices ≡ (F.seen files.old).choices }
+    ensures tagged { IfOk result (λ line. DidTag number edit.now machine.old.kept machine.new.kept (F.seen files.old) (F.seen files.new) line.items) }
     ensures asks { Asks machine.old (tag_work number edit.now) (F.asked files.old) (F.asked files.new) }
     ensures causes { Causes WhyHalt result (counts (F.faults files.old) 0 0) (counts (F.faults files.new) 0 0) }
 {
@@ -56,6 +57,7 @@ fn set_tag<F: Files>(
     ensures sound { OnOk result (Sound machine.new (F.seen files.new)) }
     ensures carries { (s : State) → Stands machine.old (F.seen files.old) s → StillCarry (F.seen files.new) s None }
     ensures choices { (F.seen files.new).choices ≡ (F.seen files.old).choices }
+    ensures tagged { IfOk result (λ line. DidTag i edit.now machine.old.kept machine.new.kept (F.seen files.old) (F.seen files.new) line.items) }
     ensures asks { Asks machine.old (tag_work i edit.now) (F.asked files.old) (F.asked files.new) }
     ensures causes { Causes WhyHalt result (counts (F.faults files.old) 0 0) (counts (F.faults files.new) 0 0) }
 {

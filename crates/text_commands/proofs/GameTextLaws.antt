@@ -5,15 +5,17 @@ use Rattle.std.proofs.lemmas.Option.{slice_get_past, same_Some}
 use Rattle.std.specs.Prelude.{IfErr, slice_get, IfSome}
 use Rattle.base_core.proofs.Lists.{get_some}
 use Rattle.base_core.specs.Base.{Held, Base}
-use Rattle.base_core.specs.GameAt.{IsGameAt}
+use Rattle.base_core.specs.GameAt.{IsGameAt, IsShown}
 use Rattle.base_core.specs.Represents.{Kept, Represents}
 use Rattle.base_files.proofs.Telling.{adds-nil}
+use Rattle.base_files.specs.Counters.{raised}
 use Rattle.base_files.specs.Seen.{Seen}
 use Rattle.base_files.specs.Told.{adds}
 use Rattle.base_files.specs.declared.faults.Stop.TheVariants as stop
 use Rattle.command_runs.proofs.Joining.{halted_none, written_after, halted_after, halted_more, halted_unsure}
 use Rattle.command_runs.specs.Endings.{Halted, Serves}
 use Rattle.game_tree.specs.Game.{GameTree}
+use Rattle.game_tree.specs.Legal.{IsLegalGame}
 use Rattle.game_tree.specs.declared.head.Head.{Head}
 use Rattle.index_entry.specs.declared.entry.Entry.{Entry}
 use Rattle.pgn_write.specs.Pgn.{pgn_of}
@@ -31,7 +33,7 @@ use Rattle.shell_state.specs.declared.halt.Halt.{Halt}
 use Rattle.shell_state.specs.declared.halt.Halt.TheVariants as halt
 use Rattle.text_commands.proofs.TextLaws.{texts-more, texts-split}
 use Rattle.text_commands.specs.Cuts.{GameEnds, GameCut, GamesEnd}
-use Rattle.text_commands.specs.GameTexts.{show_text, shown, game_text, exported_first, text_if_in, exported, ExportCut, exported_len, export_work, show_work}
+use Rattle.text_commands.specs.GameTexts.{IsTextOf, WritesTextOf, show_text, shown, game_text, exported_first, text_if_in, exported, ExportCut, exported_len, export_work, show_work}
 
 no_files : (e : Halt) → IsOutput e → e ≡ halt.Device stop.Files → ⊥
 no_files e output is = subst IsOutput is output
@@ -132,6 +134,22 @@ filtered-more i plies entries ply below p =
     filtered-suc i plies entries ply below p
     ∙ ap (λ (k : ℕ). len_if_in ply (len_at entries i) + exported_len (drop k plies) (drop k entries)) (sym (add-one i))
 
+-- What was asked so far and what is left to ask are as much as all.
+pub rest_more : (first old new all rest cost left : ℕ) → raised first all ≤ raised old rest → raised old cost ≤ new → rest ≡ cost + left → raised first all ≤ raised new left
+rest_more first old new all rest cost left before asked is = omega (arith, before, asked, is)
+
+drop-past : {A : Type 0} (i : ℕ) (l : List A) → length l ≤ i → drop i l ≡ []
+drop-past zero [] past = refl
+drop-past zero (x ∷ l) past = absurd (omega (arith, past))
+drop-past (suc i) [] past = refl
+drop-past (suc i) (x ∷ l) past = drop-past i l (omega (arith, past))
+
+pub none_left : (first new i : ℕ) (plies : List (Option ℕ)) (entries : List Entry) → length plies ≤ i → raised first (exported_len plies entries) ≤ raised new (exported_len (drop i plies) (drop i entries))
+    → raised first (exported_len plies entries) ≤ new
+none_left first new i plies entries past asked =
+    let none : exported_len (drop i plies) (drop i entries) ≡ 0 = ap (λ (l : List (Option ℕ)). exported_len l (drop i entries)) (drop-past i plies past) in
+    omega (arith, asked, none)
+
 -- The text that was written is that of the game.
 pub text_read : (games : Option (List ℕ)) (told : List ℕ) (kept : Kept) (all : Base) (held : Held) (i : ℕ) (head : Head) (game : GameTree) (text : List ℕ)
     → games ≡ Some told → Represents kept told all → slice_get all.games i ≡ Some held → IfSome games (λ bytes. IsGameAt kept bytes i head game) → text ≡ pgn_of head game → text ≡ game_text held
@@ -154,3 +172,26 @@ pub no_game_serves : {A : Type 0} (r : Result A Halt) (holding : Holding) (seen 
 no_game_serves r holding seen s number line told told' st past is written halted output =
     let text : line ≡ show_text s number = is ∙ ap (shown number) (sym (slice_get_past s.shared.base.games number (omega (arith, past, st.base.count)))) in
     line_serves r holding (show_work number) line seen s told told' st text written halted output
+
+-- What was read of a kept game is what `show` may write of it.
+pub is_text_of : (kept : Kept) (i : ℕ) (buf : List ℕ) (head : Head) (game : GameTree) (e : Entry) (text : List ℕ) → slice_get kept.entries i ≡ Some e → IsShown kept i buf head game → IsLegalGame game
+    → text ≡ pgn_of head game → IsTextOf kept.names e text
+is_text_of kept i buf head game e text at shown legal is =
+    let read = shown e at in
+    record {
+      tags = read.0;
+      game = game;
+      legal = legal;
+      is_sig = read.1.1.0;
+      is_text = is ∙ ap (λ (h : Head). pgn_of h game) read.1.1.1;
+    }
+
+-- It was written.
+pub writes_text : {A : Type 0} (r : Result A Halt) (kept : Kept) (i : ℕ) (line text : List ℕ) (told told' : Option (List ℕ)) → line ≡ text
+    → ((e : Entry) → slice_get kept.entries i ≡ Some e → IsTextOf kept.names e text) → OnOk r (told' ≡ adds told line) → OnOk r (WritesTextOf kept i told told')
+writes_text (Ok x) kept i line text told told' same is written = λ e at. (text, (is e at, written ∙ ap (adds told) same))
+writes_text (Err e) kept i line text told told' same is written = tt
+
+-- A game that is not there has no record.
+pub none_there : (holding : Holding) (game : ℕ) → length holding.kept.entries ≤ game → len_in (λ (x : Look). x.len) (slice_get (looks_in holding) game) ≡ 0
+none_there holding game past = sym (show_price holding game) ∙ ap (len_in (λ (e : Entry). e.len)) (slice_get_past holding.kept.entries game past)

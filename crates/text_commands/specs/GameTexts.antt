@@ -1,11 +1,19 @@
 -- The commands that write games in Portable Game Notation. This project's own.
 use Rattle.std.specs.Prelude.{ℕ, List, Option, Some, None, slice_get, [], take, ◌≡◌, ◌+◌}
 use Rattle.base_core.specs.Base.{Held}
+use Rattle.base_core.specs.Entries.{head_of, sig_in}
+use Rattle.base_core.specs.Represents.{Kept}
 use Rattle.base_files.specs.Told.{adds}
 use Rattle.base_files.specs.declared.faults.Stop.TheVariants as stop
 use Rattle.command_runs.specs.Endings.{Halted}
+use Rattle.game_tree.specs.Game.{GameTree}
+use Rattle.game_tree.specs.Legal.{IsLegalGame}
+use Rattle.game_tree.specs.Settle.{settled}
+use Rattle.game_tree.specs.declared.head.Tag.{Tag}
 use Rattle.index_entry.specs.declared.entry.Entry.{Entry}
+use Rattle.name_base.specs.NameLists.{NameLists}
 use Rattle.pgn_write.specs.Pgn.{pgn_of}
+use Rattle.sig_index.specs.Signature.{IsSig}
 use Rattle.shell_state.specs.Lines.{no_game_line, texts_from}
 use Rattle.shell_state.specs.Passing.{filtered_len, len_in}
 use Rattle.shell_state.specs.State.{State}
@@ -47,6 +55,19 @@ pub record ExportCut (plies : List (Option ℕ)) (games : List Held) (e : Halt) 
   pub count : ℕ
   pub wrote : Halted (exported_first count plies games) (exported_first (count + 1) plies games) told told'
   pub whole : e ≡ halt.Device stop.Files → told' ≡ adds told (exported_first count plies games)
+
+-- A text of a game that is kept: that of a legal game with the kept signature, under the settled head of what is kept with some tags.
+pub record IsTextOf (names : NameLists) (e : Entry) (text : List ℕ) : Type 0 where
+  pub tags : List Tag
+  pub game : GameTree
+  pub legal : IsLegalGame game
+  pub is_sig : IsSig game (sig_in e)
+  pub is_text : text ≡ pgn_of (settled (head_of names e tags)) game
+
+-- Such a text of a game was written, whatever the files tell; nothing is said of a game that is not there.
+abbrev pub WritesTextOf : Kept → ℕ → Option (List ℕ) → Option (List ℕ) → Type 0
+WritesTextOf kept game told told' =
+    (e : Entry) → slice_get kept.entries game ≡ Some e → (text : List ℕ) × (IsTextOf kept.names e text × (told' ≡ adds told text))
 
 -- The bytes of the records of the games that are in.
 abbrev pub exported_len : List (Option ℕ) → List Entry → ℕ

@@ -1,19 +1,21 @@
 //! The commands that write games in Portable Game Notation, each as soon as its record is read.
-ghost use Rattle.std.specs.Prelude.{◌≡◌, ◌≤◌, ◌<◌, ◌+◌, ℕ, List, Some, Ok, length, slice_get, IfOk, IfErr};
+ghost use Rattle.std.specs.Prelude.{◌≡◌, ◌≤◌, ◌<◌, ◌+◌, ℕ, List, Some, Ok, length, slice_get, IfOk, IfErr, OnOk};
 ghost use Rattle.base_core.specs.Base.{Base as PlainBase, Held};
 ghost use Rattle.base_core.specs.Represents.{Represents};
+ghost use Rattle.base_files.specs.Counters.{raised};
 ghost use Rattle.command_runs.specs.Counts.{Causes, counts};
 ghost use Rattle.command_runs.specs.Endings.{NoneLost, Serves};
 ghost use Rattle.game_tree.specs.Head.{IsBounded};
 ghost use Rattle.game_tree.specs.Legal.{IsLegalGame};
+ghost use Rattle.index_entry.specs.declared.entry.Entry.{Entry};
 ghost use Rattle.pgn_write.specs.Pgn.{pgn_of};
 ghost use Rattle.shell_state.specs.Ends.{IsDevice, halt_of};
 ghost use Rattle.shell_state.specs.Passing.{len_if_in};
-ghost use Rattle.shell_state.specs.Stands.{Stands, Sound, Broken, WhyHalt, len_at, Asks};
+ghost use Rattle.shell_state.specs.Stands.{Stands, Sound, Broken, WhyHalt, len_at, Asks, AsksAll};
 ghost use Rattle.shell_state.specs.State.{State};
 ghost use Rattle.shell_state.specs.Work.{works};
 ghost use Rattle.text_commands.specs.Cuts.{GameEnds, GamesEnd};
-ghost use Rattle.text_commands.specs.GameTexts.{ExportCut, game_text, text_if_in, exported_len, export_work, show_work};
+ghost use Rattle.text_commands.specs.GameTexts.{ExportCut, game_text, text_if_in, IsTextOf, WritesTextOf, exported_len, export_work, show_work};
 
 use base_core::Base;
 use base_files::{Files, Sink, Stop};
@@ -36,6 +38,9 @@ pub fn show<F: Files, K: Sink>(
     ensures serves { (s : State) → Stands machine.old (F.seen files.old) s → Serves works (Stands machine.new (F.seen files.new)) Broken s (show_work number) (K.taken out.old) (K.taken out.new) result }
     ensures unchanged { F.seen files.new ≡ F.seen files.old }
     ensures asks { Asks machine.old (show_work number) (F.asked files.old) (F.asked files.new) }
+    ensures asked { OnOk result (AsksAll machine.old (show_work number) (F.asked files.old) (F.asked files.new)) }
+    // Whatever the files hold, what is written is the text of a legal game, which has the signature that is kept.
+    ensures shown { OnOk result (WritesTextOf machine.old.kept number (K.taken out.old) (K.taken out.new)) }
     ensures none_lost { NoneLost (K.taken out.old) (K.taken out.new) }
     ensures causes { Causes WhyHalt result (counts (F.faults files.old) 0 (K.faults out.old)) (counts (F.faults files.new) 0 (K.faults out.new)) }
 {
@@ -62,6 +67,8 @@ fn show_there<F: Files, K: Sink>(
     ensures serves { (s : State) → Stands machine.old (F.seen files.old) s → Serves works (Stands machine.new (F.seen files.new)) Broken s (show_work i) (K.taken out.old) (K.taken out.new) result }
     ensures unchanged { F.seen files.new ≡ F.seen files.old }
     ensures asks { Asks machine.old (show_work i) (F.asked files.old) (F.asked files.new) }
+    ensures asked { OnOk result (AsksAll machine.old (show_work i) (F.asked files.old) (F.asked files.new)) }
+    ensures shown { OnOk result (WritesTextOf machine.old.kept i (K.taken out.old) (K.taken out.new)) }
     ensures none_lost { NoneLost (K.taken out.old) (K.taken out.new) }
     ensures causes { Causes WhyHalt result (counts (F.faults files.old) 0 (K.faults out.old)) (counts (F.faults files.new) 0 (K.faults out.new)) }
 {
@@ -82,6 +89,7 @@ pub fn export<F: Files, K: Sink>(
     ensures cut { (s : State) → Stands machine.old (F.seen files.old) s → IfErr result (λ e. ExportCut s.seat.filter s.shared.base.games e (K.taken out.old) (K.taken out.new)) }
     ensures unchanged { F.seen files.new ≡ F.seen files.old }
     ensures asks { Asks machine.old export_work (F.asked files.old) (F.asked files.new) }
+    ensures asked { OnOk result (AsksAll machine.old export_work (F.asked files.old) (F.asked files.new)) }
     ensures none_lost { NoneLost (K.taken out.old) (K.taken out.new) }
     ensures causes { Causes WhyHalt result (counts (F.faults files.old) 0 (K.faults out.old)) (counts (F.faults files.new) 0 (K.faults out.new)) }
 {
@@ -111,6 +119,7 @@ fn write_games<F: Files, K: Sink>(
     ensures written { (told : List ℕ) (all : PlainBase) → (F.seen files.old).games ≡ Some told → Represents base.now told all → GamesEnd result filter.now all.games (K.taken out.old) (K.taken out.new) }
     ensures unchanged { F.seen files.new ≡ F.seen files.old }
     ensures asks { F.asked files.new ≤ F.asked files.old + exported_len filter.now base.now.entries }
+    ensures asked { OnOk result (raised (F.asked files.old) (exported_len filter.now base.now.entries) ≤ F.asked files.new) }
     ensures none_lost { NoneLost (K.taken out.old) (K.taken out.new) }
     ensures causes { Causes WhyHalt result (counts (F.faults files.old) 0 (K.faults out.old)) (counts (F.faults files.new) 0 (K.faults out.new)) }
 {
@@ -140,6 +149,7 @@ fn write_if_in<F: Files, K: Sink>(
     ensures room { length block.new ≡ 131072 }
     ensures unchanged { F.seen files.new ≡ F.seen files.old }
     ensures asks { F.asked files.new ≤ F.asked files.old + len_if_in ply (len_at base.now.entries i) }
+    ensures asked { OnOk result (raised (F.asked files.old) (len_if_in ply (len_at base.now.entries i)) ≤ F.asked files.new) }
     ensures none_lost { NoneLost (K.taken out.old) (K.taken out.new) }
     ensures causes { Causes WhyHalt result (counts (F.faults files.old) 0 (K.faults out.old)) (counts (F.faults files.new) 0 (K.faults out.new)) }
 {
@@ -165,6 +175,8 @@ fn write_one<F: Files, K: Sink>(
     ensures room { length block.new ≡ 131072 }
     ensures unchanged { F.seen files.new ≡ F.seen files.old }
     ensures asks { F.asked files.new ≤ F.asked files.old + len_at base.now.entries i }
+    ensures asked { OnOk result (raised (F.asked files.old) (len_at base.now.entries i) ≤ F.asked files.new) }
+    ensures shown { OnOk result (WritesTextOf base.now i (K.taken out.old) (K.taken out.new)) }
     ensures none_lost { NoneLost (K.taken out.old) (K.taken out.new) }
     ensures causes { Causes WhyHalt result (counts (F.faults files.old) 0 (K.faults out.old)) (counts (F.faults files.new) 0 (K.faults out.new)) }
 {
@@ -190,6 +202,8 @@ fn read_text<F: Files>(
     ensures room { length block.new ≡ 131072 }
     ensures unchanged { F.seen files.new ≡ F.seen files.old }
     ensures asks { F.asked files.new ≤ F.asked files.old + len_at base.now.entries i }
+    ensures asked { OnOk result (raised (F.asked files.old) (len_at base.now.entries i) ≤ F.asked files.new) }
+    ensures shown { IfOk result (λ text. (e : Entry) → slice_get base.now.entries i ≡ Some e → IsTextOf base.now.names e text.items) }
     ensures causes { Causes WhyHalt result (counts (F.faults files.old) 0 0) (counts (F.faults files.new) 0 0) }
 {
     let (head, game) = match base.game(alloc, i, files, block) {

@@ -1,8 +1,9 @@
 use Rattle.std.proofs.Common.{◌≡◌, ◌≤◌, ◌<◌, ◌+◌, ℕ, Err, length, refl, sym, ap, ◌∙◌, subst, None, arith}
 use Rattle.std.specs.Prelude.{IfSome, codes}
 use Rattle.base_core.specs.Represents.{Kept}
+use Rattle.base_core.specs.Tagged.{IsTagged}
 use Rattle.edit_commands.proofs.RetagLaws.{one_among, room_among}
-use Rattle.edit_commands.proofs.TagLaws.{refused_says, refused_stands, tag_price, tag_says, tag_stands}
+use Rattle.edit_commands.proofs.TagLaws.{did_tag, refused_tag, refused_says, refused_stands, tag_price, tag_says, tag_stands}
 use Rattle.edit_commands.proofs.tagging.set_tag.Goals as goal
 use Rattle.edit_commands.specs.Editing.{tag_after}
 use Rattle.pos_index.specs.Hits.{Index}
@@ -120,3 +121,17 @@ returns-in-Err-clause-asks g c =
     let P : Holding → Type 0 = λ h. g.F.Files.asked c.set_tag-edited.new.files ≤ g.F.Files.asked c.args.files.now + len_at h.kept.entries c.args.i in
     let asked = subst P c.machine.view_is (asked_at c.machine.inside.base.entries c.args.i _ _ there c.set_tag-edited.ensures.asks) in
     omega (arith, asked, tag_price c.args.machine.now c.args.i)
+
+pub returns-in_ok-game_line-in-Ok-clause-tagged : goal.returns-in_ok-game_line-in-Ok-clause-tagged
+returns-in_ok-game_line-in-Ok-clause-tagged g c =
+    let P : Holding → Type 0 = λ h. IsTagged c.args.i c.args.edit.now h.kept c.set_tag-edited.new.self (g.F.Files.seen c.args.files.now) (g.F.Files.seen c.set_tag-edited.new.files) c.set_tag-edited.new.buf in
+    did_tag c.args.i c.args.edit.now c.args.machine.now.kept c.set_tag-edited.new.self (g.F.Files.seen c.args.files.now) (g.F.Files.seen c.set_tag-edited.new.files) c.set_tag-edited.new.buf _
+    (c.in_ok-game_line-in-Ok.ensures ∙ ap (game_line (codes "tagged ")) c.from.ensures) (subst P c.machine.view_is c.in-Ok.ensures.edited)
+
+pub returns-in-Err-clause-tagged : goal.returns-in-Err-clause-tagged
+returns-in-Err-clause-tagged g c =
+    let P : Holding → Type 0 = λ h. c.set_tag-edited.new.self ≡ h.kept in
+    if_ok _ _ c.refused_line.result
+    (λ line ends. refused_tag c.args.i c.args.edit.now c.args.machine.now.kept c.set_tag-edited.new.self (g.F.Files.seen c.args.files.now) (g.F.Files.seen c.set_tag-edited.new.files) c.in-Err.error line.items ends
+    (subst P c.machine.view_is c.in-Err.ensures.unchanged))
+    c.refused_line.ensures.line

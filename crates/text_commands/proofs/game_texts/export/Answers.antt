@@ -1,7 +1,8 @@
-use Rattle.std.proofs.Common.{arith, List, ℕ, Option, sym, subst}
+use Rattle.std.proofs.Common.{arith, ◌≤◌, OnOk, List, ℕ, Option, sym, subst}
+use Rattle.base_files.specs.Counters.{raised}
 use Rattle.base_files.specs.Seen.{Seen}
 use Rattle.shell_state.proofs.Quietly.{filter_is, held_by, tables_with}
-use Rattle.shell_state.specs.Stands.{Holding, Stands, Asks}
+use Rattle.shell_state.specs.Stands.{Holding, Stands, Asks, AsksAll}
 use Rattle.text_commands.proofs.GameTextLaws.{export_breaks, export_serves, exported_price}
 use Rattle.text_commands.proofs.game_texts.export.Goals as goal
 use Rattle.text_commands.specs.Cuts.{GamesEnd}
@@ -29,3 +30,12 @@ returns-clause-asks g c =
     let here : Holding = held_by c.machine.inside.base (tables_with c.machine.inside.index c.machine.inside.slots.watches) c.machine.inside.seat.filter c.machine.inside.seat.saved.items in
     let P : Holding → Type 0 = λ h. Asks h export_work (g.F.Files.asked c.args.files.now) (g.F.Files.asked c.write_games.new.files) in
     subst P c.machine.view_is (omega (arith, c.write_games.ensures.asks, exported_price c.machine.inside.seat.filter here))
+
+pub returns-clause-asked : goal.returns-clause-asked
+returns-clause-asked g c =
+    let here : Holding = held_by c.machine.inside.base (tables_with c.machine.inside.index c.machine.inside.slots.watches) c.machine.inside.seat.filter c.machine.inside.seat.saved.items in
+    let first = g.F.Files.asked c.args.files.now in
+    let new = g.F.Files.asked c.write_games.new.files in
+    let P : Holding → Type 0 = λ h. OnOk c.write_games.result (AsksAll h export_work first new) in
+    subst P c.machine.view_is
+    (subst (λ (n : ℕ). OnOk c.write_games.result (raised first n ≤ new)) (exported_price c.machine.inside.seat.filter here) c.write_games.ensures.asked)

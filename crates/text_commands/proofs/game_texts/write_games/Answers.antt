@@ -1,8 +1,9 @@
 use Rattle.std.proofs.Common.{◌<◌, ◌≤◌, length, arith, ap, ◌∙◌}
 use Rattle.base_core.proofs.Lists.{get_some}
 use Rattle.base_files.specs.Seen.{Seen}
-use Rattle.text_commands.proofs.GameTextLaws.{export_all, export_cut, export_more, filtered-more}
+use Rattle.text_commands.proofs.GameTextLaws.{export_all, none_left, rest_more, export_cut, export_more, filtered-more}
 use Rattle.text_commands.proofs.game_texts.write_games.Goals as goal
+use Rattle.text_commands.specs.GameTexts.{exported_len}
 
 pub returns-in-Err-clause-written : goal.returns-in-Err-clause-written
 returns-in-Err-clause-written g c = λ told all same is.
@@ -29,6 +30,8 @@ loop-i-preserved g c =
       room = c.write_if_in.ensures.room;
       seen = c.write_if_in.ensures.unchanged ∙ c.loop-i.invariant.seen;
       asks = omega (arith, c.write_if_in.ensures.asks, c.loop-i.invariant.asks, filtered-more c.loop-i.i c.args.filter.now c.args.base.now.entries c.get.result here c.get.ensures.entry);
+      asked = rest_more (g.F.Files.asked c.args.files.now) (g.F.Files.asked c.loop-i.files) (g.F.Files.asked c.write_if_in.new.files) (exported_len c.args.filter.now c.args.base.now.entries) _ _ _
+          c.loop-i.invariant.asked c.in-Ok.ensures.asked (filtered-more c.loop-i.i c.args.filter.now c.args.base.now.entries c.get.result here c.get.ensures.entry);
       files = omega (arith, c.write_if_in.ensures.causes.none_fell.files, c.loop-i.invariant.files);
       output = omega (arith, c.write_if_in.ensures.causes.none_fell.output, c.loop-i.invariant.output);
     }
@@ -38,3 +41,8 @@ returns-clause-written g c = λ told all same is.
     let done : length c.args.filter.now ≤ c.loop-i.i = omega (arith, c.loop-i-test.false, c.len-i-end.ensures.len) in
     export_all c.loop-i.i c.args.filter.now all.games (g.K.Sink.taken c.args.out.now) (g.K.Sink.taken c.loop-i.out) done (omega (arith, done, c.requires.games, is.count))
     (c.loop-i.invariant.written told all same is)
+
+pub returns-clause-asked : goal.returns-clause-asked
+returns-clause-asked g c =
+    let done : length c.args.filter.now ≤ c.loop-i.i = omega (arith, c.loop-i-test.false, c.len-i-end.ensures.len) in
+    none_left (g.F.Files.asked c.args.files.now) (g.F.Files.asked c.loop-i.files) c.loop-i.i c.args.filter.now c.args.base.now.entries done c.loop-i.invariant.asked

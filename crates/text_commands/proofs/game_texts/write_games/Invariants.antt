@@ -1,12 +1,13 @@
 use Rattle.std.proofs.Common.{◌≡◌, ◌≤◌, ◌+◌, ℕ, List, Some, drop, length}
 use Rattle.base_core.specs.Base.{Base}
 use Rattle.base_core.specs.Represents.{Represents}
+use Rattle.base_files.specs.Counters.{raised}
 use Rattle.base_files.specs.Told.{adds}
 use Rattle.command_runs.specs.Endings.{NoneLost}
 use Rattle.text_commands.proofs.game_texts.write_games.Given as goal
 use Rattle.text_commands.specs.GameTexts.{exported_first, exported_len}
 
--- The games before this one are written, and no more than their records was asked.
+-- The games before this one are written, and their records were asked, no more and no less.
 abbrev pub invariant-loop-i : goal.invariant-loop-i
 invariant-loop-i g l = record {
   written : (told : List ℕ) (all : Base) → (g.F.Files.seen l.fn.files).games ≡ Some told → Represents l.base told all
@@ -15,6 +16,7 @@ invariant-loop-i g l = record {
   room : length l.block ≡ 131072;
   seen : g.F.Files.seen l.files ≡ g.F.Files.seen l.fn.files;
   asks : g.F.Files.asked l.files + exported_len (drop l.i l.filter) (drop l.i l.base.entries) ≤ g.F.Files.asked l.fn.files + exported_len l.filter l.base.entries;
+  asked : raised (g.F.Files.asked l.fn.files) (exported_len l.filter l.base.entries) ≤ raised (g.F.Files.asked l.files) (exported_len (drop l.i l.filter) (drop l.i l.base.entries));
   files : g.F.Files.faults l.fn.files ≤ g.F.Files.faults l.files;
   output : g.K.Sink.faults l.fn.out ≤ g.K.Sink.faults l.out;
 }
