@@ -7,11 +7,11 @@ use Rattle.base_core.proofs.Lists.{get_some}
 use Rattle.base_core.specs.Base.{Held, Base}
 use Rattle.base_core.specs.GameAt.{IsGameAt}
 use Rattle.base_core.specs.Represents.{Kept, Represents}
-use Rattle.base_files.proofs.Telling.{adds-nil}
+use Rattle.base_files.proofs.Telling.{adds-append, adds-nil}
 use Rattle.base_files.specs.Seen.{Seen}
 use Rattle.base_files.specs.Told.{adds}
 use Rattle.base_files.specs.declared.faults.Stop.TheVariants as stop
-use Rattle.command_runs.proofs.Joining.{halted_none, written_after, halted_after, halted_more, halted_unsure}
+use Rattle.command_runs.proofs.Joining.{halted_all, halted_none, written_after, halted_after, halted_more, halted_unsure}
 use Rattle.command_runs.specs.Endings.{Halted, Serves}
 use Rattle.game_tree.specs.Game.{GameTree}
 use Rattle.game_tree.specs.declared.head.Head.{Head}
@@ -154,3 +154,21 @@ pub no_game_serves : {A : Type 0} (r : Result A Halt) (holding : Holding) (seen 
 no_game_serves r holding seen s number line told told' st past is written halted output =
     let text : line ≡ show_text s number = is ∙ ap (shown number) (sym (slice_get_past s.shared.base.games number (omega (arith, past, st.base.count)))) in
     line_serves r holding (show_work number) line seen s told told' st text written halted output
+
+-- It was put behind what waits.
+pub text_waits : {A : Type 0} (r : Result A Halt) (text : List ℕ) (bytes : List ℕ) (told told' : Option (List ℕ)) (whole waits : List ℕ) → whole ≡ bytes ++ text → adds told' waits ≡ adds told whole → IfErr r IsOutput
+    → GameEnds r text (adds told bytes) (adds told' waits)
+text_waits (Ok x) text bytes told told' whole waits put kept output = kept ∙ ap (adds told) put ∙ adds-append told bytes text
+text_waits (Err e) text bytes told told' whole waits put kept output =
+    let all : adds told' waits ≡ adds (adds told bytes) text = kept ∙ ap (adds told) put ∙ adds-append told bytes text in
+    record {
+      wrote = halted_unsure text text (adds told bytes) (adds told' waits) (halted_all text (adds told bytes) (adds told' waits) all);
+      whole = λ is. absurd (no_files e output is);
+      fault = fault_of_output e output;
+    }
+
+-- It was not, and what waits is as before.
+pub text_unread : (e : Halt) (text : List ℕ) (told : Option (List ℕ)) (bytes bytes' : List ℕ) → IsDevice e → bytes' ≡ bytes → GameCut e text (adds told bytes) (adds told bytes')
+text_unread e text told bytes bytes' device same =
+    let P : List ℕ → Type 0 = λ l. GameCut e text (adds told bytes) (adds told l) in
+    subst P (sym same) (game_unread e text (adds told bytes) device)

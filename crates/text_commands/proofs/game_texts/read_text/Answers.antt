@@ -1,14 +1,6 @@
-use Rattle.shell_state.proofs.PassingLaws.{asked_at}
-use Rattle.text_commands.proofs.GameTextLaws.{text_read}
+use Rattle.std.proofs.Common.{List, ℕ, ◌++◌, ap, ◌∙◌}
 use Rattle.text_commands.proofs.game_texts.read_text.Goals as goal
+use Rattle.text_commands.specs.GameTexts.{game_text}
 
-pub returns-in-Ok-text_of-clause-text : goal.returns-in-Ok-text_of-clause-text
-returns-in-Ok-text_of-clause-text g c = λ told all held same is at.
-    text_read (g.F.Files.seen c.args.files.now).games told c.args.base.now all held c.args.i c.in-Ok.read.0 c.in-Ok.read.1 c.in-Ok-text_of.text.items same is at c.in-Ok.ensures.found
-    c.in-Ok-text_of.ensures.text
-
-pub returns-in-Ok-text_of-clause-asks : goal.returns-in-Ok-text_of-clause-asks
-returns-in-Ok-text_of-clause-asks g c = asked_at c.args.base.now.entries c.args.i (g.F.Files.asked c.args.files.now) (g.F.Files.asked c.game.new.files) c.requires.there c.game.ensures.asks
-
-pub returns-clause-asks : goal.returns-clause-asks
-returns-clause-asks g c = asked_at c.args.base.now.entries c.args.i (g.F.Files.asked c.args.files.now) (g.F.Files.asked c.game.new.files) c.requires.there c.game.ensures.asks
+pub returns-in-Ok-clause-text : goal.returns-in-Ok-clause-text
+returns-in-Ok-clause-text g c = λ told all held same is at. c.in-Ok.ensures.text told all held same is at ∙ ap (λ (l : List ℕ). l ++ game_text held) c.new-text.ensures.items
