@@ -426,6 +426,19 @@ def files_are_handed_on_in_order(folder):
     assert order == wanted, order
 
 
+def an_export_takes_few_calls(folder):
+    """A thousand games are written as text with no more than 120 calls of the system in all."""
+    base = make_base(folder)
+    games = (TOP / "samples/classics.pgn").read_text() * 250
+    status, _, errors = run(base, f"import <<END\n{games}END\nsave\n")
+    assert (status, errors) == (0, ""), (status, errors)
+    calls, status, output, errors = traced(base, "export\n")
+    assert (status, errors) == (0, ""), (status, errors)
+    assert output.count("\n[Event ") == 1004
+    assert len(calls) <= 120, len(calls)
+    return f"{len(calls)} calls"
+
+
 def a_broken_off_run_that_was_not_alone(folder):
     """An index that was set aside beside files that no run leaves so: it is said how to go on, and nothing is touched, with `--create` too."""
     base = make_base(folder)
@@ -482,6 +495,7 @@ def main():
     if shutil.which("strace"):
         shows += [
             (files_are_handed_on_in_order,),
+            (an_export_takes_few_calls,),
             (a_new_file_that_grows_takes_no_place,),
             (an_error_at_each_call, "save", "saved", ["tag 0 White C"]),
             (an_error_at_each_call, "compact", "compacted", ["delete 1", "tag 0 White C"]),
@@ -489,7 +503,7 @@ def main():
             (an_end_at_each_call, "compact", "compacted", ["delete 1", "tag 0 White C"]),
         ]
     else:
-        print("cases/real_files.py: strace is not there: the order of what is handed on, and an end at each call, are not tried")
+        print("cases/real_files.py: strace is not there: the order of what is handed on, the number of calls, and an end at each call, are not tried")
     if shutil.which("rt"):
         shows.append((the_launcher_of_a_fresh_clone,))
     else:

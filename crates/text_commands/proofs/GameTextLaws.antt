@@ -7,12 +7,12 @@ use Rattle.base_core.proofs.Lists.{get_some}
 use Rattle.base_core.specs.Base.{Held, Base}
 use Rattle.base_core.specs.GameAt.{IsGameAt, IsShown}
 use Rattle.base_core.specs.Represents.{Kept, Represents}
-use Rattle.base_files.proofs.Telling.{adds-nil}
+use Rattle.base_files.proofs.Telling.{adds-append, adds-nil}
 use Rattle.base_files.specs.Counters.{raised}
 use Rattle.base_files.specs.Seen.{Seen}
 use Rattle.base_files.specs.Told.{adds}
 use Rattle.base_files.specs.declared.faults.Stop.TheVariants as stop
-use Rattle.command_runs.proofs.Joining.{halted_none, written_after, halted_after, halted_more, halted_unsure}
+use Rattle.command_runs.proofs.Joining.{halted_all, halted_none, written_after, halted_after, halted_more, halted_unsure}
 use Rattle.command_runs.specs.Endings.{Halted, Serves}
 use Rattle.game_tree.specs.Game.{GameTree}
 use Rattle.game_tree.specs.Legal.{IsLegalGame}
@@ -195,3 +195,21 @@ writes_text (Err e) kept i line text told told' same is written = tt
 -- A game that is not there has no record.
 pub none_there : (holding : Holding) (game : ℕ) → length holding.kept.entries ≤ game → len_in (λ (x : Look). x.len) (slice_get (looks_in holding) game) ≡ 0
 none_there holding game past = sym (show_price holding game) ∙ ap (len_in (λ (e : Entry). e.len)) (slice_get_past holding.kept.entries game past)
+
+-- It was put behind what waits.
+pub text_waits : {A : Type 0} (r : Result A Halt) (text : List ℕ) (bytes : List ℕ) (told told' : Option (List ℕ)) (whole waits : List ℕ) → whole ≡ bytes ++ text → adds told' waits ≡ adds told whole → IfErr r IsOutput
+    → GameEnds r text (adds told bytes) (adds told' waits)
+text_waits (Ok x) text bytes told told' whole waits put kept output = kept ∙ ap (adds told) put ∙ adds-append told bytes text
+text_waits (Err e) text bytes told told' whole waits put kept output =
+    let all : adds told' waits ≡ adds (adds told bytes) text = kept ∙ ap (adds told) put ∙ adds-append told bytes text in
+    record {
+      wrote = halted_unsure text text (adds told bytes) (adds told' waits) (halted_all text (adds told bytes) (adds told' waits) all);
+      whole = λ is. absurd (no_files e output is);
+      fault = fault_of_output e output;
+    }
+
+-- It was not, and what waits is as before.
+pub text_unread : (e : Halt) (text : List ℕ) (told : Option (List ℕ)) (bytes bytes' : List ℕ) → IsDevice e → bytes' ≡ bytes → GameCut e text (adds told bytes) (adds told bytes')
+text_unread e text told bytes bytes' device same =
+    let P : List ℕ → Type 0 = λ l. GameCut e text (adds told bytes) (adds told l) in
+    subst P (sym same) (game_unread e text (adds told bytes) device)

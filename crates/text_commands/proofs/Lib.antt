@@ -1,3 +1,4 @@
+pub mod CutLaws
 pub mod GameTextLaws
 pub mod Informing
 pub mod ListingLaws

@@ -1,8 +1,9 @@
-//! The commands that write games in Portable Game Notation, each as soon as its record is read.
-ghost use Rattle.std.specs.Prelude.{◌≡◌, ◌≤◌, ◌<◌, ◌+◌, ℕ, List, Some, Ok, length, slice_get, IfOk, IfErr, OnOk};
+//! The commands that write games in Portable Game Notation. What `export` writes goes out in pages.
+ghost use Rattle.std.specs.Prelude.{◌≡◌, ◌≤◌, ◌<◌, ◌+◌, ◌++◌, ℕ, List, Some, Ok, length, slice_get, IfOk, IfErr, OnOk, OnErr};
 ghost use Rattle.base_core.specs.Base.{Base as PlainBase, Held};
 ghost use Rattle.base_core.specs.Represents.{Represents};
 ghost use Rattle.base_files.specs.Counters.{raised};
+ghost use Rattle.base_files.specs.Told.{adds};
 ghost use Rattle.command_runs.specs.Counts.{Causes, counts};
 ghost use Rattle.command_runs.specs.Endings.{NoneLost, Serves};
 ghost use Rattle.game_tree.specs.Head.{IsBounded};
@@ -24,6 +25,7 @@ use game_tree::{Game, Head};
 use pgn_write::write_game;
 use shell_state::{Halt, Machine, halt_of, no_game_line, write_line};
 use std::alloc::{AllocError, Global};
+use text_pages::{write_full, write_page};
 
 /// show G
 pub fn show<F: Files, K: Sink>(
@@ -123,8 +125,37 @@ fn write_games<F: Files, K: Sink>(
     ensures none_lost { NoneLost (K.taken out.old) (K.taken out.new) }
     ensures causes { Causes WhyHalt result (counts (F.faults files.old) 0 (K.faults out.old)) (counts (F.faults files.new) 0 (K.faults out.new)) }
 {
+    let mut page = Vec::new(alloc);
+    let put = put_games(alloc, base, filter, files, block, &mut page, out);
+    // Where it is broken off too, so that the games before stand whole.
+    match write_page(&mut page, out) {
+        Ok(()) => put,
+        Err(halt) => Err(halt),
+    }
+}
+
+// Puts the games that are in on the page, one after the other. Each record is read into `block`.
+fn put_games<F: Files, K: Sink>(
+    alloc: Global,
+    base: &Base,
+    filter: &Filter,
+    files: &mut F,
+    block: &mut [u8],
+    page: &mut Vec<u8>,
+    out: &mut K,
+) -> Result<(), Halt>
+    requires games { length filter.now ≡ length base.now.entries }
+    requires room { length block.old ≡ 131072 }
+    requires within { base.now.end ≤ (F.seen files.old).known }
+    ensures put { (told : List ℕ) (all : PlainBase) → (F.seen files.old).games ≡ Some told → Represents base.now told all → GamesEnd result filter.now all.games (adds (K.taken out.old) page.old.items) (adds (K.taken out.new) page.new.items) }
+    ensures unchanged { F.seen files.new ≡ F.seen files.old }
+    ensures asks { F.asked files.new ≤ F.asked files.old + exported_len filter.now base.now.entries }
+    ensures asked { OnOk result (raised (F.asked files.old) (exported_len filter.now base.now.entries) ≤ F.asked files.new) }
+    ensures none_lost { NoneLost (K.taken out.old) (K.taken out.new) }
+    ensures causes { Causes WhyHalt result (counts (F.faults files.old) 0 (K.faults out.old)) (counts (F.faults files.new) 0 (K.faults out.new)) }
+{
     for i in 0..filter.len() {
-        match write_if_in(alloc, base, i, filter.get(i), files, block, out) {
+        match put_if_in(alloc, base, i, filter.get(i), files, block, page, out) {
             Ok(()) => {}
             Err(halt) => return Err(halt),
         }
@@ -132,20 +163,21 @@ fn write_games<F: Files, K: Sink>(
     Ok(())
 }
 
-// Writes a game, if it is in.
-fn write_if_in<F: Files, K: Sink>(
+// Puts a game on the page, if it is in.
+fn put_if_in<F: Files, K: Sink>(
     alloc: Global,
     base: &Base,
     i: u32,
     ply: Option<u32>,
     files: &mut F,
     block: &mut [u8],
+    page: &mut Vec<u8>,
     out: &mut K,
 ) -> Result<(), Halt>
     requires there { i < length base.now.entries }
     requires room { length block.old ≡ 131072 }
     requires within { base.now.end ≤ (F.seen files.old).known }
-    ensures written { (told : List ℕ) (all : PlainBase) (held : Held) → (F.seen files.old).games ≡ Some told → Represents base.now told all → slice_get all.games i ≡ Some held → GameEnds result (text_if_in i ply held) (K.taken out.old) (K.taken out.new) }
+    ensures put { (told : List ℕ) (all : PlainBase) (held : Held) → (F.seen files.old).games ≡ Some told → Represents base.now told all → slice_get all.games i ≡ Some held → GameEnds result (text_if_in i ply held) (adds (K.taken out.old) page.old.items) (adds (K.taken out.new) page.new.items) }
     ensures room { length block.new ≡ 131072 }
     ensures unchanged { F.seen files.new ≡ F.seen files.old }
     ensures asks { F.asked files.new ≤ F.asked files.old + len_if_in ply (len_at base.now.entries i) }
@@ -154,8 +186,35 @@ fn write_if_in<F: Files, K: Sink>(
     ensures causes { Causes WhyHalt result (counts (F.faults files.old) 0 (K.faults out.old)) (counts (F.faults files.new) 0 (K.faults out.new)) }
 {
     match ply {
-        Some(_) => write_one(alloc, base, i, files, block, out),
+        Some(_) => put_one(alloc, base, i, files, block, page, out),
         None => Ok(()),
+    }
+}
+
+// Puts a game on the page. Its record is read into `block`.
+fn put_one<F: Files, K: Sink>(
+    alloc: Global,
+    base: &Base,
+    i: u32,
+    files: &mut F,
+    block: &mut [u8],
+    page: &mut Vec<u8>,
+    out: &mut K,
+) -> Result<(), Halt>
+    requires there { i < length base.now.entries }
+    requires room { length block.old ≡ 131072 }
+    requires within { base.now.end ≤ (F.seen files.old).known }
+    ensures put { (told : List ℕ) (all : PlainBase) (held : Held) → (F.seen files.old).games ≡ Some told → Represents base.now told all → slice_get all.games i ≡ Some held → GameEnds result (game_text held) (adds (K.taken out.old) page.old.items) (adds (K.taken out.new) page.new.items) }
+    ensures room { length block.new ≡ 131072 }
+    ensures unchanged { F.seen files.new ≡ F.seen files.old }
+    ensures asks { F.asked files.new ≤ F.asked files.old + len_at base.now.entries i }
+    ensures asked { OnOk result (raised (F.asked files.old) (len_at base.now.entries i) ≤ F.asked files.new) }
+    ensures none_lost { NoneLost (K.taken out.old) (K.taken out.new) }
+    ensures causes { Causes WhyHalt result (counts (F.faults files.old) 0 (K.faults out.old)) (counts (F.faults files.new) 0 (K.faults out.new)) }
+{
+    match read_behind(alloc, base, i, files, block, page) {
+        Ok(()) => write_full(page, out),
+        Err(halt) => Err(halt),
     }
 }
 
@@ -206,23 +265,51 @@ fn read_text<F: Files>(
     ensures shown { IfOk result (λ text. (e : Entry) → slice_get base.now.entries i ≡ Some e → IsTextOf base.now.names e text.items) }
     ensures causes { Causes WhyHalt result (counts (F.faults files.old) 0 0) (counts (F.faults files.new) 0 0) }
 {
+    let mut text = Vec::new(alloc);
+    match read_behind(alloc, base, i, files, block, &mut text) {
+        Ok(()) => Ok(text),
+        Err(halt) => Err(halt),
+    }
+}
+
+// Puts the text of a game behind another text, which stays as it is where that fails. Its record is read into `block`.
+fn read_behind<F: Files>(
+    alloc: Global,
+    base: &Base,
+    i: u32,
+    files: &mut F,
+    block: &mut [u8],
+    text: &mut Vec<u8>,
+) -> Result<(), Halt>
+    requires there { i < length base.now.entries }
+    requires room { length block.old ≡ 131072 }
+    requires within { base.now.end ≤ (F.seen files.old).known }
+    ensures text { (told : List ℕ) (all : PlainBase) (held : Held) → (F.seen files.old).games ≡ Some told → Represents base.now told all → slice_get all.games i ≡ Some held → OnOk result (text.new.items ≡ text.old.items ++ game_text held) }
+    ensures kept { OnErr result (text.new.items ≡ text.old.items) }
+    ensures devices { (told : List ℕ) (all : PlainBase) → (F.seen files.old).games ≡ Some told → Represents base.now told all → IfErr result IsDevice }
+    ensures room { length block.new ≡ 131072 }
+    ensures unchanged { F.seen files.new ≡ F.seen files.old }
+    ensures asks { F.asked files.new ≤ F.asked files.old + len_at base.now.entries i }
+    ensures asked { OnOk result (raised (F.asked files.old) (len_at base.now.entries i) ≤ F.asked files.new) }
+    ensures shown { OnOk result ((e : Entry) → slice_get base.now.entries i ≡ Some e → (added : List ℕ) × ((text.new.items ≡ text.old.items ++ added) × IsTextOf base.now.names e added)) }
+    ensures causes { Causes WhyHalt result (counts (F.faults files.old) 0 0) (counts (F.faults files.new) 0 0) }
+{
     let (head, game) = match base.game(alloc, i, files, block) {
         Ok(read) => read,
         Err(error) => return Err(halt_of(error)),
     };
-    match text_of(alloc, &head, &game) {
-        Ok(text) => Ok(text),
+    match put_behind(alloc, &head, &game, text) {
+        Ok(()) => Ok(()),
         Err(AllocError) => Err(Halt::Device(Stop::Memory)),
     }
 }
 
-// The text of a game with this head.
-fn text_of(alloc: Global, head: &Head, game: &Game) -> Result<Vec<u8>, AllocError>
+// Puts the text of a game with this head behind another text, which stays as it is where that fails.
+fn put_behind(alloc: Global, head: &Head, game: &Game, text: &mut Vec<u8>) -> Result<(), AllocError>
     requires legal { IsLegalGame game.now }
     requires bounded { IsBounded head.now }
-    ensures text { IfOk result (λ text. text.items ≡ pgn_of head.now game.now) }
+    ensures text { OnOk result (text.new.items ≡ text.old.items ++ pgn_of head.now game.now) }
+    ensures kept { OnErr result (text.new.items ≡ text.old.items) }
 {
-    let mut text = Vec::new(alloc);
-    write_game(alloc, head.fields(), head.tags.as_slice(), game, &mut text)?;
-    Ok(text)
+    write_game(alloc, head.fields(), head.tags.as_slice(), game, text)
 }
