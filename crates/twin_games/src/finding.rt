@@ -1,5 +1,6 @@
 //! The twins of a base.
 ghost use Rattle.std.specs.Prelude.{◌≡◌, ◌+◌, ◌<◌, ◌≤◌, ℕ, if◌then◌else◌, All, AllPairs, List, [], ◌∷◌, ◌++◌, Some, length, IfOk, IfErr, OnOk};
+ghost use Rattle.base_files.specs.Counters.{raised};
 ghost use Rattle.game_tree.specs.Game.{GameTree};
 ghost use Rattle.sig_index.specs.Games.{AreWithin, Holds};
 ghost use Rattle.twin_games.specs.Asking.{price};
@@ -33,6 +34,7 @@ pub fn twins<G: Games, F: Files>(
     ensures there { IfOk result (λ twins. All (λ i. i < length (G.sigs games.now)) twins.items) }
     ensures unchanged { F.seen files.new ≡ F.seen files.old }
     ensures asks { F.asked files.new ≤ F.asked files.old + price (G.heads games.now) (G.extents games.now) }
+    ensures asked { OnOk result (raised (F.asked files.old) (price (G.heads games.now) (G.extents games.now)) ≤ F.asked files.new) }
     ensures counts { F.faults files.old ≤ F.faults files.new }
     ensures cause { IfErr result (λ e. HasTwinCause e (G.sigs games.now) (G.extents games.now) (F.seen files.old).games buf.new (F.faults files.old) (F.faults files.new)) }
 {

@@ -1,5 +1,6 @@
 //! One game after the other, and whether one like it was met before.
 ghost use Rattle.std.specs.Prelude.{◌≡◌, ◌+◌, ◌<◌, ◌≤◌, ℕ, if◌then◌else◌, List, Some, length, slice_get, IfOk, IfErr, OnOk};
+ghost use Rattle.base_files.specs.Counters.{raised};
 ghost use Rattle.game_tree.specs.Game.{GameTree};
 ghost use Rattle.sig_index.specs.Games.{AreWithin, Holds, extent_in};
 ghost use Rattle.twin_games.specs.Asking.{is_shared};
@@ -46,6 +47,7 @@ pub(crate) fn meet<'a, G: Games, F: Files>(
         → HasMet (G.heads games.now) list depth i met.old → OnOk result (HasMet (G.heads games.now) list depth (i + 1) met.new) }
     ensures unchanged { F.seen files.new ≡ F.seen files.old }
     ensures asks { F.asked files.new ≤ F.asked files.old + (if is_shared (G.heads games.now) i then (extent_in (G.extents games.now) i).len else 0) }
+    ensures asked { OnOk result (raised (F.asked files.old) (if is_shared (G.heads games.now) i then (extent_in (G.extents games.now) i).len else 0) ≤ F.asked files.new) }
     ensures counts { F.faults files.old ≤ F.faults files.new }
     ensures cause { IfErr result (λ e. HasTwinCause e (G.sigs games.now) (G.extents games.now) (F.seen files.old).games buf.new (F.faults files.old) (F.faults files.new)) }
 {
@@ -76,6 +78,7 @@ fn read_opening<G: Games, F: Files>(
     ensures opening { (told : List ℕ) (list : List GameTree) (game : GameTree) → (F.seen files.old).games ≡ Some told → Holds told (G.extents games.now) (G.sigs games.now) list → slice_get list i ≡ Some game → IfOk result (λ opening. IsOpening depth opening game) }
     ensures unchanged { F.seen files.new ≡ F.seen files.old }
     ensures asks { F.asked files.new ≤ F.asked files.old + (extent_in (G.extents games.now) i).len }
+    ensures asked { OnOk result (raised (F.asked files.old) (extent_in (G.extents games.now) i).len ≤ F.asked files.new) }
     ensures counts { F.faults files.old ≤ F.faults files.new }
     ensures cause { IfErr result (λ e. HasTwinCause e (G.sigs games.now) (G.extents games.now) (F.seen files.old).games buf.new (F.faults files.old) (F.faults files.new)) }
 {

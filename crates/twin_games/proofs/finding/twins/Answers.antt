@@ -1,6 +1,9 @@
-use Rattle.std.proofs.Common.{◌≡◌, ℕ, ◌+◌, filter, length, refl, ap, ◌∙◌, arith}
+use Rattle.std.proofs.Common.{◌≡◌, ◌≤◌, ℕ, ◌+◌, filter, length, refl, sym, ap, ◌∙◌, subst, arith}
 use Rattle.std.specs.List.{range_with_len}
+use Rattle.base_files.proofs.Rising.{raised-more, raised-none}
+use Rattle.base_files.specs.Counters.{raised}
 use Rattle.base_files.specs.Seen.{Seen}
+use Rattle.twin_games.specs.Asking.{price_below}
 use Rattle.twin_games.specs.Twins.{is_twin}
 use Rattle.twin_games.proofs.ListLemmas.{listed_more, rises_more, rises_none}
 use Rattle.twin_games.proofs.MeetLemmas.{none_met, price_with, price_within}
@@ -12,6 +15,7 @@ loop-i-init g c = record {
   rises = rises_none c.new-twins.result.items c.new-twins.ensures.items;
   unchanged = refl;
   asks = omega arith;
+  asked = raised-none (g.F.Files.asked c.args.files.now);
   counts = omega arith;
 }
 
@@ -31,6 +35,8 @@ loop-i-preserved g c =
       rises = rises_more c.loop-i.twins.items c.list_if.new.twins.items i c.in-Ok.twin c.in_ok-list_if.ensures c.loop-i.invariant.rises;
       unchanged = c.meet.ensures.unchanged ∙ c.loop-i.invariant.unchanged;
       asks = omega (arith, c.meet.ensures.asks, c.loop-i.invariant.asks, price_with heads extents i);
+      asked = subst (λ (n : ℕ). raised (g.F.Files.asked c.args.files.now) n ≤ g.F.Files.asked c.meet.new.files) (sym (price_with heads extents i))
+          (raised-more (g.F.Files.asked c.args.files.now) (g.F.Files.asked c.loop-i.files) (g.F.Files.asked c.meet.new.files) (price_below heads extents i) _ c.loop-i.invariant.asked c.in-Ok.ensures.asked);
       counts = omega (arith, c.loop-i.invariant.counts, c.meet.ensures.counts);
     }
 
@@ -68,3 +74,10 @@ returns-clause-asks g c =
     let heads = g.G.Games.heads c.args.games.now in
     let extents = g.G.Games.extents c.args.games.now in
     omega (arith, c.loop-i.invariant.asks, price_within heads extents c.loop-i.i (omega (arith, c.len-i-end.ensures.one_head_each, c.loop-i.auto.i-end)))
+
+pub returns-clause-asked : goal.returns-clause-asked
+returns-clause-asked g c =
+    let heads = g.G.Games.heads c.args.games.now in
+    let extents = g.G.Games.extents c.args.games.now in
+    let all : c.loop-i.i ≡ length heads = omega (arith, c.len-i-end.ensures.one_head_each, c.loop-i-test.false, c.loop-i.auto.i-end) in
+    subst (λ (n : ℕ). raised (g.F.Files.asked c.args.files.now) (price_below heads extents n) ≤ g.F.Files.asked c.loop-i.files) all c.loop-i.invariant.asked

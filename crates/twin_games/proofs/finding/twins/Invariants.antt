@@ -1,5 +1,6 @@
 use Rattle.std.proofs.Common.{◌≡◌, ◌≤◌, ℕ, ◌+◌, List, Some, filter}
 use Rattle.std.specs.List.{range_with_len}
+use Rattle.base_files.specs.Counters.{raised}
 use Rattle.game_tree.specs.Game.{GameTree}
 use Rattle.sig_index.specs.Games.{Holds}
 use Rattle.twin_games.specs.Asking.{price_below}
@@ -8,7 +9,7 @@ use Rattle.twin_games.specs.Twins.{is_twin}
 use Rattle.twin_games.proofs.ListLemmas.{Rises}
 use Rattle.twin_games.proofs.finding.twins.Given as goal
 
--- The twins among the games before this one were listed, and the records of the shared ones among them were asked for.
+-- The twins among the games before this one were listed, and the records of the shared ones among them were asked for, and no others.
 abbrev pub invariant-loop-i : goal.invariant-loop-i
 invariant-loop-i g l = record {
   done : (told : List ℕ) (list : List GameTree) → (g.F.Files.seen l.fn.files).games ≡ Some told
@@ -18,5 +19,6 @@ invariant-loop-i g l = record {
   rises : Rises l.twins.items l.i;
   unchanged : g.F.Files.seen l.files ≡ g.F.Files.seen l.fn.files;
   asks : g.F.Files.asked l.files ≤ g.F.Files.asked l.fn.files + price_below (g.G.Games.heads l.games) (g.G.Games.extents l.games) l.i;
+  asked : raised (g.F.Files.asked l.fn.files) (price_below (g.G.Games.heads l.games) (g.G.Games.extents l.games) l.i) ≤ g.F.Files.asked l.files;
   counts : g.F.Files.faults l.fn.files ≤ g.F.Files.faults l.files;
 }
