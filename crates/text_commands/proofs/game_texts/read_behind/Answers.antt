@@ -15,9 +15,9 @@ returns-in-Ok-put_behind-clause-asked g c = least_at c.args.base.now.entries c.a
 
 pub returns-in-Ok-put_behind-clause-shown : goal.returns-in-Ok-put_behind-clause-shown
 returns-in-Ok-put_behind-clause-shown g c = λ e at. (
-      pgn_of c.in-Ok.read.0 c.in-Ok.read.1,
-      (
-        c.in-Ok-put_behind.ensures.text,
-        is_text_of c.args.base.now c.args.i c.game.new.buf c.in-Ok.read.0 c.in-Ok.read.1 e (pgn_of c.in-Ok.read.0 c.in-Ok.read.1) at c.in-Ok.ensures.shown c.in-Ok.ensures.legal refl,
-      ),
-    )
+  pgn_of c.in-Ok.read.0 c.in-Ok.read.1,
+  (
+    c.in-Ok-put_behind.ensures.text,
+    is_text_of c.args.base.now c.args.i c.game.new.buf c.in-Ok.read.0 c.in-Ok.read.1 e (pgn_of c.in-Ok.read.0 c.in-Ok.read.1) at c.in-Ok.ensures.shown c.in-Ok.ensures.legal refl,
+  ),
+)
