@@ -1,11 +1,19 @@
--- The bits that a loop sets one after another.
-use Rattle.std.proofs.Common.{pow_pos, ◌≡◌, ℕ, ◌+◌, ◌*◌, ◌%◌, ◌^◌, ◌<◌, ◌≤◌, Bool, true, false, cond, ◌↔◌, ◌≢◌, IsTrue, IsBitSet, w16, refl, ◌∙◌, ap, arith, inl, inr}
-use Rattle.std.specs.Int.{bit_at}
+-- The pawns at home as bits.
+use Rattle.std.proofs.Common.{pow_pos, ◌≡◌, ℕ, zero, suc, ◌+◌, ◌-◌, ◌*◌, ◌/◌, ◌%◌, ◌^◌, ◌<◌, ◌≤◌, ltb, Bool, true, false, cond, ◌↔◌, ◌≢◌, IsTrue, IsBitSet, w16, refl, sym, ◌∙◌, ap, arith, inl, inr}
+use Rattle.std.specs.Int.{bit_at, reverse_bits, reverse_bits_onto}
 use Rattle.std.specs.Int.RustNames.{bit_or}
 use lib.Bits.{bit_and}
 use mir.Val.{bits}
-use Rattle.std.proofs.lemmas.Nat.Bits.{bit_at_set_same, bit_at_set_other, and_pow}
-use Rattle.std.proofs.lemmas.Bool.{cases_eq, false≢true}
+use Rattle.std.proofs.lemmas.Nat.{shr-shr}
+use Rattle.std.proofs.lemmas.Nat.Bits.{and_pow, bit_at-lt, bit_at-suc, bit_at_and, bit_at_lowest, bit_at_mask_below, bit_at_mask_inside, bit_at_ones, bit_at_ones_above, bit_at_or, bit_at_set_same, bit_at_set_other}
+use Rattle.std.proofs.lemmas.Bool.{cases_eq, cases_lt, false≢true, lt-ltb, le-ltb}
+use Rattle.cell_core.specs.declared.man.Colour.TheVariants.{White, Black}
+use Rattle.cell_core.specs.declared.man.Kind.TheVariants.{Pawn}
+use Rattle.cell_core.specs.Board.{Men, man_at}
+use Rattle.cell_core.specs.Man.{is_man}
+use Rattle.cell_core.specs.Sets.{set_of}
+use Rattle.cell_core.proofs.Squares.{bit-set_of}
+use Rattle.chess_laws.specs.Counts.{is_home}
 
 -- bit v is set for each v below k that passes the test, and no bit from k on
 pub record Bits (test : ℕ → Bool) (n k : ℕ) : Type 0 where
@@ -39,3 +47,81 @@ bits_no test n k less fails b =
 pub bit-set : (n v : ℕ) (b : Bool) → bit_at n v ≡ cond b 1 0 → IsBitSet n v ↔ IsTrue b
 bit-set n v true h = ((λ e. refl), (λ t zero. let e : bit_and n (2 ^ v) ≡ 1 * 2 ^ v = and_pow n v ∙ ap (λ x. x * 2 ^ v) h in let positive = pow_pos v in absurd (omega arith)))
 bit-set n v false h = let z : bit_and n (2 ^ v) ≡ 0 * 2 ^ v = and_pow n v ∙ ap (λ x. x * 2 ^ v) h in let none : bit_and n (2 ^ v) ≡ 0 = omega arith in ((λ e. absurd (e none)), (λ t. absurd (false≢true t)))
+
+-- ---- both rows of pawns, last bit first
+
+onto-above : (k n a j : ℕ) → bit_at (reverse_bits_onto k n a) (k + j) ≡ bit_at a j
+unfolding reverse_bits_onto
+onto-above zero n a j = ap (bit_at a) (omega arith)
+onto-above (suc k) n a j =
+    let next : suc k + j ≡ k + suc j = omega arith in
+    let half : (a * 2 + n % 2) / 2 ≡ a = omega arith in
+    ap (bit_at (reverse_bits_onto k (n / 2) (a * 2 + n % 2))) next ∙ onto-above k (n / 2) (a * 2 + n % 2) (suc j)
+    ∙ bit_at-suc (a * 2 + n % 2) j ∙ ap (λ m. bit_at m j) half
+
+onto-below : (k n a i : ℕ) → i < k → bit_at (reverse_bits_onto k n a) i ≡ bit_at n (k - 1 - i)
+unfolding reverse_bits_onto
+onto-below zero n a i less = absurd (omega (arith, less))
+onto-below (suc k) n a i less = elim (cases_lt i k) [
+  | inl before ↦
+      let place : suc (k - 1 - i) ≡ suc k - 1 - i = omega (arith, before) in
+      onto-below k (n / 2) (a * 2 + n % 2) i before ∙ sym (bit_at-suc n (k - 1 - i)) ∙ ap (bit_at n) place
+  | inr last ↦
+      let here : i ≡ k + 0 = omega (arith, less, last) in
+      let first : suc k - 1 - i ≡ 0 = omega (arith, less, last) in
+      let lowest : (a * 2 + n % 2) % 2 ≡ n % 2 = omega arith in
+      ap (bit_at (reverse_bits_onto k (n / 2) (a * 2 + n % 2))) here ∙ onto-above k (n / 2) (a * 2 + n % 2) 0
+      ∙ bit_at_lowest (a * 2 + n % 2) ∙ lowest ∙ sym (bit_at_lowest n) ∙ ap (bit_at n) (sym first)
+]
+
+-- The bits of both rows of squares.
+abbrev pub rows : ℕ → ℕ → ℕ
+rows black white = bit_or (bit_and (black / 2 ^ 40) 65280) (bit_and (white / 2 ^ 8) 255)
+
+row-above : (black white j : ℕ) → 8 ≤ j → j < 16 → bit_at (rows black white) j ≡ bit_at black (40 + j)
+row-above black white j from below =
+    let inside : bit_at 65280 j ≡ 1 = bit_at_mask_inside 8 16 j from below in
+    let outside : bit_at 255 j ≡ 0 = bit_at_ones_above 8 j from in
+    let there : bit_at (black / 2 ^ 40) j ≡ bit_at black (40 + j) = rw (shr-shr black 40 j) refl in
+    omega (
+      arith,
+      bit_at_or (bit_and (black / 2 ^ 40) 65280) (bit_and (white / 2 ^ 8) 255) j,
+      bit_at_and (black / 2 ^ 40) 65280 j,
+      bit_at_and (white / 2 ^ 8) 255 j,
+      inside,
+      outside,
+      there,
+      bit_at-lt (black / 2 ^ 40) j,
+    )
+
+row-below : (black white j : ℕ) → j < 8 → bit_at (rows black white) j ≡ bit_at white (8 + j)
+row-below black white j below =
+    let outside : bit_at 65280 j ≡ 0 = bit_at_mask_below 8 16 j below in
+    let inside : bit_at 255 j ≡ 1 = bit_at_ones 8 j below in
+    let there : bit_at (white / 2 ^ 8) j ≡ bit_at white (8 + j) = rw (shr-shr white 8 j) refl in
+    omega (
+      arith,
+      bit_at_or (bit_and (black / 2 ^ 40) 65280) (bit_and (white / 2 ^ 8) 255) j,
+      bit_at_and (black / 2 ^ 40) 65280 j,
+      bit_at_and (white / 2 ^ 8) 255 j,
+      inside,
+      outside,
+      there,
+      bit_at-lt (white / 2 ^ 8) j,
+    )
+
+pub home-bit : (men : Men) (black white v : ℕ) → black ≡ set_of (is_man Black Pawn) men → white ≡ set_of (is_man White Pawn) men → v < 16
+    → bit_at (reverse_bits w16 (rows black white)) v ≡ cond (is_home men v) 1 0
+home-bit men black white v black_is white_is less =
+    onto-below 16 (rows black white) 0 v less ∙ elim (cases_lt v 8) [
+      | inl low ↦
+          let place : 40 + (16 - 1 - v) ≡ 55 - v = omega (arith, low) in
+          let home : is_home men v ≡ is_man Black Pawn (man_at men (55 - v)) = rw (lt-ltb v 8 low) refl in
+          row-above black white (16 - 1 - v) (omega (arith, low)) (omega arith)
+          ∙ (λ j. bit_at (black_is j) (place j)) ∙ bit-set_of (is_man Black Pawn) refl men (55 - v) ∙ ap (λ (t : Bool). cond t 1 0) (sym home)
+      | inr high ↦
+          let place : 8 + (16 - 1 - v) ≡ 23 - v = omega (arith, high, less) in
+          let home : is_home men v ≡ is_man White Pawn (man_at men (23 - v)) = rw (le-ltb v 8 high) refl in
+          row-below black white (16 - 1 - v) (omega (arith, high))
+          ∙ (λ j. bit_at (white_is j) (place j)) ∙ bit-set_of (is_man White Pawn) refl men (23 - v) ∙ ap (λ (t : Bool). cond t 1 0) (sym home)
+    ]

@@ -69,24 +69,8 @@ pub fn number(board: &Board, colour: Colour, kind: Kind) -> u8
 pub fn home_set(board: &Board) -> u16
     ensures { (v : ℕ) → v < 16 → (IsBitSet result v ↔ IsTrue (is_home board.now v)) }
 {
-    let mut set: u16 = 0;
-    for value in 0..16u8 {
-        if stands_at_home(board, value) {
-            set |= 1 << value;
-        }
-    }
-    set
-}
-
-/// Whether the pawn with this home value stands on its own square.
-fn stands_at_home(board: &Board, value: u8) -> bool
-    requires { value < 16 }
-    ensures { result ≡ is_home board.now value }
-{
-    let (colour, square) = if value < 8 {
-        (Colour::Black, Square::at(55 - value))
-    } else {
-        (Colour::White, Square::at(23 - value))
-    };
-    holds(&board.at(square), colour, Kind::Pawn)
+    let black = board.of_man(Colour::Black, Kind::Pawn) >> 40 & 0xff00;
+    let white = board.of_man(Colour::White, Kind::Pawn) >> 8 & 0xff;
+    // The values rise from h7 to a7 and from h2 to a2, against the squares.
+    (black as u16 | white as u16).reverse_bits()
 }

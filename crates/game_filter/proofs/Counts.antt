@@ -1,6 +1,6 @@
 -- How many games are in, after each change of a filter.
-use Rattle.std.proofs.Common.{◌≡◌, ℕ, ◌+◌, ◌-◌, ◌<◌, ◌≤◌, List, [], ◌∷◌, Option, Some, None, cond, is_some, length, get_or, set, take, refl, arith, ap, ◌∙◌}
-use Rattle.std.proofs.lemmas.List.{length-set, take_more_set}
+use Rattle.std.proofs.Common.{◌≡◌, ℕ, ◌+◌, ◌-◌, ◌<◌, ◌≤◌, List, [], ◌∷◌, Option, Some, None, cond, is_some, length, get_or, set, take, refl, sym, arith, ap, ◌∙◌}
+use Rattle.std.proofs.lemmas.List.{length-set, set-get_or, take_more_set}
 use Rattle.std.proofs.lemmas.List.Folds.{sum_by-replicate}
 use Rattle.std.proofs.lemmas.List.Sums.{count_by-le-length, sum_by-cons, sum_by-set, sum_by_push}
 use Rattle.game_filter.specs.Filter.{count_in, all_in, all_out, negated}
@@ -28,6 +28,20 @@ count_in-set_fits plies i ply within =
 pub count_in_more : (plies : List (Option ℕ)) (i : ℕ) (ply : Option ℕ) → i < length plies
     → count_in (take (i + 1) (set plies i ply)) ≡ count_in (take i plies) + counted ply
 count_in_more plies i ply within = ap count_in (take_more_set plies i ply within) ∙ sum_by_push counted (take i plies) ply
+
+pub count_in_next : (plies : List (Option ℕ)) (i : ℕ) → i < length plies → count_in (take (i + 1) plies) ≡ count_in (take i plies) + counted (get_or plies i None)
+count_in_next plies i within =
+    ap (λ (l : List (Option ℕ)). count_in (take (i + 1) l)) (sym (set-get_or plies i None)) ∙ count_in_more plies i (get_or plies i None) within
+
+-- The count is kept where an entry is set.
+pub recounted : (plies : List (Option ℕ)) (i count before now : ℕ) (ply : Option ℕ) → i < length plies → count ≡ count_in plies
+    → before ≡ counted (get_or plies i None) → now ≡ counted ply
+    → (before ≤ count) × (count - before + now ≤ length plies) × (count - before + now ≡ count_in (set plies i ply))
+recounted plies i count before now ply within is was becomes =
+    let without = count_in-set plies i None within in
+    let with_it = count_in-set plies i ply within in
+    let fits = count_in-set_fits plies i ply within in
+    (omega (arith, without, is, was, becomes), omega (arith, without, fits, is, was, becomes), omega (arith, without, with_it, is, was, becomes))
 
 pub count_in-all_in : (n : ℕ) → count_in (all_in n) ≡ n
 count_in-all_in n = omega (arith, sum_by-replicate counted n (Some 0))

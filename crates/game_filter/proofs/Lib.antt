@@ -1,4 +1,5 @@
 pub mod Counts
+pub mod EntryLaws
 pub mod Passes
 pub mod Renumberings
 pub mod Searches

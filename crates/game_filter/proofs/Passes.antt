@@ -85,3 +85,11 @@ joined_step_at join n owns others now old first within there is own other =
     let read : join old first ≡ join (get_or now n None) (get_or others n None) =
     rw (get_or_from_slice_get now n old None own, get_or_from_slice_get others n first None other) refl in
     joined_step join n owns others now (join old first) within there is read
+
+pub restricted_step_at : (n first last : ℕ) (plies now : List (Option ℕ)) (old : Option ℕ)
+    → n < length plies → now ≡ restricted_below n 0 first last plies
+    → slice_get now n ≡ Some old → set now n (entry_within first last n old) ≡ restricted_below (n + 1) 0 first last plies
+restricted_step_at n first last plies now old within is own =
+    let read : entry_within first last n old ≡ entry_within first last n (get_or now n None) =
+    rw (get_or_from_slice_get now n old None own) refl in
+    restricted_step n first last plies now (entry_within first last n old) within is read

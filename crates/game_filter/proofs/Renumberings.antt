@@ -4,6 +4,7 @@ use Rattle.std.specs.List.{swap}
 use Rattle.std.proofs.lemmas.Bool.{cases_eq}
 use Rattle.std.proofs.lemmas.List.{append-nil, take_more_set, take-set-le, take_all, drop-set-lt, drop-drop, length-set, length_push, get_or-drop, set-set}
 use Rattle.std.proofs.lemmas.List.Edits.{swap_is}
+use Rattle.std.proofs.lemmas.Option.{get_or_from_slice_get}
 use Rattle.std.proofs.Math.Seq.{take-append_seam}
 use Rattle.game_filter.specs.Renumbering.{Rises, renumbered}
 
@@ -88,13 +89,17 @@ moved_goes {T = T} to old now after i kept kept' so lt same goes is kept_is =
     none None x e = refl
     none (Some number) x e = absurd (cc)
 
+one-stays : {T : Type 0} (number : Option ℕ) (x : T) → is_some number ≡ true → staying number x ≡ x ∷ []
+one-stays None x e = absurd (cc)
+one-stays (Some number) x e = refl
+
 -- One game more, which stays.
 pub moved_stays : {T : Type 0} (to : List (Option ℕ)) (old now after : List T) (i kept kept' : ℕ) → Moved to old now i kept → i < length now → length to ≡ length old
     → is_some (get_or to i None) ≡ true → after ≡ swap now kept i → kept' ≡ kept + 1 → Moved to old after (i + 1) kept'
 moved_stays {T = T} to old now after i kept kept' so lt same stays is kept_is =
     let d = element now i lt in
     let next : renumbered (take (i + 1) to) old ≡ renumbered (take i to) old ++ get_or old i d ∷ [] =
-    renumbered-next to old i d (omega (arith, lt, same, so.len)) same ∙ ap (λ (l : List T). renumbered (take i to) old ++ l) (one (get_or to i None) (get_or old i d) stays) in
+    renumbered-next to old i d (omega (arith, lt, same, so.len)) same ∙ ap (λ (l : List T). renumbered (take i to) old ++ l) (one-stays (get_or to i None) (get_or old i d) stays) in
     rw (is, kept_is) (record {
       front =
           swap-front now kept i d so.within lt ∙ ap (λ (l : List T). l ++ get_or now i d ∷ []) so.front
@@ -104,10 +109,24 @@ moved_stays {T = T} to old now after i kept kept' so lt same stays is kept_is =
       within = omega (arith, so.within);
       len = swap-length now kept i d (omega (arith, so.within, lt)) lt ∙ so.len;
     })
-  where
-    one : (number : Option ℕ) (x : T) → is_some number ≡ true → staying number x ≡ x ∷ []
-    one None x e = absurd (cc)
-    one (Some number) x e = refl
+
+-- The same where the entry is written to the front.
+pub moved_set : (to old now after : List (Option ℕ)) (i kept kept' : ℕ) (entry : Option ℕ) → Moved to old now i kept → i < length now → length to ≡ length old
+    → is_some (get_or to i None) ≡ true → slice_get now i ≡ Some entry → after ≡ set now kept entry → kept' ≡ kept + 1 → Moved to old after (i + 1) kept'
+moved_set to old now after i kept kept' entry so lt same stays read is kept_is =
+    let next : renumbered (take (i + 1) to) old ≡ renumbered (take i to) old ++ get_or old i None ∷ [] =
+    renumbered-next to old i None (omega (arith, lt, same, so.len)) same
+    ∙ ap (λ (l : List (Option ℕ)). renumbered (take i to) old ++ l) (one-stays (get_or to i None) (get_or old i None) stays) in
+    let here : entry ≡ get_or old i None = sym (get_or_from_slice_get now i entry None read) ∙ entry_there to old now i kept None so in
+    rw (is, kept_is) (record {
+      front =
+          take_more_set now kept entry (omega (arith, so.within, lt)) ∙ ap (λ (l : List (Option ℕ)). l ++ entry ∷ []) so.front
+          ∙ ap (λ (x : Option ℕ). renumbered (take i to) old ++ x ∷ []) here ∙ sym next;
+      size = omega (arith, so.size, ap (λ (l : List (Option ℕ)). length l) next, length_push (renumbered (take i to) old) (get_or old i None));
+      back = drop-set-lt (i + 1) now kept entry (omega (arith, so.within)) ∙ rest_there to old now i kept so;
+      within = omega (arith, so.within);
+      len = length-set now kept entry ∙ so.len;
+    })
 
 -- No game is left.
 pub moved_all : {T : Type 0} (to : List (Option ℕ)) (old now : List T) (i kept : ℕ) → Moved to old now i kept → i ≡ length old → length to ≡ length old

@@ -1,3 +1,4 @@
+pub mod Entries
 pub mod Filter
 pub mod Renumbering
 pub mod Search

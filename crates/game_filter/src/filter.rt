@@ -1,4 +1,5 @@
 //! The filter of a base.
+use crate::entries::Entries;
 use crate::plies;
 use crate::renumbering::Renumbering;
 use std::alloc::{AllocError, Global};
@@ -7,22 +8,22 @@ use std::marker::Model;
 /// The games of a base that are in, each with the ply at which it matched.
 ///
 /// Contracts see a filter as the list of its optional plies, one per game: a ply where the game is
-/// in, none where it is out. It takes 8 bytes a game, and its number of games in is kept beside them.
+/// in, none where it is out. It takes four bytes and a bit a game, and its number of games in is kept beside them.
 #[derive(Debug, Drop)]
 pub struct Filter {
-    plies: Vec<Option<u32>>,
+    entries: Entries,
     count: u32,
 }
 
 impl Model for Filter {
-    ghost use Rattle.std.specs.Prelude.{◌≡◌, ◌^◌, ◌<◌, ℕ, List, Option, vec_len};
+    ghost use Rattle.std.specs.Prelude.{◌≡◌, ◌^◌, ◌<◌, ℕ, List, Option, length};
     ghost use Rattle.game_filter.specs.Filter.{count_in};
 
     ghost Value = { List (Option ℕ) };
 
-    ghost view = { λ f. f.plies.items };
+    ghost view = { λ f. f.entries };
 
-    ghost invariant = { λ f. (vec_len f.plies < 2 ^ 32) × (f.count ≡ count_in f.plies.items) };
+    ghost invariant = { λ f. (length f.entries < 2 ^ 32) × (f.count ≡ count_in f.entries) };
 }
 
 impl Filter {
@@ -34,18 +35,17 @@ impl Filter {
     pub fn new(alloc: Global, n: u32) -> Result<Filter, AllocError>
         ensures all { IfOk result (λ filter. filter ≡ all_in n) }
     {
-        let mut plies = Vec::with_capacity(alloc, n as usize)?;
-        plies.resize(n as usize, Some(0))?;
-        Ok(Filter { plies, count: n })
+        let entries = Entries::all_in(alloc, n)?;
+        Ok(Filter { entries, count: n })
     }
 
     /// A filter with the same entries.
     pub fn copy(&self, alloc: Global) -> Result<Filter, AllocError>
         ensures same { IfOk result (λ filter. filter ≡ self.now) }
     {
-        let plies = Vec::from_slice(alloc, self.plies.as_slice())?;
+        let entries = self.entries.copy(alloc)?;
         Ok(Filter {
-            plies,
+            entries,
             count: self.count,
         })
     }
@@ -55,9 +55,7 @@ impl Filter {
         requires same_games { length self.old ≡ length other.now }
         ensures same { self.new ≡ other.now }
     {
-        self.plies
-            .as_mut_slice()
-            .copy_from_slice(other.plies.as_slice());
+        self.entries.take_over(&other.entries);
         self.count = other.count;
     }
 
@@ -69,7 +67,7 @@ impl Filter {
         ensures added { OnOk result (self.new ≡ self.old ++ ply ∷ []) }
         ensures unchanged { OnErr result (self.new ≡ self.old) }
     {
-        self.plies.push(ply)?;
+        self.entries.push(ply)?;
         self.count += u32::from(ply.is_some());
         Ok(())
     }
@@ -78,7 +76,7 @@ impl Filter {
     pub fn len(&self) -> u32
         ensures len { result ≡ length self.now }
     {
-        self.plies.len() as u32
+        self.entries.len()
     }
 
     /// The number of games that are in.
@@ -93,15 +91,7 @@ impl Filter {
         requires game { i < length self.now }
         ensures entry { slice_get self.now i ≡ Some result }
     {
-        self.plies[i as usize]
-    }
-
-    /// The entries of all games.
-    pub fn plies(&self) -> &[Option<u32>]
-        ensures entries { result.now ≡ self.now }
-        ensures few { length self.now < 2 ^ 32 }
-    {
-        self.plies.as_slice()
+        self.entries.get(i)
     }
 
     /// Puts game `i` in at a ply, or out.
@@ -109,9 +99,8 @@ impl Filter {
         requires game { i < length self.old }
         ensures changed { self.new ≡ slice_set self.old i ply }
     {
-        let entry = &mut self.plies[i as usize];
-        let was_in = entry.is_some();
-        *entry = ply;
+        let was_in = self.entries.is_in(i);
+        self.entries.set(i, ply);
         self.count = self.count - u32::from(was_in) + u32::from(ply.is_some());
     }
 
@@ -120,7 +109,7 @@ impl Filter {
         ensures all { self.new ≡ all_in (length self.old) }
     {
         let games = self.len();
-        self.plies.as_mut_slice().fill(Some(0));
+        self.entries.fill();
         self.count = games;
     }
 
@@ -128,7 +117,7 @@ impl Filter {
     pub fn clear(&mut self)
         ensures none { self.new ≡ all_out (length self.old) }
     {
-        self.plies.as_mut_slice().fill(None);
+        self.entries.clear();
         self.count = 0;
     }
 
@@ -136,7 +125,9 @@ impl Filter {
     pub fn negate(&mut self)
         ensures negated { self.new ≡ negated self.old }
     {
-        self.count = plies::negate(self.plies.as_mut_slice(), self.count);
+        let games = self.len();
+        self.entries.negate();
+        self.count = games - self.count;
     }
 
     /// Keeps the games that are in both filters, at their own plies.
@@ -144,7 +135,7 @@ impl Filter {
         requires same_games { length self.old ≡ length other.now }
         ensures both { self.new ≡ intersection self.old other.now }
     {
-        self.count = plies::intersect(self.plies.as_mut_slice(), other.plies.as_slice());
+        self.count = plies::intersect(&mut self.entries, &other.entries);
     }
 
     /// Adds the games that are in `other` alone, at the plies that they have there.
@@ -152,14 +143,14 @@ impl Filter {
         requires same_games { length self.old ≡ length other.now }
         ensures either { self.new ≡ union self.old other.now }
     {
-        self.count = plies::unite(self.plies.as_mut_slice(), other.plies.as_slice());
+        self.count = plies::unite(&mut self.entries, &other.entries);
     }
 
     /// Puts out every game whose number is below `first` or above `last`.
     pub fn restrict(&mut self, first: u32, last: u32)
         ensures restricted { self.new ≡ restricted first last self.old }
     {
-        self.count = plies::restrict(self.plies.as_mut_slice(), first, last);
+        self.count = plies::restrict(&mut self.entries, first, last);
     }
 
     /// The entries of the games that stay get their new numbers, and those of the games that go are left out.
@@ -169,7 +160,6 @@ impl Filter {
         ensures kept { length self.new ≡ renumbering.now.kept }
         ensures entries { (i number : ℕ) → slice_get renumbering.now.to i ≡ Some (Some number) → slice_get self.new number ≡ slice_get self.old i }
     {
-        renumbering.apply(&mut self.plies);
-        self.count = plies::count(self.plies.as_slice());
+        self.count = plies::renumber(&mut self.entries, renumbering);
     }
 }

@@ -4,6 +4,7 @@
 //! It is what every search and every filter command works on.
 #![tactic(auto)]
 
+mod entries;
 mod filter;
 mod op;
 mod plies;

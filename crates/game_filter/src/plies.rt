@@ -1,21 +1,10 @@
 //! The passes over the entries of a filter. Each tells how many games are in afterwards.
-ghost use Rattle.std.specs.Prelude.{◌≡◌, ◌^◌, ◌<◌, length, take};
-ghost use Rattle.game_filter.specs.Filter.{turned, negated, in_both, in_either, intersection, union, count_in, entry_within, restricted};
+ghost use Rattle.std.specs.Prelude.{◌≡◌, ◌^◌, ◌<◌, ℕ, Some, length, slice_get, take};
+ghost use Rattle.game_filter.specs.Filter.{in_either, intersection, union, count_in, entry_within, restricted};
+ghost use Rattle.game_filter.specs.Renumbering.{Rises, renumbered};
 
-fn turn(ply: Option<u32>) -> Option<u32>
-    ensures turned { result ≡ turned ply }
-{
-    match ply {
-        Some(_) => None,
-        None => Some(0),
-    }
-}
-
-fn both(own: Option<u32>, other: Option<u32>) -> Option<u32>
-    ensures both { result ≡ in_both own other }
-{
-    if other.is_some() { own } else { None }
-}
+use crate::entries::Entries;
+use crate::renumbering::Renumbering;
 
 fn either(own: Option<u32>, other: Option<u32>) -> Option<u32>
     ensures either { result ≡ in_either own other }
@@ -29,74 +18,91 @@ fn within(first: u32, last: u32, i: u32, ply: Option<u32>) -> Option<u32>
     if first <= i && i <= last { ply } else { None }
 }
 
-/// Puts the games that are in, of which there are `count`, out, and those that are out in at ply 0.
-pub fn negate(plies: &mut [Option<u32>], count: u32) -> u32
-    requires few_games { length plies.old < 2 ^ 32 }
-    requires counted { count ≡ count_in plies.old }
-    ensures negated { plies.new ≡ negated plies.old }
-    ensures count { result ≡ count_in plies.new }
-{
-    for ply in plies.iter_mut() {
-        *ply = turn(*ply);
-    }
-    plies.len() as u32 - count
-}
-
 /// Keeps the games that are in both, at their own plies.
-pub fn intersect(plies: &mut [Option<u32>], others: &[Option<u32>]) -> u32
-    requires same_games { length plies.old ≡ length others.now }
-    requires few_games { length plies.old < 2 ^ 32 }
-    ensures joined { plies.new ≡ intersection plies.old others.now }
-    ensures count { result ≡ count_in plies.new }
+pub fn intersect(entries: &mut Entries, others: &Entries) -> u32
+    requires same_games { length entries.old ≡ length others.now }
+    requires few_games { length entries.old < 2 ^ 32 }
+    ensures joined { entries.new ≡ intersection entries.old others.now }
+    ensures len { length entries.new ≡ length entries.old }
+    ensures count { result ≡ count_in entries.new }
 {
-    let mut count = 0;
-    for i in 0..plies.len() {
-        let ply = both(plies[i], others[i]);
-        plies[i] = ply;
-        count += u32::from(ply.is_some());
-    }
-    count
+    entries.intersect(others);
+    count(entries)
 }
 
 /// Adds the games that are in `others` alone, at the plies that they have there.
-pub fn unite(plies: &mut [Option<u32>], others: &[Option<u32>]) -> u32
-    requires same_games { length plies.old ≡ length others.now }
-    requires few_games { length plies.old < 2 ^ 32 }
-    ensures joined { plies.new ≡ union plies.old others.now }
-    ensures count { result ≡ count_in plies.new }
+pub fn unite(entries: &mut Entries, others: &Entries) -> u32
+    requires same_games { length entries.old ≡ length others.now }
+    requires few_games { length entries.old < 2 ^ 32 }
+    ensures joined { entries.new ≡ union entries.old others.now }
+    ensures len { length entries.new ≡ length entries.old }
+    ensures count { result ≡ count_in entries.new }
 {
     let mut count = 0;
-    for i in 0..plies.len() {
-        let ply = either(plies[i], others[i]);
-        plies[i] = ply;
+    for i in 0..entries.len() {
+        let ply = either(entries.get(i), others.get(i));
+        entries.set(i, ply);
         count += u32::from(ply.is_some());
     }
     count
 }
 
 /// Puts out every game below `first` or above `last`.
-pub fn restrict(plies: &mut [Option<u32>], first: u32, last: u32) -> u32
-    requires few_games { length plies.old < 2 ^ 32 }
-    ensures restricted { plies.new ≡ restricted first last plies.old }
-    ensures count { result ≡ count_in plies.new }
+pub fn restrict(entries: &mut Entries, first: u32, last: u32) -> u32
+    requires few_games { length entries.old < 2 ^ 32 }
+    ensures restricted { entries.new ≡ restricted first last entries.old }
+    ensures len { length entries.new ≡ length entries.old }
+    ensures count { result ≡ count_in entries.new }
 {
     let mut count = 0;
-    for i in 0..plies.len() {
-        let ply = within(first, last, i as u32, plies[i]);
-        plies[i] = ply;
+    for i in 0..entries.len() {
+        let ply = within(first, last, i, entries.get(i));
+        entries.set(i, ply);
         count += u32::from(ply.is_some());
     }
     count
 }
 
-/// Counts the games that are in.
-pub fn count(plies: &[Option<u32>]) -> u32
-    requires few_games { length plies.now < 2 ^ 32 }
-    ensures count { result ≡ count_in plies.now }
+/// Leaves the entries of the games that stay, in their order.
+pub fn renumber(entries: &mut Entries, renumbering: &Renumbering) -> u32
+    requires same_games { length renumbering.now.to ≡ length entries.old }
+    requires few_games { length entries.old < 2 ^ 32 }
+    ensures moved { entries.new ≡ renumbered renumbering.now.to entries.old }
+    ensures kept { length entries.new ≡ renumbering.now.kept }
+    ensures entries { (i number : ℕ) → slice_get renumbering.now.to i ≡ Some (Some number) → slice_get entries.new number ≡ slice_get entries.old i }
+    ensures count { result ≡ count_in entries.new }
+{
+    move_to_front(entries, renumbering.to());
+    entries.truncate(renumbering.kept());
+    count(entries)
+}
+
+// Moves the entries of the games that stay, those with a new number in `to`, to the front, in their order. What stands behind them is of no
+// use.
+fn move_to_front(entries: &mut Entries, to: &[Option<u32>])
+    requires same_games { length to.now ≡ length entries.old }
+    requires few_games { length entries.old < 2 ^ 32 }
+    ensures moved { take (length (renumbered to.now entries.old)) entries.new ≡ renumbered to.now entries.old }
+    ensures len { length entries.new ≡ length entries.old }
+{
+    let mut kept = 0;
+    for i in 0..entries.len() {
+        if to[i as usize].is_some() {
+            let ply = entries.get(i);
+            entries.set(kept, ply);
+            kept += 1;
+        }
+    }
+}
+
+// Counts the games that are in.
+fn count(entries: &Entries) -> u32
+    requires few_games { length entries.now < 2 ^ 32 }
+    ensures count { result ≡ count_in entries.now }
 {
     let mut count = 0;
-    for ply in plies {
-        count += u32::from(ply.is_some());
+    for i in 0..entries.len() {
+        count += u32::from(entries.is_in(i));
     }
     count
 }

@@ -1,6 +1,6 @@
 -- How many games each watch has, after each change.
 use Rattle.std.proofs.Common.{◌≡◌, ◌+◌, ◌≤◌, ◌<◌, ℕ, zero, suc, Bool, true, false, cond, List, [], ◌∷◌, ◌++◌, Option, None, Some, length, length-append, set, nat_lt, option_map, Result, Ok, Err, OnOk, refl, sym, ap, ◌∙◌, subst, arith}
-use Rattle.std.specs.Prelude.{IfSome}
+use Rattle.std.specs.Prelude.{if◌then◌else◌, IfSome}
 use Rattle.std.proofs.lemmas.List.{length-set}
 use Rattle.std.proofs.lemmas.Bool.{ltb-false, ltb-true}
 use Rattle.game_filter.specs.Renumbering.{Rises, renumbered}
@@ -52,6 +52,16 @@ pub filter-sized : (n : ℕ) (plies : List (Option ℕ)) (old now : Slotted) →
     → EachWatch (Has n) old → EachWatch (Has n) now
 filter-sized n plies old now is each =
     changed-sized n n (λ k watch. record watch { games = under plies watch.games }) old now (λ k w has. length-under plies w.games ∙ has) is each
+
+-- The same where it reaches some watches alone.
+pub some-filtered : (n : ℕ) (plies : List (Option ℕ)) (among : ℕ → Bool) (old now : Slotted)
+    → AreChanged (λ k watch. if among k then record watch { games = under plies watch.games } else watch) old now → EachWatch (Has n) old → EachWatch (Has n) now
+some-filtered n plies among old now is each =
+    changed-sized n n (λ k watch. if among k then record watch { games = under plies watch.games } else watch) old now (λ k w has. by (among k) w has) is each
+  where
+    by : (b : Bool) (w : Watched) → Has n w → Has n (if b then record w { games = under plies w.games } else w)
+    by true w has = length-under plies w.games ∙ has
+    by false w has = has
 
 length-with : (i n m : ℕ) (game : Entry) (games : List Entry) → length games ≡ n → (i < n → m ≡ n) → (n ≤ i → m ≡ n + 1) → length (with_game i game games) ≡ m
 length-with i n m game games len inside behind = by (nat_lt i (length games)) refl

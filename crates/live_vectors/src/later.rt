@@ -62,5 +62,5 @@ pub(crate) fn show(
     requires wait { AreWaiting slots.old views.old (length filter.now) }
     ensures wait { OnOk result (AreWaiting slots.new views.new (length filter.now)) }
 {
-    slots.show(alloc, views, filter)
+    slots.show(alloc, views, filter, 0, 8)
 }

@@ -1,5 +1,6 @@
 pub mod BoardLemmas
 pub mod MatchLemmas
+pub mod PawnLemmas
 pub mod FollowLemmas
 pub mod WalkLemmas
 pub mod SearchLemmas

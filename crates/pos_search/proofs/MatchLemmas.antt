@@ -1,10 +1,10 @@
 -- What a position that is sought has in common with the query.
-use Rattle.std.proofs.Common.{◌≡◌, ℕ, ◌+◌, ◌-◌, ◌<◌, leb, get_or, Bool, true, false, cond, ◌&&◌, List, Option, None, Some, refl, sym, ap, ◌∙◌, arith, inl, inr}
+use Rattle.std.proofs.Common.{◌≡◌, ℕ, ◌+◌, ◌-◌, ◌<◌, leb, get_or, Bool, true, false, cond, ◌&&◌, List, Option, None, Some, refl, sym, ap, ◌∙◌, arith}
 use Rattle.std.specs.Prelude.{nat_eq}
 use Rattle.std.specs.Bool.{Decides}
 use Rattle.std.specs.Cmp.Lexicographic.{pointwise}
 use Rattle.std.specs.Option.{option_eq}
-use Rattle.std.proofs.lemmas.Bool.{and_parts, cases_eq}
+use Rattle.std.proofs.lemmas.Bool.{and_parts}
 use Rattle.std.proofs.lemmas.Bool.Decides.{nat_tests, same_from_decides}
 use Rattle.std.proofs.lemmas.Slice.Eq.{bytes_eq-Decides}
 use Rattle.cell_core.specs.declared.man.Colour.{Colour}
@@ -20,7 +20,7 @@ use Rattle.sig_index.specs.declared.pos_query.Mode.{Mode}
 use Rattle.sig_index.specs.declared.pos_query.Mode.TheVariants.{Exact, Pawns, Files, Material}
 use Rattle.sig_index.specs.declared.pos_query.PosQuery.{PosQuery}
 use Rattle.sig_index.proofs.HomeLemmas.{home_fits}
-use Rattle.sig_index.proofs.Ranges.{all_each, all_from, all_not}
+use Rattle.sig_index.proofs.Ranges.{all_each, all_from}
 use Rattle.pos_search.specs.Matching.{alike, matches, pawn_on, same_counts, same_file, same_files, same_pawn, same_pawns}
 use Rattle.pos_search.specs.Passing.{fixes_pawns, just}
 
@@ -38,7 +38,7 @@ alike_counts Material a b holds = (counts-Decides a b).0 holds
 
 -- ---- pawns
 
-is_side : Colour → Option Colour → Bool
+unfoldable pub is_side : Colour → Option Colour → Bool
 is_side c None = false
 is_side c (Some d) = same_colour d c
 
@@ -56,7 +56,7 @@ pawn_side false c d = and_false (same_colour d c)
     and_false false = refl
 
 -- A pawn of a side stands on a square where the side of the pawn on it is this one.
-side_is : (c : Colour) (x : Option Man) → is_man c Pawn x ≡ is_side c (pawn_on x)
+pub side_is : (c : Colour) (x : Option Man) → is_man c Pawn x ≡ is_side c (pawn_on x)
 unfolding is_side
 side_is c None = refl
 side_is c (Some m) = pawn_side (same_kind m.kind Pawn) c m.colour
@@ -82,24 +82,14 @@ alike_homes Pawns a b v small holds fixed = pawns_home a b v small (and_parts (s
 alike_homes Files a b v small holds fixed = absurd (cc)
 alike_homes Material a b v small holds fixed = absurd (cc)
 
--- What the loops over a board have seen.
-pub seen_more : (test : ℕ → Bool) (n : ℕ) → ((k : ℕ) → k < n → test k ≡ true) → test n ≡ true → (k : ℕ) → k < n + 1 → test k ≡ true
-seen_more test n before here k less = elim (cases_eq k n) [
-  | inl same ↦ ap test same ∙ here
-  | inr apart ↦ before k (omega (arith, less, apart))
-]
-
-pub pawns_fail : (a b : Men) (s : ℕ) → s < 64 → same_pawn a b s ≡ false → false ≡ same_pawns a b
-unfolding same_pawns
-pawns_fail a b s less fails = sym (all_not (same_pawn a b) 0 64 s (omega arith) less fails)
-
+-- What is seen of a board square by square, or file by file.
 pub pawns_all : (a b : Men) → ((s : ℕ) → s < 64 → same_pawn a b s ≡ true) → true ≡ same_pawns a b
 unfolding same_pawns
 pawns_all a b each = sym (all_from (same_pawn a b) 0 64 (λ s from less. each s less))
 
-pub files_fail : (a b : Men) (file : ℕ) → file < 8 → same_file a b file ≡ false → false ≡ same_files a b
+pub files_each : (a b : Men) (file : ℕ) → same_files a b ≡ true → file < 8 → same_file a b file ≡ true
 unfolding same_files
-files_fail a b file less fails = sym (all_not (same_file a b) 0 8 file (omega arith) less fails)
+files_each a b file same less = all_each (same_file a b) 0 8 file same (omega arith) less
 
 pub files_all : (a b : Men) → ((file : ℕ) → file < 8 → same_file a b file ≡ true) → true ≡ same_files a b
 unfolding same_files

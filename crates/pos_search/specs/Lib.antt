@@ -1,3 +1,4 @@
+pub mod Columns
 pub mod Matching
 pub mod Passing
 pub mod Sought

@@ -1,9 +1,12 @@
 //! What two boards have in common.
-ghost use Rattle.std.specs.Prelude.{◌≡◌, ◌<◌};
+ghost use Rattle.std.specs.Prelude.{◌≡◌, ◌<◌, ◌*◌, ℕ};
+ghost use Rattle.std.specs.Int.{bit_at};
 ghost use Rattle.cell_core.specs.Man.{is_man};
 ghost use Rattle.chess_laws.specs.Counts.{is_home};
+ghost use Rattle.chess_laws.specs.Geometry.{square};
 ghost use Rattle.sig_index.specs.Homes.{home_set};
-ghost use Rattle.pos_search.specs.Matching.{pawn_on, pawns_below, same_file, same_files, same_pawn, same_pawns};
+ghost use Rattle.pos_search.specs.Columns.{on_file, same_number, same_numbers};
+ghost use Rattle.pos_search.specs.Matching.{same_files, same_pawns};
 
 use cell_core::{Board, Colour, Kind, Man, Square};
 
@@ -47,64 +50,65 @@ fn is_home(board: &Board, value: u8) -> bool
 pub(crate) fn same_pawns(a: &Board, b: &Board) -> bool
     ensures { result ≡ same_pawns a.now b.now }
 {
-    for s in 0..64u8 {
-        if !same_pawn(a, b, s) {
-            return false;
-        }
-    }
-    true
-}
-
-// Whether they have pawns of the same side on this one, or both none.
-fn same_pawn(a: &Board, b: &Board, s: u8) -> bool
-    requires { s < 64 }
-    ensures { result ≡ same_pawn a.now b.now s }
-{
-    let square = Square::at(s);
-    pawn_on(&a.at(square)) == pawn_on(&b.at(square))
-}
-
-// The side of the pawn on a square, if one stands there.
-fn pawn_on(cell: &Option<Man>) -> Option<Colour>
-    ensures { result ≡ pawn_on cell.now }
-{
-    match cell {
-        Some(man) if man.kind == Kind::Pawn => Some(man.colour),
-        _ => None,
-    }
+    a.of_man(Colour::White, Kind::Pawn) == b.of_man(Colour::White, Kind::Pawn)
+        && a.of_man(Colour::Black, Kind::Pawn) == b.of_man(Colour::Black, Kind::Pawn)
 }
 
 // Whether the boards have as many pawns of each side on each file.
 pub(crate) fn same_files(a: &Board, b: &Board) -> bool
     ensures { result ≡ same_files a.now b.now }
 {
+    same_numbers(
+        a.of_man(Colour::White, Kind::Pawn),
+        b.of_man(Colour::White, Kind::Pawn),
+    ) && same_numbers(
+        a.of_man(Colour::Black, Kind::Pawn),
+        b.of_man(Colour::Black, Kind::Pawn),
+    )
+}
+
+// Whether two sets have as many squares on each file.
+fn same_numbers(a: u64, b: u64) -> bool
+    ensures { result ≡ same_numbers a b }
+{
+    if a == b {
+        return true;
+    }
     for file in 0..8u8 {
-        if !same_file(a, b, file) {
+        if !same_number(a, b, file) {
             return false;
         }
     }
     true
 }
 
-// Whether they have as many on this one.
-fn same_file(a: &Board, b: &Board, file: u8) -> bool
+// Whether they have as many on this one, where they mostly have the same.
+#[inline(always)]
+fn same_number(a: u64, b: u64, file: u8) -> bool
     requires { file < 8 }
-    ensures { result ≡ same_file a.now b.now file }
+    ensures { result ≡ same_number a b file }
 {
-    pawns(a, Colour::White, file) == pawns(b, Colour::White, file)
-        && pawns(a, Colour::Black, file) == pawns(b, Colour::Black, file)
+    let own = column(a, file);
+    let other = column(b, file);
+    own == other || count(own) == count(other)
 }
 
-// How many pawns of a side stand on a file.
-fn pawns(board: &Board, colour: Colour, file: u8) -> u8
+// The squares of a set on a file, a bit each: the bit `8 * rank` for that on this rank.
+#[inline(always)]
+fn column(set: u64, file: u8) -> u64
     requires { file < 8 }
-    ensures pawns { result ≡ pawns_below board.now colour file 8 }
+    ensures { (rank : ℕ) → rank < 8 → bit_at result (8 * rank) ≡ bit_at set (square file rank) }
 {
-    let mut pawns = 0;
+    set >> file & 0x0101_0101_0101_0101
+}
+
+// How many there are.
+fn count(column: u64) -> u8
+    ensures { result ≡ on_file column 0 8 }
+{
+    let mut count = 0;
     for rank in 0..8u8 {
-        if is_man(&board.at(Square::at(8 * rank + file)), colour, Kind::Pawn) {
-            pawns += 1;
-        }
+        count += (column >> (8 * rank) & 1) as u8;
     }
-    pawns
+    count
 }

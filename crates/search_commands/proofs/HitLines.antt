@@ -1,6 +1,7 @@
 -- Laws of the lines that `find` writes: they are written one game after the other.
-use Rattle.std.proofs.Common.{◌≡◌, ℕ, suc, ◌+◌, List, [], ◌∷◌, ◌++◌, length, Option, Some, None, refl, sym, append_assoc, add-zero, arith, ◌<◌, ◌≤◌, take, get_or, ap, ◌∙◌, zero-add, drop, take-append-drop, count_by, is_some, subst}
+use Rattle.std.proofs.Common.{◌≡◌, ℕ, suc, ◌+◌, List, [], ◌∷◌, ◌++◌, length, Option, Some, None, refl, sym, append_assoc, add-zero, arith, ◌<◌, ◌≤◌, take, get_or, slice_get, ap, ◌∙◌, zero-add, drop, take-append-drop, count_by, is_some, subst}
 use Rattle.std.proofs.lemmas.List.{take_more, length-take-le, take_all}
+use Rattle.std.proofs.lemmas.Option.{get_or_from_slice_get}
 use Rattle.base_files.proofs.Telling.{Grew-adds, adds-append, Grew-trans}
 use Rattle.base_files.specs.Told.{adds, Grew}
 use Rattle.shell_state.specs.Lines.{hit_line, hit_lines, count_line, hits_text}
@@ -34,23 +35,23 @@ hits_text-begins told hits i =
     subst P (sym e) (subst Q (sym (adds-append told lines (later ++ count))) (Grew-adds (adds told lines) (later ++ count)))
 
 -- A game's lines, put behind the text that waits.
-pub lines_put : (told taken taken' : Option (List ℕ)) (text text' : List ℕ) (hits : List (Option ℕ)) (i game : ℕ) → i < length hits → game ≡ i →
-    adds taken text ≡ adds told (hit_lines 0 (take i hits)) → adds taken' text' ≡ adds taken (text ++ hit_lines game (get_or hits i None ∷ [])) →
+pub lines_put : (told taken taken' : Option (List ℕ)) (text text' : List ℕ) (hits : List (Option ℕ)) (i : ℕ) (hit : Option ℕ) → i < length hits →
+    slice_get hits i ≡ Some hit → adds taken text ≡ adds told (hit_lines 0 (take i hits)) → adds taken' text' ≡ adds taken (text ++ hit_lines i (hit ∷ [])) →
     adds taken' text' ≡ adds told (hit_lines 0 (take (i + 1) hits))
-lines_put told taken taken' text text' hits i game below numbered before now =
+lines_put told taken taken' text text' hits i hit below read before now =
     let more : List ℕ = hit_lines i (get_or hits i None ∷ []) in
-    now ∙ ap (λ (n : ℕ). adds taken (text ++ hit_lines n (get_or hits i None ∷ []))) numbered
+    now ∙ ap (λ (h : Option ℕ). adds taken (text ++ hit_lines i (h ∷ []))) (sym (get_or_from_slice_get hits i hit None read))
     ∙ adds-append taken text more ∙ ap (λ (t : Option (List ℕ)). adds t more) before ∙ sym (adds-append told (hit_lines 0 (take i hits)) more)
     ∙ ap (λ (l : List ℕ). adds told l) (sym (hit_lines-more hits i below))
 
 -- What was taken of the lines so far and of one game's lines is a front part of the whole text.
-pub begun : (told taken taken' : Option (List ℕ)) (text : List ℕ) (hits : List (Option ℕ)) (i game : ℕ) → i < length hits → game ≡ i →
-    adds taken text ≡ adds told (hit_lines 0 (take i hits)) →
-    Grew taken' (adds taken (text ++ hit_lines game (get_or hits i None ∷ []))) → Grew taken' (adds told (hits_text hits))
-begun told taken taken' text hits i game below numbered before grew =
+pub begun : (told taken taken' : Option (List ℕ)) (text : List ℕ) (hits : List (Option ℕ)) (i : ℕ) (hit : Option ℕ) → i < length hits →
+    slice_get hits i ≡ Some hit → adds taken text ≡ adds told (hit_lines 0 (take i hits)) →
+    Grew taken' (adds taken (text ++ hit_lines i (hit ∷ []))) → Grew taken' (adds told (hits_text hits))
+begun told taken taken' text hits i hit below read before grew =
     let P : Option (List ℕ) → Type 0 = λ t. Grew taken' t in
-    let e : adds taken (text ++ hit_lines game (get_or hits i None ∷ [])) ≡ adds told (hit_lines 0 (take (i + 1) hits)) =
-    lines_put told taken taken text (text ++ hit_lines game (get_or hits i None ∷ [])) hits i game below numbered before refl in
+    let e : adds taken (text ++ hit_lines i (hit ∷ [])) ≡ adds told (hit_lines 0 (take (i + 1) hits)) =
+    lines_put told taken taken text (text ++ hit_lines i (hit ∷ [])) hits i hit below read before refl in
     Grew-trans taken' (adds told (hit_lines 0 (take (i + 1) hits))) (adds told (hits_text hits)) (subst P e grew) (hits_text-begins told hits (i + 1))
 
 -- What was taken before the text that waits is a front part of the whole text.

@@ -1,5 +1,5 @@
 //! Writing the games of a filter.
-ghost use Rattle.std.specs.Prelude.{◌≡◌, ◌≤◌, [], ◌∷◌, ◌++◌, ◌^◌, ◌<◌, length, count_by, is_some, Ok, OnOk, IfErr};
+ghost use Rattle.std.specs.Prelude.{◌≡◌, ◌≤◌, [], ◌∷◌, ◌++◌, Ok, OnOk, IfErr};
 ghost use Rattle.base_files.specs.Causes.{HasCause};
 ghost use Rattle.base_files.specs.Seen.{Seen};
 ghost use Rattle.base_files.specs.Told.{Grew, adds};
@@ -42,34 +42,25 @@ pub(crate) fn write_hits<K: Sink>(
     ensures causes { Causes Why result (counts 0 0 (K.faults out.old)) (counts 0 0 (K.faults out.new)) }
 {
     page.clear();
-    match put_hits(filter.plies(), filter.count(), page, out) {
+    match put_hits(filter, page, out) {
         Ok(()) => Ok(()),
         Err(error) => Err(error.of_output()),
     }
 }
 
-// Writes the lines of a filter with so many games in. `text` is empty.
-fn put_hits<K: Sink>(
-    hits: &[Option<u32>],
-    count: u32,
-    text: &mut Vec<u8>,
-    out: &mut K,
-) -> Result<(), DeviceError>
-    requires few { length hits.now < 2 ^ 32 }
-    requires counted { count ≡ count_by is_some hits.now }
+// Writes the lines of a filter. `text` is empty.
+fn put_hits<K: Sink>(filter: &Filter, text: &mut Vec<u8>, out: &mut K) -> Result<(), DeviceError>
     requires empty { text.old.items ≡ [] }
-    ensures written { OnOk result (K.taken out.new ≡ adds (K.taken out.old) (hits_text hits.now)) }
+    ensures written { OnOk result (K.taken out.new ≡ adds (K.taken out.old) (hits_text filter.now)) }
     ensures none_lost { Grew (K.taken out.old) (K.taken out.new) }
-    ensures no_more { Grew (K.taken out.new) (adds (K.taken out.old) (hits_text hits.now)) }
+    ensures no_more { Grew (K.taken out.new) (adds (K.taken out.old) (hits_text filter.now)) }
     ensures counts { K.faults out.old ≤ K.faults out.new }
     ensures cause { IfErr result (λ e. HasCause e (K.faults out.old) (K.faults out.new)) }
 {
-    let mut game = 0;
-    for hit in hits {
-        put_game(text, game, *hit, out)?;
-        game += 1;
+    for game in 0..filter.len() {
+        put_game(text, game, filter.get(game), out)?;
     }
-    put_count(text, count, game)?;
+    put_count(text, filter.count(), filter.len())?;
     write_all(out, text.as_slice())
 }
 

@@ -258,13 +258,12 @@ pub none-shown : (hits : List (Option GameHit)) (games : List Entry) (rows : Lis
 none-shown hits games rows none is = λ key.
     ap (row_at key) (none ∙ sym no-rows ∙ ap rows_of (sym (ap hits_in is ∙ no-hits-out hits)))
 
-pub attach-told : (hits slice : List (Option GameHit)) (filter plies : List (Option ℕ)) (games : List Entry) → games ≡ all_out slice → slice ≡ hits
-    → plies ≡ filter → all_changes games (by_marks Plies plies games) ≤ length (hits_in (by_marks Plies filter (all_out hits)))
-attach-told hits slice filter plies games is same listed =
+pub attach-told : (hits slice : List (Option GameHit)) (filter : List (Option ℕ)) (games : List Entry) → games ≡ all_out slice → slice ≡ hits
+    → all_changes games (by_marks Plies filter games) ≤ length (hits_in (by_marks Plies filter (all_out hits)))
+attach-told hits slice filter games is same =
     let all : games ≡ all_out hits = is ∙ ap all_out same in
-    let told : all_changes games (by_marks Plies plies games) ≡ all_changes (all_out hits) (by_marks Plies filter (all_out hits))
-    = ap (λ (list : List Entry). all_changes list (by_marks Plies plies list)) all
-    ∙ ap (λ (list : List (Option ℕ)). all_changes (all_out hits) (by_marks Plies list (all_out hits))) listed in
+    let told : all_changes games (by_marks Plies filter games) ≡ all_changes (all_out hits) (by_marks Plies filter (all_out hits))
+    = ap (λ (list : List Entry). all_changes list (by_marks Plies filter list)) all in
     omega (arith, told, changes-in hits Plies filter)
 
 -- ---- a game that is added

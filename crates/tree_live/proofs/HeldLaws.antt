@@ -1,6 +1,7 @@
 -- Views that stand in the slots that are watched.
-use Rattle.std.proofs.Common.{◌≡◌, ℕ, ◌+◌, List, Option, Some, None, option_map, IfSome, refl, sym, subst}
+use Rattle.std.proofs.Common.{◌≡◌, ℕ, ◌+◌, Bool, true, false, List, Option, Some, None, option_map, IfSome, refl, sym, subst}
 use Rattle.std.specs.Option.{IsSome}
+use Rattle.std.specs.Prelude.{if◌then◌else◌}
 use Rattle.tree_rows.specs.declared.row.Row.{Row}
 use Rattle.tree_live.specs.Watching.{Watched}
 use Rattle.tree_live.specs.Slots.{AreChanged, AreHeld, AreShown, AreToldRows, IsShown, IsToldRows, Slotted, in_slot, rows_in}
@@ -27,15 +28,16 @@ held-changed change before after views first changed held k =
     by None h = tt
     by (Some watch) h = h
 
--- after the views were told, whether or not that went well
-pub held-told : {B : Type 0} (rows : B → List Row) (told : B → ℕ) (change : Watched → Watched) (slots : Slotted) (before after : List (Option B))
-    → AreHeld slots before → AreToldRows rows told change slots before after → AreHeld slots after
-held-told rows told change slots before after held all k =
-    by (in_slot slots.watches k) (in_slot before (slots.first + k)) (in_slot after (slots.first + k)) (held k) (all.views k)
+-- after the views of some slots were told, whether or not that went well
+pub held-told : {B : Type 0} (rows : B → List Row) (told : B → ℕ) (among : ℕ → Bool) (change : Watched → Watched) (slots : Slotted) (before after : List (Option B))
+    → AreHeld slots before → AreToldRows rows told among change slots before after → AreHeld slots after
+held-told rows told among change slots before after held all k =
+    by (among k) (in_slot slots.watches k) (in_slot before (slots.first + k)) (in_slot after (slots.first + k)) (held k) (all.views k)
   where
-    by : (watch : Option Watched) (old new : Option _) → IfSome watch (λ _. IsSome old) → IsToldRows rows told (option_map (λ watch. rows_in (change watch)) watch) old new
-        → IfSome watch (λ _. IsSome new)
-    by None old new there h = tt
-    by (Some watch) None new there h = absurd (cc)
-    by (Some watch) (Some old) None there h = absurd h
-    by (Some watch) (Some old) (Some new) there h = refl
+    by : (own : Bool) (watch : Option Watched) (old new : Option _) → IfSome watch (λ _. IsSome old)
+        → IsToldRows rows told (if own then option_map (λ watch. rows_in (change watch)) watch else None) old new → IfSome watch (λ _. IsSome new)
+    by own None old new there h = tt
+    by false (Some watch) old new there h = subst (λ (view : Option _). IsSome view) (sym h) there
+    by true (Some watch) None new there h = absurd (cc)
+    by true (Some watch) (Some old) None there h = absurd h
+    by true (Some watch) (Some old) (Some new) there h = refl

@@ -4,5 +4,6 @@ mod GameLaws
 mod SlotLaws
 mod RowChangeLaws
 pub mod HeldLaws
+mod WithinLaws
 pub mod FewLaws
 mod StayingLaws

@@ -1,5 +1,5 @@
 -- The slots of a list of views, some of which are watched (this project's own).
-use Rattle.std.specs.Prelude.{◌≡◌, ℕ, ◌+◌, ◌<◌, ◌≤◌, false, List, Option, Some, None, length, option_map, slice_index_or, IfSome, IsSome}
+use Rattle.std.specs.Prelude.{◌≡◌, ℕ, ◌+◌, ◌<◌, ◌≤◌, ◌&&◌, nat_le, nat_lt, if◌then◌else◌, Bool, true, false, List, Option, Some, None, length, option_map, slice_index_or, IfSome, IsSome}
 use Rattle.game_filter.specs.Renumbering.{renumbered}
 use Rattle.tree_rows.specs.declared.hit.GameHit.{GameHit}
 use Rattle.tree_rows.specs.declared.row.Row.{Row}
@@ -20,6 +20,10 @@ pub record Slotted : Type 0 where
 abbrev pub in_slot : {T : Type 0} → List (Option T) → ℕ → Option T
 in_slot list k = slice_index_or list k None
 
+-- Whether a slot is one of so many from a number on.
+abbrev pub is_within : ℕ → ℕ → ℕ → Bool
+is_within start count k = nat_le start k && nat_lt k (start + count)
+
 -- No slot from a number on is watched.
 abbrev pub AreBelow : ℕ → List (Option Watched) → Type 0
 AreBelow count watches = (k : ℕ) → count ≤ k → in_slot watches k ≡ None
@@ -39,8 +43,9 @@ IsShownIf rows None slot = Unit {0}
 IsShownIf rows (Some watch) None = Unit {0}
 IsShownIf rows (Some watch) (Some view) = Shows (hits_in watch.games) (rows view)
 
-abbrev pub AreShownIf : {B : Type 0} → (B → List Row) → Slotted → List (Option B) → Type 0
-AreShownIf rows slots views = (k : ℕ) → IsShownIf rows (in_slot slots.watches k) (in_slot views (slots.first + k))
+-- So does each of some slots.
+abbrev pub AreShownIf : {B : Type 0} → (B → List Row) → (ℕ → Bool) → Slotted → List (Option B) → Type 0
+AreShownIf rows among slots views = (k : ℕ) → among k ≡ true → IsShownIf rows (in_slot slots.watches k) (in_slot views (slots.first + k))
 
 -- A view stands in each slot that is watched.
 abbrev pub AreHeld : {B : Type 0} → Slotted → List (Option B) → Type 0
@@ -77,9 +82,9 @@ IsToldRows rows told (Some later) (Some before) None = ⊥
 IsToldRows rows told (Some later) (Some before) (Some after) =
     (hits : List GameHit) → Shows hits (rows before) → told after ≤ told before + rows_changed (rows_of hits) later
 
--- So is each slot, where its watch becomes another, and every other view is as before.
-pub record AreToldRows {B : Type 0} (rows : B → List Row) (told : B → ℕ) (change : Watched → Watched) (slots : Slotted) (before after : List (Option B)) : Type 0 where
-  pub views : (k : ℕ) → IsToldRows rows told (option_map (λ watch. rows_in (change watch)) (in_slot slots.watches k)) (in_slot before (slots.first + k)) (in_slot after (slots.first + k))
+-- So is each of some slots, where its watch becomes another, and every other view is as before.
+pub record AreToldRows {B : Type 0} (rows : B → List Row) (told : B → ℕ) (among : ℕ → Bool) (change : Watched → Watched) (slots : Slotted) (before after : List (Option B)) : Type 0 where
+  pub views : (k : ℕ) → IsToldRows rows told (if among k then option_map (λ watch. rows_in (change watch)) (in_slot slots.watches k) else None) (in_slot before (slots.first + k)) (in_slot after (slots.first + k))
   pub others : (i : ℕ) → i < slots.first → in_slot after i ≡ in_slot before i
   pub number : length after ≡ length before
 

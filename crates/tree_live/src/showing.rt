@@ -15,7 +15,7 @@ pub(crate) fn show_all(
     views: &mut [Option<Box<dyn TreeView>>],
 ) -> Result<(), AllocError>
     requires few { length watches.now ≤ 8 }
-    requires first { first ≤ 8 }
+    requires first { first ≤ 16 }
     ensures shown { OnOk result (ShownBelow (λ b. rows b) (λ b. told b) first (length watches.now) watches.now views.old views.new) }
     ensures told { ToldEach (λ b. rows b) (λ b. told b) first watches.now views.old views.new }
 {
@@ -35,7 +35,7 @@ fn show_at(
 ) -> Result<(), AllocError>
     requires place { k < length watches.now }
     requires few { length watches.now ≤ 8 }
-    requires first { first ≤ 8 }
+    requires first { first ≤ 16 }
     ensures shown { OnOk result (IsShownIf (λ b. rows b) (in_slot watches.now k) (in_slot views.new (first + k))) }
     ensures told { ToldIn (λ b. rows b) (λ b. told b) first k watches.now views.old views.new }
 {

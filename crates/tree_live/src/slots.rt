@@ -38,10 +38,10 @@ impl Model for Slots {
 }
 
 impl Slots {
-    ghost use Rattle.std.specs.Prelude.{◌≡◌, ◌+◌, ◌<◌, ◌≤◌, ◌&&◌, ℕ, Some, None, nat_lt, is_some, length, option_copied, option_map, replicate, slice_set, IfSome, IsSome, OnOk, OnErr, MatchResult};
+    ghost use Rattle.std.specs.Prelude.{◌≡◌, ◌+◌, ◌<◌, ◌≤◌, ◌&&◌, ℕ, Some, None, nat_lt, if◌then◌else◌, is_some, length, option_copied, option_map, replicate, slice_set, IfSome, IsSome, OnOk, OnErr, MatchResult};
     ghost use Rattle.game_filter.specs.Renumbering.{renumbered};
     ghost use Rattle.tree_live.specs.Watching.{all_changes, all_out, hits_in, staying, under, with_game};
-    ghost use Rattle.tree_live.specs.Slots.{AreBelow, AreChanged, AreShown, AreShownIf, AreTold, AreToldRows, EachWatch, Fits, IsShown, IsTold, changed, in_slot, kept_hit, most_told};
+    ghost use Rattle.tree_live.specs.Slots.{AreBelow, AreChanged, AreShown, AreShownIf, AreTold, AreToldRows, EachWatch, Fits, IsShown, IsTold, changed, in_slot, is_within, kept_hit, most_told};
 
     /// None of the slots is watched. There are `count` of them, and the last is below 8.
     pub fn new(first: u8, count: u8) -> Slots
@@ -242,24 +242,30 @@ impl Slots {
         }
     }
 
-    /// Takes the games of the filter in and the others out, and tells each view of a slot that is watched the rows that differ from those
-    /// it shows.
+    /// Takes the games of the filter in and the others out of `count` slots from slot `start` on, and tells the view of each of them that is
+    /// watched the rows that differ from those it shows.
     pub fn show(
         &mut self,
         alloc: Global,
         views: &mut [Option<Box<dyn TreeView>>],
         filter: &Filter,
+        start: u8,
+        count: u8,
     ) -> Result<(), AllocError>
+        requires room { start + count ≤ 8 }
         requires same_games { EachWatch (λ watch. length filter.now ≡ length watch.games) self.old }
-        ensures watched { OnOk result (AreChanged (λ k watch. record watch { games = under filter.now watch.games }) self.old self.new) }
-        ensures shown { OnOk result (AreShownIf (λ b. rows b) self.new views.new) }
-        ensures told { AreToldRows (λ b. rows b) (λ b. told b) (λ watch. record watch { games = under filter.now watch.games }) self.old views.old views.new }
+        ensures watched { OnOk result (AreChanged (λ k watch. if is_within start count k then record watch { games = under filter.now watch.games } else watch) self.old self.new) }
+        ensures shown { OnOk result (AreShownIf (λ b. rows b) (is_within start count) self.new views.new) }
+        ensures told { AreToldRows (λ b. rows b) (λ b. told b) (is_within start count) (λ watch. record watch { games = under filter.now watch.games }) self.old views.old views.new }
         ensures slots { (self.new.first ≡ self.old.first) × (self.new.count ≡ self.old.count) }
         ensures number { length self.new.watches ≡ length self.old.watches }
     {
-        self.follow(alloc, &Change::Filter(filter))?;
-        let first = usize::from(self.first);
-        show_all(alloc, first, self.watches.as_slice(), views)
+        let first = usize::from(self.first) + usize::from(start);
+        let end = usize::from(start) + usize::from(count);
+        let all = self.watches.as_mut_slice();
+        let watches = &mut all[usize::from(start)..end];
+        follow_all(alloc, watches, &Change::Filter(filter))?;
+        show_all(alloc, first, watches, views)
     }
 
     // Brings a change to each watch, and to no view.

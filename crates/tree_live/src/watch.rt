@@ -46,7 +46,7 @@ impl Watch {
     ghost use Rattle.tree_live.specs.declared.entry.Entry.{Entry as EntryValue};
     ghost use Rattle.tree_live.specs.Views.{Shows};
     ghost use Rattle.tree_live.specs.RowChanges.{rows_changed};
-    ghost use Rattle.tree_live.specs.Watching.{all_changes, all_out, by_marks, changes, counted, hits_in, staying, under, with_game};
+    ghost use Rattle.tree_live.specs.Watching.{all_changes, all_out, changes, counted, hits_in, staying, under, with_game};
     ghost use Rattle.tree_live.specs.Keeping.{DifferAt, entry_at, marked, no_game, reaching};
 
     /// Watches a board and side, of which these are the hits of the games, one optional hit each: the view is cleared and shows the
@@ -66,7 +66,7 @@ impl Watch {
     {
         view.clear();
         let mut watch = Watch::all_out(alloc, board, hits.as_slice())?;
-        watch.follow(alloc, view, Marks::Plies, filter.plies())?;
+        watch.follow_filter(alloc, view, filter)?;
         Ok(watch)
     }
 
@@ -90,7 +90,7 @@ impl Watch {
         ensures shown { OnOk result (Shows (hits_in self.new.games) (rows view.new)) }
         ensures told { told view.new ≤ told view.old + all_changes self.old.games (under filter.now self.old.games) }
     {
-        self.follow(alloc, view, Marks::Plies, filter.plies())
+        self.follow_filter(alloc, view, filter)
     }
 
     /// Game `i` has become another, or is added: its hit, if it has one, and whether it is in.
@@ -128,7 +128,7 @@ impl Watch {
         ensures shown { OnOk result (Shows (hits_in self.new.games) (rows view.new)) }
         ensures told { told view.new ≤ told view.old + all_changes self.old.games (staying renumbering.now.to self.old.games) }
     {
-        self.follow(alloc, view, Marks::Numbers, renumbering.to())?;
+        self.follow_numbers(alloc, view, renumbering.to())?;
         self.move_games(renumbering);
         Ok(())
     }
@@ -166,7 +166,7 @@ impl Watch {
         ensures watched { OnOk result (self.new ≡ record self.old { games = renumbered renumbering.now.to self.old.games }) }
     {
         let mut keys = Vec::new(alloc);
-        self.settle(Marks::Numbers, renumbering.to(), &mut keys)?;
+        self.take_numbers(renumbering.to(), &mut keys)?;
         self.move_games(renumbering);
         Ok(())
     }
@@ -177,7 +177,7 @@ impl Watch {
         ensures watched { OnOk result (self.new ≡ record self.old { games = under filter.now self.old.games }) }
     {
         let mut keys = Vec::new(alloc);
-        self.settle(Marks::Plies, filter.plies(), &mut keys)
+        self.take_filter(filter, &mut keys)
     }
 
     /// Tells a view the rows that differ from those that it shows.
@@ -219,40 +219,74 @@ impl Watch {
         })
     }
 
-    // Puts games in and out by their marks, and tells the view each row that differs, once.
-    fn follow(
+    // Puts games in and out by a filter, and tells the view each row that differs, once.
+    fn follow_filter(
         &mut self,
         alloc: Global,
         view: &mut dyn TreeView,
-        marks: Marks,
-        list: &[Option<u32>],
+        filter: &Filter,
     ) -> Result<(), AllocError>
-        requires same_games { length list.now ≡ length self.old.games }
+        requires same_games { length filter.now ≡ length self.old.games }
         requires shown { Shows (hits_in self.old.games) (rows view.old) }
-        ensures watched { OnOk result (self.new ≡ record self.old { games = by_marks marks list.now self.old.games }) }
+        ensures watched { OnOk result (self.new ≡ record self.old { games = under filter.now self.old.games }) }
         ensures shown { OnOk result (Shows (hits_in self.new.games) (rows view.new)) }
-        ensures told { told view.new ≤ told view.old + all_changes self.old.games (by_marks marks list.now self.old.games) }
+        ensures told { told view.new ≤ told view.old + all_changes self.old.games (under filter.now self.old.games) }
     {
         let mut keys = Vec::new(alloc);
-        self.settle(marks, list, &mut keys)?;
+        self.take_filter(filter, &mut keys)?;
         tell(&self.table, view, keys.as_slice())
     }
 
-    // Puts games in and out by their marks, and notes the keys of the rows that change.
-    fn settle(
+    // Puts the games out that get no new number, and tells the view each row that differs, once.
+    fn follow_numbers(
         &mut self,
-        marks: Marks,
-        list: &[Option<u32>],
+        alloc: Global,
+        view: &mut dyn TreeView,
+        to: &[Option<u32>],
+    ) -> Result<(), AllocError>
+        requires same_games { length to.now ≡ length self.old.games }
+        requires shown { Shows (hits_in self.old.games) (rows view.old) }
+        ensures watched { OnOk result (self.new ≡ record self.old { games = staying to.now self.old.games }) }
+        ensures shown { OnOk result (Shows (hits_in self.new.games) (rows view.new)) }
+        ensures told { told view.new ≤ told view.old + all_changes self.old.games (staying to.now self.old.games) }
+    {
+        let mut keys = Vec::new(alloc);
+        self.take_numbers(to, &mut keys)?;
+        tell(&self.table, view, keys.as_slice())
+    }
+
+    // Puts games in and out by a filter, and notes the keys of the rows that change.
+    fn take_filter(
+        &mut self,
+        filter: &Filter,
         keys: &mut Vec<Option<Move>>,
     ) -> Result<(), AllocError>
-        requires same_games { length list.now ≡ length self.old.games }
+        requires same_games { length filter.now ≡ length self.old.games }
         requires no_keys { keys.old.items ≡ [] }
-        ensures watched { OnOk result (self.new ≡ record self.old { games = by_marks marks list.now self.old.games }) }
+        ensures watched { OnOk result (self.new ≡ record self.old { games = under filter.now self.old.games }) }
         ensures differ { OnOk result (DifferAt keys.new.items self.old.games self.new.games) }
-        ensures few { OnOk result (length keys.new.items ≤ all_changes self.old.games (by_marks marks list.now self.old.games)) }
+        ensures few { OnOk result (length keys.new.items ≤ all_changes self.old.games (under filter.now self.old.games)) }
     {
-        for i in 0..list.len() {
-            self.mark(i, marks, list[i], keys)?;
+        for i in 0..filter.len() {
+            self.mark(i as usize, Marks::Plies, filter.get(i), keys)?;
+        }
+        Ok(())
+    }
+
+    // Puts the games out that get no new number, and notes the keys of the rows that change.
+    fn take_numbers(
+        &mut self,
+        to: &[Option<u32>],
+        keys: &mut Vec<Option<Move>>,
+    ) -> Result<(), AllocError>
+        requires same_games { length to.now ≡ length self.old.games }
+        requires no_keys { keys.old.items ≡ [] }
+        ensures watched { OnOk result (self.new ≡ record self.old { games = staying to.now self.old.games }) }
+        ensures differ { OnOk result (DifferAt keys.new.items self.old.games self.new.games) }
+        ensures few { OnOk result (length keys.new.items ≤ all_changes self.old.games (staying to.now self.old.games)) }
+    {
+        for i in 0..to.len() {
+            self.mark(i, Marks::Numbers, to[i], keys)?;
         }
         Ok(())
     }

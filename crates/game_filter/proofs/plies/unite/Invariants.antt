@@ -1,4 +1,4 @@
-use Rattle.std.proofs.Common.{◌≡◌, take}
+use Rattle.std.proofs.Common.{◌≡◌, length, take}
 use Rattle.game_filter.specs.Filter.{in_either, count_in}
 use Rattle.game_filter.proofs.Passes.{joined_below}
 use Rattle.game_filter.proofs.plies.unite.Given as goal
@@ -6,6 +6,7 @@ use Rattle.game_filter.proofs.plies.unite.Given as goal
 -- The games below i are joined, and those of them that are in are counted.
 abbrev pub invariant-loop-i : goal.invariant-loop-i
 invariant-loop-i l = record {
-  changed : l.plies ≡ joined_below in_either l.i l.fn.plies l.others;
-  counted : l.count ≡ count_in (take l.i l.plies);
+  changed : l.entries ≡ joined_below in_either l.i l.fn.entries l.others;
+  counted : l.count ≡ count_in (take l.i l.entries);
+  len : length l.entries ≡ length l.fn.entries;
 }

@@ -1,18 +1,16 @@
-use Rattle.std.proofs.Common.{◌≡◌, true, false, rules, arith}
-use Rattle.std.proofs.lemmas.Bool.{not-false, not-true}
-use Rattle.pos_search.specs.Matching.{same_pawn}
-use Rattle.pos_search.proofs.MatchLemmas.{pawns_all, pawns_fail, seen_more}
+use Rattle.std.proofs.Common.{ne_eqb, ◌∙◌}
+use Rattle.cell_core.specs.declared.man.Colour.TheVariants.{White}
+use Rattle.pos_search.proofs.PawnLemmas.{told-apart, told-same}
 use Rattle.pos_search.proofs.boards.same_pawns.Goals as goal
 
-pub returns-then-not-same_pawn : goal.returns-then-not-same_pawn
-returns-then-not-same_pawn c =
-    let fails : c.same_pawn.result ≡ false = search (rules, not-true c.same_pawn.result) in
-    pawns_fail c.args.a.now c.args.b.now c.loop-s.s c.loop-s-test.true (cc (c.same_pawn.ensures, fails))
+pub returns-then-of_man : goal.returns-then-of_man
+returns-then-of_man c =
+    told-same c.args.a.now c.args.b.now c.of_man.result c.of_man-2.result c.of_man-then-of_man.result c.of_man-then-of_man-2.result
+    c.of_man.ensures.on_board c.of_man-2.ensures.on_board c.of_man.ensures.squares c.of_man-2.ensures.squares c.of_man-then-of_man.ensures.squares
+    c.of_man-then-of_man-2.ensures.squares c.if-of_man.true
 
-pub loop-s-preserved : goal.loop-s-preserved
-loop-s-preserved c =
-    let passes : c.same_pawn.result ≡ true = search (rules, not-false c.same_pawn.result) in
-    seen_more (same_pawn c.args.a.now c.args.b.now) c.loop-s.s c.loop-s.invariant (cc (c.same_pawn.ensures, passes))
-
-pub returns : goal.returns
-returns c = pawns_all c.args.a.now c.args.b.now (λ s less. c.loop-s.invariant s (omega (arith, less)))
+pub returns-else-of_man : goal.returns-else-of_man
+returns-else-of_man c =
+    ne_eqb _ _ c.if-of_man.false
+    ∙ told-apart c.args.a.now c.args.b.now White c.of_man.result c.of_man-2.result c.of_man.ensures.on_board c.of_man-2.ensures.on_board
+    c.of_man.ensures.squares c.of_man-2.ensures.squares c.if-of_man.false

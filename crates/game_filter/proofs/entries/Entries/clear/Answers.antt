@@ -1,0 +1,13 @@
+use Rattle.std.proofs.Common.{arith, rules}
+use Rattle.std.specs.Vec.{with_items}
+use Rattle.std.proofs.lemmas.List.{with_items_is}
+use Rattle.game_filter.proofs.EntryLaws.{emptied}
+use Rattle.game_filter.proofs.entries.Entries.clear.Goals as goal
+
+pub returns : goal.returns
+returns c =
+    let entries = c.self.inside in
+    record {
+      none = emptied entries.inside.items entries.plies.items (with_items entries.inside c.fill.new.self).items c.fill.new.self c.args.self.now c.self.view_is
+          (omega (arith, entries.plies.ok.0, entries.inside.ok.0, c.self.invariant.1)) (with_items_is entries.inside c.fill.new.self (search rules)) (search rules);
+    }
