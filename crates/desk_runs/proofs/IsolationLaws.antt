@@ -1,14 +1,24 @@
 -- Two desks at which one client can see no difference.
-use Rattle.std.proofs.Common.{◌≡◌, ℕ, zero, suc, ◌==◌, Bool, true, false, cond, List, [], ◌∷◌, Option, Some, None, unwrap_or, option_map, map, slice_get, slice_set, refl, sym, ap, subst, ◌∙◌}
-use Rattle.std.proofs.lemmas.Bool.{eqb-true, eqb-false}
-use Rattle.filter_seat.specs.Seats.{Seat}
+use Rattle.std.proofs.Common.{◌≡◌, ℕ, zero, suc, ◌+◌, ◌==◌, nat_le, nat_lt, Bool, true, false, cond, List, [], ◌∷◌, Option, Some, None, Ok, Err, codes, unwrap_or, option_map, map, slice_get, refl, sym, ap, subst, ◌∙◌, arith}
+use Rattle.std.proofs.lemmas.Bool.{eqb-true, eqb-false, leb-true, ltb-true}
+use Rattle.filter_seat.specs.Seats.{Seat, first_seat}
+use Rattle.script_lines.proofs.ClientLaws.{none_ends}
+use Rattle.script_lines.specs.Clients.{Clients, Order, Tagged, has_ended, heard, is_quit, said as said_by}
+use Rattle.script_lines.specs.declared.line.Line.{Line}
 use Rattle.script_text.specs.Tasks.{Task}
-use Rattle.shell_commands.specs.Tasks.{task_work}
-use Rattle.shell_state.specs.Slots.{Slot}
+use Rattle.script_text.specs.declared.command.Command.TheVariants.{Nothing, Find, SearchPosition, SearchMaterial, SearchHeader, Reset, Clear, Negate, Restrict, Keep, Take, And, Or, Drop, Hits, List as Listing, Show, Export, Import, Replace, Eco, Tag, Delete, Undelete, Mark, Tree, Watch, View, Unwatch, Cross, Twins, Index, Save, Info, Demo, Quit, Compact}
+use Rattle.shell_commands.specs.Tasks.{task_work, tasks}
 use Rattle.shell_state.specs.State.{Shared, State}
-use Rattle.desk_runs.specs.Desk.{Desk, Tagged, Said, Kind, private, public, adds, moves, leaves, is_private, is_last, order_kind, no_seat, seat_at, slots_of, has_ended, seen_by, after_task, brought, each_seat, desk_with, desk_after, desk_said, desk_run, late_text}
-use Rattle.desk_runs.specs.Isolation.{said_to, without_private}
-use Rattle.desk_runs.proofs.SharedLaws.{Own, private-keeps, same-shared, state_of}
+use Rattle.tagged_text.specs.Tagged.{tagged}
+use Rattle.view_commands.specs.Views.{all_slots, is_own}
+use Rattle.view_commands.specs.declared.window.Window.{Window}
+use Rattle.desk_commands.proofs.SharedLaws.{Own, private-keeps, same-shared, state_of}
+use Rattle.desk_commands.specs.Desk.{Desk, brought, client_tag, desk_after, desk_by, desk_done, desk_said, desk_text, each_seat, own_tasks, seat_at, seen_by, unless_nothing, window_of}
+use Rattle.desk_commands.specs.Kinds.{is_private, order_kind}
+use Rattle.desk_commands.specs.declared.kinds.Kind.{Kind}
+use Rattle.desk_commands.specs.declared.kinds.Kind.TheVariants.{Private, Public, Adds, Moves}
+use Rattle.desk_runs.specs.Isolation.{Said, desk_run, is_by, said_to, without_private}
+use Rattle.desk_runs.proofs.SlotLaws.{OwnAlone, SameOwn, both-given, own-alone}
 
 -- ---- seats
 
@@ -33,197 +43,307 @@ other-seat zero (suc by) own bring (seat ∷ seats) differ = refl
 other-seat (suc c) zero own bring (seat ∷ seats) differ = got-map bring seats c
 other-seat (suc c) (suc by) own bring (seat ∷ seats) differ = other-seat c by own bring seats (λ e. differ (ap (λ (n : ℕ). suc n) e))
 
--- ---- slots
+-- ---- windows
 
-got-set : (slots : List (List Slot)) (i : ℕ) (own : List Slot) → slice_get (slice_set slots i own) i ≡ option_map (λ old. own) (slice_get slots i)
-got-set [] zero own = refl
-got-set [] (suc i) own = refl
-got-set (slot ∷ slots) zero own = refl
-got-set (slot ∷ slots) (suc i) own = got-set slots i own
+-- The two slots of a client of four.
+abbrev two_of : ℕ → Window
+two_of c = record { first = c + c; count = 2 }
 
-got-other : (slots : List (List Slot)) (i c : ℕ) (own : List Slot) → (i ≡ c → ⊥) → slice_get (slice_set slots i own) c ≡ slice_get slots c
-got-other [] i c own differ = refl
-got-other (slot ∷ slots) zero zero own differ = absurd (differ refl)
-got-other (slot ∷ slots) zero (suc c) own differ = refl
-got-other (slot ∷ slots) (suc i) zero own differ = refl
-got-other (slot ∷ slots) (suc i) (suc c) own differ = got-other slots i c own (λ e. differ (ap (λ (n : ℕ). suc n) e))
+window-if : (c : ℕ) (four : Bool) → four ≡ true → cond four (two_of c) all_slots ≡ two_of c
+window-if c true e = refl
+window-if c false e = absurd cc
+
+window-two : (c : ℕ) (d : Desk) → d.clients.tagged ≡ true → window_of d.clients c ≡ two_of c
+window-two c d four = window-if c d.clients.tagged four
+
+apart-if : (c by i : ℕ) (own : Bool) → (by ≡ c → ⊥) → is_own (two_of c) i ≡ true → is_own (two_of by) i ≡ own → own ≡ false
+apart-if c by i false differ his e = refl
+apart-if c by i true differ his e =
+    let (from, to) = both-given (nat_le (c + c) i) (nat_lt i (c + c + 2)) his in
+    let (start, end) = both-given (nat_le (by + by) i) (nat_lt i (by + by + 2)) e in
+    absurd (differ (omega (arith, leb-true (c + c) i from, ltb-true i (c + c + 2) to, leb-true (by + by) i start, ltb-true i (by + by + 2) end)))
+
+-- A slot of one of four is none of another one's.
+apart : (c by i : ℕ) → (by ≡ c → ⊥) → is_own (two_of c) i ≡ true → is_own (two_of by) i ≡ false
+apart c by i differ his = apart-if c by i (is_own (two_of by) i) differ his refl
 
 -- ---- two desks
 
--- A client has the same seat, and slots that show the same, and the same is shared, and the same clients have ended.
+-- The same is shared, and the same clients may speak; one of the four has the same seat, and slots that show the same.
 record Alike (c : ℕ) (d e : Desk) : Type 0 where
   shared : d.shared ≡ e.shared
   seat : slice_get d.seats c ≡ slice_get e.seats c
-  slots : slice_get d.slots c ≡ slice_get e.slots c
-  ended : d.ended ≡ e.ended
+  slots : (i : ℕ) → is_own (two_of c) i ≡ true → slice_get d.slots i ≡ slice_get e.slots i
+  clients : d.clients ≡ e.clients
+  tagged : d.clients.tagged ≡ true
 
-same-late : (c by : ℕ) (d e : Desk) → Alike c d e → has_ended d by ≡ has_ended e by
-same-late c by d e alike = ap (λ (ended : List Bool). unwrap_or (slice_get ended by) true) alike.ended
+abbrev own_of : Desk → ℕ → Own
+own_of d c = record { seat = seat_at d c; slots = d.slots }
 
 alike-cond : (c : ℕ) (b late : Bool) (d e d1 e1 : Desk) → b ≡ late → Alike c d e → Alike c d1 e1 → Alike c (cond b d d1) (cond late e e1)
 alike-cond c true late d e d1 e1 same ended not_ended = subst (λ (x : Bool). Alike c d (cond x e e1)) same ended
 alike-cond c false late d e d1 e1 same ended not_ended = subst (λ (x : Bool). Alike c d1 (cond x e e1)) same not_ended
 
-same-ended : (t : Tagged) (d e : List Bool) → d ≡ e
-    → cond (is_last (order_kind t.task.order)) (slice_set d t.client true) d ≡ cond (is_last (order_kind t.task.order)) (slice_set e t.client true) e
-same-ended t d e same = ap (λ (ended : List Bool). cond (is_last (order_kind t.task.order)) (slice_set ended t.client true) ended) same
+same-ended : (c by : ℕ) (d e : Desk) → Alike c d e → has_ended d.clients by ≡ has_ended e.clients by
+same-ended c by d e alike = ap (λ (clients : Clients). has_ended clients by) alike.clients
 
-abbrev own_of : Desk → ℕ → Own
-own_of d c = record { seat = seat_at d c; slots = slots_of d c }
+-- All hear a line.
+alike-heard : (c : ℕ) (line : Line) (d e d1 e1 : Desk) → Alike c d e → Alike c d1 e1
+    → Alike c (record d1 { clients = heard d.clients line }) (record e1 { clients = heard e.clients line })
+alike-heard c line d e d1 e1 alike done = record {
+  shared = done.shared;
+  seat = done.seat;
+  slots = done.slots;
+  clients = ap (λ (clients : Clients). heard clients line) alike.clients;
+  tagged = alike.tagged;
+}
 
--- The client's own command.
-same-seen : (c : ℕ) (d e : Desk) → Alike c d e → seen_by d c ≡ seen_by e c
-same-seen c d e alike =
-    ap (λ (h : Shared). state_of h (own_of d c)) alike.shared ∙ ap (λ (seat : Option Seat). state_of e.shared (record { seat = unwrap_or seat no_seat; slots = slots_of d c })) alike.seat
-    ∙ ap (λ (slots : Option (List Slot)). state_of e.shared (record { seat = seat_at e c; slots = unwrap_or slots [] })) alike.slots
+-- ---- the client's own line
 
-alike-own : (c : ℕ) (t : Tagged) (d e : Desk) → t.client ≡ c → Alike c d e → Alike c (desk_after d t) (desk_after e t)
-alike-own c t d e is alike =
-    alike-cond c (has_ended d t.client) (has_ended e t.client) d e (desk_with d t after_d) (desk_with e t after_e) (same-late c t.client d e alike) alike (record {
-      shared = ap (λ (s : State). s.shared) same;
-      seat = seats;
-      slots = slots;
-      ended = same-ended t d.ended e.ended alike.ended;
-    })
+-- At a desk of four his tasks are those of his two slots.
+his-alone : (c : ℕ) (d : Desk) (task : Task) → d.clients.tagged ≡ true → OwnAlone (two_of c) (task_work (window_of d.clients c) task)
+his-alone c d task four = subst (λ (w : Window). OwnAlone (two_of c) (task_work w task)) (sym (window-two c d four)) (own-alone (two_of c) task.order task.body)
+
+same-seen : (c : ℕ) (d e : Desk) → Alike c d e → SameOwn (two_of c) (seen_by d c) (seen_by e c)
+same-seen c d e alike = record { shared = alike.shared; seat = ap (λ (o : Option Seat). unwrap_or o (first_seat 0)) alike.seat; slots = alike.slots }
+
+-- What he makes of what he sees.
+abbrev made_by : Desk → ℕ → Task → State
+made_by d c task = (own_tasks d c).after (seen_by d c) task
+
+same-made : (c : ℕ) (task : Task) (d e : Desk) → Alike c d e → SameOwn (two_of c) (made_by d c task) (made_by e c task)
+same-made c task d e alike =
+    subst (λ (clients : Clients). SameOwn (two_of c) (made_by d c task) ((tasks (window_of clients c)).after (seen_by e c) task)) alike.clients
+    ((his-alone c d task alike.tagged).after (seen_by d c) (seen_by e c) (same-seen c d e alike))
+
+alike-own : (c : ℕ) (task : Task) (d e : Desk) → Alike c d e → Alike c (desk_by d c task) (desk_by e c task)
+alike-own c task d e alike = record {
+  shared = same.shared;
+  seat =
+      own-seat c (made_by d c task).seat (bring d) d.seats ∙ ap (λ (own : Seat). option_map (λ seat. own) (slice_get d.seats c)) same.seat
+      ∙ ap (λ (o : Option Seat). option_map (λ seat. (made_by e c task).seat) o) alike.seat ∙ sym (own-seat c (made_by e c task).seat (bring e) e.seats);
+  slots = same.slots;
+  clients = alike.clients;
+  tagged = alike.tagged;
+}
   where
-    after_d : State
-    after_d = after_task (seen_by d t.client) t.task
+    same : SameOwn (two_of c) (made_by d c task) (made_by e c task)
+    same = same-made c task d e alike
 
-    after_e : State
-    after_e = after_task (seen_by e t.client) t.task
+    bring : Desk → Seat → Seat
+    bring x = brought (order_kind task.order) task x.shared (made_by x c task).shared
 
-    same : after_d ≡ after_e
-    same = subst (λ (n : ℕ). after_task (seen_by d n) t.task ≡ after_task (seen_by e n) t.task) (sym is)
-        (ap (λ (s : State). after_task s t.task) (same-seen c d e alike))
+alike-done : (c : ℕ) (task : Task) (d e : Desk) → Alike c d e → Alike c (desk_done d (Some c) task) (desk_done e (Some c) task)
+alike-done c task d e alike =
+    alike-cond c (has_ended d.clients c) (has_ended e.clients c) d e (desk_by d c task) (desk_by e c task) (same-ended c c d e alike) alike (alike-own c task d e alike)
 
-    bring : Desk → State → Seat → Seat
-    bring x s = brought (order_kind t.task.order) t.task x.shared s.shared
+same-said : (c : ℕ) (task : Task) (d e : Desk) → Alike c d e → desk_said d c task ≡ desk_said e c task
+same-said c task d e alike =
+    ap (λ (text : List ℕ). cond (has_ended d.clients c) (unless_nothing (codes "client ended") task.order) text)
+    ((his-alone c d task alike.tagged).text (seen_by d c) (seen_by e c) (same-seen c d e alike))
+    ∙ ap
+    (λ (clients : Clients). cond (has_ended clients c) (unless_nothing (codes "client ended") task.order) ((tasks (window_of clients c)).text (seen_by e c) task)) alike.clients
 
-    seats : slice_get (each_seat t.client after_d.seat (bring d after_d) d.seats) c ≡ slice_get (each_seat t.client after_e.seat (bring e after_e) e.seats) c
-    seats = subst (λ (n : ℕ). slice_get (each_seat n after_d.seat (bring d after_d) d.seats) c ≡ slice_get (each_seat n after_e.seat (bring e after_e) e.seats) c) (sym is)
-        (own-seat c after_d.seat (bring d after_d) d.seats ∙ ap (λ (s : State). option_map (λ seat. s.seat) (slice_get d.seats c)) same
-        ∙ ap (λ (o : Option Seat). option_map (λ seat. after_e.seat) o) alike.seat ∙ sym (own-seat c after_e.seat (bring e after_e) e.seats))
+same-text : (c : ℕ) (task : Task) (d e : Desk) → Alike c d e
+    → desk_text d (record { client = Some c; task = task }) ≡ desk_text e (record { client = Some c; task = task })
+same-text c task d e alike =
+    ap (λ (text : List ℕ). cond d.clients.tagged (tagged (client_tag c) text) text) (same-said c task d e alike)
+    ∙ ap (λ (clients : Clients). cond clients.tagged (tagged (client_tag c) (desk_said e c task)) (desk_said e c task)) alike.clients
 
-    slots : slice_get (slice_set d.slots t.client after_d.slots) c ≡ slice_get (slice_set e.slots t.client after_e.slots) c
-    slots = subst (λ (n : ℕ). slice_get (slice_set d.slots n after_d.slots) c ≡ slice_get (slice_set e.slots n after_e.slots) c) (sym is)
-        (got-set d.slots c after_d.slots ∙ ap (λ (s : State). option_map (λ old. s.slots) (slice_get d.slots c)) same
-        ∙ ap (λ (o : Option (List Slot)). option_map (λ old. after_e.slots) o) alike.slots ∙ sym (got-set e.slots c after_e.slots))
+-- ---- a line of another client, or of none
 
-same-said : (c : ℕ) (t : Tagged) (d e : Desk) → t.client ≡ c → Alike c d e → desk_said d t ≡ desk_said e t
-same-said c t d e is alike =
-    ap (λ (b : Bool). cond b (late_text t.task.order) ((task_work t.task).text (seen_by d t.client))) (same-late c t.client d e alike)
-    ∙ ap (λ (s : State). cond (has_ended e t.client) (late_text t.task.order) ((task_work t.task).text s)) seen
+-- His slots stay where another one speaks.
+slots-stay : (c by i : ℕ) (task : Task) (d : Desk) → (by ≡ c → ⊥) → d.clients.tagged ≡ true → is_own (two_of c) i ≡ true
+    → slice_get (made_by d by task).slots i ≡ slice_get d.slots i
+slots-stay c by i task d differ four own = (his-alone by d task four).others (seen_by d by) i (apart c by i differ own)
+
+alike-other : (c by : ℕ) (task : Task) (d e : Desk) → (by ≡ c → ⊥) → Alike c d e → Alike c (desk_by d by task) (desk_by e by task)
+alike-other c by task d e differ alike = record {
+  shared = shared;
+  seat = seats;
+  slots = λ i own. slots-stay c by i task d differ alike.tagged own ∙ alike.slots i own ∙ sym (slots-stay c by i task e differ four own);
+  clients = alike.clients;
+  tagged = alike.tagged;
+}
   where
-    seen : seen_by d t.client ≡ seen_by e t.client
-    seen = subst (λ (n : ℕ). seen_by d n ≡ seen_by e n) (sym is) (same-seen c d e alike)
+    four : e.clients.tagged ≡ true
+    four = ap (λ (clients : Clients). clients.tagged) (sym alike.clients) ∙ alike.tagged
 
--- A command of another client.
-alike-other : (c : ℕ) (t : Tagged) (d e : Desk) → (t.client ≡ c → ⊥) → Alike c d e → Alike c (desk_after d t) (desk_after e t)
-alike-other c t d e differ alike =
-    alike-cond c (has_ended d t.client) (has_ended e t.client) d e (desk_with d t after_d) (desk_with e t after_e) (same-late c t.client d e alike) alike (record {
-      shared = shared;
-      seat = seats;
-      slots = got-other d.slots t.client c after_d.slots differ ∙ alike.slots ∙ sym (got-other e.slots t.client c after_e.slots differ);
-      ended = same-ended t d.ended e.ended alike.ended;
-    })
-  where
-    after_d : State
-    after_d = after_task (seen_by d t.client) t.task
-
-    after_e : State
-    after_e = after_task (seen_by e t.client) t.task
-
-    shared : after_d.shared ≡ after_e.shared
-    shared = same-shared t.task.order t.task.body d.shared (own_of d t.client) (own_of e t.client)
-        ∙ ap (λ (h : Shared). (after_task (state_of h (own_of e t.client)) t.task).shared) alike.shared
+    shared : (made_by d by task).shared ≡ (made_by e by task).shared
+    shared =
+        same-shared (window_of d.clients by) task.order task.body d.shared (own_of d by) (own_of e by)
+        ∙ ap (λ (h : Shared). ((tasks (window_of d.clients by)).after (state_of h (own_of e by)) task).shared) alike.shared
+        ∙ ap (λ (clients : Clients). ((tasks (window_of clients by)).after (seen_by e by) task).shared) alike.clients
 
     kind : Kind
-    kind = order_kind t.task.order
+    kind = order_kind task.order
 
-    seats : slice_get (each_seat t.client after_d.seat (brought kind t.task d.shared after_d.shared) d.seats) c
-        ≡ slice_get (each_seat t.client after_e.seat (brought kind t.task e.shared after_e.shared) e.seats) c
-    seats = other-seat c t.client after_d.seat (brought kind t.task d.shared after_d.shared) d.seats differ
-        ∙ ap (λ (h : Shared). option_map (brought kind t.task h after_d.shared) (slice_get d.seats c)) alike.shared
-        ∙ ap (λ (h : Shared). option_map (brought kind t.task e.shared h) (slice_get d.seats c)) shared
-        ∙ ap (λ (o : Option Seat). option_map (brought kind t.task e.shared after_e.shared) o) alike.seat
-        ∙ sym (other-seat c t.client after_e.seat (brought kind t.task e.shared after_e.shared) e.seats differ)
+    bring : Desk → Seat → Seat
+    bring x = brought kind task x.shared (made_by x by task).shared
 
--- A private command of another client.
+    seats : slice_get (each_seat by (made_by d by task).seat (bring d) d.seats) c ≡ slice_get (each_seat by (made_by e by task).seat (bring e) e.seats) c
+    seats =
+        other-seat c by (made_by d by task).seat (bring d) d.seats differ
+        ∙ ap (λ (h : Shared). option_map (brought kind task h (made_by d by task).shared) (slice_get d.seats c)) alike.shared
+        ∙ ap (λ (h : Shared). option_map (brought kind task e.shared h) (slice_get d.seats c)) shared
+        ∙ ap (λ (o : Option Seat). option_map (bring e) o) alike.seat
+        ∙ sym (other-seat c by (made_by e by task).seat (bring e) e.seats differ)
+
+alike-said : (c by : ℕ) (task : Task) (d e : Desk) → (by ≡ c → ⊥) → Alike c d e → Alike c (desk_done d (Some by) task) (desk_done e (Some by) task)
+alike-said c by task d e differ alike =
+    alike-cond c (has_ended d.clients by) (has_ended e.clients by) d e (desk_by d by task) (desk_by e by task) (same-ended c by d e alike) alike
+    (alike-other c by task d e differ alike)
+
+-- A private line of another client.
 brings-nothing : (kind : Kind) (task : Task) (before after : Shared) (o : Option Seat) → is_private kind ≡ true → option_map (brought kind task before after) o ≡ o
-brings-nothing private task before after None e = refl
-brings-nothing private task before after (Some seat) e = refl
-brings-nothing public task before after o e = absurd cc
-brings-nothing adds task before after o e = absurd cc
-brings-nothing moves task before after o e = absurd cc
-brings-nothing leaves task before after o e = absurd cc
+brings-nothing Private task before after None e = refl
+brings-nothing Private task before after (Some seat) e = refl
+brings-nothing Public task before after o e = absurd cc
+brings-nothing Adds task before after o e = absurd cc
+brings-nothing Moves task before after o e = absurd cc
 
-ends-nobody : (kind : Kind) (ended set : List Bool) → is_private kind ≡ true → cond (is_last kind) set ended ≡ ended
-ends-nobody private ended set e = refl
-ends-nobody public ended set e = absurd cc
-ends-nobody adds ended set e = absurd cc
-ends-nobody moves ended set e = absurd cc
-ends-nobody leaves ended set e = absurd cc
+alike-private : (c by : ℕ) (task : Task) (d e : Desk) → (by ≡ c → ⊥) → is_private (order_kind task.order) ≡ true → Alike c d e → Alike c (desk_by d by task) e
+alike-private c by task d e differ is alike = record {
+  shared = private-keeps (window_of d.clients by) task.order task.body d.shared (own_of d by) is ∙ alike.shared;
+  seat =
+      other-seat c by (made_by d by task).seat (brought (order_kind task.order) task d.shared (made_by d by task).shared) d.seats differ
+      ∙ brings-nothing (order_kind task.order) task d.shared (made_by d by task).shared (slice_get d.seats c) is ∙ alike.seat;
+  slots = λ i own. slots-stay c by i task d differ alike.tagged own ∙ alike.slots i own;
+  clients = alike.clients;
+  tagged = alike.tagged;
+}
 
 alike-left : (c : ℕ) (b : Bool) (d d1 e : Desk) → Alike c d e → Alike c d1 e → Alike c (cond b d d1) e
 alike-left c true d d1 e ended not_ended = ended
 alike-left c false d d1 e ended not_ended = not_ended
 
-alike-private : (c : ℕ) (t : Tagged) (d e : Desk) → (t.client ≡ c → ⊥) → is_private (order_kind t.task.order) ≡ true → Alike c d e → Alike c (desk_after d t) e
-alike-private c t d e differ is alike =
-    alike-left c (has_ended d t.client) d (desk_with d t after) e alike (record {
-      shared = private-keeps t.task.order t.task.body d.shared (own_of d t.client) is ∙ alike.shared;
-      seat = other-seat c t.client after.seat (brought (order_kind t.task.order) t.task d.shared after.shared) d.seats differ
-          ∙ brings-nothing (order_kind t.task.order) t.task d.shared after.shared (slice_get d.seats c) is ∙ alike.seat;
-      slots = got-other d.slots t.client c after.slots differ ∙ alike.slots;
-      ended = ends-nobody (order_kind t.task.order) d.ended (slice_set d.ended t.client true) is ∙ alike.ended;
-    })
-  where
-    after : State
-    after = after_task (seen_by d t.client) t.task
+-- Nobody ends with a private line.
+never-quits : (order : Order) → is_private (order_kind order) ≡ true → is_quit order ≡ false
+never-quits (Err fault) is = refl
+never-quits (Ok Nothing) is = refl
+never-quits (Ok (Find board side)) is = refl
+never-quits (Ok (SearchPosition op query)) is = refl
+never-quits (Ok (SearchMaterial op query)) is = refl
+never-quits (Ok (SearchHeader op query)) is = refl
+never-quits (Ok Reset) is = refl
+never-quits (Ok Clear) is = refl
+never-quits (Ok Negate) is = refl
+never-quits (Ok (Restrict first last)) is = refl
+never-quits (Ok (Keep name)) is = refl
+never-quits (Ok (Take name)) is = refl
+never-quits (Ok (And name)) is = refl
+never-quits (Ok (Or name)) is = refl
+never-quits (Ok (Drop name)) is = refl
+never-quits (Ok Hits) is = refl
+never-quits (Ok Listing) is = refl
+never-quits (Ok (Show game)) is = refl
+never-quits (Ok Export) is = refl
+never-quits (Ok (Import word)) is = refl
+never-quits (Ok (Replace game word)) is = refl
+never-quits (Ok (Eco word)) is = refl
+never-quits (Ok (Tag game edit)) is = refl
+never-quits (Ok (Delete game)) is = refl
+never-quits (Ok (Undelete game)) is = refl
+never-quits (Ok (Mark game bit on)) is = refl
+never-quits (Ok (Tree board side)) is = refl
+never-quits (Ok (Watch slot board side)) is = refl
+never-quits (Ok (View slot)) is = refl
+never-quits (Ok (Unwatch slot)) is = refl
+never-quits (Ok (Cross event)) is = refl
+never-quits (Ok (Twins depth)) is = refl
+never-quits (Ok (Index depth)) is = refl
+never-quits (Ok Save) is = refl
+never-quits (Ok Info) is = refl
+never-quits (Ok (Demo seed games)) is = refl
+never-quits (Ok Quit) is = absurd cc
+never-quits (Ok Compact) is = refl
+
+private-heard : (c : ℕ) (client : Option ℕ) (order : Order) (d d1 e : Desk) → is_private (order_kind order) ≡ true → Alike c d e → Alike c d1 e
+    → Alike c (record d1 { clients = heard d.clients (said_by client order) }) e
+private-heard c client order d d1 e is alike done = record {
+  shared = done.shared;
+  seat = done.seat;
+  slots = done.slots;
+  clients = none_ends d.clients (said_by client order) (never-quits order is) ∙ alike.clients;
+  tagged = alike.tagged;
+}
 
 -- ---- runs
-
-own-said : (c : ℕ) (t : Tagged) (list : List Tagged) (d : Desk) → (t.client == c) ≡ true
-    → said_to c (desk_run d (t ∷ list)) ≡ record { client = t.client; text = desk_said d t } ∷ said_to c (desk_run (desk_after d t) list)
-own-said c t list d e = rw e refl
-
-other-said : (c : ℕ) (t : Tagged) (list : List Tagged) (d : Desk) → (t.client == c) ≡ false → said_to c (desk_run d (t ∷ list)) ≡ said_to c (desk_run (desk_after d t) list)
-other-said c t list d e = rw e refl
-
-own-stays : (c : ℕ) (t : Tagged) (list : List Tagged) → (t.client == c) ≡ true → without_private c (t ∷ list) ≡ t ∷ without_private c list
-own-stays c t list e = rw e refl
-
-other-stays : (c : ℕ) (t : Tagged) (list : List Tagged) → (t.client == c) ≡ false → is_private (order_kind t.task.order) ≡ false
-    → without_private c (t ∷ list) ≡ t ∷ without_private c list
-other-stays c t list e p = rw e (rw p refl)
-
-private-goes : (c : ℕ) (t : Tagged) (list : List Tagged) → (t.client == c) ≡ false → is_private (order_kind t.task.order) ≡ true
-    → without_private c (t ∷ list) ≡ without_private c list
-private-goes c t list e p = rw e (rw p refl)
 
 abbrev SameTo : ℕ → List Tagged → Desk → Desk → Type 0
 SameTo c list d e = said_to c (desk_run d list) ≡ said_to c (desk_run e (without_private c list))
 
-alike-step : (t : Tagged) (list : List Tagged) (c : ℕ) (d e : Desk) → ((x y : Desk) → Alike c x y → SameTo c list x y) → Alike c d e
-    → (b p : Bool) → (t.client == c) ≡ b → is_private (order_kind t.task.order) ≡ p → SameTo c (t ∷ list) d e
-alike-step t list c d e rest alike true p own kind =
+-- The lines behind say the same wherever the client sees no difference.
+abbrev SameBehind : ℕ → List Tagged → Type 0
+SameBehind c list = (d e : Desk) → Alike c d e → SameTo c list d e
+
+own-said : (c : ℕ) (t : Tagged) (list : List Tagged) (d : Desk) → is_by c t.client ≡ true
+    → said_to c (desk_run d (t ∷ list)) ≡ record { client = t.client; text = desk_text d t } ∷ said_to c (desk_run (desk_after d t) list)
+own-said c t list d e = rw e refl
+
+other-said : (c : ℕ) (t : Tagged) (list : List Tagged) (d : Desk) → is_by c t.client ≡ false → said_to c (desk_run d (t ∷ list)) ≡ said_to c (desk_run (desk_after d t) list)
+other-said c t list d e = rw e refl
+
+own-stays : (c : ℕ) (t : Tagged) (list : List Tagged) → is_by c t.client ≡ true → without_private c (t ∷ list) ≡ t ∷ without_private c list
+own-stays c t list e = rw e refl
+
+other-stays : (c : ℕ) (t : Tagged) (list : List Tagged) → is_by c t.client ≡ false → is_private (order_kind t.task.order) ≡ false
+    → without_private c (t ∷ list) ≡ t ∷ without_private c list
+other-stays c t list e p = rw e (rw p refl)
+
+private-goes : (c : ℕ) (t : Tagged) (list : List Tagged) → is_by c t.client ≡ false → is_private (order_kind t.task.order) ≡ true
+    → without_private c (t ∷ list) ≡ without_private c list
+private-goes c t list e p = rw e (rw p refl)
+
+-- The client's own line.
+own-step : (t : Tagged) (list : List Tagged) (c : ℕ) (d e : Desk) → SameBehind c list → is_by c t.client ≡ true → desk_text d t ≡ desk_text e t
+    → Alike c (desk_after d t) (desk_after e t) → SameTo c (t ∷ list) d e
+own-step t list c d e rest own text alike =
     own-said c t list d own
-    ∙ ap (λ (text : List ℕ). record { client = t.client; text = text } ∷ said_to c (desk_run (desk_after d t) list)) (same-said c t d e (eqb-true t.client c own) alike)
-    ∙ ap (λ (texts : List Said). record { client = t.client; text = desk_said e t } ∷ texts)
-    (rest (desk_after d t) (desk_after e t) (alike-own c t d e (eqb-true t.client c own) alike))
+    ∙ ap (λ (text : List ℕ). record { client = t.client; text = text } ∷ said_to c (desk_run (desk_after d t) list)) text
+    ∙ ap (λ (texts : List Said). record { client = t.client; text = desk_text e t } ∷ texts) (rest (desk_after d t) (desk_after e t) alike)
     ∙ sym (own-said c t (without_private c list) e own) ∙ ap (λ (l : List Tagged). said_to c (desk_run e l)) (sym (own-stays c t list own))
-alike-step t list c d e rest alike false false other kind =
-    other-said c t list d other
-    ∙ rest (desk_after d t) (desk_after e t) (alike-other c t d e (eqb-false t.client c other) alike)
-    ∙ sym (other-said c t (without_private c list) e other) ∙ ap (λ (l : List Tagged). said_to c (desk_run e l)) (sym (other-stays c t list other kind))
-alike-step t list c d e rest alike false true other kind =
-    other-said c t list d other
-    ∙ rest (desk_after d t) e (alike-private c t d e (eqb-false t.client c other) kind alike)
-    ∙ ap (λ (l : List Tagged). said_to c (desk_run e l)) (sym (private-goes c t list other kind))
+
+-- Another one, public or private.
+other-step : (t : Tagged) (list : List Tagged) (c : ℕ) (d e : Desk) → SameBehind c list → is_by c t.client ≡ false → (p : Bool)
+    → is_private (order_kind t.task.order) ≡ p → (p ≡ true → Alike c (desk_after d t) e) → Alike c (desk_after d t) (desk_after e t) → SameTo c (t ∷ list) d e
+other-step t list c d e rest other false kind kept alike =
+    other-said c t list d other ∙ rest (desk_after d t) (desk_after e t) alike ∙ sym (other-said c t (without_private c list) e other)
+    ∙ ap (λ (l : List Tagged). said_to c (desk_run e l)) (sym (other-stays c t list other kind))
+other-step t list c d e rest other true kind kept alike =
+    other-said c t list d other ∙ rest (desk_after d t) e (kept refl) ∙ ap (λ (l : List Tagged). said_to c (desk_run e l)) (sym (private-goes c t list other kind))
+
+abbrev by_client : Option ℕ → Task → Tagged
+by_client client task = record { client = client; task = task }
+
+none-step : (task : Task) (list : List Tagged) (c : ℕ) (d e : Desk) → SameBehind c list → Alike c d e → SameTo c (by_client None task ∷ list) d e
+none-step task list c d e rest alike =
+    other-step (by_client None task) list c d e rest refl (is_private (order_kind task.order)) refl
+    (λ is. private-heard c None task.order d d e is alike alike) (alike-heard c (said_by None task.order) d e d e alike alike)
+
+client-step : (task : Task) (list : List Tagged) (c by : ℕ) (d e : Desk) → SameBehind c list → Alike c d e → (own : Bool) → (by == c) ≡ own
+    → SameTo c (by_client (Some by) task ∷ list) d e
+client-step task list c by d e rest alike true own =
+    subst (λ (n : ℕ). SameTo c (by_client (Some n) task ∷ list) d e) (sym (eqb-true by c own))
+    (own-step (by_client (Some c) task) list c d e rest (subst (λ (n : ℕ). (n == c) ≡ true) (eqb-true by c own) own) (same-text c task d e alike)
+    (alike-heard c (said_by (Some c) task.order) d e (desk_done d (Some c) task) (desk_done e (Some c) task) alike (alike-done c task d e alike)))
+client-step task list c by d e rest alike false own =
+    let differ : by ≡ c → ⊥ = eqb-false by c own in
+    other-step (by_client (Some by) task) list c d e rest own (is_private (order_kind task.order)) refl
+    (λ is.
+    private-heard c (Some by) task.order d (desk_done d (Some by) task) e is alike
+    (alike-left c (has_ended d.clients by) d (desk_by d by task) e alike (alike-private c by task d e differ is alike)))
+    (alike-heard c (said_by (Some by) task.order) d e (desk_done d (Some by) task) (desk_done e (Some by) task) alike (alike-said c by task d e differ alike))
+
+alike-step : (client : Option ℕ) (task : Task) (list : List Tagged) (c : ℕ) (d e : Desk) → SameBehind c list → Alike c d e
+    → SameTo c (by_client client task ∷ list) d e
+alike-step None task list c d e rest alike = none-step task list c d e rest alike
+alike-step (Some by) task list c d e rest alike = client-step task list c by d e rest alike (by == c) refl
 
 alike-run : (list : List Tagged) (c : ℕ) (d e : Desk) → Alike c d e → SameTo c list d e
 alike-run [] c d e alike = refl
-alike-run (t ∷ list) c d e alike = alike-step t list c d e (λ x y same. alike-run list c x y same) alike (t.client == c) (is_private (order_kind t.task.order)) refl refl
+alike-run (t ∷ list) c d e alike = alike-step t.client t.task list c d e (λ x y same. alike-run list c x y same) alike
 
-pub isolation : (desk : Desk) (list : List Tagged) (client : ℕ) → said_to client (desk_run desk list) ≡ said_to client (desk_run desk (without_private client list))
-isolation desk list client = alike-run list client desk desk (record { shared = refl; seat = refl; slots = refl; ended = refl })
+pub isolation : (desk : Desk) (list : List Tagged) (client : ℕ) → desk.clients.tagged ≡ true
+    → said_to client (desk_run desk list) ≡ said_to client (desk_run desk (without_private client list))
+isolation desk list client four = alike-run list client desk desk (record { shared = refl; seat = refl; slots = λ i own. refl; clients = refl; tagged = four })

@@ -1,2 +1,2 @@
-pub mod SharedLaws
+pub mod SlotLaws
 pub mod IsolationLaws

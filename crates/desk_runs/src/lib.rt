@@ -1,4 +1,4 @@
-//! Runs of four clients over the plain machine, and what one of them sees of the others.
+//! Runs of four clients at a desk, and what one of them sees of the others.
 #![tactic(auto)]
 
 mod laws;

@@ -1,4 +1,4 @@
-//! `scid_shell [--create] [--strict] BASE`: runs the script on standard input over a Scid base, and writes its text on standard output.
+//! `scid_shell [--create] [--strict] [--desk] BASE`: runs the script on standard input over a Scid base, and writes its text on standard output.
 #![tactic(auto)]
 
 ghost use Rattle.std.specs.Prelude.{◌≡◌, ◌≢◌, ◌≤◌, MatchResult, length};

@@ -7,7 +7,7 @@ use shell_session::Status;
 
 /// The answer to `--help`.
 pub const HELP: &str = "\
-usage: scid_shell [--create] [--strict] BASE < SCRIPT
+usage: scid_shell [--create] [--strict] [--desk] BASE < SCRIPT
 
 Runs a script over the Scid base BASE.si4, BASE.sn4, BASE.sg4, and writes the
 line `base G games M mended` and then the text of each command.
@@ -15,6 +15,10 @@ line `base G games M mended` and then the text of each command.
   --create    makes the files that are absent; three empty files are a base
   --strict    refuses a base whose index differs from its records, where it
               is else mended in memory
+  --desk      serves four clients from one script: each line begins with @0,
+              @1, @2 or @3 and a space, as each line of the answers does; each
+              client has a filter, kept filters and two slots of his own, and
+              all share the base
 
 A script has a command a line. A line that is empty or begins with # does
 nothing. Words stand between spaces and tabs; a quoted part keeps its spaces.
@@ -81,7 +85,7 @@ pub fn message(status: &Status) -> &'static str
 {
     match status {
         Status::Done => "",
-        Status::Usage => "usage: scid_shell [--create] [--strict] BASE",
+        Status::Usage => "usage: scid_shell [--create] [--strict] [--desk] BASE",
         Status::BadBase(_) => "bad base: ",
         Status::ReadFault => "read fault",
         Status::WriteFault => "write fault",

@@ -38,7 +38,7 @@ fn tells_every_status(rt: HostRuntime) -> Result<(), Fail> {
         kept: SIG,
         found: None,
     };
-    let usage = "usage: scid_shell [--create] [--strict] BASE";
+    let usage = "usage: scid_shell [--create] [--strict] [--desk] BASE";
     for (status, code, line) in [
         (Status::Done, 0, ""),
         (Status::Usage, 1, usage),

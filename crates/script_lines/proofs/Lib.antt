@@ -5,3 +5,4 @@ pub mod StandingLaws
 pub mod PlaceLaws
 pub mod TaskLaws
 pub mod LineLaws
+pub mod ClientLaws

@@ -18,6 +18,7 @@ use Rattle.script_lines.proofs.StandingLaws.{left_ended, left_given, left_over, 
 pub record Looked (p q : Place) (l l' : Option (List ℕ)) : Type 0 where
   pub rest : q ≡ record p { reader = q.reader }
   pub kept : before q.reader.unread l' ≡ before p.reader.unread l
+  pub tagged : q.reader.tagged ≡ p.reader.tagged
   pub used : q.reader.used ≡ p.reader.used
   pub inside : is_open p.at ≡ true
   pub free : p.stuck ≡ None
@@ -44,7 +45,7 @@ pub looked_stands : (s : Start) (p q : Place) (l l' : Option (List ℕ)) (b b' f
     → b' ≤ b → f ≤ f' → Standing s p l b f → Standing s q l' b' f'
 looked_stands s p q l l' b b' f f' seen sum falls counts st =
     standing_at s (record p { reader = q.reader }) q l' b' f' seen.rest
-    (standing_filled s p q.reader l l' b b' f f' seen.kept seen.used sum falls counts seen.inside seen.free st)
+    (standing_filled s p q.reader l l' b b' f f' seen.kept seen.tagged seen.used sum falls counts seen.inside seen.free st)
 
 -- A part of the body was given.
 pub given_left : (p q r : Place) (l l' : Option (List ℕ)) (count : ℕ) (part : List ℕ) → Looked p q l l' → r ≡ record q { reader = r.reader; at = r.at } → 0 < count
@@ -94,9 +95,9 @@ none_stuck None some is misses = refl
 none_stuck (Some e) some is misses = absurd (cc)
 
 pub looked : (p q : Place) (l l' : Option (List ℕ)) (over some : Bool) → q ≡ record p { reader = q.reader } → before q.reader.unread l' ≡ before p.reader.unread l
-    → q.reader.used ≡ p.reader.used → over ≡ not (is_open p.at) → over ≡ false → some ≡ is_some p.stuck → some ≡ false → Looked p q l l'
-looked p q l l' over some rest kept used over_is over_not some_is some_not =
-    record { rest = rest; kept = kept; used = used; inside = not_over p.at over over_is over_not; free = none_stuck p.stuck some some_is some_not }
+    → q.reader.tagged ≡ p.reader.tagged → q.reader.used ≡ p.reader.used → over ≡ not (is_open p.at) → over ≡ false → some ≡ is_some p.stuck → some ≡ false → Looked p q l l'
+looked p q l l' over some rest kept tagged used over_is over_not some_is some_not =
+    record { rest = rest; kept = kept; tagged = tagged; used = used; inside = not_over p.at over over_is over_not; free = none_stuck p.stuck some some_is some_not }
 
 seen_by : (unread : List ℕ) (l : Option (List ℕ)) (k : ℕ) (fresh : Bool) (word ahead : List ℕ) → ((more : List ℕ) → (fresh && is_word word (take k unread ++ more)) ≡ false)
     → before unread l ≡ Some ahead → (fresh && is_word word ahead) ≡ false

@@ -8,12 +8,13 @@ use Rattle.std.proofs.lemmas.List.{take-append-le, take-take, take_all, take-app
 use borrow.Rule.Slice.PartMut.{post_of, put_mid}
 use Rattle.base_files.specs.Told.{before}
 use Rattle.base_files.proofs.Telling.{before-nil, before-append}
-use Rattle.script_text.specs.Reading.{reading}
 use Rattle.script_lines.specs.Bytewise.{script_from}
-use Rattle.script_lines.specs.Script.{Order, Script, script}
+use Rattle.script_lines.specs.Clients.{line_of}
+use Rattle.script_lines.specs.Script.{Script, script}
+use Rattle.script_lines.specs.declared.line.Line.{Line}
 use Rattle.script_lines.specs.Bodies.{feed_at}
 use Rattle.script_lines.specs.Reading.{Reader, TookLine, TookPart, grown, led_on, most_kept}
-use Rattle.script_lines.proofs.ScriptLaws.{feed_at_position, feed_room, first_feed, grown_none, line_read, part_read, reading_kept, script_kept}
+use Rattle.script_lines.proofs.ScriptLaws.{feed_at_position, feed_room, first_feed, grown_none, line_kept, line_read, part_read, script_kept}
 
 -- What is ahead is a front part of the unread bytes, and what is ahead then.
 rest_ahead : (n : ℕ) (unread later : List ℕ) (l : Option (List ℕ)) → later ≡ drop n unread → before unread l ≡ before (take n unread) (before later l)
@@ -22,37 +23,41 @@ rest_ahead n unread later l rest =
 
 -- The bytes up to a line feed were taken.
 pub took_line : (old new : Reader) (within place : ℕ) (l : Option (List ℕ)) → feed_at (take within old.unread) ≡ Some place
-    → new.unread ≡ drop 1 (drop place old.unread) → new.line ≡ take most_kept (old.line ++ take place old.unread) → new.used ≡ old.used + place + 1
-    → TookLine old.line old l (reading new.line) new l
-took_line old new within place l at unread line used =
+    → new.unread ≡ drop 1 (drop place old.unread) → new.tagged ≡ old.tagged → new.line ≡ take most_kept (old.line ++ take place old.unread) → new.used ≡ old.used + place + 1
+    → TookLine old.line old l (line_of new.tagged new.line) new l
+took_line old new within place l at unread tagged line used =
     let there : (first_feed old.unread ≡ Some place) × (place < length old.unread) × (place < within) = feed_room within old.unread place at in
     let n : length (take (suc place) old.unread) ≡ suc place = length-take-le (suc place) old.unread (omega (arith, there.1)) in
-    let same : reading (old.line ++ take place old.unread) ≡ reading new.line = sym (reading_kept (old.line ++ take place old.unread)) ∙ ap reading (sym line) in
+    let same : line_of old.tagged (old.line ++ take place old.unread) ≡ line_of new.tagged new.line =
+    sym (line_kept old.tagged (old.line ++ take place old.unread)) ∙ ap (line_of old.tagged) (sym line) ∙ ap (λ (b : Bool). line_of b new.line) (sym tagged) in
     let e : place + 1 ≡ suc place = omega arith in
     record {
       front = take (suc place) old.unread;
       ahead = rest_ahead (suc place) old.unread new.unread l (unread ∙ drop-drop 1 place old.unread ∙ ap (λ k. drop k old.unread) e);
+      tagged = tagged;
       used = omega (arith, used, n);
-      ends = λ last more.
-          line_read last old.line old.unread more place there.0
-          ∙ ap (λ order. grown (suc place) (led_on last order more)) same
-          ∙ ap (λ k. grown k (led_on last (reading new.line) more)) (sym n);
+      ends = λ last clients more kind.
+          line_read last clients old.line old.unread more place there.0
+          ∙ ap (λ (b : Bool). grown (suc place) (led_on last clients (line_of b (old.line ++ take place old.unread)) more)) kind
+          ∙ ap (λ says. grown (suc place) (led_on last clients says more)) same
+          ∙ ap (λ k. grown k (led_on last clients (line_of new.tagged new.line) more)) (sym n);
     }
 
 -- Bytes without a line feed were taken.
 pub took_part : (old new : Reader) (within : ℕ) (l : Option (List ℕ)) → feed_at (take within old.unread) ≡ None → within ≤ length old.unread
-    → new.unread ≡ drop within old.unread → new.line ≡ take most_kept (old.line ++ take within old.unread) → new.used ≡ old.used + within
+    → new.unread ≡ drop within old.unread → new.tagged ≡ old.tagged → new.line ≡ take most_kept (old.line ++ take within old.unread) → new.used ≡ old.used + within
     → TookPart old.line old l new l
-took_part old new within l none fits unread line used =
+took_part old new within l none fits unread tagged line used =
     let n : length (take within old.unread) ≡ within = length-take-le within old.unread fits in
     record {
       front = take within old.unread;
       ahead = rest_ahead within old.unread new.unread l unread;
+      tagged = tagged;
       used = omega (arith, used, n);
-      feeds = λ last more.
-          part_read last old.line (take within old.unread) more (sym (feed_at_position (take within old.unread)) ∙ none)
+      feeds = λ last clients more.
+          part_read last clients old.line (take within old.unread) more (sym (feed_at_position (take within old.unread)) ∙ none)
           ∙ ap (grown (length (take within old.unread)))
-          (sym (script_kept last (old.line ++ take within old.unread) more) ∙ ap (λ k. script_from last 0 k more) (sym line));
+          (sym (script_kept last clients (old.line ++ take within old.unread) more) ∙ ap (λ k. script_from last clients 0 k more) (sym line));
     }
 
 -- Nothing was taken yet.
@@ -60,18 +65,20 @@ pub took_none : (reader : Reader) (l : Option (List ℕ)) → reader.line ≡ []
 took_none reader l fresh = record {
   front = [];
   ahead = sym (before-nil (before reader.unread l));
+  tagged = refl;
   used = omega arith;
-  feeds = λ last more. ap (λ k. script_from last 0 k more) (sym fresh) ∙ sym (grown_none (script_from last 0 reader.line more));
+  feeds = λ last clients more. ap (λ k. script_from last clients 0 k more) (sym fresh) ∙ sym (grown_none (script_from last clients 0 reader.line more));
 }
 
 -- More was read.
 pub took_filled : (line : List ℕ) (old mid new : Reader) (l l' l'' : Option (List ℕ)) → TookPart line old l mid l'
-    → before mid.unread l' ≡ before new.unread l'' → new.line ≡ mid.line → new.used ≡ mid.used → TookPart line old l new l''
-took_filled line old mid new l l' l'' took given same_line same_used = record {
+    → before mid.unread l' ≡ before new.unread l'' → new.tagged ≡ mid.tagged → new.line ≡ mid.line → new.used ≡ mid.used → TookPart line old l new l''
+took_filled line old mid new l l' l'' took given same_tagged same_line same_used = record {
   front = took.front;
   ahead = took.ahead ∙ ap (before took.front) given;
+  tagged = same_tagged ∙ took.tagged;
   used = same_used ∙ took.used;
-  feeds = λ last more. took.feeds last more ∙ ap (λ k. grown (length took.front) (script_from last 0 k more)) (sym same_line);
+  feeds = λ last clients more. took.feeds last clients more ∙ ap (λ k. grown (length took.front) (script_from last clients 0 k more)) (sym same_line);
 }
 
 grown_twice : (m n : ℕ) (s : Script) → grown m (grown n s) ≡ grown (m + n) s
@@ -88,30 +95,32 @@ took_twice line old mid new l l' l'' first second =
     record {
       front = first.front ++ second.front;
       ahead = behind first.front second.front _ _ _ first.ahead second.ahead;
+      tagged = second.tagged ∙ first.tagged;
       used = omega (arith, first.used, second.used, n);
-      feeds = λ last more.
-          ap (script_from last 0 line) (append_assoc first.front second.front more)
-          ∙ first.feeds last (second.front ++ more)
-          ∙ ap (grown (length first.front)) (second.feeds last more)
-          ∙ grown_twice (length first.front) (length second.front) (script_from last 0 new.line more)
-          ∙ ap (λ k. grown k (script_from last 0 new.line more)) (sym n);
+      feeds = λ last clients more.
+          ap (script_from last clients 0 line) (append_assoc first.front second.front more)
+          ∙ first.feeds last clients (second.front ++ more)
+          ∙ ap (grown (length first.front)) (second.feeds last clients more)
+          ∙ grown_twice (length first.front) (length second.front) (script_from last clients 0 new.line more)
+          ∙ ap (λ k. grown k (script_from last clients 0 new.line more)) (sym n);
     }
 
 -- A part of a line, and then its rest.
-pub took_rest : (line : List ℕ) (old mid new : Reader) (order : Order) (l l' l'' : Option (List ℕ)) → TookPart line old l mid l' → TookLine mid.line mid l' order new l''
-    → TookLine line old l order new l''
-took_rest line old mid new order l l' l'' first second =
+pub took_rest : (line : List ℕ) (old mid new : Reader) (says : Line) (l l' l'' : Option (List ℕ)) → TookPart line old l mid l' → TookLine mid.line mid l' says new l''
+    → TookLine line old l says new l''
+took_rest line old mid new says l l' l'' first second =
     let n : length (first.front ++ second.front) ≡ length first.front + length second.front = length-append first.front second.front in
     record {
       front = first.front ++ second.front;
       ahead = behind first.front second.front _ _ _ first.ahead second.ahead;
+      tagged = second.tagged ∙ first.tagged;
       used = omega (arith, first.used, second.used, n);
-      ends = λ last more.
-          ap (script_from last 0 line) (append_assoc first.front second.front more)
-          ∙ first.feeds last (second.front ++ more)
-          ∙ ap (grown (length first.front)) (second.ends last more)
-          ∙ grown_twice (length first.front) (length second.front) (led_on last order more)
-          ∙ ap (λ k. grown k (led_on last order more)) (sym n);
+      ends = λ last clients more kind.
+          ap (script_from last clients 0 line) (append_assoc first.front second.front more)
+          ∙ first.feeds last clients (second.front ++ more)
+          ∙ ap (grown (length first.front)) (second.ends last clients more (kind ∙ sym first.tagged))
+          ∙ grown_twice (length first.front) (length second.front) (led_on last clients says more)
+          ∙ ap (λ k. grown k (led_on last clients says more)) (sym n);
     }
 
 -- ---- what is kept of a line

@@ -1,14 +1,15 @@
 -- Laws of scripts: a line is read by its beginning alone, and what bytes say in front of others.
-use Rattle.std.proofs.Common.{if◌then◌else◌, ◌⊎◌, inl, inr, Ok, Err, ◌≡◌, ◌≤◌, ◌<◌, ◌+◌, ◌-◌, ◌==◌, ℕ, zero, suc, Bool, true, false, cond, nat_lt, List, [], ◌∷◌, ◌++◌, length, take, Option, Some, None, option_map, slice_index_or, refl, sym, ap, ◌∙◌, arith, append_assoc, append-nil, min}
+use Rattle.std.proofs.Common.{if◌then◌else◌, ◌⊎◌, inl, inr, Ok, Err, ◌≡◌, ◌≤◌, ◌<◌, ◌+◌, ◌-◌, ◌==◌, ℕ, zero, suc, Bool, true, false, ◌||◌, cond, nat_lt, List, [], ◌∷◌, ◌++◌, length, take, drop, Option, Some, None, option_map, slice_index_or, refl, sym, ap, ◌∙◌, arith, append_assoc, append-nil, min}
 use Rattle.std.specs.List.{position_or_len}
-use Rattle.std.proofs.lemmas.List.{take_all, length-take, length-take-le}
+use Rattle.std.proofs.lemmas.Bool.{eqb-true}
+use Rattle.std.proofs.lemmas.List.{drop-take, take_all, length-take, length-take-le}
 use Prim.Native.Nat.compare
 use Rattle.script_text.specs.declared.command.Command.TheVariants.{Nothing}
-use Rattle.script_text.specs.declared.fault.ScriptFault.TheVariants.{TooLong}
+use Rattle.script_text.specs.declared.fault.ScriptFault.TheVariants.{TooLong, Unknown}
 use Rattle.script_text.specs.Reading.{reading, shorn, is_remark}
 use Rattle.script_lines.specs.Bytewise.{script_from, with_byte}
+use Rattle.script_lines.specs.Clients.{Clients, Order, Tagged, desk_line, is_idle, line_of, named, said, tagged_task}
 use Rattle.script_lines.specs.Script.{Script, script}
-use Rattle.script_text.specs.Tasks.{Task, task}
 use Rattle.script_lines.specs.Bodies.{feed_at}
 use Rattle.script_lines.specs.Reading.{grown, led_on, most_kept}
 
@@ -32,21 +33,63 @@ read_long line long =
     let h : length line ≤ length (shorn line) + 1 = shorn_length line in
     rw (lt_true 65536 (length (shorn line)) (omega (arith, h, long))) refl
 
-remark_kept : (line : List ℕ) → is_remark (take most_kept line) ≡ is_remark line
-remark_kept [] = refl
-remark_kept (byte ∷ line) = refl
+remark_kept : (most : ℕ) (line : List ℕ) → 0 < most → is_remark (take most line) ≡ is_remark line
+remark_kept zero line some = absurd (omega (arith, some))
+remark_kept (suc most) [] some = refl
+remark_kept (suc most) (byte ∷ line) some = refl
 
-kept_either : (line : List ℕ) → (length line ≤ most_kept) ⊎ (most_kept < length line)
-kept_either line = search arith
+kept_either : (most : ℕ) (line : List ℕ) → (length line ≤ most) ⊎ (most < length line)
+kept_either most line = search arith
+
+-- What is kept of a command says what the whole does.
+reading_kept : (most : ℕ) (line : List ℕ) → 65538 ≤ most → reading (take most line) ≡ reading line
+reading_kept most line enough = elim (kept_either most line) [
+  | inl short ↦ ap reading (take_all most line short)
+  | inr long ↦
+      let n : length (take most line) ≡ most = length-take-le most line (omega (arith, long)) in
+      read_long (take most line) (omega (arith, n, enough)) ∙ ap (λ test. cond test (Ok Nothing) (Err TooLong)) (remark_kept most line (omega (arith, enough)))
+      ∙ sym (read_long line (omega (arith, long, enough)))
+]
+
+-- ---- what is kept of a line
+
+not_none : (n : ℕ) (test : Bool) → (n == 0) ≡ test → 0 < n → (n == 0) ≡ false
+not_none n true is some = let none : n ≡ 0 = eqb-true n 0 is in absurd (omega (arith, none, some))
+not_none n false is some = is
+
+-- Of two bytes one stays where a carriage return goes.
+not_empty : (line : List ℕ) → 2 ≤ length line → (length (shorn line) == 0) ≡ false
+not_empty line more =
+    let h : length line ≤ length (shorn line) + 1 = shorn_length line in
+    not_none (length (shorn line)) (length (shorn line) == 0) refl (omega (arith, h, more))
+
+empty_kept : (line : List ℕ) → (length (shorn (take most_kept line)) == 0) ≡ (length (shorn line) == 0)
+empty_kept [] = refl
+empty_kept (byte ∷ []) = refl
+empty_kept (byte ∷ next ∷ line) = not_empty (take most_kept (byte ∷ next ∷ line)) (omega arith) ∙ sym (not_empty (byte ∷ next ∷ line) (omega arith))
+
+idle_kept : (line : List ℕ) → is_idle (take most_kept line) ≡ is_idle line
+idle_kept line =
+    ap (λ (test : Bool). test || (length (shorn (take most_kept line)) == 0)) (remark_kept most_kept line (omega arith))
+    ∙ ap (λ (test : Bool). is_remark line || test) (empty_kept line)
+
+named_kept : (line : List ℕ) → named (take most_kept line) ≡ named line
+unfolding named
+named_kept [] = refl
+named_kept (sign ∷ []) = refl
+named_kept (sign ∷ digit ∷ []) = refl
+named_kept (sign ∷ digit ∷ blank ∷ line) = refl
+
+desk_kept : (client : Option ℕ) (line : List ℕ) → desk_line client (take most_kept line) ≡ desk_line client line
+desk_kept None line = ap (λ (test : Bool). said None (if test then Ok Nothing else Err Unknown)) (idle_kept line)
+desk_kept (Some client) line =
+    ap (λ (l : List ℕ). said (Some client) (reading l)) (drop-take 3 65538 line) ∙ ap (λ (o : Order). said (Some client) o) (reading_kept 65538 (drop 3 line) (omega arith))
 
 -- What is kept of a line says what the line says.
-pub reading_kept : (line : List ℕ) → reading (take most_kept line) ≡ reading line
-reading_kept line = elim (kept_either line) [
-  | inl short ↦ ap reading (take_all most_kept line short)
-  | inr long ↦
-      let n : length (take most_kept line) ≡ most_kept = length-take-le most_kept line (omega (arith, long)) in
-      read_long (take most_kept line) (omega (arith, n)) ∙ ap (λ test. cond test (Ok Nothing) (Err TooLong)) (remark_kept line) ∙ sym (read_long line (omega (arith, long)))
-]
+pub line_kept : (tagged : Bool) (line : List ℕ) → line_of tagged (take most_kept line) ≡ line_of tagged line
+unfolding line_of
+line_kept true line = ap (λ (c : Option ℕ). desk_line c (take most_kept line)) (named_kept line) ∙ desk_kept (named line) line
+line_kept false line = ap (λ (o : Order). said (Some 0) o) (reading_kept most_kept line (omega arith))
 
 -- ---- bytes in front of others
 
@@ -56,16 +99,16 @@ first_feed [] = None
 first_feed (byte ∷ bytes) = if byte == 10 then Some 0 else option_map suc (first_feed bytes)
 
 -- A byte that is no line feed goes behind the line so far.
-byte_read : (last : Task → List Task) (line : List ℕ) (byte : ℕ) (bytes : List ℕ) → (byte == 10) ≡ false
-    → script_from last 0 line (byte ∷ bytes) ≡ with_byte (script_from last 0 (line ++ byte ∷ []) bytes)
+byte_read : (last : Tagged → List Tagged) (clients : Clients) (line : List ℕ) (byte : ℕ) (bytes : List ℕ) → (byte == 10) ≡ false
+    → script_from last clients 0 line (byte ∷ bytes) ≡ with_byte (script_from last clients 0 (line ++ byte ∷ []) bytes)
 unfolding script_from
-byte_read last line byte bytes other = rw other refl
+byte_read last clients line byte bytes other = rw other refl
 
 -- A line feed ends the line.
-pub feed_read : (last : Task → List Task) (line : List ℕ) (byte : ℕ) (bytes : List ℕ) → (byte == 10) ≡ true
-    → script_from last 0 line (byte ∷ bytes) ≡ with_byte (led_on last (reading line) bytes)
+pub feed_read : (last : Tagged → List Tagged) (clients : Clients) (line : List ℕ) (byte : ℕ) (bytes : List ℕ) → (byte == 10) ≡ true
+    → script_from last clients 0 line (byte ∷ bytes) ≡ with_byte (led_on last clients (line_of clients.tagged line) bytes)
 unfolding script_from
-feed_read last line byte bytes feed = rw feed refl
+feed_read last clients line byte bytes feed = rw feed refl
 
 pub no_feed : (test : Bool) (rest : Option ℕ) → cond test (Some 0) (option_map suc rest) ≡ None → (test ≡ false) × (rest ≡ None)
 no_feed true rest none = cc
@@ -79,51 +122,51 @@ pub grown_byte : (n : ℕ) (s : Script) → with_byte (grown n s) ≡ grown (suc
 grown_byte n s = ap (script s.tasks) (omega arith)
 
 -- Bytes without a line feed go behind the line so far.
-pub part_read : (last : Task → List Task) (line part more : List ℕ) → first_feed part ≡ None
-    → script_from last 0 line (part ++ more) ≡ grown (length part) (script_from last 0 (line ++ part) more)
-part_read last line [] more none =
-    sym (grown_none (script_from last 0 line more)) ∙ ap (λ l. grown 0 (script_from last 0 l more)) (sym (append-nil line))
-part_read last line (byte ∷ part) more none =
+pub part_read : (last : Tagged → List Tagged) (clients : Clients) (line part more : List ℕ) → first_feed part ≡ None
+    → script_from last clients 0 line (part ++ more) ≡ grown (length part) (script_from last clients 0 (line ++ part) more)
+part_read last clients line [] more none =
+    sym (grown_none (script_from last clients 0 line more)) ∙ ap (λ l. grown 0 (script_from last clients 0 l more)) (sym (append-nil line))
+part_read last clients line (byte ∷ part) more none =
     let none' : ((byte == 10) ≡ false) × (first_feed part ≡ None) = no_feed (byte == 10) (first_feed part) none in
-    byte_read last line byte (part ++ more) none'.0
-    ∙ ap with_byte (part_read last (line ++ byte ∷ []) part more none'.1)
-    ∙ grown_byte (length part) (script_from last 0 ((line ++ byte ∷ []) ++ part) more)
-    ∙ ap (λ l. grown (suc (length part)) (script_from last 0 l more)) (append_assoc line (byte ∷ []) part)
+    byte_read last clients line byte (part ++ more) none'.0
+    ∙ ap with_byte (part_read last clients (line ++ byte ∷ []) part more none'.1)
+    ∙ grown_byte (length part) (script_from last clients 0 ((line ++ byte ∷ []) ++ part) more)
+    ∙ ap (λ l. grown (suc (length part)) (script_from last clients 0 l more)) (append_assoc line (byte ∷ []) part)
 
 -- The first line feed ends the line.
 grown_line : (byte : ℕ) (s : Script) → with_byte s ≡ grown 1 s
 grown_line byte s = ap (script s.tasks) (omega arith)
 
-line_read_behind : (last : Task → List Task) (line : List ℕ) (byte : ℕ) (bytes more : List ℕ) (place : ℕ) (rest : Option ℕ) → (byte == 10) ≡ false
-    → ((p : ℕ) → first_feed bytes ≡ Some p → script_from last 0 (line ++ byte ∷ []) (take (suc p) bytes ++ more) ≡ grown (suc p) (led_on last (reading ((line ++ byte ∷ []) ++ take p bytes)) more))
+line_read_behind : (last : Tagged → List Tagged) (clients : Clients) (line : List ℕ) (byte : ℕ) (bytes more : List ℕ) (place : ℕ) (rest : Option ℕ) → (byte == 10) ≡ false
+    → ((p : ℕ) → first_feed bytes ≡ Some p → script_from last clients 0 (line ++ byte ∷ []) (take (suc p) bytes ++ more) ≡ grown (suc p) (led_on last clients (line_of clients.tagged ((line ++ byte ∷ []) ++ take p bytes)) more))
     → first_feed bytes ≡ rest → option_map suc rest ≡ Some place
-    → script_from last 0 line (take (suc place) (byte ∷ bytes) ++ more) ≡ grown (suc place) (led_on last (reading (line ++ take place (byte ∷ bytes))) more)
-line_read_behind last line byte bytes more place None other rest there at = cc
-line_read_behind last line byte bytes more zero (Some p) other rest there at = cc
-line_read_behind last line byte bytes more (suc place) (Some p) other rest there at =
+    → script_from last clients 0 line (take (suc place) (byte ∷ bytes) ++ more) ≡ grown (suc place) (led_on last clients (line_of clients.tagged (line ++ take place (byte ∷ bytes))) more)
+line_read_behind last clients line byte bytes more place None other rest there at = cc
+line_read_behind last clients line byte bytes more zero (Some p) other rest there at = cc
+line_read_behind last clients line byte bytes more (suc place) (Some p) other rest there at =
     let e : p ≡ place = cc in
     let there' : first_feed bytes ≡ Some place = there ∙ ap Some e in
-    byte_read last line byte (take (suc place) bytes ++ more) other
+    byte_read last clients line byte (take (suc place) bytes ++ more) other
     ∙ ap with_byte (rest place there')
-    ∙ grown_byte (suc place) (led_on last (reading ((line ++ byte ∷ []) ++ take place bytes)) more)
-    ∙ ap (λ l. grown (suc (suc place)) (led_on last (reading l) more)) (append_assoc line (byte ∷ []) (take place bytes))
+    ∙ grown_byte (suc place) (led_on last clients (line_of clients.tagged ((line ++ byte ∷ []) ++ take place bytes)) more)
+    ∙ ap (λ l. grown (suc (suc place)) (led_on last clients (line_of clients.tagged l) more)) (append_assoc line (byte ∷ []) (take place bytes))
 
-line_read_by : (last : Task → List Task) (line : List ℕ) (byte : ℕ) (bytes more : List ℕ) (place : ℕ) (test : Bool) → (byte == 10) ≡ test
-    → ((p : ℕ) → first_feed bytes ≡ Some p → script_from last 0 (line ++ byte ∷ []) (take (suc p) bytes ++ more) ≡ grown (suc p) (led_on last (reading ((line ++ byte ∷ []) ++ take p bytes)) more))
+line_read_by : (last : Tagged → List Tagged) (clients : Clients) (line : List ℕ) (byte : ℕ) (bytes more : List ℕ) (place : ℕ) (test : Bool) → (byte == 10) ≡ test
+    → ((p : ℕ) → first_feed bytes ≡ Some p → script_from last clients 0 (line ++ byte ∷ []) (take (suc p) bytes ++ more) ≡ grown (suc p) (led_on last clients (line_of clients.tagged ((line ++ byte ∷ []) ++ take p bytes)) more))
     → cond test (Some 0) (option_map suc (first_feed bytes)) ≡ Some place
-    → script_from last 0 line (take (suc place) (byte ∷ bytes) ++ more) ≡ grown (suc place) (led_on last (reading (line ++ take place (byte ∷ bytes))) more)
-line_read_by last line byte bytes more zero true is rest at =
-    feed_read last line byte more is
-    ∙ grown_line byte (led_on last (reading line) more)
-    ∙ ap (λ l. grown 1 (led_on last (reading l) more)) (sym (append-nil line))
-line_read_by last line byte bytes more (suc place) true is rest at = cc
-line_read_by last line byte bytes more place false is rest at = line_read_behind last line byte bytes more place (first_feed bytes) is rest refl at
+    → script_from last clients 0 line (take (suc place) (byte ∷ bytes) ++ more) ≡ grown (suc place) (led_on last clients (line_of clients.tagged (line ++ take place (byte ∷ bytes))) more)
+line_read_by last clients line byte bytes more zero true is rest at =
+    feed_read last clients line byte more is
+    ∙ grown_line byte (led_on last clients (line_of clients.tagged line) more)
+    ∙ ap (λ l. grown 1 (led_on last clients (line_of clients.tagged l) more)) (sym (append-nil line))
+line_read_by last clients line byte bytes more (suc place) true is rest at = cc
+line_read_by last clients line byte bytes more place false is rest at = line_read_behind last clients line byte bytes more place (first_feed bytes) is rest refl at
 
-pub line_read : (last : Task → List Task) (line bytes more : List ℕ) (place : ℕ) → first_feed bytes ≡ Some place
-    → script_from last 0 line (take (suc place) bytes ++ more) ≡ grown (suc place) (led_on last (reading (line ++ take place bytes)) more)
-line_read last line [] more place at = cc
-line_read last line (byte ∷ bytes) more place at =
-    line_read_by last line byte bytes more place (byte == 10) refl (λ p there. line_read last (line ++ byte ∷ []) bytes more p there) at
+pub line_read : (last : Tagged → List Tagged) (clients : Clients) (line bytes more : List ℕ) (place : ℕ) → first_feed bytes ≡ Some place
+    → script_from last clients 0 line (take (suc place) bytes ++ more) ≡ grown (suc place) (led_on last clients (line_of clients.tagged (line ++ take place bytes)) more)
+line_read last clients line [] more place at = cc
+line_read last clients line (byte ∷ bytes) more place at =
+    line_read_by last clients line byte bytes more place (byte == 10) refl (λ p there. line_read last clients (line ++ byte ∷ []) bytes more p there) at
 
 -- ---- what is kept of a line
 
@@ -133,15 +176,15 @@ take_twice (suc n) [] b = refl
 take_twice (suc n) (x ∷ a) b = ap (λ l. x ∷ l) (take_twice n a b)
 
 -- What is kept of a line says what the whole line does, whatever follows.
-pub script_kept : (last : Task → List Task) (line bytes : List ℕ) → script_from last 0 (take most_kept line) bytes ≡ script_from last 0 line bytes
+pub script_kept : (last : Tagged → List Tagged) (clients : Clients) (line bytes : List ℕ) → script_from last clients 0 (take most_kept line) bytes ≡ script_from last clients 0 line bytes
 unfolding script_from
-script_kept last line [] = ap (λ order. script (last (task order [])) 0) (reading_kept line)
-script_kept last line (byte ∷ bytes) =
-    let longer : script_from last 0 (take most_kept line ++ byte ∷ []) bytes ≡ script_from last 0 (line ++ byte ∷ []) bytes =
-    sym (script_kept last (take most_kept line ++ byte ∷ []) bytes)
-    ∙ ap (λ l. script_from last 0 l bytes) (take_twice most_kept line (byte ∷ []))
-    ∙ script_kept last (line ++ byte ∷ []) bytes in
-    rw (reading_kept line, longer) refl
+script_kept last clients line [] = ap (λ l. script (last (tagged_task l [])) 0) (line_kept clients.tagged line)
+script_kept last clients line (byte ∷ bytes) =
+    let longer : script_from last clients 0 (take most_kept line ++ byte ∷ []) bytes ≡ script_from last clients 0 (line ++ byte ∷ []) bytes =
+    sym (script_kept last clients (take most_kept line ++ byte ∷ []) bytes)
+    ∙ ap (λ l. script_from last clients 0 l bytes) (take_twice most_kept line (byte ∷ []))
+    ∙ script_kept last clients (line ++ byte ∷ []) bytes in
+    rw (line_kept clients.tagged line, longer) refl
 
 -- ---- the first line feed of a part
 

@@ -64,6 +64,7 @@ standing_begun reader word p left budget faults short b =
     let size : length p.reader.unread ≡ length reader.unread = ap length unread in
     let none : (e : ReadError) → p.stuck ≡ Some e → None ≡ Some e = λ e is. sym b.free ∙ is in
     record {
+      tagged = ap (λ (r : Reader). r.tagged) b.reader;
       word = b.word;
       short = let n : length p.word.items ≡ length word = ap length b.word in omega (arith, n, short);
       ahead =
@@ -91,13 +92,14 @@ standing_begun reader word p left budget faults short b =
 -- ---- more was read
 
 pub standing_filled : (s : Start) (p : Place) (reader : Reader) (l l' : Option (List ℕ)) (b b' f f' : ℕ) → before reader.unread l' ≡ before p.reader.unread l
-    → reader.used ≡ p.reader.used → b' + length reader.unread ≡ b + length p.reader.unread → b' ≤ b → f ≤ f' → is_open p.at ≡ true → p.stuck ≡ None
+    → reader.tagged ≡ p.reader.tagged → reader.used ≡ p.reader.used → b' + length reader.unread ≡ b + length p.reader.unread → b' ≤ b → f ≤ f' → is_open p.at ≡ true → p.stuck ≡ None
     → Standing s p l b f → Standing s (record p { reader = reader }) l' b' f'
-standing_filled s p reader l l' b b' f f' kept used sum falls counts at free st =
+standing_filled s p reader l l' b b' f f' kept tagged used sum falls counts at free st =
     let count : reader.used - s.used ≡ p.reader.used - s.used = ap (λ n. n - s.used) used in
     let closed : (a : At) → p.at ≡ a → is_open a ≡ true = λ a is. ap is_open (sym is) ∙ at in
     let none : (e : ReadError) → p.stuck ≡ Some e → None ≡ Some e = λ e is. sym free ∙ is in
     record {
+      tagged = tagged ∙ st.tagged;
       word = st.word;
       short = st.short;
       ahead = kept ∙ st.ahead ∙ ap (λ n. told_after n s.ahead) (sym count);
@@ -161,10 +163,10 @@ open_ends part (Behind line) ends = absurd ends
 open_ends part End ends = absurd ends
 
 pub standing_given : (s : Start) (p : Place) (reader : Reader) (at : At) (l : Option (List ℕ)) (b f count : ℕ) → count ≤ length p.reader.unread → 0 < count
-    → reader.unread ≡ drop count p.reader.unread → reader.used ≡ p.reader.used + count → EndsAt (take count p.reader.unread) at → is_open p.at ≡ true → p.stuck ≡ None
+    → reader.tagged ≡ p.reader.tagged → reader.unread ≡ drop count p.reader.unread → reader.used ≡ p.reader.used + count → EndsAt (take count p.reader.unread) at → is_open p.at ≡ true → p.stuck ≡ None
     → ((ahead : List ℕ) → before p.reader.unread l ≡ Some ahead → (is_fresh p.at && is_word p.word.items ahead) ≡ false)
     → Standing s p l b f → Standing s (record p { reader = reader; at = at }) l b f
-standing_given s p reader at l b f count fits some unread used ends inside free misses st =
+standing_given s p reader at l b f count fits some tagged unread used ends inside free misses st =
     let shift : reader.used - s.used ≡ (p.reader.used - s.used) + count = omega (arith, used, st.begins) in
     let size : length reader.unread ≡ length p.reader.unread - count = ap length unread ∙ length-drop count p.reader.unread in
     let part : length (take count p.reader.unread) ≡ count = length-take-le count p.reader.unread fits in
@@ -172,6 +174,7 @@ standing_given s p reader at l b f count fits some unread used ends inside free 
     let closed : (a : At) → at ≡ a → is_open a ≡ true = λ a is. ap is_open (sym is) ∙ opened in
     let none : (e : ReadError) → p.stuck ≡ Some e → None ≡ Some e = λ e is. sym free ∙ is in
     record {
+      tagged = tagged ∙ st.tagged;
       word = st.word;
       short = st.short;
       ahead =
@@ -248,14 +251,15 @@ ended_body word unread later fresh n line is at meets =
 
 pub standing_ended : (s : Start) (p : Place) (reader : Reader) (l : Option (List ℕ)) (b f line : ℕ)
     → Says p.word.items (is_fresh p.at) (within p.reader) (front.Ends line) → line ≤ length p.reader.unread
-    → reader.unread ≡ drop line p.reader.unread → reader.used ≡ p.reader.used + line → is_open p.at ≡ true → p.stuck ≡ None
+    → reader.tagged ≡ p.reader.tagged → reader.unread ≡ drop line p.reader.unread → reader.used ≡ p.reader.used + line → is_open p.at ≡ true → p.stuck ≡ None
     → Standing s p l b f → Standing s (record p { reader = reader; at = Behind line }) l b f
-standing_ended s p reader l b f line says fits unread used inside free st =
+standing_ended s p reader l b f line says fits tagged unread used inside free st =
     let shift : reader.used - s.used ≡ (p.reader.used - s.used) + line = omega (arith, used, st.begins) in
     let size : length reader.unread ≡ length p.reader.unread - line = ap length unread ∙ length-drop line p.reader.unread in
     let none : (e : ReadError) → p.stuck ≡ Some e → None ≡ Some e = λ e is. sym free ∙ is in
     let shut : (x : Bool) → x ≡ false → x ≡ true → false ≡ true = λ x misses meets. sym misses ∙ meets in
     record {
+      tagged = tagged ∙ st.tagged;
       word = st.word;
       short = st.short;
       ahead =
@@ -309,6 +313,7 @@ pub standing_over : (s : Start) (p : Place) (l : Option (List ℕ)) (b f : ℕ) 
 standing_over s p l b f none tells within inside free st =
     let stuck : (e : ReadError) → p.stuck ≡ Some e → None ≡ Some e = λ e is. sym free ∙ is in
     record {
+      tagged = st.tagged;
       word = st.word;
       short = st.short;
       ahead = st.ahead;
@@ -365,6 +370,7 @@ standing_failed s p l b f f' refused none rose grew inside st =
     let closed : (a : At) → p.at ≡ a → is_open a ≡ true = λ a is. ap is_open (sym is) ∙ inside in
     let raised' : raised f 1 ≤ f' = either_of f f' rose in
     record {
+      tagged = st.tagged;
       word = st.word;
       short = st.short;
       ahead = st.ahead;
@@ -396,6 +402,7 @@ standing_full s p l b f refused none over used inside st =
     let closed : (a : At) → p.at ≡ a → is_open a ≡ true = λ a is. ap is_open (sym is) ∙ inside in
     let count : (p.reader.used - s.used) + (longest_script - p.reader.used) ≡ longest_script - s.used = omega (arith, st.begins, used) in
     record {
+      tagged = st.tagged;
       word = st.word;
       short = st.short;
       ahead = st.ahead;
@@ -487,6 +494,7 @@ standing_stuck s p l b f f' refused error.Memory stops rose grew used inside st 
 pub standing_again : (s : Start) (p : Place) (l : Option (List ℕ)) (b f refused : ℕ) → (p.stuck ≡ None → ⊥) → Standing s p l b f
     → Standing s (record p { refused = refused }) l b f
 standing_again s p l b f refused stuck st = record {
+  tagged = st.tagged;
   word = st.word;
   short = st.short;
   ahead = st.ahead;

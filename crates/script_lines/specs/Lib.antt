@@ -1,3 +1,4 @@
+pub mod Clients
 pub mod Bodies
 pub mod Script
 pub mod Bytewise

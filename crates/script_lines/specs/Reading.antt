@@ -1,22 +1,24 @@
 -- What a reader of lines has taken of its input. This project's own.
-use Rattle.std.specs.Prelude.{◌≡◌, ◌<◌, ℕ, ⊤, ◌+◌, List, [], ◌++◌, length, Option}
+use Rattle.std.specs.Prelude.{◌≡◌, ◌<◌, ℕ, ⊤, ◌+◌, Bool, List, [], ◌++◌, length, Option}
 use Rattle.base_files.specs.Told.{before, Tells}
-use Rattle.script_text.specs.Reading.{reading}
-use Rattle.script_text.specs.Tasks.{Task}
 use Rattle.script_lines.specs.Bytewise.{script_from, behind_line}
-use Rattle.script_lines.specs.Script.{Order, Script, script, longest_script}
+use Rattle.script_lines.specs.Clients.{Clients, Tagged, heard, line_of}
+use Rattle.script_lines.specs.Script.{Script, script, longest_script}
+use Rattle.script_lines.specs.declared.line.Line.{Line}
 use Rattle.script_lines.specs.declared.reader.ReadError.{ReadError}
 use Rattle.script_lines.specs.declared.reader.ReadError.TheVariants.{Failed, TooLong, Memory}
 
--- The bytes that were read and not yet taken, the line so far, of which no more is kept than tells what it says, and how many bytes were taken.
+-- Whether lines name their clients; the bytes that were read and not yet taken; the line so far, of which no more is kept than tells what it
+-- says; and how many bytes were taken.
 pub record Reader : Type 0 where
+  pub tagged : Bool
   pub unread : List ℕ
   pub line : List ℕ
   pub used : ℕ
 
 -- How many bytes of a line are kept at most.
 abbrev pub most_kept : ℕ
-most_kept = 65538
+most_kept = 65541
 
 -- How many bytes are read at once.
 abbrev pub piece_len : ℕ
@@ -27,30 +29,34 @@ abbrev pub grown : ℕ → Script → Script
 grown count s = script s.tasks (count + s.size)
 
 -- A line that a line feed ends, and these bytes behind it.
-abbrev pub led_on : (Task → List Task) → Order → List ℕ → Script
-led_on last order more = behind_line last order more (λ n. script_from last n [] more)
+abbrev pub led_on : (Tagged → List Tagged) → Clients → Line → List ℕ → Script
+led_on last clients line more = behind_line last clients line more (λ n. script_from last (heard clients line) n [] more)
 
--- Whatever follows, these bytes behind the one line say what their number and the other line say.
+-- To whomever and whatever follows, these bytes behind the one line say what their number and the other line say.
 abbrev pub Feeds : List ℕ → List ℕ → List ℕ → Type 0
-Feeds line front later = (last : Task → List Task) (more : List ℕ) → script_from last 0 line (front ++ more) ≡ grown (length front) (script_from last 0 later more)
+Feeds line front later =
+    (last : Tagged → List Tagged) (clients : Clients) (more : List ℕ) → script_from last clients 0 line (front ++ more) ≡ grown (length front) (script_from last clients 0 later more)
 
--- Whatever follows, these bytes end the line with a line feed, which is this order.
-abbrev pub Ends : List ℕ → List ℕ → Order → Type 0
-Ends line front order = (last : Task → List Task) (more : List ℕ) → script_from last 0 line (front ++ more) ≡ grown (length front) (led_on last order more)
+-- To all clients whose lines are of this kind, and whatever follows, these bytes end the line with a line feed, which says this.
+abbrev pub Ends : Bool → List ℕ → List ℕ → Line → Type 0
+Ends tagged line front says =
+    (last : Tagged → List Tagged) (clients : Clients) (more : List ℕ) → clients.tagged ≡ tagged → script_from last clients 0 line (front ++ more) ≡ grown (length front) (led_on last clients says more)
 
 -- Of what was ahead of the reader, a part of a line was taken.
 pub record TookPart (line : List ℕ) (old : Reader) (left : Option (List ℕ)) (new : Reader) (later : Option (List ℕ)) : Type 0 where
   pub front : List ℕ
   pub ahead : before old.unread left ≡ before front (before new.unread later)
+  pub tagged : new.tagged ≡ old.tagged
   pub used : new.used ≡ old.used + length front
   pub feeds : Feeds line front new.line
 
 -- The rest of a line was taken, with its line feed.
-pub record TookLine (line : List ℕ) (old : Reader) (left : Option (List ℕ)) (order : Order) (new : Reader) (later : Option (List ℕ)) : Type 0 where
+pub record TookLine (line : List ℕ) (old : Reader) (left : Option (List ℕ)) (says : Line) (new : Reader) (later : Option (List ℕ)) : Type 0 where
   pub front : List ℕ
   pub ahead : before old.unread left ≡ before front (before new.unread later)
+  pub tagged : new.tagged ≡ old.tagged
   pub used : new.used ≡ old.used + length front
-  pub ends : Ends line front order
+  pub ends : Ends old.tagged line front says
 
 -- The end of the input ended the line.
 pub record TookLast (old : Reader) (left : Option (List ℕ)) (new : Reader) (later : Option (List ℕ)) : Type 0 where
@@ -59,9 +65,9 @@ pub record TookLast (old : Reader) (left : Option (List ℕ)) (new : Reader) (la
   pub end : Tells later []
 
 -- The same, with what the line says.
-pub record SaysLast (old : Reader) (left : Option (List ℕ)) (order : Order) (new : Reader) (later : Option (List ℕ)) : Type 0 where
+pub record SaysLast (old : Reader) (left : Option (List ℕ)) (line : Line) (new : Reader) (later : Option (List ℕ)) : Type 0 where
   pub took : TookLast old left new later
-  pub says : order ≡ reading new.line
+  pub says : line ≡ line_of new.tagged new.line
 
 -- As many bytes were taken as a script may have, and there are more.
 pub record IsFull (reader : Reader) : Type 0 where

@@ -11,9 +11,10 @@ use Rattle.script_lines.specs.declared.place.At.TheVariants.{Line, Inside, Behin
 use Rattle.script_lines.specs.declared.place.Place.{Place}
 use Rattle.script_lines.specs.declared.reader.ReadError.TheVariants as error
 
--- The beginning of a body: the word that ends it; what is ahead, where the input tells it; how many bytes of the script were taken; the
--- bytes that were read or may come, all told; and the budget and the faults of the input.
+-- The beginning of a body: whether the lines of the script name their clients; the word that ends it; what is ahead, where the input tells it;
+-- how many bytes of the script were taken; the bytes that were read or may come, all told; and the budget and the faults of the input.
 pub record Start : Type 0 where
+  pub tagged : Bool
   pub word : List ℕ
   pub ahead : Option (List ℕ)
   pub used : ℕ
@@ -24,6 +25,7 @@ pub record Start : Type 0 where
 -- A body begins at the place of a reader over this input.
 abbrev pub start_at : List ℕ → Reader → Option (List ℕ) → ℕ → ℕ → Start
 start_at word reader left budget faults = record {
+  tagged = reader.tagged;
   word = word;
   ahead = before reader.unread left;
   used = reader.used;
@@ -94,6 +96,7 @@ pub record IsBegun (lines : Reader) (end : List ℕ) (p : Place) : Type 0 where
 
 -- What is known at a place of the body that begins there.
 pub record Standing (s : Start) (p : Place) (left : Option (List ℕ)) (budget faults : ℕ) : Type 0 where
+  pub tagged : p.reader.tagged ≡ s.tagged
   pub word : p.word.items ≡ s.word
   pub short : length p.word.items ≤ 32
   pub ahead : before p.reader.unread left ≡ told_after (p.reader.used - s.used) s.ahead

@@ -13,9 +13,9 @@ pub trait Begins {
 }
 
 impl Begins for Brand {
-    ghost use Rattle.std.specs.Prelude.{[], None};
+    ghost use Rattle.std.specs.Prelude.{[], None, false};
 
-    ghost start = { record { word = []; ahead = None; used = 0; sum = 0; budget = 0; faults = 0 } };
+    ghost start = { record { tagged = false; word = []; ahead = None; used = 0; sum = 0; budget = 0; faults = 0 } };
 }
 
 /// The body of a command: the bytes of the lines behind its own up to one that is the word, or to the end of the input. A fault of the

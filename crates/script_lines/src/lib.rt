@@ -2,11 +2,15 @@
 #![tactic(auto)]
 
 mod body;
+mod clients;
 mod laws;
+mod line;
 mod place;
 mod reader;
 
 pub use body::{Begins, Body, NoBody};
-pub use laws::{readers_meet_the_lines, tasks_are_lines_with_their_bodies};
+pub use clients::Clients;
+pub use laws::{clients_end_with_quit, readers_meet_the_lines, tasks_are_lines_with_their_bodies};
+pub use line::{Line, Order, body_word, is_quit};
 pub use place::{At, Place};
-pub use reader::{LineReader, Order, ReadError, Taken, body_word, is_quit};
+pub use reader::{LineReader, ReadError, Taken};

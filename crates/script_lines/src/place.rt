@@ -160,6 +160,7 @@ impl Place {
         requires inside { is_open self.old.at ≡ true }
         ensures kept { before self.new.reader.unread (S.left input.new) ≡ before self.old.reader.unread (S.left input.old) }
         ensures rest { self.new ≡ record self.old { reader = self.new.reader } }
+        ensures tagged { self.new.reader.tagged ≡ self.old.reader.tagged }
         ensures used { self.new.reader.used ≡ self.old.reader.used }
         ensures says { IfOk result (Seen self.new (S.left input.new)) }
         ensures stuck { IfErr result (StopsAt self.new.reader) }
@@ -249,6 +250,7 @@ impl Place {
         requires there { size ≤ length self.old.reader.unread }
         requires within { self.old.reader.used + size ≤ longest_script }
         ensures unread { self.new.reader.unread ≡ drop size self.old.reader.unread }
+        ensures tagged { self.new.reader.tagged ≡ self.old.reader.tagged }
         ensures used { self.new.reader.used ≡ self.old.reader.used + size }
         ensures rest { self.new ≡ record self.old { reader = self.new.reader; at = At.Behind size } }
     {
@@ -267,6 +269,7 @@ impl Place {
         ensures given { take result into.new ≡ take result self.old.reader.unread }
         ensures ends { EndsAt (take result self.old.reader.unread) self.new.at }
         ensures unread { self.new.reader.unread ≡ drop result self.old.reader.unread }
+        ensures tagged { self.new.reader.tagged ≡ self.old.reader.tagged }
         ensures used { self.new.reader.used ≡ self.old.reader.used + result }
         ensures rest { self.new ≡ record self.old { reader = self.new.reader; at = self.new.at } }
     {

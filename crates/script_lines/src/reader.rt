@@ -1,25 +1,23 @@
 //! The lines of the input, one after the other. No more than one line is held.
-ghost use Rattle.std.specs.Prelude.{◌≡◌, ◌≤◌, ◌<◌, ◌+◌, ◌-◌, ℕ, List, [], ◌++◌, length, take, drop, true, false, Option, Some, None, Ok, OnOk, OnErr, IfOk, IfErr, option_map};
+ghost use Rattle.std.specs.Prelude.{◌≡◌, ◌≤◌, ◌<◌, ◌+◌, ◌-◌, ℕ, List, [], ◌++◌, length, take, drop, true, false, Option, Some, None, Ok, OnOk, OnErr, IfOk, IfErr, IfSome};
 ghost use Rattle.base_files.specs.Counters.{Rose};
 ghost use Rattle.base_files.specs.Told.{before, Tells};
-ghost use Rattle.script_text.specs.Reading.{reading};
 ghost use Rattle.script_text.specs.Sound.{IsSoundLine};
-ghost use Rattle.script_text.specs.Tasks.{body_word};
 ghost use Rattle.script_lines.specs.Bodies.{feed_at};
+ghost use Rattle.script_lines.specs.Clients.{line_of};
 ghost use Rattle.script_lines.specs.Reading.{TookPart, TookLine, TookLast, SaysLast, IsFull, Stuck, most_kept, piece_len};
-ghost use Rattle.script_lines.specs.Script.{Order as PlainOrder, is_quit, longest_script};
+ghost use Rattle.script_lines.specs.Script.{longest_script};
 
+use crate::line::{Line, read_line};
 use base_files::{Failed, Source};
-use cell_core::Text;
-use script_text::{Command, CommandError, ScriptFault, read_command};
 use std::alloc::{AllocError, Global};
 use std::marker::Model;
 
 /// How many bytes are read at once.
 const PIECE: usize = 32_768;
 
-/// How many bytes of a line are kept: two more than a command may have, so that what is kept is too long where the line is.
-const MOST_KEPT: usize = 65_538;
+/// How many bytes of a line are kept: two more than a client and his command may have, so that what is kept is too long where the line is.
+const MOST_KEPT: usize = 65_541;
 
 /// The most bytes that a script may have.
 const LONGEST_SCRIPT: u64 = 1_073_741_824;
@@ -27,6 +25,8 @@ const LONGEST_SCRIPT: u64 = 1_073_741_824;
 /// The reader of the lines of a script.
 #[derive(Drop)]
 pub struct LineReader {
+    // Whether lines name their clients.
+    tagged: bool,
     // The bytes from `from` to `to` were read and not yet taken.
     piece: Vec<u8>,
     from: usize,
@@ -42,7 +42,7 @@ impl Model for LineReader {
 
     ghost Value = { Reader };
 
-    ghost view = { λ r. record { unread = drop r.from (take r.to r.piece.items); line = r.line.items; used = r.used } };
+    ghost view = { λ r. record { tagged = r.tagged; unread = drop r.from (take r.to r.piece.items); line = r.line.items; used = r.used } };
 
     ghost invariant = { λ r. (length r.piece.items ≡ piece_len) × (r.from ≤ r.to) × (r.to ≤ piece_len) × (length r.line.items ≤ most_kept) × (r.used ≤ longest_script) };
 }
@@ -58,15 +58,12 @@ enum Part {
     Limit,
 }
 
-/// A line of a script: the command that it says, or its first fault.
-pub type Order = Result<Command, ScriptFault>;
-
 /// Why no line was read.
 #[derive(Clone, Copy, Debug, PartialEq, Eq)]
 pub enum ReadError {
     /// The input failed.
     Failed,
-    /// The script has more than 1,073,741,824 bytes, and none of its lines that end within them is `quit`.
+    /// The script has more than 1,073,741,824 bytes, and no line that ends within them ends it.
     TooLong,
     /// Memory ran out.
     Memory,
@@ -76,17 +73,18 @@ pub enum ReadError {
 #[derive(Drop)]
 pub enum Taken {
     /// It ended with a line feed.
-    Line(Order),
+    Line(Line),
     /// The end of the input ended it.
-    Last(Order),
+    Last(Line),
 }
 
 impl LineReader {
-    /// A reader that has read nothing yet.
-    pub fn new(alloc: Global) -> Result<LineReader, AllocError>
-        ensures new { IfOk result (λ reader. reader ≡ record { unread = []; line = []; used = 0 }) }
+    /// A reader that has read nothing yet, of lines that name their clients or of such that do not.
+    pub fn new(alloc: Global, tagged: bool) -> Result<LineReader, AllocError>
+        ensures new { IfOk result (λ reader. reader ≡ record { tagged = tagged; unread = []; line = []; used = 0 }) }
     {
         Ok(LineReader {
+            tagged,
             piece: vec![in alloc; 0; PIECE]?,
             from: 0,
             to: 0,
@@ -111,6 +109,7 @@ impl LineReader {
         ensures none_given { OnErr result (self.new.unread ≡ []) }
         ensures none_lost { OnErr result (S.left input.new ≡ S.left input.old) }
         ensures none_spent { OnErr result (S.budget input.new ≡ S.budget input.old) }
+        ensures tagged { self.new.tagged ≡ self.old.tagged }
         ensures line { self.new.line ≡ self.old.line }
         ensures used { self.new.used ≡ self.old.used }
         ensures counts { S.faults input.old ≤ S.faults input.new }
@@ -126,6 +125,7 @@ impl LineReader {
     // Whether there are unread bytes; where there are none, the next ones are read first.
     fn refill<S: Source>(&mut self, input: &mut S) -> Result<bool, Failed>
         ensures kept { before self.old.unread (S.left input.old) ≡ before self.new.unread (S.left input.new) }
+        ensures tagged { self.new.tagged ≡ self.old.tagged }
         ensures line { self.new.line ≡ self.old.line }
         ensures used { self.new.used ≡ self.old.used }
         ensures some { result ≡ Ok true → 0 < length self.new.unread }
@@ -150,6 +150,7 @@ impl LineReader {
     pub(crate) fn fill_behind<S: Source>(&mut self, input: &mut S) -> Result<bool, Failed>
         requires room { length self.old.unread < piece_len }
         ensures kept { before self.old.unread (S.left input.old) ≡ before self.new.unread (S.left input.new) }
+        ensures tagged { self.new.tagged ≡ self.old.tagged }
         ensures line { self.new.line ≡ self.old.line }
         ensures used { self.new.used ≡ self.old.used }
         ensures some { result ≡ Ok true → length self.old.unread < length self.new.unread }
@@ -177,6 +178,7 @@ impl LineReader {
         requires there { count ≤ length self.old.unread }
         requires within { self.old.used + count ≤ longest_script }
         ensures unread { OnOk result (self.new.unread ≡ drop count self.old.unread) }
+        ensures tagged { self.new.tagged ≡ self.old.tagged }
         ensures line { OnOk result (self.new.line ≡ take most_kept (self.old.line ++ take count self.old.unread)) }
         ensures used { OnOk result (self.new.used ≡ self.old.used + count) }
         ensures failed { OnErr result (self.new.unread ≡ self.old.unread) }
@@ -205,7 +207,7 @@ impl LineReader {
     #[tactic(auto, using(crate::proofs::ReadingLaws::took_line))]
     fn take_line(&mut self, place: usize) -> Result<(), AllocError>
         requires at { feed_at (take (longest_script - self.old.used) self.old.unread) ≡ Some place }
-        ensures line { OnOk result ((l : Option (List ℕ)) → TookLine self.old.line self.old l (reading self.new.line) self.new l) }
+        ensures line { OnOk result ((l : Option (List ℕ)) → TookLine self.old.line self.old l (line_of self.new.tagged self.new.line) self.new l) }
         ensures sum { self.new.used + length self.new.unread ≡ self.old.used + length self.old.unread }
         ensures shorter { OnOk result (length self.new.unread < length self.old.unread) }
     {
@@ -219,6 +221,7 @@ impl LineReader {
         requires there { count ≤ length self.old.unread }
         requires within { self.old.used + count ≤ longest_script }
         ensures unread { self.new.unread ≡ drop count self.old.unread }
+        ensures tagged { self.new.tagged ≡ self.old.tagged }
         ensures line { self.new.line ≡ self.old.line }
         ensures used { self.new.used ≡ self.old.used + count }
     {
@@ -243,7 +246,7 @@ impl LineReader {
 
     // Takes the unread bytes up to and with the first line feed, or all of them, within the greatest length of a script.
     fn take_part(&mut self) -> Result<Part, AllocError>
-        ensures line { result ≡ Ok Part.Ended → (l : Option (List ℕ)) → TookLine self.old.line self.old l (reading self.new.line) self.new l }
+        ensures line { result ≡ Ok Part.Ended → (l : Option (List ℕ)) → TookLine self.old.line self.old l (line_of self.new.tagged self.new.line) self.new l }
         ensures open { result ≡ Ok Part.Open → (l : Option (List ℕ)) → TookPart self.old.line self.old l self.new l }
         ensures all { result ≡ Ok Part.Open → self.new.unread ≡ [] }
         ensures none { result ≡ Ok Part.Open → feed_at self.old.unread ≡ None }
@@ -268,7 +271,7 @@ impl LineReader {
     #[tactic(auto, using(crate::proofs::ReadingLaws::unasked_still))]
     fn read_line<S: Source>(&mut self, input: &mut S) -> Result<bool, ReadError>
         requires fresh { self.old.line ≡ [] }
-        ensures line { result ≡ Ok true → TookLine [] self.old (S.left input.old) (reading self.new.line) self.new (S.left input.new) }
+        ensures line { result ≡ Ok true → TookLine [] self.old (S.left input.old) (line_of self.new.tagged self.new.line) self.new (S.left input.new) }
         ensures last { result ≡ Ok false → TookLast self.old (S.left input.old) self.new (S.left input.new) }
         ensures unasked { (feed_at self.old.unread ≡ None → ⊥) → input.new ≡ input.old }
         ensures stuck { IfErr result (λ e. Stuck e self.old (S.left input.old) self.new (S.left input.new)) }
@@ -298,45 +301,44 @@ impl LineReader {
 
     /// Reads the next line, and what it says.
     pub fn next<S: Source>(&mut self, alloc: Global, input: &mut S) -> Result<Taken, ReadError>
-        ensures line { (order : PlainOrder) → result ≡ Ok (Taken.Line order) → TookLine [] self.old (S.left input.old) order self.new (S.left input.new) }
-        ensures last { (order : PlainOrder) → result ≡ Ok (Taken.Last order) → SaysLast self.old (S.left input.old) order self.new (S.left input.new) }
+        ensures line { (line : Line) → result ≡ Ok (Taken.Line line) → TookLine [] self.old (S.left input.old) line self.new (S.left input.new) }
+        ensures last { (line : Line) → result ≡ Ok (Taken.Last line) → SaysLast self.old (S.left input.old) line self.new (S.left input.new) }
         ensures stuck { IfErr result (λ e. Stuck e self.old (S.left input.old) self.new (S.left input.new)) }
         // While a whole line stands unread nothing is asked of the input, and of a line no more is held than tells what it says.
         ensures unasked { (feed_at self.old.unread ≡ None → ⊥) → input.new ≡ input.old }
         ensures held { OnOk result (length self.new.line ≤ most_kept) }
         ensures within { OnOk result (self.new.used ≤ longest_script) }
         ensures few { OnOk result (length self.new.unread ≤ piece_len) }
-        ensures bounds { (order : PlainOrder) → result ≡ Ok (Taken.Line order) → IsSoundLine order }
-        ensures last_bounds { (order : PlainOrder) → result ≡ Ok (Taken.Last order) → IsSoundLine order }
+        ensures bounds { (line : Line) → result ≡ Ok (Taken.Line line) → IsSoundLine line.order }
+        ensures last_bounds { (line : Line) → result ≡ Ok (Taken.Last line) → IsSoundLine line.order }
+        ensures client { (line : Line) → result ≡ Ok (Taken.Line line) → IfSome line.client (λ client. client < 4) }
+        ensures last_client { (line : Line) → result ≡ Ok (Taken.Last line) → IfSome line.client (λ client. client < 4) }
         ensures sum { S.budget input.new + (self.new.used + length self.new.unread) ≡ S.budget input.old + (self.old.used + length self.old.unread) }
         ensures falls { S.budget input.new ≤ S.budget input.old }
-        ensures ahead { (order : PlainOrder) → result ≡ Ok (Taken.Line order) → S.budget input.new + length self.new.unread < S.budget input.old + length self.old.unread }
+        ensures ahead { (line : Line) → result ≡ Ok (Taken.Line line) → S.budget input.new + length self.new.unread < S.budget input.old + length self.old.unread }
         ensures counts { S.faults input.old ≤ S.faults input.new }
         ensures same { S.origin input.new ≡ S.origin input.old }
         ensures cause { IfErr result (λ e. e ≡ ReadError.Failed → Rose (S.faults input.old) (S.faults input.new)) }
     {
         self.line.clear();
         match self.read_line(input) {
-            Ok(true) => Ok(Taken::Line(self.order(alloc)?)),
-            Ok(false) => Ok(Taken::Last(self.order(alloc)?)),
+            Ok(true) => Ok(Taken::Line(self.says(alloc)?)),
+            Ok(false) => Ok(Taken::Last(self.says(alloc)?)),
             Err(error) => Err(error),
         }
     }
 
     // What the line says.
-    fn order(&self, alloc: Global) -> Result<Order, ReadError>
-        ensures order { IfOk result (λ order. order ≡ reading self.now.line) }
-        ensures bounds { IfOk result IsSoundLine }
+    fn says(&self, alloc: Global) -> Result<Line, ReadError>
+        ensures line { IfOk result (λ line. line ≡ line_of self.now.tagged self.now.line) }
+        ensures bounds { IfOk result (λ line. IsSoundLine line.order) }
+        ensures client { IfOk result (λ line. IfSome line.client (λ client. client < 4)) }
         ensures memory { IfErr result (λ e. e ≡ ReadError.Memory) }
         ensures within { self.now.used ≤ longest_script }
         ensures few { length self.now.unread ≤ piece_len }
         ensures held { length self.now.line ≤ most_kept }
     {
-        match read_command(alloc, self.line.as_slice()) {
-            Ok(command) => Ok(Ok(command)),
-            Err(CommandError::Bad(fault)) => Ok(Err(fault)),
-            Err(CommandError::Memory) => Err(ReadError::Memory),
-        }
+        read_line(alloc, self.tagged, self.line.as_slice())
     }
 }
 
@@ -376,26 +378,4 @@ pub(crate) fn feed_at(bytes: &[u8]) -> Option<usize>
     ensures place { result ≡ feed_at bytes.now }
 {
     bytes.iter().position(|byte| *byte == b'\n')
-}
-
-/// The word that ends the body of a line's command, where it has one.
-pub fn body_word(order: &Order) -> Option<&Text>
-    ensures word { option_map (λ word. word.now) result ≡ body_word order.now }
-{
-    match order {
-        Ok(Command::Import(word)) => Some(word),
-        Ok(Command::Replace(_, word)) => Some(word),
-        Ok(Command::Eco(word)) => Some(word),
-        _ => None,
-    }
-}
-
-/// Whether a line is `quit`.
-pub fn is_quit(order: &Order) -> bool
-    ensures quit { result ≡ is_quit order.now }
-{
-    match order {
-        Ok(Command::Quit) => true,
-        _ => false,
-    }
 }

@@ -21,13 +21,14 @@ const NAMES: &[u8; 56] =
 const RECORD: &[u8; 25] =
     b"\0\0\xcf\xa1\xbf\xbf\x28\xb0\x26\x61\x4a\xcf\xb2\x43\x60\x33\x44\x09\x61\x4f\x04\x36\x01\x3b\x0f";
 
-/// A script, which calls of its source and of the sink fail, and whether the opening is strict.
+/// A script, which calls of its source and of the sink fail, whether the opening is strict, and whether four clients say the script.
 #[derive(Clone, Copy)]
 pub(crate) struct Run<'a> {
     pub script: &'a [u8],
     pub input: &'a [u64],
     pub out: &'a [u64],
     pub strict: bool,
+    pub desk: bool,
 }
 
 /// Edits over two games, which a slot and an index follow, that are saved, games that come in and are saved, a game that goes, an edit that is
@@ -38,6 +39,7 @@ delete 0\ncompact\ntag 0 White B\nfind rnbB1b1r/ppk2ppp/2p5/4q3/4n3/8/PPP2PPP/2K
     input: &[],
     out: &[],
     strict: false,
+    desk: false,
 };
 
 pub(crate) const EDITS_TEXT: &[u8] =
@@ -101,6 +103,9 @@ pub(crate) fn run_over_views(
     words.push(String::from_str(alloc, "base")?)?;
     if run.strict {
         words.push(String::from_str(alloc, "--strict")?)?;
+    }
+    if run.desk {
+        words.push(String::from_str(alloc, "--desk")?)?;
     }
     let input = Vec::from_slice(alloc, run.input)?;
     let mut input = MemSource::new(Vec::from_slice(alloc, run.script)?, 1, input);

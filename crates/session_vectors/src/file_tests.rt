@@ -94,6 +94,7 @@ const LIST_AND_EXPORT: Run<'static> = Run {
     input: &[],
     out: &[],
     strict: true,
+    desk: false,
 };
 
 const EXPORT: Run<'static> = Run {

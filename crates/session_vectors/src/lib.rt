@@ -4,6 +4,8 @@
 #[cfg(test)]
 mod base;
 #[cfg(test)]
+mod desk_tests;
+#[cfg(test)]
 mod file_tests;
 #[cfg(test)]
 mod stream_tests;

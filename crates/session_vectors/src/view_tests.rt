@@ -84,6 +84,7 @@ fn run_of(script: &[u8]) -> Run<'_> {
         input: &[],
         out: &[],
         strict: false,
+        desk: false,
     }
 }
 

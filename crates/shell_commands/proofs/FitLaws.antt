@@ -2,7 +2,7 @@
 use Rattle.std.proofs.Common.{◌≡◌, ℕ, zero, suc, ◌+◌, Bool, true, false, List, [], ◌∷◌, length, map, Option, Some, None, Result, Ok, Err, All, refl, sym, ap, ◌∙◌, subst, arith}
 use Rattle.std.proofs.lemmas.List.{length-append, length-map, length-replicate}
 use Rattle.std.proofs.lemmas.List.Elements.{All-nil}
-use Rattle.std.specs.Prelude.{slice_get, if◌then◌else◌}
+use Rattle.std.specs.Prelude.{nat_lt, slice_get, slice_set, if◌then◌else◌}
 use Rattle.base_core.proofs.MarkLaws.{changed-length}
 use Rattle.base_core.specs.Base.{Base, Held}
 use Rattle.base_core.specs.Compacted.{compacted}
@@ -43,6 +43,8 @@ use Rattle.shell_state.specs.Refusing.{not_added, refusal_of}
 use Rattle.shell_state.specs.Slots.{Slot}
 use Rattle.shell_state.specs.State.{HasFilters, Shared, State, begin, with_filter, with_game, with_index}
 use Rattle.shell_state.specs.declared.refusing.Refusal.{Refusal}
+use Rattle.view_commands.specs.Views.{with_slot}
+use Rattle.view_commands.specs.declared.window.Window.{Window}
 
 -- ---- one part changes
 
@@ -70,6 +72,13 @@ reshared s shared same has = record {
 -- What the slots show.
 reslotted : (s : State) (slots : List Slot) → HasFilters s → HasFilters (record s { slots = slots })
 reslotted s slots has = record { fit = record { filter = has.fit.filter; saved = has.fit.saved }; few = has.few }
+
+with_has : (w : Window) (s : State) (number : ℕ) (slot : Slot) → HasFilters s → HasFilters (with_slot w s number slot)
+with_has w s number slot has = by (nat_lt number w.count)
+  where
+    by : (b : Bool) → HasFilters (if b then record s { slots = slice_set s.slots (w.first + number) slot } else s)
+    by true = reslotted s _ has
+    by false = has
 
 -- ---- edits
 
@@ -200,64 +209,64 @@ indexed_has false s depth has = record { fit = record { filter = has.fit.filter;
 
 -- ---- each command
 
-command_has : (s : State) (command : Command) (body : List ℕ) → HasFilters s → HasFilters ((command_work command body).after s)
-command_has s Nothing body has = has
-command_has s (Find board side) body has = refiltered s _ (length-searched Ignore _ s.seat.filter) has
-command_has s (SearchPosition op query) body has = refiltered s _ (length-searched op _ s.seat.filter) has
-command_has s (SearchMaterial op query) body has = refiltered s _ (length-searched op _ s.seat.filter) has
-command_has s (SearchHeader op query) body has = refiltered s _ (length-searched op _ s.seat.filter) has
-command_has s Reset body has = refiltered s _ (length-replicate (length s.seat.filter) (Some 0)) has
-command_has s Clear body has = refiltered s _ (length-replicate (length s.seat.filter) None) has
-command_has s Negate body has = refiltered s _ (length-map s.seat.filter turned) has
-command_has s (Restrict first last) body has = refiltered s _ (length_restricted first last s.seat.filter) has
-command_has s (Keep name) body has = resaved s _ (one_kept s.seat.saved name s.seat.filter (length s.shared.base.games) has.fit.filter (kept_of s has)) has
-command_has s (Take name) body has =
+command_has : (w : Window) (s : State) (command : Command) (body : List ℕ) → HasFilters s → HasFilters ((command_work w command body).after s)
+command_has w s Nothing body has = has
+command_has w s (Find board side) body has = refiltered s _ (length-searched Ignore _ s.seat.filter) has
+command_has w s (SearchPosition op query) body has = refiltered s _ (length-searched op _ s.seat.filter) has
+command_has w s (SearchMaterial op query) body has = refiltered s _ (length-searched op _ s.seat.filter) has
+command_has w s (SearchHeader op query) body has = refiltered s _ (length-searched op _ s.seat.filter) has
+command_has w s Reset body has = refiltered s _ (length-replicate (length s.seat.filter) (Some 0)) has
+command_has w s Clear body has = refiltered s _ (length-replicate (length s.seat.filter) None) has
+command_has w s Negate body has = refiltered s _ (length-map s.seat.filter turned) has
+command_has w s (Restrict first last) body has = refiltered s _ (length_restricted first last s.seat.filter) has
+command_has w s (Keep name) body has = resaved s _ (one_kept s.seat.saved name s.seat.filter (length s.shared.base.games) has.fit.filter (kept_of s has)) has
+command_has w s (Take name) body has =
     refiltered s _ (joined_long s.seat.saved name (length s.shared.base.games) s.seat.filter taken has.fit.saved (λ other long. long) has.fit.filter ∙ sym has.fit.filter) has
-command_has s (And name) body has =
+command_has w s (And name) body has =
     refiltered s _ (joined_long s.seat.saved name (length s.shared.base.games) s.seat.filter intersection has.fit.saved (λ other long. length_joined in_both s.seat.filter other (has.fit.filter ∙ sym long) ∙ has.fit.filter) has.fit.filter ∙ sym has.fit.filter) has
-command_has s (Or name) body has =
+command_has w s (Or name) body has =
     refiltered s _ (joined_long s.seat.saved name (length s.shared.base.games) s.seat.filter union has.fit.saved (λ other long. length_joined in_either s.seat.filter other (has.fit.filter ∙ sym long) ∙ has.fit.filter) has.fit.filter ∙ sym has.fit.filter) has
-command_has s (Drop name) body has = resaved s _ (one_dropped s.seat.saved name (length s.shared.base.games) (kept_of s has)) has
-command_has s Hits body has = has
-command_has s Listing body has = has
-command_has s (Show game) body has = has
-command_has s Export body has = has
-command_has s (Import word) body has = items_have (none_taken s) (items_of body) has
-command_has s (Replace game word) body has = replaced_has s game (the_new s game body) has
-command_has s (Eco word) body has = eco_has s (table_of body) has
-command_has s (Tag game edit) body has = tag_has game edit s (slice_get s.shared.base.games game) has
-command_has s (Delete game) body has = edited_has (deleted game) s (slice_get s.shared.base.games game) (deleted_long game s.shared.base) has
-command_has s (Undelete game) body has = edited_has (undeleted game) s (slice_get s.shared.base.games game) (undeleted_long game s.shared.base) has
-command_has s (Mark game bit on) body has = edited_has (marked game bit on) s (slice_get s.shared.base.games game) (marked_long game bit on s.shared.base) has
-command_has s (Tree board side) body has = has
-command_has s (Watch slot board side) body has = reslotted s _ has
-command_has s (View slot) body has = has
-command_has s (Unwatch slot) body has = reslotted s _ has
-command_has s (Cross event) body has = has
-command_has s (Twins depth) body has = twins_has s (found_twins s depth) has
-command_has s (Index (Some depth)) body has = indexed_has (is_too_big s depth) s depth has
-command_has s (Index None) body has = record { fit = record { filter = has.fit.filter; saved = has.fit.saved }; few = has.few }
-command_has s Save body has = reshared s _ refl has
-command_has s Info body has = has
-command_has s (Demo seed games) body has = shown_has (adding s seed games).refused (adding s seed games).state (adding_has s seed games has)
-command_has s Quit body has = has
-command_has s Compact body has = compacted_has (is_within s.shared.base) s has
+command_has w s (Drop name) body has = resaved s _ (one_dropped s.seat.saved name (length s.shared.base.games) (kept_of s has)) has
+command_has w s Hits body has = has
+command_has w s Listing body has = has
+command_has w s (Show game) body has = has
+command_has w s Export body has = has
+command_has w s (Import word) body has = items_have (none_taken s) (items_of body) has
+command_has w s (Replace game word) body has = replaced_has s game (the_new s game body) has
+command_has w s (Eco word) body has = eco_has s (table_of body) has
+command_has w s (Tag game edit) body has = tag_has game edit s (slice_get s.shared.base.games game) has
+command_has w s (Delete game) body has = edited_has (deleted game) s (slice_get s.shared.base.games game) (deleted_long game s.shared.base) has
+command_has w s (Undelete game) body has = edited_has (undeleted game) s (slice_get s.shared.base.games game) (undeleted_long game s.shared.base) has
+command_has w s (Mark game bit on) body has = edited_has (marked game bit on) s (slice_get s.shared.base.games game) (marked_long game bit on s.shared.base) has
+command_has w s (Tree board side) body has = has
+command_has w s (Watch slot board side) body has = with_has w s slot _ has
+command_has w s (View slot) body has = has
+command_has w s (Unwatch slot) body has = with_has w s slot _ has
+command_has w s (Cross event) body has = has
+command_has w s (Twins depth) body has = twins_has s (found_twins s depth) has
+command_has w s (Index (Some depth)) body has = indexed_has (is_too_big s depth) s depth has
+command_has w s (Index None) body has = record { fit = record { filter = has.fit.filter; saved = has.fit.saved }; few = has.few }
+command_has w s Save body has = reshared s _ refl has
+command_has w s Info body has = has
+command_has w s (Demo seed games) body has = shown_has (adding s seed games).refused (adding s seed games).state (adding_has s seed games has)
+command_has w s Quit body has = has
+command_has w s Compact body has = compacted_has (is_within s.shared.base) s has
 
-order_has : (s : State) (order : Order) (body : List ℕ) → HasFilters s → HasFilters ((order_work order body).after s)
-order_has s (Ok command) body has = command_has s command body has
-order_has s (Err fault) body has = has
+order_has : (w : Window) (s : State) (order : Order) (body : List ℕ) → HasFilters s → HasFilters ((order_work w order body).after s)
+order_has w s (Ok command) body has = command_has w s command body has
+order_has w s (Err fault) body has = has
 
-pub task_has : (s : State) (t : Task) → HasFilters s → HasFilters (tasks.after s t)
-task_has s t has = order_has s t.order t.body has
+pub task_has : (w : Window) (s : State) (t : Task) → HasFilters s → HasFilters ((tasks w).after s t)
+task_has w s t has = order_has w s t.order t.body has
 
 -- ---- a script
 
 begin_has : (created : Bool) (slots : List Slot) (base : Base) → HasFilters (begin created slots base)
 begin_has created slots base = record { fit = record { filter = length-replicate (length base.games) (Some 0); saved = All-nil (λ (f : SavedFilter). length f.plies ≡ length base.games) }; few = omega arith }
 
-all_have : (s : State) (done : List Task) → HasFilters s → HasFilters (after_all tasks s done)
-all_have s [] has = has
-all_have s (t ∷ done) has = all_have (tasks.after s t) done (task_has s t has)
+all_have : (w : Window) (s : State) (done : List Task) → HasFilters s → HasFilters (after_all (tasks w) s done)
+all_have w s [] has = has
+all_have w s (t ∷ done) has = all_have w ((tasks w).after s t) done (task_has w s t has)
 
-pub script_has : (created : Bool) (slots : List Slot) (base : Base) (done : List Task) → HasFilters (after_all tasks (begin created slots base) done)
-script_has created slots base done = all_have (begin created slots base) done (begin_has created slots base)
+pub script_has : (w : Window) (created : Bool) (slots : List Slot) (base : Base) (done : List Task) → HasFilters (after_all (tasks w) (begin created slots base) done)
+script_has w created slots base done = all_have w (begin created slots base) done (begin_has created slots base)

@@ -5,3 +5,4 @@ pub mod FitLaws
 pub mod SlotLaws
 pub mod ShownLaws
 pub mod ViewLaws
+pub mod WindowLaws

@@ -44,7 +44,8 @@ use Rattle.shell_state.specs.Slots.Slot.{empty, idle, shows}
 use Rattle.shell_state.specs.State.{State, with_filter, with_game, with_seat, games_of, with_index}
 use Rattle.shell_state.specs.declared.refusing.Refusal.{Refusal}
 use Rattle.shell_state.specs.declared.refusing.Refusal.TheVariants.{Full}
-use Rattle.view_commands.specs.Views.{left, showing, unwatch_line, watch_line, with_slot}
+use Rattle.view_commands.specs.Views.{left, showing, own_slot, unwatch_line, watch_line, with_slot}
+use Rattle.view_commands.specs.declared.window.Window.{Window}
 use Rattle.base_core.specs.Edits.{tagged}
 use Rattle.base_core.specs.Compacted.{compacted}
 use Rattle.base_core.specs.declared.fault.What.TheVariants.{File}
@@ -149,68 +150,75 @@ classified_so s (Ok table) is = absurd (not_error 99 _ refl is)
 classified_so s (Err fault) is = refl
 
 -- A slot that stays as it is.
-same_slot : (s : State) (number : ℕ) (slot : Slot) → slot_at s.slots number ≡ slot → with_slot s number slot ≡ s
-same_slot s number slot is = ap (λ (l : List Slot). record s { slots = l }) (ap (λ (x : Slot). slice_set s.slots number x) (sym is) ∙ set-get_or s.slots number empty)
+same_slot : (w : Window) (s : State) (number : ℕ) → with_slot w s number (own_slot w s number) ≡ s
+same_slot w s number = by (nat_lt number w.count)
+  where
+    by : (b : Bool) → (if b then record s { slots = slice_set s.slots (w.first + number) (if b then slot_at s.slots (w.first + number) else empty) } else s) ≡ s
+    by true = ap (λ (l : List Slot). record s { slots = l }) (set-get_or s.slots (w.first + number) empty)
+    by false = refl
 
-watch_refused : (s : State) (number : ℕ) (board : Packed) (slot : Slot) → slot_at s.slots number ≡ slot → IsError (watch_line number slot) → with_slot s number (showing board slot) ≡ s
-watch_refused s number board empty same is = same_slot s number empty same
-watch_refused s number board idle same is = absurd (not_error 119 _ refl is)
-watch_refused s number board (shows other) same is = absurd (not_error 119 _ refl is)
+slot_stays : (w : Window) (s : State) (number : ℕ) (slot : Slot) → own_slot w s number ≡ slot → with_slot w s number slot ≡ s
+slot_stays w s number slot is = ap (with_slot w s number) (sym is) ∙ same_slot w s number
 
-unwatch_refused : (s : State) (number : ℕ) (slot : Slot) → slot_at s.slots number ≡ slot → IsError (unwatch_line number slot) → with_slot s number (left slot) ≡ s
-unwatch_refused s number empty same is = same_slot s number empty same
-unwatch_refused s number idle same is = same_slot s number idle same
-unwatch_refused s number (shows board) same is = absurd (not_error 117 _ refl is)
+watch_refused : (w : Window) (s : State) (number : ℕ) (board : Packed) (slot : Slot) → own_slot w s number ≡ slot → IsError (watch_line number slot) → with_slot w s number (showing board slot) ≡ s
+watch_refused w s number board empty same is = slot_stays w s number empty same
+watch_refused w s number board idle same is = absurd (not_error 119 _ refl is)
+watch_refused w s number board (shows other) same is = absurd (not_error 119 _ refl is)
 
-command_refused : (s : State) (command : Command) (body : List ℕ) → length s.seat.filter < 2 ^ 64 → IsError ((command_work command body).text s) → ((word : List ℕ) → command ≡ Import word → ⊥)
-    → ((seed games : ℕ) → command ≡ Demo seed games → ⊥) → (command_work command body).after s ≡ s
-command_refused s Nothing body few is imports makes = refl
-command_refused s (Find board side) body few is imports makes = absurd (found_so s (find_after s board side).seat.filter (rw (length-searched Ignore _ s.seat.filter) few) is)
-command_refused s (SearchPosition op query) body few is imports makes = absurd (not_error 102 _ refl is)
-command_refused s (SearchMaterial op query) body few is imports makes = absurd (not_error 102 _ refl is)
-command_refused s (SearchHeader op query) body few is imports makes = absurd (not_error 102 _ refl is)
-command_refused s Reset body few is imports makes = absurd (not_error 102 _ refl is)
-command_refused s Clear body few is imports makes = absurd (not_error 102 _ refl is)
-command_refused s Negate body few is imports makes = absurd (not_error 102 _ refl is)
-command_refused s (Restrict first last) body few is imports makes = absurd (not_error 102 _ refl is)
-command_refused s (Keep name) body few is imports makes = kept_so (place_of s.seat.saved name) s name is
-command_refused s (Take name) body few is imports makes = joined_so (place_of s.seat.saved name) taken s name is
-command_refused s (And name) body few is imports makes = joined_so (place_of s.seat.saved name) intersection s name is
-command_refused s (Or name) body few is imports makes = joined_so (place_of s.seat.saved name) union s name is
-command_refused s (Drop name) body few is imports makes = dropped-so s name is
-command_refused s Hits body few is imports makes = refl
-command_refused s Listing body few is imports makes = refl
-command_refused s (Show game) body few is imports makes = refl
-command_refused s Export body few is imports makes = refl
-command_refused s (Import word) body few is imports makes = absurd (imports word refl)
-command_refused s (Replace game word) body few is imports makes = replaced_so s game (the_new s game body) is
-command_refused s (Eco word) body few is imports makes = classified_so s (table_of body) is
-command_refused s (Tag game edit) body few is imports makes = tagged_so game edit s (slice_get s.shared.base.games game) is
-command_refused s (Delete game) body few is imports makes = edited_so 100 (codes "eleted ") (deleted game) game s (slice_get s.shared.base.games game) refl is
-command_refused s (Undelete game) body few is imports makes = edited_so 117 (codes "ndeleted ") (undeleted game) game s (slice_get s.shared.base.games game) refl is
-command_refused s (Mark game bit on) body few is imports makes = edited_so 109 (codes "arked ") (marked game bit on) game s (slice_get s.shared.base.games game) refl is
-command_refused s (Tree board side) body few is imports makes = refl
-command_refused s (Watch slot board side) body few is imports makes = watch_refused s slot (packed_of board side) (slot_at s.slots slot) refl is
-command_refused s (View slot) body few is imports makes = refl
-command_refused s (Unwatch slot) body few is imports makes = unwatch_refused s slot (slot_at s.slots slot) refl is
-command_refused s (Cross event) body few is imports makes = refl
-command_refused s (Twins depth) body few is imports makes = absurd (not_error 116 _ refl is)
-command_refused s (Index (Some depth)) body few is imports makes = indexed_so (is_too_big s depth) s depth is
-command_refused s (Index None) body few is imports makes = absurd (not_error 105 _ refl is)
-command_refused s Save body few is imports makes = absurd (not_error 115 _ refl is)
-command_refused s Info body few is imports makes = refl
-command_refused s (Demo seed games) body few is imports makes = absurd (makes seed games refl)
-command_refused s Quit body few is imports makes = refl
-command_refused s Compact body few is imports makes = compacted_so (is_within s.shared.base) s is
+unwatch_refused : (w : Window) (s : State) (number : ℕ) (slot : Slot) → own_slot w s number ≡ slot → IsError (unwatch_line number slot) → with_slot w s number (left slot) ≡ s
+unwatch_refused w s number empty same is = slot_stays w s number empty same
+unwatch_refused w s number idle same is = slot_stays w s number idle same
+unwatch_refused w s number (shows board) same is = absurd (not_error 117 _ refl is)
 
-order_refused : (s : State) (order : Order) (body : List ℕ) → length s.seat.filter < 2 ^ 64 → IsError ((order_work order body).text s) → ((word : List ℕ) → order ≡ Ok (Import word) → ⊥)
-    → ((seed games : ℕ) → order ≡ Ok (Demo seed games) → ⊥) → (order_work order body).after s ≡ s
-order_refused s (Ok command) body few is imports makes =
-    command_refused s command body few is (λ word same. imports word (ap (λ (x : Command). Ok x) same)) (λ seed games same. makes seed games (ap (λ (x : Command). Ok x) same))
-order_refused s (Err fault) body few is imports makes = refl
+command_refused : (w : Window) (s : State) (command : Command) (body : List ℕ) → length s.seat.filter < 2 ^ 64 → IsError ((command_work w command body).text s) → ((word : List ℕ) → command ≡ Import word → ⊥)
+    → ((seed games : ℕ) → command ≡ Demo seed games → ⊥) → (command_work w command body).after s ≡ s
+command_refused w s Nothing body few is imports makes = refl
+command_refused w s (Find board side) body few is imports makes = absurd (found_so s (find_after s board side).seat.filter (rw (length-searched Ignore _ s.seat.filter) few) is)
+command_refused w s (SearchPosition op query) body few is imports makes = absurd (not_error 102 _ refl is)
+command_refused w s (SearchMaterial op query) body few is imports makes = absurd (not_error 102 _ refl is)
+command_refused w s (SearchHeader op query) body few is imports makes = absurd (not_error 102 _ refl is)
+command_refused w s Reset body few is imports makes = absurd (not_error 102 _ refl is)
+command_refused w s Clear body few is imports makes = absurd (not_error 102 _ refl is)
+command_refused w s Negate body few is imports makes = absurd (not_error 102 _ refl is)
+command_refused w s (Restrict first last) body few is imports makes = absurd (not_error 102 _ refl is)
+command_refused w s (Keep name) body few is imports makes = kept_so (place_of s.seat.saved name) s name is
+command_refused w s (Take name) body few is imports makes = joined_so (place_of s.seat.saved name) taken s name is
+command_refused w s (And name) body few is imports makes = joined_so (place_of s.seat.saved name) intersection s name is
+command_refused w s (Or name) body few is imports makes = joined_so (place_of s.seat.saved name) union s name is
+command_refused w s (Drop name) body few is imports makes = dropped-so s name is
+command_refused w s Hits body few is imports makes = refl
+command_refused w s Listing body few is imports makes = refl
+command_refused w s (Show game) body few is imports makes = refl
+command_refused w s Export body few is imports makes = refl
+command_refused w s (Import word) body few is imports makes = absurd (imports word refl)
+command_refused w s (Replace game word) body few is imports makes = replaced_so s game (the_new s game body) is
+command_refused w s (Eco word) body few is imports makes = classified_so s (table_of body) is
+command_refused w s (Tag game edit) body few is imports makes = tagged_so game edit s (slice_get s.shared.base.games game) is
+command_refused w s (Delete game) body few is imports makes = edited_so 100 (codes "eleted ") (deleted game) game s (slice_get s.shared.base.games game) refl is
+command_refused w s (Undelete game) body few is imports makes = edited_so 117 (codes "ndeleted ") (undeleted game) game s (slice_get s.shared.base.games game) refl is
+command_refused w s (Mark game bit on) body few is imports makes = edited_so 109 (codes "arked ") (marked game bit on) game s (slice_get s.shared.base.games game) refl is
+command_refused w s (Tree board side) body few is imports makes = refl
+command_refused w s (Watch slot board side) body few is imports makes = watch_refused w s slot (packed_of board side) (own_slot w s slot) refl is
+command_refused w s (View slot) body few is imports makes = refl
+command_refused w s (Unwatch slot) body few is imports makes = unwatch_refused w s slot (own_slot w s slot) refl is
+command_refused w s (Cross event) body few is imports makes = refl
+command_refused w s (Twins depth) body few is imports makes = absurd (not_error 116 _ refl is)
+command_refused w s (Index (Some depth)) body few is imports makes = indexed_so (is_too_big s depth) s depth is
+command_refused w s (Index None) body few is imports makes = absurd (not_error 105 _ refl is)
+command_refused w s Save body few is imports makes = absurd (not_error 115 _ refl is)
+command_refused w s Info body few is imports makes = refl
+command_refused w s (Demo seed games) body few is imports makes = absurd (makes seed games refl)
+command_refused w s Quit body few is imports makes = refl
+command_refused w s Compact body few is imports makes = compacted_so (is_within s.shared.base) s is
 
-pub refused : (s : State) (t : Task) → length s.seat.filter < 2 ^ 64 → IsError (tasks.text s t) → ((word : List ℕ) → t.order ≡ Ok (Import word) → ⊥) → ((seed games : ℕ) → t.order ≡ Ok (Demo seed games) → ⊥) → tasks.after s t ≡ s
-refused s t few is imports makes = order_refused s t.order t.body few is imports makes
+order_refused : (w : Window) (s : State) (order : Order) (body : List ℕ) → length s.seat.filter < 2 ^ 64 → IsError ((order_work w order body).text s) → ((word : List ℕ) → order ≡ Ok (Import word) → ⊥)
+    → ((seed games : ℕ) → order ≡ Ok (Demo seed games) → ⊥) → (order_work w order body).after s ≡ s
+order_refused w s (Ok command) body few is imports makes =
+    command_refused w s command body few is (λ word same. imports word (ap (λ (x : Command). Ok x) same)) (λ seed games same. makes seed games (ap (λ (x : Command). Ok x) same))
+order_refused w s (Err fault) body few is imports makes = refl
+
+pub refused : (w : Window) (s : State) (t : Task) → length s.seat.filter < 2 ^ 64 → IsError ((tasks w).text s t) → ((word : List ℕ) → t.order ≡ Ok (Import word) → ⊥) → ((seed games : ℕ) → t.order ≡ Ok (Demo seed games) → ⊥) → (tasks w).after s t ≡ s
+refused w s t few is imports makes = order_refused w s t.order t.body few is imports makes
 
 -- ---- games are added behind the others
 
@@ -256,8 +264,8 @@ items_add : (i : Intake) (items : List Item) → Adds i.state (after_all intake 
 items_add i [] = none_added i.state
 items_add i (item ∷ items) = adds_on i.state (item_after i item).state (after_all intake (item_after i item) items).state (item_adds i item) (items_add (item_after i item) items)
 
-pub imported : (s : State) (word body : List ℕ) → (more : List Held) × ((tasks.after s (record { order = Ok (Import word); body = body })).shared.base.games ≡ s.shared.base.games ++ more)
-imported s word body = let adds = items_add (none_taken s) (items_of body) in (adds.more, adds.is)
+pub imported : (w : Window) (s : State) (word body : List ℕ) → (more : List Held) × (((tasks w).after s (record { order = Ok (Import word); body = body })).shared.base.games ≡ s.shared.base.games ++ more)
+imported w s word body = let adds = items_add (none_taken s) (items_of body) in (adds.more, adds.is)
 
 made_by : (why : Option Refusal) (a : Adding) (made : Made) → Adds a.state (unless_refusal why a made).state
 made_by (Some why) a made = none_added a.state
@@ -276,8 +284,8 @@ shown_games : (why : Option Refusal) (s : State) → (unless_shown why s).shared
 shown_games (Some why) s = refl
 shown_games None s = refl
 
-pub made : (s : State) (seed games : ℕ) (body : List ℕ) → (more : List Held) × ((tasks.after s (record { order = Ok (Demo seed games); body = body })).shared.base.games ≡ s.shared.base.games ++ more)
-made s seed games body = let adds = adding_adds s seed games in (adds.more, shown_games (adding s seed games).refused (adding s seed games).state ∙ adds.is)
+pub made : (w : Window) (s : State) (seed games : ℕ) (body : List ℕ) → (more : List Held) × (((tasks w).after s (record { order = Ok (Demo seed games); body = body })).shared.base.games ≡ s.shared.base.games ++ more)
+made w s seed games body = let adds = adding_adds s seed games in (adds.more, shown_games (adding s seed games).refused (adding s seed games).state ∙ adds.is)
 
 -- ---- where no game is added
 
@@ -290,13 +298,13 @@ no_more (held ∷ games) more is =
 same_then : (s s' : State) → Adds s s' → s'.shared.base.games ≡ s.shared.base.games → s' ≡ s
 same_then s s' adds same = adds.still (no_more s.shared.base.games adds.more (sym adds.is ∙ same))
 
-pub imported_none : (s : State) (word body : List ℕ) → (tasks.after s (record { order = Ok (Import word); body = body })).shared.base.games ≡ s.shared.base.games → tasks.after s (record { order = Ok (Import word); body = body }) ≡ s
-imported_none s word body same = same_then s (after_all intake (none_taken s) (items_of body)).state (items_add (none_taken s) (items_of body)) same
+pub imported_none : (w : Window) (s : State) (word body : List ℕ) → ((tasks w).after s (record { order = Ok (Import word); body = body })).shared.base.games ≡ s.shared.base.games → (tasks w).after s (record { order = Ok (Import word); body = body }) ≡ s
+imported_none w s word body same = same_then s (after_all intake (none_taken s) (items_of body)).state (items_add (none_taken s) (items_of body)) same
 
 ended_so : (why : Option Refusal) (games plies : ℕ) (s s' : State) → Adds s s' → IsError (unless_said why games plies s') → (unless_shown why s').shared.base.games ≡ s.shared.base.games → unless_shown why s' ≡ s
 ended_so (Some why) games plies s s' adds is same = same_then s s' adds same
 ended_so None games plies s s' adds is same = absurd (not_error 100 _ refl is)
 
-pub made_none : (s : State) (seed games : ℕ) (body : List ℕ) → IsError (tasks.text s (record { order = Ok (Demo seed games); body = body }))
-    → (tasks.after s (record { order = Ok (Demo seed games); body = body })).shared.base.games ≡ s.shared.base.games → tasks.after s (record { order = Ok (Demo seed games); body = body }) ≡ s
-made_none s seed games body is same = ended_so (adding s seed games).refused games (adding s seed games).plies s (adding s seed games).state (adding_adds s seed games) is same
+pub made_none : (w : Window) (s : State) (seed games : ℕ) (body : List ℕ) → IsError ((tasks w).text s (record { order = Ok (Demo seed games); body = body }))
+    → ((tasks w).after s (record { order = Ok (Demo seed games); body = body })).shared.base.games ≡ s.shared.base.games → (tasks w).after s (record { order = Ok (Demo seed games); body = body }) ≡ s
+made_none w s seed games body is same = ended_so (adding s seed games).refused games (adding s seed games).plies s (adding s seed games).state (adding_adds s seed games) is same

@@ -19,23 +19,25 @@ use Rattle.shell_state.specs.declared.halt.Halt.{Halt}
 use Rattle.shell_commands.specs.Parts.{part_of}
 use Rattle.shell_commands.specs.declared.parts.Part.{Part}
 use Rattle.shell_commands.specs.declared.parts.Part.TheVariants.{Edits, Texts}
+use Rattle.view_commands.specs.Views.{all_slots}
+use Rattle.view_commands.specs.declared.window.Window.{Window}
 use Rattle.shell_commands.specs.Tasks.{BrokenTask, Order, SettledTask, order_left, order_price, command_work, order_work, task_work, tasks}
 
-pub task_serves : {A : Type 0} (r : Result A Halt) (new : Holding) (seen : Seen) (s : State) (t : Task) (told told' : Option (List ℕ))
-    → Serves works (Stands new seen) Broken s (task_work t) told told' r → Serves tasks (Stands new seen) BrokenTask s t told told' r
-task_serves (Ok x) new seen s t told told' done = record { stands = done.stands; written = done.written }
-task_serves (Err e) new seen s t told told' cut = record { wrote = cut.wrote; broken = cut.broken }
+pub task_serves : {A : Type 0} (r : Result A Halt) (w : Window) (new : Holding) (seen : Seen) (s : State) (t : Task) (told told' : Option (List ℕ))
+    → Serves works (Stands new seen) Broken s (task_work w t) told told' r → Serves (tasks w) (Stands new seen) (BrokenTask w) s t told told' r
+task_serves (Ok x) w new seen s t told told' done = record { stands = done.stands; written = done.written }
+task_serves (Err e) w new seen s t told told' cut = record { wrote = cut.wrote; broken = cut.broken }
 
 -- A line without a body reads none.
-alone-command : (command : Command) (body : List ℕ) → word_of command ≡ None → (command_work command body).body ≡ false
-alone-command (Import word) body none = cc
-alone-command (Replace game word) body none = cc
-alone-command (Eco word) body none = cc
-alone-command _ body none = refl
+alone-command : (w : Window) (command : Command) (body : List ℕ) → word_of command ≡ None → (command_work w command body).body ≡ false
+alone-command w (Import word) body none = cc
+alone-command w (Replace game word) body none = cc
+alone-command w (Eco word) body none = cc
+alone-command w _ body none = refl
 
-pub alone : (order : Order) (body : List ℕ) → body_word order ≡ None → (order_work order body).body ≡ false
-alone (Ok command) body none = alone-command command body none
-alone (Err fault) body none = refl
+pub alone : (w : Window) (order : Order) (body : List ℕ) → body_word order ≡ None → (order_work w order body).body ≡ false
+alone w (Ok command) body none = alone-command w command body none
+alone w (Err fault) body none = refl
 
 -- What is asked where the files are told.
 asks_so : (work : Work) (price : List Look → List (Option ℕ) → ℕ) (holding : Holding) (seen : Seen) (s : State) (old new : ℕ) → work.price ≡ by_looks price → Stands holding seen s → Asks holding work old new → new ≤ old + price_by work.price s
@@ -45,10 +47,10 @@ asks_so work price holding seen s old new is st asked =
     let here : AsksBy (by_looks price) holding old new = subst P is asked in
     subst Q (sym is) (asked_told price holding seen s old new st here)
 
-pub asked_by : (holding : Holding) (seen : Seen) (s : State) (command : Command) (old new : ℕ) → Stands holding seen s → Asks holding (command_work command []) old new
+pub asked_by : (holding : Holding) (seen : Seen) (s : State) (command : Command) (old new : ℕ) → Stands holding seen s → Asks holding (command_work all_slots command []) old new
     → ((seed games : ℕ) → command ≡ Demo seed games → new ≤ old + demo_price s seed games) → new ≤ old + order_price s (Ok command)
 asked_by holding seen s (Demo seed games) old new st asked demo = demo seed games refl
-asked_by holding seen s command old new st asked demo = asks_so (command_work command []) _ holding seen s old new refl st asked
+asked_by holding seen s command old new st asked demo = asks_so (command_work all_slots command []) _ holding seen s old new refl st asked
 
 -- ---- commands that leave a base in the place of the files
 
@@ -63,10 +65,10 @@ none_left Save still = cc
 none_left Compact still = cc
 none_left _ still = refl
 
-pub still_settled : {A : Type 0} (r : Result A Halt) (seen : Seen) (s : State) (command : Command) (text : List ℕ) (told told' : Option (List ℕ)) → may_leave (part_of command) ≡ false
-    → IfErr r (λ _. SettledTask seen s (task (Ok command) text) told told')
-still_settled r seen s command text told told' still =
-    let P : Option (Base → Base) → Type 0 = λ o. IfSome o (λ left. Settled seen (tasks.after s (task (Ok command) text)) told told') in
+pub still_settled : {A : Type 0} (r : Result A Halt) (w : Window) (seen : Seen) (s : State) (command : Command) (text : List ℕ) (told told' : Option (List ℕ)) → may_leave (part_of command) ≡ false
+    → IfErr r (λ _. SettledTask seen w s (task (Ok command) text) told told')
+still_settled r w seen s command text told told' still =
+    let P : Option (Base → Base) → Type 0 = λ o. IfSome o (λ left. Settled seen ((tasks w).after s (task (Ok command) text)) told told') in
     if_err r _ (subst P (sym (none_left command still)) tt)
 
 settled_so : (left : Option (Base → Base)) (P : Type 0) → P → IfSome left (λ _. P)
@@ -74,9 +76,9 @@ settled_so None P is = tt
 settled_so (Some base) P is = is
 
 -- Nothing was written.
-pub task_unsettled : (seen : Seen) (s : State) (t : Task) (told : Option (List ℕ)) → SettledTask seen s t told told
-task_unsettled seen s t told = settled_so (order_left t.order) (Settled seen (tasks.after s t) told told) (inl refl)
+pub task_unsettled : (w : Window) (seen : Seen) (s : State) (t : Task) (told : Option (List ℕ)) → SettledTask seen w s t told told
+task_unsettled w seen s t told = settled_so (order_left t.order) (Settled seen ((tasks w).after s t) told told) (inl refl)
 
 -- The state behind it stood before anything was.
-pub task_settled : {A : Type 0} (r : Result A Halt) (holding : Holding) (seen : Seen) (s : State) (t : Task) (told told' : Option (List ℕ)) → Stands holding seen (tasks.after s t) → IfErr r (λ _. SettledTask seen s t told told')
-task_settled r holding seen s t told told' st = if_err r _ (settled_so (order_left t.order) _ (settled_of holding seen (tasks.after s t) told told' st))
+pub task_settled : {A : Type 0} (r : Result A Halt) (w : Window) (holding : Holding) (seen : Seen) (s : State) (t : Task) (told told' : Option (List ℕ)) → Stands holding seen ((tasks w).after s t) → IfErr r (λ _. SettledTask seen w s t told told')
+task_settled r w holding seen s t told told' st = if_err r _ (settled_so (order_left t.order) _ (settled_of holding seen ((tasks w).after s t) told told' st))

@@ -1,8 +1,8 @@
 -- Laws of views beside the state after a command.
-use Rattle.std.proofs.Common.{◌≡◌, ℕ, ◌+◌, ◌≤◌, Bool, true, false, List, Option, Some, None, Result, Ok, Err, OnOk, length, refl, sym, subst, ap, ◌∙◌, arith, ⊎_elim}
-use Rattle.std.proofs.lemmas.Bool.{cases_lt, eqb-true}
+use Rattle.std.proofs.Common.{◌≡◌, ℕ, ◌+◌, ◌≤◌, Bool, true, false, nat_lt, List, Option, Some, None, Result, Ok, Err, OnOk, length, refl, sym, subst, ap, ◌∙◌, arith, ⊎_elim}
+use Rattle.std.proofs.lemmas.Bool.{and_parts, cases_lt, eqb-true, le-leb, lt-ltb, ltb-true}
 use Rattle.std.proofs.lemmas.List.{get_or-set_same, get_or_past}
-use Rattle.std.specs.Prelude.{◌||◌, ◌==◌, if◌then◌else◌, slice_set}
+use Rattle.std.specs.Prelude.{◌||◌, ◌&&◌, ◌==◌, if◌then◌else◌, slice_set}
 use Rattle.cell_core.specs.Board.{Men}
 use Rattle.cell_core.specs.Packed.{Packed, packed_of}
 use Rattle.cell_core.specs.declared.man.Colour.{Colour}
@@ -21,7 +21,8 @@ use Rattle.shell_state.specs.State.{State}
 use Rattle.shell_state.specs.declared.halt.Halt.{Halt}
 use Rattle.tree_live.specs.Slots.{in_slot}
 use Rattle.tree_rows.specs.declared.row.Row.{Row}
-use Rattle.view_commands.specs.Views.{AreLeft, AreRight, AreToldAtMost, IsRight, IsToldAtMost, changes_of, is_shown, showing, shown_hits, slot_hits, unwatch_work, watch_work, with_slot}
+use Rattle.view_commands.specs.Views.{AreLeft, AreRight, AreToldAtMost, IsRight, IsToldAtMost, changes_of, is_own, is_shown, showing, shown_hits, slot_hits, unwatch_work, watch_work}
+use Rattle.view_commands.specs.declared.window.Window.{Window}
 
 -- ---- results
 
@@ -31,13 +32,13 @@ on_ok₂ (Err e) P Q R f p q = tt
 
 -- ---- commands that are on no slot
 
-pub moves_none : (s : State) (command : Command) (text : List ℕ) → (part_of command ≡ Slots → ⊥) → ((command_work command text).after s).slots ≡ s.slots
-moves_none s command text other =
-    command_stays s command text (λ k board side is. other (ap part_of is)) (λ k is. other (ap part_of is))
+pub moves_none : (w : Window) (s : State) (command : Command) (text : List ℕ) → (part_of command ≡ Slots → ⊥) → ((command_work w command text).after s).slots ≡ s.slots
+moves_none w s command text other =
+    command_stays w s command text (λ k board side is. other (ap part_of is)) (λ k is. other (ap part_of is))
 
-watches_none : (command : Command) (k : ℕ) → (part_of command ≡ Slots → ⊥) → watches (Ok command) k ≡ false
-watches_none (Watch slot board side) k other = absurd (other refl)
-watches_none _ k other = refl
+watches_none : (w : Window) (command : Command) (i : ℕ) → (part_of command ≡ Slots → ⊥) → watches w (Ok command) i ≡ false
+watches_none w (Watch slot board side) i other = absurd (other refl)
+watches_none w _ i other = refl
 
 or_false : (a b : Bool) → (a || b) ≡ false → a ≡ false
 or_false false b is = refl
@@ -55,76 +56,121 @@ told_none told most None = refl
 told_none told most (Some view) = omega arith
 
 -- Views that were shown the rows of the state after the command.
-pub shown_done : {B : Type 0} (rows : B → List Row) (told : B → ℕ) (s : State) (command : Command) (text : List ℕ) (before after : List (Option B)) → (part_of command ≡ Slots → ⊥)
-    → AreRight rows ((command_work command text).after s) after → AreToldAtMost told (λ k. changes_of s ((command_work command text).after s) (slot_at ((command_work command text).after s).slots k)) before after
-    → ViewsDone rows told s (task (Ok command) text) before after
-shown_done rows told s command text before after other right counted =
-    let s' : State = (command_work command text).after s in
+pub shown_done : {B : Type 0} (rows : B → List Row) (told : B → ℕ) (w : Window) (s : State) (command : Command) (text : List ℕ) (before after : List (Option B)) → (part_of command ≡ Slots → ⊥)
+    → AreRight rows w ((command_work w command text).after s) after
+    → AreToldAtMost told (λ i. if is_own w i then changes_of s ((command_work w command text).after s) (slot_at ((command_work w command text).after s).slots i) else 0) before after
+    → ViewsDone rows told w s (task (Ok command) text) before after
+shown_done rows told w s command text before after other right counted =
+    let s' : State = (command_work w command text).after s in
     record {
       right = right;
-      counted = λ k.
-          let P : Bool → Type 0 = λ w. IsToldAtMost told (if w then 1 + length (slot_hits s' (slot_at s'.slots k)) else changes_of s s' (slot_at s.slots k)) (in_slot before k) (in_slot after k) in
-          let Q : List Slot → Type 0 = λ l. IsToldAtMost told (changes_of s s' (slot_at l k)) (in_slot before k) (in_slot after k) in
-          subst P (sym (watches_none command k other)) (subst Q (moves_none s command text other) (counted k));
+      counted = λ i.
+          let P : Bool → Type 0 = λ b. IsToldAtMost told (if is_own w i then (if b then 1 + length (slot_hits s' (slot_at s'.slots i)) else changes_of s s' (slot_at s.slots i)) else 0) (in_slot before i) (in_slot after i) in
+          let Q : List Slot → Type 0 = λ l. IsToldAtMost told (if is_own w i then changes_of s s' (slot_at l i) else 0) (in_slot before i) (in_slot after i) in
+          subst P (sym (watches_none w command i other)) (subst Q (moves_none w s command text other) (counted i));
     }
 
-pub shown_left : {B : Type 0} (s : State) (command : Command) (text : List ℕ) (before after : List (Option B)) → (part_of command ≡ Slots → ⊥)
-    → AreLeft (λ k. is_shown (slot_at ((command_work command text).after s).slots k)) before after → AreLeft (touches s (Ok command)) before after
-shown_left s command text before after other left = λ k none.
-    let P : List Slot → Type 0 = λ l. is_shown (slot_at l k) ≡ false in
-    left k (subst P (sym (moves_none s command text other)) (or_false (is_shown (slot_at s.slots k)) (watches (Ok command) k) none))
+pub shown_left : {B : Type 0} (w : Window) (s : State) (command : Command) (text : List ℕ) (before after : List (Option B)) → (part_of command ≡ Slots → ⊥)
+    → AreLeft (λ i. is_own w i && is_shown (slot_at ((command_work w command text).after s).slots i)) before after → AreLeft (touches w s (Ok command)) before after
+shown_left w s command text before after other left = λ i none.
+    let P : List Slot → Type 0 = λ l. (is_own w i && is_shown (slot_at l i)) ≡ false in
+    left i (subst P (sym (moves_none w s command text other)) (or_false (is_own w i && is_shown (slot_at s.slots i)) (watches w (Ok command) i) none))
 
 -- ---- commands on slots
 
+-- The state with another slot of a number among all.
+abbrev slotted : State → ℕ → Slot → State
+slotted s i slot = record s { slots = slice_set s.slots i slot }
+
 -- The slot of a watch is the one that it showed before, or shows its board.
-shown_slot : (s : State) (slot : Slot) (number : ℕ) (packed : Packed) → slot_at s.slots number ≡ slot → (slot ≡ empty → ⊥) → slot_at (slice_set s.slots number (showing packed slot)) number ≡ showing packed slot
-shown_slot s slot number packed is some =
-    ⊎_elim (λ less. get_or-set_same s.slots number (showing packed slot) empty less)
-    (λ past. absurd (some (sym is ∙ get_or_past s.slots number empty past)))
-    (cases_lt number (length s.slots))
+shown_slot : (s : State) (slot : Slot) (i : ℕ) (packed : Packed) → slot_at s.slots i ≡ slot → (slot ≡ empty → ⊥) → slot_at (slice_set s.slots i (showing packed slot)) i ≡ showing packed slot
+shown_slot s slot i packed is some =
+    ⊎_elim (λ less. get_or-set_same s.slots i (showing packed slot) empty less)
+    (λ past. absurd (some (sym is ∙ get_or_past s.slots i empty past)))
+    (cases_lt i (length s.slots))
 
-told_slot : {B : Type 0} (rows : B → List Row) (told : B → ℕ) (s : State) (number : ℕ) (board : Men) (side : Colour) (slot : Slot) (before after : Option B) → slot_at s.slots number ≡ slot → IsRight rows s slot before
-    → IsToldAtMost told (1 + length (shown_hits s (packed_of board side))) before after
-    → IsToldAtMost told (1 + length (slot_hits (with_slot s number (showing (packed_of board side) slot)) (slot_at (slice_set s.slots number (showing (packed_of board side) slot)) number))) before after
-told_slot rows told s number board side empty None after is right most = most
-told_slot rows told s number board side empty (Some view) after is right most = absurd cc
-told_slot rows told s number board side idle before after is right most =
-    let P : Slot → Type 0 = λ x. IsToldAtMost told (1 + length (slot_hits (with_slot s number (shows (packed_of board side))) x)) before after in
-    subst P (sym (shown_slot s idle number (packed_of board side) is (λ none. cc))) most
-told_slot rows told s number board side (shows other) before after is right most =
-    let P : Slot → Type 0 = λ x. IsToldAtMost told (1 + length (slot_hits (with_slot s number (shows (packed_of board side))) x)) before after in
-    subst P (sym (shown_slot s (shows other) number (packed_of board side) is (λ none. cc))) most
+told_slot : {B : Type 0} (rows : B → List Row) (told : B → ℕ) (s : State) (i : ℕ) (packed : Packed) (slot : Slot) (before after : Option B) → slot_at s.slots i ≡ slot → IsRight rows s slot before
+    → IsToldAtMost told (1 + length (shown_hits s packed)) before after
+    → IsToldAtMost told (1 + length (slot_hits (slotted s i (showing packed slot)) (slot_at (slice_set s.slots i (showing packed slot)) i))) before after
+told_slot rows told s i packed empty None after is right most = most
+told_slot rows told s i packed empty (Some view) after is right most = absurd cc
+told_slot rows told s i packed idle before after is right most =
+    let P : Slot → Type 0 = λ x. IsToldAtMost told (1 + length (slot_hits (slotted s i (shows packed)) x)) before after in
+    subst P (sym (shown_slot s idle i packed is (λ none. cc))) most
+told_slot rows told s i packed (shows other) before after is right most =
+    let P : Slot → Type 0 = λ x. IsToldAtMost told (1 + length (slot_hits (slotted s i (shows packed)) x)) before after in
+    subst P (sym (shown_slot s (shows other) i packed is (λ none. cc))) most
 
-told_of : {B : Type 0} (rows : B → List Row) (told : B → ℕ) (s : State) (number : ℕ) (board : Men) (side : Colour) (k : ℕ) (here : Bool) (before after : Option B) → (number == k) ≡ here → IsRight rows s (slot_at s.slots k) before
+-- The slot that a user's number names is his own.
+named_own : (w : Window) (number i : ℕ) → (nat_lt number w.count && (w.first + number == i)) ≡ true → is_own w i ≡ true
+named_own w number i is =
+    let both = and_parts (nat_lt number w.count) (w.first + number == i) is in
+    let less = ltb-true number w.count both.0 in
+    let here = eqb-true (w.first + number) i both.1 in
+    rw (le-leb w.first i (omega (arith, here)), lt-ltb i (w.first + w.count) (omega (arith, here, less))) refl
+
+not_named : (w : Window) (number i : ℕ) → is_own w i ≡ false → (nat_lt number w.count && (w.first + number == i)) ≡ false
+not_named w number i other = by (nat_lt number w.count && (w.first + number == i)) refl
+  where
+    by : (b : Bool) → (nat_lt number w.count && (w.first + number == i)) ≡ b → b ≡ false
+    by true is = let own : is_own w i ≡ true = named_own w number i is in absurd (cc (own, other))
+    by false is = refl
+
+-- The state behind a watch of it.
+watched_state : (w : Window) (s : State) (number i : ℕ) (board : Men) (side : Colour) → (nat_lt number w.count && (w.first + number == i)) ≡ true
+    → (watch_work w number board side).after s ≡ slotted s i (showing (packed_of board side) (slot_at s.slots i))
+watched_state w s number i board side is =
+    let both = and_parts (nat_lt number w.count) (w.first + number == i) is in
+    let here : w.first + number ≡ i = eqb-true (w.first + number) i both.1 in
+    by (nat_lt number w.count) both.0 ∙ ap (λ (n : ℕ). slotted s n (showing (packed_of board side) (slot_at s.slots n))) here
+  where
+    slot : Bool → Slot
+    slot b = if b then slot_at s.slots (w.first + number) else empty
+
+    by : (b : Bool) → b ≡ true → (if b then record s { slots = slice_set s.slots (w.first + number) (showing (packed_of board side) (slot b)) } else s)
+        ≡ slotted s (w.first + number) (showing (packed_of board side) (slot_at s.slots (w.first + number)))
+    by true is = refl
+    by false is = absurd (cc)
+
+told_own : {B : Type 0} (rows : B → List Row) (told : B → ℕ) (w : Window) (s : State) (number : ℕ) (board : Men) (side : Colour) (i : ℕ) (here : Bool) (before after : Option B)
+    → (nat_lt number w.count && (w.first + number == i)) ≡ here → IsRight rows s (slot_at s.slots i) before
     → IsToldAtMost told (if here then 1 + length (shown_hits s (packed_of board side)) else 0) before after
-    → IsToldAtMost told (if here then 1 + length (slot_hits ((watch_work number board side).after s) (slot_at ((watch_work number board side).after s).slots k)) else changes_of s ((watch_work number board side).after s) (slot_at s.slots k)) before after
-told_of rows told s number board side k true before after is right most =
-    let same : number ≡ k = eqb-true number k is in
-    let s' : State = (watch_work number board side).after s in
-    let P : ℕ → Type 0 = λ n. IsRight rows s (slot_at s.slots n) before in
-    let Q : ℕ → Type 0 = λ n. IsToldAtMost told (1 + length (slot_hits s' (slot_at s'.slots n))) before after in
-    subst Q same (told_slot rows told s number board side (slot_at s.slots number) before after refl (subst P (sym same) right) most)
-told_of rows told s number board side k false before after is right most = told_by told 0 _ before after (omega arith) most
+    → IsToldAtMost told (if here then 1 + length (slot_hits ((watch_work w number board side).after s) (slot_at ((watch_work w number board side).after s).slots i)) else changes_of s ((watch_work w number board side).after s) (slot_at s.slots i)) before after
+told_own rows told w s number board side i true before after is right most =
+    let P : State → Type 0 = λ t. IsToldAtMost told (1 + length (slot_hits t (slot_at t.slots i))) before after in
+    subst P (sym (watched_state w s number i board side is)) (told_slot rows told s i (packed_of board side) (slot_at s.slots i) before after refl right most)
+told_own rows told w s number board side i false before after is right most = told_by told 0 _ before after (omega arith) most
 
-pub watch_done : {B : Type 0} (rows : B → List Row) (told : B → ℕ) (s : State) (number : ℕ) (board : Men) (side : Colour) (text : List ℕ) (before after : List (Option B)) → AreRight rows s before
-    → AreRight rows ((watch_work number board side).after s) after → AreToldAtMost told (λ k. if number == k then 1 + length (shown_hits s (packed_of board side)) else 0) before after
-    → ViewsDone rows told s (task (Ok (Watch number board side)) text) before after
-watch_done rows told s number board side text before after first right counted = record {
-  right = right;
-  counted = λ k. told_of rows told s number board side k (number == k) (in_slot before k) (in_slot after k) refl (first k) (counted k);
-}
+pub watch_done : {B : Type 0} (rows : B → List Row) (told : B → ℕ) (w : Window) (s : State) (number : ℕ) (board : Men) (side : Colour) (text : List ℕ) (before after : List (Option B)) → AreRight rows w s before
+    → AreRight rows w ((watch_work w number board side).after s) after
+    → AreToldAtMost told (λ i. if nat_lt number w.count && (w.first + number == i) then 1 + length (shown_hits s (packed_of board side)) else 0) before after
+    → ViewsDone rows told w s (task (Ok (Watch number board side)) text) before after
+watch_done rows told w s number board side text before after right right' counted = record { right = right'; counted = λ i. by i (is_own w i) refl }
+  where
+    s' : State
+    s' = (watch_work w number board side).after s
 
-unwatch_done : {B : Type 0} (rows : B → List Row) (told : B → ℕ) (s : State) (number : ℕ) (text : List ℕ) (before after : List (Option B))
-    → AreRight rows ((unwatch_work number).after s) after → AreToldAtMost told (λ k. 0) before after → ViewsDone rows told s (task (Ok (Unwatch number)) text) before after
-unwatch_done rows told s number text before after right counted =
-    record { right = right; counted = λ k. told_by told 0 _ (in_slot before k) (in_slot after k) (omega arith) (counted k) }
+    named : ℕ → Bool
+    named i = nat_lt number w.count && (w.first + number == i)
 
-pub unwatched : {A E B : Type 0} (r : Result A E) (rows : B → List Row) (told : B → ℕ) (s : State) (number : ℕ) (text : List ℕ) (before after : List (Option B)) → OnOk r (AreRight rows ((unwatch_work number).after s) after)
-    → OnOk r (AreToldAtMost told (λ k. 0) before after) → OnOk r (ViewsDone rows told s (task (Ok (Unwatch number)) text) before after)
-unwatched r rows told s number text before after right counted = on_ok₂ r _ _ _ (λ is most. unwatch_done rows told s number text before after is most) right counted
+    by : (i : ℕ) (own : Bool) → is_own w i ≡ own
+        → IsToldAtMost told (if own then (if named i then 1 + length (slot_hits s' (slot_at s'.slots i)) else changes_of s s' (slot_at s.slots i)) else 0) (in_slot before i) (in_slot after i)
+    by i true own = told_own rows told w s number board side i (named i) (in_slot before i) (in_slot after i) refl (right i own) (counted i)
+    by i false other =
+        let P : Bool → Type 0 = λ b. IsToldAtMost told (if b then 1 + length (shown_hits s (packed_of board side)) else 0) (in_slot before i) (in_slot after i) in
+        subst P (not_named w number i other) (counted i)
 
-pub unwatch_left : {B : Type 0} (s : State) (number : ℕ) (before after : List (Option B)) → AreLeft (λ k. is_shown (slot_at s.slots k)) before after → AreLeft (touches s (Ok (Unwatch number))) before after
-unwatch_left s number before after left = λ k none. left k (or_false (is_shown (slot_at s.slots k)) false none)
+unwatch_done : {B : Type 0} (rows : B → List Row) (told : B → ℕ) (w : Window) (s : State) (number : ℕ) (text : List ℕ) (before after : List (Option B))
+    → AreRight rows w ((unwatch_work w number).after s) after → AreToldAtMost told (λ i. 0) before after → ViewsDone rows told w s (task (Ok (Unwatch number)) text) before after
+unwatch_done rows told w s number text before after right counted =
+    record { right = right; counted = λ i. told_by told 0 _ (in_slot before i) (in_slot after i) (omega arith) (counted i) }
+
+pub unwatched : {A E B : Type 0} (r : Result A E) (rows : B → List Row) (told : B → ℕ) (w : Window) (s : State) (number : ℕ) (text : List ℕ) (before after : List (Option B)) → OnOk r (AreRight rows w ((unwatch_work w number).after s) after)
+    → OnOk r (AreToldAtMost told (λ i. 0) before after) → OnOk r (ViewsDone rows told w s (task (Ok (Unwatch number)) text) before after)
+unwatched r rows told w s number text before after right counted = on_ok₂ r _ _ _ (λ is most. unwatch_done rows told w s number text before after is most) right counted
+
+pub unwatch_left : {B : Type 0} (w : Window) (s : State) (number : ℕ) (before after : List (Option B)) → AreLeft (λ i. is_own w i && is_shown (slot_at s.slots i)) before after → AreLeft (touches w s (Ok (Unwatch number))) before after
+unwatch_left w s number before after left = λ i none. left i (or_false (is_own w i && is_shown (slot_at s.slots i)) false none)
 
 -- ---- parts
 
@@ -140,29 +186,30 @@ not_games command is slots = cc
 pub not_edits : (command : Command) → part_of command ≡ Edits → part_of command ≡ Slots → ⊥
 not_edits command is slots = cc
 
-pub edits_write : (command : Command) (text : List ℕ) → part_of command ≡ Edits → (command_work command text).writes ≡ true
-edits_write (Replace game word) text is = refl
-edits_write (Tag game edit) text is = refl
-edits_write Compact text is = refl
-edits_write _ text is = absurd cc
+pub edits_write : (w : Window) (command : Command) (text : List ℕ) → part_of command ≡ Edits → (command_work w command text).writes ≡ true
+edits_write w (Replace game word) text is = refl
+edits_write w (Tag game edit) text is = refl
+edits_write w Compact text is = refl
+edits_write w _ text is = absurd cc
 
 pub is_import : (command : Command) → part_of command ≡ Intake → (word : List ℕ) × (command ≡ Import word)
 is_import (Import word) is = (word, refl)
 is_import _ is = absurd cc
 
-pub searches_read : (command : Command) (text : List ℕ) → part_of command ≡ Searches → (command_work command text).files ≡ true
-searches_read (Find board side) text is = refl
-searches_read (SearchPosition op query) text is = refl
-searches_read (SearchMaterial op query) text is = refl
-searches_read _ text is = absurd cc
+pub searches_read : (w : Window) (command : Command) (text : List ℕ) → part_of command ≡ Searches → (command_work w command text).files ≡ true
+searches_read w (Find board side) text is = refl
+searches_read w (SearchPosition op query) text is = refl
+searches_read w (SearchMaterial op query) text is = refl
+searches_read w _ text is = absurd cc
 
 -- Where the command ended well.
-pub views_shown : {A B : Type 0} (r : Result A Halt) (rows : B → List Row) (told : B → ℕ) (s : State) (command : Command) (text : List ℕ) (before after : List (Option B)) → (part_of command ≡ Slots → ⊥)
-    → OnOk r (AreRight rows ((command_work command text).after s) after) → OnOk r (AreToldAtMost told (λ k. changes_of s ((command_work command text).after s) (slot_at ((command_work command text).after s).slots k)) before after)
-    → OnOk r (ViewsDone rows told s (task (Ok command) text) before after)
-views_shown r rows told s command text before after other right counted =
-    on_ok₂ r _ _ _ (λ is most. shown_done rows told s command text before after other is most) right counted
+pub views_shown : {A B : Type 0} (r : Result A Halt) (rows : B → List Row) (told : B → ℕ) (w : Window) (s : State) (command : Command) (text : List ℕ) (before after : List (Option B)) → (part_of command ≡ Slots → ⊥)
+    → OnOk r (AreRight rows w ((command_work w command text).after s) after)
+    → OnOk r (AreToldAtMost told (λ i. if is_own w i then changes_of s ((command_work w command text).after s) (slot_at ((command_work w command text).after s).slots i) else 0) before after)
+    → OnOk r (ViewsDone rows told w s (task (Ok command) text) before after)
+views_shown r rows told w s command text before after other right counted =
+    on_ok₂ r _ _ _ (λ is most. shown_done rows told w s command text before after other is most) right counted
 
 -- A faulty line changes nothing.
-pub fault_done : {B : Type 0} (rows : B → List Row) (told : B → ℕ) (s : State) (fault : ScriptFault) (text : List ℕ) (views : List (Option B)) → AreRight rows s views → ViewsDone rows told s (task (Err fault) text) views views
-fault_done rows told s fault text views right = record { right = right; counted = λ k. told_none told _ (in_slot views k) }
+pub fault_done : {B : Type 0} (rows : B → List Row) (told : B → ℕ) (w : Window) (s : State) (fault : ScriptFault) (text : List ℕ) (views : List (Option B)) → AreRight rows w s views → ViewsDone rows told w s (task (Err fault) text) views views
+fault_done rows told w s fault text views right = record { right = right; counted = λ i. told_none told _ (in_slot views i) }

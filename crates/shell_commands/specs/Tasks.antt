@@ -28,79 +28,80 @@ use Rattle.shell_state.specs.declared.halt.Halt.{Halt}
 use Rattle.text_commands.specs.GameTexts.{export_work, show_work}
 use Rattle.text_commands.specs.Listing.{list_work}
 use Rattle.text_commands.specs.Showing.{info_work, quit_work}
-use Rattle.view_commands.specs.Views.{unwatch_work, view_work, watch_work}
+use Rattle.view_commands.specs.Views.{all_slots, unwatch_work, view_work, watch_work}
+use Rattle.view_commands.specs.declared.window.Window.{Window}
 
 -- A line of a script: the command that it says, or its first fault.
 abbrev pub Order : Type 0
 Order = Result Command ScriptFault
 
--- What a command does with its body, where it has one.
-abbrev pub command_work : Command → List ℕ → Work
-command_work Nothing body = quiet (λ s. s) (λ s. [])
-command_work (Find board side) body = find_work board side
-command_work (SearchPosition op query) body = search_position_work op query
-command_work (SearchMaterial op query) body = search_material_work op query
-command_work (SearchHeader op query) body = search_header_work op query
-command_work Reset body = reset_work
-command_work Clear body = clear_work
-command_work Negate body = negate_work
-command_work (Restrict first last) body = restrict_work first last
-command_work (Keep name) body = keep_work name
-command_work (Take name) body = use_work name
-command_work (And name) body = and_work name
-command_work (Or name) body = or_work name
-command_work (Drop name) body = drop_work name
-command_work Hits body = hits_work
-command_work Listing body = list_work
-command_work (Show game) body = show_work game
-command_work Export body = export_work
-command_work (Import word) body = import_work body
-command_work (Replace game word) body = replace_work game body
-command_work (Eco word) body = eco_work body
-command_work (Tag game edit) body = tag_work game edit
-command_work (Delete game) body = delete_work game
-command_work (Undelete game) body = undelete_work game
-command_work (Mark game bit on) body = mark_work game bit on
-command_work (Tree board side) body = tree_work board side
-command_work (Watch slot board side) body = watch_work slot board side
-command_work (View slot) body = view_work slot
-command_work (Unwatch slot) body = unwatch_work slot
-command_work (Cross event) body = cross_work event
-command_work (Twins depth) body = twins_work depth
-command_work (Index depth) body = index_work depth
-command_work Save body = save_work
-command_work Info body = info_work
-command_work (Demo seed games) body = demo_work seed games
-command_work Quit body = quit_work
-command_work Compact body = compact_work
+-- What a command does with its body, where it has one, for a user with these slots of his own.
+abbrev pub command_work : Window → Command → List ℕ → Work
+command_work w Nothing body = quiet (λ s. s) (λ s. [])
+command_work w (Find board side) body = find_work board side
+command_work w (SearchPosition op query) body = search_position_work op query
+command_work w (SearchMaterial op query) body = search_material_work op query
+command_work w (SearchHeader op query) body = search_header_work op query
+command_work w Reset body = reset_work
+command_work w Clear body = clear_work
+command_work w Negate body = negate_work
+command_work w (Restrict first last) body = restrict_work first last
+command_work w (Keep name) body = keep_work name
+command_work w (Take name) body = use_work name
+command_work w (And name) body = and_work name
+command_work w (Or name) body = or_work name
+command_work w (Drop name) body = drop_work name
+command_work w Hits body = hits_work
+command_work w Listing body = list_work
+command_work w (Show game) body = show_work game
+command_work w Export body = export_work
+command_work w (Import word) body = import_work body
+command_work w (Replace game word) body = replace_work game body
+command_work w (Eco word) body = eco_work body
+command_work w (Tag game edit) body = tag_work game edit
+command_work w (Delete game) body = delete_work game
+command_work w (Undelete game) body = undelete_work game
+command_work w (Mark game bit on) body = mark_work game bit on
+command_work w (Tree board side) body = tree_work board side
+command_work w (Watch slot board side) body = watch_work w slot board side
+command_work w (View slot) body = view_work w slot
+command_work w (Unwatch slot) body = unwatch_work w slot
+command_work w (Cross event) body = cross_work event
+command_work w (Twins depth) body = twins_work depth
+command_work w (Index depth) body = index_work depth
+command_work w Save body = save_work
+command_work w Info body = info_work
+command_work w (Demo seed games) body = demo_work seed games
+command_work w Quit body = quit_work
+command_work w Compact body = compact_work
 
 -- A faulty line changes nothing, and its text is its error line.
-abbrev pub order_work : Order → List ℕ → Work
-order_work (Ok command) body = command_work command body
-order_work (Err fault) body = quiet (λ s. s) (λ s. fault_line fault)
+abbrev pub order_work : Window → Order → List ℕ → Work
+order_work w (Ok command) body = command_work w command body
+order_work w (Err fault) body = quiet (λ s. s) (λ s. fault_line fault)
 
-abbrev pub task_work : Task → Work
-task_work t = order_work t.order t.body
+abbrev pub task_work : Window → Task → Work
+task_work w t = order_work w t.order t.body
 
 -- The plain machine.
-abbrev pub tasks : Plain State Task
-tasks = record { after = λ s t. (task_work t).after s; text = λ s t. (task_work t).text s }
+abbrev pub tasks : Window → Plain State Task
+tasks w = record { after = λ s t. (task_work w t).after s; text = λ s t. (task_work w t).text s }
 
 -- What is known of a task that was broken off.
-abbrev pub BrokenTask : State → Task → Halt → Type 0
-BrokenTask s t e = Broken s (task_work t) e
+abbrev pub BrokenTask : Window → State → Task → Halt → Type 0
+BrokenTask w s t e = Broken s (task_work w t) e
 
--- Whatever its body: whether a line may change the files, the base that it leaves in their place, and what it asks at most.
+-- Whatever its body and whoever says it: whether a line may change the files, the base that it leaves in their place, and what it asks at most.
 abbrev pub order_writes : Order → Bool
-order_writes order = (order_work order []).writes
+order_writes order = (order_work all_slots order []).writes
 
 abbrev pub order_left : Order → Option (Base → Base)
-order_left order = (order_work order []).left
+order_left order = (order_work all_slots order []).left
 
 -- What is known of the files where a task was broken off that leaves a base in their place: nothing of its text was written, or they carry what
 -- the state behind it says.
-abbrev pub SettledTask : Seen → State → Task → Option (List ℕ) → Option (List ℕ) → Type 0
-SettledTask seen s t told told' = IfSome (order_left t.order) (λ left. Settled seen (tasks.after s t) told told')
+abbrev pub SettledTask : Seen → Window → State → Task → Option (List ℕ) → Option (List ℕ) → Type 0
+SettledTask seen w s t told told' = IfSome (order_left t.order) (λ left. Settled seen ((tasks w).after s t) told told')
 
 abbrev pub order_price : State → Order → ℕ
-order_price s order = price s (order_work order [])
+order_price s order = price s (order_work all_slots order [])

@@ -15,7 +15,8 @@ ghost use Rattle.shell_state.specs.Carrying.{StillCarry};
 ghost use Rattle.shell_state.specs.Stands.{Asks, Broken, Sound, Stands, WhyHalt};
 ghost use Rattle.shell_state.specs.State.{State};
 ghost use Rattle.shell_state.specs.Work.{works};
-ghost use Rattle.view_commands.specs.Views.{AreLeft, AreRight};
+ghost use Rattle.view_commands.specs.Views.{AreLeft, AreRight, all_slots, is_own};
+ghost use Rattle.view_commands.specs.declared.window.Window.{Window as WindowValue};
 
 use crate::showing::{show_line, show_rows};
 use base_files::{Files, Sink, Source};
@@ -26,6 +27,7 @@ use script_text::Command;
 use shell_state::{Halt, Machine};
 use std::alloc::Global;
 use tree_live::TreeView;
+use view_commands::Window;
 
 // Takes the games of a body in, and shows them before the last line is written.
 pub(crate) fn serve_import<F: Files, B: Source, K: Sink>(
@@ -35,11 +37,14 @@ pub(crate) fn serve_import<F: Files, B: Source, K: Sink>(
     files: &mut F,
     body: &mut B,
     out: &mut K,
+    window: Window,
 ) -> Result<(), Halt>
+    requires room { window.first + window.count ≤ 8 }
     requires sound { Sound machine.old (F.seen files.old) }
     ensures serves { (s : State) (text : List ℕ) → Stands machine.old (F.seen files.old) s → B.left body.old ≡ Some text → Serves works (Stands machine.new (F.seen files.new)) Broken s (import_work text) (K.taken out.old) (K.taken out.new) result }
-    ensures views { (s : State) (word text : List ℕ) → Stands machine.old (F.seen files.old) s → B.left body.old ≡ Some text → AreRight (λ b. rows b) s views.old → OnOk result (ViewsDone (λ b. rows b) (λ b. told b) s (task (Ok (Import word)) text) views.old views.new) }
-    ensures left { (s : State) (word text : List ℕ) → Stands machine.old (F.seen files.old) s → B.left body.old ≡ Some text → AreRight (λ b. rows b) s views.old → AreLeft (touches s (Ok (Import word))) views.old views.new }
+    ensures views { (s : State) (word text : List ℕ) → Stands machine.old (F.seen files.old) s → B.left body.old ≡ Some text → AreRight (λ b. rows b) window s views.old → OnOk result (ViewsDone (λ b. rows b) (λ b. told b) window s (task (Ok (Import word)) text) views.old views.new) }
+    ensures left { (s : State) (word text : List ℕ) → Stands machine.old (F.seen files.old) s → B.left body.old ≡ Some text → AreRight (λ b. rows b) window s views.old → AreLeft (touches window s (Ok (Import word))) views.old views.new }
+    ensures others { AreLeft (is_own window) views.old views.new }
     ensures number { length views.new ≡ length views.old }
     ensures sound { OnOk result (Sound machine.new (F.seen files.new)) }
     ensures carries { (s : State) → Stands machine.old (F.seen files.old) s → IfErr result (λ _. StillCarry (F.seen files.new) s None) }
@@ -50,7 +55,7 @@ pub(crate) fn serve_import<F: Files, B: Source, K: Sink>(
     ensures causes { Causes WhyHalt result (counts (F.faults files.old) (B.faults body.old) (K.faults out.old)) (counts (F.faults files.new) (B.faults body.new) (K.faults out.new)) }
 {
     match import(alloc, machine, files, body, out) {
-        Ok(line) => show_line(alloc, machine, views, out, line.as_slice()),
+        Ok(line) => show_line(alloc, machine, views, out, line.as_slice(), window),
         Err(halt) => Err(halt),
     }
 }
@@ -64,25 +69,28 @@ pub(crate) fn serve_edit<F: Files, B: Source, K: Sink>(
     body: &mut B,
     out: &mut K,
     command: &Command,
+    window: Window,
 ) -> Result<(), Halt>
+    requires room { window.first + window.count ≤ 8 }
     requires sound { Sound machine.old (F.seen files.old) }
     requires command { IsSound command.now }
     requires part { part_of command.now ≡ Edits }
-    ensures serves { (s : State) (text : List ℕ) → Stands machine.old (F.seen files.old) s → B.left body.old ≡ Some text → Serves works (Stands machine.new (F.seen files.new)) Broken s (command_work command.now text) (K.taken out.old) (K.taken out.new) result }
-    ensures views { (s : State) (text : List ℕ) → Stands machine.old (F.seen files.old) s → B.left body.old ≡ Some text → AreRight (λ b. rows b) s views.old → OnOk result (ViewsDone (λ b. rows b) (λ b. told b) s (task (Ok command.now) text) views.old views.new) }
-    ensures left { (s : State) (text : List ℕ) → Stands machine.old (F.seen files.old) s → B.left body.old ≡ Some text → AreRight (λ b. rows b) s views.old → AreLeft (touches s (Ok command.now)) views.old views.new }
+    ensures serves { (s : State) (text : List ℕ) → Stands machine.old (F.seen files.old) s → B.left body.old ≡ Some text → Serves works (Stands machine.new (F.seen files.new)) Broken s (command_work window command.now text) (K.taken out.old) (K.taken out.new) result }
+    ensures views { (s : State) (text : List ℕ) → Stands machine.old (F.seen files.old) s → B.left body.old ≡ Some text → AreRight (λ b. rows b) window s views.old → OnOk result (ViewsDone (λ b. rows b) (λ b. told b) window s (task (Ok command.now) text) views.old views.new) }
+    ensures left { (s : State) (text : List ℕ) → Stands machine.old (F.seen files.old) s → B.left body.old ≡ Some text → AreRight (λ b. rows b) window s views.old → AreLeft (touches window s (Ok command.now)) views.old views.new }
+    ensures others { AreLeft (is_own window) views.old views.new }
     ensures number { length views.new ≡ length views.old }
     ensures sound { OnOk result (Sound machine.new (F.seen files.new)) }
-    ensures carries { (s : State) → Stands machine.old (F.seen files.old) s → IfErr result (λ _. StillCarry (F.seen files.new) s (command_work command.now []).left) }
-    ensures settled { (s : State) (text : List ℕ) → Stands machine.old (F.seen files.old) s → B.left body.old ≡ Some text → IfErr result (λ _. SettledTask (F.seen files.new) s (task (Ok command.now) text) (K.taken out.old) (K.taken out.new)) }
+    ensures carries { (s : State) → Stands machine.old (F.seen files.old) s → IfErr result (λ _. StillCarry (F.seen files.new) s (command_work all_slots command.now []).left) }
+    ensures settled { (s : State) (text : List ℕ) → Stands machine.old (F.seen files.old) s → B.left body.old ≡ Some text → IfErr result (λ _. SettledTask (F.seen files.new) window s (task (Ok command.now) text) (K.taken out.old) (K.taken out.new)) }
     ensures choices { (F.seen files.new).choices ≡ (F.seen files.old).choices }
-    ensures asks { Asks machine.old (command_work command.now []) (F.asked files.old) (F.asked files.new) }
+    ensures asks { Asks machine.old (command_work all_slots command.now []) (F.asked files.old) (F.asked files.new) }
     ensures same { B.origin body.new ≡ B.origin body.old }
     ensures none_lost { NoneLost (K.taken out.old) (K.taken out.new) }
     ensures causes { Causes WhyHalt result (counts (F.faults files.old) (B.faults body.old) (K.faults out.old)) (counts (F.faults files.new) (B.faults body.new) (K.faults out.new)) }
 {
     match edit_line(alloc, machine, files, body, command) {
-        Ok(line) => show_line(alloc, machine, views, out, line.as_slice()),
+        Ok(line) => show_line(alloc, machine, views, out, line.as_slice(), window),
         Err(halt) => Err(halt),
     }
 }
@@ -98,13 +106,13 @@ fn edit_line<F: Files, B: Source>(
     requires sound { Sound machine.old (F.seen files.old) }
     requires command { IsSound command.now }
     requires part { part_of command.now ≡ Edits }
-    ensures line { (s : State) (text : List ℕ) → Stands machine.old (F.seen files.old) s → B.left body.old ≡ Some text → IfOk result (λ line. line.items ≡ (command_work command.now text).text s) }
-    ensures stands { (s : State) (text : List ℕ) → Stands machine.old (F.seen files.old) s → B.left body.old ≡ Some text → OnOk result (Stands machine.new (F.seen files.new) ((command_work command.now text).after s)) }
-    ensures broken { (s : State) (text : List ℕ) → Stands machine.old (F.seen files.old) s → IfErr result (λ e. Broken s (command_work command.now text) e) }
+    ensures line { (w : WindowValue) (s : State) (text : List ℕ) → Stands machine.old (F.seen files.old) s → B.left body.old ≡ Some text → IfOk result (λ line. line.items ≡ (command_work w command.now text).text s) }
+    ensures stands { (w : WindowValue) (s : State) (text : List ℕ) → Stands machine.old (F.seen files.old) s → B.left body.old ≡ Some text → OnOk result (Stands machine.new (F.seen files.new) ((command_work w command.now text).after s)) }
+    ensures broken { (w : WindowValue) (s : State) (text : List ℕ) → Stands machine.old (F.seen files.old) s → IfErr result (λ e. Broken s (command_work w command.now text) e) }
     ensures sound { OnOk result (Sound machine.new (F.seen files.new)) }
-    ensures carries { (s : State) → Stands machine.old (F.seen files.old) s → StillCarry (F.seen files.new) s (command_work command.now []).left }
+    ensures carries { (s : State) → Stands machine.old (F.seen files.old) s → StillCarry (F.seen files.new) s (command_work all_slots command.now []).left }
     ensures choices { (F.seen files.new).choices ≡ (F.seen files.old).choices }
-    ensures asks { Asks machine.old (command_work command.now []) (F.asked files.old) (F.asked files.new) }
+    ensures asks { Asks machine.old (command_work all_slots command.now []) (F.asked files.old) (F.asked files.new) }
     ensures same { B.origin body.new ≡ B.origin body.old }
     ensures causes { Causes WhyHalt result (counts (F.faults files.old) (B.faults body.old) 0) (counts (F.faults files.new) (B.faults body.new) 0) }
 {
@@ -125,26 +133,29 @@ pub(crate) fn serve_change<F: Files, B: Source, K: Sink>(
     body: &mut B,
     out: &mut K,
     command: &Command,
+    window: Window,
 ) -> Result<(), Halt>
+    requires room { window.first + window.count ≤ 8 }
     requires sound { Sound machine.old (F.seen files.old) }
     requires command { IsSound command.now }
     requires part { part_of command.now ≡ Games }
-    ensures serves { (s : State) (text : List ℕ) → Stands machine.old (F.seen files.old) s → B.left body.old ≡ Some text → Serves works (Stands machine.new (F.seen files.new)) Broken s (command_work command.now text) (K.taken out.old) (K.taken out.new) result }
-    ensures views { (s : State) (text : List ℕ) → Stands machine.old (F.seen files.old) s → B.left body.old ≡ Some text → AreRight (λ b. rows b) s views.old → OnOk result (ViewsDone (λ b. rows b) (λ b. told b) s (task (Ok command.now) text) views.old views.new) }
-    ensures left { (s : State) (text : List ℕ) → Stands machine.old (F.seen files.old) s → B.left body.old ≡ Some text → AreRight (λ b. rows b) s views.old → AreLeft (touches s (Ok command.now)) views.old views.new }
+    ensures serves { (s : State) (text : List ℕ) → Stands machine.old (F.seen files.old) s → B.left body.old ≡ Some text → Serves works (Stands machine.new (F.seen files.new)) Broken s (command_work window command.now text) (K.taken out.old) (K.taken out.new) result }
+    ensures views { (s : State) (text : List ℕ) → Stands machine.old (F.seen files.old) s → B.left body.old ≡ Some text → AreRight (λ b. rows b) window s views.old → OnOk result (ViewsDone (λ b. rows b) (λ b. told b) window s (task (Ok command.now) text) views.old views.new) }
+    ensures left { (s : State) (text : List ℕ) → Stands machine.old (F.seen files.old) s → B.left body.old ≡ Some text → AreRight (λ b. rows b) window s views.old → AreLeft (touches window s (Ok command.now)) views.old views.new }
+    ensures others { AreLeft (is_own window) views.old views.new }
     ensures number { length views.new ≡ length views.old }
     ensures sound { OnOk result (Sound machine.new (F.seen files.new)) }
-    ensures carries { (s : State) → Stands machine.old (F.seen files.old) s → IfErr result (λ _. StillCarry (F.seen files.new) s (command_work command.now []).left) }
-    ensures unchanged { (command_work command.now []).writes ≡ false → F.seen files.new ≡ F.seen files.old }
+    ensures carries { (s : State) → Stands machine.old (F.seen files.old) s → IfErr result (λ _. StillCarry (F.seen files.new) s (command_work all_slots command.now []).left) }
+    ensures unchanged { (command_work all_slots command.now []).writes ≡ false → F.seen files.new ≡ F.seen files.old }
     ensures choices { (F.seen files.new).choices ≡ (F.seen files.old).choices }
-    ensures asks { Asks machine.old (command_work command.now []) (F.asked files.old) (F.asked files.new) }
+    ensures asks { Asks machine.old (command_work all_slots command.now []) (F.asked files.old) (F.asked files.new) }
     ensures asks_demo { (s : State) (seed games : ℕ) → Stands machine.old (F.seen files.old) s → command.now ≡ Demo seed games → F.asked files.new ≤ F.asked files.old + demo_price s seed games }
     ensures same { B.origin body.new ≡ B.origin body.old }
     ensures none_lost { NoneLost (K.taken out.old) (K.taken out.new) }
     ensures causes { Causes WhyHalt result (counts (F.faults files.old) (B.faults body.old) (K.faults out.old)) (counts (F.faults files.new) (B.faults body.new) (K.faults out.new)) }
 {
     match change_games(alloc, machine, files, body, out, command) {
-        Ok(()) => show_rows(alloc, machine, views),
+        Ok(()) => show_rows(alloc, machine, views, window),
         Err(halt) => Err(halt),
     }
 }
@@ -161,12 +172,12 @@ fn change_games<F: Files, B: Source, K: Sink>(
     requires sound { Sound machine.old (F.seen files.old) }
     requires command { IsSound command.now }
     requires part { part_of command.now ≡ Games }
-    ensures serves { (s : State) (text : List ℕ) → Stands machine.old (F.seen files.old) s → B.left body.old ≡ Some text → Serves works (Stands machine.new (F.seen files.new)) Broken s (command_work command.now text) (K.taken out.old) (K.taken out.new) result }
+    ensures serves { (w : WindowValue) (s : State) (text : List ℕ) → Stands machine.old (F.seen files.old) s → B.left body.old ≡ Some text → Serves works (Stands machine.new (F.seen files.new)) Broken s (command_work w command.now text) (K.taken out.old) (K.taken out.new) result }
     ensures sound { OnOk result (Sound machine.new (F.seen files.new)) }
-    ensures carries { (s : State) → Stands machine.old (F.seen files.old) s → StillCarry (F.seen files.new) s (command_work command.now []).left }
-    ensures unchanged { (command_work command.now []).writes ≡ false → F.seen files.new ≡ F.seen files.old }
+    ensures carries { (s : State) → Stands machine.old (F.seen files.old) s → StillCarry (F.seen files.new) s (command_work all_slots command.now []).left }
+    ensures unchanged { (command_work all_slots command.now []).writes ≡ false → F.seen files.new ≡ F.seen files.old }
     ensures choices { (F.seen files.new).choices ≡ (F.seen files.old).choices }
-    ensures asks { Asks machine.old (command_work command.now []) (F.asked files.old) (F.asked files.new) }
+    ensures asks { Asks machine.old (command_work all_slots command.now []) (F.asked files.old) (F.asked files.new) }
     ensures asks_demo { (s : State) (seed games : ℕ) → Stands machine.old (F.seen files.old) s → command.now ≡ Demo seed games → F.asked files.new ≤ F.asked files.old + demo_price s seed games }
     ensures same { B.origin body.new ≡ B.origin body.old }
     ensures none_lost { NoneLost (K.taken out.old) (K.taken out.new) }

@@ -12,5 +12,7 @@ mod showing;
 mod slots;
 mod texts;
 
-pub use laws::{filters_fit, lines_without_files, refused_tasks_change_nothing, slots_stay};
+pub use laws::{
+    filters_fit, lines_of_any_user, lines_without_files, refused_tasks_change_nothing, slots_stay,
+};
 pub use serving::{Order, serve};

@@ -1,5 +1,5 @@
 //! The commands that search games which they read, and show in the views of slots what has changed before the text is written.
-ghost use Rattle.std.specs.Prelude.{◌≡◌, ℕ, List, [], Ok, IfErr, OnOk, length};
+ghost use Rattle.std.specs.Prelude.{◌≡◌, ◌+◌, ◌≤◌, ℕ, List, [], Ok, IfErr, OnOk, length};
 ghost use Rattle.base_files.specs.Seen.{Seen};
 ghost use Rattle.command_runs.specs.Counts.{Causes, counts};
 ghost use Rattle.command_runs.specs.Endings.{NoneLost, Serves};
@@ -13,7 +13,8 @@ ghost use Rattle.shell_state.specs.Ends.{IsDevice};
 ghost use Rattle.shell_state.specs.Stands.{Asks, Broken, Sound, Stands, WhyHalt};
 ghost use Rattle.shell_state.specs.State.{State};
 ghost use Rattle.shell_state.specs.Work.{works};
-ghost use Rattle.view_commands.specs.Views.{AreLeft, AreRight};
+ghost use Rattle.view_commands.specs.Views.{AreLeft, AreRight, all_slots, is_own};
+ghost use Rattle.view_commands.specs.declared.window.Window.{Window as WindowValue};
 
 use crate::showing::show_rows;
 use base_files::{Files, Sink};
@@ -22,6 +23,7 @@ use search_commands::{find_games, hits, material_games, position_games};
 use shell_state::{Halt, Machine, write_filter};
 use std::alloc::Global;
 use tree_live::TreeView;
+use view_commands::Window;
 
 // Does what such a command says, and shows it before its text is written.
 pub(crate) fn serve_search<F: Files, K: Sink>(
@@ -31,17 +33,20 @@ pub(crate) fn serve_search<F: Files, K: Sink>(
     files: &mut F,
     out: &mut K,
     command: &Command,
+    window: Window,
 ) -> Result<(), Halt>
+    requires room { window.first + window.count ≤ 8 }
     requires sound { Sound machine.old (F.seen files.old) }
     requires command { IsSound command.now }
     requires part { part_of command.now ≡ Searches }
-    ensures serves { (s : State) (text : List ℕ) → Stands machine.old (F.seen files.old) s → Serves works (Stands machine.new (F.seen files.new)) Broken s (command_work command.now text) (K.taken out.old) (K.taken out.new) result }
-    ensures views { (s : State) (text : List ℕ) → Stands machine.old (F.seen files.old) s → AreRight (λ b. rows b) s views.old → OnOk result (ViewsDone (λ b. rows b) (λ b. told b) s (task (Ok command.now) text) views.old views.new) }
-    ensures left { (s : State) (text : List ℕ) → Stands machine.old (F.seen files.old) s → AreRight (λ b. rows b) s views.old → AreLeft (touches s (Ok command.now)) views.old views.new }
+    ensures serves { (s : State) (text : List ℕ) → Stands machine.old (F.seen files.old) s → Serves works (Stands machine.new (F.seen files.new)) Broken s (command_work window command.now text) (K.taken out.old) (K.taken out.new) result }
+    ensures views { (s : State) (text : List ℕ) → Stands machine.old (F.seen files.old) s → AreRight (λ b. rows b) window s views.old → OnOk result (ViewsDone (λ b. rows b) (λ b. told b) window s (task (Ok command.now) text) views.old views.new) }
+    ensures left { (s : State) (text : List ℕ) → Stands machine.old (F.seen files.old) s → AreRight (λ b. rows b) window s views.old → AreLeft (touches window s (Ok command.now)) views.old views.new }
+    ensures others { AreLeft (is_own window) views.old views.new }
     ensures number { length views.new ≡ length views.old }
     ensures sound { OnOk result (Sound machine.new (F.seen files.new)) }
     ensures unchanged { F.seen files.new ≡ F.seen files.old }
-    ensures asks { Asks machine.old (command_work command.now []) (F.asked files.old) (F.asked files.new) }
+    ensures asks { Asks machine.old (command_work all_slots command.now []) (F.asked files.old) (F.asked files.new) }
     ensures none_lost { NoneLost (K.taken out.old) (K.taken out.new) }
     ensures causes { Causes WhyHalt result (counts (F.faults files.old) 0 (K.faults out.old)) (counts (F.faults files.new) 0 (K.faults out.new)) }
 {
@@ -49,7 +54,7 @@ pub(crate) fn serve_search<F: Files, K: Sink>(
         Ok(()) => {}
         Err(halt) => return Err(halt),
     }
-    match show_rows(alloc, machine, views) {
+    match show_rows(alloc, machine, views, window) {
         Ok(()) => write_found(machine, out, command),
         Err(halt) => Err(halt),
     }
@@ -64,11 +69,11 @@ fn search_games<F: Files>(
     requires sound { Sound machine.old (F.seen files.old) }
     requires command { IsSound command.now }
     requires part { part_of command.now ≡ Searches }
-    ensures stands { (s : State) (text : List ℕ) → Stands machine.old (F.seen files.old) s → OnOk result (Stands machine.new (F.seen files.new) ((command_work command.now text).after s)) }
+    ensures stands { (w : WindowValue) (s : State) (text : List ℕ) → Stands machine.old (F.seen files.old) s → OnOk result (Stands machine.new (F.seen files.new) ((command_work w command.now text).after s)) }
     ensures devices { (s : State) → Stands machine.old (F.seen files.old) s → IfErr result IsDevice }
     ensures sound { OnOk result (Sound machine.new (F.seen files.new)) }
     ensures unchanged { F.seen files.new ≡ F.seen files.old }
-    ensures asks { Asks machine.old (command_work command.now []) (F.asked files.old) (F.asked files.new) }
+    ensures asks { Asks machine.old (command_work all_slots command.now []) (F.asked files.old) (F.asked files.new) }
     ensures causes { Causes WhyHalt result (counts (F.faults files.old) 0 0) (counts (F.faults files.new) 0 0) }
 {
     match command {
@@ -83,7 +88,7 @@ fn search_games<F: Files>(
 fn write_found<K: Sink>(machine: &mut Machine, out: &mut K, command: &Command) -> Result<(), Halt>
     requires part { part_of command.now ≡ Searches }
     ensures same { machine.new ≡ machine.old }
-    ensures serves { (seen : Seen) (s : State) (text : List ℕ) → Stands machine.old seen ((command_work command.now text).after s) → Serves works (Stands machine.new seen) Broken s (command_work command.now text) (K.taken out.old) (K.taken out.new) result }
+    ensures serves { (w : WindowValue) (seen : Seen) (s : State) (text : List ℕ) → Stands machine.old seen ((command_work w command.now text).after s) → Serves works (Stands machine.new seen) Broken s (command_work w command.now text) (K.taken out.old) (K.taken out.new) result }
     ensures none_lost { NoneLost (K.taken out.old) (K.taken out.new) }
     ensures causes { Causes WhyHalt result (counts 0 0 (K.faults out.old)) (counts 0 0 (K.faults out.new)) }
 {

@@ -12,7 +12,7 @@ ghost use Rattle.shell_state.specs.Carrying.{StillCarry};
 ghost use Rattle.shell_state.specs.Stands.{Asks, Broken, Sound, Stands, WhyHalt};
 ghost use Rattle.shell_state.specs.State.{State};
 ghost use Rattle.shell_state.specs.Work.{works};
-ghost use Rattle.view_commands.specs.Views.{AreLeft, AreRight};
+ghost use Rattle.view_commands.specs.Views.{AreLeft, AreRight, all_slots, is_own};
 ghost use Rattle.text_commands.specs.GameTexts.{ExportCut};
 
 use crate::changes::{serve_change, serve_edit, serve_import};
@@ -27,12 +27,13 @@ use script_text::{Command, ScriptFault};
 use shell_state::{Halt, Machine, fault_line};
 use std::alloc::Global;
 use tree_live::TreeView;
+use view_commands::Window;
 
 /// A line of a script: the command that it says, or its first fault.
 pub type Order = Result<Command, ScriptFault>;
 
-/// Does what a line of a script says, and writes its text, and keeps the views of the slots right. Of a line without a body nothing of `body`
-/// is read.
+/// Does what a line of a user's script says, and writes its text, and keeps the views of his own slots right. Of a line without a body nothing
+/// of `body` is read.
 pub fn serve<F: Files, B: Source, K: Sink>(
     alloc: Global,
     machine: &mut Machine,
@@ -41,19 +42,23 @@ pub fn serve<F: Files, B: Source, K: Sink>(
     body: &mut B,
     out: &mut K,
     order: &Order,
+    window: Window,
 ) -> Result<(), Halt>
+    requires room { window.first + window.count ≤ 8 }
     requires sound { Sound machine.old (F.seen files.old) }
 
     // Its edit, its mark or its streak is within its bounds, as that of a line that was read.
     requires order { IsSoundLine order.now }
 
-    // Where the files and the body are told, and the views are right, the machine stands for the state after the task and its text is written,
+    // Where the files and the body are told, and his views are right, the machine stands for the state after the task and its text is written,
     // or a front part of it.
-    ensures serves { (s : State) (text : List ℕ) → Stands machine.old (F.seen files.old) s → B.left body.old ≡ Some text → AreRight (λ b. rows b) s views.old → Serves tasks (Stands machine.new (F.seen files.new)) BrokenTask s (task order.now text) (K.taken out.old) (K.taken out.new) result }
+    ensures serves { (s : State) (text : List ℕ) → Stands machine.old (F.seen files.old) s → B.left body.old ≡ Some text → AreRight (λ b. rows b) window s views.old → Serves (tasks window) (Stands machine.new (F.seen files.new)) (BrokenTask window) s (task order.now text) (K.taken out.old) (K.taken out.new) result }
 
-    // Then the views are right beside it, and were told no more changes than rows differ. Views of slots that show nothing are as before.
-    ensures views { (s : State) (text : List ℕ) → Stands machine.old (F.seen files.old) s → B.left body.old ≡ Some text → AreRight (λ b. rows b) s views.old → OnOk result (ViewsDone (λ b. rows b) (λ b. told b) s (task order.now text) views.old views.new) }
-    ensures left { (s : State) (text : List ℕ) → Stands machine.old (F.seen files.old) s → B.left body.old ≡ Some text → AreRight (λ b. rows b) s views.old → AreLeft (touches s order.now) views.old views.new }
+    // Then they are right beside it, and were told no more changes than rows differ. Views of slots that show nothing are as before, and
+    // whatever is told, so are those of slots that are not his own.
+    ensures views { (s : State) (text : List ℕ) → Stands machine.old (F.seen files.old) s → B.left body.old ≡ Some text → AreRight (λ b. rows b) window s views.old → OnOk result (ViewsDone (λ b. rows b) (λ b. told b) window s (task order.now text) views.old views.new) }
+    ensures left { (s : State) (text : List ℕ) → Stands machine.old (F.seen files.old) s → B.left body.old ≡ Some text → AreRight (λ b. rows b) window s views.old → AreLeft (touches window s order.now) views.old views.new }
+    ensures others { AreLeft (is_own window) views.old views.new }
     ensures number { length views.new ≡ length views.old }
     ensures sound { OnOk result (Sound machine.new (F.seen files.new)) }
 
@@ -64,14 +69,14 @@ pub fn serve<F: Files, B: Source, K: Sink>(
     ensures carries { (s : State) → Stands machine.old (F.seen files.old) s → IfErr result (λ _. StillCarry (F.seen files.new) s (order_left order.now)) }
 
     // Where it is one that leaves a base in their place, nothing of its text was written before they carry that.
-    ensures settled { (s : State) (text : List ℕ) → Stands machine.old (F.seen files.old) s → B.left body.old ≡ Some text → IfErr result (λ _. SettledTask (F.seen files.new) s (task order.now text) (K.taken out.old) (K.taken out.new)) }
+    ensures settled { (s : State) (text : List ℕ) → Stands machine.old (F.seen files.old) s → B.left body.old ≡ Some text → IfErr result (λ _. SettledTask (F.seen files.new) window s (task order.now text) (K.taken out.old) (K.taken out.new)) }
 
     // Whatever the files tell, they change by a line alone that may change them, and no base is chosen.
     ensures unchanged { order_writes order.now ≡ false → F.seen files.new ≡ F.seen files.old }
     ensures choices { (F.seen files.new).choices ≡ (F.seen files.old).choices }
 
     // It asks no more than its price, which is known of any files but for `demo`, whose price is that of the state behind its games.
-    ensures asks { Asks machine.old (order_work order.now []) (F.asked files.old) (F.asked files.new) }
+    ensures asks { Asks machine.old (order_work all_slots order.now []) (F.asked files.old) (F.asked files.new) }
     ensures asks_told { (s : State) → Stands machine.old (F.seen files.old) s → F.asked files.new ≤ F.asked files.old + order_price s order.now }
 
     // The body goes on reading from where it read, and nothing is lost of what was written before.
@@ -80,7 +85,7 @@ pub fn serve<F: Files, B: Source, K: Sink>(
     ensures causes { Causes WhyHalt result (counts (F.faults files.old) (B.faults body.old) (K.faults out.old)) (counts (F.faults files.new) (B.faults body.new) (K.faults out.new)) }
 {
     match order {
-        Ok(command) => serve_command(alloc, machine, views, files, body, out, command),
+        Ok(command) => serve_command(alloc, machine, views, files, body, out, command, window),
         Err(fault) => say(out, fault_line(alloc, *fault)),
     }
 }
@@ -94,32 +99,35 @@ fn serve_command<F: Files, B: Source, K: Sink>(
     body: &mut B,
     out: &mut K,
     command: &Command,
+    window: Window,
 ) -> Result<(), Halt>
+    requires room { window.first + window.count ≤ 8 }
     requires sound { Sound machine.old (F.seen files.old) }
     requires command { IsSound command.now }
-    ensures serves { (s : State) (text : List ℕ) → Stands machine.old (F.seen files.old) s → B.left body.old ≡ Some text → AreRight (λ b. rows b) s views.old → Serves works (Stands machine.new (F.seen files.new)) Broken s (command_work command.now text) (K.taken out.old) (K.taken out.new) result }
-    ensures views { (s : State) (text : List ℕ) → Stands machine.old (F.seen files.old) s → B.left body.old ≡ Some text → AreRight (λ b. rows b) s views.old → OnOk result (ViewsDone (λ b. rows b) (λ b. told b) s (task (Ok command.now) text) views.old views.new) }
-    ensures left { (s : State) (text : List ℕ) → Stands machine.old (F.seen files.old) s → B.left body.old ≡ Some text → AreRight (λ b. rows b) s views.old → AreLeft (touches s (Ok command.now)) views.old views.new }
+    ensures serves { (s : State) (text : List ℕ) → Stands machine.old (F.seen files.old) s → B.left body.old ≡ Some text → AreRight (λ b. rows b) window s views.old → Serves works (Stands machine.new (F.seen files.new)) Broken s (command_work window command.now text) (K.taken out.old) (K.taken out.new) result }
+    ensures views { (s : State) (text : List ℕ) → Stands machine.old (F.seen files.old) s → B.left body.old ≡ Some text → AreRight (λ b. rows b) window s views.old → OnOk result (ViewsDone (λ b. rows b) (λ b. told b) window s (task (Ok command.now) text) views.old views.new) }
+    ensures left { (s : State) (text : List ℕ) → Stands machine.old (F.seen files.old) s → B.left body.old ≡ Some text → AreRight (λ b. rows b) window s views.old → AreLeft (touches window s (Ok command.now)) views.old views.new }
+    ensures others { AreLeft (is_own window) views.old views.new }
     ensures number { length views.new ≡ length views.old }
     ensures sound { OnOk result (Sound machine.new (F.seen files.new)) }
     ensures whole { (s : State) → Stands machine.old (F.seen files.old) s → command.now ≡ Export → IfErr result (λ e. ExportCut s.seat.filter s.shared.base.games e (K.taken out.old) (K.taken out.new)) }
-    ensures carries { (s : State) → Stands machine.old (F.seen files.old) s → IfErr result (λ _. StillCarry (F.seen files.new) s (command_work command.now []).left) }
-    ensures settled { (s : State) (text : List ℕ) → Stands machine.old (F.seen files.old) s → B.left body.old ≡ Some text → IfErr result (λ _. SettledTask (F.seen files.new) s (task (Ok command.now) text) (K.taken out.old) (K.taken out.new)) }
-    ensures unchanged { (command_work command.now []).writes ≡ false → F.seen files.new ≡ F.seen files.old }
+    ensures carries { (s : State) → Stands machine.old (F.seen files.old) s → IfErr result (λ _. StillCarry (F.seen files.new) s (command_work all_slots command.now []).left) }
+    ensures settled { (s : State) (text : List ℕ) → Stands machine.old (F.seen files.old) s → B.left body.old ≡ Some text → IfErr result (λ _. SettledTask (F.seen files.new) window s (task (Ok command.now) text) (K.taken out.old) (K.taken out.new)) }
+    ensures unchanged { (command_work all_slots command.now []).writes ≡ false → F.seen files.new ≡ F.seen files.old }
     ensures choices { (F.seen files.new).choices ≡ (F.seen files.old).choices }
-    ensures asks { Asks machine.old (command_work command.now []) (F.asked files.old) (F.asked files.new) }
+    ensures asks { Asks machine.old (command_work all_slots command.now []) (F.asked files.old) (F.asked files.new) }
     ensures asks_demo { (s : State) (seed games : ℕ) → Stands machine.old (F.seen files.old) s → command.now ≡ Demo seed games → F.asked files.new ≤ F.asked files.old + demo_price s seed games }
     ensures same { B.origin body.new ≡ B.origin body.old }
     ensures none_lost { NoneLost (K.taken out.old) (K.taken out.new) }
     ensures causes { Causes WhyHalt result (counts (F.faults files.old) (B.faults body.old) (K.faults out.old)) (counts (F.faults files.new) (B.faults body.new) (K.faults out.new)) }
 {
     match part_of(command) {
-        Part::Slots => serve_slot(alloc, machine, views, files, out, command),
-        Part::Lines => serve_line(alloc, machine, views, out, command),
-        Part::Searches => serve_search(alloc, machine, views, files, out, command),
-        Part::Intake => serve_import(alloc, machine, views, files, body, out),
-        Part::Edits => serve_edit(alloc, machine, views, files, body, out, command),
-        Part::Games => serve_change(alloc, machine, views, files, body, out, command),
+        Part::Slots => serve_slot(alloc, machine, views, files, out, command, window),
+        Part::Lines => serve_line(alloc, machine, views, out, command, window),
+        Part::Searches => serve_search(alloc, machine, views, files, out, command, window),
+        Part::Intake => serve_import(alloc, machine, views, files, body, out, window),
+        Part::Edits => serve_edit(alloc, machine, views, files, body, out, command, window),
+        Part::Games => serve_change(alloc, machine, views, files, body, out, command, window),
         Part::Texts => write_text(alloc, machine, files, out, command),
     }
 }

@@ -1,5 +1,5 @@
 //! The commands on the slots that show trees.
-ghost use Rattle.std.specs.Prelude.{◌≡◌, ℕ, List, [], Ok, OnOk, length};
+ghost use Rattle.std.specs.Prelude.{◌≡◌, ◌+◌, ◌≤◌, ℕ, List, [], Ok, OnOk, length};
 ghost use Rattle.command_runs.specs.Counts.{Causes, counts};
 ghost use Rattle.command_runs.specs.Endings.{NoneLost, Serves};
 ghost use Rattle.script_text.specs.Tasks.{task};
@@ -10,7 +10,7 @@ ghost use Rattle.shell_commands.specs.declared.parts.Part.TheVariants.{Slots};
 ghost use Rattle.shell_state.specs.Stands.{Asks, Broken, Sound, Stands, WhyHalt};
 ghost use Rattle.shell_state.specs.State.{State};
 ghost use Rattle.shell_state.specs.Work.{works};
-ghost use Rattle.view_commands.specs.Views.{AreLeft, AreRight};
+ghost use Rattle.view_commands.specs.Views.{AreLeft, AreRight, all_slots, is_own};
 
 use crate::saying::say;
 use base_files::{Files, Sink};
@@ -18,9 +18,9 @@ use script_text::Command;
 use shell_state::{Halt, Machine, write_line};
 use std::alloc::Global;
 use tree_live::TreeView;
-use view_commands::{unwatch, view, watch};
+use view_commands::{Window, unwatch, view, watch};
 
-// Does what such a command says, and writes its line or its text.
+// Does what such a command of a user says, and writes its line or its text.
 pub(crate) fn serve_slot<F: Files, K: Sink>(
     alloc: Global,
     machine: &mut Machine,
@@ -28,28 +28,31 @@ pub(crate) fn serve_slot<F: Files, K: Sink>(
     files: &mut F,
     out: &mut K,
     command: &Command,
+    window: Window,
 ) -> Result<(), Halt>
+    requires room { window.first + window.count ≤ 8 }
     requires sound { Sound machine.old (F.seen files.old) }
     requires part { part_of command.now ≡ Slots }
-    ensures serves { (s : State) (text : List ℕ) → Stands machine.old (F.seen files.old) s → AreRight (λ b. rows b) s views.old → Serves works (Stands machine.new (F.seen files.new)) Broken s (command_work command.now text) (K.taken out.old) (K.taken out.new) result }
-    ensures views { (s : State) (text : List ℕ) → Stands machine.old (F.seen files.old) s → AreRight (λ b. rows b) s views.old → OnOk result (ViewsDone (λ b. rows b) (λ b. told b) s (task (Ok command.now) text) views.old views.new) }
-    ensures left { (s : State) (text : List ℕ) → Stands machine.old (F.seen files.old) s → AreRight (λ b. rows b) s views.old → AreLeft (touches s (Ok command.now)) views.old views.new }
+    ensures serves { (s : State) (text : List ℕ) → Stands machine.old (F.seen files.old) s → AreRight (λ b. rows b) window s views.old → Serves works (Stands machine.new (F.seen files.new)) Broken s (command_work window command.now text) (K.taken out.old) (K.taken out.new) result }
+    ensures views { (s : State) (text : List ℕ) → Stands machine.old (F.seen files.old) s → AreRight (λ b. rows b) window s views.old → OnOk result (ViewsDone (λ b. rows b) (λ b. told b) window s (task (Ok command.now) text) views.old views.new) }
+    ensures left { (s : State) (text : List ℕ) → Stands machine.old (F.seen files.old) s → AreRight (λ b. rows b) window s views.old → AreLeft (touches window s (Ok command.now)) views.old views.new }
+    ensures others { AreLeft (is_own window) views.old views.new }
     ensures number { length views.new ≡ length views.old }
     ensures sound { OnOk result (Sound machine.new (F.seen files.new)) }
     ensures unchanged { F.seen files.new ≡ F.seen files.old }
-    ensures asks { Asks machine.old (command_work command.now []) (F.asked files.old) (F.asked files.new) }
+    ensures asks { Asks machine.old (command_work all_slots command.now []) (F.asked files.old) (F.asked files.new) }
     ensures none_lost { NoneLost (K.taken out.old) (K.taken out.new) }
     ensures causes { Causes WhyHalt result (counts (F.faults files.old) 0 (K.faults out.old)) (counts (F.faults files.new) 0 (K.faults out.new)) }
 {
     match command {
         Command::Watch(number, board, side) => {
-            match watch(alloc, machine, views, files, *number, board, *side) {
+            match watch(alloc, machine, views, files, *number, board, *side, window) {
                 Ok(line) => write_line(out, line.as_slice()),
                 Err(halt) => Err(halt),
             }
         }
-        Command::View(number) => say(out, view(alloc, machine, views, *number)),
-        Command::Unwatch(number) => say(out, unwatch(alloc, machine, views, *number)),
+        Command::View(number) => say(out, view(alloc, machine, views, *number, window)),
+        Command::Unwatch(number) => say(out, unwatch(alloc, machine, views, *number, window)),
         _ => unreachable!(),
     }
 }

@@ -13,6 +13,8 @@ ghost use Rattle.shell_state.specs.Stands.{Asks, Broken, Sound, Stands, WhyHalt}
 ghost use Rattle.shell_state.specs.State.{State};
 ghost use Rattle.shell_state.specs.Work.{works};
 ghost use Rattle.text_commands.specs.GameTexts.{ExportCut};
+ghost use Rattle.view_commands.specs.Views.{all_slots};
+ghost use Rattle.view_commands.specs.declared.window.Window.{Window};
 
 use crate::saying::say;
 use base_files::{Files, Sink};
@@ -37,14 +39,14 @@ pub(crate) fn write_text<F: Files, K: Sink>(
     requires sound { Sound machine.old (F.seen files.old) }
     requires command { IsSound command.now }
     requires part { part_of command.now ≡ Texts }
-    ensures serves { (s : State) (text : List ℕ) → Stands machine.old (F.seen files.old) s → Serves works (Stands machine.new (F.seen files.new)) Broken s (command_work command.now text) (K.taken out.old) (K.taken out.new) result }
+    ensures serves { (w : Window) (s : State) (text : List ℕ) → Stands machine.old (F.seen files.old) s → Serves works (Stands machine.new (F.seen files.new)) Broken s (command_work w command.now text) (K.taken out.old) (K.taken out.new) result }
     ensures sound { OnOk result (Sound machine.new (F.seen files.new)) }
     ensures whole { (s : State) → Stands machine.old (F.seen files.old) s → command.now ≡ Export → IfErr result (λ e. ExportCut s.seat.filter s.shared.base.games e (K.taken out.old) (K.taken out.new)) }
-    ensures carries { (s : State) → Stands machine.old (F.seen files.old) s → IfErr result (λ _. StillCarry (F.seen files.new) s (command_work command.now []).left) }
-    ensures settled { (s : State) (text : List ℕ) → Stands machine.old (F.seen files.old) s → IfErr result (λ _. SettledTask (F.seen files.new) s (task (Ok command.now) text) (K.taken out.old) (K.taken out.new)) }
-    ensures unchanged { (command_work command.now []).writes ≡ false → F.seen files.new ≡ F.seen files.old }
+    ensures carries { (s : State) → Stands machine.old (F.seen files.old) s → IfErr result (λ _. StillCarry (F.seen files.new) s (command_work all_slots command.now []).left) }
+    ensures settled { (w : Window) (s : State) (text : List ℕ) → Stands machine.old (F.seen files.old) s → IfErr result (λ _. SettledTask (F.seen files.new) w s (task (Ok command.now) text) (K.taken out.old) (K.taken out.new)) }
+    ensures unchanged { (command_work all_slots command.now []).writes ≡ false → F.seen files.new ≡ F.seen files.old }
     ensures choices { (F.seen files.new).choices ≡ (F.seen files.old).choices }
-    ensures asks { Asks machine.old (command_work command.now []) (F.asked files.old) (F.asked files.new) }
+    ensures asks { Asks machine.old (command_work all_slots command.now []) (F.asked files.old) (F.asked files.new) }
     ensures none_lost { NoneLost (K.taken out.old) (K.taken out.new) }
     ensures causes { Causes WhyHalt result (counts (F.faults files.old) 0 (K.faults out.old)) (counts (F.faults files.new) 0 (K.faults out.new)) }
 {

@@ -14,8 +14,9 @@ use Rattle.base_core.specs.Base.{Base}
 use Rattle.base_core.specs.Opening.{IfTold, is_created}
 use Rattle.command_runs.specs.Counts.{Why, counts}
 use Rattle.command_runs.specs.Endings.{Halted, NoneLost}
-use Rattle.shell_state.specs.Stands.{Holding}
-use Rattle.shell_state.specs.State.{State, begin}
+use Rattle.desk_commands.specs.Desk.{Desk, desk_begin}
+use Rattle.desk_commands.specs.Standing.{DeskHolding}
+use Rattle.filter_seat.specs.Seats.{first_seat}
 use Rattle.shell_session.proofs.ViewLaws.{lives_first, show_none}
 use Rattle.shell_session.specs.Around.{Around, Lives, Views, around, none_told, slots_by}
 use Rattle.shell_session.specs.Running.{Interrupts, Opening, OpeningRefused}
@@ -55,10 +56,10 @@ opening_answers words index names games script views seen seen' t input wanted I
 opening_answers words index names games script views seen seen' t input wanted (Changed game kept found) said refused same i n g = absurd refused
 
 -- The base was opened.
-abbrev pub opened : (words : List (List ℕ)) (index names games script : List ℕ) (views : Views) (seen : Seen) (wanted : Wanted) (holding : Holding) (mended : ℕ)
-    → words_read words ≡ Some wanted → (o : Opening wanted.create wanted.strict index names games holding seen mended)
+abbrev pub opened : (words : List (List ℕ)) (index names games script : List ℕ) (views : Views) (seen : Seen) (wanted : Wanted) (held : DeskHolding) (mended : ℕ)
+    → words_read words ≡ Some wanted → (o : Opening wanted.create wanted.strict wanted.desk index names games held seen mended)
     → Opened (given words index names games script views) o.base mended
-opened words index names games script views seen wanted holding mended said o =
+opened words index names games script views seen wanted held mended said o =
     record { wanted = wanted; words = said; means = o.means; mends = o.mends; faultless = o.faultless }
 
 none_rose : Rose 0 0 → ⊥
@@ -286,53 +287,53 @@ done_reads old new = tt
 -- ---- the session from its parts
 
 -- The opening line of the base that was opened.
-count_of : (create strict : Bool) (index names games : List ℕ) (holding : Holding) (seen : Seen) (mended count : ℕ) → (o : Opening create strict index names games holding seen mended)
-    → count ≡ length holding.kept.entries → opening_text count mended ≡ opening_line o.base mended
-count_of create strict index names games holding seen mended count o same = ap (λ n. opening_text n mended) (same ∙ (o.stands (slots_by []) (show_none [])).base.count)
+count_of : (create strict desk : Bool) (index names games : List ℕ) (held : DeskHolding) (seen : Seen) (mended count : ℕ) → (o : Opening create strict desk index names games held seen mended)
+    → count ≡ length held.holding.kept.entries → opening_text count mended ≡ opening_line o.base mended
+count_of create strict desk index names games held seen mended count o same = ap (λ n. opening_text n mended) (same ∙ ((o.stands (slots_by []) (show_none [])).stands (first_seat 0)).base.count)
 
 -- The opening line was broken off.
-pub line_session : (words : List (List ℕ)) (index names games script : List ℕ) (views : Views) (seen seen' : Seen) (wanted : Wanted) (holding : Holding) (mended count : ℕ) (t t' : Option (List ℕ)) (input : Inlet) (s : Stop) (k k' : ℕ)
+pub line_session : (words : List (List ℕ)) (index names games script : List ℕ) (views : Views) (seen seen' : Seen) (wanted : Wanted) (held : DeskHolding) (mended count : ℕ) (t t' : Option (List ℕ)) (input : Inlet) (s : Stop) (k k' : ℕ)
     → words_read words ≡ Some wanted
-    → IfTold seen (λ index names games. Opening wanted.create wanted.strict index names games holding seen' mended)
-    → count ≡ length holding.kept.entries → Halted [] (opening_text count mended) t t' → SameContents seen seen' → Why s (counts 0 0 k) (counts 0 0 k')
+    → IfTold seen (λ index names games. Opening wanted.create wanted.strict wanted.desk index names games held seen' mended)
+    → count ≡ length held.holding.kept.entries → Halted [] (opening_text count mended) t t' → SameContents seen seen' → Why s (counts 0 0 k) (counts 0 0 k')
     → seen.index ≡ Some index → seen.names ≡ Some names → seen.games ≡ Some games
     → Answers (given words index names games script views) t t' input input (around seen' views none_told views) (status_of s)
-line_session words index names games script views seen seen' wanted holding mended count t t' input s k k' said opens same wrote files why i n g =
-    let o : Opening wanted.create wanted.strict index names games holding seen' mended =
-    told seen (λ index names games. Opening wanted.create wanted.strict index names games holding seen' mended) index names games opens i n g in
+line_session words index names games script views seen seen' wanted held mended count t t' input s k k' said opens same wrote files why i n g =
+    let o : Opening wanted.create wanted.strict wanted.desk index names games held seen' mended =
+    told seen (λ index names games. Opening wanted.create wanted.strict wanted.desk index names games held seen' mended) index names games opens i n g in
     let P : List ℕ → Type 0 = λ text. Halted [] text t t' in
-    line_answers (given words index names games script views) t t' input (around seen' views none_told views) o.base mended s k k' (opened words index names games script views seen' wanted holding mended said o)
-    (subst P (count_of wanted.create wanted.strict index names games holding seen' mended count o same) wrote) (as_given words index names games script views seen seen' files i n g) refl why
+    line_answers (given words index names games script views) t t' input (around seen' views none_told views) o.base mended s k k' (opened words index names games script views seen' wanted held mended said o)
+    (subst P (count_of wanted.create wanted.strict wanted.desk index names games held seen' mended count o same) wrote) (as_given words index names games script views seen seen' files i n g) refl why
 
 -- The script was run to its end.
-pub whole_session : (words : List (List ℕ)) (index names games script : List ℕ) (views : Views) (seen seen' seen'' : Seen) (views'' : Views) (wanted : Wanted) (holding : Holding) (mended count : ℕ) (t t' t'' : Option (List ℕ)) (input input' : Inlet)
+pub whole_session : (words : List (List ℕ)) (index names games script : List ℕ) (views : Views) (seen seen' seen'' : Seen) (views'' : Views) (wanted : Wanted) (held : DeskHolding) (mended count : ℕ) (t t' t'' : Option (List ℕ)) (input input' : Inlet)
     → words_read words ≡ Some wanted
-    → IfTold seen (λ index names games. Opening wanted.create wanted.strict index names games holding seen' mended)
-    → length views ≤ 8 → (now later : Views) → now ≡ views → later ≡ views'' → count ≡ length holding.kept.entries → t' ≡ adds t (opening_text count mended)
-    → ((s : State) (first : Views) (most : ℕ → ℕ) (script : List ℕ) → Lives holding (around seen' first most now) s → input.left ≡ Some script → RanAll s script t' t'' input'.left (around seen'' first most later))
+    → IfTold seen (λ index names games. Opening wanted.create wanted.strict wanted.desk index names games held seen' mended)
+    → length views ≤ 8 → (now later : Views) → now ≡ views → later ≡ views'' → count ≡ length held.holding.kept.entries → t' ≡ adds t (opening_text count mended)
+    → ((d : Desk) (first : Views) (most : ℕ → ℕ) (script : List ℕ) → Lives held (around seen' first most now) d → input.left ≡ Some script → RanAll d script t' t'' input'.left (around seen'' first most later))
     → seen.index ≡ Some index → seen.names ≡ Some names → seen.games ≡ Some games → input.left ≡ Some script
     → Answers (given words index names games script views) t t'' input input' (around seen'' views none_told views'') Done
-whole_session words index names games script views seen seen' seen'' views'' wanted holding mended count t t' t'' input input' said opens few now later lent left_there same wrote ran i n g left =
-    let o : Opening wanted.create wanted.strict index names games holding seen' mended =
-    told seen (λ index names games. Opening wanted.create wanted.strict index names games holding seen' mended) index names games opens i n g in
-    let P : Option (List ℕ) → Type 0 = λ x. RanAll (begin (is_created wanted.create index names games) (slots_by views) o.base) script x t'' input'.left (around seen'' views none_told views'') in
-    whole_answers (given words index names games script views) t t'' input input' (around seen'' views none_told views'') o.base mended (opened words index names games script views seen' wanted holding mended said o)
-    (subst P (wrote ∙ ap (adds t) (count_of wanted.create wanted.strict index names games holding seen' mended count o same)) (subst (λ (v : Views). RanAll (begin (is_created wanted.create index names games) (slots_by views) o.base) script t' t'' input'.left (around seen'' views none_told v)) left_there (ran (begin (is_created wanted.create index names games) (slots_by views) o.base) views none_told script (subst (λ (v : Views). Lives holding (around seen' views none_told v) (begin (is_created wanted.create index names games) (slots_by views) o.base)) (sym lent) (lives_first holding seen' views (is_created wanted.create index names games) o.base few (o.stands (slots_by views) (show_none views)))) left)))
+whole_session words index names games script views seen seen' seen'' views'' wanted held mended count t t' t'' input input' said opens few now later lent left_there same wrote ran i n g left =
+    let o : Opening wanted.create wanted.strict wanted.desk index names games held seen' mended =
+    told seen (λ index names games. Opening wanted.create wanted.strict wanted.desk index names games held seen' mended) index names games opens i n g in
+    let P : Option (List ℕ) → Type 0 = λ x. RanAll (desk_begin wanted.desk (is_created wanted.create index names games) (slots_by views) o.base) script x t'' input'.left (around seen'' views none_told views'') in
+    whole_answers (given words index names games script views) t t'' input input' (around seen'' views none_told views'') o.base mended (opened words index names games script views seen' wanted held mended said o)
+    (subst P (wrote ∙ ap (adds t) (count_of wanted.create wanted.strict wanted.desk index names games held seen' mended count o same)) (subst (λ (v : Views). RanAll (desk_begin wanted.desk (is_created wanted.create index names games) (slots_by views) o.base) script t' t'' input'.left (around seen'' views none_told v)) left_there (ran (desk_begin wanted.desk (is_created wanted.create index names games) (slots_by views) o.base) views none_told script (subst (λ (v : Views). Lives held (around seen' views none_told v) (desk_begin wanted.desk (is_created wanted.create index names games) (slots_by views) o.base)) (sym lent) (lives_first held seen' views wanted.desk (is_created wanted.create index names games) o.base few (o.stands (slots_by views) (show_none views)))) left)))
 
 -- The run of the script stopped.
-pub part_session : (words : List (List ℕ)) (index names games script : List ℕ) (views : Views) (seen seen' seen'' : Seen) (views'' : Views) (wanted : Wanted) (holding : Holding) (mended count : ℕ) (t t' t'' : Option (List ℕ)) (input input' : Inlet) (status : Status)
+pub part_session : (words : List (List ℕ)) (index names games script : List ℕ) (views : Views) (seen seen' seen'' : Seen) (views'' : Views) (wanted : Wanted) (held : DeskHolding) (mended count : ℕ) (t t' t'' : Option (List ℕ)) (input input' : Inlet) (status : Status)
     → words_read words ≡ Some wanted
-    → IfTold seen (λ index names games. Opening wanted.create wanted.strict index names games holding seen' mended)
-    → length views ≤ 8 → (now later : Views) → now ≡ views → later ≡ views'' → count ≡ length holding.kept.entries → t' ≡ adds t (opening_text count mended)
-    → ((s : State) (first : Views) (most : ℕ → ℕ) (script : List ℕ) → Lives holding (around seen' first most now) s → input.left ≡ Some script → RanPart status s script t' t'' input'.left (around seen'' first most later))
+    → IfTold seen (λ index names games. Opening wanted.create wanted.strict wanted.desk index names games held seen' mended)
+    → length views ≤ 8 → (now later : Views) → now ≡ views → later ≡ views'' → count ≡ length held.holding.kept.entries → t' ≡ adds t (opening_text count mended)
+    → ((d : Desk) (first : Views) (most : ℕ → ℕ) (script : List ℕ) → Lives held (around seen' first most now) d → input.left ≡ Some script → RanPart status d script t' t'' input'.left (around seen'' first most later))
     → seen.index ≡ Some index → seen.names ≡ Some names → seen.games ≡ Some games → input.left ≡ Some script
     → Answers (given words index names games script views) t t'' input input' (around seen'' views none_told views'') status
-part_session words index names games script views seen seen' seen'' views'' wanted holding mended count t t' t'' input input' status said opens few now later lent left_there same wrote ran i n g left =
-    let o : Opening wanted.create wanted.strict index names games holding seen' mended =
-    told seen (λ index names games. Opening wanted.create wanted.strict index names games holding seen' mended) index names games opens i n g in
-    let P : Option (List ℕ) → Type 0 = λ x. RanPart status (begin (is_created wanted.create index names games) (slots_by views) o.base) script x t'' input'.left (around seen'' views none_told views'') in
-    part_answers (given words index names games script views) t t'' input input' (around seen'' views none_told views'') o.base mended status (opened words index names games script views seen' wanted holding mended said o)
-    (subst P (wrote ∙ ap (adds t) (count_of wanted.create wanted.strict index names games holding seen' mended count o same)) (subst (λ (v : Views). RanPart status (begin (is_created wanted.create index names games) (slots_by views) o.base) script t' t'' input'.left (around seen'' views none_told v)) left_there (ran (begin (is_created wanted.create index names games) (slots_by views) o.base) views none_told script (subst (λ (v : Views). Lives holding (around seen' views none_told v) (begin (is_created wanted.create index names games) (slots_by views) o.base)) (sym lent) (lives_first holding seen' views (is_created wanted.create index names games) o.base few (o.stands (slots_by views) (show_none views)))) left)))
+part_session words index names games script views seen seen' seen'' views'' wanted held mended count t t' t'' input input' status said opens few now later lent left_there same wrote ran i n g left =
+    let o : Opening wanted.create wanted.strict wanted.desk index names games held seen' mended =
+    told seen (λ index names games. Opening wanted.create wanted.strict wanted.desk index names games held seen' mended) index names games opens i n g in
+    let P : Option (List ℕ) → Type 0 = λ x. RanPart status (desk_begin wanted.desk (is_created wanted.create index names games) (slots_by views) o.base) script x t'' input'.left (around seen'' views none_told views'') in
+    part_answers (given words index names games script views) t t'' input input' (around seen'' views none_told views'') o.base mended status (opened words index names games script views seen' wanted held mended said o)
+    (subst P (wrote ∙ ap (adds t) (count_of wanted.create wanted.strict wanted.desk index names games held seen' mended count o same)) (subst (λ (v : Views). RanPart status (desk_begin wanted.desk (is_created wanted.create index names games) (slots_by views) o.base) script t' t'' input'.left (around seen'' views none_told v)) left_there (ran (desk_begin wanted.desk (is_created wanted.create index names games) (slots_by views) o.base) views none_told script (subst (λ (v : Views). Lives held (around seen' views none_told v) (desk_begin wanted.desk (is_created wanted.create index names games) (slots_by views) o.base)) (sym lent) (lives_first held seen' views wanted.desk (is_created wanted.create index names games) o.base few (o.stands (slots_by views) (show_none views)))) left)))
 
 -- The opening line stands in what was written where nothing that was written is lost.
 pub opened_by : (t t' t'' : Option (List ℕ)) (games mended : ℕ) → t' ≡ adds t (opening_text games mended) → NoneLost t' t'' → (n m : ℕ) × Grew (adds t (opening_text n m)) t''

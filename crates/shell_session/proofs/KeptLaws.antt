@@ -7,7 +7,8 @@ use Rattle.command_runs.specs.Counts.{Counts, NoneFell, counts}
 use Rattle.script_lines.specs.Script.{longest_script}
 use Rattle.script_lines.specs.declared.reader.ReadError.{ReadError}
 use Rattle.script_lines.specs.declared.reader.ReadError.TheVariants as error
-use Rattle.shell_state.specs.Stands.{Holding, Sound, WhyHalt}
+use Rattle.desk_commands.specs.Standing.{DeskHolding, DeskSound}
+use Rattle.shell_state.specs.Stands.{WhyHalt}
 use Rattle.shell_state.specs.declared.halt.Halt.{Halt}
 use Rattle.shell_session.specs.Running.{Interrupts, Kept}
 use Rattle.shell_session.specs.Session.{WhyStatus}
@@ -34,8 +35,8 @@ why_alone Done f f' i i' k k' why = tt
 why_alone (BadBase fault) f f' i i' k k' why = tt
 
 -- A part that reads nothing, beside an input of which nothing is read.
-pub kept_alone : {writes : Bool} {holding : Holding} {seen seen' : Seen} {f f' k k' : ℕ} {ended : Option Status} (i b b' : ℕ)
-    → Kept writes holding seen seen' (counts f 0 k) (counts f' 0 k') 0 0 ended → Kept writes holding seen seen' (counts f i k) (counts f' i k') b b' ended
+pub kept_alone : {writes : Bool} {held : DeskHolding} {seen seen' : Seen} {f f' k k' : ℕ} {ended : Option Status} (i b b' : ℕ)
+    → Kept writes held seen seen' (counts f 0 k) (counts f' 0 k') 0 0 ended → Kept writes held seen seen' (counts f i k) (counts f' i k') b b' ended
 kept_alone {f = f} {f' = f'} {k = k} {k' = k'} {ended = ended} i b b' kept = record {
   sound = kept.sound;
   unchanged = kept.unchanged;
@@ -59,9 +60,9 @@ why_behind Done c c' c'' fell why = tt
 why_behind (BadBase fault) c c' c'' fell why = tt
 
 -- A part behind another one.
-pub kept_then : {w w' : Bool} {holding holding' : Holding} {seen seen' seen'' : Seen} {c c' c'' : Counts} {b b₁ b₂ b' : ℕ} {first ended : Option Status}
-    → (w ≡ false → w' ≡ false) → Kept w holding seen seen' c c' b b₁ first → Kept w' holding' seen' seen'' c' c'' b₂ b' ended → b₂ ≤ b
-    → Kept w holding' seen seen'' c c'' b b' ended
+pub kept_then : {w w' : Bool} {held held' : DeskHolding} {seen seen' seen'' : Seen} {c c' c'' : Counts} {b b₁ b₂ b' : ℕ} {first ended : Option Status}
+    → (w ≡ false → w' ≡ false) → Kept w held seen seen' c c' b b₁ first → Kept w' held' seen' seen'' c' c'' b₂ b' ended → b₂ ≤ b
+    → Kept w held' seen seen'' c c'' b b' ended
 kept_then {c = c} {c' = c'} {c'' = c''} {ended = ended} narrow before behind less = record {
   sound = behind.sound;
   unchanged = λ none. behind.unchanged (narrow none) ∙ before.unchanged none;
@@ -76,9 +77,9 @@ kept_then {c = c} {c' = c'} {c'' = c''} {ended = ended} narrow before behind les
   too_long = if_some ended _ _ (λ status more long. omega (arith, more long, less)) behind.too_long;
 }
 
--- A command without a body was broken off.
-pub kept_halt : {writes : Bool} {holding : Holding} {seen seen' : Seen} {f f' k k' : ℕ} (halt : Halt) → (writes ≡ false → seen' ≡ seen) → seen'.choices ≡ seen.choices
-    → NoneFell (counts f 0 k) (counts f' 0 k') → WhyHalt halt (counts f 0 k) (counts f' 0 k') → Kept writes holding seen seen' (counts f 0 k) (counts f' 0 k') 0 0 (Some (status_of_halt halt))
+-- A line without a body was broken off.
+pub kept_halt : {writes : Bool} {held : DeskHolding} {seen seen' : Seen} {f f' k k' : ℕ} (halt : Halt) → (writes ≡ false → seen' ≡ seen) → seen'.choices ≡ seen.choices
+    → NoneFell (counts f 0 k) (counts f' 0 k') → WhyHalt halt (counts f 0 k) (counts f' 0 k') → Kept writes held seen seen' (counts f 0 k) (counts f' 0 k') 0 0 (Some (status_of_halt halt))
 kept_halt {f = f} {f' = f'} {k = k} {k' = k'} halt unchanged choices counts why = record {
   sound = tt;
   unchanged = unchanged;
@@ -91,7 +92,7 @@ kept_halt {f = f} {f' = f'} {k = k} {k' = k'} halt unchanged choices counts why 
 
 -- ---- the loop
 
-pub kept_none : {holding : Holding} {seen : Seen} {f i k : ℕ} (budget budget' : ℕ) → Sound holding seen → Kept true holding seen seen (counts f i k) (counts f i k) budget budget' None
+pub kept_none : {held : DeskHolding} {seen : Seen} {f i k : ℕ} (budget budget' : ℕ) → DeskSound held seen → Kept true held seen seen (counts f i k) (counts f i k) budget budget' None
 kept_none budget budget' sound = record {
   sound = sound;
   unchanged = λ none. refl;
@@ -103,8 +104,8 @@ kept_none budget budget' sound = record {
 }
 
 -- More of the input was read.
-pub kept_read : {writes : Bool} {holding : Holding} {seen seen' : Seen} {c : Counts} {f i k b b' : ℕ} (i' budget' : ℕ) → Kept writes holding seen seen' c (counts f i k) b b' None → i ≤ i'
-    → Kept writes holding seen seen' c (counts f i' k) b budget' None
+pub kept_read : {writes : Bool} {held : DeskHolding} {seen seen' : Seen} {c : Counts} {f i k b b' : ℕ} (i' budget' : ℕ) → Kept writes held seen seen' c (counts f i k) b b' None → i ≤ i'
+    → Kept writes held seen seen' c (counts f i' k) b budget' None
 kept_read i' budget' kept more = record {
   sound = kept.sound;
   unchanged = kept.unchanged;
@@ -116,9 +117,9 @@ kept_read i' budget' kept more = record {
 }
 
 -- It could not be read.
-pub kept_stuck : {writes : Bool} {holding : Holding} {seen seen' : Seen} {c : Counts} {f i k b b' : ℕ} (e : ReadError) (status : Status) (i' budget' : ℕ) → status ≡ status_of_reading e
-    → Kept writes holding seen seen' c (counts f i k) b b' None → i ≤ i' → (e ≡ error.Failed → Rose i i') → (status_of_reading e ≡ InputTooLong → budget' + longest_script < b)
-    → Kept writes holding seen seen' c (counts f i' k) b budget' (Some status)
+pub kept_stuck : {writes : Bool} {held : DeskHolding} {seen seen' : Seen} {c : Counts} {f i k b b' : ℕ} (e : ReadError) (status : Status) (i' budget' : ℕ) → status ≡ status_of_reading e
+    → Kept writes held seen seen' c (counts f i k) b b' None → i ≤ i' → (e ≡ error.Failed → Rose i i') → (status_of_reading e ≡ InputTooLong → budget' + longest_script < b)
+    → Kept writes held seen seen' c (counts f i' k) b budget' (Some status)
 kept_stuck {c = c} {f = f} {i = i} {k = k} e status i' budget' is kept more rose full =
     let behind : NoneFell c (counts f i' k) = record { files = kept.counts.files; input = omega (arith, kept.counts.input, more); output = kept.counts.output } in
     record {
@@ -132,6 +133,6 @@ kept_stuck {c = c} {f = f} {i = i} {k = k} e status i' budget' is kept more rose
     }
 
 -- A task was run behind others.
-pub kept_on : {w' : Bool} {holding holding' : Holding} {seen seen' seen'' : Seen} {c c' c'' : Counts} {b b₁ b₂ b' : ℕ} {first ended : Option Status}
-    → Kept true holding seen seen' c c' b b₁ first → Kept w' holding' seen' seen'' c' c'' b₂ b' ended → b₂ ≤ b → Kept true holding' seen seen'' c c'' b b' ended
+pub kept_on : {w' : Bool} {held held' : DeskHolding} {seen seen' seen'' : Seen} {c c' c'' : Counts} {b b₁ b₂ b' : ℕ} {first ended : Option Status}
+    → Kept true held seen seen' c c' b b₁ first → Kept w' held' seen' seen'' c' c'' b₂ b' ended → b₂ ≤ b → Kept true held' seen seen'' c c'' b b' ended
 kept_on before behind less = kept_then (λ no. absurd (cc)) before behind less

@@ -1,3 +1,4 @@
+mod DeskLaws
 mod RunningLaws
 mod KeptLaws
 mod BodyLaws

@@ -9,7 +9,10 @@ use Rattle.base_core.specs.Represents.{Kept}
 use Rattle.base_core.specs.declared.fault.OpenError.{OpenError}
 use Rattle.base_core.specs.declared.fault.OpenError.TheVariants as error
 use Rattle.shell_state.specs.Carrying.{AreEmpty, Contents}
-use Rattle.shell_state.specs.Stands.{Begins, Holding}
+use Rattle.desk_commands.specs.Desk.{desk_begin}
+use Rattle.desk_commands.specs.Standing.{DeskHolding, DeskStands}
+use Rattle.shell_state.specs.Slots.{Slot}
+use Rattle.shell_state.specs.Stands.{IsOpen, ShowNone}
 use Rattle.shell_session.specs.Running.{Opening, OpeningRefused}
 use Rattle.shell_session.specs.Stops.{status_of_opening}
 use Rattle.shell_session.specs.declared.status.Status.TheVariants.{FilesFault}
@@ -49,15 +52,18 @@ meant_so true seen base c means empty =
     (c.index_told ∙ ap S parts.0, c.names_told ∙ ap S parts.1)
 meant_so false seen base c means empty = means
 
--- The machine over an open base stands for the state in which a script begins.
-opening_by : (create strict : Bool) (i n g : Option (List ℕ)) (seen : Seen) (kept : Kept) (holding : Holding) (mended : ℕ)
+-- A machine over what is kept stands for the desk in which a script begins, where its base was opened or created.
+abbrev pub Starts : Kept → Bool → DeskHolding → Type 0
+Starts kept desk held = (seen : Seen) (created : Bool) (slots : List Slot) (base : Base) → ShowNone slots → IsOpen kept seen created base → DeskStands held seen (desk_begin desk created slots base)
+
+opening_by : (create strict desk : Bool) (i n g : Option (List ℕ)) (seen : Seen) (kept : Kept) (held : DeskHolding) (mended : ℕ)
     → IfSome i (λ index. IfSome n (λ names. IfSome g (λ games. Opens create strict index names games kept mended)))
-    → seen.index ≡ i → seen.names ≡ n → seen.games ≡ g → Begins kept holding
-    → IfSome i (λ index. IfSome n (λ names. IfSome g (λ games. Opening create strict index names games holding seen mended)))
-opening_by create strict None n g seen kept holding mended opens is ns gs begins = tt
-opening_by create strict (Some index) None g seen kept holding mended opens is ns gs begins = tt
-opening_by create strict (Some index) (Some names) None seen kept holding mended opens is ns gs begins = tt
-opening_by create strict (Some index) (Some names) (Some games) seen kept holding mended opens is ns gs begins =
+    → seen.index ≡ i → seen.names ≡ n → seen.games ≡ g → Starts kept desk held
+    → IfSome i (λ index. IfSome n (λ names. IfSome g (λ games. Opening create strict desk index names games held seen mended)))
+opening_by create strict desk None n g seen kept held mended opens is ns gs starts = tt
+opening_by create strict desk (Some index) None g seen kept held mended opens is ns gs starts = tt
+opening_by create strict desk (Some index) (Some names) None seen kept held mended opens is ns gs starts = tt
+opening_by create strict desk (Some index) (Some names) (Some games) seen kept held mended opens is ns gs starts =
     let c : Contents seen = record { index = index; names = names; games = games; index_told = is; names_told = ns; games_told = gs } in
     let created : Bool = is_created create index names games in
     record {
@@ -65,7 +71,7 @@ opening_by create strict (Some index) (Some names) (Some games) seen kept holdin
       means = opens.means;
       mends = opens.mends;
       faultless = opens.sound;
-      stands = λ slots none. begins.stands seen created slots opens.base none (record {
+      stands = λ slots none. starts seen created slots opens.base none (record {
         contents = c;
         represents = opens.represents;
         saved = opens.saved;
@@ -73,6 +79,6 @@ opening_by create strict (Some index) (Some names) (Some games) seen kept holdin
       });
     }
 
-pub opening : (create strict : Bool) (old seen : Seen) (kept : Kept) (holding : Holding) (mended : ℕ) → IfTold old (λ index names games. Opens create strict index names games kept mended)
-    → seen.index ≡ old.index → seen.names ≡ old.names → seen.games ≡ old.games → Begins kept holding → IfTold old (λ index names games. Opening create strict index names games holding seen mended)
-opening create strict old seen kept holding mended opens is ns gs begins = opening_by create strict old.index old.names old.games seen kept holding mended opens is ns gs begins
+pub opening : (create strict desk : Bool) (old seen : Seen) (kept : Kept) (held : DeskHolding) (mended : ℕ) → IfTold old (λ index names games. Opens create strict index names games kept mended)
+    → seen.index ≡ old.index → seen.names ≡ old.names → seen.games ≡ old.games → Starts kept desk held → IfTold old (λ index names games. Opening create strict desk index names games held seen mended)
+opening create strict desk old seen kept held mended opens is ns gs starts = opening_by create strict desk old.index old.names old.games seen kept held mended opens is ns gs starts

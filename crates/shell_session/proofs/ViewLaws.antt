@@ -1,4 +1,4 @@
--- Laws of the views beside a state.
+-- Laws of the views beside a desk.
 use Rattle.std.proofs.Common.{◌≡◌, ◌≤◌, ◌+◌, ℕ, zero, suc, Bool, false, List, Option, Some, None, Result, Ok, Err, [], ◌∷◌, ◌++◌, length, map, option_map, replicate, arith, ap₂, refl, sym, subst, ap, ◌∙◌}
 use Rattle.std.proofs.lemmas.List.{get_or_past, length-map}
 use Rattle.std.specs.List.{range_with_len}
@@ -7,20 +7,21 @@ use Rattle.base_core.specs.Base.{Base, Held}
 use Rattle.base_files.specs.Seen.{Seen}
 use Rattle.command_runs.specs.Endings.{Done, Serves}
 use Rattle.command_runs.specs.Plain.{after_all}
-use Rattle.script_text.specs.Tasks.{Task}
-use Rattle.shell_commands.specs.Tasks.{BrokenTask, tasks}
-use Rattle.shell_commands.specs.Watching.{ViewsDone, most_told, touches}
+use Rattle.desk_commands.specs.Desk.{Desk, desk_begin, desks, seen_by}
+use Rattle.desk_commands.specs.Standing.{BrokenLine, DeskHolding, DeskStands}
+use Rattle.desk_commands.specs.Views.{AllRight, LineShown, line_told, line_touches, owner}
+use Rattle.script_lines.specs.Clients.{Tagged}
 use Rattle.shell_state.proofs.TableLaws.{in_mapped}
 use Rattle.shell_state.specs.Slots.{HitTable, Slot, slot_at, table_of, tables_of}
 use Rattle.shell_state.specs.Slots.Slot.{empty, idle, shows}
-use Rattle.shell_state.specs.Stands.{Holding, ShowNone, Stands}
-use Rattle.shell_state.specs.State.{State, begin}
+use Rattle.shell_state.specs.Stands.{ShowNone}
+use Rattle.shell_state.specs.State.{State}
 use Rattle.shell_state.specs.declared.halt.Halt.{Halt}
 use Rattle.tree_live.specs.Slots.{in_slot}
 use Rattle.tree_rows.specs.declared.row.Row.{Row}
-use Rattle.view_commands.specs.Views.{AreLeft, AreRight, IsRight, IsToldAtMost}
+use Rattle.view_commands.specs.Views.{AreLeft, IsRight, IsToldAtMost}
 use Rattle.shell_session.proofs.IdleLaws.{idle_before}
-use Rattle.shell_session.specs.Around.{AreLeftBy, Around, Lives, Meaning, Views, around, meanings, none_told, slot_by, slots_by, told_all, told_by, told_more}
+use Rattle.shell_session.specs.Around.{AreLeftBy, Around, Lives, Meaning, Views, around, its_line, meanings, none_told, slot_by, slots_by, told_all, told_by, told_more}
 
 -- ---- views and what they mean
 
@@ -45,21 +46,25 @@ was_right rows told s idle (Some view) is = refl
 was_right rows told s (shows board) None is = is
 was_right rows told s (shows board) (Some view) is = is
 
-pub right_in : {B : Type 0} (rows : B → List Row) (told : B → ℕ) (s : State) (views : List (Option B)) → AreRight rows s views → AreRight (λ (m : Meaning). m.rows) s (meanings rows told views)
-right_in rows told s views are k =
-    subst (IsRight (λ (m : Meaning). m.rows) s (slot_at s.slots k)) (sym (in_meanings rows told views k)) (is_right rows told s (slot_at s.slots k) (in_slot views k) (are k))
+-- What the owner of a slot sees.
+abbrev owner_sees : Desk → ℕ → State
+owner_sees d k = seen_by d (owner d.clients.tagged k)
 
-pub right_out : {B : Type 0} (rows : B → List Row) (told : B → ℕ) (s : State) (views : List (Option B)) → AreRight (λ (m : Meaning). m.rows) s (meanings rows told views) → AreRight rows s views
-right_out rows told s views are k =
-    was_right rows told s (slot_at s.slots k) (in_slot views k) (subst (IsRight (λ (m : Meaning). m.rows) s (slot_at s.slots k)) (in_meanings rows told views k) (are k))
+pub right_in : {B : Type 0} (rows : B → List Row) (told : B → ℕ) (d : Desk) (views : List (Option B)) → AllRight rows d views → AllRight (λ (m : Meaning). m.rows) d (meanings rows told views)
+right_in rows told d views are k =
+    subst (IsRight (λ (m : Meaning). m.rows) (owner_sees d k) (slot_at d.slots k)) (sym (in_meanings rows told views k)) (is_right rows told (owner_sees d k) (slot_at d.slots k) (in_slot views k) (are k))
+
+pub right_out : {B : Type 0} (rows : B → List Row) (told : B → ℕ) (d : Desk) (views : List (Option B)) → AllRight (λ (m : Meaning). m.rows) d (meanings rows told views) → AllRight rows d views
+right_out rows told d views are k =
+    was_right rows told (owner_sees d k) (slot_at d.slots k) (in_slot views k) (subst (IsRight (λ (m : Meaning). m.rows) (owner_sees d k) (slot_at d.slots k)) (in_meanings rows told views k) (are k))
 
 -- ---- a task that is done or broken off
 
 -- The views of idle slots that it does not watch are as they were at the beginning.
-pub left_by : {B : Type 0} (rows : B → List Row) (told : B → ℕ) (s : State) (t : Task) (holding : Holding) (seen seen' : Seen) (first : Views) (most : ℕ → ℕ) (views views' : List (Option B))
-    → Lives holding (around seen first most (meanings rows told views)) s → AreLeft (touches s t.order) views views' → AreLeftBy (around seen' first most (meanings rows told views')) s t.order
-left_by rows told s t holding seen seen' first most views views' lives left k is other =
-    let untouched : touches s t.order k ≡ false = rw (is, other) refl in
+pub left_by : {B : Type 0} (rows : B → List Row) (told : B → ℕ) (d : Desk) (t : Tagged) (held : DeskHolding) (seen seen' : Seen) (first : Views) (most : ℕ → ℕ) (views views' : List (Option B))
+    → Lives held (around seen first most (meanings rows told views)) d → AreLeft (line_touches d (its_line t)) views views' → AreLeftBy (around seen' first most (meanings rows told views')) d (its_line t)
+left_by rows told d t held seen seen' first most views views' lives left k is other =
+    let untouched : line_touches d (its_line t) k ≡ false = rw (is, other) refl in
     in_meanings rows told views' k ∙ (ap (option_map (meaning rows told)) (left k untouched) ∙ (sym (in_meanings rows told views k) ∙ lives.views.idle k is))
 
 told_step : {B : Type 0} (rows : B → List Row) (told : B → ℕ) (most : ℕ) (before after : Option B) → IsToldAtMost told most before after
@@ -70,32 +75,32 @@ told_step rows told most None after is =
 told_step rows told most (Some before) None is = omega arith
 told_step rows told most (Some before) (Some after) is = is
 
-pub lives_behind : {B : Type 0} (rows : B → List Row) (told : B → ℕ) (s : State) (t : Task) (holding holding' : Holding) (seen seen' : Seen) (first : Views) (most : ℕ → ℕ) (views views' : List (Option B)) (text : List ℕ) (before after : Option (List ℕ))
-    → Lives holding (around seen first most (meanings rows told views)) s → Done (Stands holding' seen') (tasks.after s t) text before after → ViewsDone rows told s t views views' → AreLeft (touches s t.order) views views'
-    → Done (Lives holding' (told_more (around seen' first most (meanings rows told views')) (most_told s t))) (tasks.after s t) text before after
-lives_behind rows told s t holding holding' seen seen' first most views views' text before after lives did done left = record {
+pub lives_behind : {B : Type 0} (rows : B → List Row) (told : B → ℕ) (d : Desk) (t : Tagged) (held held' : DeskHolding) (seen seen' : Seen) (first : Views) (most : ℕ → ℕ) (views views' : List (Option B)) (text : List ℕ) (before after : Option (List ℕ))
+    → Lives held (around seen first most (meanings rows told views)) d → Done (DeskStands held' seen') (desks.after d t) text before after → LineShown rows told d t views views' → AreLeft (line_touches d (its_line t)) views views'
+    → Done (Lives held' (told_more (around seen' first most (meanings rows told views')) (line_told d t))) (desks.after d t) text before after
+lives_behind rows told d t held held' seen seen' first most views views' text before after lives did done left = record {
   stands = record {
     stands = did.stands;
     views = record {
-      right = right_in rows told (tasks.after s t) views' done.right;
+      right = right_in rows told (desks.after d t) views' done.right;
       idle = λ k is.
-          let earlier = idle_before s t k is in
-          left_by rows told s t holding seen seen' first most views views' lives left k earlier.0 earlier.1;
+          let earlier = idle_before d t k is in
+          left_by rows told d t held seen seen' first most views views' lives left k earlier.0 earlier.1;
       told = λ k.
           let old : told_by (in_slot (meanings rows told views) k) ≡ told_by (option_map (meaning rows told) (in_slot views k)) = ap told_by (in_meanings rows told views k) in
           let new : told_by (in_slot (meanings rows told views') k) ≡ told_by (option_map (meaning rows told) (in_slot views' k)) = ap told_by (in_meanings rows told views' k) in
-          omega (arith, old, new, told_step rows told (most_told s t k) (in_slot views k) (in_slot views' k) (done.counted k), lives.views.told k);
+          omega (arith, old, new, told_step rows told (line_told d t k) (in_slot views k) (in_slot views' k) (done.counted k), lives.views.told k);
     };
   };
   written = did.written;
 }
 
-pub serves_alive : {A B : Type 0} (rows : B → List Row) (told : B → ℕ) (s : State) (t : Task) (holding holding' : Holding) (seen seen' : Seen) (first : Views) (most : ℕ → ℕ) (views views' : List (Option B)) (before after : Option (List ℕ)) (result : Result A Halt)
-    → Lives holding (around seen first most (meanings rows told views)) s → Serves tasks (Stands holding' seen') BrokenTask s t before after result → OnOk result (ViewsDone rows told s t views views')
-    → AreLeft (touches s t.order) views views' → Serves tasks (Lives holding' (told_more (around seen' first most (meanings rows told views')) (most_told s t))) BrokenTask s t before after result
-serves_alive rows told s t holding holding' seen seen' first most views views' before after (Ok x) lives serves done left =
-    lives_behind rows told s t holding holding' seen seen' first most views views' (tasks.text s t) before after lives serves done left
-serves_alive rows told s t holding holding' seen seen' first most views views' before after (Err e) lives serves done left = serves
+pub serves_alive : {A B : Type 0} (rows : B → List Row) (told : B → ℕ) (d : Desk) (t : Tagged) (held held' : DeskHolding) (seen seen' : Seen) (first : Views) (most : ℕ → ℕ) (views views' : List (Option B)) (before after : Option (List ℕ)) (result : Result A Halt)
+    → Lives held (around seen first most (meanings rows told views)) d → Serves desks (DeskStands held' seen') BrokenLine d t before after result → OnOk result (LineShown rows told d t views views')
+    → AreLeft (line_touches d (its_line t)) views views' → Serves desks (Lives held' (told_more (around seen' first most (meanings rows told views')) (line_told d t))) BrokenLine d t before after result
+serves_alive rows told d t held held' seen seen' first most views views' before after (Ok x) lives serves done left =
+    lives_behind rows told d t held held' seen seen' first most views views' (desks.text d t) before after lives serves done left
+serves_alive rows told d t held held' seen seen' first most views views' before after (Err e) lives serves done left = serves
 
 -- A fact of whatever error there is.
 pub whatever_error : {A E : Type 0} (r : Result A E) (X : Type 0) → X → IfErr r (λ (e : E). X)
@@ -105,34 +110,34 @@ whatever_error (Err e) X so = so
 -- ---- how many changes were told
 
 -- No fewer than these.
-pub lives_more : (holding : Holding) (here : Around) (more later : ℕ → ℕ) (s : State) → Lives holding (told_more here more) s → ((k : ℕ) → more k ≤ later k) → Lives holding (told_more here later) s
-lives_more holding here more later s lives less = record {
+pub lives_more : (held : DeskHolding) (here : Around) (more later : ℕ → ℕ) (d : Desk) → Lives held (told_more here more) d → ((k : ℕ) → more k ≤ later k) → Lives held (told_more here later) d
+lives_more held here more later d lives less = record {
   stands = lives.stands;
   views = record { right = lives.views.right; idle = lives.views.idle; told = λ k. omega (arith, lives.views.told k, less k) };
 }
 
-pub lives_since : (holding : Holding) (here : Around) (more : ℕ → ℕ) (s : State) → Lives holding here s → Lives holding (told_more here more) s
-lives_since holding here more s lives = record {
+pub lives_since : (held : DeskHolding) (here : Around) (more : ℕ → ℕ) (d : Desk) → Lives held here d → Lives held (told_more here more) d
+lives_since held here more d lives = record {
   stands = lives.stands;
   views = record { right = lives.views.right; idle = lives.views.idle; told = λ k. omega (arith, lives.views.told k) };
 }
 
-pub lives_twice : (holding : Holding) (here : Around) (more again later : ℕ → ℕ) (s : State) → Lives holding (told_more (told_more here more) again) s → ((k : ℕ) → more k + again k ≤ later k)
-    → Lives holding (told_more here later) s
-lives_twice holding here more again later s lives less = record {
+pub lives_twice : (held : DeskHolding) (here : Around) (more again later : ℕ → ℕ) (d : Desk) → Lives held (told_more (told_more here more) again) d → ((k : ℕ) → more k + again k ≤ later k)
+    → Lives held (told_more here later) d
+lives_twice held here more again later d lives less = record {
   stands = lives.stands;
   views = record { right = lives.views.right; idle = lives.views.idle; told = λ k. omega (arith, lives.views.told k, less k) };
 }
 
 -- Some tasks, and then others.
-pub told_all-append : (s : State) (xs ys : List Task) (k : ℕ) → told_all s (xs ++ ys) k ≡ told_all s xs k + told_all (after_all tasks s xs) ys k
-told_all-append s [] ys k = omega arith
-told_all-append s (x ∷ xs) ys k =
-    let rest : told_all (tasks.after s x) (xs ++ ys) k ≡ told_all (tasks.after s x) xs k + told_all (after_all tasks (tasks.after s x) xs) ys k = told_all-append (tasks.after s x) xs ys k in
+pub told_all-append : (d : Desk) (xs ys : List Tagged) (k : ℕ) → told_all d (xs ++ ys) k ≡ told_all d xs k + told_all (after_all desks d xs) ys k
+told_all-append d [] ys k = omega arith
+told_all-append d (x ∷ xs) ys k =
+    let rest : told_all (desks.after d x) (xs ++ ys) k ≡ told_all (desks.after d x) xs k + told_all (after_all desks (desks.after d x) xs) ys k = told_all-append (desks.after d x) xs ys k in
     omega (arith, rest)
 
-pub told_one : (s : State) (done : List Task) (next : Task) (k : ℕ) → told_all s done k + most_told (after_all tasks s done) next k ≤ told_all s (done ++ next ∷ []) k
-told_one s done next k = omega (arith, told_all-append s done (next ∷ []) k)
+pub told_one : (d : Desk) (done : List Tagged) (next : Tagged) (k : ℕ) → told_all d done k + line_told (after_all desks d done) next k ≤ told_all d (done ++ next ∷ []) k
+told_one d done next k = omega (arith, told_all-append d done (next ∷ []) k)
 
 -- ---- the beginning
 
@@ -158,14 +163,14 @@ in_range views from zero k few = ap slot_by (sym (get_or_past views (from + k) N
 in_range views from (suc n) zero few = ap (λ (j : ℕ). slot_by (in_slot views j)) (omega arith)
 in_range views from (suc n) (suc k) few = in_range views (from + 1) n k (omega (arith, few)) ∙ ap (λ (j : ℕ). slot_by (in_slot views j)) (omega arith)
 
-pub lives_first : (holding : Holding) (seen : Seen) (views : Views) (created : Bool) (base : Base) → length views ≤ 8 → Stands holding seen (begin created (slots_by views) base)
-    → Lives holding (around seen views none_told views) (begin created (slots_by views) base)
-lives_first holding seen views created base few stands =
-    let s : State = begin created (slots_by views) base in
+pub lives_first : (held : DeskHolding) (seen : Seen) (views : Views) (desk created : Bool) (base : Base) → length views ≤ 8 → DeskStands held seen (desk_begin desk created (slots_by views) base)
+    → Lives held (around seen views none_told views) (desk_begin desk created (slots_by views) base)
+lives_first held seen views desk created base few stands =
+    let d : Desk = desk_begin desk created (slots_by views) base in
     record {
       stands = stands;
       views = record {
-        right = λ k. subst (λ (slot : Slot). IsRight (λ (m : Meaning). m.rows) s slot (in_slot views k)) (sym (in_range views 0 8 k few ∙ ap (λ (j : ℕ). slot_by (in_slot views j)) (omega arith))) (slot_right s (in_slot views k));
+        right = λ k. subst (λ (slot : Slot). IsRight (λ (m : Meaning). m.rows) (owner_sees d k) slot (in_slot views k)) (sym (in_range views 0 8 k few ∙ ap (λ (j : ℕ). slot_by (in_slot views j)) (omega arith))) (slot_right (owner_sees d k) (in_slot views k));
         idle = λ k is. refl;
         told = λ k. omega arith;
       };

@@ -1,19 +1,18 @@
--- What stands around the machine of a session: what the files tell, and the views of the slots, at its beginning and now, with how many
--- changes each was told since then at most. This project's own.
+-- What stands around the desk of a session: what the files tell, and the views of the slots, at its beginning and now, with how many changes
+-- each was told since then at most. This project's own.
 use Rattle.std.specs.Prelude.{◌≡◌, ◌≤◌, ◌+◌, ℕ, false, List, [], ◌∷◌, Option, Some, None, map, option_map}
 use Rattle.std.specs.List.{range_with_len}
 use Rattle.base_files.specs.Seen.{Seen}
-use Rattle.script_text.specs.Tasks.{Task}
-use Rattle.shell_commands.specs.Tasks.{Order, order_left, tasks}
-use Rattle.shell_commands.specs.Watching.{most_told, watches}
+use Rattle.desk_commands.specs.Desk.{Desk, desks, seen_by}
+use Rattle.desk_commands.specs.Standing.{DeskHolding, DeskStands, line_left}
+use Rattle.desk_commands.specs.Views.{AllRight, line_told, line_watches}
+use Rattle.script_lines.specs.Clients.{Tagged, said}
+use Rattle.script_lines.specs.declared.line.Line.{Line}
 use Rattle.shell_state.specs.Carrying.{StillCarry}
 use Rattle.shell_state.specs.Slots.{Slot, slot_at}
 use Rattle.shell_state.specs.Slots.Slot.{empty, idle}
-use Rattle.shell_state.specs.Stands.{Holding, Stands}
-use Rattle.shell_state.specs.State.{State}
 use Rattle.tree_live.specs.Slots.{in_slot}
 use Rattle.tree_rows.specs.declared.row.Row.{Row}
-use Rattle.view_commands.specs.Views.{AreRight}
 
 -- What a view means: its rows, and how many changes it was told.
 pub record Meaning : Type 0 where
@@ -56,26 +55,30 @@ told_by None = 0
 told_by (Some view) = view.told
 
 -- How many changes some tasks tell the view of a slot at most, one after the other.
-abbrev pub told_all : State → List Task → ℕ → ℕ
-told_all s [] k = 0
-told_all s (next ∷ later) k = most_told s next k + told_all (tasks.after s next) later k
+abbrev pub told_all : Desk → List Tagged → ℕ → ℕ
+told_all d [] k = 0
+told_all d (next ∷ later) k = line_told d next k + told_all (desks.after d next) later k
 
--- The views beside a state: each is right, one whose slot is idle is as it was at the beginning, and each was told no more changes.
-pub record AreBeside (around : Around) (s : State) : Type 0 where
-  pub right : AreRight (λ (view : Meaning). view.rows) s around.now
-  pub idle : (k : ℕ) → slot_at s.slots k ≡ idle → in_slot around.now k ≡ in_slot around.first k
+-- The views beside a desk: each is right, one whose slot is idle is as it was at the beginning, and each was told no more changes.
+pub record AreBeside (around : Around) (d : Desk) : Type 0 where
+  pub right : AllRight (λ (view : Meaning). view.rows) d around.now
+  pub idle : (k : ℕ) → slot_at d.slots k ≡ idle → in_slot around.now k ≡ in_slot around.first k
   pub told : (k : ℕ) → told_by (in_slot around.now k) ≤ told_by (in_slot around.first k) + around.most k
 
--- The machine stands for a state, with such views.
-pub record Lives (holding : Holding) (around : Around) (s : State) : Type 0 where
-  pub stands : Stands holding around.seen s
-  pub views : AreBeside around s
+-- The machine stands for a desk, with such views.
+pub record Lives (held : DeskHolding) (around : Around) (d : Desk) : Type 0 where
+  pub stands : DeskStands held around.seen d
+  pub views : AreBeside around d
 
--- Behind a command that was broken off, the views of idle slots that it does not watch are as they were at the beginning.
-abbrev pub AreLeftBy : Around → State → Order → Type 0
-AreLeftBy around s order = (k : ℕ) → slot_at s.slots k ≡ idle → watches order k ≡ false → in_slot around.now k ≡ in_slot around.first k
+-- Behind a line that was broken off, the views of idle slots that it does not watch are as they were at the beginning.
+abbrev pub AreLeftBy : Around → Desk → Line → Type 0
+AreLeftBy around d line = (k : ℕ) → slot_at d.slots k ≡ idle → line_watches d line k ≡ false → in_slot around.now k ≡ in_slot around.first k
 
--- What remains then: the files carry what they carried, or what the command leaves, and such views.
-pub record Remains (around : Around) (s : State) (order : Order) : Type 0 where
-  pub carries : StillCarry around.seen s (order_left order)
-  pub views : AreLeftBy around s order
+-- What remains then: the files carry what they carried, or what the line leaves, and such views.
+pub record Remains (around : Around) (d : Desk) (line : Line) : Type 0 where
+  pub carries : StillCarry around.seen (seen_by d 0) (line_left d line)
+  pub views : AreLeftBy around d line
+
+-- The line of a task.
+abbrev pub its_line : Tagged → Line
+its_line t = said t.client t.task.order

@@ -1,5 +1,5 @@
 -- What a session answers, of what it was given, in terms of plain values. This project's own.
-use Rattle.std.specs.Prelude.{◌≡◌, ◌≤◌, ◌<◌, ℕ, ◌+◌, ◌⊎◌, ⊤, IsTrue, List, [], ◌∷◌, ◌++◌, length, take, Option, Some, None, codes}
+use Rattle.std.specs.Prelude.{◌≡◌, ◌≤◌, ◌<◌, ℕ, ◌+◌, ◌⊎◌, ⊤, Bool, IsTrue, List, [], ◌∷◌, ◌++◌, length, take, Option, Some, None, codes}
 use Rattle.std.specs.Fmt.{decimal}
 use Rattle.base_files.specs.Chosen.{Choice, choice}
 use Rattle.base_files.specs.Seen.{Seen}
@@ -12,13 +12,14 @@ use Rattle.base_core.specs.declared.fault.BaseFault.{BaseFault}
 use Rattle.command_runs.specs.Counts.{Counts}
 use Rattle.command_runs.specs.Endings.{Halted}
 use Rattle.command_runs.specs.Plain.{after_all, run}
-use Rattle.script_text.specs.Tasks.{Task}
-use Rattle.shell_commands.specs.Tasks.{SettledTask, task_work, order_price}
-use Rattle.shell_state.specs.Carrying.{AreLeft}
-use Rattle.shell_state.specs.State.{State, begin}
-use Rattle.shell_commands.specs.Tasks.{tasks}
+use Rattle.desk_commands.specs.Desk.{Desk, desk_begin, desks}
+use Rattle.desk_commands.specs.Standing.{SettledLine, effective, line_price}
+use Rattle.script_lines.specs.Clients.{Tagged}
 use Rattle.script_lines.specs.Script.{longest_script, script_len, script_of, whole_lines}
-use Rattle.shell_session.specs.Around.{Around, AreBeside, Remains, Views, slots_by, told_all, told_more}
+use Rattle.shell_commands.specs.Tasks.{order_work}
+use Rattle.shell_state.specs.Carrying.{AreLeft}
+use Rattle.view_commands.specs.Views.{all_slots}
+use Rattle.shell_session.specs.Around.{Around, AreBeside, Remains, Views, its_line, slots_by, told_all, told_more}
 use Rattle.shell_session.specs.Words.{Wanted, words_read}
 use Rattle.shell_session.specs.declared.status.Status.{Status}
 use Rattle.shell_session.specs.declared.status.Status.TheVariants.{Done, Usage, BadBase, ReadFault, WriteFault, FilesFault, Changed, InputTooLong, Memory}
@@ -60,9 +61,9 @@ pub record Opened (given : Given) (base : Base) (mended : ℕ) : Type 0 where
   pub mends : Mended given.index base.games mended
   pub faultless : (fault : BaseFault) → Refuses wanted.create wanted.strict given.index given.names given.games fault → ⊥
 
--- The state in which the script begins.
-abbrev pub begun : (given : Given) (base : Base) (mended : ℕ) → Opened given base mended → State
-begun given base mended opened = begin (is_created opened.wanted.create given.index given.names given.games) (slots_by given.views) base
+-- The desk in which the script begins: of four clients where the words ask for it, and else of one.
+abbrev pub begun : (given : Given) (base : Base) (mended : ℕ) → Opened given base mended → Desk
+begun given base mended opened = desk_begin opened.wanted.desk (is_created opened.wanted.create given.index given.names given.games) (slots_by given.views) base
 
 -- The words name a base whose files have this first fault.
 pub record Faulty (given : Given) (fault : BaseFault) : Type 0 where
@@ -82,52 +83,52 @@ opening_line base mended = opening_text (length base.games) mended
 
 -- ---- the run of the script
 
--- The whole script was run: its text is written, and the input was read to its end or to the line of `quit`, and at most so many bytes further.
--- The files carry the base that the last `save` or `compact` left, or the opened one, and mean it where no edit came after. Each view of a
--- slot that shows a tree has the rows of the games that are in then, and one of a slot that was never watched is as before; none was told
--- more changes than the tasks tell it.
-pub record RanAll (s : State) (script : List ℕ) (told : Option (List ℕ)) (told' : Option (List ℕ)) (later : Option (List ℕ)) (around' : Around) : Type 0 where
-  pub written : told' ≡ adds told (run tasks s (script_of script))
-  pub within : script_len script ≤ longest_script
+-- The whole script was run: its text is written, and the input was read to its end or to the line of the `quit` by which its last client
+-- ends, and at most so many bytes further. The files carry the base that the last `save` or `compact` left, or the opened one, and mean it
+-- where no edit came after. Each view of a slot that shows a tree has the rows of the games that are in then for the slot's owner, and one of
+-- a slot that was never watched is as before; none was told more changes than the tasks tell it.
+pub record RanAll (d : Desk) (script : List ℕ) (told : Option (List ℕ)) (told' : Option (List ℕ)) (later : Option (List ℕ)) (around' : Around) : Type 0 where
+  pub written : told' ≡ adds told (run desks d (script_of d.clients.tagged script))
+  pub within : script_len d.clients.tagged script ≤ longest_script
   pub front : List ℕ
   pub read : Some script ≡ before front later
-  pub enough : script_len script ≤ length front
-  pub no_further : length front ≤ script_len script + 32768
-  pub files : AreLeft around'.seen (after_all tasks s (script_of script)).shared.carried (after_all tasks s (script_of script)).shared.unsaved
-  pub views : AreBeside (told_more around' (told_all s (script_of script))) (after_all tasks s (script_of script))
+  pub enough : script_len d.clients.tagged script ≤ length front
+  pub no_further : length front ≤ script_len d.clients.tagged script + 32768
+  pub files : AreLeft around'.seen (after_all desks d (script_of d.clients.tagged script)).shared.carried (after_all desks d (script_of d.clients.tagged script)).shared.unsaved
+  pub views : AreBeside (told_more around' (told_all d (script_of d.clients.tagged script))) (after_all desks d (script_of d.clients.tagged script))
 
--- What is known of the command that a status breaks off: the files fail only at one that uses them, and told files never change.
-abbrev pub BrokenBy : Status → Task → Type 0
-BrokenBy ReadFault next = ⊤
-BrokenBy WriteFault next = ⊤
-BrokenBy FilesFault next = IsTrue (task_work next).files
-BrokenBy InputTooLong next = ⊤
-BrokenBy Memory next = ⊤
-BrokenBy _ next = ⊥
+-- What is known of the line that a status breaks off: the files fail only at one that uses them, and told files never change.
+abbrev pub BrokenBy : Status → Desk → Tagged → Type 0
+BrokenBy ReadFault d next = ⊤
+BrokenBy WriteFault d next = ⊤
+BrokenBy FilesFault d next = IsTrue (order_work all_slots (effective d.clients next.client next.task.order) next.task.body).files
+BrokenBy InputTooLong d next = ⊤
+BrokenBy Memory d next = ⊤
+BrokenBy _ d next = ⊥
 
--- The same, with what remains then of the files and the views. Of a command that leaves a base in the place of the files nothing was written
--- behind what was told, or they carry what the state behind it says.
-pub record Breaks (status : Status) (around' : Around) (told' : Option (List ℕ)) (s : State) (next : Task) (told : Option (List ℕ)) : Type 0 where
-  pub broken : BrokenBy status next
-  pub remains : Remains around' s next.order
-  pub settled : SettledTask around'.seen s next told told'
+-- The same, with what remains then of the files and the views. Of a line that leaves a base in the place of the files nothing was written
+-- behind what was told, or they carry what the desk behind it says.
+pub record Breaks (status : Status) (around' : Around) (told' : Option (List ℕ)) (d : Desk) (next : Tagged) (told : Option (List ℕ)) : Type 0 where
+  pub broken : BrokenBy status d next
+  pub remains : Remains around' d (its_line next)
+  pub settled : SettledLine around'.seen d next told told'
 
--- The commands that are done at a fault of the input are those whose lines were read with their line feed; at a script that is too long
--- those whose lines end within the limit.
-abbrev pub LinesDone : Status → List ℕ → Option (List ℕ) → List Task → Type 0
-LinesDone ReadFault script later done = (front : List ℕ) × (Some script ≡ before front later) × (done ≡ whole_lines front)
-LinesDone InputTooLong script later done = (longest_script < script_len script) × (done ≡ whole_lines (take longest_script script))
-LinesDone _ script later done = ⊤
+-- The lines that are done at a fault of the input are those that were read with their line feed; at a script that is too long those that end
+-- within the limit. Their clients are four at a desk.
+abbrev pub LinesDone : Status → Bool → List ℕ → Option (List ℕ) → List Tagged → Type 0
+LinesDone ReadFault desk script later done = (front : List ℕ) × (Some script ≡ before front later) × (done ≡ whole_lines desk front)
+LinesDone InputTooLong desk script later done = (longest_script < script_len desk script) × (done ≡ whole_lines desk (take longest_script script))
+LinesDone _ desk script later done = ⊤
 
--- The run stopped in the command `next`: the texts of those before it are written, and of its own a front part, which may be empty.
-pub record RanPart (status : Status) (s : State) (script : List ℕ) (told : Option (List ℕ)) (told' : Option (List ℕ)) (later : Option (List ℕ)) (around' : Around) : Type 0 where
-  pub done : List Task
-  pub next : Task
-  pub left : List Task
-  pub all : script_of script ≡ done ++ next ∷ left
-  pub wrote : Halted (run tasks s done) (run tasks s done ++ tasks.text (after_all tasks s done) next) told told'
-  pub broken : Breaks status around' told' (after_all tasks s done) next (adds told (run tasks s done))
-  pub lines : LinesDone status script later done
+-- The run stopped in the line `next`: the texts of those before it are written, and of its own a front part, which may be empty.
+pub record RanPart (status : Status) (d : Desk) (script : List ℕ) (told : Option (List ℕ)) (told' : Option (List ℕ)) (later : Option (List ℕ)) (around' : Around) : Type 0 where
+  pub done : List Tagged
+  pub next : Tagged
+  pub left : List Tagged
+  pub all : script_of d.clients.tagged script ≡ done ++ next ∷ left
+  pub wrote : Halted (run desks d done) (run desks d done ++ desks.text (after_all desks d done) next) told told'
+  pub broken : Breaks status around' told' (after_all desks d done) next (adds told (run desks d done))
+  pub lines : LinesDone status d.clients.tagged script later done
 
 -- ---- the answers
 
@@ -155,7 +156,7 @@ pub record ScriptCut (status : Status) (given : Given) (told : Option (List ℕ)
   pub opened : Opened given base mended
   pub ran : RanPart status (begun given base mended opened) given.script (adds told (opening_line base mended)) told' later around'
 
--- The whole text was written: the opening line, and then what the plain machine makes of the script.
+-- The whole text was written: the opening line, and then what the plain machine of the desk makes of the script.
 pub record Whole (given : Given) (told : Option (List ℕ)) (told' : Option (List ℕ)) (later : Option (List ℕ)) (around' : Around) : Type 0 where
   pub base : Base
   pub mended : ℕ
@@ -182,8 +183,8 @@ pub record Opens (given : Given) : Type 0 where
 
 -- The status where no device has a fault and memory does not run out.
 abbrev pub Due : Given → Status → Type 0
-Due given Done = Opens given × (script_len given.script ≤ longest_script)
-Due given InputTooLong = Opens given × (longest_script < script_len given.script)
+Due given Done = (opens : Opens given) × (script_len opens.opened.wanted.desk given.script ≤ longest_script)
+Due given InputTooLong = (opens : Opens given) × (longest_script < script_len opens.opened.wanted.desk given.script)
 Due given (BadBase fault) = Faulty given fault
 Due given Usage = words_read given.words ≡ None
 Due given _ = ⊥
@@ -191,13 +192,13 @@ Due given _ = ⊥
 -- ---- bytes asked of the games file
 
 -- What some lines ask at most, one after the other.
-abbrev pub price_all : State → List Task → ℕ
-price_all s [] = 0
-price_all s (next ∷ later) = order_price s next.order + price_all (tasks.after s next) later
+abbrev pub price_all : Desk → List Tagged → ℕ
+price_all d [] = 0
+price_all d (next ∷ later) = line_price d (its_line next) + price_all (desks.after d next) later
 
 -- A session asks at most the records of all games, to open the base, and where it is open what the lines of its script ask.
 abbrev pub Asks : Given → ℕ → ℕ → Type 0
-Asks given old new = (new ≤ old + open_cost given.index) ⊎ ((opens : Opens given) × (new ≤ old + (open_cost given.index + price_all (begun given opens.base opens.mended opens.opened) (script_of given.script))))
+Asks given old new = (new ≤ old + open_cost given.index) ⊎ ((opens : Opens given) × (new ≤ old + (open_cost given.index + price_all (begun given opens.base opens.mended opens.opened) (script_of opens.opened.wanted.desk given.script))))
 
 -- ---- causes, for every files, input and output
 

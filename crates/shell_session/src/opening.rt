@@ -7,7 +7,8 @@ ghost use Rattle.base_files.specs.Told.{adds};
 ghost use Rattle.base_core.specs.Opening.{IfTold, open_cost};
 ghost use Rattle.command_runs.specs.Counts.{Causes, Why, counts};
 ghost use Rattle.command_runs.specs.Endings.{Halted};
-ghost use Rattle.shell_state.specs.Stands.{Sound};
+ghost use Rattle.desk_commands.specs.Standing.{DeskSound};
+ghost use Rattle.script_lines.specs.Clients.{new_clients};
 ghost use Rattle.shell_session.specs.Running.{Opening, OpeningRefused};
 ghost use Rattle.shell_session.specs.Session.{opening_text, opening_words};
 
@@ -16,21 +17,23 @@ use crate::words::Wanted;
 use base_core::Base;
 use base_files::{Files, Sink, Stop};
 use command_runs::write_text;
-use shell_state::Machine;
+use desk_commands::Desk;
+use script_lines::Clients;
 use std::alloc::{AllocError, Global};
 
 /// How long a record may be, and one byte more.
 const BLOCK: usize = 131_072;
 
-/// Chooses and opens the base that the words name, and tells how many of its entries were mended.
+/// Chooses and opens the base that the words name, for the clients that they ask for, and tells how many of its entries were mended.
 pub(crate) fn open<F: Files>(
     alloc: Global,
     files: &mut F,
     wanted: &Wanted,
-) -> Result<(Machine, u32), Status>
-    ensures opens { IfOk result (λ opened. IfTold (F.seen files.old) (λ index names games. Opening wanted.now.create wanted.now.strict index names games opened.0 (F.seen files.new) opened.1)) }
+) -> Result<(Desk, u32), Status>
+    ensures opens { IfOk result (λ opened. IfTold (F.seen files.old) (λ index names games. Opening wanted.now.create wanted.now.strict wanted.now.desk index names games opened.0 (F.seen files.new) opened.1)) }
     ensures refused { IfErr result (OpeningRefused wanted.now.create wanted.now.strict (F.seen files.old)) }
-    ensures sound { IfOk result (λ opened. Sound opened.0 (F.seen files.new)) }
+    ensures sound { IfOk result (λ opened. DeskSound opened.0 (F.seen files.new)) }
+    ensures fresh { IfOk result (λ opened. opened.0.clients ≡ new_clients opened.0.clients.tagged) }
     ensures chosen { OnOk result ((F.seen files.new).choices ≡ (F.seen files.old).choices ++ choice wanted.now.name.now wanted.now.create ∷ []) }
     ensures chosen_in_vain { IfErr result (λ status. ((status ≡ Status.Memory) × ((F.seen files.new).choices ≡ (F.seen files.old).choices)) ⊎ ((F.seen files.new).choices ≡ (F.seen files.old).choices ++ choice wanted.now.name.now wanted.now.create ∷ [])) }
     ensures contents { SameContents (F.seen files.old) (F.seen files.new) }
@@ -55,8 +58,8 @@ pub(crate) fn open<F: Files>(
         Ok(opened) => opened,
         Err(error) => return Err(Status::from(error)),
     };
-    match Machine::new(alloc, base, block) {
-        Ok(machine) => Ok((machine, mended)),
+    match Desk::new(alloc, base, block, Clients::new(wanted.desk)) {
+        Ok(desk) => Ok((desk, mended)),
         Err(_) => Err(Status::Memory),
     }
 }

@@ -18,10 +18,11 @@ use tree_live::TreeView;
 
 /// Runs the script of the input over the base that the words name, and writes its text.
 ///
-/// The words are one base name and the options `--create` and `--strict`, each at most once, in any order. The text is a line
-/// `base G games M mended`, and then the texts of the script's commands, one a line, up to `quit` or the end of the input. The slots of the
-/// script are the views, where they stand; a view is told the rows of the tree that its slot shows, and dropped where the slot shows none any
-/// more.
+/// The words are `[--create] [--strict] [--desk] BASE`, each option at most once, in any order. The text is a line `base G games M mended`,
+/// and then the texts of the script's commands, one a line, up to `quit` or the end of the input. With `--desk` four clients say the script,
+/// whose lines begin `@0 `, `@1 `, `@2 ` or `@3 `: each has filters of his own and the two slots from twice his number on, and his texts stand
+/// behind his tag; `quit` ends its client alone, and the script ends with the last of them. The slots of the script are the views, where they
+/// stand; a view is told the rows of the tree that its slot shows, and dropped where the slot shows none any more.
 pub fn session<F: Files, S: Source, K: Sink>(
     alloc: Global,
     words: &[String],
@@ -73,14 +74,14 @@ pub fn session<F: Files, S: Source, K: Sink>(
     let Some(wanted) = words_read(words) else {
         return Status::Usage;
     };
-    let (mut machine, mended) = match open(alloc, files, &wanted) {
+    let (mut desk, mended) = match open(alloc, files, &wanted) {
         Ok(opened) => opened,
         Err(status) => return status,
     };
-    if let Err(stop) = write_opening(alloc, machine.games(), mended, out) {
+    if let Err(stop) = write_opening(alloc, desk.games(), mended, out) {
         return Status::from(stop);
     }
-    match run_script(alloc, &mut machine, views.as_mut_slice(), files, input, out) {
+    match run_script(alloc, &mut desk, views.as_mut_slice(), files, input, out) {
         Ok(()) => Status::Done,
         Err(status) => status,
     }

@@ -16,7 +16,7 @@ use std::alloc::AllocError;
 pub enum Status {
     /// The script was run to its end, and its text is written.
     Done,
-    /// The words are not one base name and the options `--create` and `--strict`, each at most once.
+    /// The words are not one base name and the options `--create`, `--strict` and `--desk`, each at most once.
     Usage,
     /// The files of the base have this first fault.
     BadBase(BaseFault),
@@ -32,7 +32,7 @@ pub enum Status {
         kept: Sig,
         found: Option<Sig>,
     },
-    /// The script has more than 1,073,741,824 bytes, up to and with the line of its first `quit`.
+    /// The script has more than 1,073,741,824 bytes, up to and with the line of the `quit` by which its last client ends.
     InputTooLong,
     /// Memory ran out.
     Memory,

@@ -11,6 +11,8 @@ pub(crate) struct Wanted<'a> {
     pub(crate) create: bool,
     /// Derived fields count at opening.
     pub(crate) strict: bool,
+    /// The script is said at a desk of four clients.
+    pub(crate) desk: bool,
 }
 
 // What some words have said so far.
@@ -19,17 +21,19 @@ struct Said<'a> {
     base: Option<&'a str>,
     create: bool,
     strict: bool,
+    desk: bool,
 }
 
-/// What the words ask for, where they are one base name and the options `--create` and `--strict`, each at most once.
+/// What the words ask for, where they are one base name and the options `--create`, `--strict` and `--desk`, each at most once.
 #[tactic(auto, unfolding(crate::specs::Words::words_read))]
 pub(crate) fn words_read(words: &[String]) -> Option<Wanted<'_>>
-    ensures read { option_map (λ w. record { name = w.name.now; create = w.create; strict = w.strict }) result ≡ words_read (map string_bytes words.now) }
+    ensures read { option_map (λ w. record { name = w.name.now; create = w.create; strict = w.strict; desk = w.desk }) result ≡ words_read (map string_bytes words.now) }
 {
     let mut said = Said {
         base: None,
         create: false,
         strict: false,
+        desk: false,
     };
     for word in words {
         said = with_word(said, word.as_str())?;
@@ -38,12 +42,13 @@ pub(crate) fn words_read(words: &[String]) -> Option<Wanted<'_>>
         name: said.base?,
         create: said.create,
         strict: said.strict,
+        desk: said.desk,
     })
 }
 
 // What was said with one word more.
 fn with_word<'a>(said: Said<'a>, word: &'a str) -> Option<Said<'a>>
-    ensures said { option_map (λ s. record { base = option_map (λ name. name.now) s.base; create = s.create; strict = s.strict }) result ≡ with_word (record { base = option_map (λ name. name.now) said.entry.base; create = said.entry.create; strict = said.entry.strict }) word.now }
+    ensures said { option_map (λ s. record { base = option_map (λ name. name.now) s.base; create = s.create; strict = s.strict; desk = s.desk }) result ≡ with_word (record { base = option_map (λ name. name.now) said.entry.base; create = said.entry.create; strict = said.entry.strict; desk = said.entry.desk }) word.now }
 {
     if word == "--create" {
         return (!said.create).then_some(Said {
@@ -56,6 +61,9 @@ fn with_word<'a>(said: Said<'a>, word: &'a str) -> Option<Said<'a>>
             strict: true,
             ..said
         });
+    }
+    if word == "--desk" {
+        return (!said.desk).then_some(Said { desk: true, ..said });
     }
     if said.base.is_some() || !is_base_name(word) {
         return None;

@@ -1,8 +1,8 @@
 -- What watches keep of the games of a state.
-use Rattle.std.proofs.Common.{◌≡◌, ℕ, zero, suc, false, List, [], ◌∷◌, ◌++◌, length, map, Option, Some, None, option_map, refl, sym, subst, ap, ap₂, ◌∙◌, arith}
+use Rattle.std.proofs.Common.{◌≡◌, ℕ, zero, suc, Bool, true, false, List, [], ◌∷◌, ◌++◌, length, map, Option, Some, None, option_map, refl, sym, subst, ap, ap₂, ◌∙◌, arith}
 use Rattle.std.proofs.lemmas.List.{length-map, map-set}
 use Rattle.std.proofs.lemmas.Option.{same_Some}
-use Rattle.std.specs.Prelude.{IfSome, option_to_list, slice_set}
+use Rattle.std.specs.Prelude.{if◌then◌else◌, IfSome, option_to_list, slice_set}
 use Rattle.base_core.specs.Base.{Held}
 use Rattle.cell_core.specs.Packed.{Packed}
 use Rattle.search_commands.specs.Trees.{listed_hit, tree_hits}
@@ -69,16 +69,17 @@ under_count (ply ∷ plies) (hit ∷ hits) count = ap suc (under_count plies hit
 abbrev pub filtered : Plies → Watched → Watched
 filtered plies watch = record watch { games = under plies watch.games }
 
-table_stays : (plies : Plies) (watch : Option Watched) → option_map table_in (option_map (filtered plies) watch) ≡ option_map table_in watch
-table_stays plies None = refl
-table_stays plies (Some watch) = ap (λ (hits : List (Option GameHit)). Some (record { board = watch.board; hits = hits })) (hits_kept plies watch.games)
+table_stays : (plies : Plies) (filters : Bool) (watch : Option Watched) → option_map table_in (option_map (λ (x : Watched). if filters then filtered plies x else x) watch) ≡ option_map table_in watch
+table_stays plies filters None = refl
+table_stays plies true (Some watch) = ap (λ (hits : List (Option GameHit)). Some (record { board = watch.board; hits = hits })) (hits_kept plies watch.games)
+table_stays plies false (Some watch) = refl
 
--- A filter leaves the tables.
-pub tables_stay : (plies : Plies) (watches watches' : List (Option Watched)) → length watches' ≡ length watches → ((k : ℕ) → in_slot watches' k ≡ option_map (filtered plies) (in_slot watches k))
-    → tables_in watches' ≡ tables_in watches
-tables_stay plies watches watches' count changed =
+-- A filter leaves the tables, of whichever watches.
+pub tables_stay : (among : ℕ → Bool) (plies : Plies) (watches watches' : List (Option Watched)) → length watches' ≡ length watches
+    → ((k : ℕ) → in_slot watches' k ≡ option_map (λ (x : Watched). if among k then filtered plies x else x) (in_slot watches k)) → tables_in watches' ≡ tables_in watches
+tables_stay among plies watches watches' count changed =
     same_slots (tables_in watches') (tables_in watches) (length-map watches' (option_map table_in) ∙ count ∙ sym (length-map watches (option_map table_in)))
-    (λ k. in_mapped table_in watches' k ∙ ap (option_map table_in) (changed k) ∙ table_stays plies (in_slot watches k) ∙ sym (in_mapped table_in watches k))
+    (λ k. in_mapped table_in watches' k ∙ ap (option_map table_in) (changed k) ∙ table_stays plies (among k) (in_slot watches k) ∙ sym (in_mapped table_in watches k))
 
 -- The watches fit a filter where their tables fit the games.
 pub watches_fit : (watches : List (Option Watched)) (plies : Plies) (games : ℕ) → length plies ≡ games

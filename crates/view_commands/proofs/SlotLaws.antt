@@ -1,6 +1,6 @@
 -- States with another slot, and the views beside them.
 use Rattle.std.proofs.Common.{◌≡◌, ℕ, zero, suc, ◌+◌, ◌<◌, ◌≤◌, ◌==◌, Bool, true, false, nat_lt, List, [], ◌∷◌, length, map, codes, Option, Some, None, option_map, refl, sym, subst, ap, ap₂, ◌∙◌, arith, Result, Ok, Err, inl, inr}
-use Rattle.std.proofs.lemmas.Bool.{and_parts, cases_lt, eqb-true, eqb-false, lt-ltb, ltb-true}
+use Rattle.std.proofs.lemmas.Bool.{and_parts, cases_lt, eqb-true, eqb-false, le-leb, lt-ltb, ltb-false, ltb-true}
 use Rattle.std.proofs.lemmas.List.{get_or_past, get_or-set_same, get_or-set_other}
 use Rattle.std.specs.Prelude.{IfSome, IsSome, OnOk, is_some, if◌then◌else◌, slice_set, ◌&&◌}
 use Rattle.base_core.specs.Represents.{Kept}
@@ -25,7 +25,8 @@ use Rattle.tree_rows.specs.Rows.{rows_of}
 use Rattle.tree_rows.specs.declared.hit.GameHit.{GameHit}
 use Rattle.tree_rows.specs.declared.row.Row.{Row}
 use Rattle.view_commands.specs.Reading.{ShowsIn}
-use Rattle.view_commands.specs.Views.{AreRight, AreToldAtMost, IsRight, IsToldAtMost, changes_of, is_shown, left, no_view_line, shown_hits, showing, unwatch_line, view_text, watch_line, with_slot}
+use Rattle.view_commands.specs.Views.{AreLeft, AreRight, AreToldAtMost, IsRight, IsToldAtMost, changes_of, is_own, is_shown, left, no_view_line, own_slot, shown_hits, showing, unwatch_line, unwatch_work, view_text, watch_line, watch_work, with_slot}
+use Rattle.view_commands.specs.declared.window.Window.{Window}
 use Rattle.view_commands.proofs.HitLaws.{IsWatchOf, Plies, filtered, new_watch, tables_with_slot, under_count, watch_hits}
 
 -- ---- what calls answer
@@ -38,31 +39,31 @@ pub ok_both : {A E : Type 0} (P Q R : Type 0) (r : Result A E) → (P → Q → 
 ok_both P Q R (Ok x) f p q = f p q
 ok_both P Q R (Err e) f p q = tt
 
+-- ---- slots that are a user's own
+
+pub within_own : (w : Window) (i : ℕ) → w.first ≤ i → i < w.first + w.count → is_own w i ≡ true
+within_own w i from below = rw (le-leb w.first i from, lt-ltb i (w.first + w.count) below) refl
+
 -- ---- the slot of a number
 
--- The slot that a number names is the one of that number, or the ninth.
-pub record IsSlotOf (number k : ℕ) : Type 0 where
-  pub slot : number < 8 → k ≡ number
-  pub past : 8 ≤ number → k ≡ 8
+-- The slot that a user's number names is the one of that number among his own, or the ninth.
+pub record IsSlotOf (w : Window) (number k : ℕ) : Type 0 where
+  pub room : w.first + w.count ≤ 8
+  pub slot : number < w.count → k ≡ w.first + number
+  pub past : w.count ≤ number → k ≡ 8
 
-pub slot_is : (number k : ℕ) → IsSlotOf number k → k < 8 → k ≡ number
-slot_is number k of below = elim (cases_lt number 8) [
-  | inl less ↦ of.slot less
+pub slot_counts : (w : Window) (number k : ℕ) → IsSlotOf w number k → k < 8 → number < w.count
+slot_counts w number k of below = elim (cases_lt number w.count) [
+  | inl less ↦ less
   | inr past ↦ absurd (omega (arith, below, of.past past))
 ]
 
-pub in_slot_of : {T : Type 0} (list : List (Option T)) (number k : ℕ) → IsSlotOf number k → length list ≡ 8 → in_slot list k ≡ in_slot list number
-in_slot_of list number k of eight = elim (cases_lt number 8) [
-  | inl less ↦ ap (in_slot list) (of.slot less)
-  | inr past ↦ get_or_past list k None (omega (arith, eight, of.past past)) ∙ sym (get_or_past list number None (omega (arith, eight, past)))
-]
-
--- Where something stands in the slot it is one of the eight.
-pub in_slot_below : {T : Type 0} (list : List (Option T)) (k : ℕ) (x : T) → length list ≡ 8 → in_slot list k ≡ Some x → k < 8
-in_slot_below list k x eight is = elim (cases_lt k 8) [
-  | inl less ↦ less
-  | inr past ↦ absurd (cc (is, get_or_past list k None (omega (arith, eight, past))))
-]
+-- Where it is one of the eight it is his own.
+pub slot_own : (w : Window) (number k : ℕ) → IsSlotOf w number k → k < 8 → is_own w k ≡ true
+slot_own w number k of below =
+    let less = slot_counts w number k of below in
+    let is = of.slot less in
+    within_own w k (omega (arith, is)) (omega (arith, is, less))
 
 -- ---- lists of slots of which one is another
 
@@ -76,23 +77,47 @@ set_empty [] k = refl
 set_empty (slot ∷ slots) zero = refl
 set_empty (slot ∷ slots) (suc k) = set_empty slots k
 
+set_past : (slots : List Slot) (k : ℕ) (slot : Slot) → length slots ≤ k → slice_set slots k slot ≡ slots
+set_past [] k slot past = refl
+set_past (other ∷ slots) zero slot past = absurd (omega (arith, past))
+set_past (other ∷ slots) (suc k) slot past = ap (λ (l : List Slot). other ∷ l) (set_past slots k slot (omega (arith, past)))
+
+-- The state with another slot of a number among all.
+abbrev pub slotted : State → ℕ → Slot → State
+slotted s k slot = record s { slots = slice_set s.slots k slot }
+
+-- What a user's number names.
+pub own_is : (w : Window) (s : State) (number k : ℕ) → IsSlotOf w number k → length s.slots ≡ 8 → own_slot w s number ≡ slot_at s.slots k
+own_is w s number k of eight = by (nat_lt number w.count) refl
+  where
+    by : (b : Bool) → nat_lt number w.count ≡ b → (if b then slot_at s.slots (w.first + number) else empty) ≡ slot_at s.slots k
+    by true e = ap (slot_at s.slots) (sym (of.slot (ltb-true number w.count e)))
+    by false e = sym (get_or_past s.slots k empty (omega (arith, eight, of.past (ltb-false number w.count e))))
+
+pub with_is : (w : Window) (s : State) (number k : ℕ) (slot : Slot) → IsSlotOf w number k → length s.slots ≡ 8 → with_slot w s number slot ≡ slotted s k slot
+with_is w s number k slot of eight = by (nat_lt number w.count) refl
+  where
+    by : (b : Bool) → nat_lt number w.count ≡ b → (if b then record s { slots = slice_set s.slots (w.first + number) slot } else s) ≡ slotted s k slot
+    by true e = ap (λ (n : ℕ). slotted s n slot) (sym (of.slot (ltb-true number w.count e)))
+    by false e = ap (λ (slots : List Slot). record s { slots = slots }) (sym (set_past s.slots k slot (omega (arith, eight, of.past (ltb-false number w.count e)))))
+
 -- A state whose slot stays is the same.
-pub same_state : (s : State) (k : ℕ) (slot : Slot) → slot ≡ slot_at s.slots k → with_slot s k slot ≡ s
+pub same_state : (s : State) (k : ℕ) (slot : Slot) → slot ≡ slot_at s.slots k → slotted s k slot ≡ s
 same_state s k slot same =
     ap (λ (slots : List Slot). record s { slots = slots }) (ap (slice_set s.slots k) same ∙ set_same s.slots k)
 
-pub stays_right : {B : Type 0} (rows : B → List Row) (s : State) (k : ℕ) (slot : Slot) (views views' : List (Option B)) → slot ≡ slot_at s.slots k → views' ≡ views → AreRight rows s views
-    → AreRight rows (with_slot s k slot) views'
-stays_right rows s k slot views views' same stay right =
-    subst (λ (t : State). AreRight rows t views') (sym (same_state s k slot same)) (subst (AreRight rows s) (sym stay) right)
+pub stays_right : {B : Type 0} (rows : B → List Row) (w : Window) (s : State) (k : ℕ) (slot : Slot) (views views' : List (Option B)) → slot ≡ slot_at s.slots k → views' ≡ views → AreRight rows w s views
+    → AreRight rows w (slotted s k slot) views'
+stays_right rows w s k slot views views' same stay right =
+    subst (λ (t : State). AreRight rows w t views') (sym (same_state s k slot same)) (subst (AreRight rows w s) (sym stay) right)
 
-pub stays_standing : (holding : Holding) (seen : Seen) (s : State) (k : ℕ) (slot : Slot) → slot ≡ slot_at s.slots k → Stands holding seen s → Stands holding seen (with_slot s k slot)
+pub stays_standing : (holding : Holding) (seen : Seen) (s : State) (k : ℕ) (slot : Slot) → slot ≡ slot_at s.slots k → Stands holding seen s → Stands holding seen (slotted s k slot)
 stays_standing holding seen s k slot same st = subst (Stands holding seen) (sym (same_state s k slot same)) st
 
 -- A machine whose tables are those of the other slots stands for the state with them.
 pub slot_stands : (kept : Kept) (index : Option Index) (watches watches' : List (Option Watched)) (filter : Plies) (saved : List SavedFilter) (seen : Seen) (s : State) (k : ℕ) (slot : Slot)
     → Stands (held_by kept (tables_with index watches) filter saved) seen s → tables_in watches' ≡ tables_of s.shared.base.games (slice_set s.slots k slot)
-    → Stands (held_by kept (tables_with index watches') filter saved) seen (with_slot s k slot)
+    → Stands (held_by kept (tables_with index watches') filter saved) seen (slotted s k slot)
 slot_stands kept index watches watches' filter saved seen s k slot st tables = record {
   games = st.games;
   told = st.told;
@@ -116,11 +141,15 @@ right_with rows s slots idle view right = right
 right_with rows s slots (shows board) None right = right
 right_with rows s slots (shows board) (Some view) right = right
 
+-- So it is beside the same state.
+pub right_behind : {B : Type 0} (rows : B → List Row) (w : Window) (s s' : State) (views : List (Option B)) → s ≡ s' → AreRight rows w s' views → AreRight rows w s views
+right_behind rows w s s' views same right = subst (λ (t : State). AreRight rows w t views) (sym same) right
+
 -- Views of which one is another are right beside the state with another slot.
-pub right_beside : {B : Type 0} (rows : B → List Row) (s : State) (k : ℕ) (slot : Slot) (views views' : List (Option B)) → AreRight rows s views
+pub right_beside : {B : Type 0} (rows : B → List Row) (w : Window) (s : State) (k : ℕ) (slot : Slot) (views views' : List (Option B)) → AreRight rows w s views
     → slot_at (slice_set s.slots k slot) k ≡ slot → IsRight rows s slot (in_slot views' k) → ((i : ℕ) → (i ≡ k → ⊥) → in_slot views' i ≡ in_slot views i)
-    → AreRight rows (with_slot s k slot) views'
-right_beside rows s k slot views views' right here own others j = right_with rows s slots (slot_at slots j) (in_slot views' j) (by (j == k) refl)
+    → AreRight rows w (slotted s k slot) views'
+right_beside rows w s k slot views views' right here own others j mine = right_with rows s slots (slot_at slots j) (in_slot views' j) (by (j == k) refl)
   where
     slots : List Slot
     slots = slice_set s.slots k slot
@@ -132,7 +161,7 @@ right_beside rows s k slot views views' right here own others j = right_with row
     by false e =
         let other : j ≡ k → ⊥ = eqb-false j k e in
         subst (λ (x : Slot). IsRight rows s x (in_slot views' j)) (sym (get_or-set_other s.slots k j slot empty other))
-        (subst (IsRight rows s (slot_at s.slots j)) (sym (others j other)) (right j))
+        (subst (IsRight rows s (slot_at s.slots j)) (sym (others j other)) (right j mine))
 
 -- ---- views that are shown what differs
 
@@ -167,39 +196,55 @@ shown_told rows told plies earlier s (shows board) (Some watch) (Some before) (S
     subst (λ (hits : List GameHit). told after ≤ told before + rows_changed (rows_of (shown_hits earlier board)) (rows_of hits)) (watch_hits s board plies watch is same fits)
     (tells (shown_hits earlier board) right)
 
--- Slots, the first of which is the first view, and what was told to their views.
-module _ {B : Type 0} (rows : B → List Row) (told : B → ℕ) (plies : Plies) (s : State) (slots : Slotted) (views views' : List (Option B)) (first : slots.first ≡ 0)
-    (tells : AreToldRows rows told (filtered plies) slots views views') where
-  tells_at : (k : ℕ) → IsToldRows rows told (option_map (λ (w : Watched). rows_in (filtered plies w)) (in_slot slots.watches k)) (in_slot views k) (in_slot views' k)
-  tells_at k =
+-- Slots, the first of which is the first view, and what was told to the views of a user's own.
+module _ {B : Type 0} (rows : B → List Row) (told : B → ℕ) (w : Window) (plies : Plies) (slots : Slotted) (views views' : List (Option B)) (first : slots.first ≡ 0)
+    (tells : AreToldRows rows told (is_own w) (filtered plies) slots views views') where
+  tells_at : (k : ℕ) (own : Bool) → is_own w k ≡ own
+      → IsToldRows rows told (if own then option_map (λ (x : Watched). rows_in (filtered plies x)) (in_slot slots.watches k) else None) (in_slot views k) (in_slot views' k)
+  tells_at k own is =
       let at : slots.first + k ≡ k = omega (arith, first) in
-      subst (λ (n : ℕ). IsToldRows rows told (option_map (λ (w : Watched). rows_in (filtered plies w)) (in_slot slots.watches k)) (in_slot views n) (in_slot views' n)) at (tells.views k)
+      let P : Bool → Type 0 = λ b. IsToldRows rows told (if b then option_map (λ (x : Watched). rows_in (filtered plies x)) (in_slot slots.watches k) else None) (in_slot views k) (in_slot views' k) in
+      subst P is
+      (subst (λ (n : ℕ). IsToldRows rows told (if is_own w k then option_map (λ (x : Watched). rows_in (filtered plies x)) (in_slot slots.watches k) else None) (in_slot views n) (in_slot views' n)) at (tells.views k))
 
-  pub views_right : (slots' : Slotted) (earlier : State) → slots'.first ≡ 0 → ((k : ℕ) → IsWatchOf s (slot_at s.slots k) (in_slot slots.watches k)) → plies ≡ s.seat.filter
-      → ((k : ℕ) → IfSome (in_slot slots.watches k) (λ (w : Watched). length plies ≡ length w.games)) → s.slots ≡ earlier.slots → AreRight rows earlier views
-      → AreChanged (λ k. filtered plies) slots slots' → AreShownIf rows slots' views' → AreRight rows s views'
-  views_right slots' earlier first' is same fits one right changed shown k =
+  pub views_right : (s : State) (slots' : Slotted) (earlier : State) → slots'.first ≡ 0 → ((k : ℕ) → IsWatchOf s (slot_at s.slots k) (in_slot slots.watches k)) → plies ≡ s.seat.filter
+      → ((k : ℕ) → IfSome (in_slot slots.watches k) (λ (x : Watched). length plies ≡ length x.games)) → s.slots ≡ earlier.slots → AreRight rows w earlier views
+      → AreChanged (λ k x. if is_own w k then filtered plies x else x) slots slots' → AreShownIf rows (is_own w) slots' views' → AreRight rows w s views'
+  views_right s slots' earlier first' is same fits one right changed shown k own =
       let at : slots'.first + k ≡ k = omega (arith, first') in
+      let P : Bool → Type 0 = λ b. in_slot slots'.watches k ≡ option_map (λ (x : Watched). if b then filtered plies x else x) (in_slot slots.watches k) in
+      let here : in_slot slots'.watches k ≡ option_map (filtered plies) (in_slot slots.watches k) = subst P own (changed k) in
       shown_right rows told plies earlier s (slot_at s.slots k) (in_slot slots.watches k) (in_slot views k) (in_slot views' k) (is k) same (fits k)
-      (subst (λ (l : List Slot). IsRight rows earlier (slot_at l k) (in_slot views k)) (sym one) (right k)) (tells_at k)
-      (subst (λ (w : Option Watched). IsShownIf rows w (in_slot views' k)) (changed k) (subst (λ (n : ℕ). IsShownIf rows (in_slot slots'.watches k) (in_slot views' n)) at (shown k)))
+      (subst (λ (l : List Slot). IsRight rows earlier (slot_at l k) (in_slot views k)) (sym one) (right k own)) (tells_at k true own)
+      (subst (λ (x : Option Watched). IsShownIf rows x (in_slot views' k)) here (subst (λ (n : ℕ). IsShownIf rows (in_slot slots'.watches k) (in_slot views' n)) at (shown k own)))
 
-  pub views_told : (earlier : State) → ((k : ℕ) → IsWatchOf s (slot_at s.slots k) (in_slot slots.watches k)) → plies ≡ s.seat.filter
-      → ((k : ℕ) → IfSome (in_slot slots.watches k) (λ (w : Watched). length plies ≡ length w.games)) → s.slots ≡ earlier.slots → AreRight rows earlier views
-      → AreToldAtMost told (λ k. changes_of earlier s (slot_at s.slots k)) views views'
-  views_told earlier is same fits one right k =
-      shown_told rows told plies earlier s (slot_at s.slots k) (in_slot slots.watches k) (in_slot views k) (in_slot views' k) (is k) same (fits k)
-      (subst (λ (l : List Slot). IsRight rows earlier (slot_at l k) (in_slot views k)) (sym one) (right k)) (tells_at k)
+  pub views_told : (s earlier : State) → ((k : ℕ) → IsWatchOf s (slot_at s.slots k) (in_slot slots.watches k)) → plies ≡ s.seat.filter
+      → ((k : ℕ) → IfSome (in_slot slots.watches k) (λ (x : Watched). length plies ≡ length x.games)) → s.slots ≡ earlier.slots → AreRight rows w earlier views
+      → AreToldAtMost told (λ i. if is_own w i then changes_of earlier s (slot_at s.slots i) else 0) views views'
+  views_told s earlier is same fits one right k = by (is_own w k) refl
+    where
+      by : (own : Bool) → is_own w k ≡ own → IsToldAtMost told (if own then changes_of earlier s (slot_at s.slots k) else 0) (in_slot views k) (in_slot views' k)
+      by true own =
+          shown_told rows told plies earlier s (slot_at s.slots k) (in_slot slots.watches k) (in_slot views k) (in_slot views' k) (is k) same (fits k)
+          (subst (λ (l : List Slot). IsRight rows earlier (slot_at l k) (in_slot views k)) (sym one) (right k own)) (tells_at k true own)
+      by false other = told_same told 0 (in_slot views k) (in_slot views' k) (tells_at k false other)
 
-  pub views_left : ((k : ℕ) → IsWatchOf s (slot_at s.slots k) (in_slot slots.watches k)) → (k : ℕ) → is_shown (slot_at s.slots k) ≡ false → in_slot views' k ≡ in_slot views k
-  views_left is k not = by (slot_at s.slots k) (in_slot slots.watches k) not (is k) (tells_at k)
+  pub views_others : (k : ℕ) → is_own w k ≡ false → in_slot views' k ≡ in_slot views k
+  views_others k other = tells_at k false other
+
+  pub views_left : (s : State) → ((k : ℕ) → IsWatchOf s (slot_at s.slots k) (in_slot slots.watches k)) → (k : ℕ) → (is_own w k && is_shown (slot_at s.slots k)) ≡ false → in_slot views' k ≡ in_slot views k
+  views_left s is k not = of_own (is_own w k) refl not
     where
       by : (slot : Slot) (watch : Option Watched) → is_shown slot ≡ false → IsWatchOf s slot watch
-          → IsToldRows rows told (option_map (λ (w : Watched). rows_in (filtered plies w)) watch) (in_slot views k) (in_slot views' k) → in_slot views' k ≡ in_slot views k
+          → IsToldRows rows told (option_map (λ (x : Watched). rows_in (filtered plies x)) watch) (in_slot views k) (in_slot views' k) → in_slot views' k ≡ in_slot views k
       by slot None not is tells = tells
       by empty (Some watch) not is tells = absurd (cc)
       by idle (Some watch) not is tells = absurd (cc)
       by (shows board) (Some watch) not is tells = absurd (cc)
+
+      of_own : (own : Bool) → is_own w k ≡ own → (own && is_shown (slot_at s.slots k)) ≡ false → in_slot views' k ≡ in_slot views k
+      of_own true own not = by (slot_at s.slots k) (in_slot slots.watches k) not (is k) (tells_at k true own)
+      of_own false other not = tells_at k false other
 
 -- ---- a slot by its watch
 
@@ -266,22 +311,33 @@ left_none s empty = refl
 left_none s idle = refl
 left_none s (shows board) = refl
 
-pub left_stands : (kept : Kept) (index : Option Index) (watches watches' : List (Option Watched)) (filter : Plies) (saved : List SavedFilter) (seen : Seen) (s : State) (number k : ℕ)
-    → Stands (held_by kept (tables_with index watches) filter saved) seen s → watches' ≡ slice_set watches k None → k ≡ number
-    → Stands (held_by kept (tables_with index watches') filter saved) seen (with_slot s number (left (slot_at s.slots number)))
-left_stands kept index watches watches' filter saved seen s number k st is same =
-    let slot : Slot = left (slot_at s.slots number) in
-    slot_stands kept index watches watches' filter saved seen s number slot st
-    (ap tables_in (is ∙ ap (λ (n : ℕ). slice_set watches n None) same)
-    ∙ tables_with_slot s watches number slot None (tables_of_slots kept index watches filter saved seen s st) (left_none s (slot_at s.slots number)))
+pub left_stands : (kept : Kept) (index : Option Index) (watches watches' : List (Option Watched)) (filter : Plies) (saved : List SavedFilter) (seen : Seen) (s : State) (k : ℕ)
+    → Stands (held_by kept (tables_with index watches) filter saved) seen s → watches' ≡ slice_set watches k None
+    → Stands (held_by kept (tables_with index watches') filter saved) seen (slotted s k (left (slot_at s.slots k)))
+left_stands kept index watches watches' filter saved seen s k st is =
+    let slot : Slot = left (slot_at s.slots k) in
+    slot_stands kept index watches watches' filter saved seen s k slot st
+    (ap tables_in is ∙ tables_with_slot s watches k slot None (tables_of_slots kept index watches filter saved seen s st) (left_none s (slot_at s.slots k)))
 
-pub left_right : {B : Type 0} (rows : B → List Row) (s : State) (number at : ℕ) (slot : Slot) (views views' : List (Option B)) → AreRight rows s views → slot ≡ empty → at ≡ number
-    → in_slot views' at ≡ None → ((i : ℕ) → (i ≡ at → ⊥) → in_slot views' i ≡ in_slot views i) → AreRight rows (with_slot s number slot) views'
-left_right rows s number at slot views views' right is same gone others =
-    right_beside rows s number slot views views' right
-    (subst (λ (x : Slot). slot_at (slice_set s.slots number x) number ≡ x) (sym is) (set_empty s.slots number))
-    (subst (λ (x : Slot). IsRight rows s x (in_slot views' number)) (sym is) (ap (in_slot views') (sym same) ∙ gone))
+pub left_right : {B : Type 0} (rows : B → List Row) (w : Window) (s : State) (k at : ℕ) (slot : Slot) (views views' : List (Option B)) → AreRight rows w s views → slot ≡ empty → at ≡ k
+    → in_slot views' at ≡ None → ((i : ℕ) → (i ≡ at → ⊥) → in_slot views' i ≡ in_slot views i) → AreRight rows w (slotted s k slot) views'
+left_right rows w s k at slot views views' right is same gone others =
+    right_beside rows w s k slot views views' right
+    (subst (λ (x : Slot). slot_at (slice_set s.slots k x) k ≡ x) (sym is) (set_empty s.slots k))
+    (subst (λ (x : Slot). IsRight rows s x (in_slot views' k)) (sym is) (ap (in_slot views') (sym same) ∙ gone))
     (λ i other. others i (λ e. other (e ∙ same)))
+
+pub unwatch_is : (w : Window) (s : State) (number k : ℕ) → IsSlotOf w number k → length s.slots ≡ 8 → (unwatch_work w number).after s ≡ slotted s k (left (slot_at s.slots k))
+unwatch_is w s number k of eight =
+    ap (λ (x : Slot). with_slot w s number (left x)) (own_is w s number k of eight) ∙ with_is w s number k (left (slot_at s.slots k)) of eight
+
+-- The slot that is left showed a tree, and is his own.
+pub shown_own : (w : Window) (s : State) (k j : ℕ) → is_own w k ≡ true → is_shown (slot_at s.slots k) ≡ true → j ≡ k → (is_own w j && is_shown (slot_at s.slots j)) ≡ false → ⊥
+shown_own w s k j own shown here not =
+    let mine : is_own w j ≡ true = ap (is_own w) here ∙ own in
+    let yes : is_shown (slot_at s.slots j) ≡ true = ap (λ (n : ℕ). is_shown (slot_at s.slots n)) here ∙ shown in
+    let no : is_shown (slot_at s.slots j) ≡ false = rw mine at not in
+    absurd (cc (yes, no))
 
 -- ---- `view`
 
@@ -294,26 +350,22 @@ view_shows : {B : Type 0} (rows : B → List Row) (s : State) (board : Packed) (
 view_shows rows s board None right = right
 view_shows rows s board (Some view) right = right
 
-pub right_shown : {B : Type 0} (rows : B → List Row) (s : State) (board : Packed) (number k : ℕ) (slot : Slot) (views : List (Option B)) → IsRight rows s slot (in_slot views number)
-    → slot ≡ shows board → k ≡ number → ShowsIn rows (shown_hits s board) (in_slot views k)
-right_shown rows s board number k slot views right is same =
-    subst (λ (n : ℕ). ShowsIn rows (shown_hits s board) (in_slot views n)) (sym same)
-    (view_shows rows s board (in_slot views number) (subst (λ (x : Slot). IsRight rows s x (in_slot views number)) is right))
+pub right_shown : {B : Type 0} (rows : B → List Row) (s : State) (board : Packed) (slot : Slot) (view : Option B) → IsRight rows s slot view → slot ≡ shows board → ShowsIn rows (shown_hits s board) view
+right_shown rows s board slot view right is = view_shows rows s board view (subst (λ (x : Slot). IsRight rows s x view) is right)
 
 -- ---- `watch`
 
 -- Where no view stands the slot is empty.
-pub none_held : {B : Type 0} (rows : B → List Row) (s : State) (views : List (Option B)) (number k first count : ℕ) (held : Bool) → IsSlotOf number k → first ≡ 0 → count ≡ 8 → length s.slots ≡ 8
-    → AreRight rows s views → held ≡ (nat_lt k count && is_some (in_slot views (first + k))) → held ≡ false → slot_at s.slots number ≡ empty
-none_held {B} rows s views number k first count held of zero_first eight slots right holds not = elim (cases_lt number 8) [
+pub none_held : {B : Type 0} (rows : B → List Row) (w : Window) (s : State) (views : List (Option B)) (number k first count : ℕ) (held : Bool) → IsSlotOf w number k → first ≡ 0 → count ≡ 8 → length s.slots ≡ 8
+    → AreRight rows w s views → held ≡ (nat_lt k count && is_some (in_slot views (first + k))) → held ≡ false → slot_at s.slots k ≡ empty
+none_held {B} rows w s views number k first count held of zero_first eight slots right holds not = elim (cases_lt k 8) [
   | inl less ↦
-      let same : k ≡ number = of.slot less in
-      let at : first + k ≡ number = omega (arith, zero_first, same) in
-      let test : nat_lt k count ≡ true = lt-ltb k count (omega (arith, same, less, eight)) in
+      let at : first + k ≡ k = omega (arith, zero_first) in
+      let test : nat_lt k count ≡ true = lt-ltb k count (omega (arith, less, eight)) in
       let both : (nat_lt k count && is_some (in_slot views (first + k))) ≡ false = sym holds ∙ not in
       let none : is_some (in_slot views (first + k)) ≡ false = rw test at both in
-      by (slot_at s.slots number) (in_slot views number) (right number) (ap (λ (n : ℕ). is_some (in_slot views n)) (sym at) ∙ none)
-  | inr past ↦ get_or_past s.slots number empty (omega (arith, slots, past))
+      by (slot_at s.slots k) (in_slot views k) (right k (slot_own w number k of less)) (ap (λ (n : ℕ). is_some (in_slot views n)) (sym at) ∙ none)
+  | inr past ↦ get_or_past s.slots k empty (omega (arith, slots, past))
 ]
   where
     by : (slot : Slot) (view : Option B) → IsRight rows s slot view → is_some view ≡ false → slot ≡ empty
@@ -356,34 +408,38 @@ from_count board plies hits count = under_count plies hits count
 pub on_board : (men : Men) (side : Colour) (packed : Packed) → packed ≡ packed_of men side → men_of packed.cells ≡ men → exactly_on packed ≡ exactly men side
 on_board men side packed is back = ap₂ (λ (m : Men) (s : Colour). exactly m s) back (ap (λ (p : Packed). p.side) is)
 
-pub watch_stands : (kept : Kept) (index : Option Index) (watches watches' : List (Option Watched)) (filter : Plies) (saved : List SavedFilter) (seen : Seen) (s : State) (number k : ℕ)
+pub watch_stands : (kept : Kept) (index : Option Index) (watches watches' : List (Option Watched)) (filter : Plies) (saved : List SavedFilter) (seen : Seen) (s : State) (k : ℕ)
     (board : Packed) (slot : Slot) (query : PosQuery) (hits : List (Option GameHit))
-    → Stands (held_by kept (tables_with index watches) filter saved) seen s → watches' ≡ slice_set watches k (Some (watch_from board filter hits)) → k ≡ number → slot ≡ shows board
+    → Stands (held_by kept (tables_with index watches) filter saved) seen s → watches' ≡ slice_set watches k (Some (watch_from board filter hits)) → slot ≡ shows board
     → hits ≡ map (hit_of_game query) s.shared.base.games → exactly_on board ≡ query
-    → Stands (held_by kept (tables_with index watches') filter saved) seen (with_slot s number slot)
-watch_stands kept index watches watches' filter saved seen s number k board slot query hits st is same shown are on =
+    → Stands (held_by kept (tables_with index watches') filter saved) seen (slotted s k slot)
+watch_stands kept index watches watches' filter saved seen s k board slot query hits st is shown are on =
     let watch : Option Watched = Some (watch_from board filter hits) in
-    subst (λ (x : Slot). Stands (held_by kept (tables_with index watches') filter saved) seen (with_slot s number x)) (sym shown)
-    (slot_stands kept index watches watches' filter saved seen s number (shows board) st
-    (ap tables_in (is ∙ ap (λ (n : ℕ). slice_set watches n watch) same)
-    ∙ tables_with_slot s watches number (shows board) watch (tables_of_slots kept index watches filter saved seen s st) (new_watch s query board filter hits are on)))
+    subst (λ (x : Slot). Stands (held_by kept (tables_with index watches') filter saved) seen (slotted s k x)) (sym shown)
+    (slot_stands kept index watches watches' filter saved seen s k (shows board) st
+    (ap tables_in is ∙ tables_with_slot s watches k (shows board) watch (tables_of_slots kept index watches filter saved seen s st) (new_watch s query board filter hits are on)))
+
+pub watch_is : (w : Window) (s : State) (number k : ℕ) (men : Men) (side : Colour) → IsSlotOf w number k → length s.slots ≡ 8
+    → (watch_work w number men side).after s ≡ slotted s k (showing (packed_of men side) (slot_at s.slots k))
+watch_is w s number k men side of eight =
+    ap (λ (x : Slot). with_slot w s number (showing (packed_of men side) x)) (own_is w s number k of eight) ∙ with_is w s number k (showing (packed_of men side) (slot_at s.slots k)) of eight
 
 new_right : {B : Type 0} (rows : B → List Row) (s : State) (board : Packed) (watch : Watched) (view : Option B) → hits_in watch.games ≡ shown_hits s board → IsShown rows (Some watch) view
     → IsRight rows s (shows board) view
 new_right rows s board watch None same shown = shown
 new_right rows s board watch (Some view) same shown = subst (λ (hits : List GameHit). Shows hits (rows view)) same shown
 
-pub watch_right : {B : Type 0} (rows : B → List Row) (s : State) (number k at : ℕ) (board : Packed) (slot : Slot) (watch : Watched) (watches watches' : List (Option Watched)) (views views' : List (Option B))
-    → AreRight rows s views → slot ≡ shows board → number < length s.slots → k < length watches → at ≡ number → hits_in watch.games ≡ shown_hits s board
+pub watch_right : {B : Type 0} (rows : B → List Row) (w : Window) (s : State) (k at : ℕ) (board : Packed) (slot : Slot) (watch : Watched) (watches watches' : List (Option Watched)) (views views' : List (Option B))
+    → AreRight rows w s views → slot ≡ shows board → k < length s.slots → k < length watches → at ≡ k → hits_in watch.games ≡ shown_hits s board
     → watches' ≡ slice_set watches k (Some watch) → IsShown rows (in_slot watches' k) (in_slot views' at) → ((i : ℕ) → (i ≡ at → ⊥) → in_slot views' i ≡ in_slot views i)
-    → AreRight rows (with_slot s number slot) views'
-watch_right rows s number k at board slot watch watches watches' views views' right is within below same hits new here others =
-    let own : IsShown rows (Some watch) (in_slot views' at) = subst (λ (w : Option Watched). IsShown rows w (in_slot views' at))
+    → AreRight rows w (slotted s k slot) views'
+watch_right rows w s k at board slot watch watches watches' views views' right is within below same hits new here others =
+    let own : IsShown rows (Some watch) (in_slot views' at) = subst (λ (x : Option Watched). IsShown rows x (in_slot views' at))
     (ap (λ (l : List (Option Watched)). in_slot l k) new ∙ get_or-set_same watches k (Some watch) None below) here in
-    right_beside rows s number slot views views' right
-    (get_or-set_same s.slots number slot empty within)
-    (subst (λ (x : Slot). IsRight rows s x (in_slot views' number)) (sym is)
-    (new_right rows s board watch (in_slot views' number) hits (subst (λ (n : ℕ). IsShown rows (Some watch) (in_slot views' n)) same own)))
+    right_beside rows w s k slot views views' right
+    (get_or-set_same s.slots k slot empty within)
+    (subst (λ (x : Slot). IsRight rows s x (in_slot views' k)) (sym is)
+    (new_right rows s board watch (in_slot views' k) hits (subst (λ (n : ℕ). IsShown rows (Some watch) (in_slot views' n)) same own)))
     (λ i other. others i (λ e. other (e ∙ same)))
 
 new_told : {B : Type 0} (told : B → ℕ) (most : ℕ) (before after : Option B) → IsTold told (Some most) before after → IsToldAtMost told most before after
@@ -391,14 +447,28 @@ new_told told most None after tells = absurd tells
 new_told told most (Some before) None tells = absurd tells
 new_told told most (Some before) (Some after) tells = tells
 
-pub watch_told : {B : Type 0} (told : B → ℕ) (number at : ℕ) (hits shown : List GameHit) (views views' : List (Option B)) → at ≡ number → hits ≡ shown
+-- Whether a number names this slot among a user's own.
+names_it : (w : Window) (number i : ℕ) → (nat_lt number w.count && (w.first + number == i)) ≡ true → w.first + number ≡ i
+names_it w number i is = eqb-true (w.first + number) i (and_parts (nat_lt number w.count) (w.first + number == i) is).1
+
+names_other : (w : Window) (number i : ℕ) → number < w.count → (nat_lt number w.count && (w.first + number == i)) ≡ false → w.first + number ≡ i → ⊥
+names_other w number i less is =
+    let test : nat_lt number w.count ≡ true = lt-ltb number w.count less in
+    let not : (w.first + number == i) ≡ false = rw test at is in
+    eqb-false (w.first + number) i not
+
+pub watch_told : {B : Type 0} (told : B → ℕ) (w : Window) (number at : ℕ) (hits shown : List GameHit) (views views' : List (Option B)) → number < w.count → at ≡ w.first + number → hits ≡ shown
     → IsTold told (Some (1 + length hits)) (in_slot views at) (in_slot views' at) → ((i : ℕ) → (i ≡ at → ⊥) → in_slot views' i ≡ in_slot views i)
-    → AreToldAtMost told (λ (j : ℕ). if number == j then 1 + length shown else 0) views views'
-watch_told told number at hits shown views views' same are tells others j = by (number == j) refl
+    → AreToldAtMost told (λ (j : ℕ). if nat_lt number w.count && (w.first + number == j) then 1 + length shown else 0) views views'
+watch_told told w number at hits shown views views' less same are tells others j = by (nat_lt number w.count && (w.first + number == j)) refl
   where
-    by : (b : Bool) → (number == j) ≡ b → IsToldAtMost told (if b then 1 + length shown else 0) (in_slot views j) (in_slot views' j)
+    by : (b : Bool) → (nat_lt number w.count && (w.first + number == j)) ≡ b → IsToldAtMost told (if b then 1 + length shown else 0) (in_slot views j) (in_slot views' j)
     by true e =
-        let is : at ≡ j = same ∙ eqb-true number j e in
+        let is : at ≡ j = same ∙ names_it w number j e in
         subst (λ (n : ℕ). IsToldAtMost told (1 + length shown) (in_slot views n) (in_slot views' n)) is
         (subst (λ (l : List GameHit). IsToldAtMost told (1 + length l) (in_slot views at) (in_slot views' at)) are (new_told told (1 + length hits) (in_slot views at) (in_slot views' at) tells))
-    by false e = told_same told 0 (in_slot views j) (in_slot views' j) (others j (λ is. eqb-false number j e (sym same ∙ sym is)))
+    by false e = told_same told 0 (in_slot views j) (in_slot views' j) (others j (λ is. names_other w number j less e (sym same ∙ sym is)))
+
+pub watch_left : {B : Type 0} (w : Window) (number at : ℕ) (views views' : List (Option B)) → number < w.count → at ≡ w.first + number → ((i : ℕ) → (i ≡ at → ⊥) → in_slot views' i ≡ in_slot views i)
+    → AreLeft (λ (i : ℕ). nat_lt number w.count && (w.first + number == i)) views views'
+watch_left w number at views views' less same others i not = others i (λ is. names_other w number i less not (sym same ∙ sym is))

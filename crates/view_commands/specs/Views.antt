@@ -1,5 +1,5 @@
 -- The commands on slots, each of which shows the tree of a position in a view, and keeps it right. This project's own.
-use Rattle.std.specs.Prelude.{◌≡◌, ◌≤◌, ℕ, ◌+◌, Bool, true, false, List, [], Option, Some, None, IsSome, codes, slice_set}
+use Rattle.std.specs.Prelude.{◌≡◌, ◌≤◌, ℕ, ◌+◌, ◌&&◌, nat_le, nat_lt, if◌then◌else◌, Bool, true, false, List, [], Option, Some, None, IsSome, codes, slice_set}
 use Rattle.cell_core.specs.Board.{Men}
 use Rattle.cell_core.specs.Packed.{Packed, packed_of}
 use Rattle.cell_core.specs.declared.man.Colour.{Colour}
@@ -17,10 +17,22 @@ use Rattle.tree_live.specs.Views.{Shows}
 use Rattle.tree_rows.specs.Rows.{rows_of}
 use Rattle.tree_rows.specs.declared.hit.GameHit.{GameHit}
 use Rattle.tree_rows.specs.declared.row.Row.{Row}
+use Rattle.view_commands.specs.declared.window.Window.{Window}
 
--- The state with another slot of a number.
-abbrev pub with_slot : State → ℕ → Slot → State
-with_slot s k slot = record s { slots = slice_set s.slots k slot }
+-- Which of the slots are a user's own: so many from a number on, which he counts from 0. The user of a script that has no other has all eight.
+abbrev pub all_slots : Window
+all_slots = record { first = 0; count = 8 }
+
+abbrev pub is_own : Window → ℕ → Bool
+is_own w i = nat_le w.first i && nat_lt i (w.first + w.count)
+
+-- What his slot k shows; past his last one there is none that has a view.
+abbrev pub own_slot : Window → State → ℕ → Slot
+own_slot w s k = if nat_lt k w.count then slot_at s.slots (w.first + k) else empty
+
+-- The state with another one there.
+abbrev pub with_slot : Window → State → ℕ → Slot → State
+with_slot w s k slot = if nat_lt k w.count then record s { slots = slice_set s.slots (w.first + k) slot } else s
 
 abbrev pub no_view_line : ℕ → List ℕ
 no_view_line k = game_line (codes "error: no view ") k
@@ -36,8 +48,9 @@ watch_line k empty = no_view_line k
 watch_line k idle = game_line (codes "watching ") k
 watch_line k (shows other) = game_line (codes "watching ") k
 
-abbrev pub watch_work : ℕ → Men → Colour → Work
-watch_work k board side = reading (λ s. with_slot s k (showing (packed_of board side) (slot_at s.slots k))) (λ s. watch_line k (slot_at s.slots k)) (position_len Ignore (exactly board side))
+abbrev pub watch_work : Window → ℕ → Men → Colour → Work
+watch_work w k board side =
+    reading (λ s. with_slot w s k (showing (packed_of board side) (own_slot w s k))) (λ s. watch_line k (own_slot w s k)) (position_len Ignore (exactly board side))
 
 -- view K: the text of the tree that a slot shows, over the games that are in.
 abbrev pub view_text : State → ℕ → Slot → List ℕ
@@ -45,8 +58,8 @@ view_text s k empty = no_view_line k
 view_text s k idle = no_view_line k
 view_text s k (shows board) = tree_of (exactly_on board) s.seat.filter s.shared.base.games
 
-abbrev pub view_work : ℕ → Work
-view_work k = quiet (λ s. s) (λ s. view_text s k (slot_at s.slots k))
+abbrev pub view_work : Window → ℕ → Work
+view_work w k = quiet (λ s. s) (λ s. view_text s k (own_slot w s k))
 
 -- unwatch K: a slot that shows a tree loses its view.
 abbrev pub left : Slot → Slot
@@ -59,8 +72,8 @@ unwatch_line k empty = no_view_line k
 unwatch_line k idle = no_view_line k
 unwatch_line k (shows board) = game_line (codes "unwatched ") k
 
-abbrev pub unwatch_work : ℕ → Work
-unwatch_work k = quiet (λ s. with_slot s k (left (slot_at s.slots k))) (λ s. unwatch_line k (slot_at s.slots k))
+abbrev pub unwatch_work : Window → ℕ → Work
+unwatch_work w k = quiet (λ s. with_slot w s k (left (own_slot w s k))) (λ s. unwatch_line k (own_slot w s k))
 
 -- ---- views beside a state
 
@@ -75,9 +88,9 @@ IsRight rows s idle view = IsSome view
 IsRight rows s (shows board) None = ⊥
 IsRight rows s (shows board) (Some view) = Shows (shown_hits s board) (rows view)
 
--- So is each.
-abbrev pub AreRight : {B : Type 0} → (B → List Row) → State → List (Option B) → Type 0
-AreRight rows s views = (k : ℕ) → IsRight rows s (slot_at s.slots k) (in_slot views k)
+-- So is each of a user's own slots.
+abbrev pub AreRight : {B : Type 0} → (B → List Row) → Window → State → List (Option B) → Type 0
+AreRight rows w s views = (i : ℕ) → is_own w i ≡ true → IsRight rows s (slot_at s.slots i) (in_slot views i)
 
 -- Whether a slot shows a tree, and the hits that its tree counts in a state.
 abbrev pub is_shown : Slot → Bool

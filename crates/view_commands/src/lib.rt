@@ -4,7 +4,9 @@
 mod showing;
 mod viewing;
 mod watching;
+mod window;
 
 pub use showing::show;
 pub use viewing::{unwatch, view};
 pub use watching::watch;
+pub use window::Window;

@@ -1,5 +1,5 @@
 //! `view K` and `unwatch K`.
-ghost use Rattle.std.specs.Prelude.{◌≡◌, ◌≤◌, ◌<◌, List, All, IfOk, OnOk, length};
+ghost use Rattle.std.specs.Prelude.{◌≡◌, ◌+◌, ◌≤◌, ◌<◌, ◌&&◌, List, All, IfOk, OnOk, length};
 ghost use Rattle.base_files.specs.Seen.{Seen};
 ghost use Rattle.cell_core.specs.Packed.{men_of};
 ghost use Rattle.shell_state.specs.Slots.{slot_at};
@@ -12,58 +12,69 @@ ghost use Rattle.tree_rows.specs.Rows.{KeysDiffer, rows_of};
 ghost use Rattle.tree_rows.specs.TreeText.{tree_text};
 ghost use Rattle.tree_rows.specs.declared.hit.GameHit.{GameHit};
 ghost use Rattle.view_commands.specs.Reading.{ShowsIn};
-ghost use Rattle.view_commands.specs.Views.{AreLeft, AreRight, AreToldAtMost, is_shown, unwatch_work, view_work};
+ghost use Rattle.view_commands.specs.Views.{AreLeft, AreRight, AreToldAtMost, is_own, is_shown, unwatch_work, view_work};
 
+use crate::window::Window;
 use cell_core::{Board, Colour, PackedBoard, unpack};
 use shell_state::{Machine, game_line};
 use std::alloc::{AllocError, Global};
 use tree_live::{NoView, TreeView};
 use tree_rows::{Row, is_key, lines};
 
-/// view K: gives its text, which is not written yet.
+/// view K of a user: gives its text, which is not written yet.
 pub fn view(
     alloc: Global,
     machine: &Machine,
     views: &[Option<Box<dyn TreeView>>],
     number: u64,
+    window: Window,
 ) -> Result<Vec<u8>, AllocError>
-    ensures text { (seen : Seen) (s : State) → Stands machine.now seen s → AreRight (λ b. rows b) s views.now → IfOk result (λ text. text.items ≡ (view_work number).text s) }
+    requires room { window.first + window.count ≤ 8 }
+    ensures text { (seen : Seen) (s : State) → Stands machine.now seen s → AreRight (λ b. rows b) window s views.now → IfOk result (λ text. text.items ≡ (view_work window number).text s) }
 {
-    let k = slot_of(number);
+    let k = slot_of(window, number);
     match machine.slots.watched(k) {
         Some(board) => text_in(alloc, views, k, board),
         None => game_line(alloc, b"error: no view ", number),
     }
 }
 
-/// unwatch K: gives its line, which is not written yet.
+/// unwatch K of a user: gives its line, which is not written yet. Views of slots that are not his own are as before.
 pub fn unwatch(
     alloc: Global,
     machine: &mut Machine,
     views: &mut [Option<Box<dyn TreeView>>],
     number: u64,
+    window: Window,
 ) -> Result<Vec<u8>, AllocError>
+    requires room { window.first + window.count ≤ 8 }
     requires fits { Fits machine.old }
-    ensures line { (seen : Seen) (s : State) → Stands machine.old seen s → IfOk result (λ line. line.items ≡ (unwatch_work number).text s) }
-    ensures stands { (seen : Seen) (s : State) → Stands machine.old seen s → OnOk result (Stands machine.new seen ((unwatch_work number).after s)) }
-    ensures right { (seen : Seen) (s : State) → Stands machine.old seen s → AreRight (λ b. rows b) s views.old → OnOk result (AreRight (λ b. rows b) ((unwatch_work number).after s) views.new) }
-    ensures told { (seen : Seen) (s : State) → Stands machine.old seen s → AreRight (λ b. rows b) s views.old → OnOk result (AreToldAtMost (λ b. told b) (λ k. 0) views.old views.new) }
-    ensures left { (seen : Seen) (s : State) → Stands machine.old seen s → AreLeft (λ k. is_shown (slot_at s.slots k)) views.old views.new }
+    ensures line { (seen : Seen) (s : State) → Stands machine.old seen s → IfOk result (λ line. line.items ≡ (unwatch_work window number).text s) }
+    ensures stands { (seen : Seen) (s : State) → Stands machine.old seen s → OnOk result (Stands machine.new seen ((unwatch_work window number).after s)) }
+    ensures right { (seen : Seen) (s : State) → Stands machine.old seen s → AreRight (λ b. rows b) window s views.old → OnOk result (AreRight (λ b. rows b) window ((unwatch_work window number).after s) views.new) }
+    ensures told { (seen : Seen) (s : State) → Stands machine.old seen s → AreRight (λ b. rows b) window s views.old → OnOk result (AreToldAtMost (λ b. told b) (λ i. 0) views.old views.new) }
+    ensures left { (seen : Seen) (s : State) → Stands machine.old seen s → AreLeft (λ i. is_own window i && is_shown (slot_at s.slots i)) views.old views.new }
+    ensures others { AreLeft (is_own window) views.old views.new }
     ensures number { length views.new ≡ length views.old }
     ensures sound { (seen : Seen) → Sound machine.old seen → OnOk result (Sound machine.new seen) }
 {
-    match machine.slots.unwatch(views, slot_of(number)) {
+    match machine.slots.unwatch(views, slot_of(window, number)) {
         Ok(()) => game_line(alloc, b"unwatched ", number),
         Err(NoView) => game_line(alloc, b"error: no view ", number),
     }
 }
 
-/// The slot of a number; past the last of eight, which none shows, the ninth.
-pub(crate) fn slot_of(number: u64) -> u8
-    ensures slot { number < 8 → result ≡ number }
-    ensures past { 8 ≤ number → result ≡ 8 }
+/// The slot that a user names by a number; past his last one the ninth, which none shows.
+pub(crate) fn slot_of(window: Window, number: u64) -> u8
+    requires room { window.first + window.count ≤ 8 }
+    ensures slot { number < window.count → result ≡ window.first + number }
+    ensures past { window.count ≤ number → result ≡ 8 }
 {
-    if number < 8 { number as u8 } else { 8 }
+    if number < u64::from(window.count) {
+        window.first + number as u8
+    } else {
+        8
+    }
 }
 
 // The text of the tree of this board that the view of a slot shows.

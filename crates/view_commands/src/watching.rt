@@ -1,5 +1,5 @@
 //! `watch K BOARD SIDE`.
-ghost use Rattle.std.specs.Prelude.{◌≡◌, ◌==◌, ◌≤◌, ◌+◌, ℕ, List, Option, if◌then◌else◌, map, option_copied, IfErr, IfOk, OnOk, length};
+ghost use Rattle.std.specs.Prelude.{◌≡◌, ◌==◌, ◌≤◌, ◌+◌, ◌&&◌, ℕ, List, Option, nat_lt, if◌then◌else◌, map, option_copied, IfErr, IfOk, OnOk, length};
 ghost use Rattle.base_core.specs.Base.{Base as PlainBase};
 ghost use Rattle.base_core.specs.Represents.{IsSound, Represents, extents_of, sigs_of};
 ghost use Rattle.cell_core.specs.Packed.{packed_of};
@@ -18,6 +18,7 @@ ghost use Rattle.sig_index.specs.declared.pos_query.Mode.TheVariants.{Exact};
 ghost use Rattle.view_commands.specs.Views.{AreLeft, AreRight, AreToldAtMost, shown_hits, watch_work};
 
 use crate::viewing::slot_of;
+use crate::window::Window;
 use base_core::Base;
 use base_files::Files;
 use cell_core::{Board, Colour, pack};
@@ -30,7 +31,7 @@ use std::alloc::Global;
 use tree_live::TreeView;
 use tree_rows::GameHit;
 
-/// watch K BOARD SIDE: gives its line, which is not written yet.
+/// watch K BOARD SIDE of a user: gives its line, which is not written yet. Views of slots that are not his own are as before.
 pub fn watch<F: Files>(
     alloc: Global,
     machine: &mut Machine,
@@ -39,23 +40,25 @@ pub fn watch<F: Files>(
     number: u64,
     board: &Board,
     side: Colour,
+    window: Window,
 ) -> Result<Vec<u8>, Halt>
+    requires room { window.first + window.count ≤ 8 }
     requires sound { Sound machine.old (F.seen files.old) }
-    ensures line { (s : State) → Stands machine.old (F.seen files.old) s → AreRight (λ b. rows b) s views.old → IfOk result (λ line. line.items ≡ (watch_work number board.now side).text s) }
-    ensures stands { (s : State) → Stands machine.old (F.seen files.old) s → AreRight (λ b. rows b) s views.old → OnOk result (Stands machine.new (F.seen files.new) ((watch_work number board.now side).after s)) }
-    ensures right { (s : State) → Stands machine.old (F.seen files.old) s → AreRight (λ b. rows b) s views.old → OnOk result (AreRight (λ b. rows b) ((watch_work number board.now side).after s) views.new) }
+    ensures line { (s : State) → Stands machine.old (F.seen files.old) s → AreRight (λ b. rows b) window s views.old → IfOk result (λ line. line.items ≡ (watch_work window number board.now side).text s) }
+    ensures stands { (s : State) → Stands machine.old (F.seen files.old) s → AreRight (λ b. rows b) window s views.old → OnOk result (Stands machine.new (F.seen files.new) ((watch_work window number board.now side).after s)) }
+    ensures right { (s : State) → Stands machine.old (F.seen files.old) s → AreRight (λ b. rows b) window s views.old → OnOk result (AreRight (λ b. rows b) window ((watch_work window number board.now side).after s) views.new) }
 
     // The view is told one change more than games that are in meet the position, at most, and every other one none.
-    ensures told { (s : State) → Stands machine.old (F.seen files.old) s → AreRight (λ b. rows b) s views.old → OnOk result (AreToldAtMost (λ b. told b) (λ k. if number == k then 1 + length (shown_hits s (packed_of board.now side)) else 0) views.old views.new) }
-    ensures left { AreLeft (λ k. number == k) views.old views.new }
+    ensures told { (s : State) → Stands machine.old (F.seen files.old) s → AreRight (λ b. rows b) window s views.old → OnOk result (AreToldAtMost (λ b. told b) (λ i. if nat_lt number window.count && (window.first + number == i) then 1 + length (shown_hits s (packed_of board.now side)) else 0) views.old views.new) }
+    ensures left { AreLeft (λ i. nat_lt number window.count && (window.first + number == i)) views.old views.new }
     ensures number { length views.new ≡ length views.old }
     ensures devices { (s : State) → Stands machine.old (F.seen files.old) s → IfErr result IsDevice }
     ensures sound { OnOk result (Sound machine.new (F.seen files.new)) }
     ensures unchanged { F.seen files.new ≡ F.seen files.old }
-    ensures asks { Asks machine.old (watch_work number board.now side) (F.asked files.old) (F.asked files.new) }
+    ensures asks { Asks machine.old (watch_work window number board.now side) (F.asked files.old) (F.asked files.new) }
     ensures causes { Causes WhyHalt result (counts (F.faults files.old) 0 0) (counts (F.faults files.new) 0 0) }
 {
-    let k = slot_of(number);
+    let k = slot_of(window, number);
     if !machine.slots.holds(views, k) {
         return Ok(game_line(alloc, b"error: no view ", number)?);
     }

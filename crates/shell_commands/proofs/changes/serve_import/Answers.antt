@@ -12,10 +12,10 @@ returns-in-Ok-clause-serves g c = λ s text st told.
 pub returns-in-Ok-clause-views : goal.returns-in-Ok-clause-views
 returns-in-Ok-clause-views g c = λ s word text st told right.
     let later = (c.in-Ok.ensures.serves s text st told).stands in
-    let slots = moves_none s (Import word) text (λ e. cc) in
-    views_shown c.show_line.result _ _ s (Import word) text c.args.views.now c.show_line.new.views (λ e. cc)
+    let slots = moves_none c.args.window s (Import word) text (λ e. cc) in
+    views_shown c.show_line.result _ _ c.args.window s (Import word) text c.args.views.now c.show_line.new.views (λ e. cc)
     (c.show_line.ensures.right _ s _ later slots right) (c.show_line.ensures.told _ s _ later slots right)
 
 pub returns-in-Ok-clause-left : goal.returns-in-Ok-clause-left
 returns-in-Ok-clause-left g c = λ s word text st told right.
-    shown_left s (Import word) text c.args.views.now c.show_line.new.views (λ e. cc) (c.show_line.ensures.left _ _ (c.in-Ok.ensures.serves s text st told).stands)
+    shown_left c.args.window s (Import word) text c.args.views.now c.show_line.new.views (λ e. cc) (c.show_line.ensures.left _ _ (c.in-Ok.ensures.serves s text st told).stands)

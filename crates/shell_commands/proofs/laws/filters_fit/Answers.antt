@@ -2,7 +2,7 @@ use Rattle.shell_commands.proofs.FitLaws.{script_has, task_has}
 use Rattle.shell_commands.proofs.laws.filters_fit.Goals as goal
 
 pub returns-clause-task : goal.returns-clause-task
-returns-clause-task c = λ s t has. task_has s t has
+returns-clause-task c = λ w s t has. task_has w s t has
 
 pub returns-clause-script : goal.returns-clause-script
-returns-clause-script c = λ created slots base done. script_has created slots base done
+returns-clause-script c = λ w created slots base done. script_has w created slots base done

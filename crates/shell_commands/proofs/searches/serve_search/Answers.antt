@@ -5,20 +5,20 @@ use Rattle.shell_state.proofs.Served.{on_ok, search_cuts}
 
 pub returns-in-Err-clause-serves : goal.returns-in-Err-clause-serves
 returns-in-Err-clause-serves g c = λ s text st.
-    search_cuts c.in-Err.halt s (command_work c.args.command.now text) _ _ (searches_read c.args.command.now text c.requires.part) (c.in-Err.ensures.devices s st)
+    search_cuts c.in-Err.halt s (command_work c.args.window c.args.command.now text) _ _ (searches_read c.args.window c.args.command.now text c.requires.part) (c.in-Err.ensures.devices s st)
 
 pub returns-in-Ok-show_rows-clause-views : goal.returns-in-Ok-show_rows-clause-views
 returns-in-Ok-show_rows-clause-views g c = λ s text st right.
     let other = not_searches c.args.command.now c.requires.part in
-    let later = c.in-Ok.ensures.stands s text st in
-    let slots = moves_none s c.args.command.now text other in
-    views_shown c.write_found.result _ _ s c.args.command.now text c.args.views.now c.show_rows.new.views other
+    let later = c.in-Ok.ensures.stands c.args.window s text st in
+    let slots = moves_none c.args.window s c.args.command.now text other in
+    views_shown c.write_found.result _ _ c.args.window s c.args.command.now text c.args.views.now c.show_rows.new.views other
     (on_ok _ c.write_found.result (c.in-Ok-show_rows.ensures.right _ s _ later slots right)) (on_ok _ c.write_found.result (c.in-Ok-show_rows.ensures.told _ s _ later slots right))
 
 pub returns-in-Ok-show_rows-clause-left : goal.returns-in-Ok-show_rows-clause-left
 returns-in-Ok-show_rows-clause-left g c = λ s text st right.
-    shown_left s c.args.command.now text c.args.views.now c.show_rows.new.views (not_searches c.args.command.now c.requires.part) (c.show_rows.ensures.left _ _ (c.in-Ok.ensures.stands s text st))
+    shown_left c.args.window s c.args.command.now text c.args.views.now c.show_rows.new.views (not_searches c.args.command.now c.requires.part) (c.show_rows.ensures.left _ _ (c.in-Ok.ensures.stands c.args.window s text st))
 
 pub returns-in-Err-show_rows-clause-left : goal.returns-in-Err-show_rows-clause-left
 returns-in-Err-show_rows-clause-left g c = λ s text st right.
-    shown_left s c.args.command.now text c.args.views.now c.show_rows.new.views (not_searches c.args.command.now c.requires.part) (c.show_rows.ensures.left _ _ (c.in-Ok.ensures.stands s text st))
+    shown_left c.args.window s c.args.command.now text c.args.views.now c.show_rows.new.views (not_searches c.args.command.now c.requires.part) (c.show_rows.ensures.left _ _ (c.in-Ok.ensures.stands c.args.window s text st))

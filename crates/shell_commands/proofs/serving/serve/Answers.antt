@@ -11,9 +11,9 @@ use Rattle.shell_state.specs.Stands.{Stands}
 
 pub returns-in-Ok-clause-serves : goal.returns-in-Ok-clause-serves
 returns-in-Ok-clause-serves g c = λ s text st told right.
-    let P : Order → Type 0 = λ o. Serves tasks (Stands c.serve_command.new.machine (g.F.Files.seen c.serve_command.new.files)) BrokenTask s (task o text) (g.K.Sink.taken c.args.out.now) (g.K.Sink.taken c.serve_command.new.out) c.serve_command.result in
+    let P : Order → Type 0 = λ o. Serves (tasks c.args.window) (Stands c.serve_command.new.machine (g.F.Files.seen c.serve_command.new.files)) (BrokenTask c.args.window) s (task o text) (g.K.Sink.taken c.args.out.now) (g.K.Sink.taken c.serve_command.new.out) c.serve_command.result in
     subst P (sym c.in-Ok.is)
-    (task_serves c.serve_command.result c.serve_command.new.machine (g.F.Files.seen c.serve_command.new.files) s (task (Ok c.in-Ok.command) text) (g.K.Sink.taken c.args.out.now) (g.K.Sink.taken c.serve_command.new.out)
+    (task_serves c.serve_command.result c.args.window c.serve_command.new.machine (g.F.Files.seen c.serve_command.new.files) s (task (Ok c.in-Ok.command) text) (g.K.Sink.taken c.args.out.now) (g.K.Sink.taken c.serve_command.new.out)
     (c.serve_command.ensures.serves s text st told right))
 
 pub returns-in-Ok-clause-views : goal.returns-in-Ok-clause-views
@@ -28,7 +28,7 @@ returns-in-Ok-clause-asks_told g c = λ s st.
     subst P (sym c.in-Ok.is) (asked_by c.args.machine.now (g.F.Files.seen c.args.files.now) s c.in-Ok.command _ _ st c.serve_command.ensures.asks (λ seed games is. c.serve_command.ensures.asks_demo s seed games st is))
 
 pub returns-in-Err-clause-views : goal.returns-in-Err-clause-views
-returns-in-Err-clause-views g c = λ s text st told right. rw c.in-Err.is (on_ok _ c.say.result (fault_done _ _ s c.in-Err.fault text c.args.views.now right))
+returns-in-Err-clause-views g c = λ s text st told right. rw c.in-Err.is (on_ok _ c.say.result (fault_done _ _ c.args.window s c.in-Err.fault text c.args.views.now right))
 
 pub returns-in-Err-clause-carries : goal.returns-in-Err-clause-carries
 returns-in-Err-clause-carries g c = λ s st. if_err c.say.result _ (carry_of c.args.machine.now (g.F.Files.seen c.args.files.now) s _ st)

@@ -3,6 +3,7 @@ use Rattle.shell_commands.proofs.TaskLaws.{may_leave, still_settled}
 use Rattle.shell_commands.proofs.ViewLaws.{edits_write, is_import}
 use Rattle.shell_commands.proofs.serving.serve_command.Goals as goal
 use Rattle.shell_state.proofs.CarryLaws.{carry_of, carry_same, if_err}
+use Rattle.view_commands.specs.Views.{all_slots}
 
 pub returns-in-Slots-clause-serves : goal.returns-in-Slots-clause-serves
 returns-in-Slots-clause-serves g c = λ s text st told right.
@@ -50,7 +51,7 @@ returns-in-Games-clause-serves g c = λ s text st told right.
 
 pub returns-in-Texts-clause-serves : goal.returns-in-Texts-clause-serves
 returns-in-Texts-clause-serves g c = λ s text st told right.
-    c.write_text.ensures.serves s text st
+    c.write_text.ensures.serves c.args.window s text st
 
 pub returns-in-Intake-clause-serves : goal.returns-in-Intake-clause-serves
 returns-in-Intake-clause-serves g c = λ s text st told right.
@@ -73,30 +74,30 @@ returns-in-Edits-clause-serves g c = λ s text st told right.
 
 pub returns-in-Edits-clause-unchanged : goal.returns-in-Edits-clause-unchanged
 returns-in-Edits-clause-unchanged g c = λ none.
-    absurd (true≢false (sym (edits_write c.args.command.now [] (sym c.in-Edits.ensures.part)) ∙ none))
+    absurd (true≢false (sym (edits_write all_slots c.args.command.now [] (sym c.in-Edits.ensures.part)) ∙ none))
 
 pub returns-in-Slots-clause-settled : goal.returns-in-Slots-clause-settled
 returns-in-Slots-clause-settled g c = λ s text st told.
-    still_settled c.serve_slot.result (g.F.Files.seen c.serve_slot.new.files) s c.args.command.now text _ _ (ap may_leave (sym c.in-Slots.ensures.part))
+    still_settled c.serve_slot.result c.args.window (g.F.Files.seen c.serve_slot.new.files) s c.args.command.now text _ _ (ap may_leave (sym c.in-Slots.ensures.part))
 
 pub returns-in-Lines-clause-settled : goal.returns-in-Lines-clause-settled
 returns-in-Lines-clause-settled g c = λ s text st told.
-    still_settled c.serve_line.result (g.F.Files.seen c.args.files.now) s c.args.command.now text _ _ (ap may_leave (sym c.in-Lines.ensures.part))
+    still_settled c.serve_line.result c.args.window (g.F.Files.seen c.args.files.now) s c.args.command.now text _ _ (ap may_leave (sym c.in-Lines.ensures.part))
 
 pub returns-in-Searches-clause-settled : goal.returns-in-Searches-clause-settled
 returns-in-Searches-clause-settled g c = λ s text st told.
-    still_settled c.serve_search.result (g.F.Files.seen c.serve_search.new.files) s c.args.command.now text _ _ (ap may_leave (sym c.in-Searches.ensures.part))
+    still_settled c.serve_search.result c.args.window (g.F.Files.seen c.serve_search.new.files) s c.args.command.now text _ _ (ap may_leave (sym c.in-Searches.ensures.part))
 
 pub returns-in-Intake-clause-settled : goal.returns-in-Intake-clause-settled
 returns-in-Intake-clause-settled g c = λ s text st told.
-    still_settled c.serve_import.result (g.F.Files.seen c.serve_import.new.files) s c.args.command.now text _ _ (ap may_leave (sym c.in-Intake.ensures.part))
+    still_settled c.serve_import.result c.args.window (g.F.Files.seen c.serve_import.new.files) s c.args.command.now text _ _ (ap may_leave (sym c.in-Intake.ensures.part))
 
 pub returns-in-Games-clause-settled : goal.returns-in-Games-clause-settled
 returns-in-Games-clause-settled g c = λ s text st told.
-    still_settled c.serve_change.result (g.F.Files.seen c.serve_change.new.files) s c.args.command.now text _ _ (ap may_leave (sym c.in-Games.ensures.part))
+    still_settled c.serve_change.result c.args.window (g.F.Files.seen c.serve_change.new.files) s c.args.command.now text _ _ (ap may_leave (sym c.in-Games.ensures.part))
 
 pub returns-in-Edits-clause-settled : goal.returns-in-Edits-clause-settled
 returns-in-Edits-clause-settled g c = λ s text st told. c.serve_edit.ensures.settled s text st told
 
 pub returns-in-Texts-clause-settled : goal.returns-in-Texts-clause-settled
-returns-in-Texts-clause-settled g c = λ s text st told. c.write_text.ensures.settled s text st
+returns-in-Texts-clause-settled g c = λ s text st told. c.write_text.ensures.settled c.args.window s text st

@@ -10,14 +10,14 @@ pub returns-in-Nothing-clause-carries : goal.returns-in-Nothing-clause-carries
 returns-in-Nothing-clause-carries g c = λ s st. if_err c.say.result _ (carry_of c.args.machine.now (g.F.Files.seen c.args.files.now) s _ st)
 
 pub returns-in-Keep-clause-serves : goal.returns-in-Keep-clause-serves
-returns-in-Keep-clause-serves g c = λ s text st.
+returns-in-Keep-clause-serves g c = λ w s text st.
     rw c.in-Keep.is (quiet_said c.keep_filter.result c.say-in-Keep.result c.args.machine.now c.keep_filter.new.machine _ (g.F.Files.seen c.args.files.now) s _ _ c.keep_filter.ensures.quiet c.say-in-Keep.ensures.said st)
 
 pub returns-in-Keep-clause-carries : goal.returns-in-Keep-clause-carries
 returns-in-Keep-clause-carries g c = λ s st. if_err c.say-in-Keep.result _ (carry_of c.args.machine.now (g.F.Files.seen c.args.files.now) s _ st)
 
 pub returns-in-Drop-clause-serves : goal.returns-in-Drop-clause-serves
-returns-in-Drop-clause-serves g c = λ s text st.
+returns-in-Drop-clause-serves g c = λ w s text st.
     let P : List ℕ → Type 0 = λ line. Quiet c.args.machine.now (drop_work c.in-Drop.name) c.drop_filter.new.machine line in
     rw c.in-Drop.is
     (quiet_serves c.write_line.result c.args.machine.now c.drop_filter.new.machine _ c.as_slice.result.now (g.F.Files.seen c.args.files.now) s _ _
@@ -27,21 +27,21 @@ pub returns-in-Drop-clause-carries : goal.returns-in-Drop-clause-carries
 returns-in-Drop-clause-carries g c = λ s st. if_err c.write_line.result _ (carry_of c.args.machine.now (g.F.Files.seen c.args.files.now) s _ st)
 
 pub returns-in-Cross-clause-serves : goal.returns-in-Cross-clause-serves
-returns-in-Cross-clause-serves g c = λ s text st.
+returns-in-Cross-clause-serves g c = λ w s text st.
     rw c.in-Cross.is (quiet_said c.cross.result c.say-in-Cross.result c.args.machine.now c.args.machine.now _ (g.F.Files.seen c.args.files.now) s _ _ c.cross.ensures.quiet c.say-in-Cross.ensures.said st)
 
 pub returns-in-Cross-clause-carries : goal.returns-in-Cross-clause-carries
 returns-in-Cross-clause-carries g c = λ s st. if_err c.say-in-Cross.result _ (carry_of c.args.machine.now (g.F.Files.seen c.args.files.now) s _ st)
 
 pub returns-in-Info-clause-serves : goal.returns-in-Info-clause-serves
-returns-in-Info-clause-serves g c = λ s text st.
+returns-in-Info-clause-serves g c = λ w s text st.
     rw c.in-Info.is (quiet_said c.info.result c.say-in-Info.result c.args.machine.now c.args.machine.now _ (g.F.Files.seen c.args.files.now) s _ _ c.info.ensures.quiet c.say-in-Info.ensures.said st)
 
 pub returns-in-Info-clause-carries : goal.returns-in-Info-clause-carries
 returns-in-Info-clause-carries g c = λ s st. if_err c.say-in-Info.result _ (carry_of c.args.machine.now (g.F.Files.seen c.args.files.now) s _ st)
 
 pub returns-in-Quit-clause-serves : goal.returns-in-Quit-clause-serves
-returns-in-Quit-clause-serves g c = λ s text st.
+returns-in-Quit-clause-serves g c = λ w s text st.
     rw c.in-Quit.is (quiet_said c.quit.result c.say-in-Quit.result c.args.machine.now c.args.machine.now _ (g.F.Files.seen c.args.files.now) s _ _ c.quit.ensures.quiet c.say-in-Quit.ensures.said st)
 
 pub returns-in-Quit-clause-carries : goal.returns-in-Quit-clause-carries
@@ -62,7 +62,7 @@ returns-in-Export-clause-carries g c = λ s st.
     if_err c.export.result _ (carry_same c.args.machine.now (g.F.Files.seen c.args.files.now) (g.F.Files.seen c.export.new.files) s _ c.export.ensures.unchanged st)
 
 pub returns-in-Index-clause-serves : goal.returns-in-Index-clause-serves
-returns-in-Index-clause-serves g c = λ s text st. rw c.in-Index.is (c.index.ensures.serves s st)
+returns-in-Index-clause-serves g c = λ w s text st. rw c.in-Index.is (c.index.ensures.serves s st)
 
 pub returns-in-Index-clause-carries : goal.returns-in-Index-clause-carries
 returns-in-Index-clause-carries g c = λ s st.

@@ -1,10 +1,11 @@
-use Rattle.std.proofs.Common.{◌≤◌, ◌+◌, ℕ, IfSome, sym, ap, ◌∙◌, subst}
+use Rattle.std.proofs.Common.{◌≤◌, ◌+◌, ℕ, Bool, IfSome, sym, ap, ◌∙◌, subst}
 use Rattle.base_files.specs.Seen.{Seen}
 use Rattle.base_files.proofs.Rising.{Rose-after}
 use Rattle.base_core.specs.Opening.{IfBad, IfTold, Opens, Refuses, open_cost}
+use Rattle.script_lines.specs.Clients.{Clients}
 use Rattle.shell_session.specs.Running.{OpeningRefused}
 use Rattle.shell_session.specs.declared.status.Status.{Status}
-use Rattle.shell_session.proofs.OpeningLaws.{failed_is, opening, refused_by}
+use Rattle.shell_session.proofs.OpeningLaws.{Starts, failed_is, opening, refused_by}
 use Rattle.shell_session.proofs.opening.open.Goals as goal
 
 pub returns-in-Err-opened-clause-refused : goal.returns-in-Err-opened-clause-refused
@@ -42,8 +43,9 @@ returns-in-Ok-new-clause-opens g c =
     let index = ap (λ (seen : Seen). seen.index) c.open_base-opened.ensures.measured ∙ ap (λ (seen : Seen). seen.index) c.in_default.ensures.chosen in
     let names = ap (λ (seen : Seen). seen.names) c.open_base-opened.ensures.measured ∙ ap (λ (seen : Seen). seen.names) c.in_default.ensures.chosen in
     let games = ap (λ (seen : Seen). seen.games) c.open_base-opened.ensures.measured ∙ ap (λ (seen : Seen). seen.games) c.in_default.ensures.chosen in
-    opening c.args.wanted.now.create c.args.wanted.now.strict (g.F.Files.seen c.args.files.now) _ c.in-Ok-opened.opened.0 c.in-Ok-new.machine c.in-Ok-opened.opened.1
-    (subst P c.in_default.ensures.chosen c.in-Ok-opened.ensures.opens) index names games c.in-Ok-new.ensures.begins
+    opening c.args.wanted.now.create c.args.wanted.now.strict c.args.wanted.now.desk (g.F.Files.seen c.args.files.now) _ c.in-Ok-opened.opened.0 c.in-Ok-new.desk c.in-Ok-opened.opened.1
+    (subst P c.in_default.ensures.chosen c.in-Ok-opened.ensures.opens) index names games
+    (subst (λ (desk : Bool). Starts c.in-Ok-opened.opened.0 desk c.in-Ok-new.desk) (ap (λ (clients : Clients). clients.tagged) c.new.ensures.new) c.in-Ok-new.ensures.stands)
 
 pub returns-in-Ok-new-clause-sound : goal.returns-in-Ok-new-clause-sound
-returns-in-Ok-new-clause-sound g c = c.in-Ok-new.ensures.begins.sound (g.F.Files.seen c.open_base-opened.new.files) c.in-Ok-opened.ensures.at_end
+returns-in-Ok-new-clause-sound g c = c.in-Ok-new.ensures.sound (g.F.Files.seen c.open_base-opened.new.files) c.in-Ok-opened.ensures.at_end

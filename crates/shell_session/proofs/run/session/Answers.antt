@@ -16,7 +16,7 @@ use Rattle.shell_session.proofs.run.session.Goals as goal
 pub returns-in-Err-write_opening-clause-answers : goal.returns-in-Err-write_opening-clause-answers
 returns-in-Err-write_opening-clause-answers g c = λ index names games script i n told left.
     let words : List (List ℕ) = map string_bytes c.args.words.now in
-    let wanted : Wanted = record { name = c.in-Some.wanted.name.now; create = c.in-Some.wanted.create; strict = c.in-Some.wanted.strict } in
+    let wanted : Wanted = record { name = c.in-Some.wanted.name.now; create = c.in-Some.wanted.create; strict = c.in-Some.wanted.strict; desk = c.in-Some.wanted.desk } in
     let input = inlet (g.S.Source.left c.args.input.now) (g.S.Source.budget c.args.input.now) (g.S.Source.faults c.args.input.now) in
     let P : Status → Type 0 = λ status. Answers (given words index names games script (meanings (λ b. (goal.TreeView-dyn g (b.vtable, b.value)).rows b.value) (λ b. (goal.TreeView-dyn g (b.vtable, b.value)).told b.value) c.args.views.now.items)) (g.K.Sink.taken c.args.out.now) (g.K.Sink.taken c.write_opening.new.out) input input (around (g.F.Files.seen c.open.new.files) (meanings (λ b. (goal.TreeView-dyn g (b.vtable, b.value)).rows b.value) (λ b. (goal.TreeView-dyn g (b.vtable, b.value)).told b.value) c.args.views.now.items) none_told (meanings (λ b. (goal.TreeView-dyn g (b.vtable, b.value)).rows b.value) (λ b. (goal.TreeView-dyn g (b.vtable, b.value)).told b.value) c.args.views.now.items)) status in
     subst P (sym c.from.ensures)
@@ -26,7 +26,7 @@ returns-in-Err-write_opening-clause-answers g c = λ index names games script i 
 pub returns-in-Err-write_opening-clause-due : goal.returns-in-Err-write_opening-clause-due
 returns-in-Err-write_opening-clause-due g c = λ index names games script i n told left no_files no_input no_output.
     let words : List (List ℕ) = map string_bytes c.args.words.now in
-    let wanted : Wanted = record { name = c.in-Some.wanted.name.now; create = c.in-Some.wanted.create; strict = c.in-Some.wanted.strict } in
+    let wanted : Wanted = record { name = c.in-Some.wanted.name.now; create = c.in-Some.wanted.create; strict = c.in-Some.wanted.strict; desk = c.in-Some.wanted.desk } in
     let input = inlet (g.S.Source.left c.args.input.now) (g.S.Source.budget c.args.input.now) (g.S.Source.faults c.args.input.now) in
     let P : Status → Type 0 = λ status. (status ≡ Memory) ⊎ Due (given words index names games script (meanings (λ b. (goal.TreeView-dyn g (b.vtable, b.value)).rows b.value) (λ b. (goal.TreeView-dyn g (b.vtable, b.value)).told b.value) c.args.views.now.items)) status in
     subst P (sym c.from.ensures)
@@ -39,7 +39,7 @@ returns-in-Err-write_opening-clause-due g c = λ index names games script i n to
 pub returns-in-Err-write_opening-clause-words : goal.returns-in-Err-write_opening-clause-words
 returns-in-Err-write_opening-clause-words g c =
     let words : List (List ℕ) = map string_bytes c.args.words.now in
-    let wanted : Wanted = record { name = c.in-Some.wanted.name.now; create = c.in-Some.wanted.create; strict = c.in-Some.wanted.strict } in
+    let wanted : Wanted = record { name = c.in-Some.wanted.name.now; create = c.in-Some.wanted.create; strict = c.in-Some.wanted.strict; desk = c.in-Some.wanted.desk } in
     let stop = c.in-Err-write_opening.stop in (
       λ (is : c.from.result ≡ Usage). absurd (words_running (status_of stop) (stop_interrupts stop) (sym c.from.ensures ∙ is)),
       λ (none : words_read words ≡ None). let clash : None ≡ Some wanted = sym none ∙ sym c.in-Some.ensures.read in absurd cc,
@@ -60,7 +60,7 @@ returns-in-Err-write_opening-clause-reads g c =
 pub returns-in-Err-write_opening-clause-choices : goal.returns-in-Err-write_opening-clause-choices
 returns-in-Err-write_opening-clause-choices g c =
     let words : List (List ℕ) = map string_bytes c.args.words.now in
-    let wanted : Wanted = record { name = c.in-Some.wanted.name.now; create = c.in-Some.wanted.create; strict = c.in-Some.wanted.strict } in
+    let wanted : Wanted = record { name = c.in-Some.wanted.name.now; create = c.in-Some.wanted.create; strict = c.in-Some.wanted.strict; desk = c.in-Some.wanted.desk } in
     let old = (g.F.Files.seen c.args.files.now).choices in
     let new = (g.F.Files.seen c.open.new.files).choices in
     subst (λ (status : Status). Chooses status words old new) (sym c.from.ensures)
@@ -69,7 +69,7 @@ returns-in-Err-write_opening-clause-choices g c =
 
 pub returns-in-Ok-run_script-clause-answers : goal.returns-in-Ok-run_script-clause-answers
 returns-in-Ok-run_script-clause-answers g c = λ index names games script i n told left.
-    let wanted : Wanted = record { name = c.in-Some.wanted.name.now; create = c.in-Some.wanted.create; strict = c.in-Some.wanted.strict } in
+    let wanted : Wanted = record { name = c.in-Some.wanted.name.now; create = c.in-Some.wanted.create; strict = c.in-Some.wanted.strict; desk = c.in-Some.wanted.desk } in
     whole_session (map string_bytes c.args.words.now) index names games script (meanings (λ b. (goal.TreeView-dyn g (b.vtable, b.value)).rows b.value) (λ b. (goal.TreeView-dyn g (b.vtable, b.value)).told b.value) c.args.views.now.items) (g.F.Files.seen c.args.files.now) (g.F.Files.seen c.open.new.files) (g.F.Files.seen c.run_script.new.files) (meanings (λ b. (goal.TreeView-dyn g (b.vtable, b.value)).rows b.value) (λ b. (goal.TreeView-dyn g (b.vtable, b.value)).told b.value) (with_items c.args.views.now c.run_script.new.views).items) wanted c.in-Ok.opened.0 c.in-Ok.opened.1 c.games.result _ (g.K.Sink.taken c.write_opening.new.out) _
     (inlet (g.S.Source.left c.args.input.now) (g.S.Source.budget c.args.input.now) (g.S.Source.faults c.args.input.now))
     (inlet (g.S.Source.left c.run_script.new.input) (g.S.Source.budget c.run_script.new.input) (g.S.Source.faults c.run_script.new.input))
@@ -77,7 +77,7 @@ returns-in-Ok-run_script-clause-answers g c = λ index names games script i n to
 
 pub returns-in-Ok-run_script-clause-due : goal.returns-in-Ok-run_script-clause-due
 returns-in-Ok-run_script-clause-due g c = λ index names games script i n told left no_files no_input no_output.
-    let wanted : Wanted = record { name = c.in-Some.wanted.name.now; create = c.in-Some.wanted.create; strict = c.in-Some.wanted.strict } in
+    let wanted : Wanted = record { name = c.in-Some.wanted.name.now; create = c.in-Some.wanted.create; strict = c.in-Some.wanted.strict; desk = c.in-Some.wanted.desk } in
     let input = inlet (g.S.Source.left c.args.input.now) (g.S.Source.budget c.args.input.now) (g.S.Source.faults c.args.input.now) in
     let input' = inlet (g.S.Source.left c.run_script.new.input) (g.S.Source.budget c.run_script.new.input) (g.S.Source.faults c.run_script.new.input) in
     due_of (given (map string_bytes c.args.words.now) index names games script (meanings (λ b. (goal.TreeView-dyn g (b.vtable, b.value)).rows b.value) (λ b. (goal.TreeView-dyn g (b.vtable, b.value)).told b.value) c.args.views.now.items)) (g.K.Sink.taken c.args.out.now) (g.K.Sink.taken c.run_script.new.out) input input' (around (g.F.Files.seen c.run_script.new.files) (meanings (λ b. (goal.TreeView-dyn g (b.vtable, b.value)).rows b.value) (λ b. (goal.TreeView-dyn g (b.vtable, b.value)).told b.value) c.args.views.now.items) none_told (meanings (λ b. (goal.TreeView-dyn g (b.vtable, b.value)).rows b.value) (λ b. (goal.TreeView-dyn g (b.vtable, b.value)).told b.value) (with_items c.args.views.now c.run_script.new.views).items)) Done _ _ _ _ _ _
@@ -87,7 +87,7 @@ returns-in-Ok-run_script-clause-due g c = λ index names games script i n told l
 
 pub returns-clause-answers : goal.returns-clause-answers
 returns-clause-answers g c = λ index names games script i n told left.
-    let wanted : Wanted = record { name = c.in-Some.wanted.name.now; create = c.in-Some.wanted.create; strict = c.in-Some.wanted.strict } in
+    let wanted : Wanted = record { name = c.in-Some.wanted.name.now; create = c.in-Some.wanted.create; strict = c.in-Some.wanted.strict; desk = c.in-Some.wanted.desk } in
     part_session (map string_bytes c.args.words.now) index names games script (meanings (λ b. (goal.TreeView-dyn g (b.vtable, b.value)).rows b.value) (λ b. (goal.TreeView-dyn g (b.vtable, b.value)).told b.value) c.args.views.now.items) (g.F.Files.seen c.args.files.now) (g.F.Files.seen c.open.new.files) (g.F.Files.seen c.run_script.new.files) (meanings (λ b. (goal.TreeView-dyn g (b.vtable, b.value)).rows b.value) (λ b. (goal.TreeView-dyn g (b.vtable, b.value)).told b.value) (with_items c.args.views.now c.run_script.new.views).items) wanted c.in-Ok.opened.0 c.in-Ok.opened.1 c.games.result _ (g.K.Sink.taken c.write_opening.new.out) _
     (inlet (g.S.Source.left c.args.input.now) (g.S.Source.budget c.args.input.now) (g.S.Source.faults c.args.input.now))
     (inlet (g.S.Source.left c.run_script.new.input) (g.S.Source.budget c.run_script.new.input) (g.S.Source.faults c.run_script.new.input))
@@ -96,7 +96,7 @@ returns-clause-answers g c = λ index names games script i n told left.
 
 pub returns-clause-due : goal.returns-clause-due
 returns-clause-due g c = λ index names games script i n told left no_files no_input no_output.
-    let wanted : Wanted = record { name = c.in-Some.wanted.name.now; create = c.in-Some.wanted.create; strict = c.in-Some.wanted.strict } in
+    let wanted : Wanted = record { name = c.in-Some.wanted.name.now; create = c.in-Some.wanted.create; strict = c.in-Some.wanted.strict; desk = c.in-Some.wanted.desk } in
     let input = inlet (g.S.Source.left c.args.input.now) (g.S.Source.budget c.args.input.now) (g.S.Source.faults c.args.input.now) in
     let input' = inlet (g.S.Source.left c.run_script.new.input) (g.S.Source.budget c.run_script.new.input) (g.S.Source.faults c.run_script.new.input) in
     due_of (given (map string_bytes c.args.words.now) index names games script (meanings (λ b. (goal.TreeView-dyn g (b.vtable, b.value)).rows b.value) (λ b. (goal.TreeView-dyn g (b.vtable, b.value)).told b.value) c.args.views.now.items)) (g.K.Sink.taken c.args.out.now) (g.K.Sink.taken c.run_script.new.out) input input' (around (g.F.Files.seen c.run_script.new.files) (meanings (λ b. (goal.TreeView-dyn g (b.vtable, b.value)).rows b.value) (λ b. (goal.TreeView-dyn g (b.vtable, b.value)).told b.value) c.args.views.now.items) none_told (meanings (λ b. (goal.TreeView-dyn g (b.vtable, b.value)).rows b.value) (λ b. (goal.TreeView-dyn g (b.vtable, b.value)).told b.value) (with_items c.args.views.now c.run_script.new.views).items)) c.in-Err-run_script.status _ _ _ _ _ _
@@ -107,7 +107,7 @@ returns-clause-due g c = λ index names games script i n told left no_files no_i
 
 pub returns-clause-choices : goal.returns-clause-choices
 returns-clause-choices g c =
-    let wanted : Wanted = record { name = c.in-Some.wanted.name.now; create = c.in-Some.wanted.create; strict = c.in-Some.wanted.strict } in
+    let wanted : Wanted = record { name = c.in-Some.wanted.name.now; create = c.in-Some.wanted.create; strict = c.in-Some.wanted.strict; desk = c.in-Some.wanted.desk } in
     chooses_running c.in-Err-run_script.status (map string_bytes c.args.words.now) _ _ c.in-Err-run_script.ensures.kept.ends
     (chosen (map string_bytes c.args.words.now) wanted _ _ (sym c.in-Some.ensures.read) (c.run_script.ensures.kept.choices ∙ c.in-Ok.ensures.chosen))
 
@@ -117,13 +117,13 @@ returns-in-Err-write_opening-clause-asks g c = λ index names games script i n t
 
 pub returns-in-Ok-run_script-clause-asks : goal.returns-in-Ok-run_script-clause-asks
 returns-in-Ok-run_script-clause-asks g c = λ index names games script i n told left.
-    let wanted : Wanted = record { name = c.in-Some.wanted.name.now; create = c.in-Some.wanted.create; strict = c.in-Some.wanted.strict } in
+    let wanted : Wanted = record { name = c.in-Some.wanted.name.now; create = c.in-Some.wanted.create; strict = c.in-Some.wanted.strict; desk = c.in-Some.wanted.desk } in
     asks_script (map string_bytes c.args.words.now) index names games script (meanings (λ b. (goal.TreeView-dyn g (b.vtable, b.value)).rows b.value) (λ b. (goal.TreeView-dyn g (b.vtable, b.value)).told b.value) c.args.views.now.items) (g.F.Files.seen c.args.files.now) (g.F.Files.seen c.open.new.files) wanted c.in-Ok.opened.0 c.in-Ok.opened.1
     (g.S.Source.left c.args.input.now) _ _ _ (sym c.in-Some.ensures.read) c.in-Ok.ensures.opens (meanings_few (λ b. (goal.TreeView-dyn g (b.vtable, b.value)).rows b.value) (λ b. (goal.TreeView-dyn g (b.vtable, b.value)).told b.value) c.args.views.now.items c.requires.few) _ (ap (λ l. meanings (λ b. (goal.TreeView-dyn g (b.vtable, b.value)).rows b.value) (λ b. (goal.TreeView-dyn g (b.vtable, b.value)).told b.value) l) c.as_mut_slice.ensures.value) c.open.ensures.asks c.run_script.ensures.asks i n told left
 
 pub returns-clause-asks : goal.returns-clause-asks
 returns-clause-asks g c = λ index names games script i n told left.
-    let wanted : Wanted = record { name = c.in-Some.wanted.name.now; create = c.in-Some.wanted.create; strict = c.in-Some.wanted.strict } in
+    let wanted : Wanted = record { name = c.in-Some.wanted.name.now; create = c.in-Some.wanted.create; strict = c.in-Some.wanted.strict; desk = c.in-Some.wanted.desk } in
     asks_script (map string_bytes c.args.words.now) index names games script (meanings (λ b. (goal.TreeView-dyn g (b.vtable, b.value)).rows b.value) (λ b. (goal.TreeView-dyn g (b.vtable, b.value)).told b.value) c.args.views.now.items) (g.F.Files.seen c.args.files.now) (g.F.Files.seen c.open.new.files) wanted c.in-Ok.opened.0 c.in-Ok.opened.1
     (g.S.Source.left c.args.input.now) _ _ _ (sym c.in-Some.ensures.read) c.in-Ok.ensures.opens (meanings_few (λ b. (goal.TreeView-dyn g (b.vtable, b.value)).rows b.value) (λ b. (goal.TreeView-dyn g (b.vtable, b.value)).told b.value) c.args.views.now.items c.requires.few) _ (ap (λ l. meanings (λ b. (goal.TreeView-dyn g (b.vtable, b.value)).rows b.value) (λ b. (goal.TreeView-dyn g (b.vtable, b.value)).told b.value) l) c.as_mut_slice.ensures.value) c.open.ensures.asks c.run_script.ensures.asks i n told left
 

@@ -1,95 +1,122 @@
-use Rattle.std.proofs.Common.{◌≡◌, ◌+◌, ℕ, None, true, ap, sym, subst, ◌∙◌, arith}
-use Rattle.std.specs.Prelude.{IsSome}
+use Rattle.std.proofs.Common.{◌≡◌, ◌+◌, None, true, ap, sym, subst, ◌∙◌, arith}
 use Rattle.shell_state.proofs.Quietly.{held_by, if_ok, tables_with}
 use Rattle.shell_state.proofs.Served.{on_ok}
 use Rattle.shell_state.specs.Slots.{slot_at}
 use Rattle.shell_state.specs.Stands.{Holding, Sound, Stands, Tables}
+use Rattle.shell_state.specs.State.{State}
 use Rattle.tree_live.specs.Slots.{Slotted, in_slot}
-use Rattle.view_commands.specs.Views.{is_shown, left, with_slot}
-use Rattle.view_commands.proofs.HitLaws.{fits_with, watches_of}
-use Rattle.view_commands.proofs.SlotLaws.{IsSlotOf, in_slot_of, left_empty, left_line, left_right, left_same, left_stands, no_left_line, shown_none, shown_some, slot_is, some_below, stays_right, stays_standing}
+use Rattle.view_commands.specs.Views.{is_own, is_shown, left, own_slot, unwatch_line, unwatch_work}
+use Rattle.view_commands.proofs.HitLaws.{fits_with, slots_count, watches_of}
+use Rattle.view_commands.proofs.SlotLaws.{IsSlotOf, left_empty, left_line, left_right, left_same, left_stands, no_left_line, own_is, right_behind, shown_none, shown_own, shown_some, slot_own, slotted, some_below, stays_right, stays_standing, unwatch_is}
 use Rattle.view_commands.proofs.viewing.unwatch.Goals as goal
 use Rattle.view_commands.proofs.viewing.unwatch.Goals.{in-Ok, in-Err}
 
 pub returns-clause-line : goal.returns-clause-line
 returns-clause-line g c = λ seen s st.
     let watches = c.machine.inside.slots.watches in
+    let w = c.args.window in
     let number = c.args.number in
     let k = c.slot_of.result in
     let st' = subst (λ (h : Holding). Stands h seen s) (sym c.machine.view_is) st in
-    let of : IsSlotOf number k = record { slot = c.slot_of.ensures.slot; past = c.slot_of.ensures.past } in
-    let is = watches_of s watches (ap (λ (t : Tables). t.hits) st'.tables) number in
-    let at = in_slot_of watches number k of c.unwatch.ensures.eight in
-    let slot = slot_at s.slots number in
+    let hits = ap (λ (t : Tables). t.hits) st'.tables in
+    let of : IsSlotOf w number k = record { room = c.requires.room; slot = c.slot_of.ensures.slot; past = c.slot_of.ensures.past } in
+    let is = watches_of s watches hits k in
+    let same : slot_at s.slots k ≡ own_slot w s number = sym (own_is w s number k of (slots_count s watches hits ∙ c.unwatch.ensures.eight)) in
     elim c.match-unwatch.branch [
-      | in-Ok w ↦
-          rw (w.result-is) (if_ok _ _ w.game_line.result
-          (λ line same. same ∙ left_line number slot (shown_some s slot (in_slot watches number) is (subst IsSome at w.in-Ok.ensures.answer))) w.game_line.ensures)
-      | in-Err w ↦
-          rw (w.result-is) (if_ok _ _ w.game_line-in-Err.result
-          (λ line same. same ∙ no_left_line number slot (shown_none s slot (in_slot watches number) is (sym at ∙ w.in-Err.ensures.answer))) w.game_line-in-Err.ensures)
+      | in-Ok b ↦
+          rw (b.result-is) (if_ok _ _ b.game_line.result
+          (λ line line_is. line_is ∙ left_line number (slot_at s.slots k) (shown_some s (slot_at s.slots k) (in_slot watches k) is b.in-Ok.ensures.answer) ∙ ap (unwatch_line number) same) b.game_line.ensures)
+      | in-Err b ↦
+          rw (b.result-is) (if_ok _ _ b.game_line-in-Err.result
+          (λ line line_is. line_is ∙ no_left_line number (slot_at s.slots k) (shown_none s (slot_at s.slots k) (in_slot watches k) is b.in-Err.ensures.answer) ∙ ap (unwatch_line number) same) b.game_line-in-Err.ensures)
     ]
 
 pub returns-clause-stands : goal.returns-clause-stands
 returns-clause-stands g c = λ seen s st.
     let machine = c.machine.inside in
     let watches = machine.slots.watches in
+    let w = c.args.window in
     let number = c.args.number in
     let k = c.slot_of.result in
     let st' = subst (λ (h : Holding). Stands h seen s) (sym c.machine.view_is) st in
-    let of : IsSlotOf number k = record { slot = c.slot_of.ensures.slot; past = c.slot_of.ensures.past } in
-    let is = watches_of s watches (ap (λ (t : Tables). t.hits) st'.tables) number in
-    let at = in_slot_of watches number k of c.unwatch.ensures.eight in
-    let slot = slot_at s.slots number in
+    let hits = ap (λ (t : Tables). t.hits) st'.tables in
+    let of : IsSlotOf w number k = record { room = c.requires.room; slot = c.slot_of.ensures.slot; past = c.slot_of.ensures.past } in
+    let is = watches_of s watches hits k in
+    let after : (unwatch_work w number).after s ≡ slotted s k (left (slot_at s.slots k)) = unwatch_is w s number k of (slots_count s watches hits ∙ c.unwatch.ensures.eight) in
     elim c.match-unwatch.branch [
-      | in-Ok w ↦
-          on_ok _ c.match-unwatch.result (left_stands machine.base machine.index watches c.unwatch.new.self.watches machine.seat.filter machine.seat.saved.items seen s number k st'
-          (ap (λ (x : Slotted). x.watches) w.in-Ok.ensures.watched) (slot_is number k of (some_below watches k c.unwatch.ensures.eight w.in-Ok.ensures.answer)))
-      | in-Err w ↦
+      | in-Ok b ↦
           on_ok _ c.match-unwatch.result
-          (subst (λ (x : Slotted). Stands (held_by machine.base (tables_with machine.index x.watches) machine.seat.filter machine.seat.saved.items) seen (with_slot s number (left slot))) (sym w.in-Err.ensures.unchanged)
-          (stays_standing _ seen s number (left slot) (left_same slot (shown_none s slot (in_slot watches number) is (sym at ∙ w.in-Err.ensures.answer))) st'))
+          (subst (λ (t : State). Stands (held_by machine.base (tables_with machine.index c.unwatch.new.self.watches) machine.seat.filter machine.seat.saved.items) seen t) (sym after)
+          (left_stands machine.base machine.index watches c.unwatch.new.self.watches machine.seat.filter machine.seat.saved.items seen s k st' (ap (λ (x : Slotted). x.watches) b.in-Ok.ensures.watched)))
+      | in-Err b ↦
+          let none = shown_none s (slot_at s.slots k) (in_slot watches k) is b.in-Err.ensures.answer in
+          on_ok _ c.match-unwatch.result
+          (subst (λ (x : Slotted). Stands (held_by machine.base (tables_with machine.index x.watches) machine.seat.filter machine.seat.saved.items) seen ((unwatch_work w number).after s)) (sym b.in-Err.ensures.unchanged)
+          (subst (λ (t : State). Stands (held_by machine.base (tables_with machine.index watches) machine.seat.filter machine.seat.saved.items) seen t) (sym after)
+          (stays_standing _ seen s k (left (slot_at s.slots k)) (left_same (slot_at s.slots k) none) st')))
     ]
 
 pub returns-clause-right : goal.returns-clause-right
 returns-clause-right g c = λ seen s st right.
     let watches = c.machine.inside.slots.watches in
+    let w = c.args.window in
     let number = c.args.number in
     let k = c.slot_of.result in
     let st' = subst (λ (h : Holding). Stands h seen s) (sym c.machine.view_is) st in
-    let of : IsSlotOf number k = record { slot = c.slot_of.ensures.slot; past = c.slot_of.ensures.past } in
-    let is = watches_of s watches (ap (λ (t : Tables). t.hits) st'.tables) number in
-    let at = in_slot_of watches number k of c.unwatch.ensures.eight in
-    let slot = slot_at s.slots number in
+    let hits = ap (λ (t : Tables). t.hits) st'.tables in
+    let of : IsSlotOf w number k = record { room = c.requires.room; slot = c.slot_of.ensures.slot; past = c.slot_of.ensures.past } in
+    let is = watches_of s watches hits k in
+    let slot = left (slot_at s.slots k) in
+    let after : (unwatch_work w number).after s ≡ slotted s k slot = unwatch_is w s number k of (slots_count s watches hits ∙ c.unwatch.ensures.eight) in
     elim c.match-unwatch.branch [
-      | in-Ok w ↦
-          let same : k ≡ number = slot_is number k of (some_below watches k c.unwatch.ensures.eight w.in-Ok.ensures.answer) in
-          on_ok _ c.match-unwatch.result (left_right _ s number (c.machine.inside.slots.first + k) (left slot) c.args.views.now c.unwatch.new.views right
-          (left_empty slot (shown_some s slot (in_slot watches number) is (subst IsSome at w.in-Ok.ensures.answer))) (omega (arith, same, c.machine.invariant.1.0))
-          w.in-Ok.ensures.gone c.unwatch.ensures.others)
-      | in-Err w ↦
-          on_ok _ c.match-unwatch.result (stays_right _ s number (left slot) c.args.views.now c.unwatch.new.views
-          (left_same slot (shown_none s slot (in_slot watches number) is (sym at ∙ w.in-Err.ensures.answer))) w.in-Err.ensures.same_views right)
+      | in-Ok b ↦
+          on_ok _ c.match-unwatch.result
+          (right_behind _ w _ _ c.unwatch.new.views after
+          (left_right _ w s k (c.machine.inside.slots.first + k) slot c.args.views.now c.unwatch.new.views right
+          (left_empty (slot_at s.slots k) (shown_some s (slot_at s.slots k) (in_slot watches k) is b.in-Ok.ensures.answer)) (omega (arith, c.machine.invariant.1.0))
+          b.in-Ok.ensures.gone c.unwatch.ensures.others))
+      | in-Err b ↦
+          on_ok _ c.match-unwatch.result
+          (right_behind _ w _ _ c.unwatch.new.views after
+          (stays_right _ w s k slot c.args.views.now c.unwatch.new.views
+          (left_same (slot_at s.slots k) (shown_none s (slot_at s.slots k) (in_slot watches k) is b.in-Err.ensures.answer)) b.in-Err.ensures.same_views right))
     ]
 
 pub returns-clause-left : goal.returns-clause-left
 returns-clause-left g c = λ seen s st j not.
     let watches = c.machine.inside.slots.watches in
+    let w = c.args.window in
     let number = c.args.number in
     let k = c.slot_of.result in
     let st' = subst (λ (h : Holding). Stands h seen s) (sym c.machine.view_is) st in
-    let of : IsSlotOf number k = record { slot = c.slot_of.ensures.slot; past = c.slot_of.ensures.past } in
-    let is = watches_of s watches (ap (λ (t : Tables). t.hits) st'.tables) number in
-    let at = in_slot_of watches number k of c.unwatch.ensures.eight in
+    let hits = ap (λ (t : Tables). t.hits) st'.tables in
+    let of : IsSlotOf w number k = record { room = c.requires.room; slot = c.slot_of.ensures.slot; past = c.slot_of.ensures.past } in
+    let is = watches_of s watches hits k in
     elim c.match-unwatch.branch [
-      | in-Ok w ↦
-          let same : k ≡ number = slot_is number k of (some_below watches k c.unwatch.ensures.eight w.in-Ok.ensures.answer) in
-          let shown : is_shown (slot_at s.slots number) ≡ true = shown_some s (slot_at s.slots number) (in_slot watches number) is (subst IsSome at w.in-Ok.ensures.answer) in
+      | in-Ok b ↦
+          let own = slot_own w number k of (some_below watches k c.unwatch.ensures.eight b.in-Ok.ensures.answer) in
+          let shown : is_shown (slot_at s.slots k) ≡ true = shown_some s (slot_at s.slots k) (in_slot watches k) is b.in-Ok.ensures.answer in
           c.unwatch.ensures.others j (λ e.
-          let here : j ≡ number = omega (arith, e, same, c.machine.invariant.1.0) in
-          let yes : is_shown (slot_at s.slots j) ≡ true = ap (λ (n : ℕ). is_shown (slot_at s.slots n)) here ∙ shown in
+          let here : j ≡ k = omega (arith, e, c.machine.invariant.1.0) in
+          shown_own w s k j own shown here not)
+      | in-Err b ↦ ap (λ views. in_slot views j) b.in-Err.ensures.same_views
+    ]
+
+pub returns-clause-others : goal.returns-clause-others
+returns-clause-others g c = λ j not.
+    let watches = c.machine.inside.slots.watches in
+    let w = c.args.window in
+    let number = c.args.number in
+    let k = c.slot_of.result in
+    let of : IsSlotOf w number k = record { room = c.requires.room; slot = c.slot_of.ensures.slot; past = c.slot_of.ensures.past } in
+    elim c.match-unwatch.branch [
+      | in-Ok b ↦
+          let own = slot_own w number k of (some_below watches k c.unwatch.ensures.eight b.in-Ok.ensures.answer) in
+          c.unwatch.ensures.others j (λ e.
+          let here : j ≡ k = omega (arith, e, c.machine.invariant.1.0) in
+          let yes : is_own w j ≡ true = ap (is_own w) here ∙ own in
           absurd (cc (not, yes)))
-      | in-Err w ↦ ap (λ views. in_slot views j) w.in-Err.ensures.same_views
+      | in-Err b ↦ ap (λ views. in_slot views j) b.in-Err.ensures.same_views
     ]
 
 pub returns-clause-sound : goal.returns-clause-sound

@@ -7,6 +7,7 @@ abbrev pub invariant-looks : goal.invariant-looks
 invariant-looks g l = record {
   kept : before l.self.reader.unread (g.S.Source.left l.input) ≡ before l.fn.self.reader.unread (g.S.Source.left l.fn.input);
   rest : l.self ≡ record l.fn.self { reader = l.self.reader };
+  tagged : l.self.reader.tagged ≡ l.fn.self.reader.tagged;
   used : l.self.reader.used ≡ l.fn.self.reader.used;
   sum : g.S.Source.budget l.input + length l.self.reader.unread ≡ g.S.Source.budget l.fn.input + length l.fn.self.reader.unread;
   falls : g.S.Source.budget l.input ≤ g.S.Source.budget l.fn.input;

@@ -17,7 +17,7 @@ returns-clause-part c = λ l.
     let same : take count c.args.self.now.unread ≡ take room c.args.self.now.unread =
     ap (λ b. take (length b) c.args.self.now.unread) c.within-within.ensures.within ∙ front_part room c.args.self.now.unread in
     let size = ap length c.within-within.ensures.within ∙ length-take room c.args.self.now.unread in
-    took_part c.args.self.now c.take.new.self count l (ap feed_at same ∙ c.requires.none) (omega (arith, size)) c.in_ok-take.ensures.unread c.in_ok-take.ensures.line c.in_ok-take.ensures.used
+    took_part c.args.self.now c.take.new.self count l (ap feed_at same ∙ c.requires.none) (omega (arith, size)) c.in_ok-take.ensures.unread c.take.ensures.tagged c.in_ok-take.ensures.line c.in_ok-take.ensures.used
 
 pub returns-clause-full : goal.returns-clause-full
 returns-clause-full c = λ is.

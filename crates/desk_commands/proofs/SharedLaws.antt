@@ -1,5 +1,5 @@
 -- What a command makes of what is shared, whoever says it.
-use Rattle.std.proofs.Common.{◌≡◌, ℕ, zero, suc, ◌+◌, Bool, true, false, cond, List, [], ◌∷◌, Option, Some, None, Result, Ok, Err, slice_get, refl, ap, subst, ◌∙◌, length}
+use Rattle.std.proofs.Common.{◌≡◌, ℕ, zero, suc, ◌+◌, Bool, true, false, cond, List, [], ◌∷◌, Option, Some, None, Result, Ok, Err, slice_get, slice_set, nat_lt, refl, sym, ap, subst, ◌∙◌, length}
 use Rattle.base_core.specs.Base.{Base, Held}
 use Rattle.base_core.specs.Edits.{added}
 use Rattle.command_runs.specs.Plain.{after_all}
@@ -26,12 +26,15 @@ use Rattle.report_commands.specs.Twins.{with_deleted, found_twins}
 use Rattle.script_text.specs.declared.command.Command.{Command}
 use Rattle.script_text.specs.declared.command.Command.TheVariants.{Nothing, Find, SearchPosition, SearchMaterial, SearchHeader, Reset, Clear, Negate, Restrict, Keep, Take, And, Or, Drop, Hits, List as Listing, Show, Export, Import, Replace, Eco, Tag, Delete, Undelete, Mark, Tree, Watch, View, Unwatch, Cross, Twins, Index, Save, Info, Demo, Quit, Compact}
 use Rattle.script_text.specs.declared.fault.ScriptFault.{ScriptFault}
+use Rattle.cell_core.specs.Packed.{packed_of}
 use Rattle.shell_commands.specs.Tasks.{order_work}
 use Rattle.shell_state.specs.Refusing.{not_added, refusal_of, index_is_full}
 use Rattle.shell_state.specs.Slots.{Slot}
 use Rattle.shell_state.specs.State.{Shared, State, with_index}
 use Rattle.shell_state.specs.declared.refusing.Refusal.{Refusal}
-use Rattle.desk_runs.specs.Desk.{is_private, order_kind}
+use Rattle.view_commands.specs.Views.{left, own_slot, showing, with_slot}
+use Rattle.view_commands.specs.declared.window.Window.{Window}
+use Rattle.desk_commands.specs.Kinds.{is_private, order_kind}
 
 -- What a client has of his own: his seat, and what his slots show.
 pub record Own : Type 0 where
@@ -44,46 +47,53 @@ state_of shared own = record { shared = shared; seat = own.seat; slots = own.slo
 
 -- ---- private commands
 
-pub private-keeps : (order : Result Command ScriptFault) (body : List ℕ) (h : Shared) (own : Own) → is_private (order_kind order) ≡ true
-    → ((order_work order body).after (state_of h own)).shared ≡ h
-private-keeps (Err fault) body h own e = refl
-private-keeps (Ok Nothing) body h own e = refl
-private-keeps (Ok (Find board side)) body h own e = refl
-private-keeps (Ok (SearchPosition op query)) body h own e = refl
-private-keeps (Ok (SearchMaterial op query)) body h own e = refl
-private-keeps (Ok (SearchHeader op query)) body h own e = refl
-private-keeps (Ok Reset) body h own e = refl
-private-keeps (Ok Clear) body h own e = refl
-private-keeps (Ok Negate) body h own e = refl
-private-keeps (Ok (Restrict first last)) body h own e = refl
-private-keeps (Ok (Keep name)) body h own e = refl
-private-keeps (Ok (Take name)) body h own e = refl
-private-keeps (Ok (And name)) body h own e = refl
-private-keeps (Ok (Or name)) body h own e = refl
-private-keeps (Ok (Drop name)) body h own e = refl
-private-keeps (Ok Hits) body h own e = refl
-private-keeps (Ok Listing) body h own e = refl
-private-keeps (Ok (Show game)) body h own e = refl
-private-keeps (Ok Export) body h own e = refl
-private-keeps (Ok (Import word)) body h own e = absurd cc
-private-keeps (Ok (Replace game word)) body h own e = absurd cc
-private-keeps (Ok (Eco word)) body h own e = absurd cc
-private-keeps (Ok (Tag game edit)) body h own e = absurd cc
-private-keeps (Ok (Delete game)) body h own e = absurd cc
-private-keeps (Ok (Undelete game)) body h own e = absurd cc
-private-keeps (Ok (Mark game bit on)) body h own e = absurd cc
-private-keeps (Ok (Tree board side)) body h own e = refl
-private-keeps (Ok (Watch slot board side)) body h own e = refl
-private-keeps (Ok (View slot)) body h own e = refl
-private-keeps (Ok (Unwatch slot)) body h own e = refl
-private-keeps (Ok (Cross event)) body h own e = refl
-private-keeps (Ok (Twins depth)) body h own e = absurd cc
-private-keeps (Ok (Index depth)) body h own e = absurd cc
-private-keeps (Ok Save) body h own e = absurd cc
-private-keeps (Ok Info) body h own e = refl
-private-keeps (Ok (Demo seed games)) body h own e = absurd cc
-private-keeps (Ok Quit) body h own e = absurd cc
-private-keeps (Ok Compact) body h own e = absurd cc
+slot-chosen : (b : Bool) (s : State) (slots : List Slot) → (cond b (record s { slots = slots }) s).shared ≡ s.shared
+slot-chosen true s slots = refl
+slot-chosen false s slots = refl
+
+slot-keeps : (w : Window) (s : State) (k : ℕ) (slot : Slot) → (with_slot w s k slot).shared ≡ s.shared
+slot-keeps w s k slot = slot-chosen (nat_lt k w.count) s (slice_set s.slots (w.first + k) slot)
+
+pub private-keeps : (w : Window) (order : Result Command ScriptFault) (body : List ℕ) (h : Shared) (own : Own) → is_private (order_kind order) ≡ true
+    → ((order_work w order body).after (state_of h own)).shared ≡ h
+private-keeps w (Err fault) body h own e = refl
+private-keeps w (Ok Nothing) body h own e = refl
+private-keeps w (Ok (Find board side)) body h own e = refl
+private-keeps w (Ok (SearchPosition op query)) body h own e = refl
+private-keeps w (Ok (SearchMaterial op query)) body h own e = refl
+private-keeps w (Ok (SearchHeader op query)) body h own e = refl
+private-keeps w (Ok Reset) body h own e = refl
+private-keeps w (Ok Clear) body h own e = refl
+private-keeps w (Ok Negate) body h own e = refl
+private-keeps w (Ok (Restrict first last)) body h own e = refl
+private-keeps w (Ok (Keep name)) body h own e = refl
+private-keeps w (Ok (Take name)) body h own e = refl
+private-keeps w (Ok (And name)) body h own e = refl
+private-keeps w (Ok (Or name)) body h own e = refl
+private-keeps w (Ok (Drop name)) body h own e = refl
+private-keeps w (Ok Hits) body h own e = refl
+private-keeps w (Ok Listing) body h own e = refl
+private-keeps w (Ok (Show game)) body h own e = refl
+private-keeps w (Ok Export) body h own e = refl
+private-keeps w (Ok (Import word)) body h own e = absurd cc
+private-keeps w (Ok (Replace game word)) body h own e = absurd cc
+private-keeps w (Ok (Eco word)) body h own e = absurd cc
+private-keeps w (Ok (Tag game edit)) body h own e = absurd cc
+private-keeps w (Ok (Delete game)) body h own e = absurd cc
+private-keeps w (Ok (Undelete game)) body h own e = absurd cc
+private-keeps w (Ok (Mark game bit on)) body h own e = absurd cc
+private-keeps w (Ok (Tree board side)) body h own e = refl
+private-keeps w (Ok (Watch slot board side)) body h own e = slot-keeps w (state_of h own) slot (showing (packed_of board side) (own_slot w (state_of h own) slot))
+private-keeps w (Ok (View slot)) body h own e = refl
+private-keeps w (Ok (Unwatch slot)) body h own e = slot-keeps w (state_of h own) slot (left (own_slot w (state_of h own) slot))
+private-keeps w (Ok (Cross event)) body h own e = refl
+private-keeps w (Ok (Twins depth)) body h own e = absurd cc
+private-keeps w (Ok (Index depth)) body h own e = absurd cc
+private-keeps w (Ok Save) body h own e = absurd cc
+private-keeps w (Ok Info) body h own e = refl
+private-keeps w (Ok (Demo seed games)) body h own e = absurd cc
+private-keeps w (Ok Quit) body h own e = absurd cc
+private-keeps w (Ok Compact) body h own e = absurd cc
 
 -- ---- games that come in
 
@@ -148,7 +158,7 @@ alike-shown None s t e = e
 
 -- ---- edits
 
-same-new : (h : Shared) (a b : Own) (game : ℕ) (held : Option Held) (items : List Item) → new_game (state_of h a) game held items ≡ new_game (state_of h b) game held items
+pub same-new : (h : Shared) (a b : Own) (game : ℕ) (held : Option Held) (items : List Item) → new_game (state_of h a) game held items ≡ new_game (state_of h b) game held items
 same-new h a b game None items = refl
 same-new h a b game (Some held) items = refl
 
@@ -189,50 +199,50 @@ same-indexed h a b false depth = refl
 
 -- ---- all commands
 
-pub same-shared : (order : Result Command ScriptFault) (body : List ℕ) (h : Shared) (a b : Own)
-    → ((order_work order body).after (state_of h a)).shared ≡ ((order_work order body).after (state_of h b)).shared
-same-shared (Err fault) body h a b = refl
-same-shared (Ok Nothing) body h a b = refl
-same-shared (Ok (Find board side)) body h a b = refl
-same-shared (Ok (SearchPosition op query)) body h a b = refl
-same-shared (Ok (SearchMaterial op query)) body h a b = refl
-same-shared (Ok (SearchHeader op query)) body h a b = refl
-same-shared (Ok Reset) body h a b = refl
-same-shared (Ok Clear) body h a b = refl
-same-shared (Ok Negate) body h a b = refl
-same-shared (Ok (Restrict first last)) body h a b = refl
-same-shared (Ok (Keep name)) body h a b = refl
-same-shared (Ok (Take name)) body h a b = refl
-same-shared (Ok (And name)) body h a b = refl
-same-shared (Ok (Or name)) body h a b = refl
-same-shared (Ok (Drop name)) body h a b = refl
-same-shared (Ok Hits) body h a b = refl
-same-shared (Ok Listing) body h a b = refl
-same-shared (Ok (Show game)) body h a b = refl
-same-shared (Ok Export) body h a b = refl
-same-shared (Ok (Import word)) body h a b =
+pub same-shared : (w : Window) (order : Result Command ScriptFault) (body : List ℕ) (h : Shared) (a b : Own)
+    → ((order_work w order body).after (state_of h a)).shared ≡ ((order_work w order body).after (state_of h b)).shared
+same-shared w (Err fault) body h a b = refl
+same-shared w (Ok Nothing) body h a b = refl
+same-shared w (Ok (Find board side)) body h a b = refl
+same-shared w (Ok (SearchPosition op query)) body h a b = refl
+same-shared w (Ok (SearchMaterial op query)) body h a b = refl
+same-shared w (Ok (SearchHeader op query)) body h a b = refl
+same-shared w (Ok Reset) body h a b = refl
+same-shared w (Ok Clear) body h a b = refl
+same-shared w (Ok Negate) body h a b = refl
+same-shared w (Ok (Restrict first last)) body h a b = refl
+same-shared w (Ok (Keep name)) body h a b = refl
+same-shared w (Ok (Take name)) body h a b = refl
+same-shared w (Ok (And name)) body h a b = refl
+same-shared w (Ok (Or name)) body h a b = refl
+same-shared w (Ok (Drop name)) body h a b = refl
+same-shared w (Ok Hits) body h a b = refl
+same-shared w (Ok Listing) body h a b = refl
+same-shared w (Ok (Show game)) body h a b = refl
+same-shared w (Ok Export) body h a b = refl
+same-shared w (Ok (Import word)) body h a b =
     alike-items (items_of body) (none_taken (state_of h a)) (none_taken (state_of h b)) (record { shared = refl; added = refl; refused = refl })
-same-shared (Ok (Replace game word)) body h a b =
+same-shared w (Ok (Replace game word)) body h a b =
     same-with h a b game (the_new (state_of h a) game body)
     ∙ ap (λ (new : Result (Head × GameTree) (List ℕ)). (state_with (state_of h b) game new).shared) (same-new h a b game (slice_get h.base.games game) (items_of body))
-same-shared (Ok (Eco word)) body h a b = same-classified h a b (table_of body)
-same-shared (Ok (Tag game edit)) body h a b = same-tagged game edit h a b (slice_get h.base.games game)
-same-shared (Ok (Delete game)) body h a b = same-there (deleted game) h a b (slice_get h.base.games game)
-same-shared (Ok (Undelete game)) body h a b = same-there (undeleted game) h a b (slice_get h.base.games game)
-same-shared (Ok (Mark game bit on)) body h a b = same-there (marked game bit on) h a b (slice_get h.base.games game)
-same-shared (Ok (Tree board side)) body h a b = refl
-same-shared (Ok (Watch slot board side)) body h a b = refl
-same-shared (Ok (View slot)) body h a b = refl
-same-shared (Ok (Unwatch slot)) body h a b = refl
-same-shared (Ok (Cross event)) body h a b = refl
-same-shared (Ok (Twins depth)) body h a b = same-deleted h a b (found_twins (state_of h a) depth)
-same-shared (Ok (Index (Some depth))) body h a b = same-indexed h a b (index_is_full (Some depth) (length h.base.games)) depth
-same-shared (Ok (Index None)) body h a b = refl
-same-shared (Ok Save) body h a b = refl
-same-shared (Ok Info) body h a b = refl
-same-shared (Ok (Demo seed games)) body h a b =
+same-shared w (Ok (Eco word)) body h a b = same-classified h a b (table_of body)
+same-shared w (Ok (Tag game edit)) body h a b = same-tagged game edit h a b (slice_get h.base.games game)
+same-shared w (Ok (Delete game)) body h a b = same-there (deleted game) h a b (slice_get h.base.games game)
+same-shared w (Ok (Undelete game)) body h a b = same-there (undeleted game) h a b (slice_get h.base.games game)
+same-shared w (Ok (Mark game bit on)) body h a b = same-there (marked game bit on) h a b (slice_get h.base.games game)
+same-shared w (Ok (Tree board side)) body h a b = refl
+same-shared w (Ok (Watch slot board side)) body h a b = slot-keeps w (state_of h a) slot (showing (packed_of board side) (own_slot w (state_of h a) slot)) ∙ sym (slot-keeps w (state_of h b) slot (showing (packed_of board side) (own_slot w (state_of h b) slot)))
+same-shared w (Ok (View slot)) body h a b = refl
+same-shared w (Ok (Unwatch slot)) body h a b = slot-keeps w (state_of h a) slot (left (own_slot w (state_of h a) slot)) ∙ sym (slot-keeps w (state_of h b) slot (left (own_slot w (state_of h b) slot)))
+same-shared w (Ok (Cross event)) body h a b = refl
+same-shared w (Ok (Twins depth)) body h a b = same-deleted h a b (found_twins (state_of h a) depth)
+same-shared w (Ok (Index (Some depth))) body h a b = same-indexed h a b (index_is_full (Some depth) (length h.base.games)) depth
+same-shared w (Ok (Index None)) body h a b = refl
+same-shared w (Ok Save) body h a b = refl
+same-shared w (Ok Info) body h a b = refl
+same-shared w (Ok (Demo seed games)) body h a b =
     let alike = alike-adding games seed h a b in
     alike-shown (adding (state_of h a) seed games).refused (adding (state_of h a) seed games).state (adding (state_of h b) seed games).state alike.shared
     ∙ ap (λ (o : Option Refusal). (unless_shown o (adding (state_of h b) seed games).state).shared) alike.refused
-same-shared (Ok Quit) body h a b = refl
-same-shared (Ok Compact) body h a b = same-compacted h a b (is_within h.base)
+same-shared w (Ok Quit) body h a b = refl
+same-shared w (Ok Compact) body h a b = same-compacted h a b (is_within h.base)

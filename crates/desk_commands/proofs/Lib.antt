@@ -1,0 +1,16 @@
+pub mod SharedLaws
+pub mod KindLaws
+pub mod LendLaws
+pub mod ListLaws
+pub mod BackLaws
+pub mod FitLaws
+pub mod TagLaws
+pub mod OwnLaws
+pub mod ShowLaws
+pub mod DeskLaws
+pub mod SeatedLaws
+pub mod BeginLaws
+pub mod LineLaws
+pub mod ServeLaws
+pub mod SitLaws
+pub mod AroundLaws

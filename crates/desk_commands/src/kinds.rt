@@ -1,0 +1,59 @@
+//! What the commands of one client may change of what another one sees.
+ghost use Rattle.std.specs.Prelude.{◌≡◌};
+ghost use Rattle.desk_commands.specs.Kinds.{command_kind, is_private, order_kind};
+
+use script_lines::Order;
+use script_text::Command;
+
+/// What a command changes beside its client's seat and his slots.
+#[derive(Clone, Copy, Debug, PartialEq, Eq)]
+pub enum Kind {
+    /// Nothing.
+    Private,
+    /// What is shared, or who may speak.
+    Public,
+    /// Games come behind those that are there.
+    Adds,
+    /// The entries of games move in each seat.
+    Moves,
+}
+
+// The kind of a line. A faulty one is private.
+pub(crate) fn order_kind(order: &Order) -> Kind
+    ensures kind { result ≡ order_kind order.now }
+{
+    match order {
+        Ok(command) => command_kind(command),
+        Err(_) => Kind::Private,
+    }
+}
+
+// Whether a line is private.
+pub(crate) fn is_private(order: &Order) -> bool
+    ensures private { result ≡ is_private (order_kind order.now) }
+{
+    match order_kind(order) {
+        Kind::Private => true,
+        Kind::Public | Kind::Adds | Kind::Moves => false,
+    }
+}
+
+// The kind of a command.
+fn command_kind(command: &Command) -> Kind
+    ensures kind { result ≡ command_kind command.now }
+{
+    match command {
+        Command::Import(_) | Command::Demo(..) => Kind::Adds,
+        Command::Replace(..) | Command::Compact => Kind::Moves,
+        Command::Eco(_)
+        | Command::Tag(..)
+        | Command::Delete(_)
+        | Command::Undelete(_)
+        | Command::Mark(..)
+        | Command::Twins(_)
+        | Command::Index(_)
+        | Command::Save
+        | Command::Quit => Kind::Public,
+        _ => Kind::Private,
+    }
+}

@@ -1,0 +1,13 @@
+//! One base for several clients: each has a seat and slots of his own, and what one of them changes of the base is brought to all.
+#![tactic(auto)]
+
+mod desk;
+mod kinds;
+mod saying;
+mod seats;
+mod serving;
+mod showing;
+mod sitting;
+
+pub use desk::Desk;
+pub use serving::serve;

@@ -1,0 +1,97 @@
+-- What a line of a script says, who says it, and when the last client has ended. A script has one client, whose lines stand as they are, or it is
+-- said at a desk of four, where each line begins with its client: `@0 `, `@1 `, `@2 ` or `@3 `. This project's own.
+use Rattle.std.specs.Prelude.{ℕ, ◌-◌, ◌==◌, nat_le, nat_lt, Bool, true, false, ◌&&◌, ◌||◌, not, if◌then◌else◌, List, [], ◌∷◌, length, drop, slice_get, slice_set, unwrap_or, Option, Some, None, is_some, Result, Ok, Err}
+use Rattle.std.specs.List.{list_all}
+use Rattle.script_text.specs.Reading.{is_remark, reading, shorn}
+use Rattle.script_text.specs.declared.command.Command.{Command}
+use Rattle.script_text.specs.declared.command.Command.TheVariants.{Nothing, Quit}
+use Rattle.script_text.specs.declared.fault.ScriptFault.{ScriptFault}
+use Rattle.script_text.specs.declared.fault.ScriptFault.TheVariants.{Unknown}
+use Rattle.script_text.specs.Tasks.{Task, task}
+use Rattle.script_lines.specs.declared.line.Line.{Line}
+
+-- The command that a line says, or its first fault.
+abbrev pub Order : Type 0
+Order = Result Command ScriptFault
+
+-- Whether a command is `quit`, and whether a line says so.
+abbrev pub ends : Command → Bool
+ends Quit = true
+ends _ = false
+
+abbrev pub is_quit : Order → Bool
+is_quit (Ok command) = ends command
+is_quit (Err fault) = false
+
+-- ---- what a line says
+
+-- A line, by the client who says it, if one does, and what it says.
+abbrev pub said : Option ℕ → Order → Line
+said client order = record { client = client; order = order }
+
+-- The client whose digit this byte is.
+abbrev pub client_of : ℕ → Option ℕ
+client_of byte = if nat_le 48 byte && nat_lt byte 52 then Some (byte - 48) else None
+
+-- The client that the first three bytes of a line name: `@`, his digit and a space.
+unfoldable pub named : List ℕ → Option ℕ
+named (sign ∷ digit ∷ blank ∷ line) = if (sign == 64) && (blank == 32) then client_of digit else None
+named _ = None
+
+-- Whether a line that names no client does nothing: it is empty or a remark.
+abbrev pub is_idle : List ℕ → Bool
+is_idle line = is_remark line || (length (shorn line) == 0)
+
+-- What a line says that names no client.
+abbrev pub without_client : List ℕ → Order
+without_client line = if is_idle line then Ok Nothing else Err Unknown
+
+-- A line at a desk. The bytes that name its client are not counted.
+abbrev pub desk_line : Option ℕ → List ℕ → Line
+desk_line (Some client) line = said (Some client) (reading (drop 3 line))
+desk_line None line = said None (without_client line)
+
+-- What a line says: at a desk, or of the one client.
+unfoldable pub line_of : Bool → List ℕ → Line
+line_of tagged line = if tagged then desk_line (named line) line else said (Some 0) (reading line)
+
+-- A line with the body that stands behind it.
+pub record Tagged : Type 0 where
+  pub client : Option ℕ
+  pub task : Task
+
+abbrev pub tagged_task : Line → List ℕ → Tagged
+tagged_task line body = record { client = line.client; task = task line.order body }
+
+-- ---- the clients of a script
+
+-- Whether lines name their clients, and which of the four have ended. The one client of lines that name none is the first; the others have
+-- ended from the beginning.
+pub record Clients : Type 0 where
+  pub tagged : Bool
+  pub ended : List Bool
+
+abbrev pub new_clients : Bool → Clients
+new_clients desk = record { tagged = desk; ended = false ∷ not desk ∷ not desk ∷ not desk ∷ [] }
+
+abbrev pub has_ended : Clients → ℕ → Bool
+has_ended clients client = unwrap_or (slice_get clients.ended client) true
+
+-- The client who ends with a line: he says `quit`.
+abbrev pub leaver : Line → Option ℕ
+leaver line = if is_quit line.order then line.client else None
+
+abbrev pub with_ended : List Bool → Option ℕ → List Bool
+with_ended ended None = ended
+with_ended ended (Some client) = slice_set ended client true
+
+unfoldable pub ended_by : List Bool → Line → List Bool
+ended_by ended line = with_ended ended (leaver line)
+
+-- The clients behind a line.
+abbrev pub heard : Clients → Line → Clients
+heard clients line = record { tagged = clients.tagged; ended = ended_by clients.ended line }
+
+-- Whether a line ends the script: a client ends with it, and all of them have.
+unfoldable pub is_end : Clients → Line → Bool
+is_end clients line = is_some (leaver line) && list_all (λ ended. ended) (ended_by clients.ended line)

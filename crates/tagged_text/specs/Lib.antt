@@ -1,0 +1,4 @@
+pub mod Tagged
+pub mod Lines
+pub mod Waiting
+pub mod Rendered
