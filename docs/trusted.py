@@ -25,7 +25,8 @@ THEOREM = [
 ]
 WORD = re.compile(r"[^\W\d][\w'-]*(?:\.[^\W\d][\w'-]*)*")
 USE = re.compile(r"^\s*(?:ghost )?use (Rattle\.[\w.+]+?)(?:\.\{([^}]*)\})?(?: as (\w+))?;?$", flags=re.M)
-HEAD = re.compile(r"(?:(?:pub|abbrev|unfoldable|record|data) )*(mutual$|[^\s:={}()]+(?= [^=]*: ))")
+HEAD = re.compile(r"(?:(?:pub|abbrev|unfoldable|record|data) )*(mutual$|(?:◌\S+|[^\s:={}()]+)(?= [^=]*: ))")
+FORM = re.compile(r"(?:(?:pub|abbrev|unfoldable) )*\S+ : [^=]*$|.* where$|mutual$|\s*(?:record )?[{}()]+$")
 INNER = re.compile(r"^\s+(?:pub )?([^\s:={}()]+) : ", flags=re.M)
 OWNER = re.compile(r"(?:impl(?:<[^>]*>)? ([\w<>, ]+ for )?|(pub trait ))(\w+)")
 SEEN = re.compile(r"\s+ghost (?:view|Value|from_gives)\b")
@@ -81,9 +82,15 @@ def read_all():
     return {f"Rattle.{crate_of(it)}.specs.{it.stem}": Definitions(it) for it in sources("specs", ".antt")}
 
 
+def applies(text, operator):
+    """Whether a text applies an operator; each line of a `do` applies that of its answers."""
+    return f" {operator} " in text or (operator == ">>=" and re.search(r"\bdo\b", text))
+
+
 def named(text, words, modules, files, own=None):
     """The definitions that a text names, as module and number. The name of a clause is none of them."""
-    for word in set(WORD.findall(re.sub(r"\b(ensures|requires) \w+ \{", "{", text))):
+    operators = [it for it in [*words, *(files[own].block_of if own else [])] if it.startswith("◌") and applies(text, it.strip("◌"))]
+    for word in {*WORD.findall(re.sub(r"\b(ensures|requires) \w+ \{", "{", text)), *operators}:
         first, _, rest = word.partition(".")
         if own and first in files[own].block_of:
             yield own, files[own].block_of[first]
@@ -226,7 +233,9 @@ def main():
             own = [module for module in by_file if module.split(".")[1] == crate]
             print(f"{crate:16} {sum(len(by_file[it]) for it in own):5} definitions, {sum(lines[it] for it in own):5} lines, {len(own):3} files")
     every = sum(len(block) for file in files.values() for block in file.blocks)
+    form = sum(bool(FORM.match(line)) for module, number in theorem for line in files[module].blocks[number])
     print(f"session: {len(theorem)} definitions, {sum(lines.values())} lines of {every} in specs/, in {len(by_file)} of {len(files)} files")
+    print(f"{form} of these lines are signatures, headers and brackets, and {sum(lines.values()) - form} say what holds")
 
 
 if __name__ == "__main__":
