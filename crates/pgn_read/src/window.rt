@@ -12,7 +12,7 @@ ghost use Rattle.pgn_read.specs.Clear.{IsClear};
 ghost use Rattle.pgn_read.specs.Readers.{with_more, ahead};
 ghost use Rattle.pgn_read.specs.Window.{waiting, Decides};
 
-use crate::buffer::{Buffer, PIECE};
+use crate::buffer::Buffer;
 use crate::clear::Clear;
 use crate::error::PgnError;
 use crate::place::Place;
@@ -23,6 +23,9 @@ use std::marker::Model;
 
 /// The greatest length of a game's text.
 pub(crate) const LONGEST: usize = 1_048_576;
+
+/// How many bytes are read on at least, beside as many again as are unread.
+const FURTHER: usize = 4_096;
 
 /// The bytes of a source that were read and not yet taken, with the place of the first of them.
 #[derive(Drop)]
@@ -175,7 +178,7 @@ impl Window {
     // Reads until there are so many unread bytes, or to the source's end.
     #[tactic(auto, using(crate::proofs::ClearLaws::grown_clear))]
     fn fill<S: Source>(&mut self, source: &mut S, wanted: usize) -> Result<(), PgnError>
-        requires room { wanted + 4096 ≤ most_ahead }
+        requires room { wanted + 32768 ≤ most_ahead }
         requires told { IsTrue self.old.ended → Tells (S.left source.old) [] }
         ensures kept { OnOk result (before self.old.unread (S.left source.old) ≡ before self.new.unread (S.left source.new)) }
         ensures full { OnOk result (IsTrue self.new.ended ⊎ (wanted ≤ length self.new.unread)) }
@@ -347,7 +350,7 @@ impl Window {
         ensures same { S.origin source.new ≡ S.origin source.old }
         ensures cause { IfErr result (λ e. HasCause e (S.faults source.old) (S.faults source.new)) }
     {
-        self.fill(source, 2 * self.unread().len() + PIECE)
+        self.fill(source, 2 * self.unread().len() + FURTHER)
     }
 
     // Whether a line begins here on which reading goes on behind a fault.
