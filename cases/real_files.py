@@ -11,6 +11,7 @@ import stat
 import subprocess
 import sys
 import tempfile
+import threading
 import time
 from pathlib import Path
 
@@ -439,6 +440,37 @@ def an_export_takes_few_calls(folder):
     return f"{len(calls)} calls"
 
 
+def an_import_takes_few_writes(folder):
+    """The lines of a thousand games are written with no more than 120 calls of the system."""
+    base = make_base(folder)
+    games = (TOP / "samples/classics.pgn").read_text() * 250
+    calls, status, output, errors = traced(base, f"import <<END\n{games}END\n")
+    assert (status, errors) == (0, ""), (status, errors)
+    assert output.count("\nadded ") == 1000 and "\nimported 1000 refused 0\n" in output, output
+    written = sum("write(1, " in call for call in calls)
+    assert written <= 120, written
+    return f"{written} calls"
+
+
+def lines_of_an_import_stand_while_it_waits(folder):
+    """What a program that writes a body reads before it writes the rest: the lines of the games that were read."""
+    games = (TOP / "samples/classics.pgn").read_text() * 10
+    session = Session(make_base(folder))
+    session.process.stdin.write(f"import <<END\n{games}")
+    session.process.stdin.flush()
+    too_long = threading.Timer(60, session.process.kill)
+    too_long.start()
+    first = [session.process.stdout.readline() for _ in range(10)]
+    too_long.cancel()
+    assert first == [f"added {game}\n" for game in range(4, 14)], first
+    session.process.stdin.write("END\n")
+    session.process.stdin.close()
+    output = session.process.stdout.read()
+    assert session.process.wait(60) == 0
+    rest = [f"added {game}" for game in range(14, 44)]
+    assert output.splitlines() == [*rest, "imported 40 refused 0", "unsaved"], output
+
+
 def a_broken_off_run_that_was_not_alone(folder):
     """An index that was set aside beside files that no run leaves so: it is said how to go on, and nothing is touched, with `--create` too."""
     base = make_base(folder)
@@ -490,12 +522,14 @@ def main():
         (a_move_that_changes_ends_the_search_that_comes_to_it,),
         (a_mended_base_opens_again,),
         (a_word_that_is_no_text,),
+        (lines_of_an_import_stand_while_it_waits,),
         (a_broken_off_run_that_was_not_alone,),
     ]
     if shutil.which("strace"):
         shows += [
             (files_are_handed_on_in_order,),
             (an_export_takes_few_calls,),
+            (an_import_takes_few_writes,),
             (a_new_file_that_grows_takes_no_place,),
             (an_error_at_each_call, "save", "saved", ["tag 0 White C"]),
             (an_error_at_each_call, "compact", "compacted", ["delete 1", "tag 0 White C"]),

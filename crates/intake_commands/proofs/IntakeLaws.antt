@@ -15,12 +15,9 @@ use Rattle.pgn_read.proofs.ReadLaws.{same_next}
 use Rattle.pgn_read.specs.Items.{next, next_item, Next, AreItems, text_start, items_of, items_at}
 use Rattle.pgn_read.specs.Readers.{Follows, fresh_reader, told}
 use Rattle.pgn_read.specs.Text.{At}
-use Rattle.pgn_read.specs.declared.error.PgnError.{PgnError}
-use Rattle.pgn_read.specs.declared.error.PgnError.TheVariants as pgn
 use Rattle.pgn_read.specs.declared.item.Item.{Item}
 use Rattle.pgn_read.specs.declared.item.Item.TheVariants.{Bad, Good}
 use mir.Val.{bool_byte}
-use Rattle.intake_commands.specs.Ends.{unread_halt}
 use Rattle.intake_commands.specs.Importing.{intake, next_number, none_taken, Intake, item_after, item_text, one_refused, unless_not_added}
 use Rattle.intake_commands.specs.Intakes.{AreBehind, TookIn, Counted, IsIntake, TookNext, TakesIn}
 use Rattle.shell_state.proofs.Causing.{fault_of_output}
@@ -120,6 +117,12 @@ took_more holding holding' seen seen' s text ahead ahead' told told' told'' adde
       written = written_after (run intake (none_taken s) took.done) (item_text i item) told told' told'' took.written did.written ∙ ap (adds told) text_all;
     }
 
+-- What the output has taken and what waits behind it are still the same.
+unfoldable pub took_still : (holding : Holding) (seen : Seen) (s : State) (text : List ℕ) (ahead : Option At) (told told' told'' : Option (List ℕ)) (added refused : ℕ)
+    → TookIn holding seen s text ahead told told' added refused → told'' ≡ told' → TookIn holding seen s text ahead told told'' added refused
+took_still holding seen s text ahead told told' told'' added refused took same =
+    record { done = took.done; behind = took.behind; stands = took.stands; written = same ∙ took.written }
+
 -- All of them.
 pub took_all : (holding : Holding) (seen : Seen) (s : State) (text : List ℕ) (ahead ahead' : Option At) (told told' : Option (List ℕ)) (added refused : ℕ)
     → TookIn holding seen s text ahead told told' added refused → Follows ahead None ahead'
@@ -163,10 +166,6 @@ body_fault (halt.Changed game kept found) fault = absurd fault
 pub body_device : (e : Halt) → IsDevice e → IsBodyFault e
 body_device (halt.Device s) device = tt
 body_device (halt.Changed game kept found) device = absurd device
-
-pub unread_fault : (e : PgnError) → IsBodyFault (unread_halt e)
-unread_fault pgn.Failed = tt
-unread_fault pgn.Memory = tt
 
 -- An item that is no game counts as refused.
 pub refused_counts : (i : Intake) → Counted false i (one_refused i)

@@ -4,3 +4,4 @@ pub mod DemoLaws
 pub mod IntakeLaws
 pub mod LastLineLaws
 pub mod OneGameLaws
+pub mod PagingLaws

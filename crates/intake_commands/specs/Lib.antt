@@ -4,3 +4,4 @@ pub mod Ends
 pub mod Importing
 pub mod Intakes
 pub mod LastLine
+pub mod Paging

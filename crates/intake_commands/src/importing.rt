@@ -18,11 +18,13 @@ ghost use Rattle.shell_state.specs.State.{State};
 ghost use Rattle.shell_state.specs.Work.{works};
 
 use crate::item_lines::{faulty_line, imported_line, not_added_line};
+use crate::paging::next_behind;
 use base_files::{Files, Sink, Source, Stop};
 use game_tree::{Game, Head};
 use pgn_read::{Item, PgnError, Reader};
-use shell_state::{Halt, Machine, game_line, write_line};
+use shell_state::{Halt, Machine, game_line};
 use std::alloc::Global;
+use text_pages::{write_full, write_page};
 
 /// import <<WORD: takes the games of a body in, and gives the last line of its text, which is not written yet.
 pub fn import<F: Files, B: Source, K: Sink>(
@@ -42,15 +44,15 @@ pub fn import<F: Files, B: Source, K: Sink>(
     ensures none_lost { NoneLost (K.taken out.old) (K.taken out.new) }
     ensures causes { Causes WhyHalt result (counts (F.faults files.old) (B.faults body.old) (K.faults out.old)) (counts (F.faults files.new) (B.faults body.new) (K.faults out.new)) }
 {
-    let (added, refused) = match take_in(alloc, machine, files, body, out) {
+    let (added, refused) = match take_all(alloc, machine, files, body, out) {
         Ok(counts) => counts,
         Err(halt) => return Err(halt),
     };
     Ok(imported_line(alloc, added, refused)?)
 }
 
-// Takes the items of the body in, and says how many games were added and how many items refused.
-fn take_in<F: Files, B: Source, K: Sink>(
+// Takes the items of the body in and writes their lines, and says how many games were added and how many items refused.
+fn take_all<F: Files, B: Source, K: Sink>(
     alloc: Global,
     machine: &mut Machine,
     files: &mut F,
@@ -67,10 +69,50 @@ fn take_in<F: Files, B: Source, K: Sink>(
     ensures none_lost { NoneLost (K.taken out.old) (K.taken out.new) }
     ensures causes { Causes WhyHalt result (counts (F.faults files.old) (B.faults body.old) (K.faults out.old)) (counts (F.faults files.new) (B.faults body.new) (K.faults out.new)) }
 {
+    let mut page = Vec::new(alloc);
+    let taken = take_in(alloc, machine, files, body, &mut page, out);
+    if let Err(Halt::Device(Stop::Write)) = taken {
+        return Err(Halt::Device(Stop::Write));
+    }
+    // Where it is broken off otherwise too, so that the lines of all items before stand whole.
+    match write_page(&mut page, out) {
+        Ok(()) => taken,
+        Err(halt) => Err(halt),
+    }
+}
+
+// Takes the items of the body in and puts their lines on the page, and says how many games were added and how many items refused.
+fn take_in<F: Files, B: Source, K: Sink>(
+    alloc: Global,
+    machine: &mut Machine,
+    files: &mut F,
+    body: &mut B,
+    page: &mut Vec<u8>,
+    out: &mut K,
+) -> Result<(u64, u64), Halt>
+    requires sound { Sound machine.old (F.seen files.old) }
+    ensures takes { (s : State) (text : List ℕ) → Stands machine.old (F.seen files.old) s → B.left body.old ≡ Some text → TakesIn machine.new (F.seen files.new) s (items_of text) (adds (K.taken out.old) page.old.items) (adds (K.taken out.new) page.new.items) result }
+    ensures sound { OnOk result (Sound machine.new (F.seen files.new)) }
+    ensures carries { (s : State) → Stands machine.old (F.seen files.old) s → StillCarry (F.seen files.new) s None }
+    ensures choices { (F.seen files.new).choices ≡ (F.seen files.old).choices }
+    ensures none_asked { F.asked files.new ≡ F.asked files.old }
+    ensures same { B.origin body.new ≡ B.origin body.old }
+    ensures none_lost { NoneLost (K.taken out.old) (K.taken out.new) }
+    ensures causes { Causes WhyHalt result (counts (F.faults files.old) (B.faults body.old) (K.faults out.old)) (counts (F.faults files.new) (B.faults body.new) (K.faults out.new)) }
+{
     let mut reader = Reader::new(alloc)?;
     let mut added = 0u64;
     for taken in 0..u64::MAX {
-        match take_next(alloc, machine, files, body, out, &mut reader, taken + 1) {
+        match take_next(
+            alloc,
+            machine,
+            files,
+            body,
+            page,
+            out,
+            &mut reader,
+            taken + 1,
+        ) {
             Ok(Some(was_added)) => added += u64::from(was_added),
             Ok(None) => return Ok((added, taken - added)),
             Err(halt) => return Err(halt),
@@ -79,12 +121,14 @@ fn take_in<F: Files, B: Source, K: Sink>(
     Err(Halt::Device(Stop::Memory))
 }
 
-// Takes the next item of the body in, which has this number, and says whether its game was added; none where there is no more item.
+// Takes the next item of the body in, which has this number, and puts its line on the page, and says whether its game was added; none where
+// there is no more item.
 fn take_next<F: Files, B: Source, K: Sink>(
     alloc: Global,
     machine: &mut Machine,
     files: &mut F,
     body: &mut B,
+    page: &mut Vec<u8>,
     out: &mut K,
     reader: &mut Reader,
     number: u64,
@@ -92,7 +136,7 @@ fn take_next<F: Files, B: Source, K: Sink>(
     requires from_one { 0 < number }
     requires free { reader.old.stuck ≡ None }
     requires sound { Sound machine.old (F.seen files.old) }
-    ensures took { (s : State) (text : List ℕ) (start : Option (List ℕ)) (added refused : ℕ) → TookIn machine.old (F.seen files.old) s text (told reader.old (B.left body.old)) start (K.taken out.old) added refused → added + refused + 1 ≡ number → TookNext machine.new (F.seen files.new) s text (told reader.new (B.left body.new)) start (K.taken out.new) added refused result }
+    ensures took { (s : State) (text : List ℕ) (start : Option (List ℕ)) (added refused : ℕ) → TookIn machine.old (F.seen files.old) s text (told reader.old (B.left body.old)) start (adds (K.taken out.old) page.old.items) added refused → added + refused + 1 ≡ number → TookNext machine.new (F.seen files.new) s text (told reader.new (B.left body.new)) start (adds (K.taken out.new) page.new.items) added refused result }
     ensures stays { (s : State) → Stands machine.old (F.seen files.old) s → OnOk result (StandsLater machine.new (F.seen files.new) s) }
     ensures sound { OnOk result (Sound machine.new (F.seen files.new)) }
     ensures free { OnOk result (reader.new.stuck ≡ None) }
@@ -103,12 +147,12 @@ fn take_next<F: Files, B: Source, K: Sink>(
     ensures none_lost { NoneLost (K.taken out.old) (K.taken out.new) }
     ensures causes { Causes WhyHalt result (counts (F.faults files.old) (B.faults body.old) (K.faults out.old)) (counts (F.faults files.new) (B.faults body.new) (K.faults out.new)) }
 {
-    let item = match reader.next(alloc, body) {
+    let item = match next_behind(alloc, reader, body, page, out) {
         Ok(Some(item)) => item,
         Ok(None) => return Ok(None),
-        Err(error) => return Err(unread(error)),
+        Err(halt) => return Err(halt),
     };
-    match take_item(alloc, machine, files, out, number, &item) {
+    match take_item(alloc, machine, files, page, out, number, &item) {
         Ok(added) => Ok(Some(added)),
         Err(halt) => Err(halt),
     }
@@ -124,18 +168,19 @@ pub(crate) fn unread(error: PgnError) -> Halt
     }
 }
 
-// Takes an item in and writes its line, and says whether its game was added.
+// Takes an item in and puts its line on the page, and says whether its game was added.
 fn take_item<F: Files, K: Sink>(
     alloc: Global,
     machine: &mut Machine,
     files: &mut F,
+    page: &mut Vec<u8>,
     out: &mut K,
     number: u64,
     item: &Item,
 ) -> Result<bool, Halt>
     requires fit { IsFit item.now }
     requires sound { Sound machine.old (F.seen files.old) }
-    ensures serves { (i : Intake) → Stands machine.old (F.seen files.old) i.state → next_number i ≡ number → Serves intake (λ later. Stands machine.new (F.seen files.new) later.state) (λ _ _. IsFault) i item.now (K.taken out.old) (K.taken out.new) result }
+    ensures serves { (i : Intake) → Stands machine.old (F.seen files.old) i.state → next_number i ≡ number → Serves intake (λ later. Stands machine.new (F.seen files.new) later.state) (λ _ _. IsFault) i item.now (adds (K.taken out.old) page.old.items) (adds (K.taken out.new) page.new.items) result }
     ensures counted { (i : Intake) → Stands machine.old (F.seen files.old) i.state → IfOk result (λ added. Counted added i (item_after i item.now)) }
     ensures sound { OnOk result (Sound machine.new (F.seen files.new)) }
     ensures carries { (s : State) → Stands machine.old (F.seen files.old) s → StillCarry (F.seen files.new) s None }
@@ -145,21 +190,27 @@ fn take_item<F: Files, K: Sink>(
     ensures causes { Causes WhyHalt result (counts (F.faults files.old) 0 (K.faults out.old)) (counts (F.faults files.new) 0 (K.faults out.new)) }
 {
     match add_item(alloc, machine, files, number, item) {
-        Ok(taken) => write_item(out, taken.0.as_slice(), taken.1),
+        Ok(taken) => put_item(page, out, taken.0.as_slice(), taken.1),
         Err(halt) => Err(halt),
     }
 }
 
-// Writes the line of an item, and says whether its game was added.
-fn write_item<K: Sink>(out: &mut K, line: &[u8], added: bool) -> Result<bool, Halt>
-    ensures written { OnOk result (K.taken out.new ≡ adds (K.taken out.old) line.now) }
-    ensures halted { Halted [] line.now (K.taken out.old) (K.taken out.new) }
+// Puts the line of an item on the page, which is written where that fills it, and says whether its game was added.
+fn put_item<K: Sink>(
+    page: &mut Vec<u8>,
+    out: &mut K,
+    line: &[u8],
+    added: bool,
+) -> Result<bool, Halt>
+    ensures put { OnOk result (adds (K.taken out.new) page.new.items ≡ adds (adds (K.taken out.old) page.old.items) line.now) }
+    ensures halted { Halted [] line.now (adds (K.taken out.old) page.old.items) (adds (K.taken out.new) page.new.items) }
     ensures added { IfOk result (λ told. told ≡ added) }
     ensures output { IfErr result IsOutput }
     ensures none_lost { NoneLost (K.taken out.old) (K.taken out.new) }
     ensures causes { Causes WhyHalt result (counts 0 0 (K.faults out.old)) (counts 0 0 (K.faults out.new)) }
 {
-    match write_line(out, line) {
+    page.extend_from_slice(line)?;
+    match write_full(page, out) {
         Ok(()) => Ok(added),
         Err(halt) => Err(halt),
     }

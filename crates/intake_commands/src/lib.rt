@@ -4,6 +4,7 @@
 mod demoing;
 mod importing;
 mod item_lines;
+mod paging;
 mod replacing;
 
 pub use demoing::demo;

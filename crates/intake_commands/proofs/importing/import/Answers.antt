@@ -9,17 +9,17 @@ use Rattle.shell_state.specs.declared.halt.Halt.TheVariants as halt
 pub returns-in-Err-clause-serves : goal.returns-in-Err-clause-serves
 returns-in-Err-clause-serves g c = λ s text st left.
     let took = c.in-Err.ensures.takes s text st left in
-    import_cut s text (g.K.Sink.taken c.args.out.now) (g.K.Sink.taken c.take_in.new.out) c.in-Err.halt took.0 took.1
+    import_cut s text (g.K.Sink.taken c.args.out.now) (g.K.Sink.taken c.take_all.new.out) c.in-Err.halt took.0 took.1
 
 pub returns-in_err-imported_line-clause-serves : goal.returns-in_err-imported_line-clause-serves
 returns-in_err-imported_line-clause-serves g c =
     let made = err_from_is_err_and c.from_residual.result c.from_residual.ensures.1 in
     let memory : c.from_residual.result ≡ Err (halt.Device stop.Memory) = made.1 ∙ ap (λ (e : Halt). Err e) made.2 in
     λ s text st left.
-    import_memory c.from_residual.result c.take_in.new.machine (g.F.Files.seen c.take_in.new.files) s text c.in-Ok.counts.0 c.in-Ok.counts.1 (g.K.Sink.taken c.args.out.now) (g.K.Sink.taken c.take_in.new.out) memory
+    import_memory c.from_residual.result c.take_all.new.machine (g.F.Files.seen c.take_all.new.files) s text c.in-Ok.counts.0 c.in-Ok.counts.1 (g.K.Sink.taken c.args.out.now) (g.K.Sink.taken c.take_all.new.out) memory
     (c.in-Ok.ensures.takes s text st left)
 
 pub returns-clause-serves : goal.returns-clause-serves
 returns-clause-serves g c = λ s text st left.
-    import_done c.take_in.new.machine (g.F.Files.seen c.take_in.new.files) s text _ c.in-Ok.counts.0 c.in-Ok.counts.1 (g.K.Sink.taken c.args.out.now) (g.K.Sink.taken c.take_in.new.out)
+    import_done c.take_all.new.machine (g.F.Files.seen c.take_all.new.files) s text _ c.in-Ok.counts.0 c.in-Ok.counts.1 (g.K.Sink.taken c.args.out.now) (g.K.Sink.taken c.take_all.new.out)
     (c.in-Ok.ensures.takes s text st left) c.in_ok-imported_line.ensures.line

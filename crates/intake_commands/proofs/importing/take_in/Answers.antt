@@ -1,6 +1,7 @@
 use Rattle.std.proofs.Common.{None, ◌≡◌, ◌-◌, ℕ, Result, Err, refl, sym, ap, ◌∙◌, subst, arith}
 use Rattle.std.proofs.lemmas.Result.{err_from_is_err_and}
 use Rattle.base_files.specs.declared.faults.Stop.TheVariants as stop
+use Rattle.base_files.specs.Told.{adds}
 use Rattle.command_runs.proofs.Joining.{halted_none}
 use Rattle.command_runs.specs.Plain.{run}
 use Rattle.pgn_read.specs.Items.{items_of}
@@ -16,8 +17,8 @@ use Rattle.shell_state.specs.declared.halt.Halt.TheVariants as halt
 pub loop-taken-init : goal.loop-taken-init
 loop-taken-init g c = record {
   took = λ s text st left.
-      let T : Reader → Type 0 = λ r. TookIn c.args.machine.now (g.F.Files.seen c.args.files.now) s text (told r (g.B.Source.left c.args.body.now)) (g.K.Sink.taken c.args.out.now) (g.K.Sink.taken c.args.out.now) 0 0 in
-      subst T (sym c.in_ok-reader.ensures.new) (took_none c.args.machine.now (g.F.Files.seen c.args.files.now) s text (g.B.Source.left c.args.body.now) (g.K.Sink.taken c.args.out.now) left st);
+      let T : Reader → Type 0 = λ r. TookIn c.args.machine.now (g.F.Files.seen c.args.files.now) s text (told r (g.B.Source.left c.args.body.now)) (adds (g.K.Sink.taken c.args.out.now) c.args.page.now.items) (adds (g.K.Sink.taken c.args.out.now) c.args.page.now.items) 0 0 in
+      subst T (sym c.in_ok-reader.ensures.new) (took_none c.args.machine.now (g.F.Files.seen c.args.files.now) s text (g.B.Source.left c.args.body.now) (adds (g.K.Sink.taken c.args.out.now) c.args.page.now.items) left st);
   none_lost = λ front before. before;
   few = omega arith;
   free = ap (λ (r : Reader). r.stuck) c.in_ok-reader.ensures.new;
@@ -35,9 +36,9 @@ loop-taken-preserved g c =
     let n = c.take_next.ensures in
     record {
       took = λ s text st left.
-          took_on c.take_next.new.machine (g.F.Files.seen c.take_next.new.files) s text (told c.take_next.new.reader (g.B.Source.left c.take_next.new.body)) (g.K.Sink.taken c.args.out.now) (g.K.Sink.taken c.take_next.new.out)
+          took_on c.take_next.new.machine (g.F.Files.seen c.take_next.new.files) s text (told c.take_next.new.reader (g.B.Source.left c.take_next.new.body)) (adds (g.K.Sink.taken c.args.out.now) c.args.page.now.items) (adds (g.K.Sink.taken c.take_next.new.out) c.take_next.new.page.items)
           c.loop-taken.added c.loop-taken.taken c.from-added.result c.in-Ok-Some.field-0 c.in-Ok-Some.was_added c.in-Ok-Some.field-0-is i.few (c.from-added.ensures ∙ flag_number c.in-Ok-Some.was_added)
-          (c.in-Ok-Some.ensures.took s text (g.K.Sink.taken c.args.out.now) c.loop-taken.added (c.loop-taken.taken - c.loop-taken.added) (i.took s text st left) (omega (arith, i.few)));
+          (c.in-Ok-Some.ensures.took s text (adds (g.K.Sink.taken c.args.out.now) c.args.page.now.items) c.loop-taken.added (c.loop-taken.taken - c.loop-taken.added) (i.took s text st left) (omega (arith, i.few)));
       none_lost = λ front before. n.none_lost front (i.none_lost front before);
       few = flag_few c.in-Ok-Some.was_added c.loop-taken.added c.loop-taken.taken c.from-added.result i.few (c.from-added.ensures ∙ flag_number c.in-Ok-Some.was_added);
       free = c.in-Ok-Some.ensures.free;
@@ -58,9 +59,9 @@ loop-taken-preserved g c =
 
 pub returns-in-Ok-None-clause-takes : goal.returns-in-Ok-None-clause-takes
 returns-in-Ok-None-clause-takes g c = λ s text st left.
-    took_last c.take_next.new.machine (g.F.Files.seen c.take_next.new.files) s text (told c.take_next.new.reader (g.B.Source.left c.take_next.new.body)) (g.K.Sink.taken c.args.out.now) (g.K.Sink.taken c.take_next.new.out)
+    took_last c.take_next.new.machine (g.F.Files.seen c.take_next.new.files) s text (told c.take_next.new.reader (g.B.Source.left c.take_next.new.body)) (adds (g.K.Sink.taken c.args.out.now) c.args.page.now.items) (adds (g.K.Sink.taken c.take_next.new.out) c.take_next.new.page.items)
     c.loop-taken.added (c.loop-taken.taken - c.loop-taken.added) c.in-Ok-None.field-0 c.in-Ok-None.field-0-is
-    (c.in-Ok-None.ensures.took s text (g.K.Sink.taken c.args.out.now) c.loop-taken.added (c.loop-taken.taken - c.loop-taken.added) (c.loop-taken.invariant.took s text st left) (omega (arith, c.loop-taken.invariant.few)))
+    (c.in-Ok-None.ensures.took s text (adds (g.K.Sink.taken c.args.out.now) c.args.page.now.items) c.loop-taken.added (c.loop-taken.taken - c.loop-taken.added) (c.loop-taken.invariant.took s text st left) (omega (arith, c.loop-taken.invariant.few)))
 
 pub returns-in-Ok-None-clause-carries : goal.returns-in-Ok-None-clause-carries
 returns-in-Ok-None-clause-carries g c = λ s st.
@@ -69,7 +70,7 @@ returns-in-Ok-None-clause-carries g c = λ s st.
 
 pub returns-in-Err-clause-takes : goal.returns-in-Err-clause-takes
 returns-in-Err-clause-takes g c = λ s text st left.
-    c.in-Err.ensures.took s text (g.K.Sink.taken c.args.out.now) c.loop-taken.added (c.loop-taken.taken - c.loop-taken.added) (c.loop-taken.invariant.took s text st left) (omega (arith, c.loop-taken.invariant.few))
+    c.in-Err.ensures.took s text (adds (g.K.Sink.taken c.args.out.now) c.args.page.now.items) c.loop-taken.added (c.loop-taken.taken - c.loop-taken.added) (c.loop-taken.invariant.took s text st left) (omega (arith, c.loop-taken.invariant.few))
 
 pub returns-in-Err-clause-carries : goal.returns-in-Err-clause-carries
 returns-in-Err-clause-carries g c = λ s st.
@@ -78,7 +79,7 @@ returns-in-Err-clause-carries g c = λ s st.
 
 pub returns-clause-takes : goal.returns-clause-takes
 returns-clause-takes g c = λ s text st left. (
-  took_short c.loop-taken.machine (g.F.Files.seen c.loop-taken.files) s text (told c.loop-taken.reader (g.B.Source.left c.loop-taken.body)) (g.K.Sink.taken c.args.out.now) (g.K.Sink.taken c.loop-taken.out)
+  took_short c.loop-taken.machine (g.F.Files.seen c.loop-taken.files) s text (told c.loop-taken.reader (g.B.Source.left c.loop-taken.body)) (adds (g.K.Sink.taken c.args.out.now) c.args.page.now.items) (adds (g.K.Sink.taken c.loop-taken.out) c.loop-taken.page.items)
       c.loop-taken.added (c.loop-taken.taken - c.loop-taken.added) (c.loop-taken.invariant.took s text st left),
   tt,
 )
@@ -93,8 +94,8 @@ returns-in_err-reader-clause-takes g c =
     let made = err_from_is_err_and c.from_residual.result c.from_residual.ensures.1 in
     let memory : c.from_residual.result ≡ Err (halt.Device stop.Memory) = made.1 ∙ ap (λ (e : Halt). Err e) made.2 in
     λ s text st left.
-    let P : Result (ℕ × ℕ) Halt → Type 0 = λ r. TakesIn c.args.machine.now (g.F.Files.seen c.args.files.now) s (items_of text) (g.K.Sink.taken c.args.out.now) (g.K.Sink.taken c.args.out.now) r in
-    subst P (sym memory) (halted_none (run intake (none_taken s) (items_of text)) (g.K.Sink.taken c.args.out.now), tt)
+    let P : Result (ℕ × ℕ) Halt → Type 0 = λ r. TakesIn c.args.machine.now (g.F.Files.seen c.args.files.now) s (items_of text) (adds (g.K.Sink.taken c.args.out.now) c.args.page.now.items) (adds (g.K.Sink.taken c.args.out.now) c.args.page.now.items) r in
+    subst P (sym memory) (halted_none (run intake (none_taken s) (items_of text)) (adds (g.K.Sink.taken c.args.out.now) c.args.page.now.items), tt)
 
 pub returns-in_err-reader-clause-carries : goal.returns-in_err-reader-clause-carries
 returns-in_err-reader-clause-carries g c = λ s st. carry_of c.args.machine.now (g.F.Files.seen c.args.files.now) s None st

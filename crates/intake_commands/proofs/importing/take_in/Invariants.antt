@@ -1,4 +1,5 @@
 use Rattle.std.proofs.Common.{◌≡◌, ◌≤◌, ◌-◌, ℕ, List, Some, None}
+use Rattle.base_files.specs.Told.{adds}
 use Rattle.command_runs.specs.Counts.{NoneFell, counts}
 use Rattle.command_runs.specs.Endings.{NoneLost}
 use Rattle.pgn_read.specs.Readers.{told}
@@ -11,7 +12,7 @@ use Rattle.shell_state.specs.State.{State}
 abbrev pub invariant-loop-taken : goal.invariant-loop-taken
 invariant-loop-taken g l = record {
   took : (s : State) (text : List ℕ) → Stands l.fn.machine (g.F.Files.seen l.fn.files) s → g.B.Source.left l.fn.body ≡ Some text
-      → TookIn l.machine (g.F.Files.seen l.files) s text (told l.reader (g.B.Source.left l.body)) (g.K.Sink.taken l.fn.out) (g.K.Sink.taken l.out) l.added (l.taken - l.added);
+      → TookIn l.machine (g.F.Files.seen l.files) s text (told l.reader (g.B.Source.left l.body)) (adds (g.K.Sink.taken l.fn.out) l.fn.page.items) (adds (g.K.Sink.taken l.out) l.page.items) l.added (l.taken - l.added);
   none_lost : NoneLost (g.K.Sink.taken l.fn.out) (g.K.Sink.taken l.out);
   few : l.added ≤ l.taken;
   free : l.reader.stuck ≡ None;
