@@ -1,5 +1,5 @@
 -- The commands that write games in Portable Game Notation. This project's own.
-use Rattle.std.specs.Prelude.{ℕ, List, Option, Some, None, slice_get, [], take, ◌≡◌, ◌+◌}
+use Rattle.std.specs.Prelude.{ℕ, List, Option, Some, None, slice_get, [], ◌∷◌, take, ◌≡◌, ◌+◌, ◌++◌}
 use Rattle.base_core.specs.Base.{Held}
 use Rattle.base_core.specs.Entries.{head_of, sig_in}
 use Rattle.base_core.specs.Represents.{Kept}
@@ -68,6 +68,22 @@ pub record IsTextOf (names : NameLists) (e : Entry) (text : List ℕ) : Type 0 w
 abbrev pub WritesTextOf : Kept → ℕ → Option (List ℕ) → Option (List ℕ) → Type 0
 WritesTextOf kept game told told' =
     (e : Entry) → slice_get kept.entries game ≡ Some e → (text : List ℕ) × (IsTextOf kept.names e text × (told' ≡ adds told text))
+
+-- The text of a kept game that is in; one that is out has none.
+abbrev pub IsTextIfIn : NameLists → Option ℕ → Entry → List ℕ → Type 0
+IsTextIfIn names (Some ply) e text = IsTextOf names e text
+IsTextIfIn names None e text = text ≡ []
+
+-- Such texts of the games that are in, one for each, in their order.
+abbrev pub AreTextsOf : NameLists → List (Option ℕ) → List Entry → List ℕ → Type 0
+AreTextsOf names [] entries text = text ≡ []
+AreTextsOf names (ply ∷ plies) [] text = text ≡ []
+AreTextsOf names (ply ∷ plies) (e ∷ entries) text =
+    (first : List ℕ) × ((rest : List ℕ) × (IsTextIfIn names ply e first × (AreTextsOf names plies entries rest × (text ≡ first ++ rest))))
+
+-- They were written, whatever the files tell.
+abbrev pub WritesTextsOf : Kept → List (Option ℕ) → Option (List ℕ) → Option (List ℕ) → Type 0
+WritesTextsOf kept plies told told' = (text : List ℕ) × (AreTextsOf kept.names plies kept.entries text × (told' ≡ adds told text))
 
 -- The bytes of the records of the games that are in.
 abbrev pub exported_len : List (Option ℕ) → List Entry → ℕ

@@ -15,8 +15,8 @@ ghost use Rattle.shell_state.specs.Passing.{len_if_in};
 ghost use Rattle.shell_state.specs.Stands.{Stands, Sound, Broken, WhyHalt, len_at, Asks, AsksAll};
 ghost use Rattle.shell_state.specs.State.{State};
 ghost use Rattle.shell_state.specs.Work.{works};
-ghost use Rattle.text_commands.specs.Cuts.{GameEnds, GamesEnd};
-ghost use Rattle.text_commands.specs.GameTexts.{ExportCut, game_text, text_if_in, IsTextOf, WritesTextOf, exported_len, export_work, show_work};
+ghost use Rattle.text_commands.specs.Cuts.{GameEnds, GamesEnd, PutsTextIfIn};
+ghost use Rattle.text_commands.specs.GameTexts.{ExportCut, game_text, text_if_in, IsTextOf, WritesTextOf, WritesTextsOf, exported_len, export_work, show_work};
 
 use base_core::Base;
 use base_files::{Files, Sink, Stop};
@@ -92,6 +92,8 @@ pub fn export<F: Files, K: Sink>(
     ensures unchanged { F.seen files.new ≡ F.seen files.old }
     ensures asks { Asks machine.old export_work (F.asked files.old) (F.asked files.new) }
     ensures asked { OnOk result (AsksAll machine.old export_work (F.asked files.old) (F.asked files.new)) }
+    // Whatever the files hold, what is written is the texts of legal games, which have the signatures that are kept: one for each game that is in.
+    ensures shown { OnOk result (WritesTextsOf machine.old.kept machine.old.seat.filter (K.taken out.old) (K.taken out.new)) }
     ensures none_lost { NoneLost (K.taken out.old) (K.taken out.new) }
     ensures causes { Causes WhyHalt result (counts (F.faults files.old) 0 (K.faults out.old)) (counts (F.faults files.new) 0 (K.faults out.new)) }
 {
@@ -122,6 +124,7 @@ fn write_games<F: Files, K: Sink>(
     ensures unchanged { F.seen files.new ≡ F.seen files.old }
     ensures asks { F.asked files.new ≤ F.asked files.old + exported_len filter.now base.now.entries }
     ensures asked { OnOk result (raised (F.asked files.old) (exported_len filter.now base.now.entries) ≤ F.asked files.new) }
+    ensures shown { OnOk result (WritesTextsOf base.now filter.now (K.taken out.old) (K.taken out.new)) }
     ensures none_lost { NoneLost (K.taken out.old) (K.taken out.new) }
     ensures causes { Causes WhyHalt result (counts (F.faults files.old) 0 (K.faults out.old)) (counts (F.faults files.new) 0 (K.faults out.new)) }
 {
@@ -151,6 +154,7 @@ fn put_games<F: Files, K: Sink>(
     ensures unchanged { F.seen files.new ≡ F.seen files.old }
     ensures asks { F.asked files.new ≤ F.asked files.old + exported_len filter.now base.now.entries }
     ensures asked { OnOk result (raised (F.asked files.old) (exported_len filter.now base.now.entries) ≤ F.asked files.new) }
+    ensures shown { OnOk result (WritesTextsOf base.now filter.now (adds (K.taken out.old) page.old.items) (adds (K.taken out.new) page.new.items)) }
     ensures none_lost { NoneLost (K.taken out.old) (K.taken out.new) }
     ensures causes { Causes WhyHalt result (counts (F.faults files.old) 0 (K.faults out.old)) (counts (F.faults files.new) 0 (K.faults out.new)) }
 {
@@ -182,6 +186,7 @@ fn put_if_in<F: Files, K: Sink>(
     ensures unchanged { F.seen files.new ≡ F.seen files.old }
     ensures asks { F.asked files.new ≤ F.asked files.old + len_if_in ply (len_at base.now.entries i) }
     ensures asked { OnOk result (raised (F.asked files.old) (len_if_in ply (len_at base.now.entries i)) ≤ F.asked files.new) }
+    ensures shown { OnOk result (PutsTextIfIn base.now i ply (adds (K.taken out.old) page.old.items) (adds (K.taken out.new) page.new.items)) }
     ensures none_lost { NoneLost (K.taken out.old) (K.taken out.new) }
     ensures causes { Causes WhyHalt result (counts (F.faults files.old) 0 (K.faults out.old)) (counts (F.faults files.new) 0 (K.faults out.new)) }
 {
@@ -209,6 +214,7 @@ fn put_one<F: Files, K: Sink>(
     ensures unchanged { F.seen files.new ≡ F.seen files.old }
     ensures asks { F.asked files.new ≤ F.asked files.old + len_at base.now.entries i }
     ensures asked { OnOk result (raised (F.asked files.old) (len_at base.now.entries i) ≤ F.asked files.new) }
+    ensures shown { OnOk result (WritesTextOf base.now i (adds (K.taken out.old) page.old.items) (adds (K.taken out.new) page.new.items)) }
     ensures none_lost { NoneLost (K.taken out.old) (K.taken out.new) }
     ensures causes { Causes WhyHalt result (counts (F.faults files.old) 0 (K.faults out.old)) (counts (F.faults files.new) 0 (K.faults out.new)) }
 {

@@ -6,7 +6,7 @@ use Rattle.shell_state.specs.Stands.{Holding, Stands, Asks, AsksAll}
 use Rattle.text_commands.proofs.GameTextLaws.{export_breaks, export_serves, exported_price}
 use Rattle.text_commands.proofs.game_texts.export.Goals as goal
 use Rattle.text_commands.specs.Cuts.{GamesEnd}
-use Rattle.text_commands.specs.GameTexts.{export_work}
+use Rattle.text_commands.specs.GameTexts.{WritesTextsOf, export_work}
 
 pub returns-clause-serves : goal.returns-clause-serves
 returns-clause-serves g c = λ s st.
@@ -39,3 +39,8 @@ returns-clause-asked g c =
     let P : Holding → Type 0 = λ h. OnOk c.write_games.result (AsksAll h export_work first new) in
     subst P c.machine.view_is
     (subst (λ (n : ℕ). OnOk c.write_games.result (raised first n ≤ new)) (exported_price c.machine.inside.seat.filter here) c.write_games.ensures.asked)
+
+pub returns-clause-shown : goal.returns-clause-shown
+returns-clause-shown g c =
+    let P : Holding → Type 0 = λ h. OnOk c.write_games.result (WritesTextsOf h.kept h.seat.filter (g.K.Sink.taken c.args.out.now) (g.K.Sink.taken c.write_games.new.out)) in
+    subst P c.machine.view_is c.write_games.ensures.shown

@@ -3,6 +3,7 @@ use Rattle.base_core.proofs.Lists.{get_some}
 use Rattle.base_files.specs.Seen.{Seen}
 use Rattle.base_files.specs.Told.{adds}
 use Rattle.text_commands.proofs.GameTextLaws.{export_all, export_cut, export_more, filtered-more, none_left, rest_more}
+use Rattle.text_commands.proofs.ShownLaws.{puts_all, puts_more}
 use Rattle.text_commands.proofs.game_texts.put_games.Goals as goal
 use Rattle.text_commands.specs.GameTexts.{exported_len}
 
@@ -27,6 +28,8 @@ loop-i-preserved g c =
           export_more c.loop-i.i c.args.filter.now all.games c.get.result held.0 (adds (g.K.Sink.taken c.args.out.now) c.args.page.now.items) (adds (g.K.Sink.taken c.loop-i.out) c.loop-i.page.items) (adds (g.K.Sink.taken c.put_if_in.new.out) c.put_if_in.new.page.items)
           c.get.ensures.entry held.1 (c.loop-i.invariant.put told all same is)
           (c.in-Ok.ensures.put told all held.0 (ap (λ (s : Seen). s.games) c.loop-i.invariant.seen ∙ same) is held.1);
+      shown = puts_more c.args.base.now c.args.filter.now c.loop-i.i c.get.result (adds (g.K.Sink.taken c.args.out.now) c.args.page.now.items) (adds (g.K.Sink.taken c.loop-i.out) c.loop-i.page.items)
+          (adds (g.K.Sink.taken c.put_if_in.new.out) c.put_if_in.new.page.items) here c.get.ensures.entry c.loop-i.invariant.shown c.in-Ok.ensures.shown;
       none_lost = λ front before. c.put_if_in.ensures.none_lost front (c.loop-i.invariant.none_lost front before);
       room = c.put_if_in.ensures.room;
       seen = c.put_if_in.ensures.unchanged ∙ c.loop-i.invariant.seen;
@@ -47,3 +50,9 @@ pub returns-clause-asked : goal.returns-clause-asked
 returns-clause-asked g c =
     let done : length c.args.filter.now ≤ c.loop-i.i = omega (arith, c.loop-i-test.false, c.len-i-end.ensures.len) in
     none_left (g.F.Files.asked c.args.files.now) (g.F.Files.asked c.loop-i.files) c.loop-i.i c.args.filter.now c.args.base.now.entries done c.loop-i.invariant.asked
+
+pub returns-clause-shown : goal.returns-clause-shown
+returns-clause-shown g c =
+    let done : length c.args.filter.now ≤ c.loop-i.i = omega (arith, c.loop-i-test.false, c.len-i-end.ensures.len) in
+    puts_all c.args.base.now c.args.filter.now c.loop-i.i (adds (g.K.Sink.taken c.args.out.now) c.args.page.now.items) (adds (g.K.Sink.taken c.loop-i.out) c.loop-i.page.items) done
+    (omega (arith, done, c.requires.games)) c.loop-i.invariant.shown
