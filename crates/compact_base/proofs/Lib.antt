@@ -2,3 +2,4 @@ pub mod ListLaws
 pub mod FirstLaws
 pub mod CopyLaws
 pub mod CommitLaws
+pub mod RecordLaws

@@ -1,7 +1,7 @@
 -- The first games of a base in a draft, and their records in a new games file, as the functions of this crate go through them.
 use Rattle.std.specs.Prelude.{◌≡◌, ◌≤◌, ◌<◌, ℕ, ◌+◌, false, ⊤, List, ◌++◌, length, take, filter, replicate, if◌then◌else◌, slice_get, Option, Some, option_map}
 use Rattle.std.specs.Bool.{MatchBool}
-use Rattle.base_files.specs.Seen.{Seen, committed, lengthened}
+use Rattle.base_files.specs.Seen.{Seen, begun, committed, lengthened}
 use Rattle.base_files.specs.Told.{Tells, TellsLength, part_told}
 use Rattle.block_store.specs.Placing.{end_after, longest_file, padding}
 use Rattle.base_core.specs.Base.{Base}
@@ -13,7 +13,7 @@ use Rattle.base_core.specs.Represents.{Kept, Represents}
 use Rattle.index_entry.specs.declared.entry.Entry.{Entry}
 use Rattle.compact_base.specs.declared.fault.CompactError.{CompactError}
 use Rattle.compact_base.specs.declared.fault.CompactError.TheVariants as error
-use Rattle.compact_base.specs.Compacting.{new_end, new_games, staying}
+use Rattle.compact_base.specs.Compacting.{AreRecordsKept, new_end, new_games, staying}
 
 -- The draft stands for the first games, but for those that are deleted, beside the new games file with their records.
 abbrev pub StandsForFirst : ℕ → Kept → Kept → Type 0
@@ -63,6 +63,12 @@ pub record CopiedFirst (i : ℕ) (kept : Kept) (end : ℕ) (old new : Seen) : Ty
   pub seen : new ≡ record old { fresh = option_map (new_games (take i kept.entries)) old.games; added = new_end (take i kept.entries) }
   pub ends : end ≡ new_end (take i kept.entries)
   pub long : TellsLength new.fresh end
+
+-- What the new games file, which was begun, was given: a record of each of the first games that stay.
+pub record AddsFirst (i : ℕ) (kept : Kept) (old new : Seen) : Type 0 where
+  pub text : List ℕ
+  pub records : AreRecordsKept old.games 0 (staying (take i kept.entries)) text
+  pub put : new ≡ lengthened text (begun old)
 
 -- The records of the games that stay were copied, and then the new games file, these names and this index became the current files.
 pub record IsWritten (kept : Kept) (names index : List ℕ) (old new : Seen) : Type 0 where

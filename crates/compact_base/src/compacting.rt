@@ -6,7 +6,7 @@ ghost use Rattle.block_store.specs.Placing.{IsEnd, longest_file};
 ghost use Rattle.base_core.specs.Base.{Base as PlainBase};
 ghost use Rattle.base_core.specs.Represents.{Represents};
 ghost use Rattle.base_core.specs.Saved.{MeansIt};
-ghost use Rattle.compact_base.specs.Compacting.{Compacts, IfChanged, IsCommitted, WhyNotCompacted, kept_len, new_end, numbering};
+ghost use Rattle.compact_base.specs.Compacting.{Compacts, CopiesRecords, IfChanged, IsCommitted, WhyNotCompacted, kept_len, new_end, numbering};
 ghost use Rattle.compact_base.specs.Drafting.{IsWritten, WhyNotCopied};
 
 use crate::copying::copy_games;
@@ -36,6 +36,8 @@ pub fn compact<F: Files>(
     ensures compacted { OnOk result (Compacts base.old base.new (F.seen files.old).games (F.seen files.new).games) }
     ensures count { OnOk result (length base.new.entries ≡ (numbering base.old.entries).kept) }
     ensures numbers { IfOk result (λ renumbering. renumbering ≡ numbering base.old.entries) }
+    // Whatever the files hold, each record that was copied is one of a legal game with the signature that is kept.
+    ensures copied { OnOk result (CopiesRecords base.old (F.seen files.old) (F.seen files.new)) }
     // The files mean the base, and open again as it. Each record has the bytes that it had.
     ensures means { OnOk result (MeansIt base.new (F.seen files.new)) }
     ensures committed { OnOk result (IsCommitted base.old base.new (F.seen files.old) (F.seen files.new)) }
@@ -72,6 +74,7 @@ fn write_files<F: Files>(
     requires room { 131072 ≤ length buf.old }
     requires within { base.now.end ≤ (F.seen files.old).known }
     ensures written { OnOk result (IsWritten base.now names.now index.now (F.seen files.old) (F.seen files.new)) }
+    ensures copied { OnOk result (CopiesRecords base.now (F.seen files.old) (F.seen files.new)) }
     ensures why { IfErr result (WhyNotCopied base.now (F.seen files.old).games buf.new) }
     ensures same { IfErr result (λ error. IfChanged error (IfSome (F.seen files.old).games (λ games. (plain : PlainBase) → Represents base.now games plain → ⊥))) }
     ensures left { OnErr result (FreshAlone (F.seen files.old) (F.seen files.new)) }

@@ -6,7 +6,7 @@ ghost use Rattle.base_core.specs.Base.{Base as PlainBase};
 ghost use Rattle.base_core.specs.Represents.{Represents};
 ghost use Rattle.index_entry.specs.declared.entry.Entry.{Entry};
 ghost use Rattle.compact_base.specs.Compacting.{IfChanged, kept_len, new_end};
-ghost use Rattle.compact_base.specs.Drafting.{Copies, CopiedFirst, CopiesIfKept, WhyNotCopied, len_if_kept};
+ghost use Rattle.compact_base.specs.Drafting.{AddsFirst, Copies, CopiedFirst, CopiesIfKept, WhyNotCopied, len_if_kept};
 
 use crate::devices::{append, begin};
 use crate::fault::{CompactError, record_error};
@@ -24,6 +24,7 @@ pub(crate) fn copy_games<F: Files>(
     requires room { 131072 ≤ length buf.old }
     requires within { base.now.end ≤ (F.seen files.old).known }
     ensures copied { OnOk result (CopiedFirst (length base.now.entries) base.now (new_end base.now.entries) (F.seen files.old) (F.seen files.new)) }
+    ensures records { OnOk result (AddsFirst (length base.now.entries) base.now (F.seen files.old) (F.seen files.new)) }
     ensures why { IfErr result (WhyNotCopied base.now (F.seen files.old).games buf.new) }
     ensures same { IfErr result (λ error. IfChanged error (IfSome (F.seen files.old).games (λ games. (plain : PlainBase) → Represents base.now games plain → ⊥))) }
     ensures left { OnErr result (FreshAlone (F.seen files.old) (F.seen files.new)) }

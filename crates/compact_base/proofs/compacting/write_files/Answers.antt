@@ -8,6 +8,7 @@ use Rattle.compact_base.specs.declared.fault.CompactError.TheVariants as error
 use Rattle.compact_base.specs.Compacting.{IfChanged, new_end}
 use Rattle.compact_base.specs.Drafting.{IsDevice, IsWritten, WhyNotCopied}
 use Rattle.compact_base.proofs.CopyLaws.{alone-then, copied-alone, device-same, device-why, err-so, on-err-so, on-ok-so, rose-later}
+use Rattle.compact_base.proofs.RecordLaws.{copies-records}
 use Rattle.compact_base.proofs.compacting.write_files.Goals as goal
 
 pub returns-in-Ok-clause-written : goal.returns-in-Ok-clause-written
@@ -17,6 +18,11 @@ returns-in-Ok-clause-written g c =
     let new = g.F.Files.seen c.commit.new.files in
     on-ok-so (new ≡ committed c.args.names.now c.args.index.now mid) (IsWritten c.args.base.now c.args.names.now c.args.index.now old new) c.commit.result
     (λ is. record { copied_to = mid; copied = c.in-Ok.ensures.copied; put = is }) c.commit.ensures.committed
+
+pub returns-in-Ok-clause-copied : goal.returns-in-Ok-clause-copied
+returns-in-Ok-clause-copied g c =
+    copies-records c.commit.result c.args.base.now c.args.index.now c.args.names.now (g.F.Files.seen c.args.files.now) (g.F.Files.seen c.copy_games.new.files) (g.F.Files.seen c.commit.new.files) c.in-Ok.ensures.records
+    c.commit.ensures.committed
 
 pub returns-in-Ok-clause-why : goal.returns-in-Ok-clause-why
 returns-in-Ok-clause-why g c =

@@ -6,9 +6,10 @@ use Rattle.base_core.specs.Entries.{extent_of}
 use Rattle.base_core.specs.Represents.{Represents}
 use Rattle.base_core.proofs.Lists.{get_some}
 use Rattle.compact_base.specs.Compacting.{IfChanged}
-use Rattle.compact_base.specs.Drafting.{WhyNotCopied}
+use Rattle.compact_base.specs.Drafting.{AddsFirst, WhyNotCopied}
 use Rattle.compact_base.proofs.CopyLaws.{copied-more, copied-none, copied-whole, device-why, fresh-alone, rose-later}
 use Rattle.compact_base.proofs.ListLaws.{kept-next}
+use Rattle.compact_base.proofs.RecordLaws.{adds-more, adds-none}
 use Rattle.compact_base.proofs.copying.copy_games.Goals as goal
 
 pub returns-in_err-begin-clause-why : goal.returns-in_err-begin-clause-why
@@ -20,6 +21,7 @@ pub loop-i-init : goal.loop-i-init
 loop-i-init g c = record {
   within = omega arith;
   copied = copied-none c.args.base.now (g.F.Files.seen c.args.files.now) (g.F.Files.seen c.begin.new.files) c.in_ok-begin.ensures.begun;
+  records = adds-none c.args.base.now (g.F.Files.seen c.args.files.now) (g.F.Files.seen c.begin.new.files) c.in_ok-begin.ensures.begun;
   small = omega arith;
   asks = omega (arith, c.begin.ensures.none_asked);
   counts = c.begin.ensures.counts;
@@ -57,6 +59,8 @@ loop-i-preserved g c =
     record {
       within = omega (arith, below);
       copied = copied-more c.loop-i.i c.args.base.now c.loop-i.end c.in-Ok.after (g.F.Files.seen c.args.files.now) (g.F.Files.seen c.loop-i.files) (g.F.Files.seen c.copy_if_kept.new.files) e.0 e.1 c.loop-i.invariant.copied c.in-Ok.ensures.copied;
+      records = adds-more c.loop-i.i c.args.base.now c.loop-i.end c.in-Ok.after (g.F.Files.seen c.args.files.now) (g.F.Files.seen c.loop-i.files) (g.F.Files.seen c.copy_if_kept.new.files) e.0 e.1 c.loop-i.invariant.copied
+          c.loop-i.invariant.records c.in-Ok.ensures.copied;
       small = c.in-Ok.ensures.small;
       asks = omega (arith, c.copy_if_kept.ensures.asks e.0 e.1, c.loop-i.invariant.asks, kept-next c.args.base.now.entries c.loop-i.i e.0 e.1);
       counts = omega (arith, c.copy_if_kept.ensures.counts, c.loop-i.invariant.counts);
@@ -67,6 +71,12 @@ returns-clause-copied g c =
     let all : c.loop-i.i ≡ length c.args.base.now.entries =
     omega (arith, c.loop-i-test.false, c.loop-i.invariant.within, c.len-i-end.ensures.one_extent_each, length-map c.args.base.now.entries extent_of) in
     copied-whole c.loop-i.i c.args.base.now c.loop-i.end (g.F.Files.seen c.args.files.now) (g.F.Files.seen c.loop-i.files) all c.loop-i.invariant.copied
+
+pub returns-clause-records : goal.returns-clause-records
+returns-clause-records g c =
+    let all : c.loop-i.i ≡ length c.args.base.now.entries =
+    omega (arith, c.loop-i-test.false, c.loop-i.invariant.within, c.len-i-end.ensures.one_extent_each, length-map c.args.base.now.entries extent_of) in
+    subst (λ (n : ℕ). AddsFirst n c.args.base.now (g.F.Files.seen c.args.files.now) (g.F.Files.seen c.loop-i.files)) all c.loop-i.invariant.records
 
 pub returns-clause-asks : goal.returns-clause-asks
 returns-clause-asks g c = omega (arith, c.loop-i.invariant.asks)
