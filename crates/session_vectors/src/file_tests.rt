@@ -123,6 +123,31 @@ const SHOW: Run<'static> = Run {
     ..EXPORT
 };
 
+const RESET_AND_EXPORT: Run<'static> = Run {
+    script: b"reset\nexport\n",
+    ..EXPORT
+};
+
+const POSITION: Run<'static> = Run {
+    script: b"search ignore position exact rnbqkbnr/pppppppp/8/8/4P3/8/PPPP1PPP/RNBQKBNR b\n",
+    ..EXPORT
+};
+
+const MATERIAL: Run<'static> = Run {
+    script: b"search ignore material bp=7..7\n",
+    ..EXPORT
+};
+
+const TAG: Run<'static> = Run {
+    script: b"tag 0 White A\n",
+    ..EXPORT
+};
+
+const DEMO: Run<'static> = Run {
+    script: b"demo 1 1\n",
+    ..EXPORT
+};
+
 const COMPACT: Run<'static> = Run {
     script: b"compact\n",
     ..EXPORT
@@ -136,13 +161,29 @@ const HALF_DONE: [(Run<'static>, Held); 2] = [
 
 const ONE_LINE: &[u8] = b"base 2 games 0 mended\n";
 
-/// A script, a byte of the record that changes, whether the record is then that of another legal game, and what is written.
+/// A script, a byte of the record that changes, whether the record is then that of another legal game, and what is written. A search ends at the
+/// first match, so it meets what changes before that alone; that of `demo` is met at the start, and the tree behind it reads the first move.
 type Change = (Run<'static>, Swap, bool, &'static [u8]);
 
-const CHANGES: [Change; 4] = [
+const CHANGES: [Change; 9] = [
     (COMPACT, ANOTHER, true, b"base 1 games 0 mended\n"),
     (SHOW, NO_END, false, b"base 1 games 0 mended\n"),
+    (
+        RESET_AND_EXPORT,
+        ANOTHER,
+        true,
+        b"base 1 games 0 mended\nfilter 1 of 1\n",
+    ),
     (FIND, NO_MOVE, false, b"base 1 games 0 mended\n"),
+    (POSITION, NO_MOVE, false, b"base 1 games 0 mended\n"),
+    (MATERIAL, NO_MOVE, false, b"base 1 games 0 mended\n"),
+    (TAG, ANOTHER, true, b"base 1 games 0 mended\n"),
+    (
+        DEMO,
+        NO_MOVE,
+        false,
+        b"base 1 games 0 mended\ndemo 1 games 60 plies\nfilter 2 of 2\n",
+    ),
     (
         FIND_TWICE,
         NO_MOVE_LATER,
