@@ -199,6 +199,31 @@ def edits_go_on_after_a_compaction(folder):
     assert " - C" in heads(base)[0]
 
 
+def additions_wait_for_a_block(folder):
+    """The first addition since the base was opened or saved is in the games file at once. Those behind it are before one of them is read, by a
+    save, and at the end."""
+    base = make_base(folder)
+    sizes = [Path(f"{base}.sg4").stat().st_size]
+    session = Session(base)
+
+    def grows(line, answer):
+        """Whether the games file is longer behind this line."""
+        assert session.ask(line) == answer, (line, session.end())
+        sizes.append(Path(f"{base}.sg4").stat().st_size)
+        return sizes[-1] > sizes[-2]
+
+    assert grows("tag 0 White A", "tagged 0\n")
+    assert not grows("tag 1 White B", "tagged 1\n")
+    assert grows("tag 1 Black C", "tagged 1\n")
+    assert grows("save", "saved 4 games\n")
+    saved = heads(base)
+    assert grows("tag 2 White D", "tagged 2\n")
+    assert not grows("tag 3 White E", "tagged 3\n")
+    assert session.end() == (0, "")
+    assert Path(f"{base}.sg4").stat().st_size > sizes[-1]
+    assert heads(base) == saved and " A - " in saved[0] and " B - C" in saved[1], saved
+
+
 def a_record_that_changes_ends_the_run(folder):
     """A record that another program writes over after the opening, with bytes that are none or with the record of another game: whoever reads
     it ends there, and leaves the files as they are. Searches go along the moves alone, and a tree to the move behind the position. A demo of no
@@ -518,6 +543,7 @@ def main():
         (files_of_the_user_stay,),
         (modes_and_links_stay,),
         (edits_go_on_after_a_compaction,),
+        (additions_wait_for_a_block,),
         (a_record_that_changes_ends_the_run,),
         (a_move_that_changes_ends_the_search_that_comes_to_it,),
         (a_mended_base_opens_again,),

@@ -5,8 +5,9 @@ use crate::new_games::{NewGames, write_padded};
 use crate::places::{Kind, Places, Spot, Trio};
 use crate::renames::{Found, Undone, is_there, put_all, put_back, rename};
 use crate::trouble::{OnFile, Trouble, Why};
+use crate::waiting::Waiting;
 use base_files::Part;
-use std::alloc::Global;
+use std::alloc::{AllocError, Global};
 use std::fs::{File, OpenOptions, TryLockError};
 use std::io::{ErrorKind, Read, Seek, SeekFrom, Write};
 use std::os::unix::fs::{MetadataExt, OpenOptionsExt};
@@ -16,14 +17,32 @@ use std::{fs, io};
 /// Who may read and write a new file until it has the mode of the current one: its owner alone.
 const OWN: u32 = 0o600;
 
+/// The memory that work on a games file wants: a block that is read ahead, and one in which additions wait.
+#[derive(Drop)]
+pub struct Blocks {
+    ahead: Ahead,
+    waiting: Waiting,
+}
+
+impl Blocks {
+    /// Room in which nothing is.
+    pub fn new(alloc: Global) -> Result<Blocks, AllocError> {
+        let ahead = Ahead::new(alloc)?;
+        let waiting = Waiting::new(alloc)?;
+        Ok(Blocks { ahead, waiting })
+    }
+}
+
 /// The base that was chosen, with its three files open.
 #[derive(Drop)]
 pub struct DiskBase {
     places: Places,
     files: Trio<Held>,
-    // Opened at the first addition, so that a base that nobody may write is read all the same.
+    // Opened at the first addition, so that a base that nobody may write is read all the same, and let go at a save.
     adder: Option<File>,
     ahead: Ahead,
+    // What was added behind the first addition, and is not in the file yet.
+    waiting: Waiting,
     // The new games file, where one was begun.
     fresh: Option<NewGames>,
     // Which new files this run made that are not in their places yet.
@@ -89,12 +108,13 @@ pub fn put_right<R: FileSystem<File = File>>(
 
 impl DiskBase {
     /// The base of these files.
-    pub fn new(places: Places, files: Trio<Held>, ahead: Ahead) -> DiskBase {
+    pub fn new(places: Places, files: Trio<Held>, blocks: Blocks) -> DiskBase {
         DiskBase {
             places,
             files,
             adder: None,
-            ahead,
+            ahead: blocks.ahead,
+            waiting: blocks.waiting,
             fresh: None,
             made: Trio {
                 index: false,
@@ -118,20 +138,35 @@ impl DiskBase {
         Ok(bytes)
     }
 
-    /// The length of the games file.
+    /// The length of the games file, with what waits.
     pub fn games_len(&mut self) -> Result<u64, Trouble> {
-        let games = &mut self.files.games;
-        games.note().on(Kind::Games.current())?;
-        Ok(games.len())
+        self.files.games.note().on(Kind::Games.current())?;
+        Ok(self.end_of_games())
+    }
+
+    // Where the games file ended when it was noted, with what waits behind it.
+    fn end_of_games(&self) -> u64 {
+        self.files
+            .games
+            .len()
+            .saturating_add(self.waiting.bytes().len() as u64)
     }
 
     /// Fills `into` from this place of the games file on. A file that ends early is an error.
     ///
     /// What lies in one block is taken from a block that is read at once, so that going through the records of a games
-    /// file costs one call of the system a block. A record that lies elsewhere is read alone.
-    pub fn read_games(&mut self, offset: u64, into: &mut [u8]) -> Result<(), Trouble> {
+    /// file costs one call of the system a block. A record that lies elsewhere is read alone. What waits is written before it is read.
+    pub fn read_games<R: FileSystem<File = File>>(
+        &mut self,
+        system: &R,
+        offset: u64,
+        into: &mut [u8],
+    ) -> Result<(), Trouble> {
         if self.ahead.gives(offset, into) {
             return Ok(());
+        }
+        if offset.saturating_add(into.len() as u64) > self.files.games.len() {
+            self.write_waiting(system)?;
         }
         let games = &mut self.files.games.file;
         if self.ahead.is_near(offset) {
@@ -147,6 +182,9 @@ impl DiskBase {
 
     /// Adds `pad` zero bytes and then `bytes` at the end of the games file, which has to have `known` bytes: a base that somebody else
     /// changed is left as it is.
+    ///
+    /// The first addition since the base was opened or saved is written at once, so that other runs meet it. What is added behind it waits,
+    /// up to a block, until it is read, until the base is saved, or until the work on it ends.
     pub fn append_games<R: FileSystem<File = File>>(
         &mut self,
         system: &R,
@@ -154,38 +192,69 @@ impl DiskBase {
         pad: u32,
         bytes: &[u8],
     ) -> Result<(), Trouble> {
+        if self.end_of_games() != known {
+            return Err(Trouble::new(Kind::Games.current(), Why::Changed));
+        }
+        if self.adder.is_some() && self.waiting.takes(pad, bytes) {
+            return Ok(());
+        }
+        self.write_waiting(system)?;
+        if self.adder.is_some() && self.waiting.takes(pad, bytes) {
+            return Ok(());
+        }
+        self.open_adder(system)?;
+        self.add(pad, bytes)
+    }
+
+    /// Writes what waits at the end of the games file. A base that somebody else changed is left as it is.
+    pub fn write_waiting<R: FileSystem<File = File>>(&mut self, system: &R) -> Result<(), Trouble> {
+        let count = self.waiting.bytes().len();
+        if count == 0 {
+            return Ok(());
+        }
         self.look(system)?;
-        if self.files.games.len() != known {
-            return Err(Trouble::new(Kind::Games.current(), Why::Changed));
+        if let Some(adder) = &mut self.adder {
+            adder
+                .write_all(self.waiting.bytes())
+                .on(Kind::Games.current())?;
         }
-        self.add(system, pad, bytes)?;
-        let added = self.games_len()?;
-        if added.checked_sub(known) != Some(pad as u64 + bytes.len() as u64) {
-            return Err(Trouble::new(Kind::Games.current(), Why::Changed));
+        self.waiting.clear();
+        self.note_added(count as u64)
+    }
+
+    // Opens the games file for additions, where it is not. The base has to be as it was.
+    fn open_adder<R: FileSystem<File = File>>(&mut self, system: &R) -> Result<(), Trouble> {
+        self.look(system)?;
+        if self.adder.is_some() {
+            return Ok(());
         }
+        let spot = Kind::Games.current();
+        let path = self.places.path(spot);
+        let adder = OpenOptions::new().append(true).open(system, path).on(spot)?;
+        if !self.files.games.has(&adder.metadata().on(spot)?) {
+            return Err(Trouble::new(spot, Why::Changed));
+        }
+        self.adder = Some(adder);
         Ok(())
     }
 
-    // Writes at the end of the games file that is held.
-    fn add<R: FileSystem<File = File>>(
-        &mut self,
-        system: &R,
-        pad: u32,
-        bytes: &[u8],
-    ) -> Result<(), Trouble> {
-        let spot = Kind::Games.current();
-        if self.adder.is_none() {
-            let path = self.places.path(spot);
-            let adder = OpenOptions::new().append(true).open(system, path).on(spot)?;
-            if !self.files.games.has(&adder.metadata().on(spot)?) {
-                return Err(Trouble::new(spot, Why::Changed));
-            }
-            self.adder = Some(adder);
+    // Writes at the end of the games file that is held, behind which nothing waits.
+    fn add(&mut self, pad: u32, bytes: &[u8]) -> Result<(), Trouble> {
+        if let Some(adder) = &mut self.adder {
+            write_padded(adder, pad, bytes).on(Kind::Games.current())?;
         }
-        match &mut self.adder {
-            Some(adder) => write_padded(adder, pad, bytes).on(spot),
-            None => Ok(()),
+        self.note_added(pad as u64 + bytes.len() as u64)
+    }
+
+    // Notes the games file anew, which is so many bytes longer, and no others.
+    fn note_added(&mut self, count: u64) -> Result<(), Trouble> {
+        let games = &mut self.files.games;
+        let before = games.len();
+        games.note().on(Kind::Games.current())?;
+        if games.len().checked_sub(before) != Some(count) {
+            return Err(Trouble::new(Kind::Games.current(), Why::Changed));
         }
+        Ok(())
     }
 
     /// Makes `bytes` the whole of a part: they are written into a new file beside it, which then takes its place, so that
@@ -212,6 +281,7 @@ impl DiskBase {
     ) -> Result<(), Trouble> {
         self.look(system)?;
         self.look_beside(system, &[Kind::Index.new(), Kind::Names.new()])?;
+        self.write_waiting(system)?;
         if kind == Kind::Index {
             self.hand_on_added()?;
         }
@@ -220,6 +290,9 @@ impl DiskBase {
         rename(system, &self.places, kind.new(), kind.current()).on(kind.new())?;
         *self.made.of_mut(kind) = false;
         *self.files.of_mut(kind) = held;
+        if kind == Kind::Index {
+            self.adder = None;
+        }
         Ok(())
     }
 
@@ -295,6 +368,7 @@ impl DiskBase {
         }
         self.files = files;
         self.adder = None;
+        self.waiting.clear();
         self.ahead.forget();
         Ok(())
     }

@@ -5,8 +5,7 @@ ghost use Rattle.base_files.specs.Causes.{HasCause, after_error};
 ghost use Rattle.base_files.specs.Seen.{chose, measured, appended, replaced, AppendedInPart, begun, lengthened, LengthenedInPart, committed, FreshAlone};
 ghost use Rattle.std_devices.specs.Meters.{seen_of};
 
-use crate::ahead::Ahead;
-use crate::disk_base::{DiskBase, open_all, open_whole, put_right};
+use crate::disk_base::{Blocks, DiskBase, open_all, open_whole, put_right};
 use crate::held::Held;
 use crate::places::{Form, Kind, Places, Spot, Trio};
 use crate::renames::{Found, is_there};
@@ -82,11 +81,14 @@ impl<'r> DiskFiles<'r> {
         }
     }
 
-    /// Ends the work on the base: a new games file that was begun and not committed is removed.
+    /// Ends the work on the base: what was added and waits is written, where that goes, and a new games file that was begun and not committed
+    /// is removed.
     pub fn close(&mut self)
         ensures same { self.new ≡ self.old }
     {
         if let Some(mut base) = self.base.take() {
+            // No index points to what was not saved, so nothing is lost where this fails.
+            let _ = base.write_waiting(self.system);
             base.end(self.system);
         }
     }
@@ -115,16 +117,16 @@ impl<'r> Files for DiskFiles<'r> {
             Ok(places) => places,
             Err(_) => return Err(DeviceError::Memory),
         };
-        let ahead = match Ahead::new(self.alloc) {
-            Ok(ahead) => ahead,
+        let blocks = match Blocks::new(self.alloc) {
+            Ok(blocks) => blocks,
             Err(_) => return Err(DeviceError::Memory),
         };
         if self.choices.add(name, create).is_err() {
             return Err(DeviceError::Memory);
         }
         let opened = match self.access {
-            Access::Reading => open_to_read(&mut self.base, self.system, places, ahead),
-            Access::Changing => open(&mut self.base, self.system, places, ahead, create),
+            Access::Reading => open_to_read(&mut self.base, self.system, places, blocks),
+            Access::Changing => open(&mut self.base, self.system, places, blocks, create),
         };
         match opened {
             Ok(()) => Ok(()),
@@ -193,7 +195,7 @@ impl<'r> Files for DiskFiles<'r> {
         let Some(base) = &mut self.base else {
             return Err(self.faults.fault());
         };
-        match base.read_games(offset, &mut into[..len as usize]) {
+        match base.read_games(self.system, offset, &mut into[..len as usize]) {
             Ok(()) => Ok(()),
             Err(trouble) => {
                 tell(self.system, base, &trouble);
@@ -349,12 +351,12 @@ fn open_to_read<R: FileSystem<File = File> + Eprint>(
     base: &mut Option<DiskBase>,
     system: &R,
     places: Places,
-    ahead: Ahead,
+    blocks: Blocks,
 ) -> Result<(), Failed> {
     *base = None;
     match open_whole(system, &places) {
         Ok(files) => {
-            *base = Some(DiskBase::new(places, files, ahead));
+            *base = Some(DiskBase::new(places, files, blocks));
             Ok(())
         }
         Err(trouble) => {
@@ -369,13 +371,13 @@ fn open<R: FileSystem<File = File> + Eprint>(
     base: &mut Option<DiskBase>,
     system: &R,
     places: Places,
-    ahead: Ahead,
+    blocks: Blocks,
     create: bool,
 ) -> Result<(), Failed> {
     *base = None;
     match put_right_and_open(system, &places, create) {
         Ok(files) => {
-            *base = Some(DiskBase::new(places, files, ahead));
+            *base = Some(DiskBase::new(places, files, blocks));
             Ok(())
         }
         Err(trouble) => {

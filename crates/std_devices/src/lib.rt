@@ -12,6 +12,7 @@ mod renames;
 mod std_sink;
 mod std_source;
 mod trouble;
+mod waiting;
 
 pub use disk_files::DiskFiles;
 pub use new_base::{make_base, unmake_base};
