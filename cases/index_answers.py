@@ -131,12 +131,13 @@ def compare(indexes, wanted):
 
 
 def found_behind(first):
-    """Status and text of searches for the start, where the games file is written over behind the first lines."""
+    """Status and text of searches for the start, where the games file is written over behind the first lines and a save, so that no game waits to
+    be written."""
     lines = f"find {SOUGHT[0]}\ntree {SOUGHT[0]}\nsearch and position exact {SOUGHT[0]} vars\n"
     with tempfile.TemporaryDirectory() as folder:
         streams = dict(stdin=subprocess.PIPE, stdout=subprocess.PIPE, stderr=subprocess.PIPE, text=True)
         session = subprocess.Popen([PROGRAM, "--create", "base"], cwd=folder, **streams)
-        session.stdin.write(f"{first}info\n")
+        session.stdin.write(f"{first}save\ninfo\n")
         session.stdin.flush()
         while (line := session.stdout.readline()) and not line.startswith("games "):
             pass
@@ -145,7 +146,7 @@ def found_behind(first):
             file.write(games.stat().st_size * b"\xce")
         text = session.communicate(lines, timeout=60)[0]
     with tempfile.TemporaryDirectory() as folder:
-        sound = subprocess.run([PROGRAM, "--create", "base"], cwd=folder, input=first + lines, capture_output=True, text=True, timeout=60)
+        sound = subprocess.run([PROGRAM, "--create", "base"], cwd=folder, input=f"{first}save\n{lines}", capture_output=True, text=True, timeout=60)
     return session.returncode, sound.stdout.endswith(text)
 
 
