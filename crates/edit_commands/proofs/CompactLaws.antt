@@ -16,7 +16,7 @@ use Rattle.base_files.specs.Seen.{Seen, told_instead, FreshAlone}
 use Rattle.base_files.specs.declared.faults.Stop.TheVariants as stop
 use Rattle.block_store.specs.Placing.{longest_file}
 use Rattle.compact_base.proofs.FirstLaws.{held-deleted}
-use Rattle.compact_base.specs.Compacting.{staying, new_end, numbering, numbers_from, Compacts, IsCommitted, new_games, WhyNotCompacted, IfChanged, kept_len}
+use Rattle.compact_base.specs.Compacting.{CopiesRecords, staying, new_end, numbering, numbers_from, Compacts, IsCommitted, new_games, WhyNotCompacted, IfChanged, kept_len}
 use Rattle.compact_base.specs.declared.fault.CompactError.{CompactError}
 use Rattle.compact_base.specs.declared.fault.CompactError.TheVariants as compacting
 use Rattle.game_filter.proofs.Renumberings.{length-renumbered}
@@ -25,7 +25,7 @@ use Rattle.index_entry.specs.declared.entry.Entry.{Entry}
 use Rattle.name_base.specs.NameLists.{NameLists}
 use Rattle.pos_index.specs.Hits.{Index, Place, rows_told, row_of}
 use Rattle.edit_commands.proofs.SaveLaws.{contents_of, known_told}
-use Rattle.edit_commands.specs.Compacting.{numbers_of, is_within, compacted_state, compact_after, compact_text, compacted_line}
+use Rattle.edit_commands.specs.Compacting.{DidCompact, numbers_of, is_within, compacted_state, compact_after, compact_text, compacted_line}
 use Rattle.edit_commands.specs.Ends.{uncompacted}
 use Rattle.filter_seat.specs.SavedFilters.{kept_renumbered}
 use Rattle.filter_seat.specs.Seats.{seat_renumbered}
@@ -348,6 +348,18 @@ full_says old tables filter saved seen s e told buf line st why ends =
     let over = over_by e old told buf line why ends in
     let P : Bool → Type 0 = λ b. line ≡ (if b then compacted_line (length s.shared.base.games) (length (compacted s.shared.base).games) else refusal_line (Full File)) in
     subst P (sym (within_false old st.games s.shared.base st.base over.0)) over.1
+
+-- Whatever they tell, it is refused by its line, or was done.
+pub refused_so : (old new : Kept) (before after : Seen) (e : CompactError) (line : List ℕ) → new ≡ old → uncompacted e ≡ Ok line → DidCompact old new before after line
+refused_so old new before after compacting.Full line same ends = let is : line ≡ refusal_line (Full File) = cc in inr (is, same)
+refused_so old new before after compacting.Failed line same ends = cc
+refused_so old new before after compacting.Memory line same ends = cc
+refused_so old new before after (compacting.Changed game kept found) line same ends = cc
+
+pub done_so : (here : Holding) (old new : Kept) (before after : Seen) (games left : ℕ) (line : List ℕ) → old ≡ here.kept → games ≡ length here.kept.entries → left ≡ length new.entries → line ≡ compacted_line games left
+    → CopiesRecords old before after → DidCompact here.kept new before after line
+done_so here old new before after games left line same all stay is copied =
+    inl (is ∙ ap (λ (n : ℕ). compacted_line n left) all ∙ ap (compacted_line (length here.kept.entries)) stay, subst (λ (k : Kept). CopiesRecords k before after) same copied)
 
 -- Told files end it by a device alone.
 none_changed : (kept : Kept) (games : List ℕ) (told : Option (List ℕ)) (base : Base) → told ≡ Some games → Represents kept games base → IfSome told (λ bytes. (other : Base) → Represents kept bytes other → ⊥) → ⊥

@@ -1,11 +1,13 @@
 -- Compacting the base. This project's own.
 use Rattle.std.specs.Fmt.{decimal}
-use Rattle.std.specs.Prelude.{filter, ℕ, List, map, Option, nat_le, Bool, Some, if◌then◌else◌, ◌++◌, codes, length, sum_by, not}
+use Rattle.std.specs.Prelude.{filter, ℕ, List, map, Option, nat_le, Bool, Some, if◌then◌else◌, ◌++◌, codes, length, sum_by, not, ◌≡◌, ◌⊎◌}
 use Rattle.base_core.specs.Base.{Base}
 use Rattle.base_core.specs.Compacted.{compacted}
+use Rattle.base_core.specs.Represents.{Kept}
 use Rattle.base_core.specs.declared.fault.What.TheVariants.{File}
+use Rattle.base_files.specs.Seen.{Seen}
 use Rattle.block_store.specs.Placing.{longest_file}
-use Rattle.compact_base.specs.Compacting.{numbers_from}
+use Rattle.compact_base.specs.Compacting.{CopiesRecords, numbers_from}
 use Rattle.filter_seat.specs.Seats.{seat_renumbered}
 use Rattle.shell_state.specs.Refusing.{refusal_line}
 use Rattle.shell_state.specs.State.{State, saved_whole}
@@ -41,3 +43,9 @@ compact_text s = if is_within s.shared.base then compacted_line (length s.shared
 abbrev pub compact_work : Work
 compact_work =
     record (writing compact_after compact_text (by_looks (λ looks plies. sum_by (λ look. look.len) (filter (λ look. not look.head.deleted) looks)))) { left = Some compacted }
+
+-- What was done, whatever the files tell: the line says so and the records of the games that stay were copied, or it refuses that and what is kept
+-- is as it was.
+abbrev pub DidCompact : Kept → Kept → Seen → Seen → List ℕ → Type 0
+DidCompact old new before after line =
+    ((line ≡ compacted_line (length old.entries) (length new.entries)) × CopiesRecords old before after) ⊎ ((line ≡ refusal_line (Full File)) × (new ≡ old))

@@ -2,7 +2,7 @@
 ghost use Rattle.std.specs.Prelude.{◌≡◌, Ok, length, option_map, IfOk, IfErr, IfSome, OnOk};
 ghost use Rattle.base_core.specs.Compacted.{compacted};
 ghost use Rattle.command_runs.specs.Counts.{Causes, counts};
-ghost use Rattle.edit_commands.specs.Compacting.{compact_after, compact_text, compacted_line, compact_work};
+ghost use Rattle.edit_commands.specs.Compacting.{DidCompact, compact_after, compact_text, compacted_line, compact_work};
 ghost use Rattle.edit_commands.specs.Ends.{uncompacted};
 ghost use Rattle.edit_commands.specs.Indexed.{renumbered_index};
 ghost use Rattle.shell_state.specs.Carrying.{StillCarry};
@@ -30,6 +30,7 @@ pub fn compact_line<F: Files>(
     ensures line { (s : State) → Stands machine.old (F.seen files.old) s → IfOk result (λ line. line.items ≡ compact_text s) }
     ensures stands { (s : State) → Stands machine.old (F.seen files.old) s → OnOk result (Stands machine.new (F.seen files.new) (compact_after s)) }
     ensures devices { (s : State) → Stands machine.old (F.seen files.old) s → IfErr result IsDevice }
+    ensures copied { IfOk result (λ line. DidCompact machine.old.kept machine.new.kept (F.seen files.old) (F.seen files.new) line.items) }
     ensures sound { OnOk result (Sound machine.new (F.seen files.new)) }
     ensures carries { (s : State) → Stands machine.old (F.seen files.old) s → StillCarry (F.seen files.new) s (Some compacted) }
     ensures choices { (F.seen files.new).choices ≡ (F.seen files.old).choices }

@@ -6,7 +6,7 @@ use Rattle.base_files.specs.Seen.{Seen}
 use Rattle.compact_base.proofs.ListLaws.{numbers-long}
 use Rattle.compact_base.specs.Compacting.{kept_len, numbering}
 use Rattle.game_filter.specs.Renumbering.{Numbering, renumbered}
-use Rattle.edit_commands.proofs.CompactLaws.{AreMoved, compact_device, compact_fits, compact_price, compact_says, compact_stands, done_carry, fresh_carry, full_says, full_stands, saved_moved, index_left_fits, index_long, slots_left_fit, slots_long}
+use Rattle.edit_commands.proofs.CompactLaws.{AreMoved, compact_device, compact_fits, compact_price, compact_says, compact_stands, done_carry, done_so, fresh_carry, full_says, full_stands, refused_so, saved_moved, index_left_fits, index_long, slots_left_fit, slots_long}
 use Rattle.edit_commands.proofs.compacting.compact_line.Goals as goal
 use Rattle.edit_commands.specs.Compacting.{compact_after}
 use Rattle.filter_seat.proofs.SavedLaws.{all_long, lent_items}
@@ -192,3 +192,15 @@ returns-in-Err-clause-sound g c =
       at_end = c.compact-compacted.ensures.at_end;
     })
     c.uncompacted.ensures.line
+
+pub returns-in-Err-clause-copied : goal.returns-in-Err-clause-copied
+returns-in-Err-clause-copied g c =
+    let same : c.compact-compacted.new.base ≡ c.args.machine.now.kept = c.in-Err.ensures.unchanged ∙ ap (λ (h : Holding). h.kept) c.machine.view_is in
+    if_ok _ _ c.uncompacted.result
+    (λ line ends. refused_so c.args.machine.now.kept c.compact-compacted.new.base (g.F.Files.seen c.args.files.now) (g.F.Files.seen c.compact-compacted.new.files) c.in-Err.error line.items same ends) c.uncompacted.ensures.line
+
+pub returns-in_ok-compacted_line-in-Ok-clause-copied : goal.returns-in_ok-compacted_line-in-Ok-clause-copied
+returns-in_ok-compacted_line-in-Ok-clause-copied g c =
+    let left : c.kept.result ≡ length c.compact-compacted.new.base.entries = c.kept.ensures.kept ∙ (ap (λ (r : Numbering). r.kept) c.in-Ok.ensures.numbers ∙ sym c.in-Ok.ensures.count) in
+    done_so c.args.machine.now c.machine.inside.base c.compact-compacted.new.base (g.F.Files.seen c.args.files.now) (g.F.Files.seen c.compact-compacted.new.files) c.games-games.result c.kept.result
+    c.in_ok-compacted_line-in-Ok.field-0.items (ap (λ (h : Holding). h.kept) c.machine.view_is) c.games-games.ensures.games left c.in_ok-compacted_line-in-Ok.ensures.line c.in-Ok.ensures.copied
