@@ -126,6 +126,11 @@ words_running (Changed game kept found) stops is = cc
 words_running InputTooLong stops is = cc
 words_running Memory stops is = cc
 
+-- Words that were read are not refused.
+pub words_refused : {A : Type 0} (read : Option A) (wanted : A) → read ≡ None → read ≡ Some wanted → ⊥
+words_refused None wanted none some = cc
+words_refused (Some x) wanted none some = cc
+
 not_memory_bad : (fault : BaseFault) → BadBase fault ≡ Memory → ⊥
 not_memory_bad fault is = cc
 

@@ -8,7 +8,7 @@ use Rattle.shell_session.specs.Words.{Wanted, words_read}
 use Rattle.shell_session.specs.declared.status.Status.{Status}
 use Rattle.shell_session.specs.declared.status.Status.TheVariants.{Done, Memory, Usage}
 use Rattle.shell_session.specs.Stops.{status_of}
-use Rattle.shell_session.proofs.AnswerLaws.{chooses_running, chosen, due_of, line_session, opened_by, part_session, silent_line, silent_running, why_line, why_running, whole_session, reads_line, stop_interrupts, words_running}
+use Rattle.shell_session.proofs.AnswerLaws.{chooses_running, chosen, due_of, line_session, opened_by, part_session, silent_line, silent_running, why_line, why_running, whole_session, reads_line, stop_interrupts, words_refused, words_running}
 use Rattle.shell_session.proofs.PriceLaws.{asks_opening, asks_script}
 use Rattle.shell_session.proofs.ViewLaws.{meanings_few}
 use Rattle.shell_session.proofs.run.session.Goals as goal
@@ -42,7 +42,7 @@ returns-in-Err-write_opening-clause-words g c =
     let wanted : Wanted = record { name = c.in-Some.wanted.name.now; create = c.in-Some.wanted.create; strict = c.in-Some.wanted.strict; desk = c.in-Some.wanted.desk } in
     let stop = c.in-Err-write_opening.stop in (
       λ (is : c.from.result ≡ Usage). absurd (words_running (status_of stop) (stop_interrupts stop) (sym c.from.ensures ∙ is)),
-      λ (none : words_read words ≡ None). let clash : None ≡ Some wanted = sym none ∙ sym c.in-Some.ensures.read in absurd cc,
+      λ (none : words_read words ≡ None). absurd (words_refused (words_read words) wanted none (sym c.in-Some.ensures.read)),
     )
 
 pub returns-in-Err-write_opening-clause-why : goal.returns-in-Err-write_opening-clause-why
