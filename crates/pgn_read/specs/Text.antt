@@ -19,10 +19,9 @@ here place room bytes = record { place = place; room = room; bytes = bytes }
 abbrev pub longest : ℕ
 longest = 1048576
 
--- The most bytes that a reader has read and not yet used: twice the longest game's text, and a piece of 32,768 bytes and 4,110 more (this
--- project's own).
+-- The most bytes that a reader has read and not yet used: twice the longest game's text, and 20,494 bytes (this project's own).
 abbrev pub most_ahead : ℕ
-most_ahead = 2 * longest + 36878
+most_ahead = 2 * longest + 20494
 
 -- So many bytes further.
 abbrev pub passed : ℕ → At → At

@@ -10,8 +10,8 @@ use base_files::{Failed, Source};
 use std::alloc::{AllocError, Global};
 use std::marker::Model;
 
-/// How many bytes are read at once, at most.
-pub(crate) const PIECE: usize = 32_768;
+// How many bytes are read at once, at most.
+const PIECE: usize = 4_096;
 
 /// The bytes of a source that were read and not yet used.
 #[derive(Drop)]
@@ -63,7 +63,7 @@ impl Buffer {
 
     /// Reads until there are so many, or to the source's end, where there are fewer.
     pub(crate) fn fill<S: Source>(&mut self, source: &mut S, wanted: usize) -> Result<(), PgnError>
-        requires room { wanted + 32768 ≤ most_ahead }
+        requires room { wanted + 4096 ≤ most_ahead }
         ensures front { take (length self.old) self.new ≡ self.old }
         ensures kept { OnOk result (before self.old (S.left source.old) ≡ before self.new (S.left source.new)) }
         ensures end { OnOk result (length self.new < wanted → Tells (S.left source.new) []) }
@@ -122,13 +122,13 @@ fn read_to<S: Source>(
     source: &mut S,
 ) -> Result<usize, Failed>
     requires there { kept ≤ length bytes.old.items }
-    requires room { wanted + 32768 ≤ length bytes.old.items }
+    requires room { wanted + 4096 ≤ length bytes.old.items }
     ensures front { take kept bytes.new.items ≡ take kept bytes.old.items }
     ensures size { length bytes.new.items ≡ length bytes.old.items }
     ensures within { IfOk result (λ n. n ≤ length bytes.new.items) }
     ensures more { IfOk result (λ n. kept ≤ n) }
     ensures given { IfOk result (λ n. S.left source.old ≡ before (drop kept (take n bytes.new.items)) (S.left source.new)) }
-    ensures few { IfOk result (λ n. n ≤ max kept (wanted + 32768)) }
+    ensures few { IfOk result (λ n. n ≤ max kept (wanted + 4096)) }
     ensures end { IfOk result (λ n. n < wanted → Tells (S.left source.new) []) }
     ensures sum { IfOk result (λ n. S.budget source.new + n ≡ S.budget source.old + kept) }
     ensures spends { S.budget source.new ≤ S.budget source.old }
@@ -148,13 +148,13 @@ fn read_pieces<S: Source>(
     source: &mut S,
 ) -> Result<usize, Failed>
     requires there { kept ≤ length bytes.old }
-    requires room { wanted + 32768 ≤ length bytes.old }
+    requires room { wanted + 4096 ≤ length bytes.old }
     ensures front { take kept bytes.new ≡ take kept bytes.old }
     ensures size { length bytes.new ≡ length bytes.old }
     ensures within { IfOk result (λ n. n ≤ length bytes.new) }
     ensures more { IfOk result (λ n. kept ≤ n) }
     ensures given { IfOk result (λ n. S.left source.old ≡ before (drop kept (take n bytes.new)) (S.left source.new)) }
-    ensures few { IfOk result (λ n. n ≤ max kept (wanted + 32768)) }
+    ensures few { IfOk result (λ n. n ≤ max kept (wanted + 4096)) }
     ensures end { IfOk result (λ n. n < wanted → Tells (S.left source.new) []) }
     ensures sum { IfOk result (λ n. S.budget source.new + n ≡ S.budget source.old + kept) }
     ensures spends { S.budget source.new ≤ S.budget source.old }
@@ -175,11 +175,11 @@ fn read_pieces<S: Source>(
 
 // Reads the next piece behind the first bytes, which stay, and says how many bytes it has.
 fn read_piece<S: Source>(bytes: &mut [u8], kept: usize, source: &mut S) -> Result<usize, Failed>
-    requires room { kept + 32768 ≤ length bytes.old }
+    requires room { kept + 4096 ≤ length bytes.old }
     ensures front { take kept bytes.new ≡ take kept bytes.old }
     ensures size { length bytes.new ≡ length bytes.old }
     ensures fits { IfOk result (λ n. kept + n ≤ length bytes.old) }
-    ensures few { IfOk result (λ n. n ≤ 32768) }
+    ensures few { IfOk result (λ n. n ≤ 4096) }
     ensures given { IfOk result (λ n. S.left source.old ≡ before (drop kept (take (kept + n) bytes.new)) (S.left source.new)) }
     ensures end { IfOk result (λ n. n ≡ 0 → Tells (S.left source.new) []) }
     ensures spent { IfOk result (λ n. S.budget source.new + n ≡ S.budget source.old) }

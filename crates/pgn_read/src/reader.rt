@@ -21,8 +21,8 @@ use std::alloc::{AllocError, Global};
 use std::marker::Model;
 
 /// Reads the items of a text in Portable Game Notation from a source: its games, and the first fault of each item that is no
-/// game. It keeps the bytes that it has read and not yet used: those of a piece of 32,768, or about twice as many as the token that
-/// comes next has, and never more than 2,134,030.
+/// game. It keeps the bytes that it has read and not yet used: some 16,384, or about twice as many as the token that comes next
+/// has, and never more than 2,117,646.
 #[derive(Drop)]
 pub struct Reader {
     window: Window,

@@ -25,7 +25,7 @@ use std::marker::Model;
 pub(crate) const LONGEST: usize = 1_048_576;
 
 /// How many bytes are read on at least, beside as many again as are unread.
-const FURTHER: usize = 4_096;
+const FURTHER: usize = 16_384;
 
 /// The bytes of a source that were read and not yet taken, with the place of the first of them.
 #[derive(Drop)]
@@ -178,7 +178,7 @@ impl Window {
     // Reads until there are so many unread bytes, or to the source's end.
     #[tactic(auto, using(crate::proofs::ClearLaws::grown_clear))]
     fn fill<S: Source>(&mut self, source: &mut S, wanted: usize) -> Result<(), PgnError>
-        requires room { wanted + 32768 ≤ most_ahead }
+        requires room { wanted + 4096 ≤ most_ahead }
         requires told { IsTrue self.old.ended → Tells (S.left source.old) [] }
         ensures kept { OnOk result (before self.old.unread (S.left source.old) ≡ before self.new.unread (S.left source.new)) }
         ensures full { OnOk result (IsTrue self.new.ended ⊎ (wanted ≤ length self.new.unread)) }

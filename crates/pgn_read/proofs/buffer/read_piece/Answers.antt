@@ -8,5 +8,5 @@ returns-in-Ok-clause-given g c =
     c.in-Ok.ensures.given
     ∙ ap (λ (b : List ℕ). before b (g.S.Source.left c.read.new.self))
     (sym
-    (tail_read c.args.kept c.in-Ok.n (c.args.kept + 32768 - c.args.kept) c.args.bytes.now c.read.new.into (omega (arith, c.requires.room))
+    (tail_read c.args.kept c.in-Ok.n (c.args.kept + 4096 - c.args.kept) c.args.bytes.now c.read.new.into (omega (arith, c.requires.room))
     (omega (arith, c.in-Ok.ensures.fits, c.read.auto.into))))

@@ -8,7 +8,7 @@ invariant-reads g l = record {
   front : take l.kept l.bytes ≡ take l.kept l.fn.bytes;
   size : length l.bytes ≡ length l.fn.bytes;
   within : l.to ≤ length l.bytes;
-  few : l.to ≤ max l.kept (l.wanted + 32768);
+  few : l.to ≤ max l.kept (l.wanted + 4096);
   more : l.kept ≤ l.to;
   given : g.S.Source.left l.fn.source ≡ before (drop l.kept (take l.to l.bytes)) (g.S.Source.left l.source);
   sum : g.S.Source.budget l.source + l.to ≡ g.S.Source.budget l.fn.source + l.kept;
