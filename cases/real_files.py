@@ -452,34 +452,21 @@ def files_are_handed_on_in_order(folder):
     assert order == wanted, order
 
 
-def an_export_takes_few_calls(folder):
-    """A thousand games are written as text with no more than 120 calls of the system in all."""
+def a_thousand_games_take_few_calls(folder):
+    """A thousand games are taken in and written as text with no more than 200 calls of the system in all."""
     base = make_base(folder)
     games = (TOP / "samples/classics.pgn").read_text() * 250
-    status, _, errors = run(base, f"import <<END\n{games}END\nsave\n")
-    assert (status, errors) == (0, ""), (status, errors)
-    calls, status, output, errors = traced(base, "export\n")
-    assert (status, errors) == (0, ""), (status, errors)
-    assert output.count("\n[Event ") == 1004
-    assert len(calls) <= 120, len(calls)
-    return f"{len(calls)} calls"
-
-
-def an_import_takes_few_writes(folder):
-    """The lines of a thousand games are written with no more than 120 calls of the system."""
-    base = make_base(folder)
-    games = (TOP / "samples/classics.pgn").read_text() * 250
-    calls, status, output, errors = traced(base, f"import <<END\n{games}END\n")
+    calls, status, output, errors = traced(base, f"import <<END\n{games}END\nexport\n")
     assert (status, errors) == (0, ""), (status, errors)
     assert output.count("\nadded ") == 1000 and "\nimported 1000 refused 0\n" in output, output
-    written = sum("write(1, " in call for call in calls)
-    assert written <= 120, written
-    return f"{written} calls"
+    assert output.count("\n[Event ") == 1004
+    assert len(calls) <= 200, len(calls)
+    return f"{len(calls)} calls"
 
 
 def lines_of_an_import_stand_while_it_waits(folder):
     """What a program that writes a body reads before it writes the rest: the lines of the games that were read."""
-    games = (TOP / "samples/classics.pgn").read_text() * 10
+    games = (TOP / "samples/classics.pgn").read_text() * 30
     session = Session(make_base(folder))
     session.process.stdin.write(f"import <<END\n{games}")
     session.process.stdin.flush()
@@ -492,8 +479,8 @@ def lines_of_an_import_stand_while_it_waits(folder):
     session.process.stdin.close()
     output = session.process.stdout.read()
     assert session.process.wait(60) == 0
-    rest = [f"added {game}" for game in range(14, 44)]
-    assert output.splitlines() == [*rest, "imported 40 refused 0", "unsaved"], output
+    rest = [f"added {game}" for game in range(14, 124)]
+    assert output.splitlines() == [*rest, "imported 120 refused 0", "unsaved"], output
 
 
 def a_broken_off_run_that_was_not_alone(folder):
@@ -554,8 +541,7 @@ def main():
     if shutil.which("strace"):
         shows += [
             (files_are_handed_on_in_order,),
-            (an_export_takes_few_calls,),
-            (an_import_takes_few_writes,),
+            (a_thousand_games_take_few_calls,),
             (a_new_file_that_grows_takes_no_place,),
             (an_error_at_each_call, "save", "saved", ["tag 0 White C"]),
             (an_error_at_each_call, "compact", "compacted", ["delete 1", "tag 0 White C"]),
