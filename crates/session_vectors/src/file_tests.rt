@@ -319,15 +319,23 @@ fn is_changed(status: &Status, another: bool) -> bool {
     }
 }
 
+/// Whether a run over files that change ends because of that, has written this, and leaves the index.
+fn ends_changed(alloc: Global, before: &MemFiles, change: &Change) -> Result<bool, AllocError> {
+    let (run, swap, another, text) = change;
+    let mut files = changing(alloc, before, *swap)?;
+    let (status, written) = run_over(alloc, &mut files, run)?;
+    Ok(
+        is_changed(&status, *another)
+            && written.as_slice() == *text
+            && files.index() == before.index(),
+    )
+}
+
 #[test]
 fn ends_where_a_record_has_changed(rt: HostRuntime) -> Result<(), Fail> {
     let before = files_of(rt.alloc(), 1, &[])?;
-    for (run, swap, another, text) in CHANGES {
-        let mut files = changing(rt.alloc(), &before, swap)?;
-        let (status, written) = run_over(rt.alloc(), &mut files, &run)?;
-        assert!(rt; is_changed(&status, another));
-        assert!(rt; written.as_slice() == text);
-        assert!(rt; files.index() == before.index());
+    for change in &CHANGES {
+        assert!(rt; ends_changed(rt.alloc(), &before, change)?);
     }
     Ok(())
 }
