@@ -79,6 +79,15 @@ on_board men s m l h = elim (cases_lt s 64) [
 abbrev pub relocate : Men → ℕ → ℕ → Option Man → Men
 relocate men a b x = put (put men a None) b x
 
+-- what stands on another square stays, and so does a man who stands on neither
+pub relocate-other : (men : Men) (a b : ℕ) (y : Option Man) (s : ℕ) → s ≢ a → s ≢ b → man_at (relocate men a b y) s ≡ man_at men s
+relocate-other men a b y s from to = put-other (put men a None) b s y to ∙ put-other men a s None from
+
+pub relocate-stays : (men : Men) (a b : ℕ) (y : Option Man) (s : ℕ) (x : Man) → man_at men s ≡ Some x → (man_at men a ≡ Some x → ⊥) →
+    (man_at men b ≡ Some x → ⊥) → man_at (relocate men a b y) s ≡ Some x
+relocate-stays men a b y s x stands from to =
+    relocate-other men a b y s (λ e. from (ap (man_at men) (sym e) ∙ stands)) (λ e. to (ap (man_at men) (sym e) ∙ stands)) ∙ stands
+
 -- what goes from a to b: a man c k, which becomes c j; b holds no man of its own side, and no king; a king remains one
 pub record Goes (men : Men) (a b : ℕ) (c : Colour) (k j : Kind) : Type 0 where
   pub squares : length men ≡ 64
@@ -88,81 +97,30 @@ pub record Goes (men : Men) (a b : ℕ) (c : Colour) (k j : Kind) : Type 0 where
   pub no_king : (d : Colour) → man_at men b ≡ Some (man d King) → ⊥
   pub same_king : same_kind j King ≡ same_kind k King
 
-Goes-apart : (men : Men) (a b : ℕ) (c : Colour) (k j : Kind) → Goes men a b c k j → a ≡ b → ⊥
-Goes-apart men a b c k j g h = g.no_own k (rw (← h) g.from)
+-- so does a man that goes to an empty square and stays what he is
+pub free-goes : (men : Men) (a b : ℕ) (c : Colour) (k : Kind) → length men ≡ 64 → man_at men a ≡ Some (man c k) → b < 64 → man_at men b ≡ None →
+    Goes men a b c k k
+free-goes men a b c k squares stands less empty =
+    record { squares = squares; from = stands; target = less; no_own = λ i h. cc; no_king = λ d h. cc; same_king = refl }
 
 pub Goes-count : (men : Men) (a b : ℕ) (c : Colour) (k j : Kind) → Goes men a b c k j → (p : Option Man → Bool) → p None ≡ false →
     count_by p (relocate men a b (Some (man c j))) + one_if (p (Some (man c k))) + one_if (p (man_at men b)) ≡ count_by p men + one_if (p (Some (man c j)))
 Goes-count men a b c k j g p none =
-    let x : Option Man = Some (man c j) in
-    let l = length-put men a None g.squares in
-    let left = count-put p men a None g.squares (on_board men a (man c k) g.squares g.from) in
-    let came = count-put p (put men a None) b x l g.target in
-    let apart = put-other men a b None (λ h. Goes-apart men a b c k j g (sym h)) in
-    let left' = rw (g.from, none) at left in
-    let came' = rw apart at came in
+    let left = rw (g.from, none) at (count-put p men a None g.squares (on_board men a (man c k) g.squares g.from)) in
+    let apart = put-other men a b None (λ e. g.no_own k (rw e g.from)) in
+    let came = rw apart at (count-put p (put men a None) b (Some (man c j)) (length-put men a None g.squares) g.target) in
     omega arith
 
-Goes-kings : (men : Men) (a b : ℕ) (c : Colour) (k j : Kind) → Goes men a b c k j → HasKings men → HasKings (relocate men a b (Some (man c j)))
-Goes-kings men a b c k j g kings d =
-    let counted = Goes-count men a b c k j g (is_man d King) refl in
-    let other_man : is_man d King (man_at men b) ≡ false = is_man-not d King (man_at men b) (g.no_king d) in
-    let counted' = rw (other_man, g.same_king) at counted in
-    let before : count_by (is_man d King) men ≡ 1 = kings d in
-    omega arith
+-- neither on the first rank nor on the last
+abbrev pub Inside : ℕ → Type 0
+Inside s = (0 < rank_of s) × (rank_of s < 7)
 
-Goes-few : (men : Men) (a b : ℕ) (c : Colour) (k j : Kind) → Goes men a b c k j → HasFewMen men → HasFewMen (relocate men a b (Some (man c j)))
-Goes-few men a b c k j g few d =
-    let counted = Goes-count men a b c k j g (is_of d) refl in
-    let before : count_by (is_of d) men ≤ 16 = few d in
-    omega arith
-
--- what stands anywhere after it
-Goes-stands : (men : Men) (a b : ℕ) (c : Colour) (k j : Kind) → Goes men a b c k j → (s : ℕ) (x : Man) →
-    man_at (relocate men a b (Some (man c j))) s ≡ Some x → ((s ≡ b) × (x ≡ man c j)) ⊎ (man_at men s ≡ Some x)
-Goes-stands men a b c k j g s x h = elim (cases_eq s b) [
-  | inl same ↦
-      let here = put-same (put men a None) b (Some (man c j)) (length-put men a None g.squares) g.target in
-      let h' = rw same at h in
-      inl (same, cc)
-  | inr apart ↦
-      let first = put-other (put men a None) b s (Some (man c j)) apart in
-      elim (cases_eq s a) [
-        | inl same ↦
-            let gone = put-same men a None g.squares (on_board men a (man c k) g.squares g.from) in
-            let h' = rw (first, same, gone) at h in
-            absurd (cc)
-        | inr away ↦ inr (sym (first ∙ put-other men a s None away) ∙ h)
-      ]
-]
-
-Goes-pawns : (men : Men) (a b : ℕ) (c : Colour) (k j : Kind) → Goes men a b c k j → (j ≡ Pawn → (0 < rank_of b) × (rank_of b < 7)) →
-    HasPawnsInside men → HasPawnsInside (relocate men a b (Some (man c j)))
-Goes-pawns men a b c k j g inside pawns s d h = elim (Goes-stands men a b c k j g s (man d Pawn) h) [
-  | inl here ↦ let e : s ≡ b = here.0 in rw e (inside (sym (ap (λ m. m.kind) here.1)))
-  | inr before ↦ pawns s d before
-]
-
--- a man that is no king is taken away
-Goes-away-kings : (men : Men) (s : ℕ) (m : Man) → length men ≡ 64 → man_at men s ≡ Some m → ((d : Colour) → man_at men s ≡ Some (man d King) → ⊥) →
-    HasKings men → HasKings (put men s None)
-Goes-away-kings men s m l stands kingless kings d =
-    let counted = count-put (is_man d King) men s None l (on_board men s m l stands) in
-    let not : is_man d King (man_at men s) ≡ false = is_man-not d King (man_at men s) (kingless d) in
-    let counted' = rw not at counted in
-    let before : count_by (is_man d King) men ≡ 1 = kings d in
-    omega arith
-
-Goes-away-few : (men : Men) (s : ℕ) → length men ≡ 64 → s < 64 → HasFewMen men → HasFewMen (put men s None)
-Goes-away-few men s l h few d =
-    let counted = count-put (is_of d) men s None l h in
-    let before : count_by (is_of d) men ≤ 16 = few d in
-    omega arith
-
-Goes-away-pawns : (men : Men) (s : ℕ) → length men ≡ 64 → s < 64 → HasPawnsInside men → HasPawnsInside (put men s None)
-Goes-away-pawns men s l h pawns t d stands = elim (cases_eq t s) [
-  | inl same ↦ let gone = put-same men s None l h in let e = rw same at stands in absurd (cc)
-  | inr apart ↦ pawns t d (sym (put-other men s t None apart) ∙ stands)
+-- no pawn comes there where the one that is put on a square does not
+put-pawns : (men : Men) (s : ℕ) (x : Option Man) → length men ≡ 64 → s < 64 → ((d : Colour) → x ≡ Some (man d Pawn) → Inside s) → HasPawnsInside men →
+    HasPawnsInside (put men s x)
+put-pawns men s x l less inside pawns t d stands = elim (cases_eq t s) [
+  | inl same ↦ rw same (inside d (sym (put-same men s x l less) ∙ rw same at stands))
+  | inr apart ↦ pawns t d (sym (put-other men s t x apart) ∙ stands)
 ]
 
 -- what a board keeps in every move: its 64 squares, one king a side, no pawn on the first or last rank, at most 16 men a side
@@ -172,24 +130,41 @@ pub record Kept (men : Men) : Type 0 where
   pub pawns : HasPawnsInside men
   pub few : HasFewMen men
 
-pub Kept-goes : (men : Men) (a b : ℕ) (c : Colour) (k j : Kind) → Kept men → Goes men a b c k j → (j ≡ Pawn → (0 < rank_of b) × (rank_of b < 7)) →
+pub Kept-goes : (men : Men) (a b : ℕ) (c : Colour) (k j : Kind) → Kept men → Goes men a b c k j → (j ≡ Pawn → Inside b) →
     Kept (relocate men a b (Some (man c j)))
-Kept-goes men a b c k j kept g inside = record {
-  squares = length-put (put men a None) b (Some (man c j)) (length-put men a None kept.squares);
-  kings = Goes-kings men a b c k j g kept.kings;
-  pawns = Goes-pawns men a b c k j g inside kept.pawns;
-  few = Goes-few men a b c k j g kept.few;
-}
+Kept-goes men a b c k j kept g inside =
+    let x : Option Man = Some (man c j) in
+    let left = length-put men a None kept.squares in
+    let without = put-pawns men a None kept.squares (on_board men a (man c k) kept.squares g.from) (λ d e. absurd (cc)) kept.pawns in
+    record {
+      squares = length-put (put men a None) b x left;
+      kings = λ d.
+          let counted = rw (is_man-not d King (man_at men b) (g.no_king d), g.same_king) at (Goes-count men a b c k j g (is_man d King) refl) in
+          let before = kept.kings d in
+          omega arith;
+      pawns = put-pawns (put men a None) b x left g.target (λ d e. inside (man-kind c d j Pawn e)) without;
+      few = λ d.
+          let counted = Goes-count men a b c k j g (is_of d) refl in
+          let before = kept.few d in
+          omega arith;
+    }
 
+-- and where a man that is no king is taken away
 pub Kept-away : (men : Men) (s : ℕ) (m : Man) → Kept men → man_at men s ≡ Some m → ((d : Colour) → man_at men s ≡ Some (man d King) → ⊥) →
     Kept (put men s None)
 Kept-away men s m kept stands kingless =
     let here = on_board men s m kept.squares stands in
     record {
       squares = length-put men s None kept.squares;
-      kings = Goes-away-kings men s m kept.squares stands kingless kept.kings;
-      pawns = Goes-away-pawns men s kept.squares here kept.pawns;
-      few = Goes-away-few men s kept.squares here kept.few;
+      kings = λ d.
+          let counted = rw (is_man-not d King (man_at men s) (kingless d)) at (count-put (is_man d King) men s None kept.squares here) in
+          let before = kept.kings d in
+          omega arith;
+      pawns = put-pawns men s None kept.squares here (λ d e. absurd (cc)) kept.pawns;
+      few = λ d.
+          let counted = count-put (is_of d) men s None kept.squares here in
+          let before = kept.few d in
+          omega arith;
     }
 
 -- the one king of a colour stands on no other square

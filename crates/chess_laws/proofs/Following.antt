@@ -6,6 +6,7 @@ use Rattle.cell_core.specs.declared.man.Colour.{Colour}
 use Rattle.cell_core.specs.declared.man.Colour.TheVariants.{White, Black}
 use Rattle.cell_core.specs.declared.man.Kind.{Kind}
 use Rattle.cell_core.specs.declared.man.Kind.TheVariants.{King, Queen, Rook, Bishop, Knight, Pawn}
+use Rattle.cell_core.specs.declared.man.Man.{Man}
 use Rattle.cell_core.specs.declared.step.Move.{Move}
 use Rattle.cell_core.specs.Board.{Men, man_at, put}
 use Rattle.cell_core.specs.Man.{man, other}
@@ -19,11 +20,138 @@ use Rattle.chess_laws.specs.Geometry.{Offset, file_of, rank_of, square, forward,
 use Rattle.chess_laws.specs.Attacks.{IsInCheck}
 use Rattle.chess_laws.specs.Castling.{king_home, king_target, rook_home, rook_target, has_right, touches, keeps, rights_after, StandAtHome}
 use Rattle.chess_laws.specs.Position.{Sound, HasFitEnPassant, en_passant_rank}
-use Rattle.chess_laws.specs.Step.{effect_of, GoesPlainly, PassingCase, Case, moved, passed_square, board_after, rights_left, en_passant_after, after}
+use Rattle.chess_laws.specs.Step.{effect_of, GoesPlainly, PassingCase, CastleCase, Case, arriving, last_rank, moved, passed_square, board_after, rights_left, en_passant_after, after}
+use Rattle.chess_laws.specs.LegalTests.{slides}
 use Rattle.chess_laws.proofs.Shifts.{shift-Some}
 use Rattle.chess_laws.proofs.Running.{walk-ends}
-use Rattle.chess_laws.proofs.Boards.{man-kind, put-other, other-other, colour_cases, on_board, Kept}
-use Rattle.chess_laws.proofs.Keeping.{kept, plain-kept, double-kept, moved-other, passing-kept, castle-squares, castle-kept, CastleSquares}
+use Rattle.chess_laws.proofs.Boards.{man-colour, man-kind, put-other, relocate-stays, other-other, on_board, Goes, free-goes, Inside, Kept, Kept-goes, Kept-away}
+use Rattle.chess_laws.proofs.Keeping.{other-apart, Lands, lands, lands_as, arriving-lands, plain-no_own, plain-no_king, pawn-ahead, ahead-inside, double-inside, passing-inside, moved-other, castle-squares, castle-apart, castle-crossed, castle-rook_goes}
+
+-- each case ends on the board
+any-on_board : (steps : List Offset) (a b : ℕ) → Any (Leaps a b) steps → b < 64
+any-on_board steps a b (k, o, less, is, leap) = (shift-Some o a b leap).on_board
+
+runs-on_board : (men : Men) (steps : List Offset) (a b : ℕ) → Any (Runs men a b) steps → b < 64
+runs-on_board men steps a b (k, o, less, is, (n, walk)) = walk-ends men o n a b walk
+
+pub plain-on_board : (p : Setup) (m : Move) (k : Kind) → GoesPlainly p k m → m.to < 64
+plain-on_board p m Pawn (inl g) = (shift-Some (forward p.side) m.from m.to g.0).on_board
+plain-on_board p m Pawn (inr g) = any-on_board (pawn_captures p.side) m.from m.to g.0
+plain-on_board p m King g = any-on_board king_steps m.from m.to g.0
+plain-on_board p m Knight g = any-on_board knight_steps m.from m.to g.0
+plain-on_board p m k g = runs-on_board p.board (slides k) m.from m.to g.0
+
+pub target-on_board : (c : Colour) (w : Wing) → king_target c w < 64
+target-on_board White KingSide = lit< tt
+target-on_board White QueenSide = lit< tt
+target-on_board Black KingSide = lit< tt
+target-on_board Black QueenSide = lit< tt
+
+pub case-on_board : (p : Setup) (m : Move) (e : Effect) → Sound p → effect_of p m ≡ e → Case p m e → m.to < 64
+case-on_board p m Plain sound is case = plain-on_board p m case.kind case.goes
+case-on_board p m Double sound is case = walk-ends p.board (forward p.side) 1 m.from m.to case.walks
+case-on_board p m Passing sound is case = any-on_board (pawn_captures p.side) m.from m.to case.goes
+case-on_board p m (Castle w) sound is case = rw (castle-squares p m w case.stands is).to (target-on_board p.side w)
+case-on_board p m Null sound is case = rw case.stays (on_board p.board m.from (man p.side King) sound.squares case.stands)
+
+-- what goes in a move that is no null move, and what arrives on its target
+pub record Going (p : Setup) (m : Move) : Type 0 where
+  pub kind : Kind
+  pub becomes : Kind
+  pub goes : Goes p.board m.from m.to p.side kind becomes
+  pub brings : arriving p m m.promo ≡ Some (man p.side becomes)
+  pub inside : becomes ≡ Pawn → Inside m.to
+
+free-going : (p : Setup) (m : Move) (k : Kind) → Sound p → man_at p.board m.from ≡ Some (man p.side k) → m.to < 64 → man_at p.board m.to ≡ None →
+    m.promo ≡ None → (k ≡ Pawn → Inside m.to) → Going p m
+free-going p m k sound stands less empty none inside =
+    record { kind = k; becomes = k; goes = free-goes p.board m.from m.to p.side k sound.squares stands less empty; brings = rw none stands; inside = inside }
+
+pub going : (p : Setup) (m : Move) (e : Effect) → Sound p → effect_of p m ≡ e → Case p m e → (e ≡ Null → ⊥) → Going p m
+going p m Plain sound is case moves =
+    let k = case.kind in
+    let last = eqb (rank_of m.to) (last_rank p.side) in
+    let less = plain-on_board p m k case.goes in
+    let comes : Lands k (lands_as k m.promo) last = lands k last m.promo case.promotes in
+    record {
+      kind = k;
+      becomes = lands_as k m.promo;
+      goes = record {
+        squares = sound.squares;
+        from = case.stands;
+        target = less;
+        no_own = plain-no_own p m k case.goes;
+        no_king = plain-no_king p m k sound case.stands case.goes;
+        same_king = comes.same_king;
+      };
+      brings = arriving-lands p m k m.promo case.stands;
+      inside = λ e.
+          let pawn = comes.pawn e in
+          ahead-inside p.side m.from m.to (pawn-ahead p m (rw pawn.0 at case.goes)) less (sound.pawns m.from p.side (rw pawn.0 at case.stands))
+          (eqb-false (rank_of m.to) (last_rank p.side) pawn.1);
+    }
+going p m Double sound is case moves =
+    free-going p m Pawn sound case.stands (case-on_board p m Double sound is case) case.target case.promo
+    (λ e. double-inside p.side p.board m.from m.to case.own_rank case.walks)
+going p m Passing sound is case moves =
+    free-going p m Pawn sound case.stands (case-on_board p m Passing sound is case) case.empty case.promo
+    (λ e. passing-inside p.side m.to (rw case.target at sound.en_passant))
+going p m (Castle w) sound is case moves =
+    let to : man_at p.board m.to ≡ None = rw (castle-squares p m w case.stands is).to (castle-apart p.board p.side w case.empty).king_to in
+    free-going p m King sound case.stands (case-on_board p m (Castle w) sound is case) to case.promo (λ e. absurd (cc))
+going p m Null sound is case moves = absurd (moves refl)
+
+-- the board of what has gone keeps its rules, and so does that of the whole move
+pub kept : (p : Setup) → Sound p → Kept p.board
+kept p sound = record { squares = sound.squares; kings = sound.kings; pawns = sound.pawns; few = sound.few }
+
+going-kept : (p : Setup) (m : Move) → Sound p → Going p m → Kept (moved p m)
+going-kept p m sound g = rw g.brings (Kept-goes p.board m.from m.to p.side g.kind g.becomes (kept p sound) g.goes g.inside)
+
+passed-stands : (p : Setup) (m : Move) → PassingCase p m → man_at (moved p m) (passed_square m) ≡ Some (man (other p.side) Pawn)
+passed-stands p m case =
+    relocate-stays p.board m.from m.to (arriving p m m.promo) (passed_square m) (man (other p.side) Pawn) case.passed
+    (λ h. other-apart p.side (man-colour p.side (other p.side) Pawn Pawn (sym case.stands ∙ h))) (λ h. cc case.empty)
+
+pub after-kept : (p : Setup) (m : Move) (e : Effect) → Sound p → effect_of p m ≡ e → Case p m e → Kept (board_after p m e)
+after-kept p m Passing sound is case =
+    let first = going-kept p m sound (going p m Passing sound is case (λ n. cc)) in
+    let stands = passed-stands p m case in
+    Kept-away (moved p m) (passed_square m) (man (other p.side) Pawn) first stands (λ d h. cc (man-kind (other p.side) d Pawn King (sym stands ∙ h)))
+after-kept p m (Castle w) sound is case =
+    let first = going-kept p m sound (going p m (Castle w) sound is case (λ n. cc)) in
+    Kept-goes (moved p m) (rook_home p.side w) (rook_target p.side w) p.side Rook Rook first
+    (castle-rook_goes p m w sound first.squares (castle-squares p m w case.stands is) case) (λ e. absurd (cc))
+after-kept p m Null sound is case = kept p sound
+after-kept p m e sound is case = going-kept p m sound (going p m e sound is case (λ n. cc))
+
+-- a man that no capture en passant takes away, and no castling moves along
+pub record Rests (p : Setup) (m : Move) (x : Man) : Type 0 where
+  pub passed : x ≡ man (other p.side) Pawn → ⊥
+  pub castles : (w : Wing) → effect_of p m ≡ Castle w → CastleCase p m w → x ≡ man p.side Rook → ⊥
+
+pub king-rests : (p : Setup) (m : Move) (c : Colour) → Rests p m (man c King)
+king-rests p m c = record { passed = λ h. cc (ap (λ (x : Man). x.kind) h); castles = λ w is case h. cc (ap (λ (x : Man). x.kind) h) }
+
+-- stays where he stands when a man has gone, and where no man goes or comes
+pub rest-stays : (p : Setup) (m : Move) (e : Effect) → Sound p → effect_of p m ≡ e → Case p m e → (e ≡ Null → ⊥) → (x : Man) → Rests p m x → (s : ℕ) →
+    man_at (moved p m) s ≡ Some x → man_at (board_after p m e) s ≡ Some x
+rest-stays p m Passing sound is case moves x rests s stands =
+    put-other (moved p m) (passed_square m) s None
+    (λ e. rests.passed (cc (passed-stands p m case))) ∙ stands
+rest-stays p m (Castle w) sound is case moves x rests s stands =
+    let at = castle-squares p m w case.stands is in
+    let rook = (castle-rook_goes p m w sound (going-kept p m sound (going p m (Castle w) sound is case moves)).squares at case).from in
+    relocate-stays (moved p m) (rook_home p.side w) (rook_target p.side w) (Some (man p.side Rook)) s x stands
+    (λ h. rests.castles w is case (cc rook)) (λ h. cc (castle-crossed p m w at case))
+rest-stays p m Null sound is case moves x rests s stands = absurd (moves refl)
+rest-stays p m e sound is case moves x rests s stands = stands
+
+pub after-stays : (p : Setup) (m : Move) (e : Effect) → Sound p → effect_of p m ≡ e → Case p m e → (x : Man) → Rests p m x → (s : ℕ) →
+    (s ≡ m.from → ⊥) → (s ≡ m.to → ⊥) → man_at p.board s ≡ Some x → man_at (board_after p m e) s ≡ Some x
+after-stays p m Null sound is case x rests s from to stands = stands
+after-stays p m e sound is case x rests s from to stands =
+    rest-stays p m e sound is case (λ n. cc) x rests s (moved-other p m s from to ∙ stands)
 
 -- a right that is left: it stood before, and the move touches neither its king's nor its rook's home square
 record Stays (r : Rights) (m : Move) (c : Colour) (w : Wing) : Type 0 where
@@ -53,148 +181,41 @@ right-stays r m White QueenSide h = keeps-stays r m White QueenSide h
 right-stays r m Black KingSide h = keeps-stays r m Black KingSide h
 right-stays r m Black QueenSide h = keeps-stays r m Black QueenSide h
 
--- king and rook of a right that is left still stand at home on the board of the men that moved
-moved-home : (p : Setup) (m : Move) (c : Colour) (w : Wing) → Sound p → Stays p.rights m c w → StandAtHome (moved p m) c w
-moved-home p m c w sound stays =
+-- king and rook of a right that is left still stand at home: a castling's are those of the side that is not to move
+after-home : (p : Setup) (m : Move) (e : Effect) → Sound p → effect_of p m ≡ e → Case p m e → (c : Colour) (w : Wing) →
+    IsTrue (has_right (rights_left p m e) c w) → StandAtHome (board_after p m e) c w
+after-home p m Null sound is case c w h = sound.rights c w h
+after-home p m e sound is case c w h =
+    let stays : Stays p.rights m c w = right-stays p.rights m c w h in
     let home = sound.rights c w stays.stood in
+    let rests : Rests p m (man c Rook) = record {
+      passed = λ h. cc (ap (λ (x : Man). x.kind) h);
+      castles = λ v is' case' h. stays.king_from (ap (λ (x : Man). king_home x.colour) h ∙ sym (castle-squares p m v case'.stands is').from);
+    } in
     record {
-      king = moved-other p m (king_home c) stays.king_from stays.king_to ∙ home.king;
-      rook = moved-other p m (rook_home c w) stays.rook_from stays.rook_to ∙ home.rook;
+      king = after-stays p m e sound is case (man c King) (king-rests p m c) (king_home c) stays.king_from stays.king_to home.king;
+      rook = after-stays p m e sound is case (man c Rook) rests (rook_home c w) stays.rook_from stays.rook_to home.rook;
     }
-
-passing-home : (p : Setup) (m : Move) (c : Colour) (w : Wing) → Sound p → PassingCase p m → Stays p.rights m c w →
-    StandAtHome (put (moved p m) (passed_square m) None) c w
-passing-home p m c w sound case stays =
-    let home = sound.rights c w stays.stood in
-    let still = moved-home p m c w sound stays in
-    let king : king_home c ≡ passed_square m → ⊥ = λ e.
-    let k = man-kind (other p.side) c Pawn King (sym case.passed ∙ ap (man_at p.board) (sym e) ∙ home.king) in absurd (cc) in
-    let rook : rook_home c w ≡ passed_square m → ⊥ = λ e.
-    let k = man-kind (other p.side) c Pawn Rook (sym case.passed ∙ ap (man_at p.board) (sym e) ∙ home.rook) in absurd (cc) in
-    record {
-      king = put-other (moved p m) (passed_square m) (king_home c) None king ∙ still.king;
-      rook = put-other (moved p m) (passed_square m) (rook_home c w) None rook ∙ still.rook;
-    }
-
--- the other side's home squares are not those of a castling
-record Far (c : Colour) (w v : Wing) : Type 0 where
-  king_from : king_home (other c) ≡ rook_home c v → ⊥
-  king_to : king_home (other c) ≡ rook_target c v → ⊥
-  rook_from : rook_home (other c) w ≡ rook_home c v → ⊥
-  rook_to : rook_home (other c) w ≡ rook_target c v → ⊥
-
-far-squares : (c : Colour) (w v : Wing) → Far c w v
-far-squares White KingSide KingSide = record { king_from = λ e. absurd (cc); king_to = λ e. absurd (cc); rook_from = λ e. absurd (cc); rook_to = λ e. absurd (cc) }
-far-squares White KingSide QueenSide = record { king_from = λ e. absurd (cc); king_to = λ e. absurd (cc); rook_from = λ e. absurd (cc); rook_to = λ e. absurd (cc) }
-far-squares White QueenSide KingSide = record { king_from = λ e. absurd (cc); king_to = λ e. absurd (cc); rook_from = λ e. absurd (cc); rook_to = λ e. absurd (cc) }
-far-squares White QueenSide QueenSide = record { king_from = λ e. absurd (cc); king_to = λ e. absurd (cc); rook_from = λ e. absurd (cc); rook_to = λ e. absurd (cc) }
-far-squares Black KingSide KingSide = record { king_from = λ e. absurd (cc); king_to = λ e. absurd (cc); rook_from = λ e. absurd (cc); rook_to = λ e. absurd (cc) }
-far-squares Black KingSide QueenSide = record { king_from = λ e. absurd (cc); king_to = λ e. absurd (cc); rook_from = λ e. absurd (cc); rook_to = λ e. absurd (cc) }
-far-squares Black QueenSide KingSide = record { king_from = λ e. absurd (cc); king_to = λ e. absurd (cc); rook_from = λ e. absurd (cc); rook_to = λ e. absurd (cc) }
-far-squares Black QueenSide QueenSide = record { king_from = λ e. absurd (cc); king_to = λ e. absurd (cc); rook_from = λ e. absurd (cc); rook_to = λ e. absurd (cc) }
-
-castle-home : (p : Setup) (m : Move) (c : Colour) (w v : Wing) → Sound p → CastleSquares p m v → Stays p.rights m c w →
-    StandAtHome (put (put (moved p m) (rook_home p.side v) None) (rook_target p.side v) (Some (man p.side Rook))) c w
-castle-home p m c w v sound at stays = elim (colour_cases c p.side) [
-  | inl own ↦ absurd (stays.king_from (ap king_home own ∙ sym at.from))
-  | inr enemy ↦
-      let still = moved-home p m c w sound stays in
-      let far : Far p.side w v = far-squares p.side w v in
-      let king : king_home c ≡ king_home (other p.side) = ap king_home enemy in
-      let rook : rook_home c w ≡ rook_home (other p.side) w = ap (λ d. rook_home d w) enemy in
-      let first = put (moved p m) (rook_home p.side v) None in
-      record {
-        king =
-            put-other first (rook_target p.side v) (king_home c) (Some (man p.side Rook)) (λ e. far.king_to (sym king ∙ e))
-            ∙ put-other (moved p m) (rook_home p.side v) (king_home c) None (λ e. far.king_from (sym king ∙ e))
-            ∙ still.king;
-        rook =
-            put-other first (rook_target p.side v) (rook_home c w) (Some (man p.side Rook)) (λ e. far.rook_to (sym rook ∙ e))
-            ∙ put-other (moved p m) (rook_home p.side v) (rook_home c w) None (λ e. far.rook_from (sym rook ∙ e))
-            ∙ still.rook;
-      }
-]
 
 crossed-fits : (c : Colour) (a : ℕ) → rank_of (square (file_of a) (en_passant_rank c)) ≡ en_passant_rank c
 crossed-fits White a = omega arith
 crossed-fits Black a = omega arith
 
--- what a position keeps beside the check that is tested
-pub record Follows (p : Setup) (m : Move) (e : Effect) : Type 0 where
-  pub board : Kept (board_after p m e)
-  pub rights : (c : Colour) (w : Wing) → IsTrue (has_right (rights_left p m e) c w) → StandAtHome (board_after p m e) c w
-  pub en_passant : HasFitEnPassant (other p.side) (en_passant_after p m e)
-
-pub follows : (p : Setup) (m : Move) (e : Effect) → Sound p → m.to < 64 → effect_of p m ≡ e → Case p m e → Follows p m e
-follows p m Plain sound less is case = record {
-  board = plain-kept p m sound less case;
-  rights = λ c w h. moved-home p m c w sound (right-stays p.rights m c w h);
-  en_passant = tt;
-}
-follows p m Double sound less is case = record {
-  board = double-kept p m sound less case;
-  rights = λ c w h. moved-home p m c w sound (right-stays p.rights m c w h);
-  en_passant = crossed-fits (other p.side) m.from;
-}
-follows p m Passing sound less is case = record {
-  board = passing-kept p m sound less case;
-  rights = λ c w h. passing-home p m c w sound case (right-stays p.rights m c w h);
-  en_passant = tt;
-}
-follows p m (Castle v) sound less is case =
-    let at = castle-squares p m v case.stands is in
-    record {
-      board = castle-kept p m v sound less at case;
-      rights = λ c w h. castle-home p m c w v sound at (right-stays p.rights m c w h);
-      en_passant = tt;
-    }
-follows p m Null sound less is case = record {
-  board = kept p sound;
-  rights = sound.rights;
-  en_passant = tt;
-}
-
--- each case ends on the board
-any-on_board : (steps : List Offset) (a b : ℕ) → Any (Leaps a b) steps → b < 64
-any-on_board steps a b (k, o, less, is, leap) = (shift-Some o a b leap).on_board
-
-runs-on_board : (men : Men) (steps : List Offset) (a b : ℕ) → Any (Runs men a b) steps → b < 64
-runs-on_board men steps a b (k, o, less, is, (n, walk)) = walk-ends men o n a b walk
-
-pub plain-on_board : (p : Setup) (m : Move) (k : Kind) → GoesPlainly p k m → m.to < 64
-plain-on_board p m Pawn (inl g) = (shift-Some (forward p.side) m.from m.to g.0).on_board
-plain-on_board p m Pawn (inr g) = any-on_board (pawn_captures p.side) m.from m.to g.0
-plain-on_board p m King g = any-on_board king_steps m.from m.to g.0
-plain-on_board p m Queen g = runs-on_board p.board (rook_steps ++ bishop_steps) m.from m.to g.0
-plain-on_board p m Rook g = runs-on_board p.board rook_steps m.from m.to g.0
-plain-on_board p m Bishop g = runs-on_board p.board bishop_steps m.from m.to g.0
-plain-on_board p m Knight g = any-on_board knight_steps m.from m.to g.0
-
-pub target-on_board : (c : Colour) (w : Wing) → king_target c w < 64
-target-on_board White KingSide = lit< tt
-target-on_board White QueenSide = lit< tt
-target-on_board Black KingSide = lit< tt
-target-on_board Black QueenSide = lit< tt
-
-pub case-on_board : (p : Setup) (m : Move) (e : Effect) → Sound p → effect_of p m ≡ e → Case p m e → m.to < 64
-case-on_board p m Plain sound is case = plain-on_board p m case.kind case.goes
-case-on_board p m Double sound is case = walk-ends p.board (forward p.side) 1 m.from m.to case.walks
-case-on_board p m Passing sound is case = any-on_board (pawn_captures p.side) m.from m.to case.goes
-case-on_board p m (Castle w) sound is case = rw (castle-squares p m w case.stands is).to (target-on_board p.side w)
-case-on_board p m Null sound is case = rw case.stays (on_board p.board m.from (man p.side King) sound.squares case.stands)
+after-fits : (p : Setup) (m : Move) (e : Effect) → HasFitEnPassant (other p.side) (en_passant_after p m e)
+after-fits p m Double = crossed-fits (other p.side) m.from
+after-fits p m e = tt
 
 -- a legal move keeps the rules of a position
 pub Sound-step : (p : Setup) (m : Move) → Sound p → Case p m (effect_of p m) →
     (IsInCheck (after p m (effect_of p m)).board p.side → ⊥) → Sound (after p m (effect_of p m))
 Sound-step p m sound case safe =
-    let less = case-on_board p m (effect_of p m) sound refl case in
-    let follow = follows p m (effect_of p m) sound less refl case in
+    let board = after-kept p m (effect_of p m) sound refl case in
     record {
-      squares = follow.board.squares;
-      kings = follow.board.kings;
-      pawns = follow.board.pawns;
-      few = follow.board.few;
+      squares = board.squares;
+      kings = board.kings;
+      pawns = board.pawns;
+      few = board.few;
       not_in_check = rw (other-other p.side) safe;
-      rights = follow.rights;
-      en_passant = follow.en_passant;
+      rights = after-home p m (effect_of p m) sound refl case;
+      en_passant = after-fits p m (effect_of p m);
     }

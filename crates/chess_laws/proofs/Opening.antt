@@ -21,10 +21,11 @@ use Rattle.chess_laws.specs.Keeps.{in_check}
 use Rattle.chess_laws.specs.Position.{Sound, king_square}
 use Rattle.chess_laws.specs.Rays.{Opens, Covers, Hits, glider, offset_at}
 use Rattle.chess_laws.specs.Step.{effect_of, arriving, moved, board_after, after, Case, Legal}
-use Rattle.chess_laws.proofs.Boards.{man-colour, on_board, other-other, put-same, put-other, length-put}
-use Rattle.chess_laws.proofs.Keeping.{arriving-lands, lands_as, moved-other, other-apart}
-use Rattle.chess_laws.proofs.Following.{case-on_board}
-use Rattle.chess_laws.proofs.MovedKings.{only-king-after, king-stays, resting-king, legal-allowed, Sound-after}
+use Rattle.chess_laws.proofs.Boards.{man-colour, on_board, other-other, put-same, put-other}
+use Rattle.chess_laws.proofs.Clear.{Slider}
+use Rattle.chess_laws.proofs.Keeping.{moved-other, other-apart}
+use Rattle.chess_laws.proofs.Following.{going, Going}
+use Rattle.chess_laws.proofs.MovedKings.{moved-lands, only-king-after, king-stays, resting-king, legal-allowed, Sound-after}
 use Rattle.chess_laws.proofs.Kings.{king-stands, king-only}
 use Rattle.chess_laws.proofs.Deciding.{in_check-Decides}
 use Rattle.chess_laws.proofs.Lines.{any-slide, slide-any, line-walk}
@@ -55,19 +56,11 @@ walk-over men new o a (suc n) f s empties (c, step, empty, walk) = elim (cases_e
 ]
 
 -- the man that slides over it, seen from there
-slider : (men : Men) (c : Colour) (k : Kind) (row f : ℕ) → glides k row ≡ true → man_at men f ≡ Some (man c k) →
-    (man_at men f ≡ Some (man c (glider row))) ⊎ (man_at men f ≡ Some (man c Queen))
-slider men c King row f is stands = absurd (false≢true is)
+slider : (men : Men) (c : Colour) (k : Kind) (row f : ℕ) → glides k row ≡ true → man_at men f ≡ Some (man c k) → Slider men c (glider row) f
 slider men c Queen row f is stands = inr stands
-slider men c Rook row f is stands =
-    let kind : glider row ≡ Rook = rw is in
-    inl (stands ∙ ap (λ k. Some (man c k)) (sym kind))
-slider men c Bishop row f is stands =
-    let high : ltb row 4 ≡ false = grind (arith, nat_tests) in
-    let kind : glider row ≡ Bishop = rw high in
-    inl (stands ∙ ap (λ k. Some (man c k)) (sym kind))
-slider men c Knight row f is stands = absurd (false≢true is)
-slider men c Pawn row f is stands = absurd (false≢true is)
+slider men c Rook row f is stands = inl (rw is stands)
+slider men c Bishop row f is stands = let high : ltb row 4 ≡ false = grind (arith, nat_tests) in inl (rw high stands)
+slider men c k row f is stands = absurd (false≢true is)
 
 -- the step back of a row has a row, by which the same men slide
 record Turn (row : ℕ) : Type 0 where
@@ -96,7 +89,7 @@ opens-over men new c k row a f s less is on_board stands over =
     let a_less : a < 64 = walk-ends men o over.before f a over.first in
     let last : Walk new (offset_at t.back) over.behind s a = rw t.is (walk-back new o over.behind a s a_less over.last) in
     let first : Walk men (offset_at t.back) over.before a f = rw t.is (walk-back men o over.before f a on_board over.first) in
-    let stood : (man_at men f ≡ Some (man c (glider t.back))) ⊎ (man_at men f ≡ Some (man c Queen)) = rw t.glides (slider men c k row f is stands) in
+    let stood : Slider men c (glider t.back) f = rw t.glides (slider men c k row f is stands) in
     record {
       row = t.back;
       less = t.less;
@@ -115,114 +108,73 @@ slide-over men new c k a f s empties less stands any =
     ]
 
 -- a man that reached nothing before the move and stands where it stood reaches it over the square that was left
-pub reach-over : (men new : Men) (c : Colour) (k : Kind) (a f s : ℕ) → Empties men new a → f < 64 → man_at men f ≡ Some (man c k) →
+reach-over : (men new : Men) (c : Colour) (k : Kind) (a f s : ℕ) → Empties men new a → f < 64 → man_at men f ≡ Some (man c k) →
     Reaches new c k f s → Reaches men c k f s ⊎ Opens men c a s
-reach-over men new c King a f s empties less stands reach = inl reach
 reach-over men new c Queen a f s empties less stands reach = slide-over men new c Queen a f s empties less stands reach
 reach-over men new c Rook a f s empties less stands reach = slide-over men new c Rook a f s empties less stands reach
 reach-over men new c Bishop a f s empties less stands reach = slide-over men new c Bishop a f s empties less stands reach
-reach-over men new c Knight a f s empties less stands reach = inl reach
-reach-over men new c Pawn a f s empties less stands reach = inl reach
+reach-over men new c k a f s empties less stands reach = inl reach
 
--- the man that a calm move brings to its target
-pub record Calm (p : Setup) (m : Move) : Type 0 where
-  pub squares : length p.board ≡ 64
-  pub source : m.from < 64
-  pub target : m.to < 64
-  pub kind : Kind
-  pub brings : arriving p m m.promo ≡ Some (man p.side kind)
-
-pub calm : (p : Setup) (m : Move) (e : Effect) → Sound p → effect_of p m ≡ e → is_calm e ≡ true → Case p m e → Calm p m
-calm p m Plain sound is quiet case = record {
-  squares = sound.squares;
-  source = on_board p.board m.from (man p.side case.kind) sound.squares case.stands;
-  target = case-on_board p m Plain sound is case;
-  kind = lands_as case.kind m.promo;
-  brings = arriving-lands p m case.kind m.promo case.stands;
-}
-calm p m Double sound is quiet case = record {
-  squares = sound.squares;
-  source = on_board p.board m.from (man p.side Pawn) sound.squares case.stands;
-  target = case-on_board p m Double sound is case;
-  kind = Pawn;
-  brings = ap (arriving p m) case.promo ∙ case.stands;
-}
-calm p m Passing sound is quiet case = absurd (false≢true quiet)
-calm p m (Castle wing) sound is quiet case = absurd (false≢true quiet)
-calm p m Null sound is quiet case = absurd (false≢true quiet)
+-- a calm move is one of a man that goes, and changes the board by him
+calm-going : (p : Setup) (m : Move) (e : Effect) → Sound p → effect_of p m ≡ e → is_calm e ≡ true → Case p m e → Going p m
+calm-going p m e sound is quiet case = going p m e sound is case (λ n. false≢true (rw n at quiet))
 
 calm-board : (p : Setup) (m : Move) (e : Effect) → is_calm e ≡ true → board_after p m e ≡ moved p m
 calm-board p m Plain quiet = refl
 calm-board p m Double quiet = refl
-calm-board p m Passing quiet = absurd (false≢true quiet)
-calm-board p m (Castle wing) quiet = absurd (false≢true quiet)
-calm-board p m Null quiet = absurd (false≢true quiet)
+calm-board p m e quiet = absurd (false≢true quiet)
 
-pub calm-lands : (p : Setup) (m : Move) → (c : Calm p m) → man_at (moved p m) m.to ≡ Some (man p.side c.kind)
-calm-lands p m c =
-    put-same (put p.board m.from None) m.to (arriving p m m.promo) (length-put p.board m.from None c.squares) c.target ∙ c.brings
-
-pub calm-empties : (p : Setup) (m : Move) → Calm p m → Empties p.board (moved p m) m.from
-calm-empties p m c q apart empty = elim (cases_eq q m.to) [
+moved-empties : (p : Setup) (m : Move) → Going p m → Empties p.board (moved p m) m.from
+moved-empties p m g q apart empty = elim (cases_eq q m.to) [
   | inl here ↦
-      let full = calm-lands p m c in
+      let full = moved-lands p m g in
       let empty' = rw here at empty in
       absurd (cc)
   | inr away ↦ sym (moved-other p m q apart away) ∙ empty
 ]
 
 -- every man stands where it stood, but for the one on the target
-pub calm-stands : (p : Setup) (m : Move) → Calm p m → (q : ℕ) (x : Man) → (q ≡ m.to → ⊥) → man_at (moved p m) q ≡ Some x → man_at p.board q ≡ Some x
-calm-stands p m c q x away stands = elim (cases_eq q m.from) [
+moved-stands : (p : Setup) (m : Move) → Going p m → (q : ℕ) (x : Man) → (q ≡ m.to → ⊥) → man_at (moved p m) q ≡ Some x → man_at p.board q ≡ Some x
+moved-stands p m g q x away stands = elim (cases_eq q m.from) [
   | inl here ↦
       let gone = put-other (put p.board m.from None) m.to q (arriving p m m.promo) away in
-      let empty : man_at (put p.board m.from None) q ≡ None = rw here (put-same p.board m.from None c.squares c.source) in
+      let source = on_board p.board m.from (man p.side g.kind) g.goes.squares g.goes.from in
+      let empty : man_at (put p.board m.from None) q ≡ None = rw here (put-same p.board m.from None g.goes.squares source) in
       absurd (cc)
   | inr apart ↦ sym (moved-other p m q apart away) ∙ stands
 ]
 
--- so where the mover's king was safe and no line to it is opened, it is safe
-attack-before : (p : Setup) (m : Move) (s : ℕ) → Calm p m → (Opens p.board (other p.side) m.from s → ⊥) → Attacks (moved p m) (other p.side) s →
-    Attacks p.board (other p.side) s
-attack-before p m s c shut (k, h) =
-    let apart : h.from ≡ m.to → ⊥ = λ e.
-    other-apart p.side (man-colour p.side (other p.side) c.kind k (sym (calm-lands p m c) ∙ ap (man_at (moved p m)) (sym e) ∙ h.stands)) in
-    let was = calm-stands p m c h.from (man (other p.side) k) apart h.stands in
-    elim (reach-over p.board (moved p m) (other p.side) k m.from h.from s (calm-empties p m c) h.on_board was h.reaches) [
-      | inl same ↦ (k, record { from = h.from; on_board = h.on_board; stands = was; reaches = same })
-      | inr opens ↦ absurd (shut opens)
-    ]
+-- where no line to a square is opened, and the man that came does not hit it, who attacks it did so before
+attack-before : (p : Setup) (m : Move) (c : Colour) (s : ℕ) → Going p m → (Opens p.board c m.from s → ⊥) → (Hits (moved p m) c m.to s → ⊥) →
+    Attacks (moved p m) c s → Attacks p.board c s
+attack-before p m c s g shut miss (k, h) = elim (cases_eq h.from m.to) [
+  | inl here ↦ absurd (miss (record { kind = k; stands = rw here at h.stands; reaches = rw here at h.reaches }))
+  | inr apart ↦
+      let was = moved-stands p m g h.from (man c k) apart h.stands in
+      elim (reach-over p.board (moved p m) c k m.from h.from s (moved-empties p m g) h.on_board was h.reaches) [
+        | inl same ↦ (k, record { from = h.from; on_board = h.on_board; stands = was; reaches = same })
+        | inr opens ↦ absurd (shut opens)
+      ]
+]
 
+-- so where the mover's king was safe and no line to it is opened, it is safe
 pub legal-calm : (p : Setup) (m : Move) (king : ℕ) → Sound p → IsOnlyKing p.board p.side king → Case p m (effect_of p m) → is_calm (effect_of p m) ≡ true →
     (IsInCheck p.board p.side → ⊥) → Covers p king m.from → Legal p m
 legal-calm p m king sound only case quiet unchecked covers =
-    let c = calm p m (effect_of p m) sound refl quiet case in
-    let board = calm-board p m (effect_of p m) quiet in
+    let g = calm-going p m (effect_of p m) sound refl quiet case in
     let next = only-king-after p m king sound only case in
-    let stays = king-stays king m covers.apart in (
+    let miss : Hits (moved p m) (other p.side) m.to king → ⊥ = λ h.
+    other-apart p.side (man-colour p.side (other p.side) g.becomes h.kind (sym (moved-lands p m g) ∙ h.stands)) in (
       after p m (effect_of p m),
       record {
         allowed = case;
         becomes = refl;
         safe = λ check.
-            let at : check.0 ≡ king = next.only check.0 check.1 ∙ stays in
-            let attacked : Attacks (moved p m) (other p.side) king = rw (board, at) at check.2 in
-            unchecked (king, only.stands, attack-before p m king c covers.shut attacked);
+            let attacked : Attacks (moved p m) (other p.side) king =
+            rw (calm-board p m (effect_of p m) quiet, next.only check.0 check.1 ∙ king-stays king m covers.apart) at check.2 in
+            unchecked (king, only.stands, attack-before p m (other p.side) king g covers.shut miss attacked);
       },
     )
-
--- where the man that came does not hit a king and no line to it is opened, it is not in check
-checked-before : (p : Setup) (m : Move) (s : ℕ) → (c : Calm p m) → (Opens p.board p.side m.from s → ⊥) → (Hits (moved p m) p.side m.to s → ⊥) →
-    Attacks (moved p m) p.side s → Attacks p.board p.side s
-checked-before p m s c shut miss (k, h) = elim (cases_eq h.from m.to) [
-  | inl here ↦ absurd (miss (record { kind = k; stands = rw here at h.stands; reaches = rw here at h.reaches }))
-  | inr apart ↦
-      let was = calm-stands p m c h.from (man p.side k) apart h.stands in
-      elim (reach-over p.board (moved p m) p.side k m.from h.from s (calm-empties p m c) h.on_board was h.reaches) [
-        | inl same ↦ (k, record { from = h.from; on_board = h.on_board; stands = was; reaches = same })
-        | inr opens ↦ absurd (shut opens)
-      ]
-]
 
 hits-attack : (men : Men) (c : Colour) (a s : ℕ) → length men ≡ 64 → Hits men c a s → Attacks men c s
 hits-attack men c a s squares h =
@@ -255,11 +207,10 @@ check-told p m s opened test sound legal is shut told =
               | inl found ↦ found
               | inr failed ↦
                   let both = shut closed in
-                  let c = calm p m e sound refl both.0 case in
                   let board = calm-board p m e both.0 in
-                  let attacked' : Attacks (moved p m) p.side s = rw board at attacked in
-                  let miss : Hits (moved p m) p.side m.to s → ⊥ = λ hits. false≢true (sym failed ∙ told.1 (inl (rw board hits))) in
-                  let before = checked-before p m s c both.1 miss attacked' in
+                  let before =
+                  attack-before p m p.side s (calm-going p m e sound refl both.0 case) both.1 (λ hits. false≢true (sym failed ∙ told.1 (inl (rw board hits))))
+                  (rw board at attacked) in
                   absurd (sound.not_in_check (s, stood, rw (other-other p.side) before))
             ]
           ],
