@@ -2,7 +2,8 @@
 use Rattle.std.proofs.Common.{◌≡◌, ℕ, zero, suc, ◌^◌, ◌<◌, ◌↔◌, IsTrue, ◌&&◌, ◌⊎◌, ◌==◌, inl, inr, Bool, true, false, eqb, List, [], Option, Some, None, is_none, is_some, refl, sym, subst, ◌∙◌, ap, arith}
 use Rattle.std.specs.Int.{bit_at}
 use Rattle.std.specs.Int.RustNames.{bit_and, bit_or}
-use Rattle.std.proofs.lemmas.Bool.{agree_below, agree_below_at, and_parts, cases_Bool, cases_eq, eq-eqb, eqb-true, false≢true}
+use Rattle.std.proofs.lemmas.Bool.{agree_below, agree_below_at, and_parts, cases_Bool, cases_eq, eq-eqb, eqb-true, false≢true, ne_eqb}
+use Rattle.std.proofs.Math.Bool.{and-false}
 use Rattle.std.proofs.lemmas.Nat.Bits.{bit_at-lt, bit_at-pow_same, bit_at-pow_other, bit_at-zero, bit_at_and, bit_at_or, same_from_bits}
 use Rattle.std.specs.Prelude.{Any}
 use Rattle.cell_core.specs.declared.man.Colour.{Colour}
@@ -19,65 +20,47 @@ use Rattle.chess_laws.specs.Between.{between, crossed, crossed_on, is_between, i
 use Rattle.chess_laws.specs.Rays.{entry, glider, offset_at, sliders, SlidesFrom}
 use Rattle.chess_laws.specs.Leaps.{squares_of}
 use Rattle.chess_laws.proofs.Lines.{any-slide, line-walk, slide-any}
+use Rattle.chess_laws.proofs.Rows.{pair-at}
 use Rattle.chess_laws.proofs.Running.{walk-ends}
 use Rattle.chess_laws.proofs.Sets.{man-bit, man-has}
 
 -- a square more among those that are to be empty
-one-full : (men : Men) (s set : ℕ) (m : Man) → man_at men s ≡ Some m → eqb (bit_and (bit_or (2 ^ s) set) (set_of is_some men)) 0 ≡ false
-one-full men s set m stands =
-    let full : bit_at (set_of is_some men) s ≡ 1 = rw (bit-set_of is_some refl men s, stands) refl in
-    let all = bit_at_and (bit_or (2 ^ s) set) (set_of is_some men) s in
-    let either = bit_at_or (2 ^ s) set s in
-    let here = bit_at-pow_same s in
-    let one = bit_at-lt set s in
-    elim (cases_Bool (eqb (bit_and (bit_or (2 ^ s) set) (set_of is_some men)) 0)) [
-      | inl is ↦
-          let none : bit_at (bit_and (bit_or (2 ^ s) set) (set_of is_some men)) s ≡ 0 = rw (eqb-true (bit_and (bit_or (2 ^ s) set) (set_of is_some men)) 0 is) (bit_at-zero s) in
-          absurd (omega (arith, full, all, either, here, one, none))
-      | inr other ↦ other
-    ]
+one-full : (s set men : ℕ) → bit_at men s ≡ 1 → eqb (bit_and (bit_or (2 ^ s) set) men) 0 ≡ false
+one-full s set men full =
+    ne_eqb (bit_and (bit_or (2 ^ s) set) men) 0 (λ is.
+    let none : bit_at (bit_and (bit_or (2 ^ s) set) men) s ≡ 0 = rw is (bit_at-zero s) in
+    omega (arith, full, none, bit_at_and (bit_or (2 ^ s) set) men s, bit_at_or (2 ^ s) set s, bit_at-pow_same s, bit_at-lt set s))
 
-one-empty : (men : Men) (s set : ℕ) → man_at men s ≡ None → bit_and (bit_or (2 ^ s) set) (set_of is_some men) ≡ bit_and set (set_of is_some men)
-one-empty men s set empty =
-    same_from_bits (bit_and (bit_or (2 ^ s) set) (set_of is_some men)) (bit_and set (set_of is_some men))
-    (λ i.
-    let all = bit_at_and (bit_or (2 ^ s) set) (set_of is_some men) i in
-    let less = bit_at_and set (set_of is_some men) i in
-    let either = bit_at_or (2 ^ s) set i in
-    let one = bit_at-lt set i in
+one-empty : (s set men : ℕ) → bit_at men s ≡ 0 → bit_and (bit_or (2 ^ s) set) men ≡ bit_and set men
+one-empty s set men empty =
+    same_from_bits (bit_and (bit_or (2 ^ s) set) men) (bit_and set men) (λ i.
+    let all = bit_at_and (bit_or (2 ^ s) set) men i in
+    let less = bit_at_and set men i in
     elim (cases_eq i s) [
-      | inl here ↦
-          let none : bit_at (set_of is_some men) i ≡ 0 = rw (bit-set_of is_some refl men i, here, empty) refl in
-          omega (arith, all, less, none)
-      | inr apart ↦
-          let away = bit_at-pow_other s i apart in
-          omega (arith, all, less, either, away, one)
+      | inl here ↦ let none : bit_at men i ≡ 0 = rw here empty in omega (arith, all, less, none)
+      | inr apart ↦ omega (arith, all, less, bit_at_or (2 ^ s) set i, bit_at-pow_other s i apart, bit_at-lt set i)
     ])
 
 one-more : (men : Men) (s set : ℕ) (x : Option Man) → man_at men s ≡ x
     → (is_none x && eqb (bit_and set (set_of is_some men)) 0) ≡ eqb (bit_and (bit_or (2 ^ s) set) (set_of is_some men)) 0
-one-more men s set None is = ap (λ w. eqb w 0) (sym (one-empty men s set is))
-one-more men s set (Some m) is = sym (one-full men s set m is)
+one-more men s set None is = rw (one-empty s set (set_of is_some men) (rw (bit-set_of is_some refl men s, is) refl)) refl
+one-more men s set (Some m) is = rw (one-full s set (set_of is_some men) (rw (bit-set_of is_some refl men s, is) refl)) refl
 
 and-shift : (a b c d : Bool) → (a && c) ≡ d → (a && (b && c)) ≡ (b && d)
-and-shift true true c d h = h
-and-shift false true c d h = h
-and-shift true false c d h = refl
-and-shift false false c d h = refl
+and-shift a true c d h = h
+and-shift a false c d h = and-false a
 
 run-step : (men : Men) (b : ℕ) (x : Option ℕ) (here none : ℕ → Bool) (set : ℕ → ℕ)
     → ((c : ℕ) → here c ≡ (none c && eqb (bit_and (set c) (set_of is_some men)) 0))
     → run_on men b x here ≡ (run_on [] b x none && eqb (bit_and (crossed_on b x set) (set_of is_some men)) 0)
 run-step men b None here none set each = refl
-run-step men b (Some c) here none set each =
-    elim (cases_Bool (eqb c b)) [
-      | inl met ↦ rw met refl
-      | inr other ↦
-          rw other
-          (ap (λ t. is_none (man_at men c) && t) (each c)
-          ∙ and-shift (is_none (man_at men c)) (none c) (eqb (bit_and (set c) (set_of is_some men)) 0) (eqb (bit_and (bit_or (2 ^ c) (set c)) (set_of is_some men)) 0)
-          (one-more men c (set c) (man_at men c) refl))
-    ]
+run-step men b (Some c) here none set each = elim (cases_Bool (eqb c b)) [
+  | inl met ↦ rw met refl
+  | inr other ↦
+      rw (other, each c)
+      (and-shift (is_none (man_at men c)) (none c) (eqb (bit_and (set c) (set_of is_some men)) 0) (eqb (bit_and (bit_or (2 ^ c) (set c)) (set_of is_some men)) 0)
+      (one-more men c (set c) (man_at men c) refl))
+]
 
 -- so far as the steps come over a board with no man, the walk comes over squares on which no man stands
 run-clear : (men : Men) (o : Offset) (n a b : ℕ) → run men o n b a ≡ (run [] o n b a && eqb (bit_and (crossed o n b a) (set_of is_some men)) 0)
@@ -85,21 +68,17 @@ unfolding run crossed
 run-clear men o zero a b = refl
 run-clear men o (suc n) a b = run-step men b (shift o a) (run men o n b) (run [] o n b) (crossed o n b) (λ c. run-clear men o n c b)
 
--- what the table says of two squares
+-- what the table says of two squares, and that it has by each row those on that line
 told-of : (table : List (List ℕ)) (a b : ℕ) → names_between table ≡ true → a < 64 → b < 64
-    → (is_between table (line a b) a b && agree_below (λ row. bit_at (entry table row a) b == 1) (is_on (line a b)) 8) ≡ true
+    → (is_between table (line a b) a b ≡ true) × (agree_below (λ row. bit_at (entry table row a) b == 1) (is_on (line a b)) 8 ≡ true)
 unfolding names_between
 told-of table a b all a_less b_less =
-    let rows = agree_below_at
-    (λ a. agree_below (λ b. is_between table (line a b) a b && agree_below (λ row. bit_at (entry table row a) b == 1) (is_on (line a b)) 8) (λ b. true) 64)
-    (λ a. true) 64 a all a_less in
-    agree_below_at (λ b. is_between table (line a b) a b && agree_below (λ row. bit_at (entry table row a) b == 1) (is_on (line a b)) 8) (λ b. true) 64 b rows b_less
+    and_parts (is_between table (line a b) a b) (agree_below (λ row. bit_at (entry table row a) b == 1) (is_on (line a b)) 8)
+    (pair-at (λ a b. is_between table (line a b) a b && agree_below (λ row. bit_at (entry table row a) b == 1) (is_on (line a b)) 8) 64 64 a b all a_less b_less)
 
--- it has by each row the squares on that line
 seen-is : (table : List (List ℕ)) (row a b : ℕ) → names_between table ≡ true → row < 8 → a < 64 → b < 64 → eqb (bit_at (entry table row a) b) 1 ≡ is_on (line a b) row
 seen-is table row a b all less a_less b_less =
-    let parts = and_parts (is_between table (line a b) a b) (agree_below (λ row. bit_at (entry table row a) b == 1) (is_on (line a b)) 8) (told-of table a b all a_less b_less) in
-    agree_below_at (λ row. bit_at (entry table row a) b == 1) (is_on (line a b)) 8 row parts.1 less
+    agree_below_at (λ row. bit_at (entry table row a) b == 1) (is_on (line a b)) 8 row (told-of table a b all a_less b_less).1 less
 
 pub seen-run : (table : List (List ℕ)) (row a word : ℕ) → names_between table ≡ true → row < 8 → a < 64 → word ≡ entry table row a
     → (men : Men) (b : ℕ) → Runs men a b (offset_at row) → bit_at word b ≡ 1
@@ -122,22 +101,19 @@ seen-line table row a word all less a_less is b b_less set =
 pub clear-told : (table : List (List ℕ)) (row a b word occupied : ℕ) (test : Bool) → names_between table ≡ true → Some row ≡ line a b → a < 64 → b < 64
     → word ≡ between table row a b → test ≡ eqb (bit_and word occupied) 0 → (men : Men) → occupied ≡ set_of is_some men → test ≡ run men (offset_at row) 8 b a
 clear-told table row a b word occupied test all on_line a_less b_less is told men full =
-    let both = and_parts (is_between table (line a b) a b) (agree_below (λ row. bit_at (entry table row a) b == 1) (is_on (line a b)) 8) (told-of table a b all a_less b_less) in
-    let on : is_between table (Some row) a b ≡ true = subst (λ x. is_between table x a b ≡ true) (sym on_line) both.0 in
+    let on : is_between table (Some row) a b ≡ true = rw (← on_line) at (told-of table a b all a_less b_less).0 in
     let parts = and_parts (eqb (between table row a b) (crossed (offset_at row) 8 b a)) (run [] (offset_at row) 8 b a) on in
-    let same : between table row a b ≡ crossed (offset_at row) 8 b a = eqb-true (between table row a b) (crossed (offset_at row) 8 b a) parts.0 in
-    told ∙ (λ i. eqb (bit_and ((is ∙ same) i) (full i)) 0)
-    ∙ sym (run-clear men (offset_at row) 8 a b ∙ ap (λ t. t && eqb (bit_and (crossed (offset_at row) 8 b a) (set_of is_some men)) 0) parts.1)
+    let same = eqb-true (between table row a b) (crossed (offset_at row) 8 b a) parts.0 in
+    rw (told, is, same, full, run-clear men (offset_at row) 8 a b, parts.1) refl
 
 -- what a table has of the lines by which a kind of man slides
 seen-told : (table : List ℕ) (kind : Kind) (row a b : ℕ) → names_seen table kind ≡ true → a < 64 → b < 64 → glides kind row ≡ true → Some row ≡ line a b
     → bit_at (squares_of table a) b ≡ 1
 unfolding names_seen
 seen-told table kind row a b all a_less b_less is on_line =
-    let rows = agree_below_at (λ a. agree_below (λ b. is_seen kind (squares_of table a) (line a b) b) (λ b. true) 64) (λ a. true) 64 a all a_less in
-    let here : is_seen kind (squares_of table a) (line a b) b ≡ true = agree_below_at (λ b. is_seen kind (squares_of table a) (line a b) b) (λ b. true) 64 b rows b_less in
-    let on : is_seen kind (squares_of table a) (Some row) b ≡ true = subst (λ x. is_seen kind (squares_of table a) x b ≡ true) (sym on_line) here in
-    eqb-true (bit_at (squares_of table a) b) 1 (rw is at on)
+    let here : is_seen kind (squares_of table a) (line a b) b ≡ true =
+    pair-at (λ a b. is_seen kind (squares_of table a) (line a b) b) 64 64 a b all a_less b_less in
+    eqb-true (bit_at (squares_of table a) b) 1 (rw (← on_line, is) at here)
 
 -- who slides stands on a square of the set
 abbrev pub Slider : Men → Colour → Kind → ℕ → Type 0

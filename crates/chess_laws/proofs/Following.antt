@@ -1,5 +1,5 @@
 -- A legal move leads from a position within the rules to one within the rules.
-use Rattle.std.proofs.Common.{◌≡◌, ℕ, ◌<◌, inl, inr, ◌&&◌, not, eqb, List, ◌++◌, Some, None, IsTrue, refl, sym, ◌∙◌, ap, arith, lit<}
+use Rattle.std.proofs.Common.{◌≡◌, ℕ, ◌<◌, inl, inr, ◌&&◌, not, eqb, false, Some, None, IsTrue, refl, sym, ◌∙◌, ap, arith}
 use Rattle.std.specs.Prelude.{Any}
 use Rattle.std.proofs.lemmas.Bool.{eqb-false, and_parts, or_parts, not-true}
 use Rattle.cell_core.specs.declared.man.Colour.{Colour}
@@ -25,33 +25,21 @@ use Rattle.chess_laws.specs.LegalTests.{slides}
 use Rattle.chess_laws.proofs.Shifts.{shift-Some}
 use Rattle.chess_laws.proofs.Running.{walk-ends}
 use Rattle.chess_laws.proofs.Boards.{man-colour, man-kind, put-other, relocate-stays, other-other, on_board, Goes, free-goes, Inside, Kept, Kept-goes, Kept-away}
-use Rattle.chess_laws.proofs.Keeping.{other-apart, Lands, lands, lands_as, arriving-lands, plain-no_own, plain-no_king, pawn-ahead, ahead-inside, double-inside, passing-inside, moved-other, castle-squares, castle-apart, castle-crossed, castle-rook_goes}
+use Rattle.chess_laws.proofs.Keeping.{other-apart, Lands, lands, lands_as, arriving-lands, plain-goes, pawn-ahead, ahead-inside, double-inside, passing-inside, moved-other, castle-squares, castle-apart, castle-crossed, castle-rook_goes}
 
 -- each case ends on the board
-any-on_board : (steps : List Offset) (a b : ℕ) → Any (Leaps a b) steps → b < 64
-any-on_board steps a b (k, o, less, is, leap) = (shift-Some o a b leap).on_board
-
-runs-on_board : (men : Men) (steps : List Offset) (a b : ℕ) → Any (Runs men a b) steps → b < 64
-runs-on_board men steps a b (k, o, less, is, (n, walk)) = walk-ends men o n a b walk
-
-pub plain-on_board : (p : Setup) (m : Move) (k : Kind) → GoesPlainly p k m → m.to < 64
+plain-on_board : (p : Setup) (m : Move) (k : Kind) → GoesPlainly p k m → m.to < 64
 plain-on_board p m Pawn (inl g) = (shift-Some (forward p.side) m.from m.to g.0).on_board
-plain-on_board p m Pawn (inr g) = any-on_board (pawn_captures p.side) m.from m.to g.0
-plain-on_board p m King g = any-on_board king_steps m.from m.to g.0
-plain-on_board p m Knight g = any-on_board knight_steps m.from m.to g.0
-plain-on_board p m k g = runs-on_board p.board (slides k) m.from m.to g.0
-
-pub target-on_board : (c : Colour) (w : Wing) → king_target c w < 64
-target-on_board White KingSide = lit< tt
-target-on_board White QueenSide = lit< tt
-target-on_board Black KingSide = lit< tt
-target-on_board Black QueenSide = lit< tt
+plain-on_board p m Pawn (inr g) = (shift-Some g.0.1 m.from m.to g.0.4).on_board
+plain-on_board p m King g = (shift-Some g.0.1 m.from m.to g.0.4).on_board
+plain-on_board p m Knight g = (shift-Some g.0.1 m.from m.to g.0.4).on_board
+plain-on_board p m k g = walk-ends p.board g.0.1 g.0.4.0 m.from m.to g.0.4.1
 
 pub case-on_board : (p : Setup) (m : Move) (e : Effect) → Sound p → effect_of p m ≡ e → Case p m e → m.to < 64
 case-on_board p m Plain sound is case = plain-on_board p m case.kind case.goes
 case-on_board p m Double sound is case = walk-ends p.board (forward p.side) 1 m.from m.to case.walks
-case-on_board p m Passing sound is case = any-on_board (pawn_captures p.side) m.from m.to case.goes
-case-on_board p m (Castle w) sound is case = rw (castle-squares p m w case.stands is).to (target-on_board p.side w)
+case-on_board p m Passing sound is case = (shift-Some case.goes.1 m.from m.to case.goes.4).on_board
+case-on_board p m (Castle w) sound is case = rw (castle-squares p m w case.stands is).to (castle-apart p.board p.side w case.empty).king_less
 case-on_board p m Null sound is case = rw case.stays (on_board p.board m.from (man p.side King) sound.squares case.stands)
 
 -- what goes in a move that is no null move, and what arrives on its target
@@ -76,14 +64,7 @@ going p m Plain sound is case moves =
     record {
       kind = k;
       becomes = lands_as k m.promo;
-      goes = record {
-        squares = sound.squares;
-        from = case.stands;
-        target = less;
-        no_own = plain-no_own p m k case.goes;
-        no_king = plain-no_king p m k sound case.stands case.goes;
-        same_king = comes.same_king;
-      };
+      goes = plain-goes p m k (lands_as k m.promo) sound case.stands case.goes less comes.same_king;
       brings = arriving-lands p m k m.promo case.stands;
       inside = λ e.
           let pawn = comes.pawn e in
@@ -154,55 +135,43 @@ after-stays p m e sound is case x rests s from to stands =
     rest-stays p m e sound is case (λ n. cc) x rests s (moved-other p m s from to ∙ stands)
 
 -- a right that is left: it stood before, and the move touches neither its king's nor its rook's home square
-record Stays (r : Rights) (m : Move) (c : Colour) (w : Wing) : Type 0 where
-  stood : IsTrue (has_right r c w)
-  king_from : king_home c ≡ m.from → ⊥
-  king_to : king_home c ≡ m.to → ⊥
-  rook_from : rook_home c w ≡ m.from → ⊥
-  rook_to : rook_home c w ≡ m.to → ⊥
-
-keeps-stays : (r : Rights) (m : Move) (c : Colour) (w : Wing) → IsTrue (keeps r m c w) → Stays r m c w
+keeps-stays : (r : Rights) (m : Move) (c : Colour) (w : Wing) → IsTrue (keeps r m c w) →
+    IsTrue (has_right r c w) × (touches m (king_home c) ≡ false) × (touches m (rook_home c w) ≡ false)
 keeps-stays r m c w h =
     let parts = and_parts (has_right r c w) (not (touches m (king_home c)) && not (touches m (rook_home c w))) h in
     let apart = and_parts (not (touches m (king_home c))) (not (touches m (rook_home c w))) parts.1 in
-    let king = or_parts (eqb m.from (king_home c)) (eqb m.to (king_home c)) (not-true (touches m (king_home c)) apart.0) in
-    let rook = or_parts (eqb m.from (rook_home c w)) (eqb m.to (rook_home c w)) (not-true (touches m (rook_home c w)) apart.1) in
-    record {
-      stood = parts.0;
-      king_from = λ e. eqb-false m.from (king_home c) king.0 (sym e);
-      king_to = λ e. eqb-false m.to (king_home c) king.1 (sym e);
-      rook_from = λ e. eqb-false m.from (rook_home c w) rook.0 (sym e);
-      rook_to = λ e. eqb-false m.to (rook_home c w) rook.1 (sym e);
-    }
+    (parts.0, not-true (touches m (king_home c)) apart.0, not-true (touches m (rook_home c w)) apart.1)
 
-right-stays : (r : Rights) (m : Move) (c : Colour) (w : Wing) → IsTrue (has_right (rights_after r m) c w) → Stays r m c w
-right-stays r m White KingSide h = keeps-stays r m White KingSide h
-right-stays r m White QueenSide h = keeps-stays r m White QueenSide h
-right-stays r m Black KingSide h = keeps-stays r m Black KingSide h
-right-stays r m Black QueenSide h = keeps-stays r m Black QueenSide h
+right-stays : (r : Rights) (m : Move) (c : Colour) (w : Wing) → IsTrue (has_right (rights_after r m) c w) → IsTrue (keeps r m c w)
+right-stays r m White KingSide h = h
+right-stays r m c QueenSide h = h
+right-stays r m c w h = h
+
+untouched : (m : Move) (s : ℕ) → touches m s ≡ false → (s ≡ m.from → ⊥) × (s ≡ m.to → ⊥)
+untouched m s h =
+    let both = or_parts (eqb m.from s) (eqb m.to s) h in
+    (λ e. eqb-false m.from s both.0 (sym e), λ e. eqb-false m.to s both.1 (sym e))
 
 -- king and rook of a right that is left still stand at home: a castling's are those of the side that is not to move
 after-home : (p : Setup) (m : Move) (e : Effect) → Sound p → effect_of p m ≡ e → Case p m e → (c : Colour) (w : Wing) →
     IsTrue (has_right (rights_left p m e) c w) → StandAtHome (board_after p m e) c w
 after-home p m Null sound is case c w h = sound.rights c w h
 after-home p m e sound is case c w h =
-    let stays : Stays p.rights m c w = right-stays p.rights m c w h in
-    let home = sound.rights c w stays.stood in
+    let stays = keeps-stays p.rights m c w (right-stays p.rights m c w h) in
+    let home = sound.rights c w stays.0 in
+    let king = untouched m (king_home c) stays.1 in
+    let rook = untouched m (rook_home c w) stays.2 in
     let rests : Rests p m (man c Rook) = record {
       passed = λ h. cc (ap (λ (x : Man). x.kind) h);
-      castles = λ v is' case' h. stays.king_from (ap (λ (x : Man). king_home x.colour) h ∙ sym (castle-squares p m v case'.stands is').from);
+      castles = λ v is' case' h. king.0 (ap (λ (x : Man). king_home x.colour) h ∙ sym (castle-squares p m v case'.stands is').from);
     } in
     record {
-      king = after-stays p m e sound is case (man c King) (king-rests p m c) (king_home c) stays.king_from stays.king_to home.king;
-      rook = after-stays p m e sound is case (man c Rook) rests (rook_home c w) stays.rook_from stays.rook_to home.rook;
+      king = after-stays p m e sound is case (man c King) (king-rests p m c) (king_home c) king.0 king.1 home.king;
+      rook = after-stays p m e sound is case (man c Rook) rests (rook_home c w) rook.0 rook.1 home.rook;
     }
 
-crossed-fits : (c : Colour) (a : ℕ) → rank_of (square (file_of a) (en_passant_rank c)) ≡ en_passant_rank c
-crossed-fits White a = omega arith
-crossed-fits Black a = omega arith
-
 after-fits : (p : Setup) (m : Move) (e : Effect) → HasFitEnPassant (other p.side) (en_passant_after p m e)
-after-fits p m Double = crossed-fits (other p.side) m.from
+after-fits p m Double = omega arith
 after-fits p m e = tt
 
 -- a legal move keeps the rules of a position

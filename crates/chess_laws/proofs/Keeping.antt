@@ -105,6 +105,13 @@ plain-no_king p m k sound stands g d h = elim (colour_cases d p.side) [
       sound.not_in_check (m.to, (rw enemy at h), (rw (other-other p.side) (k, attack)))
 ]
 
+-- so what goes plainly meets no man of its side and no king
+pub plain-goes : (p : Setup) (m : Move) (k j : Kind) → Sound p → man_at p.board m.from ≡ Some (man p.side k) → GoesPlainly p k m → m.to < 64 →
+    same_kind j King ≡ same_kind k King → Goes p.board m.from m.to p.side k j
+plain-goes p m k j sound stands go less same =
+    let no_king = plain-no_king p m k sound stands go in
+    record { squares = sound.squares; from = stands; target = less; no_own = plain-no_own p m k go; no_king = no_king; same_king = same }
+
 pub moved-other : (p : Setup) (m : Move) (s : ℕ) → (s ≡ m.from → ⊥) → (s ≡ m.to → ⊥) → man_at (moved p m) s ≡ man_at p.board s
 moved-other p m s from to = relocate-other p.board m.from m.to (arriving p m m.promo) s from to
 
@@ -130,44 +137,25 @@ pub record Apart (men : Men) (c : Colour) (w : Wing) : Type 0 where
   pub rook_to_from : rook_target c w ≡ king_home c → ⊥
   pub rook_to_to : rook_target c w ≡ king_target c w → ⊥
   pub rook_less : rook_target c w < 64
+  pub king_less : king_target c w < 64
+
+castle-empty : (men : Men) (c : Colour) (w : Wing) → All (λ s. man_at men s ≡ None) (between c w) →
+    (man_at men (king_target c w) ≡ None) × (man_at men (rook_target c w) ≡ None)
+castle-empty men White KingSide all = (all 1 0 (lit< tt), all 0 0 (lit< tt))
+castle-empty men c QueenSide all = (all 1 0 (lit< tt), all 2 0 (lit< tt))
+castle-empty men c w all = (all 1 0 (lit< tt), all 0 0 (lit< tt))
+
+castle-differ : (c : Colour) (w : Wing) → (rook_home c w ≡ king_home c → ⊥) × (rook_home c w ≡ king_target c w → ⊥)
+    × (rook_target c w ≡ king_home c → ⊥) × (rook_target c w ≡ king_target c w → ⊥) × (rook_target c w < 64) × (king_target c w < 64)
+castle-differ White KingSide = (λ e. omega arith, λ e. omega arith, λ e. omega arith, λ e. omega arith, omega arith, omega arith)
+castle-differ c QueenSide = (λ e. omega arith, λ e. omega arith, λ e. omega arith, λ e. omega arith, omega arith, omega arith)
+castle-differ c w = (λ e. omega arith, λ e. omega arith, λ e. omega arith, λ e. omega arith, omega arith, omega arith)
 
 pub castle-apart : (men : Men) (c : Colour) (w : Wing) → All (λ s. man_at men s ≡ None) (between c w) → Apart men c w
-castle-apart men White KingSide all = record {
-  king_to = all 1 0 (lit< tt);
-  rook_to = all 0 0 (lit< tt);
-  rook_less = lit< tt;
-  rook_from = λ e. omega arith;
-  rook_from_to = λ e. omega arith;
-  rook_to_from = λ e. omega arith;
-  rook_to_to = λ e. omega arith;
-}
-castle-apart men White QueenSide all = record {
-  king_to = all 1 0 (lit< tt);
-  rook_to = all 2 0 (lit< tt);
-  rook_less = lit< tt;
-  rook_from = λ e. omega arith;
-  rook_from_to = λ e. omega arith;
-  rook_to_from = λ e. omega arith;
-  rook_to_to = λ e. omega arith;
-}
-castle-apart men Black KingSide all = record {
-  king_to = all 1 0 (lit< tt);
-  rook_to = all 0 0 (lit< tt);
-  rook_less = lit< tt;
-  rook_from = λ e. omega arith;
-  rook_from_to = λ e. omega arith;
-  rook_to_from = λ e. omega arith;
-  rook_to_to = λ e. omega arith;
-}
-castle-apart men Black QueenSide all = record {
-  king_to = all 1 0 (lit< tt);
-  rook_to = all 2 0 (lit< tt);
-  rook_less = lit< tt;
-  rook_from = λ e. omega arith;
-  rook_from_to = λ e. omega arith;
-  rook_to_from = λ e. omega arith;
-  rook_to_to = λ e. omega arith;
-}
+castle-apart men c w all =
+    let e = castle-empty men c w all in
+    let d = castle-differ c w in
+    record { king_to = e.0; rook_to = e.1; rook_from = d.0; rook_from_to = d.1; rook_to_from = d.2; rook_to_to = d.3; rook_less = d.4; king_less = d.5 }
 
 -- the king goes to an empty square, and then the rook to the one that he has crossed
 pub castle-king_goes : (p : Setup) (m : Move) (w : Wing) → Sound p → m.to < 64 → CastleSquares p m w → CastleCase p m w → Goes p.board m.from m.to p.side King King

@@ -1,7 +1,7 @@
 -- What comes to a square makes one move, whose rule allows it.
 use Rattle.std.proofs.Common.{◌≡◌, ℕ, inl, inr, true, false, ◌&&◌, eqb, Some, refl, sym, ◌∙◌, ap, subst}
 use Rattle.std.specs.Prelude.{Any}
-use Rattle.std.proofs.lemmas.Bool.{and_parts, cases_Bool, eqb-true, false≢true, ne_eqb}
+use Rattle.std.proofs.lemmas.Bool.{and_parts, eqb-true, false_from_ne_true, false≢true, ne_eqb}
 use Rattle.cell_core.specs.declared.man.Colour.{Colour}
 use Rattle.cell_core.specs.declared.man.Colour.TheVariants.{White, Black}
 use Rattle.cell_core.specs.declared.man.Kind.{Kind}
@@ -42,14 +42,9 @@ no-leap Black KingSide any = false≢true ((any-Decides (leaps_now 60 62) (Leaps
 no-leap Black QueenSide any = false≢true ((any-Decides (leaps_now 60 58) (Leaps 60 58) (leaps-Decides 60 58) king_steps).1 any)
 
 no-castle : (c : Colour) (wing : Wing) (a b : ℕ) → Any (Leaps a b) king_steps → (eqb a (king_home c) && eqb b (king_target c wing)) ≡ false
-no-castle c wing a b any = elim (cases_Bool (eqb a (king_home c) && eqb b (king_target c wing))) [
-  | inl castles ↦
-      let both = and_parts (eqb a (king_home c)) (eqb b (king_target c wing)) castles in
-      let from = eqb-true a (king_home c) both.0 in
-      let to = eqb-true b (king_target c wing) both.1 in
-      absurd (no-leap c wing (subst (λ t. Any (Leaps (king_home c) t) king_steps) to (subst (λ f. Any (Leaps f b) king_steps) from any)))
-  | inr other ↦ other
-]
+no-castle c wing a b any = false_from_ne_true (eqb a (king_home c) && eqb b (king_target c wing)) (λ castles.
+    let both = and_parts (eqb a (king_home c)) (eqb b (king_target c wing)) castles in
+    no-leap c wing (rw (eqb-true a (king_home c) both.0, eqb-true b (king_target c wing) both.1) at any))
 
 steps-effect : (p : Setup) (a b : ℕ) → (b ≡ a → ⊥) → Any (Leaps a b) king_steps → effect_as King p (goes a b) ≡ Plain
 steps-effect p a b leaves any =
@@ -58,9 +53,8 @@ steps-effect p a b leaves any =
 castles-effect : (p : Setup) (c : Colour) (wing : Wing) (a b : ℕ) → p.side ≡ c → a ≡ king_home c → b ≡ king_target c wing →
     effect_as King p (goes a b) ≡ Castle wing
 castles-effect p White KingSide a b side from to = rw (side, from, to) refl
-castles-effect p White QueenSide a b side from to = rw (side, from, to) refl
-castles-effect p Black KingSide a b side from to = rw (side, from, to) refl
-castles-effect p Black QueenSide a b side from to = rw (side, from, to) refl
+castles-effect p c QueenSide a b side from to = rw (side, from, to) refl
+castles-effect p c wing a b side from to = rw (side, from, to) refl
 
 -- a king steps, or castles
 king-known : (p : Setup) (a b : ℕ) → man_at p.board a ≡ Some (man p.side King) → Comes p King a b → Known p a b (effect_as King p (goes a b))
@@ -81,8 +75,5 @@ king-known p a b stands (inr (from, (wing, (to, castles)))) =
 pub known : (p : Setup) (a b : ℕ) (k : Kind) → man_at p.board a ≡ Some (man p.side k) → Comes p k a b → IsKnown p k b →
     Known p a b (effect_as k p (goes a b))
 known p a b King stands comes is = king-known p a b stands comes
-known p a b Queen stands comes is = plainly p a b Queen stands refl comes refl comes.1 (λ e. absurd (cc))
-known p a b Rook stands comes is = plainly p a b Rook stands refl comes refl comes.1 (λ e. absurd (cc))
-known p a b Bishop stands comes is = plainly p a b Bishop stands refl comes refl comes.1 (λ e. absurd (cc))
-known p a b Knight stands comes is = plainly p a b Knight stands refl comes refl comes.1 (λ e. absurd (cc))
 known p a b Pawn stands comes is = pawn-known p a b stands is comes
+known p a b k stands comes is = plainly p a b k stands refl comes refl comes.1 (λ e. absurd (cc))

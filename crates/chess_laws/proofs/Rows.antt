@@ -1,10 +1,14 @@
 -- The tables of steps say what the steps are, square by square.
-use Rattle.std.proofs.Common.{◌≡◌, ℕ, ◌<◌, true, List, Option, Some, None, refl, ◌∙◌, ap, arith}
+use Rattle.std.proofs.Common.{◌≡◌, ℕ, ◌<◌, Bool, true, List, Option, Some, None, refl, ◌∙◌, ap, arith}
 use Rattle.std.specs.Prelude.{SomeIff}
 use Rattle.std.proofs.lemmas.Bool.{agree_below, agree_below_at, eqb-true, leb-true}
 use Rattle.chess_laws.specs.Geometry.{shift}
 use Rattle.chess_laws.specs.Rays.{offset_at, entry, is_named, names_all, target_by}
 use Rattle.chess_laws.proofs.Walks.{shift-on_board}
+
+-- what a table of two sides says of all pairs, it says of one
+pub pair-at : (test : ℕ → ℕ → Bool) (n m a b : ℕ) → agree_below (λ a. agree_below (test a) (λ b. true) m) (λ a. true) n ≡ true → a < n → b < m → test a b ≡ true
+pair-at test n m a b all a_less b_less = agree_below_at (test a) (λ b. true) m b (agree_below_at (λ a. agree_below (test a) (λ b. true) m) (λ a. true) n a all a_less) b_less
 
 named : (x y : Option ℕ) (t : ℕ) → ((z : ℕ) → y ≡ Some z → z < 64) → is_named y t ≡ true → SomeIff x (t < 64) t → x ≡ y
 named None None t board h iff = refl
@@ -17,6 +21,4 @@ pub target-named : (table : List (List ℕ)) (row s : ℕ) (x : Option ℕ) → 
     names_all table ≡ true → row < 16 → s < 64 → x ≡ shift (offset_at row) s
 unfolding names_all
 target-named table row s x iff all row_less s_less =
-    let rows = agree_below_at (λ row. agree_below (λ s. is_named (target_by row s) (entry table row s)) (λ s. true) 64) (λ row. true) 16 row all row_less in
-    let here = agree_below_at (λ s. is_named (target_by row s) (entry table row s)) (λ s. true) 64 s rows s_less in
-    named x (target_by row s) (entry table row s) (shift-on_board (offset_at row) s) here iff
+    named x (target_by row s) (entry table row s) (shift-on_board (offset_at row) s) (pair-at (λ row s. is_named (target_by row s) (entry table row s)) 16 64 row s all row_less s_less) iff

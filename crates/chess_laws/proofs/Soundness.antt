@@ -1,7 +1,6 @@
 -- A setup that passes the tests keeps the rules of a position.
 use Rattle.std.proofs.Common.{Option, length, ◌<◌, leb, ◌≡◌, ℕ, ◌≤◌, Bool, true, false, ◌&&◌, IsTrue, ◌↔◌, count_by, refl, sym, ◌∙◌, arith}
-use Rattle.std.proofs.lemmas.Bool.{false≢true}
-use Rattle.std.proofs.lemmas.Bool.Decides.{nat_tests}
+use Rattle.std.proofs.lemmas.Bool.{and_parts, le-leb, leb-true}
 use Rattle.cell_core.specs.declared.man.Colour.{Colour}
 use Rattle.cell_core.specs.declared.man.Colour.TheVariants.{White, Black}
 use Rattle.cell_core.specs.declared.man.Kind.TheVariants.{King, Rook}
@@ -19,23 +18,12 @@ pub few_men : (men : Men) → count_by (is_of White) men ≤ 16 → count_by (is
 few_men men white black White = white
 few_men men white black Black = black
 
-leb-true : (n m : ℕ) → leb n m ≡ true → n ≤ m
-leb-true n m h = grind (arith, nat_tests)
-
-true-leb : (n m : ℕ) → n ≤ m → leb n m ≡ true
-true-leb n m h = grind (arith, nat_tests)
-
 pub few_white : (men : Men) (n : ℕ) → 16 < n → n ≡ count_by (is_of White) men → IsTrue (leb n 16) ↔ HasFewMen men
-few_white men n more is = (
-  (λ h. let less : n ≤ 16 = leb-true n 16 h in absurd (omega arith)),
-  (λ few. let less = few White in absurd (omega arith)),
-)
+few_white men n more is = ((λ h. absurd (omega (arith, leb-true n 16 h))), (λ few. absurd (omega (arith, few White))))
 
 pub few_black : (men : Men) (w n : ℕ) → w ≤ 16 → w ≡ count_by (is_of White) men → n ≡ count_by (is_of Black) men → IsTrue (leb n 16) ↔ HasFewMen men
-few_black men w n white at is = (
-  (λ h. let less : n ≤ 16 = leb-true n 16 h in few_men men (omega arith) (omega arith)),
-  (λ few. let less : n ≤ 16 = rw is (few Black) in true-leb n 16 less),
-)
+few_black men w n white at is =
+    ((λ h. few_men men (omega arith) (omega (arith, leb-true n 16 h))), (λ few. le-leb n 16 (omega (arith, few Black))))
 
 pub both_kings : (men : Men) → count_by (is_man White King) men ≡ 1 → count_by (is_man Black King) men ≡ 1 → HasKings men
 both_kings men white black White = white
@@ -48,19 +36,15 @@ checked men c s one at = (
   (λ h. let same : h.0 ≡ s = king-only men c h.0 one h.1 ∙ sym at in rw (← same) h.2),
 )
 
-both : (a b : Bool) → IsTrue (a && b) → IsTrue a × IsTrue b
-both true true h = (refl, refl)
-both true false h = absurd (false≢true h)
-both false b h = absurd (false≢true h)
-
 at-home : (men : Men) (c : Colour) (w : Wing) (bit : Bool) → IsTrue (bit && is_at_home men c w) → StandAtHome men c w
 at-home men c w bit h =
-    let r = both bit (is_at_home men c w) h in
-    let s = both (is_man c King (man_at men (king_home c))) (is_man c Rook (man_at men (rook_home c w))) r.1 in
-    record { king = is_man-Some c King (man_at men (king_home c)) s.0; rook = is_man-Some c Rook (man_at men (rook_home c w)) s.1 }
+    let king = is_man c King (man_at men (king_home c)) in
+    let rook = is_man c Rook (man_at men (rook_home c w)) in
+    let both = and_parts king rook (and_parts bit (king && rook) h).1 in
+    record { king = is_man-Some c King (man_at men (king_home c)) both.0; rook = is_man-Some c Rook (man_at men (rook_home c w)) both.1 }
 
 -- the rights that are left stand
-pub rights_fit : (men : Men) (bits : ℕ) (c : Colour) (w : Wing) → IsTrue (has_right (rights_of men bits) c w) → StandAtHome men c w
+rights_fit : (men : Men) (bits : ℕ) (c : Colour) (w : Wing) → IsTrue (has_right (rights_of men bits) c w) → StandAtHome men c w
 rights_fit men bits White KingSide h = at-home men White KingSide (has_bit bits 0) h
 rights_fit men bits White QueenSide h = at-home men White QueenSide (has_bit bits 1) h
 rights_fit men bits Black KingSide h = at-home men Black KingSide (has_bit bits 2) h
@@ -70,12 +54,5 @@ rights_fit men bits Black QueenSide h = at-home men Black QueenSide (has_bit bit
 pub sound_of : (men : Men) (c : Colour) (bits : ℕ) (r : Rights) (square : Option ℕ) → length men ≡ 64 → HasKings men → HasPawnsInside men → HasFewMen men
     → (IsInCheck men (other c) → ⊥) → r ≡ rights_of men bits → HasFitEnPassant c square → Sound (record { board = men; side = c; rights = r; en_passant = square })
 sound_of men c bits r square len kings pawns few quiet is fit =
-    record {
-      squares = len;
-      kings = kings;
-      pawns = pawns;
-      few = few;
-      not_in_check = quiet;
-      rights = λ d w h. rights_fit men bits d w (rw is at h);
-      en_passant = fit;
-    }
+    let rights = λ (d : Colour) (w : Wing) (h : IsTrue (has_right r d w)). rights_fit men bits d w (rw is at h) in
+    record { squares = len; kings = kings; pawns = pawns; few = few; not_in_check = quiet; rights = rights; en_passant = fit }

@@ -1,6 +1,6 @@
 -- The initial position keeps the rules, by computing.
-use Rattle.std.proofs.Common.{◌+◌, ◌≡◌, ℕ, zero, suc, ◌<◌, Bool, false, Option, Some, None, refl, sym, ◌∙◌, ap, arith}
-use Rattle.std.proofs.lemmas.Bool.{false≢true}
+use Rattle.std.proofs.Common.{◌+◌, ◌≡◌, ℕ, Bool, false, Option, Some, None, refl, sym, ◌∙◌, ap, arith}
+use Rattle.std.proofs.lemmas.Bool.{agree_below_at, false≢true}
 use Rattle.cell_core.specs.declared.man.Colour.TheVariants.{White, Black}
 use Rattle.cell_core.specs.declared.man.Kind.TheVariants.{Pawn}
 use Rattle.cell_core.specs.declared.man.Man.{Man}
@@ -19,17 +19,6 @@ not-in-check : IsInCheck start_men Black → ⊥
 unfolding in_check_now attacks_now some_below leaps_now walks_now runs_now shift
 not-in-check check = false≢true ((in_check-Decides start_men Black).1 check)
 
-below-8 : (P : ℕ → Type 0) → P 0 → P 1 → P 2 → P 3 → P 4 → P 5 → P 6 → P 7 → (f : ℕ) → f < 8 → P f
-below-8 P a b c d e f g h zero less = a
-below-8 P a b c d e f g h (suc zero) less = b
-below-8 P a b c d e f g h (suc (suc zero)) less = c
-below-8 P a b c d e f g h (suc (suc (suc zero))) less = d
-below-8 P a b c d e f g h (suc (suc (suc (suc zero)))) less = e
-below-8 P a b c d e f g h (suc (suc (suc (suc (suc zero))))) less = f
-below-8 P a b c d e f g h (suc (suc (suc (suc (suc (suc zero)))))) less = g
-below-8 P a b c d e f g h (suc (suc (suc (suc (suc (suc (suc zero))))))) less = h
-below-8 P a b c d e f g h (suc (suc (suc (suc (suc (suc (suc (suc n)))))))) less = absurd (omega arith)
-
 pawn : Option Man → Bool
 pawn None = false
 pawn (Some m) = same_kind m.kind Pawn
@@ -41,8 +30,8 @@ no-pawn s h c e = false≢true (sym h ∙ ap pawn e)
 pawns : Clear start_men 8
 unfolding pawn
 pawns = record {
-  first = below-8 (NoPawn start_men) (no-pawn 0 refl) (no-pawn 1 refl) (no-pawn 2 refl) (no-pawn 3 refl) (no-pawn 4 refl) (no-pawn 5 refl) (no-pawn 6 refl) (no-pawn 7 refl);
-  last = below-8 (λ f. NoPawn start_men (56 + f)) (no-pawn 56 refl) (no-pawn 57 refl) (no-pawn 58 refl) (no-pawn 59 refl) (no-pawn 60 refl) (no-pawn 61 refl) (no-pawn 62 refl) (no-pawn 63 refl);
+  first = λ f less. no-pawn f (agree_below_at (λ s. pawn (man_at start_men s)) (λ s. false) 8 f refl less);
+  last = λ f less. no-pawn (56 + f) (agree_below_at (λ s. pawn (man_at start_men (56 + s))) (λ s. false) 8 f refl less);
   squares = λ more. refl;
 }
 

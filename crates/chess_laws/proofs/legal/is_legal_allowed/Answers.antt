@@ -25,11 +25,7 @@ returns-else-stays_safe c =
     rw c.requires.effect at c.requires.allowed in (
       λ h. (
         after c.args.p.now c.args.m.now (effect_of c.args.p.now c.args.m.now),
-        record {
-          allowed = case;
-          becomes = refl;
-          safe = rw c.requires.effect at (c.is_safe_after.ensures.0 h);
-        },
+        record { allowed = case; becomes = refl; safe = rw c.requires.effect at (c.is_safe_after.ensures.0 h) },
       ),
       λ legal. c.is_safe_after.ensures.1 (rw c.requires.effect (legal-safe c.args.p.now c.args.m.now legal)),
     )
