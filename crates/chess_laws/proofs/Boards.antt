@@ -12,9 +12,9 @@ use Rattle.cell_core.specs.declared.man.Man.{Man}
 use Rattle.cell_core.specs.Board.{Men, man_at, put}
 use Rattle.cell_core.specs.Man.{man, other, same_kind, is_man, is_of}
 use Rattle.chess_laws.specs.Geometry.{rank_of}
-use Rattle.chess_laws.specs.Position.{HasKings, HasPawnsInside, HasFewMen}
+use Rattle.chess_laws.specs.Position.{HasKings, HasPawnsInside, HasFewMen, king_square}
 use Rattle.chess_laws.specs.LegalTests.{IsOnlyKing}
-use Rattle.chess_laws.proofs.Kings.{is_man-Some, king-only}
+use Rattle.chess_laws.proofs.Kings.{is_man-Some, king-only, king-stands}
 
 pub put-same : (men : Men) (s : ℕ) (x : Option Man) → length men ≡ 64 → s < 64 → man_at (put men s x) s ≡ x
 put-same men s x l h = get_or-set_same men s x None (omega arith)
@@ -34,22 +34,12 @@ pub count-put : (p : Option Man → Bool) (men : Men) (s : ℕ) (x : Option Man)
     count_by p (put men s x) + one_if (p (man_at men s)) ≡ count_by p men + one_if (p x)
 count-put p men s x l h = sum_by-set (λ y. cond (p y) 1 0) men s x None (omega arith)
 
-colour_or : Option Man → Colour → Colour
-colour_or None c = c
-colour_or (Some m) c = m.colour
-
-kind_or : Option Man → Kind → Kind
-kind_or None k = k
-kind_or (Some m) k = m.kind
-
 -- men are the same only where their colours and their kinds are
 pub man-colour : (c d : Colour) (k j : Kind) → Some (man c k) ≡ Some (man d j) → d ≡ c
-unfolding colour_or
-man-colour c d k j h = sym (ap (λ x. colour_or x c) h)
+man-colour c d k j h = let e : man c k ≡ man d j = cc in sym (ap (λ (x : Man). x.colour) e)
 
 pub man-kind : (c d : Colour) (k j : Kind) → Some (man c k) ≡ Some (man d j) → k ≡ j
-unfolding kind_or
-man-kind c d k j h = ap (λ x. kind_or x k) h
+man-kind c d k j h = let e : man c k ≡ man d j = cc in ap (λ (x : Man). x.kind) e
 
 pub same_kind-true : (a b : Kind) → same_kind a b ≡ true → a ≡ b
 same_kind-true a b h = man-kind White White a b (is_man-Some White b (Some (man White a)) h)
@@ -64,9 +54,8 @@ other-other Black = refl
 
 pub colour_cases : (c d : Colour) → (c ≡ d) ⊎ (c ≡ other d)
 colour_cases White White = inl refl
-colour_cases White Black = inr refl
-colour_cases Black White = inr refl
 colour_cases Black Black = inl refl
+colour_cases c d = inr refl
 
 -- no square past the last holds a man
 pub on_board : (men : Men) (s : ℕ) (m : Man) → length men ≡ 64 → man_at men s ≡ Some m → s < 64
@@ -172,3 +161,6 @@ pub only-king : (men : Men) (c : Colour) (s : ℕ) → HasKings men → man_at m
 only-king men c s kings stands =
     let here = king-only men c s (kings c) stands in
     record { stands = stands; only = λ t other. king-only men c t (kings c) other ∙ sym here }
+
+pub first-only : (men : Men) (c : Colour) (s : ℕ) → HasKings men → s ≡ king_square men c → IsOnlyKing men c s
+first-only men c s kings at = only-king men c s kings (rw at (king-stands men c (kings c)))

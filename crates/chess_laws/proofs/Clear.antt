@@ -143,13 +143,9 @@ slides-told men c k s on word Squares test less is both seen told = (
       let found = told.0 h in
       let any = found.1.1 in
       let walk : Runs men s found.0 any.1 = any.4 in
-      let stands : Slider men c k found.0 = (slider-bit men c k found.0).0 (rw (← is) ((both found.0).0 found.1.0).1) in (
-        any.0,
-        any.1,
-        any.2,
-        any.3,
-        record { from = found.0; on_board = walk-ends men any.1 walk.0 s found.0 walk.1; stands = stands; target = less; runs = walk },
-      ),
+      let stands = (slider-bit men c k found.0).0 (rw (← is) ((both found.0).0 found.1.0).1) in
+      let on_board = walk-ends men any.1 walk.0 s found.0 walk.1 in
+      (any.0, any.1, any.2, any.3, record { from = found.0; on_board = on_board; stands = stands; target = less; runs = walk }),
   λ any.
       let l = any.4 in
       let runs : Any (Runs men s l.from) (slides k) = (any.0, any.1, any.2, any.3, l.runs) in
@@ -169,18 +165,14 @@ along-told men c row s on word Squares test row_less less is both seen lies told
       let found = told.0 h in
       let slide = any-slide (glider row) (Runs men s found.0) found.1.1 in
       let bits = (both found.0).0 found.1.0 in
+      let on_board = walk-ends men (offset_at slide.row) slide.holds.0 s found.0 slide.holds.1 in
       let on_line = line-walk men slide.row slide.holds.0 s found.0 slide.less slide.holds.1 in
-      let is_line = lies found.0 (walk-ends men (offset_at slide.row) slide.holds.0 s found.0 slide.holds.1) bits.0 in
-      let same : slide.row ≡ row = cc in
-      let walk : Runs men s found.0 (offset_at row) = rw same at slide.holds in
-      record { from = found.0; on_board = walk-ends men (offset_at row) walk.0 s found.0 walk.1; stands = (slider-bit men c (glider row) found.0).0 (rw (← is) bits.1); target = less; runs = walk },
-  λ l. told.1 (
-    l.from,
-    (
-      (both l.from).1 (seen l.from l.runs, rw is ((slider-bit men c (glider row) l.from).1 l.stands)),
-      slide-any (glider row) (Runs men s l.from) row row_less (glider-glides row row_less) l.runs,
-    ),
-  ),
+      let same : slide.row ≡ row = cc (lies found.0 on_board bits.0) in
+      let stands = (slider-bit men c (glider row) found.0).0 (rw (← is) bits.1) in
+      record { from = found.0; on_board = on_board; stands = stands; target = less; runs = rw same at slide.holds },
+  λ l.
+      let squares = (both l.from).1 (seen l.from l.runs, rw is ((slider-bit men c (glider row) l.from).1 l.stands)) in
+      told.1 (l.from, (squares, slide-any (glider row) (Runs men s l.from) row row_less (glider-glides row row_less) l.runs)),
 )
 
 -- a table has all squares on the lines by which a kind of man slides

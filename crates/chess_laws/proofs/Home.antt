@@ -23,24 +23,20 @@ pub record Bits (test : ℕ → Bool) (n k : ℕ) : Type 0 where
 pub bits_yes : (test : ℕ → Bool) (n k : ℕ) → k < 16 → test k ≡ true → Bits test n k → Bits test (bit_or n (1 * 2 ^ k % 2 ^ bits w16)) (k + 1)
 bits_yes test n k less passes b =
     record {
-      done = λ v within below.
-          elim (cases_eq v k) [
-            | inl e ↦ rw (e, passes) (bit_at_set_same w16 n k less)
-            | inr d ↦ bit_at_set_other w16 n k less v d ∙ b.done v within (omega arith)
-          ];
-      rest = λ v within above.
-          let d : v ≢ k = omega arith in
-          bit_at_set_other w16 n k less v d ∙ b.rest v within (omega arith);
+      done = λ v within below. elim (cases_eq v k) [
+        | inl e ↦ rw (e, passes) (bit_at_set_same w16 n k less)
+        | inr d ↦ bit_at_set_other w16 n k less v d ∙ b.done v within (omega arith)
+      ];
+      rest = λ v within above. bit_at_set_other w16 n k less v (omega arith) ∙ b.rest v within (omega arith);
     }
 
 pub bits_no : (test : ℕ → Bool) (n k : ℕ) → k < 16 → test k ≡ false → Bits test n k → Bits test n (k + 1)
 bits_no test n k less fails b =
     record {
-      done = λ v within below.
-          elim (cases_eq v k) [
-            | inl e ↦ rw (e, fails) (b.rest k less (omega arith))
-            | inr d ↦ b.done v within (omega arith)
-          ];
+      done = λ v within below. elim (cases_eq v k) [
+        | inl e ↦ rw (e, fails) (b.rest k less (omega arith))
+        | inr d ↦ b.done v within (omega arith)
+      ];
       rest = λ v within above. b.rest v within (omega arith);
     }
 
@@ -80,34 +76,34 @@ rows black white = bit_or (bit_and (black / 2 ^ 40) 65280) (bit_and (white / 2 ^
 
 row-above : (black white j : ℕ) → 8 ≤ j → j < 16 → bit_at (rows black white) j ≡ bit_at black (40 + j)
 row-above black white j from below =
-    let inside : bit_at 65280 j ≡ 1 = bit_at_mask_inside 8 16 j from below in
-    let outside : bit_at 255 j ≡ 0 = bit_at_ones_above 8 j from in
-    let there : bit_at (black / 2 ^ 40) j ≡ bit_at black (40 + j) = rw (shr-shr black 40 j) refl in
+    let b = black / 2 ^ 40 in
+    let w = white / 2 ^ 8 in
+    let there : bit_at b j ≡ bit_at black (40 + j) = rw (shr-shr black 40 j) refl in
     omega (
       arith,
-      bit_at_or (bit_and (black / 2 ^ 40) 65280) (bit_and (white / 2 ^ 8) 255) j,
-      bit_at_and (black / 2 ^ 40) 65280 j,
-      bit_at_and (white / 2 ^ 8) 255 j,
-      inside,
-      outside,
       there,
-      bit_at-lt (black / 2 ^ 40) j,
+      bit_at_or (bit_and b 65280) (bit_and w 255) j,
+      bit_at_and b 65280 j,
+      bit_at_and w 255 j,
+      bit_at_mask_inside 8 16 j from below,
+      bit_at_ones_above 8 j from,
+      bit_at-lt b j,
     )
 
 row-below : (black white j : ℕ) → j < 8 → bit_at (rows black white) j ≡ bit_at white (8 + j)
 row-below black white j below =
-    let outside : bit_at 65280 j ≡ 0 = bit_at_mask_below 8 16 j below in
-    let inside : bit_at 255 j ≡ 1 = bit_at_ones 8 j below in
-    let there : bit_at (white / 2 ^ 8) j ≡ bit_at white (8 + j) = rw (shr-shr white 8 j) refl in
+    let b = black / 2 ^ 40 in
+    let w = white / 2 ^ 8 in
+    let there : bit_at w j ≡ bit_at white (8 + j) = rw (shr-shr white 8 j) refl in
     omega (
       arith,
-      bit_at_or (bit_and (black / 2 ^ 40) 65280) (bit_and (white / 2 ^ 8) 255) j,
-      bit_at_and (black / 2 ^ 40) 65280 j,
-      bit_at_and (white / 2 ^ 8) 255 j,
-      inside,
-      outside,
       there,
-      bit_at-lt (white / 2 ^ 8) j,
+      bit_at_or (bit_and b 65280) (bit_and w 255) j,
+      bit_at_and b 65280 j,
+      bit_at_and w 255 j,
+      bit_at_mask_below 8 16 j below,
+      bit_at_ones 8 j below,
+      bit_at-lt w j,
     )
 
 pub home-bit : (men : Men) (black white v : ℕ) → black ≡ set_of (is_man Black Pawn) men → white ≡ set_of (is_man White Pawn) men → v < 16

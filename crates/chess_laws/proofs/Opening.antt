@@ -1,6 +1,6 @@
 -- What a move opens: an attack after it was there before, or comes from its target, or runs over the square that it left.
-use Rattle.std.proofs.Common.{◌≡◌, ℕ, zero, suc, ◌<◌, ◌⊎◌, inl, inr, ◌↔◌, IsTrue, Bool, true, false, ltb, Some, None, length, refl, sym, ◌∙◌, ap, arith}
-use Rattle.std.specs.Prelude.{Any}
+use Rattle.std.proofs.Common.{◌≡◌, ℕ, zero, suc, ◌<◌, [], ◌∷◌, lit<, ◌⊎◌, inl, inr, ◌↔◌, IsTrue, Bool, true, false, ltb, Some, None, length, refl, sym, ◌∙◌, ap, arith}
+use Rattle.std.specs.Prelude.{Any, slice_index_or}
 use Rattle.std.proofs.lemmas.Bool.{cases_Bool, cases_eq, false≢true}
 use Rattle.std.specs.Bool.{Decides}
 use Rattle.std.proofs.lemmas.Bool.Decides.{nat_tests, same_from_decides}
@@ -69,16 +69,13 @@ record Turn (row : ℕ) : Type 0 where
   is : offset_at back ≡ reversed (offset_at row)
   glides : glider back ≡ glider row
 
+abbrev row_turned : ℕ → ℕ
+row_turned row = slice_index_or (1 ∷ 0 ∷ 3 ∷ 2 ∷ 7 ∷ 6 ∷ 5 ∷ 4 ∷ []) row 0
+
 turn : (row : ℕ) → row < 8 → Turn row
-turn zero less = record { back = 1; less = omega arith; is = refl; glides = refl }
-turn (suc zero) less = record { back = 0; less = omega arith; is = refl; glides = refl }
-turn (suc (suc zero)) less = record { back = 3; less = omega arith; is = refl; glides = refl }
-turn (suc (suc (suc zero))) less = record { back = 2; less = omega arith; is = refl; glides = refl }
-turn (suc (suc (suc (suc zero)))) less = record { back = 7; less = omega arith; is = refl; glides = refl }
-turn (suc (suc (suc (suc (suc zero))))) less = record { back = 6; less = omega arith; is = refl; glides = refl }
-turn (suc (suc (suc (suc (suc (suc zero)))))) less = record { back = 5; less = omega arith; is = refl; glides = refl }
-turn (suc (suc (suc (suc (suc (suc (suc zero))))))) less = record { back = 4; less = omega arith; is = refl; glides = refl }
+turn (suc (suc (suc (suc (suc (suc (suc zero))))))) less = record { back = row_turned 7; less = lit< tt; is = refl; glides = refl }
 turn (suc (suc (suc (suc (suc (suc (suc (suc row)))))))) less = absurd (omega arith)
+turn row less = record { back = row_turned row; less = lit< tt; is = refl; glides = refl }
 
 -- so a walk over the square that was left opens the line, seen from its end
 opens-over : (men new : Men) (c : Colour) (k : Kind) (row a f s : ℕ) → row < 8 → glides k row ≡ true → f < 64 → man_at men f ≡ Some (man c k) →
@@ -121,28 +118,17 @@ calm-going p m e sound is quiet case = going p m e sound is case (λ n. false≢
 
 calm-board : (p : Setup) (m : Move) (e : Effect) → is_calm e ≡ true → board_after p m e ≡ moved p m
 calm-board p m Plain quiet = refl
-calm-board p m Double quiet = refl
-calm-board p m e quiet = absurd (false≢true quiet)
+calm-board p m e quiet = cc
 
 moved-empties : (p : Setup) (m : Move) → Going p m → Empties p.board (moved p m) m.from
-moved-empties p m g q apart empty = elim (cases_eq q m.to) [
-  | inl here ↦
-      let full = moved-lands p m g in
-      let empty' = rw here at empty in
-      absurd (cc)
-  | inr away ↦ sym (moved-other p m q apart away) ∙ empty
-]
+moved-empties p m g q apart empty = sym (moved-other p m q apart (λ e. cc (moved-lands p m g))) ∙ empty
 
 -- every man stands where it stood, but for the one on the target
 moved-stands : (p : Setup) (m : Move) → Going p m → (q : ℕ) (x : Man) → (q ≡ m.to → ⊥) → man_at (moved p m) q ≡ Some x → man_at p.board q ≡ Some x
-moved-stands p m g q x away stands = elim (cases_eq q m.from) [
-  | inl here ↦
-      let gone = put-other (put p.board m.from None) m.to q (arriving p m m.promo) away in
-      let source = on_board p.board m.from (man p.side g.kind) g.goes.squares g.goes.from in
-      let empty : man_at (put p.board m.from None) q ≡ None = rw here (put-same p.board m.from None g.goes.squares source) in
-      absurd (cc)
-  | inr apart ↦ sym (moved-other p m q apart away) ∙ stands
-]
+moved-stands p m g q x away stands =
+    let source = on_board p.board m.from (man p.side g.kind) g.goes.squares g.goes.from in
+    let kept = put-other (put p.board m.from None) m.to q (arriving p m m.promo) away in
+    sym (moved-other p m q (λ e. cc (kept, put-same p.board m.from None g.goes.squares source)) away) ∙ stands
 
 -- where no line to a square is opened, and the man that came does not hit it, who attacks it did so before
 attack-before : (p : Setup) (m : Move) (c : Colour) (s : ℕ) → Going p m → (Opens p.board c m.from s → ⊥) → (Hits (moved p m) c m.to s → ⊥) →
