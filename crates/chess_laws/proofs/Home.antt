@@ -52,8 +52,7 @@ onto-above zero n a j = ap (bit_at a) (omega arith)
 onto-above (suc k) n a j =
     let next : suc k + j ≡ k + suc j = omega arith in
     let half : (a * 2 + n % 2) / 2 ≡ a = omega arith in
-    ap (bit_at (reverse_bits_onto k (n / 2) (a * 2 + n % 2))) next ∙ onto-above k (n / 2) (a * 2 + n % 2) (suc j)
-    ∙ bit_at-suc (a * 2 + n % 2) j ∙ ap (λ m. bit_at m j) half
+    rw (next, onto-above k (n / 2) (a * 2 + n % 2) (suc j), bit_at-suc (a * 2 + n % 2) j, half) refl
 
 onto-below : (k n a i : ℕ) → i < k → bit_at (reverse_bits_onto k n a) i ≡ bit_at n (k - 1 - i)
 unfolding reverse_bits_onto
@@ -66,8 +65,7 @@ onto-below (suc k) n a i less = elim (cases_lt i k) [
       let here : i ≡ k + 0 = omega (arith, less, last) in
       let first : suc k - 1 - i ≡ 0 = omega (arith, less, last) in
       let lowest : (a * 2 + n % 2) % 2 ≡ n % 2 = omega arith in
-      ap (bit_at (reverse_bits_onto k (n / 2) (a * 2 + n % 2))) here ∙ onto-above k (n / 2) (a * 2 + n % 2) 0
-      ∙ bit_at_lowest (a * 2 + n % 2) ∙ lowest ∙ sym (bit_at_lowest n) ∙ ap (bit_at n) (sym first)
+      rw (first, here, onto-above k (n / 2) (a * 2 + n % 2) 0, bit_at_lowest (a * 2 + n % 2), lowest, bit_at_lowest n) refl
 ]
 
 -- The bits of both rows of squares.
@@ -77,34 +75,20 @@ rows black white = bit_or (bit_and (black / 2 ^ 40) 65280) (bit_and (white / 2 ^
 row-above : (black white j : ℕ) → 8 ≤ j → j < 16 → bit_at (rows black white) j ≡ bit_at black (40 + j)
 row-above black white j from below =
     let b = black / 2 ^ 40 in
-    let w = white / 2 ^ 8 in
     let there : bit_at b j ≡ bit_at black (40 + j) = rw (shr-shr black 40 j) refl in
-    omega (
-      arith,
-      there,
-      bit_at_or (bit_and b 65280) (bit_and w 255) j,
-      bit_at_and b 65280 j,
-      bit_at_and w 255 j,
-      bit_at_mask_inside 8 16 j from below,
-      bit_at_ones_above 8 j from,
-      bit_at-lt b j,
-    )
+    let both = bit_at_or (bit_and b 65280) (bit_and (white / 2 ^ 8) 255) j in
+    let upper = bit_at_and b 65280 j in
+    let lower = bit_at_and (white / 2 ^ 8) 255 j in
+    omega (arith, bit_at_mask_inside 8 16 j from below, bit_at_ones_above 8 j from, bit_at-lt b j)
 
 row-below : (black white j : ℕ) → j < 8 → bit_at (rows black white) j ≡ bit_at white (8 + j)
 row-below black white j below =
-    let b = black / 2 ^ 40 in
     let w = white / 2 ^ 8 in
     let there : bit_at w j ≡ bit_at white (8 + j) = rw (shr-shr white 8 j) refl in
-    omega (
-      arith,
-      there,
-      bit_at_or (bit_and b 65280) (bit_and w 255) j,
-      bit_at_and b 65280 j,
-      bit_at_and w 255 j,
-      bit_at_mask_below 8 16 j below,
-      bit_at_ones 8 j below,
-      bit_at-lt w j,
-    )
+    let both = bit_at_or (bit_and (black / 2 ^ 40) 65280) (bit_and w 255) j in
+    let upper = bit_at_and (black / 2 ^ 40) 65280 j in
+    let lower = bit_at_and w 255 j in
+    omega (arith, bit_at_mask_below 8 16 j below, bit_at_ones 8 j below, bit_at-lt w j)
 
 pub home-bit : (men : Men) (black white v : ℕ) → black ≡ set_of (is_man Black Pawn) men → white ≡ set_of (is_man White Pawn) men → v < 16
     → bit_at (reverse_bits w16 (rows black white)) v ≡ cond (is_home men v) 1 0

@@ -73,6 +73,9 @@ legal-allowed p m (q, step) = step.allowed
 pub legal-safe : (p : Setup) (m : Move) → Legal p m → IsInCheck (board_after p m (effect_of p m)) p.side → ⊥
 legal-safe p m (q, step) check = step.safe (rw step.becomes check)
 
+pub legal-of : (p : Setup) (m : Move) → Case p m (effect_of p m) → (IsInCheck (board_after p m (effect_of p m)) p.side → ⊥) → Legal p m
+legal-of p m case safe = (after p m (effect_of p m), record { allowed = case; becomes = refl; safe = safe })
+
 pub Sound-after : (p : Setup) (m : Move) → Sound p → Legal p m → Sound (after p m (effect_of p m))
 Sound-after p m sound legal = Sound-step p m sound (legal-allowed p m legal) (legal-safe p m legal)
 
