@@ -11,8 +11,10 @@ use Rattle.cell_core.specs.declared.man.Kind.TheVariants.{King, Pawn}
 use Rattle.cell_core.specs.declared.man.Man.{Man}
 use Rattle.cell_core.specs.Board.{Men, man_at, put}
 use Rattle.cell_core.specs.Man.{man, other, same_kind, is_man, is_of}
+use Rattle.chess_laws.specs.declared.setup.Setup.{Setup}
+use Rattle.chess_laws.specs.Attacks.{IsInCheck}
 use Rattle.chess_laws.specs.Geometry.{rank_of}
-use Rattle.chess_laws.specs.Position.{HasKings, HasPawnsInside, HasFewMen, king_square}
+use Rattle.chess_laws.specs.Position.{Sound, HasKings, HasPawnsInside, HasFewMen, HasFitRights, HasFitEnPassant, king_square}
 use Rattle.chess_laws.specs.LegalTests.{IsOnlyKing}
 use Rattle.chess_laws.proofs.Kings.{is_man-Some, king-only, king-stands}
 
@@ -118,6 +120,10 @@ pub record Kept (men : Men) : Type 0 where
   pub kings : HasKings men
   pub pawns : HasPawnsInside men
   pub few : HasFewMen men
+
+pub Sound-kept : (p : Setup) → Kept p.board → (IsInCheck p.board (other p.side) → ⊥) → HasFitRights p → HasFitEnPassant p.side p.en_passant → Sound p
+Sound-kept p k quiet rights fits =
+    record { squares = k.squares; kings = k.kings; pawns = k.pawns; few = k.few; not_in_check = quiet; rights = rights; en_passant = fits }
 
 pub Kept-goes : (men : Men) (a b : ℕ) (c : Colour) (k j : Kind) → Kept men → Goes men a b c k j → (j ≡ Pawn → Inside b) →
     Kept (relocate men a b (Some (man c j)))

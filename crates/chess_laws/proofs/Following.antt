@@ -1,7 +1,8 @@
 -- A legal move leads from a position within the rules to one within the rules.
 use Rattle.std.proofs.Common.{◌≡◌, ℕ, ◌<◌, inl, inr, ◌&&◌, not, eqb, false, Some, None, IsTrue, refl, sym, ◌∙◌, ap, arith}
 use Rattle.std.specs.Prelude.{Any}
-use Rattle.std.proofs.lemmas.Bool.{eqb-false, and_parts, or_parts, not-true}
+use Rattle.std.proofs.lemmas.Bool.{eqb-false}
+use Rattle.std.proofs.lemmas.Bool.Decides.{nat_tests}
 use Rattle.cell_core.specs.declared.man.Colour.{Colour}
 use Rattle.cell_core.specs.declared.man.Colour.TheVariants.{White, Black}
 use Rattle.cell_core.specs.declared.man.Kind.{Kind}
@@ -24,7 +25,7 @@ use Rattle.chess_laws.specs.Step.{effect_of, GoesPlainly, PassingCase, CastleCas
 use Rattle.chess_laws.specs.LegalTests.{slides}
 use Rattle.chess_laws.proofs.Shifts.{shift-Some}
 use Rattle.chess_laws.proofs.Running.{walk-ends}
-use Rattle.chess_laws.proofs.Boards.{man-colour, man-kind, put-other, relocate-stays, other-other, on_board, Goes, free-goes, Inside, Kept, Kept-goes, Kept-away}
+use Rattle.chess_laws.proofs.Boards.{man-colour, man-kind, put-other, relocate-stays, other-other, on_board, Goes, free-goes, Inside, Kept, Sound-kept, Kept-goes, Kept-away}
 use Rattle.chess_laws.proofs.Keeping.{other-apart, Lands, lands, lands_as, arriving-lands, plain-goes, pawn-ahead, ahead-inside, double-inside, passing-inside, moved-other, castle-squares, castle-apart, castle-crossed, castle-rook_goes}
 
 -- each case ends on the board
@@ -134,40 +135,31 @@ after-stays p m Null sound is case x rests s from to stands = stands
 after-stays p m e sound is case x rests s from to stands =
     rest-stays p m e sound is case (λ n. cc) x rests s (moved-other p m s from to ∙ stands)
 
--- a right that is left: it stood before, and the move touches neither its king's nor its rook's home square
-keeps-stays : (r : Rights) (m : Move) (c : Colour) (w : Wing) → IsTrue (keeps r m c w) →
-    IsTrue (has_right r c w) × (touches m (king_home c) ≡ false) × (touches m (rook_home c w) ≡ false)
-keeps-stays r m c w h =
-    let parts = and_parts (has_right r c w) (not (touches m (king_home c)) && not (touches m (rook_home c w))) h in
-    let apart = and_parts (not (touches m (king_home c))) (not (touches m (rook_home c w))) parts.1 in
-    (parts.0, not-true (touches m (king_home c)) apart.0, not-true (touches m (rook_home c w)) apart.1)
+-- a right that is left: it stood before, and the move begins and ends neither on its king's nor on its rook's home square
+keeps-apart : (r : Rights) (m : Move) (c : Colour) (w : Wing) → IsTrue (keeps r m c w) → IsTrue (has_right r c w)
+    × (king_home c ≡ m.from → ⊥) × (king_home c ≡ m.to → ⊥) × (rook_home c w ≡ m.from → ⊥) × (rook_home c w ≡ m.to → ⊥)
+keeps-apart r m c w h =
+    (grind (arith, nat_tests), λ e. grind (arith, nat_tests), λ e. grind (arith, nat_tests), λ e. grind (arith, nat_tests), λ e. grind (arith, nat_tests))
 
 right-stays : (r : Rights) (m : Move) (c : Colour) (w : Wing) → IsTrue (has_right (rights_after r m) c w) → IsTrue (keeps r m c w)
 right-stays r m White KingSide h = h
 right-stays r m c QueenSide h = h
 right-stays r m c w h = h
 
-untouched : (m : Move) (s : ℕ) → touches m s ≡ false → (s ≡ m.from → ⊥) × (s ≡ m.to → ⊥)
-untouched m s h =
-    let both = or_parts (eqb m.from s) (eqb m.to s) h in
-    (λ e. eqb-false m.from s both.0 (sym e), λ e. eqb-false m.to s both.1 (sym e))
-
 -- king and rook of a right that is left still stand at home: a castling's are those of the side that is not to move
 after-home : (p : Setup) (m : Move) (e : Effect) → Sound p → effect_of p m ≡ e → Case p m e → (c : Colour) (w : Wing) →
     IsTrue (has_right (rights_left p m e) c w) → StandAtHome (board_after p m e) c w
 after-home p m Null sound is case c w h = sound.rights c w h
 after-home p m e sound is case c w h =
-    let stays = keeps-stays p.rights m c w (right-stays p.rights m c w h) in
+    let stays = keeps-apart p.rights m c w (right-stays p.rights m c w h) in
     let home = sound.rights c w stays.0 in
-    let king = untouched m (king_home c) stays.1 in
-    let rook = untouched m (rook_home c w) stays.2 in
     let rests : Rests p m (man c Rook) = record {
       passed = λ h. cc (ap (λ (x : Man). x.kind) h);
-      castles = λ v is' case' h. king.0 (ap (λ (x : Man). king_home x.colour) h ∙ sym (castle-squares p m v case'.stands is').from);
+      castles = λ v is' case' h. stays.1 (ap (λ (x : Man). king_home x.colour) h ∙ sym (castle-squares p m v case'.stands is').from);
     } in
     record {
-      king = after-stays p m e sound is case (man c King) (king-rests p m c) (king_home c) king.0 king.1 home.king;
-      rook = after-stays p m e sound is case (man c Rook) rests (rook_home c w) rook.0 rook.1 home.rook;
+      king = after-stays p m e sound is case (man c King) (king-rests p m c) (king_home c) stays.1 stays.2 home.king;
+      rook = after-stays p m e sound is case (man c Rook) rests (rook_home c w) stays.3 stays.4 home.rook;
     }
 
 after-fits : (p : Setup) (m : Move) (e : Effect) → HasFitEnPassant (other p.side) (en_passant_after p m e)
@@ -178,13 +170,5 @@ after-fits p m e = tt
 pub Sound-step : (p : Setup) (m : Move) → Sound p → Case p m (effect_of p m) →
     (IsInCheck (after p m (effect_of p m)).board p.side → ⊥) → Sound (after p m (effect_of p m))
 Sound-step p m sound case safe =
-    let board = after-kept p m (effect_of p m) sound refl case in
-    record {
-      squares = board.squares;
-      kings = board.kings;
-      pawns = board.pawns;
-      few = board.few;
-      not_in_check = rw (other-other p.side) safe;
-      rights = after-home p m (effect_of p m) sound refl case;
-      en_passant = after-fits p m (effect_of p m);
-    }
+    let e = effect_of p m in
+    Sound-kept (after p m e) (after-kept p m e sound refl case) (rw (other-other p.side) safe) (after-home p m e sound refl case) (after-fits p m e)

@@ -1,7 +1,8 @@
 -- What comes to a square makes one move, whose rule allows it.
-use Rattle.std.proofs.Common.{◌≡◌, ℕ, inl, inr, true, false, ◌&&◌, eqb, Some, refl, sym, ◌∙◌, ap, subst}
+use Rattle.std.proofs.Common.{◌≡◌, ℕ, inl, inr, true, Some, refl, sym, ◌∙◌, ap, subst, arith}
 use Rattle.std.specs.Prelude.{Any}
-use Rattle.std.proofs.lemmas.Bool.{and_parts, eqb-true, false_from_ne_true, false≢true, ne_eqb}
+use Rattle.std.proofs.lemmas.Bool.{false≢true}
+use Rattle.std.proofs.lemmas.Bool.Decides.{nat_tests}
 use Rattle.cell_core.specs.declared.man.Colour.{Colour}
 use Rattle.cell_core.specs.declared.man.Colour.TheVariants.{White, Black}
 use Rattle.cell_core.specs.declared.man.Kind.{Kind}
@@ -41,14 +42,11 @@ no-leap White QueenSide any = false≢true ((any-Decides (leaps_now 4 2) (Leaps 
 no-leap Black KingSide any = false≢true ((any-Decides (leaps_now 60 62) (Leaps 60 62) (leaps-Decides 60 62) king_steps).1 any)
 no-leap Black QueenSide any = false≢true ((any-Decides (leaps_now 60 58) (Leaps 60 58) (leaps-Decides 60 58) king_steps).1 any)
 
-no-castle : (c : Colour) (wing : Wing) (a b : ℕ) → Any (Leaps a b) king_steps → (eqb a (king_home c) && eqb b (king_target c wing)) ≡ false
-no-castle c wing a b any = false_from_ne_true (eqb a (king_home c) && eqb b (king_target c wing)) (λ castles.
-    let both = and_parts (eqb a (king_home c)) (eqb b (king_target c wing)) castles in
-    no-leap c wing (rw (eqb-true a (king_home c) both.0, eqb-true b (king_target c wing) both.1) at any))
-
 steps-effect : (p : Setup) (a b : ℕ) → (b ≡ a → ⊥) → Any (Leaps a b) king_steps → effect_as King p (goes a b) ≡ Plain
 steps-effect p a b leaves any =
-    rw (ne_eqb b a leaves, no-castle p.side KingSide a b any, no-castle p.side QueenSide a b any) refl
+    let near : a ≡ king_home p.side → b ≡ king_target p.side KingSide → ⊥ = λ x y. no-leap p.side KingSide (rw (x, y) at any) in
+    let far : a ≡ king_home p.side → b ≡ king_target p.side QueenSide → ⊥ = λ x y. no-leap p.side QueenSide (rw (x, y) at any) in
+    grind (arith, nat_tests)
 
 castles-effect : (p : Setup) (c : Colour) (wing : Wing) (a b : ℕ) → p.side ≡ c → a ≡ king_home c → b ≡ king_target c wing →
     effect_as King p (goes a b) ≡ Castle wing

@@ -12,6 +12,7 @@ use Rattle.chess_laws.specs.declared.setup.Rights.{Rights}
 use Rattle.chess_laws.specs.Attacks.{Attacks, IsInCheck}
 use Rattle.chess_laws.specs.Castling.{StandAtHome, has_right, king_home, rook_home}
 use Rattle.chess_laws.specs.Position.{Sound, HasPawnsInside, HasFitEnPassant, HasFewMen, HasKings, king_square, is_at_home, rights_of, has_bit}
+use Rattle.chess_laws.proofs.Boards.{Sound-kept}
 use Rattle.chess_laws.proofs.Kings.{king-stands, king-only, is_man-Some}
 
 pub few_men : (men : Men) → count_by (is_of White) men ≤ 16 → count_by (is_of Black) men ≤ 16 → HasFewMen men
@@ -54,5 +55,5 @@ rights_fit men bits Black QueenSide h = at-home men Black QueenSide (has_bit bit
 pub sound_of : (men : Men) (c : Colour) (bits : ℕ) (r : Rights) (square : Option ℕ) → length men ≡ 64 → HasKings men → HasPawnsInside men → HasFewMen men
     → (IsInCheck men (other c) → ⊥) → r ≡ rights_of men bits → HasFitEnPassant c square → Sound (record { board = men; side = c; rights = r; en_passant = square })
 sound_of men c bits r square len kings pawns few quiet is fit =
-    let rights = λ (d : Colour) (w : Wing) (h : IsTrue (has_right r d w)). rights_fit men bits d w (rw is at h) in
-    record { squares = len; kings = kings; pawns = pawns; few = few; not_in_check = quiet; rights = rights; en_passant = fit }
+    Sound-kept (record { board = men; side = c; rights = r; en_passant = square }) (record { squares = len; kings = kings; pawns = pawns; few = few }) quiet
+    (λ d w h. rights_fit men bits d w (rw is at h)) fit
