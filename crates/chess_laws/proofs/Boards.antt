@@ -61,10 +61,7 @@ colour_cases c d = inr refl
 
 -- no square past the last holds a man
 pub on_board : (men : Men) (s : ℕ) (m : Man) → length men ≡ 64 → man_at men s ≡ Some m → s < 64
-on_board men s m l h = elim (cases_lt s 64) [
-  | inl less ↦ less
-  | inr past ↦ let none : man_at men s ≡ None = get_or_past men s None (omega arith) in absurd (cc)
-]
+on_board men s m l h = grind (arith, get_or_past men s None)
 
 -- the board after a man has gone from one square to another, where it may become another
 abbrev pub relocate : Men → ℕ → ℕ → Option Man → Men
@@ -135,13 +132,9 @@ Kept-goes men a b c k j kept g inside =
       squares = length-put (put men a None) b x left;
       kings = λ d.
           let counted = rw (is_man-not d King (man_at men b) (g.no_king d), g.same_king) at (Goes-count men a b c k j g (is_man d King) refl) in
-          let before = kept.kings d in
-          omega arith;
+          omega (arith, kept.kings d);
       pawns = put-pawns (put men a None) b x left g.target (λ d e. inside (man-kind c d j Pawn e)) without;
-      few = λ d.
-          let counted = Goes-count men a b c k j g (is_of d) refl in
-          let before = kept.few d in
-          omega arith;
+      few = λ d. omega (arith, kept.few d, Goes-count men a b c k j g (is_of d) refl);
     }
 
 -- and where a man that is no king is taken away
@@ -153,13 +146,9 @@ Kept-away men s m kept stands kingless =
       squares = length-put men s None kept.squares;
       kings = λ d.
           let counted = rw (is_man-not d King (man_at men s) (kingless d)) at (count-put (is_man d King) men s None kept.squares here) in
-          let before = kept.kings d in
-          omega arith;
+          omega (arith, kept.kings d);
       pawns = put-pawns men s None kept.squares here (λ d e. absurd (cc)) kept.pawns;
-      few = λ d.
-          let counted = count-put (is_of d) men s None kept.squares here in
-          let before = kept.few d in
-          omega arith;
+      few = λ d. omega (arith, kept.few d, count-put (is_of d) men s None kept.squares here);
     }
 
 -- the one king of a colour stands on no other square

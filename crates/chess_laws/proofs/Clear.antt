@@ -76,26 +76,18 @@ told-of table a b all a_less b_less =
     and_parts (is_between table (line a b) a b) (agree_below (λ row. bit_at (entry table row a) b == 1) (is_on (line a b)) 8)
     (pair-at (λ a b. is_between table (line a b) a b && agree_below (λ row. bit_at (entry table row a) b == 1) (is_on (line a b)) 8) 64 64 a b all a_less b_less)
 
-seen-is : (table : List (List ℕ)) (row a b : ℕ) → names_between table ≡ true → row < 8 → a < 64 → b < 64 → eqb (bit_at (entry table row a) b) 1 ≡ is_on (line a b) row
-seen-is table row a b all less a_less b_less =
-    agree_below_at (λ row. bit_at (entry table row a) b == 1) (is_on (line a b)) 8 row (told-of table a b all a_less b_less).1 less
-
-pub seen-run : (table : List (List ℕ)) (row a word : ℕ) → names_between table ≡ true → row < 8 → a < 64 → word ≡ entry table row a
-    → (men : Men) (b : ℕ) → Runs men a b (offset_at row) → bit_at word b ≡ 1
-seen-run table row a word all less a_less is men b (n, walk) =
-    let on = seen-is table row a b all less a_less (walk-ends men (offset_at row) n a b walk) in
-    let here : is_on (line a b) row ≡ true = rw (line-walk men row n a b less walk) (eq-eqb row row refl) in
-    rw is (eqb-true (bit_at (entry table row a) b) 1 (on ∙ here))
-
 on-row : (x : Option ℕ) (row : ℕ) → is_on x row ≡ true → x ≡ Some row
 on-row None row h = absurd (false≢true h)
 on-row (Some r) row h = ap Some (eqb-true r row h)
 
-pub seen-line : (table : List (List ℕ)) (row a word : ℕ) → names_between table ≡ true → row < 8 → a < 64 → word ≡ entry table row a
-    → (b : ℕ) → b < 64 → bit_at word b ≡ 1 → line a b ≡ Some row
-seen-line table row a word all less a_less is b b_less set =
-    let one : bit_at (entry table row a) b ≡ 1 = rw (← is) set in
-    on-row (line a b) row (sym (seen-is table row a b all less a_less b_less) ∙ eq-eqb (bit_at (entry table row a) b) 1 one)
+pub seen-row : (table : List (List ℕ)) (row a word : ℕ) → names_between table ≡ true → row < 8 → a < 64 → word ≡ entry table row a
+    → (b : ℕ) → b < 64 → (bit_at word b ≡ 1) ↔ (line a b ≡ Some row)
+seen-row table row a word all less a_less is b b_less =
+    let told = (told-of table a b all a_less b_less).1 in
+    let same = rw (← is) at (agree_below_at (λ row. bit_at (entry table row a) b == 1) (is_on (line a b)) 8 row told less) in (
+      λ set. on-row (line a b) row (sym same ∙ eq-eqb (bit_at word b) 1 set),
+      λ on. eqb-true (bit_at word b) 1 (same ∙ rw on (eq-eqb row row refl)),
+    )
 
 -- and tells whether the way is clear
 pub clear-told : (table : List (List ℕ)) (row a b word occupied : ℕ) (test : Bool) → names_between table ≡ true → Some row ≡ line a b → a < 64 → b < 64
@@ -103,17 +95,7 @@ pub clear-told : (table : List (List ℕ)) (row a b word occupied : ℕ) (test :
 clear-told table row a b word occupied test all on_line a_less b_less is told men full =
     let on : is_between table (Some row) a b ≡ true = rw (← on_line) at (told-of table a b all a_less b_less).0 in
     let parts = and_parts (eqb (between table row a b) (crossed (offset_at row) 8 b a)) (run [] (offset_at row) 8 b a) on in
-    let same = eqb-true (between table row a b) (crossed (offset_at row) 8 b a) parts.0 in
-    rw (told, is, same, full, run-clear men (offset_at row) 8 a b, parts.1) refl
-
--- what a table has of the lines by which a kind of man slides
-seen-told : (table : List ℕ) (kind : Kind) (row a b : ℕ) → names_seen table kind ≡ true → a < 64 → b < 64 → glides kind row ≡ true → Some row ≡ line a b
-    → bit_at (squares_of table a) b ≡ 1
-unfolding names_seen
-seen-told table kind row a b all a_less b_less is on_line =
-    let here : is_seen kind (squares_of table a) (line a b) b ≡ true =
-    pair-at (λ a b. is_seen kind (squares_of table a) (line a b) b) 64 64 a b all a_less b_less in
-    eqb-true (bit_at (squares_of table a) b) 1 (rw (← on_line, is) at here)
+    rw (told, is, eqb-true (between table row a b) (crossed (offset_at row) 8 b a) parts.0, full, run-clear men (offset_at row) 8 a b, parts.1) refl
 
 -- who slides stands on a square of the set
 abbrev pub Slider : Men → Colour → Kind → ℕ → Type 0
@@ -178,7 +160,9 @@ along-told men c row s on word Squares test row_less less is both seen lies told
 -- a table has all squares on the lines by which a kind of man slides
 pub seen-slides : (table : List ℕ) (kind : Kind) (s : ℕ) (men : Men) → names_seen table kind ≡ true → s < 64
     → (a : ℕ) → Any (Runs men s a) (slides kind) → bit_at (squares_of table s) a ≡ 1
+unfolding names_seen
 seen-slides table kind s men all less a any =
     let slide = any-slide kind (Runs men s a) any in
-    seen-told table kind slide.row s a all less (walk-ends men (offset_at slide.row) slide.holds.0 s a slide.holds.1) slide.glides
-    (sym (line-walk men slide.row slide.holds.0 s a slide.less slide.holds.1))
+    let on_board = walk-ends men (offset_at slide.row) slide.holds.0 s a slide.holds.1 in
+    let here = pair-at (λ a b. is_seen kind (squares_of table a) (line a b) b) 64 64 s a all less on_board in
+    eqb-true (bit_at (squares_of table s) a) 1 (rw (line-walk men slide.row slide.holds.0 s a slide.less slide.holds.1, slide.glides) at here)

@@ -96,12 +96,9 @@ pub plain-no_king : (p : Setup) (m : Move) (k : Kind) → Sound p → man_at p.b
 plain-no_king p m k sound stands g d h = elim (colour_cases d p.side) [
   | inl own ↦ plain-no_own p m k g King (rw own at h)
   | inr enemy ↦
-      let attack : AttacksAs p.board p.side k m.to = record {
-        from = m.from;
-        on_board = on_board p.board m.from (man p.side k) sound.squares stands;
-        stands = stands;
-        reaches = plain-reaches p m k (man d King) g h;
-      } in
+      let less = on_board p.board m.from (man p.side k) sound.squares stands in
+      let attack : AttacksAs p.board p.side k m.to =
+      record { from = m.from; on_board = less; stands = stands; reaches = plain-reaches p m k (man d King) g h } in
       sound.not_in_check (m.to, (rw enemy at h), (rw (other-other p.side) (k, attack)))
 ]
 
