@@ -7,48 +7,35 @@ use Rattle.std.proofs.lemmas.Bool.{cases_eq, cases_lt}
 use Rattle.std.proofs.lemmas.Nat.Bits.{bit_at_or, bit_at-lt, bit_at-zero, bit_at_above}
 
 pub bit-kept : (a b i : ℕ) → bit_at a i ≡ 1 → bit_at (bit_or a b) i ≡ 1
-bit-kept a b i h =
-    let low = bit_at-lt b i in
-    rw (bit_at_or a b i, h) (omega arith)
+bit-kept a b i h = omega (arith, bit_at_or a b i, bit_at-lt b i)
 
--- the bits of a word that is shifted down
-pub bit-shifted : (n k i : ℕ) → k ≤ i → bit_at (n / 2 ^ k) (i - k) ≡ bit_at n i
+-- a bit of a word shifted down is one of the word, and the other way round
+pub bit-there : (n k i : ℕ) → bit_at (n / 2 ^ k) i ≡ 1 → bit_at n (k + i) ≡ 1
+bit-there n k i set = let same : bit_at (n / 2 ^ k) i ≡ bit_at n (k + i) = rw (shr-shr n k i) in sym same ∙ set
+
+bit-shifted : (n k i : ℕ) → k ≤ i → bit_at (n / 2 ^ k) (i - k) ≡ bit_at n i
 bit-shifted n k i h =
     let whole : k + (i - k) ≡ i = omega arith in
     rw (shr-shr n k (i - k), whole)
 
--- a bit that is set in a shifted word stands within the word's 64 bits
+-- a bit that is set stands within the word's 64 bits
+pub bit-less : (n i : ℕ) → n < 2 ^ 64 → bit_at n i ≡ 1 → i < 64
+bit-less n i less h = elim (cases_lt i 64) [
+  | inl within ↦ within
+  | inr above ↦ absurd (omega (arith, bit_at_above n 64 i less above))
+]
+
 pub bit-within : (n k i : ℕ) → n < 2 ^ 64 → bit_at (n / 2 ^ k) i ≡ 1 → k + i < 64
-bit-within n k i less h =
-    elim (cases_lt (k + i) 64) [
-      | inl within ↦ within
-      | inr above ↦
-          let far : bit_at n (k + i) ≡ 0 = bit_at_above n 64 (k + i) less above in
-          let same : bit_at (n / 2 ^ k) i ≡ bit_at n (k + i) = rw (shr-shr n k i) in
-          absurd (omega arith)
-    ]
+bit-within n k i less h = bit-less n (k + i) less (bit-there n k i h)
 
 -- a word that shifts down to 0 has no bit from there on
 pub bit-none : (n k i : ℕ) → n / 2 ^ k ≡ 0 → k ≤ i → bit_at n i ≡ 1 → ⊥
-bit-none n k i none h set =
-    let shifted = bit-shifted n k i h in
-    let zero_bit : bit_at (n / 2 ^ k) (i - k) ≡ 0 = rw none (bit_at-zero (i - k)) in
-    omega arith
+bit-none n k i none h set = omega (arith, rw none at (bit-shifted n k i h), bit_at-zero (i - k))
 
 -- below the lowest bit of a shifted word there is none from there on
 pub bit-first : (n k place : ℕ) → ((i : ℕ) → i < place → bit_at (n / 2 ^ k) i ≡ 0) → (i : ℕ) → k ≤ i → i < k + place → bit_at n i ≡ 1 → ⊥
-bit-first n k place first i h less set =
-    let shifted = bit-shifted n k i h in
-    let zero_bit = first (i - k) (omega arith) in
-    omega arith
+bit-first n k place first i h less set = omega (arith, bit-shifted n k i h, first (i - k) (omega arith))
 
 -- where other bits are as before, a bit of the new word is the one that was set or one of the old
 pub bit-only : (n k i new : ℕ) → ((i ≡ k → ⊥) → bit_at new i ≡ bit_at n i) → bit_at new i ≡ 1 → (bit_at n i ≡ 1) ⊎ (i ≡ k)
-bit-only n k i new other set = elim (cases_eq i k) [
-  | inl same ↦ inr same
-  | inr apart ↦ inl (sym (other apart) ∙ set)
-]
-
--- a bit of a shifted word is one of the word
-pub bit-there : (n k i : ℕ) → bit_at (n / 2 ^ k) i ≡ 1 → bit_at n (k + i) ≡ 1
-bit-there n k i set = let same : bit_at (n / 2 ^ k) i ≡ bit_at n (k + i) = rw (shr-shr n k i) in sym same ∙ set
+bit-only n k i new other set = elim (cases_eq i k) [ inl same ↦ inr same | inr apart ↦ inl (sym (other apart) ∙ set) ]

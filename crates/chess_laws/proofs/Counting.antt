@@ -36,17 +36,8 @@ ten-fewer f (Some m) = by-man m.colour m.kind
   where
     by-man : (c : Colour) (k : Kind) → ten (λ d j. cond (is_man d j (Some (man c k))) (f d j - 1) (f d j)) ≡ fewer (ten f) (Some (man c k))
     by-man White King = refl
-    by-man White Queen = refl
-    by-man White Rook = refl
-    by-man White Bishop = refl
-    by-man White Knight = refl
-    by-man White Pawn = refl
     by-man Black King = refl
-    by-man Black Queen = refl
-    by-man Black Rook = refl
-    by-man Black Bishop = refl
-    by-man Black Knight = refl
-    by-man Black Pawn = refl
+    by-man c k = refl
 
 one-fewer : (b : Bool) (one n before : ℕ) → n + one + one_if b ≡ before + one → n ≡ cond b (before - 1) before
 one-fewer true one n before h = omega arith
@@ -58,19 +49,7 @@ goes-counts men a b c k goes =
     let new = relocate men a b (Some (man c k)) in
     let each : (d : Colour) (j : Kind) → count_of new d j ≡ cond (is_man d j (man_at men b)) (count_of men d j - 1) (count_of men d j) =
     λ d j. one-fewer (is_man d j (man_at men b)) (one_if (is_man d j (Some (man c k)))) (count_of new d j) (count_of men d j) (Goes-count men a b c k k goes (is_man d j) refl) in
-    (rw (
-      each White Queen,
-      each White Rook,
-      each White Bishop,
-      each White Knight,
-      each White Pawn,
-      each Black Queen,
-      each Black Rook,
-      each Black Bishop,
-      each Black Knight,
-      each Black Pawn,
-    ) refl)
-    ∙ ten-fewer (count_of men) (man_at men b)
+    (λ i. ten (λ d j. each d j i)) ∙ ten-fewer (count_of men) (man_at men b)
 
 none-is : (x : Option Kind) → is_none x ≡ true → x ≡ None
 none-is None h = refl

@@ -1,12 +1,12 @@
 -- The tests of the Laws decide what the Laws say.
-use Rattle.std.proofs.Common.{◌≡◌, ℕ, zero, suc, ◌<◌, ◌++◌, Bool, not, ◌&&◌, ◌==◌, IsTrue, Option, Some, None, is_none, List, [], All, Any, refl, sym, ap, subst}
+use Rattle.std.proofs.Common.{◌≡◌, ℕ, zero, suc, ◌<◌, Bool, false, not, ◌&&◌, ◌==◌, IsTrue, Option, Some, None, is_none, List, [], All, Any, refl, sym, ap, subst}
 use Rattle.std.specs.Bool.{Decides}
 use Rattle.std.specs.List.{list_all, list_any}
 use Rattle.std.proofs.lemmas.Bool.Decides.{Decides-and, Decides-or, Decides-not, Decides-like, Decides-eqb, Decides-below_or, Decides-by_and}
 use Rattle.std.proofs.lemmas.List.Folds.{Any-from_list_any, list_any-from_Any}
 use Rattle.cell_core.specs.declared.man.Colour.{Colour}
 use Rattle.cell_core.specs.declared.man.Kind.{Kind}
-use Rattle.cell_core.specs.declared.man.Kind.TheVariants.{King, Queen, Rook, Bishop, Knight, Pawn}
+use Rattle.cell_core.specs.declared.man.Kind.TheVariants.{King, Knight, Pawn}
 use Rattle.cell_core.specs.declared.man.Man.{Man}
 use Rattle.cell_core.specs.declared.step.Move.{Move}
 use Rattle.cell_core.specs.Board.{Men, man_at}
@@ -15,36 +15,38 @@ use Rattle.cell_core.proofs.Same.{same_colour-Decides}
 use Rattle.chess_laws.specs.declared.setup.Setup.{Setup}
 use Rattle.chess_laws.specs.declared.effect.Effect.{Effect}
 use Rattle.chess_laws.specs.declared.effect.Effect.TheVariants.{Plain, Double, Passing, Castle, Null}
-use Rattle.chess_laws.specs.Geometry.{Offset, rank_of, shift, forward, pawn_captures, rook_steps, bishop_steps, knight_steps, king_steps, Leaps, Walk, Runs}
+use Rattle.chess_laws.specs.Geometry.{Offset, rank_of, shift, forward, pawn_captures, knight_steps, king_steps, Leaps, Walk, Runs}
 use Rattle.chess_laws.specs.Attacks.{Attacks, IsInCheck, Reaches}
+use Rattle.chess_laws.specs.LegalTests.{slides}
 use Rattle.chess_laws.specs.Castling.{between, king_path, has_right}
 use Rattle.chess_laws.specs.Step.{board_after, effect_of, after, pawn_rank, passed_square, promotes_rightly, HasNoOwn, GoesPlainly, Case, Legal}
 use Rattle.chess_laws.specs.LegalNow.{some_below, is_square, leaps_now, walks_on, walks_now, runs_now, reaches_now, attacks_from, attacks_now, in_check_now, goes_plainly_now, plain_now, double_now, passing_now, castle_now, null_now, case_now, legal_now}
-use Rattle.chess_laws.proofs.Running.{short-walk, walk-ends}
-use Rattle.chess_laws.proofs.Kings.{is_man-Some, is_man-true}
+use Rattle.chess_laws.proofs.Running.{is_none-Decides, short-walk, walk-ends}
+use Rattle.chess_laws.proofs.Kings.{is_man-Decides}
 
 -- the tests of squares and men
 is_square-Decides : (b : ℕ) (x : Option ℕ) → Decides (is_square b x) (x ≡ Some b)
 is_square-Decides b None = (λ h. absurd (cc), λ h. absurd (cc))
 is_square-Decides b (Some a) = Decides-like (a == b) (λ h. ap Some h) (λ h. cc) (Decides-eqb a b)
 
-is_none-Decides : {A : Type 0} (x : Option A) → Decides (is_none x) (x ≡ None)
-is_none-Decides None = (λ h. refl, λ h. refl)
-is_none-Decides (Some s) = (λ h. absurd (cc), λ h. absurd (cc))
-
-is_man-Decides : (c : Colour) (k : Kind) (x : Option Man) → Decides (is_man c k x) (x ≡ Some (man c k))
-is_man-Decides c k x = (is_man-Some c k x, λ e. rw e (is_man-true c k))
-
 itself : (x : Bool) → Decides x (IsTrue x)
 itself x = (λ h. h, λ h. h)
 
-of_colour : (c : Colour) (m : Man) → m.colour ≡ c → Some m ≡ Some (man c m.kind)
-of_colour c m h = λ i. Some (record { colour = h i; kind = m.kind })
+-- some man of the colour stands there, of whose kind this is true
+of-Decides : (c : Colour) (x : Option Man) (f : Option Man → Bool) (test : Kind → Bool) (P : Kind → Type 0) → f None ≡ false →
+    ((m : Man) → f (Some m) ≡ (same_colour m.colour c && test m.kind)) → ((k : Kind) → Decides (test k) (P k)) →
+    Decides (f x) ((k : Kind) × ((x ≡ Some (man c k)) × P k))
+of-Decides c None f test P none some each = (λ h. absurd (cc), λ h. let e = h.1.0 in absurd (cc))
+of-Decides c (Some m) f test P none some each =
+    let both = Decides-and _ _ (same_colour-Decides m.colour c) (each m.kind) in
+    rw (some m) (
+      λ h. let (same, p) = both.0 h in (m.kind, ((λ i. Some (record { colour = same i; kind = m.kind })), p)),
+      λ h. let (k, (e, p)) = h in let colour : m.colour ≡ c = cc in let kind : k ≡ m.kind = cc in both.1 (colour, rw kind at p),
+    )
 
-is_of-Decides : (c : Colour) (x : Option Man) → Decides (is_of c x) ((k : Kind) × (x ≡ Some (man c k)))
+pub is_of-Decides : (c : Colour) (x : Option Man) → Decides (is_of c x) ((k : Kind) × (x ≡ Some (man c k)))
 is_of-Decides c None = (λ h. absurd (cc), λ h. let e = h.1 in absurd (cc))
-is_of-Decides c (Some m) =
-    Decides-like (same_colour m.colour c) (λ h. (m.kind, of_colour c m h)) (λ h. let e = h.1 in cc) (same_colour-Decides m.colour c)
+is_of-Decides c (Some m) = Decides-like (same_colour m.colour c) (λ h. (m.kind, λ i. Some (record { colour = h i; kind = m.kind }))) (λ h. let e = h.1 in cc) (same_colour-Decides m.colour c)
 
 -- lists
 pub any-Decides : {X : Type 0} (p : X → Bool) (P : X → Type 0) → ((x : X) → Decides (p x) (P x)) → (xs : List X) → Decides (list_any p xs) (Any P xs)
@@ -53,7 +55,7 @@ any-Decides p P each xs = (
   (λ h. let (k, x, less, at, e) = h in list_any-from_Any p xs (k, x, less, at, (each x).1 e)),
 )
 
-pub all-Decides : {X : Type 0} (p : X → Bool) (P : X → Type 0) → ((x : X) → Decides (p x) (P x)) → (xs : List X) → Decides (list_all p xs) (All P xs)
+all-Decides : {X : Type 0} (p : X → Bool) (P : X → Type 0) → ((x : X) → Decides (p x) (P x)) → (xs : List X) → Decides (list_all p xs) (All P xs)
 all-Decides p P each xs = Decides-by_and p P (list_all p) each refl (λ x ys. refl) xs
 
 some_below-Decides : (p : ℕ → Bool) (P : ℕ → Type 0) → ((k : ℕ) → Decides (p k) (P k)) → (n : ℕ) → Decides (some_below p n) ((k : ℕ) × (k < n) × P k)
@@ -69,9 +71,9 @@ walks_on-Decides : (men : Men) (o : Offset) (n b a : ℕ) (x : Option ℕ) → s
     → Decides (walks_on men x (walks_now men o b n)) (Walk men o (suc n) a b)
 walks_on-Decides men o n b a None at rest = (λ h. absurd (cc), λ h. let e = h.1 in absurd (cc))
 walks_on-Decides men o n b a (Some c) at rest =
-    let both = Decides-and (is_none (man_at men c)) (walks_now men o b n c) (is_none-Decides (man_at men c)) (rest c) in (
-      (λ h. let w = both.0 h in (c, at, w.0, w.1)),
-      (λ h. let (d, e, empty, w) = h in let same : d ≡ c = cc in both.1 (rw same at empty, rw same at w)),
+    let both = Decides-and _ _ (is_none-Decides (man_at men c)) (rest c) in (
+      λ h. let (empty, walk) = both.0 h in (c, at, empty, walk),
+      λ h. let (d, e, empty, walk) = h in let same : d ≡ c = cc in both.1 (rw same at empty, rw same at walk),
     )
 
 walks-Decides : (men : Men) (o : Offset) (n a b : ℕ) → Decides (walks_now men o b n a) (Walk men o n a b)
@@ -87,47 +89,25 @@ runs-Decides men a b o =
 
 reaches-Decides : (men : Men) (c : Colour) (k : Kind) (a b : ℕ) → Decides (reaches_now men c k a b) (Reaches men c k a b)
 reaches-Decides men c King a b = any-Decides (leaps_now a b) (Leaps a b) (leaps-Decides a b) king_steps
-reaches-Decides men c Queen a b = any-Decides (runs_now men a b) (Runs men a b) (runs-Decides men a b) (rook_steps ++ bishop_steps)
-reaches-Decides men c Rook a b = any-Decides (runs_now men a b) (Runs men a b) (runs-Decides men a b) rook_steps
-reaches-Decides men c Bishop a b = any-Decides (runs_now men a b) (Runs men a b) (runs-Decides men a b) bishop_steps
 reaches-Decides men c Knight a b = any-Decides (leaps_now a b) (Leaps a b) (leaps-Decides a b) knight_steps
 reaches-Decides men c Pawn a b = any-Decides (leaps_now a b) (Leaps a b) (leaps-Decides a b) (pawn_captures c)
+reaches-Decides men c k a b = any-Decides (runs_now men a b) (Runs men a b) (runs-Decides men a b) (slides k)
 
 -- attacks
-record From (men : Men) (c : Colour) (s a : ℕ) (x : Option Man) : Type 0 where
-  kind : Kind
-  stands : x ≡ Some (man c kind)
-  reaches : Reaches men c kind a s
-
-from-Decides : (men : Men) (c : Colour) (s a : ℕ) (x : Option Man) → Decides (attacks_from men c s a x) (From men c s a x)
-from-Decides men c s a None = (λ h. absurd (cc), λ h. let e = h.stands in absurd (cc))
-from-Decides men c s a (Some m) =
-    let both = Decides-and (same_colour m.colour c) (reaches_now men c m.kind a s) (same_colour-Decides m.colour c) (reaches-Decides men c m.kind a s) in (
-      (λ h. let w = both.0 h in record { kind = m.kind; stands = of_colour c m w.0; reaches = w.1 }),
-      (λ h. let e = h.stands in let colour : m.colour ≡ c = cc in let kind : h.kind ≡ m.kind = cc in both.1 (colour, rw kind at h.reaches)),
-    )
-
 pub attacks-Decides : (men : Men) (c : Colour) (s : ℕ) → Decides (attacks_now men c s) (Attacks men c s)
 unfolding attacks_now
 attacks-Decides men c s =
     Decides-like (attacks_now men c s)
-    (λ h. let (a, less, f) = h in (f.kind, record { from = a; on_board = less; stands = f.stands; reaches = f.reaches }))
-    (λ h. let (k, f) = h in (f.from, f.on_board, record { kind = k; stands = f.stands; reaches = f.reaches }))
-    (some_below-Decides (λ a. attacks_from men c s a (man_at men a)) (λ a. From men c s a (man_at men a)) (λ a. from-Decides men c s a (man_at men a)) 64)
-
-leap-ends : (a b : ℕ) (steps : List Offset) → Any (Leaps a b) steps → b < 64
-leap-ends a b steps (k, o, less, at, h) = walk-ends [] o zero a b h
-
-run-ends : (men : Men) (a b : ℕ) (steps : List Offset) → Any (Runs men a b) steps → b < 64
-run-ends men a b steps (k, o, less, at, h) = walk-ends men o h.0 a b h.1
+    (λ h. let (a, less, (k, (stands, reaches))) = h in (k, record { from = a; on_board = less; stands = stands; reaches = reaches }))
+    (λ h. let (k, f) = h in (f.from, f.on_board, (k, (f.stands, f.reaches))))
+    (some_below-Decides (λ a. attacks_from men c s a (man_at men a)) _
+    (λ a. of-Decides c (man_at men a) (attacks_from men c s a) (λ k. reaches_now men c k a s) _ refl (λ m. refl) (λ k. reaches-Decides men c k a s)) 64)
 
 reach-ends : (men : Men) (c : Colour) (k : Kind) (a b : ℕ) → Reaches men c k a b → b < 64
-reach-ends men c King a b h = leap-ends a b king_steps h
-reach-ends men c Queen a b h = run-ends men a b (rook_steps ++ bishop_steps) h
-reach-ends men c Rook a b h = run-ends men a b rook_steps h
-reach-ends men c Bishop a b h = run-ends men a b bishop_steps h
-reach-ends men c Knight a b h = leap-ends a b knight_steps h
-reach-ends men c Pawn a b h = leap-ends a b (pawn_captures c) h
+reach-ends men c King a b (n, o, less, at, leap) = walk-ends men o zero a b leap
+reach-ends men c Knight a b (n, o, less, at, leap) = walk-ends men o zero a b leap
+reach-ends men c Pawn a b (n, o, less, at, leap) = walk-ends men o zero a b leap
+reach-ends men c k a b (n, o, less, at, (m, walk)) = walk-ends men o m a b walk
 
 pub in_check-Decides : (men : Men) (c : Colour) → Decides (in_check_now men c) (IsInCheck men c)
 unfolding in_check_now
@@ -135,96 +115,54 @@ in_check-Decides men c =
     Decides-like (in_check_now men c)
     (λ h. let (s, less, here) = h in (s, here.0, here.1))
     (λ h. let (s, stands, attacked) = h in (s, reach-ends men (other c) attacked.0 attacked.1.from s attacked.1.reaches, (stands, attacked)))
-    (some_below-Decides (λ s. is_man c King (man_at men s) && attacks_now men (other c) s)
-    (λ s. (man_at men s ≡ Some (man c King)) × Attacks men (other c) s)
-    (λ s. Decides-and (is_man c King (man_at men s)) (attacks_now men (other c) s) (is_man-Decides c King (man_at men s)) (attacks-Decides men (other c) s)) 64)
+    (some_below-Decides (λ s. is_man c King (man_at men s) && attacks_now men (other c) s) _
+    (λ s. Decides-and _ _ (is_man-Decides c King (man_at men s)) (attacks-Decides men (other c) s)) 64)
 
 -- the cases
 no_own-Decides : (men : Men) (c : Colour) (s : ℕ) → Decides (not (is_of c (man_at men s))) (HasNoOwn men c s)
 no_own-Decides men c s =
-    Decides-like (not (is_of c (man_at men s))) (λ h k e. h (k, e)) (λ h e. h e.0 e.1)
-    (Decides-not (is_of c (man_at men s)) (is_of-Decides c (man_at men s)))
+    Decides-like (not (is_of c (man_at men s))) (λ h k e. h (k, e)) (λ h e. h e.0 e.1) (Decides-not _ (is_of-Decides c (man_at men s)))
 
 goes-Decides : (p : Setup) (k : Kind) (m : Move) → Decides (goes_plainly_now p k m) (GoesPlainly p k m)
 goes-Decides p Pawn m =
-    Decides-or (leaps_now m.from m.to (forward p.side) && is_none (man_at p.board m.to))
-    (list_any (leaps_now m.from m.to) (pawn_captures p.side) && is_of (other p.side) (man_at p.board m.to))
-    (Decides-and (leaps_now m.from m.to (forward p.side)) (is_none (man_at p.board m.to)) (leaps-Decides m.from m.to (forward p.side)) (is_none-Decides (man_at p.board m.to)))
-    (Decides-and (list_any (leaps_now m.from m.to) (pawn_captures p.side)) (is_of (other p.side) (man_at p.board m.to))
-    (any-Decides (leaps_now m.from m.to) (Leaps m.from m.to) (leaps-Decides m.from m.to) (pawn_captures p.side)) (is_of-Decides (other p.side) (man_at p.board m.to)))
-goes-Decides p King m = Decides-and (reaches_now p.board p.side King m.from m.to) (not (is_of p.side (man_at p.board m.to))) (reaches-Decides p.board p.side King m.from m.to) (no_own-Decides p.board p.side m.to)
-goes-Decides p Queen m = Decides-and (reaches_now p.board p.side Queen m.from m.to) (not (is_of p.side (man_at p.board m.to))) (reaches-Decides p.board p.side Queen m.from m.to) (no_own-Decides p.board p.side m.to)
-goes-Decides p Rook m = Decides-and (reaches_now p.board p.side Rook m.from m.to) (not (is_of p.side (man_at p.board m.to))) (reaches-Decides p.board p.side Rook m.from m.to) (no_own-Decides p.board p.side m.to)
-goes-Decides p Bishop m = Decides-and (reaches_now p.board p.side Bishop m.from m.to) (not (is_of p.side (man_at p.board m.to))) (reaches-Decides p.board p.side Bishop m.from m.to) (no_own-Decides p.board p.side m.to)
-goes-Decides p Knight m = Decides-and (reaches_now p.board p.side Knight m.from m.to) (not (is_of p.side (man_at p.board m.to))) (reaches-Decides p.board p.side Knight m.from m.to) (no_own-Decides p.board p.side m.to)
-
-record Goes (p : Setup) (m : Move) (x : Option Man) : Type 0 where
-  kind : Kind
-  stands : x ≡ Some (man p.side kind)
-  goes : GoesPlainly p kind m
-  promotes : IsTrue (promotes_rightly p.side kind m)
-
-plain-Decides : (p : Setup) (m : Move) (x : Option Man) → Decides (plain_now p m x) (Goes p m x)
-plain-Decides p m None = (λ h. absurd (cc), λ h. let e = h.stands in absurd (cc))
-plain-Decides p m (Some s) =
-    let both = Decides-and (same_colour s.colour p.side) (goes_plainly_now p s.kind m && promotes_rightly p.side s.kind m) (same_colour-Decides s.colour p.side)
-    (Decides-and (goes_plainly_now p s.kind m) (promotes_rightly p.side s.kind m) (goes-Decides p s.kind m) (itself (promotes_rightly p.side s.kind m))) in (
-      (λ h. let w = both.0 h in record { kind = s.kind; stands = of_colour p.side s w.0; goes = w.1.0; promotes = w.1.1 }),
-      (λ h. let e = h.stands in let colour : s.colour ≡ p.side = cc in let kind : h.kind ≡ s.kind = cc in both.1 (colour, (rw kind at h.goes, rw kind at h.promotes))),
-    )
+    Decides-or _ _ (Decides-and _ _ (leaps-Decides m.from m.to (forward p.side)) (is_none-Decides (man_at p.board m.to)))
+    (Decides-and _ _ (any-Decides _ _ (leaps-Decides m.from m.to) (pawn_captures p.side)) (is_of-Decides (other p.side) (man_at p.board m.to)))
+goes-Decides p k m = Decides-and _ _ (reaches-Decides p.board p.side k m.from m.to) (no_own-Decides p.board p.side m.to)
 
 case-Decides : (p : Setup) (m : Move) (e : Effect) → Decides (case_now p m e) (Case p m e)
 case-Decides p m Plain =
     Decides-like (plain_now p m (man_at p.board m.from))
-    (λ h. record { kind = h.kind; stands = h.stands; goes = h.goes; promotes = h.promotes })
-    (λ h. record { kind = h.kind; stands = h.stands; goes = h.goes; promotes = h.promotes })
-    (plain-Decides p m (man_at p.board m.from))
+    (λ h. let (k, (stands, (goes, promotes))) = h in record { kind = k; stands = stands; goes = goes; promotes = promotes })
+    (λ h. (h.kind, (h.stands, (h.goes, h.promotes))))
+    (of-Decides p.side (man_at p.board m.from) (plain_now p m) (λ k. goes_plainly_now p k m && promotes_rightly p.side k m) _ refl (λ s. refl)
+    (λ k. Decides-and _ _ (goes-Decides p k m) (itself (promotes_rightly p.side k m))))
 case-Decides p m Double =
     Decides-like (double_now p m)
     (λ h. record { stands = h.0; own_rank = h.1.0; walks = h.1.1.0; target = h.1.1.1.0; promo = h.1.1.1.1 })
     (λ h. (h.stands, (h.own_rank, (h.walks, (h.target, h.promo)))))
-    (Decides-and (is_man p.side Pawn (man_at p.board m.from)) ((rank_of m.from == pawn_rank p.side) && (walks_now p.board (forward p.side) m.to 1 m.from && (is_none (man_at p.board m.to) && is_none m.promo)))
-    (is_man-Decides p.side Pawn (man_at p.board m.from))
-    (Decides-and (rank_of m.from == pawn_rank p.side) (walks_now p.board (forward p.side) m.to 1 m.from && (is_none (man_at p.board m.to) && is_none m.promo))
-    (Decides-eqb (rank_of m.from) (pawn_rank p.side))
-    (Decides-and (walks_now p.board (forward p.side) m.to 1 m.from) (is_none (man_at p.board m.to) && is_none m.promo)
-    (walks-Decides p.board (forward p.side) 1 m.from m.to)
-    (Decides-and (is_none (man_at p.board m.to)) (is_none m.promo) (is_none-Decides (man_at p.board m.to)) (is_none-Decides m.promo)))))
+    (Decides-and _ _ (is_man-Decides p.side Pawn (man_at p.board m.from)) (Decides-and _ _ (Decides-eqb (rank_of m.from) (pawn_rank p.side))
+    (Decides-and _ _ (walks-Decides p.board (forward p.side) 1 m.from m.to)
+    (Decides-and _ _ (is_none-Decides (man_at p.board m.to)) (is_none-Decides m.promo)))))
 case-Decides p m Passing =
     Decides-like (passing_now p m)
     (λ h. record { stands = h.0; goes = h.1.0; target = h.1.1.0; empty = h.1.1.1.0; passed = h.1.1.1.1.0; promo = h.1.1.1.1.1 })
     (λ h. (h.stands, (h.goes, (h.target, (h.empty, (h.passed, h.promo))))))
-    (Decides-and (is_man p.side Pawn (man_at p.board m.from)) (list_any (leaps_now m.from m.to) (pawn_captures p.side) && (is_square m.to p.en_passant && (is_none (man_at p.board m.to) && (is_man (other p.side) Pawn (man_at p.board (passed_square m)) && is_none m.promo))))
-    (is_man-Decides p.side Pawn (man_at p.board m.from))
-    (Decides-and (list_any (leaps_now m.from m.to) (pawn_captures p.side)) (is_square m.to p.en_passant && (is_none (man_at p.board m.to) && (is_man (other p.side) Pawn (man_at p.board (passed_square m)) && is_none m.promo)))
-    (any-Decides (leaps_now m.from m.to) (Leaps m.from m.to) (leaps-Decides m.from m.to) (pawn_captures p.side))
-    (Decides-and (is_square m.to p.en_passant) (is_none (man_at p.board m.to) && (is_man (other p.side) Pawn (man_at p.board (passed_square m)) && is_none m.promo))
-    (is_square-Decides m.to p.en_passant)
-    (Decides-and (is_none (man_at p.board m.to)) (is_man (other p.side) Pawn (man_at p.board (passed_square m)) && is_none m.promo)
-    (is_none-Decides (man_at p.board m.to))
-    (Decides-and (is_man (other p.side) Pawn (man_at p.board (passed_square m))) (is_none m.promo)
-    (is_man-Decides (other p.side) Pawn (man_at p.board (passed_square m))) (is_none-Decides m.promo))))))
+    (Decides-and _ _ (is_man-Decides p.side Pawn (man_at p.board m.from)) (Decides-and _ _ (any-Decides _ _ (leaps-Decides m.from m.to) (pawn_captures p.side))
+    (Decides-and _ _ (is_square-Decides m.to p.en_passant) (Decides-and _ _ (is_none-Decides (man_at p.board m.to))
+    (Decides-and _ _ (is_man-Decides (other p.side) Pawn (man_at p.board (passed_square m))) (is_none-Decides m.promo))))))
 case-Decides p m (Castle wing) =
     Decides-like (castle_now p m wing)
     (λ h. record { stands = h.0; right = h.1.0; empty = h.1.1.0; safe = h.1.1.1.0; promo = h.1.1.1.1 })
     (λ h. (h.stands, (h.right, (h.empty, (h.safe, h.promo)))))
-    (Decides-and (is_man p.side King (man_at p.board m.from)) (has_right p.rights p.side wing && (list_all (λ s. is_none (man_at p.board s)) (between p.side wing) && (list_all (λ s. not (attacks_now p.board (other p.side) s)) (king_path p.side wing) && is_none m.promo)))
-    (is_man-Decides p.side King (man_at p.board m.from))
-    (Decides-and (has_right p.rights p.side wing) (list_all (λ s. is_none (man_at p.board s)) (between p.side wing) && (list_all (λ s. not (attacks_now p.board (other p.side) s)) (king_path p.side wing) && is_none m.promo))
-    (itself (has_right p.rights p.side wing))
-    (Decides-and (list_all (λ s. is_none (man_at p.board s)) (between p.side wing)) (list_all (λ s. not (attacks_now p.board (other p.side) s)) (king_path p.side wing) && is_none m.promo)
-    (all-Decides (λ s. is_none (man_at p.board s)) (λ s. man_at p.board s ≡ None) (λ s. is_none-Decides (man_at p.board s)) (between p.side wing))
-    (Decides-and (list_all (λ s. not (attacks_now p.board (other p.side) s)) (king_path p.side wing)) (is_none m.promo)
-    (all-Decides (λ s. not (attacks_now p.board (other p.side) s)) (λ s. Attacks p.board (other p.side) s → ⊥) (λ s. Decides-not (attacks_now p.board (other p.side) s) (attacks-Decides p.board (other p.side) s)) (king_path p.side wing))
-    (is_none-Decides m.promo)))))
+    (Decides-and _ _ (is_man-Decides p.side King (man_at p.board m.from)) (Decides-and _ _ (itself (has_right p.rights p.side wing))
+    (Decides-and _ _ (all-Decides _ _ (λ s. is_none-Decides (man_at p.board s)) (between p.side wing))
+    (Decides-and _ _ (all-Decides _ _ (λ s. Decides-not _ (attacks-Decides p.board (other p.side) s)) (king_path p.side wing)) (is_none-Decides m.promo)))))
 case-Decides p m Null =
     Decides-like (null_now p m)
     (λ h. record { stands = h.0; stays = h.1.0; promo = h.1.1.0; safe = h.1.1.1 })
     (λ h. (h.stands, (h.stays, (h.promo, h.safe))))
-    (Decides-and (is_man p.side King (man_at p.board m.from)) ((m.to == m.from) && (is_none m.promo && not (in_check_now p.board p.side)))
-    (is_man-Decides p.side King (man_at p.board m.from))
-    (Decides-and (m.to == m.from) (is_none m.promo && not (in_check_now p.board p.side)) (Decides-eqb m.to m.from)
-    (Decides-and (is_none m.promo) (not (in_check_now p.board p.side)) (is_none-Decides m.promo) (Decides-not (in_check_now p.board p.side) (in_check-Decides p.board p.side)))))
+    (Decides-and _ _ (is_man-Decides p.side King (man_at p.board m.from)) (Decides-and _ _ (Decides-eqb m.to m.from)
+    (Decides-and _ _ (is_none-Decides m.promo) (Decides-not _ (in_check-Decides p.board p.side)))))
 
 -- a move is legal exactly where the test passes
 pub legal-Decides : (p : Setup) (m : Move) → Decides (legal_now p m) (Legal p m)
@@ -233,5 +171,4 @@ legal-Decides p m =
     Decides-like (legal_now p m)
     (λ h. (after p m (effect_of p m), record { allowed = h.0; becomes = refl; safe = h.1 }))
     (λ h. (h.1.allowed, λ e. h.1.safe (subst (λ (q : Setup). IsInCheck q.board p.side) (sym h.1.becomes) e)))
-    (Decides-and (case_now p m (effect_of p m)) (not (in_check_now (board_after p m (effect_of p m)) p.side)) (case-Decides p m (effect_of p m))
-    (Decides-not (in_check_now (board_after p m (effect_of p m)) p.side) (in_check-Decides (board_after p m (effect_of p m)) p.side)))
+    (Decides-and _ _ (case-Decides p m (effect_of p m)) (Decides-not _ (in_check-Decides (board_after p m (effect_of p m)) p.side)))

@@ -1,15 +1,17 @@
 -- The line between two squares: the one queen's step by which a walk may lead from one to the other.
 use Rattle.std.proofs.Common.{◌≡◌, ◌↔◌, ℕ, zero, suc, ◌+◌, ◌*◌, ◌<◌, Bool, true, false, ◌&&◌, ◌||◌, ◌-◌, not, Some, None, IsTrue, length, refl, sym, ◌∙◌, subst, arith}
-use Rattle.std.specs.Prelude.{Any, nat_lt, slice_index_or}
-use Rattle.std.proofs.lemmas.Bool.Decides.{nat_tests}
-use Rattle.std.proofs.lemmas.Bool.{agree_below, agree_below_at, and_parts, false≢true, ltb-true}
-use Rattle.std.proofs.lemmas.List.{get_or_default}
+use Rattle.std.specs.Prelude.{Any}
+use Rattle.std.proofs.lemmas.Bool.Decides.{Decides-and, nat_tests}
+use Rattle.std.specs.List.{list_all, list_any}
+use Rattle.std.proofs.lemmas.Bool.{agree_below, agree_below_at, and_parts, false≢true}
+use Rattle.std.proofs.lemmas.List.Folds.{Any-from_list_any}
+use Rattle.std.proofs.lemmas.List.Sums.{AllPass-from_list_all}
 use Rattle.cell_core.specs.declared.man.Kind.{Kind}
-use Rattle.cell_core.specs.declared.man.Kind.TheVariants.{King, Queen, Rook, Bishop, Knight, Pawn}
+use Rattle.cell_core.specs.declared.man.Kind.TheVariants.{King}
 use Rattle.cell_core.specs.Board.{Men}
-use Rattle.chess_laws.specs.Geometry.{Offset, by, file_of, rank_of, Walk, Runs}
+use Rattle.chess_laws.specs.Geometry.{Offset, file_of, rank_of, Walk, Runs}
 use Rattle.chess_laws.specs.LegalTests.{line, line_of, glides, run, slides}
-use Rattle.chess_laws.specs.Rays.{offset_at, same_offset}
+use Rattle.chess_laws.specs.Rays.{offset_at, row_of, same_offset}
 use Rattle.chess_laws.proofs.Running.{run_is}
 use Rattle.chess_laws.proofs.Shifts.{shift-Some}
 use Rattle.chess_laws.proofs.Walks.{same-offset}
@@ -31,59 +33,26 @@ walk-strides men o (suc n) a b walk =
 -- a walk by a queen's step lies on the line of its ends
 line-row : (row n fa ra fb rb a b : ℕ) → row < 8 → fa ≡ file_of a → ra ≡ rank_of a → fb ≡ file_of b → rb ≡ rank_of b →
     Strides (suc n) (offset_at row) a b → line_of fa ra fb rb ≡ Some row
-line-row zero n fa ra fb rb a b less h1 h2 h3 h4 s = let f = s.files in let r = s.ranks in grind (arith, nat_tests)
-line-row (suc zero) n fa ra fb rb a b less h1 h2 h3 h4 s = let f = s.files in let r = s.ranks in grind (arith, nat_tests)
-line-row (suc (suc zero)) n fa ra fb rb a b less h1 h2 h3 h4 s = let f = s.files in let r = s.ranks in grind (arith, nat_tests)
-line-row (suc (suc (suc zero))) n fa ra fb rb a b less h1 h2 h3 h4 s = let f = s.files in let r = s.ranks in grind (arith, nat_tests)
-line-row (suc (suc (suc (suc zero)))) n fa ra fb rb a b less h1 h2 h3 h4 s = let f = s.files in let r = s.ranks in grind (arith, nat_tests)
-line-row (suc (suc (suc (suc (suc zero))))) n fa ra fb rb a b less h1 h2 h3 h4 s = let f = s.files in let r = s.ranks in grind (arith, nat_tests)
-line-row (suc (suc (suc (suc (suc (suc zero)))))) n fa ra fb rb a b less h1 h2 h3 h4 s = let f = s.files in let r = s.ranks in grind (arith, nat_tests)
-line-row (suc (suc (suc (suc (suc (suc (suc zero))))))) n fa ra fb rb a b less h1 h2 h3 h4 s = let f = s.files in let r = s.ranks in grind (arith, nat_tests)
 line-row (suc (suc (suc (suc (suc (suc (suc (suc row)))))))) n fa ra fb rb a b less h1 h2 h3 h4 s = absurd (omega arith)
+line-row row n fa ra fb rb a b less h1 h2 h3 h4 s = let f = s.files in let r = s.ranks in grind (arith, nat_tests)
 
 pub line-walk : (men : Men) (row n a b : ℕ) → row < 8 → Walk men (offset_at row) n a b → line a b ≡ Some row
 unfolding line
 line-walk men row n a b less walk =
     line-row row n (file_of a) (rank_of a) (file_of b) (rank_of b) a b less refl refl refl refl (walk-strides men (offset_at row) n a b walk)
 
--- the steps by which a kind of man slides are those of the rows from its first one on; by computing
-first : Kind → ℕ
-first King = 0
-first Queen = 0
-first Rook = 0
-first Bishop = 4
-first Knight = 0
-first Pawn = 0
-
-abbrev step_at : Kind → ℕ → Offset
-step_at kind k = slice_index_or (slides kind) k (by 0 0 0 0)
-
-has-row : (kind : Kind) → agree_below (λ k. glides kind (k + first kind) && same_offset (step_at kind k) (offset_at (k + first kind))) (λ k. true) (length (slides kind)) ≡ true
-unfolding first
+-- the steps by which a kind of man slides are those of the rows by which it does; by computing
+has-row : (kind : Kind) → list_all (λ x. glides kind (row_of x) && same_offset x (offset_at (row_of x))) (slides kind) ≡ true
 has-row King = refl
-has-row Queen = refl
-has-row Rook = refl
-has-row Bishop = refl
-has-row Knight = refl
-has-row Pawn = refl
+has-row k = refl
 
-has-step : (kind : Kind) → agree_below
-    (λ row. not (glides kind row) || (nat_lt (row - first kind) (length (slides kind)) && same_offset (step_at kind (row - first kind)) (offset_at row))) (λ row. true) 8 ≡ true
-unfolding first
+has-step : (kind : Kind) → agree_below (λ row. not (glides kind row) || list_any (same_offset (offset_at row)) (slides kind)) (λ row. true) 8 ≡ true
 has-step King = refl
-has-step Queen = refl
-has-step Rook = refl
-has-step Bishop = refl
-has-step Knight = refl
-has-step Pawn = refl
+has-step k = refl
 
 pub glides-less : (kind : Kind) (row : ℕ) → glides kind row ≡ true → row < 8
-glides-less King row h = absurd (false≢true h)
-glides-less Queen row h = grind (arith, nat_tests)
-glides-less Rook row h = grind (arith, nat_tests)
-glides-less Bishop row h = grind (arith, nat_tests)
-glides-less Knight row h = absurd (false≢true h)
-glides-less Pawn row h = absurd (false≢true h)
+glides-less King row h = absurd (cc)
+glides-less k row h = grind (arith, nat_tests)
 
 -- what holds of some step of a kind of man holds of a row by which it slides
 pub record Slide (kind : Kind) (P : Offset → Type 0) : Type 0 where
@@ -93,23 +62,17 @@ pub record Slide (kind : Kind) (P : Offset → Type 0) : Type 0 where
   pub holds : P (offset_at row)
 
 pub any-slide : (kind : Kind) (P : Offset → Type 0) → Any P (slides kind) → Slide kind P
-any-slide kind P (k, x, less, is, holds) =
-    let both = and_parts (glides kind (k + first kind)) (same_offset (step_at kind k) (offset_at (k + first kind)))
-    (agree_below_at (λ k. glides kind (k + first kind) && same_offset (step_at kind k) (offset_at (k + first kind))) (λ k. true) (length (slides kind)) k (has-row kind) less) in
-    let at : x ≡ offset_at (k + first kind) =
-    sym (get_or_default (slides kind) k (by 0 0 0 0) x less ∙ is) ∙ same-offset (step_at kind k) (offset_at (k + first kind)) both.1 in
-    record { row = k + first kind; glides = both.0; less = glides-less kind (k + first kind) both.0; holds = subst P at holds }
+any-slide k P (n, x, less, is, holds) =
+    let here = AllPass-from_list_all (λ x. glides k (row_of x) && same_offset x (offset_at (row_of x))) (slides k) (has-row k) n x less in
+    let (glides, same) = and_parts (glides k (row_of x)) (same_offset x (offset_at (row_of x))) (rw is at here) in
+    record { row = row_of x; glides = glides; less = glides-less k (row_of x) glides; holds = subst P (same-offset x (offset_at (row_of x)) same) holds }
 
 -- and the other way round
 pub slide-any : (kind : Kind) (P : Offset → Type 0) (row : ℕ) → row < 8 → glides kind row ≡ true → P (offset_at row) → Any P (slides kind)
 slide-any kind P row less is holds =
-    let k = row - first kind in
-    let here : (not (glides kind row) || (nat_lt k (length (slides kind)) && same_offset (step_at kind k) (offset_at row))) ≡ true = agree_below_at
-    (λ row. not (glides kind row) || (nat_lt (row - first kind) (length (slides kind)) && same_offset (step_at kind (row - first kind)) (offset_at row))) (λ row. true) 8 row
-    (has-step kind) less in
-    let both = and_parts (nat_lt k (length (slides kind))) (same_offset (step_at kind k) (offset_at row)) (rw is at here) in
-    let within = ltb-true k (length (slides kind)) both.0 in
-    (k, step_at kind k, within, get_or_default (slides kind) k (step_at kind k) (by 0 0 0 0) within, subst P (sym (same-offset (step_at kind k) (offset_at row) both.1)) holds)
+    let here = agree_below_at (λ row. not (glides kind row) || list_any (same_offset (offset_at row)) (slides kind)) (λ row. true) 8 row (has-step kind) less in
+    let (k, x, within, at, same) = Any-from_list_any (same_offset (offset_at row)) (slides kind) (rw is at here) in
+    (k, x, within, at, subst P (same-offset (offset_at row) x same) holds)
 
 -- so a walk by a step of this kind of man is one by the line's step
 pub runs_none : (men : Men) (kind : Kind) (a b : ℕ) → None ≡ line a b → Any (Runs men a b) (slides kind) → ⊥
@@ -131,5 +94,4 @@ runs_row men kind row a b test some less both = (
 
 pub runs_by : (men : Men) (o : Offset) (a b : ℕ) (first second : Bool) → second ≡ run men o 8 b a →
     IsTrue (first && second) ↔ ((first ≡ true) × Runs men a b o)
-runs_by men o a b true second h = ((λ t. (refl, (run_is men o a b).0 (sym h ∙ t))), (λ both. h ∙ (run_is men o a b).1 both.1))
-runs_by men o a b false second h = ((λ t. absurd (false≢true t)), (λ both. absurd (false≢true both.0)))
+runs_by men o a b first second h = rw h (Decides-and _ _ (λ t. t, λ t. t) (run_is men o a b))

@@ -2,12 +2,12 @@
 use Rattle.std.proofs.Common.{◌≡◌, ℕ, zero, suc, ◌<◌, ◌==◌, ◌&&◌, Bool, true, List, subst, Some, None, sym}
 use Rattle.std.specs.Prelude.{Any}
 use Rattle.std.specs.List.{list_all, list_any}
-use Rattle.std.proofs.lemmas.Bool.{and_parts, eqb-true}
+use Rattle.std.proofs.lemmas.Bool.Decides.{Decides-and, Decides-eqb}
 use Rattle.std.proofs.lemmas.List.Folds.{Any-from_list_any}
 use Rattle.cell_core.specs.Board.{Men, man_at}
 use Rattle.chess_laws.specs.Geometry.{Offset, shift, Leaps, Walk, Runs}
 use Rattle.chess_laws.specs.Rays.{same_offset}
-use Rattle.chess_laws.proofs.Deciding.{all-Decides}
+use Rattle.std.proofs.lemmas.List.Sums.{AllPass-from_list_all}
 use Rattle.chess_laws.proofs.Shifts.{shift-Some, shift-Differ}
 
 -- the step back
@@ -37,23 +37,17 @@ walk-back men o (suc n) a b less (c, f, e, w) =
 -- each of these steps has its step back among those
 pub same-offset : (a b : Offset) → same_offset a b ≡ true → a ≡ b
 same-offset a b h =
-    let both = and_parts ((a.right == b.right) && (a.left == b.left)) ((a.up == b.up) && (a.down == b.down)) h in
-    let files = and_parts (a.right == b.right) (a.left == b.left) both.0 in
-    let ranks = and_parts (a.up == b.up) (a.down == b.down) both.1 in
-    let r = eqb-true a.right b.right files.0 in
-    let l = eqb-true a.left b.left files.1 in
-    let u = eqb-true a.up b.up ranks.0 in
-    let d = eqb-true a.down b.down ranks.1 in
-    λ i. record { right = r i; left = l i; up = u i; down = d i }
+    let same = (Decides-and _ _ (Decides-and _ _ (Decides-eqb a.right b.right) (Decides-eqb a.left b.left))
+    (Decides-and _ _ (Decides-eqb a.up b.up) (Decides-eqb a.down b.down))).0 h in
+    λ i. record { right = same.0.0 i; left = same.0.1 i; up = same.1.0 i; down = same.1.1 i }
 
 abbrev pub turns : List Offset → List Offset → Bool
 turns xs ys = list_all (λ o. list_any (same_offset (reversed o)) ys) xs
 
 turned : (P Q : Offset → Type 0) (xs ys : List Offset) → turns xs ys ≡ true → ((o : Offset) → P o → Q (reversed o)) → Any P xs → Any Q ys
 turned P Q xs ys each turn (k, x, less, at, p) =
-    let all = (all-Decides (λ o. list_any (same_offset (reversed o)) ys) (λ o. list_any (same_offset (reversed o)) ys ≡ true) (λ o. (λ h. h, λ h. h)) xs).0 each in
-    let there = subst (λ o. list_any (same_offset (reversed o)) ys ≡ true) at (all k x less) in
-    let (j, y, within, stands, same) = Any-from_list_any (same_offset (reversed x)) ys there in
+    let there = AllPass-from_list_all (λ o. list_any (same_offset (reversed o)) ys) xs each k x less in
+    let (j, y, within, stands, same) = Any-from_list_any (same_offset (reversed x)) ys (rw at at there) in
     (j, y, within, stands, subst Q (same-offset (reversed x) y same) (turn x p))
 
 pub leaps-turned : (xs ys : List Offset) → turns xs ys ≡ true → (a b : ℕ) → a < 64 → Any (Leaps a b) xs → Any (Leaps b a) ys

@@ -1,11 +1,12 @@
-use Rattle.std.proofs.Common.{IsTrue, false, refl, ◌∙◌}
+use Rattle.std.proofs.Common.{refl, inl, inr, ◌∙◌}
+use Rattle.std.proofs.lemmas.Bool.{false≢true}
 use Rattle.std.specs.Int.RustNames.{bit_or}
 use Rattle.cell_core.specs.declared.man.Kind.TheVariants.{King, Knight, Pawn}
 use Rattle.cell_core.specs.Man.{other}
 use Rattle.chess_laws.specs.Between.{names_seen}
 use Rattle.chess_laws.specs.Geometry.{king_steps, knight_steps, pawn_captures}
 use Rattle.chess_laws.specs.LegalTests.{line}
-use Rattle.chess_laws.proofs.Attackers.{rook-attacks, bishop-attacks, knight-attacks, pawn-attacks, king-attacks, attack-from, last-of}
+use Rattle.chess_laws.proofs.Attackers.{attackers-of, by-attackers}
 use Rattle.chess_laws.proofs.attack.attacks_left.Goals as goal
 
 -- The tables are compared with the definition for any two squares, by computing.
@@ -18,25 +19,25 @@ unfolding line names_seen
 slides-requires-2 c = record { lines = refl }
 
 pub returns-then-slides : goal.returns-then-slides
-returns-then-slides c = λ new l. ((λ h. rook-attacks new c.args.by c.args.s ((c.if-slides.ensures new c.args.by (λ i. bit_or (c.of_kind.ensures new c.args.by l i) (c.of_kind-queens.ensures new c.args.by l i)) (c.occupied.ensures ∙ l.occupied)).0 refl)), (λ h. refl))
+returns-then-slides c = λ new l. (λ h. by-attackers new c.args.by c.args.s (inl ((c.if-slides.ensures new c.args.by (λ i. bit_or (c.of_kind.ensures new c.args.by l i) (c.of_kind-queens.ensures new c.args.by l i)) (c.occupied.ensures ∙ l.occupied)).0 refl)), λ h. refl)
 
 pub returns-then-slides-2 : goal.returns-then-slides-2
-returns-then-slides-2 c = λ new l. ((λ h. bishop-attacks new c.args.by c.args.s ((c.if-slides-2.ensures new c.args.by (λ i. bit_or (c.of_kind-2.ensures new c.args.by l i) (c.of_kind-queens.ensures new c.args.by l i)) (c.occupied-2.ensures ∙ l.occupied)).0 refl)), (λ h. refl))
+returns-then-slides-2 c = λ new l. (λ h. by-attackers new c.args.by c.args.s (inr (inl ((c.if-slides-2.ensures new c.args.by (λ i. bit_or (c.of_kind-2.ensures new c.args.by l i) (c.of_kind-queens.ensures new c.args.by l i)) (c.occupied-2.ensures ∙ l.occupied)).0 refl))), λ h. refl)
 
 pub returns-then-leaps : goal.returns-then-leaps
-returns-then-leaps c = λ new l. ((λ h. knight-attacks new c.args.by c.args.s ((c.if-leaps.ensures new c.args.by Knight c.args.s knight_steps (c.of_kind-3.ensures new c.args.by l) c.knight_squares.ensures.on_board c.knight_squares.ensures.leaps).0 refl)), (λ h. refl))
+returns-then-leaps c = λ new l. (λ h. by-attackers new c.args.by c.args.s (inr (inr (inl ((c.if-leaps.ensures new c.args.by Knight c.args.s knight_steps (c.of_kind-3.ensures new c.args.by l) c.knight_squares.ensures.on_board c.knight_squares.ensures.leaps).0 refl)))), λ h. refl)
 
 pub returns-then-leaps-2 : goal.returns-then-leaps-2
-returns-then-leaps-2 c = λ new l. ((λ h. pawn-attacks new c.args.by c.args.s ((c.if-leaps-2.ensures new c.args.by Pawn c.args.s (pawn_captures (other c.args.by)) (c.of_kind-4.ensures new c.args.by l) c.capture_squares.ensures.on_board (rw (← c.other.ensures.side) c.capture_squares.ensures.leaps)).0 refl)), (λ h. refl))
+returns-then-leaps-2 c = λ new l. (λ h. by-attackers new c.args.by c.args.s (inr (inr (inr (inl ((c.if-leaps-2.ensures new c.args.by Pawn c.args.s (pawn_captures (other c.args.by)) (c.of_kind-4.ensures new c.args.by l) c.capture_squares.ensures.on_board (rw (← c.other.ensures.side) c.capture_squares.ensures.leaps)).0 refl))))), λ h. refl)
 
 pub returns : goal.returns
 returns c = λ new l. (
-  (λ h. king-attacks new c.args.by c.args.s ((c.leaps-3.ensures new c.args.by King c.args.s king_steps (c.of_kind-5.ensures new c.args.by l) c.king_squares.ensures.on_board c.king_squares.ensures.leaps).0 h)),
-  (λ h. last-of (IsTrue c.leaps-3.result) (attack-from new c.args.by c.args.s (IsTrue false) (IsTrue false) (IsTrue false) (IsTrue false) (IsTrue c.leaps-3.result)
-      (c.if-slides.ensures new c.args.by (λ i. bit_or (c.of_kind.ensures new c.args.by l i) (c.of_kind-queens.ensures new c.args.by l i)) (c.occupied.ensures ∙ l.occupied)).1
-      (c.if-slides-2.ensures new c.args.by (λ i. bit_or (c.of_kind-2.ensures new c.args.by l i) (c.of_kind-queens.ensures new c.args.by l i)) (c.occupied-2.ensures ∙ l.occupied)).1
-      (c.if-leaps.ensures new c.args.by Knight c.args.s knight_steps (c.of_kind-3.ensures new c.args.by l) c.knight_squares.ensures.on_board c.knight_squares.ensures.leaps).1
-      (c.if-leaps-2.ensures new c.args.by Pawn c.args.s (pawn_captures (other c.args.by)) (c.of_kind-4.ensures new c.args.by l) c.capture_squares.ensures.on_board (rw (← c.other.ensures.side) c.capture_squares.ensures.leaps)).1
-      (c.leaps-3.ensures new c.args.by King c.args.s king_steps (c.of_kind-5.ensures new c.args.by l) c.king_squares.ensures.on_board c.king_squares.ensures.leaps).1
-      h)),
+  λ h. by-attackers new c.args.by c.args.s (inr (inr (inr (inr ((c.leaps-3.ensures new c.args.by King c.args.s king_steps (c.of_kind-5.ensures new c.args.by l) c.king_squares.ensures.on_board c.king_squares.ensures.leaps).0 h))))),
+  λ h. elim (attackers-of new c.args.by c.args.s h) [
+    | inl any ↦ absurd (false≢true ((c.if-slides.ensures new c.args.by (λ i. bit_or (c.of_kind.ensures new c.args.by l i) (c.of_kind-queens.ensures new c.args.by l i)) (c.occupied.ensures ∙ l.occupied)).1 any))
+    | inr (inl any) ↦ absurd (false≢true ((c.if-slides-2.ensures new c.args.by (λ i. bit_or (c.of_kind-2.ensures new c.args.by l i) (c.of_kind-queens.ensures new c.args.by l i)) (c.occupied-2.ensures ∙ l.occupied)).1 any))
+    | inr (inr (inl any)) ↦ absurd (false≢true ((c.if-leaps.ensures new c.args.by Knight c.args.s knight_steps (c.of_kind-3.ensures new c.args.by l) c.knight_squares.ensures.on_board c.knight_squares.ensures.leaps).1 any))
+    | inr (inr (inr (inl any))) ↦ absurd (false≢true ((c.if-leaps-2.ensures new c.args.by Pawn c.args.s (pawn_captures (other c.args.by)) (c.of_kind-4.ensures new c.args.by l) c.capture_squares.ensures.on_board (rw (← c.other.ensures.side) c.capture_squares.ensures.leaps)).1 any))
+    | inr (inr (inr (inr any))) ↦ (c.leaps-3.ensures new c.args.by King c.args.s king_steps (c.of_kind-5.ensures new c.args.by l) c.king_squares.ensures.on_board c.king_squares.ensures.leaps).1 any
+  ],
 )

@@ -6,7 +6,8 @@ use Rattle.chess_laws.proofs.moves.list_from.Goals as goal
 
 pub returns-in_default-clause-listed : goal.returns-in_default-clause-listed
 returns-in_default-clause-listed g c =
-    lists-no_man c.args.p.now g.row.N c.args.from c.args.into.now.items c.requires.sound c.in_default.ensures c.requires.before
+    lists-no_man c.args.p.now g.row.N c.args.from (c.args.from + 1) c.args.into.now.items c.requires.sound (omega arith)
+    (λ a k low high stands. let same : a ≡ c.args.from = omega arith in c.in_default.ensures k (rw same at stands)) c.requires.before
 
 pub list_to-requires : goal.list_to-requires
 list_to-requires g c =
