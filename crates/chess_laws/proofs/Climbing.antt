@@ -24,11 +24,9 @@ later xs ys d i j k l up_x up_y before within si sk =
     let pi = ap place_of si.same in
     let pk = ap place_of sk.same in
     elim (cases_order j l) [
-      | inl same ↦ let e = ap (λ n. place_of (get_or ys n d)) same in absurd (omega arith)
-      | inr apart ↦ elim apart [
-        | inl less ↦ less
-        | inr more ↦ let back = up_y l j d more si.within in absurd (omega arith)
-      ]
+      | inl same ↦ absurd (omega (arith, ap (λ n. place_of (get_or ys n d)) same))
+      | inr (inl less) ↦ less
+      | inr (inr more) ↦ absurd (omega (arith, up_y l j d more si.within))
     ]
 
 -- so an index only grows

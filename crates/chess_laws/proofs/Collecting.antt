@@ -30,10 +30,10 @@ pub record Collects (men : Men) (c : Colour) (o : Offset) (from : ℕ) (old set 
   pub ahead : (b : ℕ) → run men o 8 b from ≡ true → Has set b ⊎ (run men o (8 - i) b at ≡ true)
 
 -- an empty square joins the set, and the walk goes on
-pub step-collects : (men : Men) (c : Colour) (o : Offset) (from i at next : ℕ) (old set new : SquareSet) → i < 8 → shift o at ≡ Some next → man_at men next ≡ None →
+pub step_collects : (men : Men) (c : Colour) (o : Offset) (from i at next : ℕ) (old set new : SquareSet) → i < 8 → shift o at ≡ Some next → man_at men next ≡ None →
     Has new next → ((b : ℕ) → Has set b → Has new b) → ((b : ℕ) → Has new b → Has set b ⊎ (b ≡ next)) →
     Collects men c o from old set i at → Collects men c o from old new (i + 1) next
-step-collects men c o from i at next old set new less step empty added kept only l = record {
+step_collects men c o from i at next old set new less step empty added kept only l = record {
   kept = λ b was. kept b (l.kept b was);
   fresh = λ b has. elim (only b has) [
     | inl here ↦ l.fresh b here
@@ -47,28 +47,28 @@ step-collects men c o from i at next old set new less step empty added kept only
 }
 
 -- the walk ends at the edge or after its last step
-pub edge-collects : (men : Men) (c : Colour) (o : Offset) (from i at b : ℕ) (old set : SquareSet) → shift o at ≡ None → Collects men c o from old set i at →
+pub edge_collects : (men : Men) (c : Colour) (o : Offset) (from i at b : ℕ) (old set : SquareSet) → shift o at ≡ None → Collects men c o from old set i at →
     run men o 8 b from ≡ true → i < 8 → Has set b
-edge-collects men c o from i at b old set edge l found less = elim (l.ahead b found) [
+edge_collects men c o from i at b old set edge l found less = elim (l.ahead b found) [
   | inl here ↦ here
   | inr ahead ↦ let e = rw (step-on men o i at b less, edge) at ahead in cc
 ]
 
-pub end-collects : (men : Men) (c : Colour) (o : Offset) (from i at b : ℕ) (old set : SquareSet) → 8 ≤ i → Collects men c o from old set i at →
+pub end_collects : (men : Men) (c : Colour) (o : Offset) (from i at b : ℕ) (old set : SquareSet) → 8 ≤ i → Collects men c o from old set i at →
     run men o 8 b from ≡ true → Has set b
 unfolding run
-end-collects men c o from i at b old set more l found = elim (l.ahead b found) [
+end_collects men c o from i at b old set more l found = elim (l.ahead b found) [
   | inl here ↦ here
   | inr ahead ↦ let none : 8 - i ≡ 0 = omega arith in let e = rw none at ahead in cc
 ]
 
 -- or at a man, who is found too
-pub man-collects : (men : Men) (c : Colour) (o : Offset) (from i at next : ℕ) (old set new : SquareSet) → i < 8 → shift o at ≡ Some next → is_some (man_at men next) ≡ true →
+pub man_collects : (men : Men) (c : Colour) (o : Offset) (from i at next : ℕ) (old set new : SquareSet) → i < 8 → shift o at ≡ Some next → is_some (man_at men next) ≡ true →
     (HasNoOwn men c next → Has new next) → ((b : ℕ) → Has set b → Has new b) → ((b : ℕ) → Has new b → Has set b ⊎ ((b ≡ next) × HasNoOwn men c b)) →
     Collects men c o from old set i at →
     ((b : ℕ) → run men o 8 b from ≡ true → HasNoOwn men c b → Has new b)
     × ((b : ℕ) → Has new b → Has old b ⊎ ((run men o 8 b from ≡ true) × HasNoOwn men c b))
-man-collects men c o from i at next old set new less step full added kept only l = (
+man_collects men c o from i at next old set new less step full added kept only l = (
   λ b found free. elim (l.ahead b found) [
     | inl here ↦ kept b here
     | inr ahead ↦ elim ((told men o i at b next less step).0 ahead) [

@@ -21,6 +21,9 @@ use Rattle.chess_laws.specs.Step.{Case, Legal, arriving, effect_of, board_after,
 use Rattle.chess_laws.proofs.Boards.{Goes, Goes-count, length-put, one_if, relocate}
 use Rattle.chess_laws.proofs.Keeping.{castle-crossed, castle-king_goes, castle-rook_goes, castle-squares, plain-no_own, plain-no_king}
 use Rattle.chess_laws.proofs.Following.{case-on_board}
+use Rattle.std.proofs.lemmas.List.Sums.{count_by-le-length}
+use Rattle.cell_core.proofs.Squares.{ones-set_of}
+use Rattle.chess_laws.proofs.Running.{is_none-Decides}
 use Rattle.chess_laws.proofs.MovedKings.{legal-allowed}
 
 -- ten counts, each by its colour and kind
@@ -51,33 +54,21 @@ goes-counts men a b c k goes =
     λ d j. one-fewer (is_man d j (man_at men b)) (one_if (is_man d j (Some (man c k)))) (count_of new d j) (count_of men d j) (Goes-count men a b c k k goes (is_man d j) refl) in
     (λ i. ten (λ d j. each d j i)) ∙ ten-fewer (count_of men) (man_at men b)
 
-none-is : (x : Option Kind) → is_none x ≡ true → x ≡ None
-none-is None h = refl
-none-is (Some k) h = absurd (cc)
+quiet-counts : (p : Setup) (m : Move) (k : Kind) → Sound p → m.to < 64 → m.promo ≡ None → man_at p.board m.from ≡ Some (man p.side k) →
+    ((i : Kind) → man_at p.board m.to ≡ Some (man p.side i) → ⊥) → ((d : Colour) → man_at p.board m.to ≡ Some (man d King) → ⊥) →
+    counts_of (moved p m) ≡ fewer (counts_of p.board) (man_at p.board m.to)
+quiet-counts p m k sound less none stands no_own no_king =
+    rw (none, stands) (goes-counts p.board m.from m.to p.side k
+    (record { squares = sound.squares; from = stands; target = less; no_own = no_own; no_king = no_king; same_king = refl }))
 
 calm-counts : (p : Setup) (m : Move) (e : Effect) → Sound p → effect_of p m ≡ e → takes_target e ≡ true → m.promo ≡ None → Case p m e →
     counts_of (board_after p m e) ≡ fewer (counts_of p.board) (man_at p.board m.to)
 calm-counts p m Plain sound is quiet none case =
-    let goes : Goes p.board m.from m.to p.side case.kind case.kind = record {
-      squares = sound.squares;
-      from = case.stands;
-      target = case-on_board p m Plain sound is case;
-      no_own = plain-no_own p m case.kind case.goes;
-      no_king = plain-no_king p m case.kind sound case.stands case.goes;
-      same_king = refl;
-    } in
-    rw (none, case.stands) (goes-counts p.board m.from m.to p.side case.kind goes)
+    quiet-counts p m case.kind sound (case-on_board p m Plain sound is case) none case.stands (plain-no_own p m case.kind case.goes)
+    (plain-no_king p m case.kind sound case.stands case.goes)
 calm-counts p m Double sound is quiet none case =
-    let goes : Goes p.board m.from m.to p.side Pawn Pawn = record {
-      squares = sound.squares;
-      from = case.stands;
-      target = case-on_board p m Double sound is case;
-      no_own = λ i h. cc case.target;
-      no_king = λ d h. cc case.target;
-      same_king = refl;
-    } in
-    rw (none, case.stands) (goes-counts p.board m.from m.to p.side Pawn goes)
-calm-counts p m Passing sound is quiet none case = absurd (false≢true quiet)
+    quiet-counts p m Pawn sound (case-on_board p m Double sound is case) none case.stands (λ i h. cc case.target) (λ d h. cc case.target)
+calm-counts p m Passing sound is quiet none case = absurd (cc)
 calm-counts p m (Castle wing) sound is quiet none case =
     let at = castle-squares p m wing case.stands is in
     let less : m.to < 64 = case-on_board p m (Castle wing) sound is case in
@@ -88,7 +79,7 @@ calm-counts p m (Castle wing) sound is quiet none case =
     let rook = castle-rook_goes p m wing sound squares at case in
     let second = goes-counts (moved p m) (rook_home p.side wing) (rook_target p.side wing) p.side Rook rook in
     second ∙ ap (fewer (counts_of (moved p m))) (castle-crossed p m wing at case) ∙ first
-calm-counts p m Null sound is quiet none case = absurd (false≢true quiet)
+calm-counts p m Null sound is quiet none case = absurd (cc)
 
 -- the counts after a legal move: those before without the man on its target, or those of the board
 pub counts-after : (p : Setup) (m : Move) (alone : Bool) (new : List ℕ) → Sound p → Legal p m → alone ≡ (takes_target (effect_of p m) && is_none m.promo) →
@@ -96,5 +87,7 @@ pub counts-after : (p : Setup) (m : Move) (alone : Bool) (new : List ℕ) → So
     new ≡ counts_of (board_after p m (effect_of p m))
 counts-after p m true new sound legal is one all =
     let both = and_parts (takes_target (effect_of p m)) (is_none m.promo) (sym is) in
-    one ∙ sym (calm-counts p m (effect_of p m) sound refl both.0 (none-is m.promo both.1) (legal-allowed p m legal))
+    one ∙ sym (calm-counts p m (effect_of p m) sound refl both.0 ((is_none-Decides m.promo).0 both.1) (legal-allowed p m legal))
 counts-after p m false new sound legal is one all = all
+
+pub ruleset ones = (ones-set_of, count_by-le-length)

@@ -1,8 +1,9 @@
 -- The tests of the Laws decide what the Laws say.
-use Rattle.std.proofs.Common.{◌≡◌, ℕ, zero, suc, ◌<◌, Bool, false, not, ◌&&◌, ◌==◌, IsTrue, Option, Some, None, is_none, List, [], All, Any, refl, sym, ap, subst}
+use Rattle.std.proofs.Common.{◌≡◌, ℕ, zero, suc, ◌<◌, Bool, false, not, ◌&&◌, ◌==◌, IsTrue, Option, Some, None, is_none, List, [], All, Any, rules, refl, sym, ap, subst}
 use Rattle.std.specs.Bool.{Decides}
 use Rattle.std.specs.List.{list_all, list_any}
 use Rattle.std.proofs.lemmas.Bool.Decides.{Decides-and, Decides-or, Decides-not, Decides-like, Decides-eqb, Decides-below_or, Decides-by_and}
+use Rattle.std.proofs.lemmas.Bool.{and_parts}
 use Rattle.std.proofs.lemmas.List.Folds.{Any-from_list_any, list_any-from_Any}
 use Rattle.cell_core.specs.declared.man.Colour.{Colour}
 use Rattle.cell_core.specs.declared.man.Kind.{Kind}
@@ -136,13 +137,7 @@ case-Decides p m Plain =
     (λ h. (h.kind, (h.stands, (h.goes, h.promotes))))
     (of-Decides p.side (man_at p.board m.from) (plain_now p m) (λ k. goes_plainly_now p k m && promotes_rightly p.side k m) _ refl (λ s. refl)
     (λ k. Decides-and _ _ (goes-Decides p k m) (itself (promotes_rightly p.side k m))))
-case-Decides p m Double =
-    Decides-like (double_now p m)
-    (λ h. record { stands = h.0; own_rank = h.1.0; walks = h.1.1.0; target = h.1.1.1.0; promo = h.1.1.1.1 })
-    (λ h. (h.stands, (h.own_rank, (h.walks, (h.target, h.promo)))))
-    (Decides-and _ _ (is_man-Decides p.side Pawn (man_at p.board m.from)) (Decides-and _ _ (Decides-eqb (rank_of m.from) (pawn_rank p.side))
-    (Decides-and _ _ (walks-Decides p.board (forward p.side) 1 m.from m.to)
-    (Decides-and _ _ (is_none-Decides (man_at p.board m.to)) (is_none-Decides m.promo)))))
+case-Decides p m Double = search (rules, is_man-Decides, walks-Decides, is_none-Decides, Decides-eqb, and_parts)
 case-Decides p m Passing =
     Decides-like (passing_now p m)
     (λ h. record { stands = h.0; goes = h.1.0; target = h.1.1.0; empty = h.1.1.1.0; passed = h.1.1.1.1.0; promo = h.1.1.1.1.1 })
@@ -157,12 +152,7 @@ case-Decides p m (Castle wing) =
     (Decides-and _ _ (is_man-Decides p.side King (man_at p.board m.from)) (Decides-and _ _ (itself (has_right p.rights p.side wing))
     (Decides-and _ _ (all-Decides _ _ (λ s. is_none-Decides (man_at p.board s)) (between p.side wing))
     (Decides-and _ _ (all-Decides _ _ (λ s. Decides-not _ (attacks-Decides p.board (other p.side) s)) (king_path p.side wing)) (is_none-Decides m.promo)))))
-case-Decides p m Null =
-    Decides-like (null_now p m)
-    (λ h. record { stands = h.0; stays = h.1.0; promo = h.1.1.0; safe = h.1.1.1 })
-    (λ h. (h.stands, (h.stays, (h.promo, h.safe))))
-    (Decides-and _ _ (is_man-Decides p.side King (man_at p.board m.from)) (Decides-and _ _ (Decides-eqb m.to m.from)
-    (Decides-and _ _ (is_none-Decides m.promo) (Decides-not _ (in_check-Decides p.board p.side)))))
+case-Decides p m Null = search (rules, is_man-Decides, Decides-eqb, is_none-Decides, in_check-Decides, Decides-not, and_parts)
 
 -- a move is legal exactly where the test passes
 pub legal-Decides : (p : Setup) (m : Move) → Decides (legal_now p m) (Legal p m)

@@ -68,8 +68,8 @@ pub king-only : (men : Men) (c : Colour) (s : ℕ) → count_by (is_man c King) 
 king-only men c s one h = only-first (is_man c King) men s None refl one (rw h (is_man-true c King))
 
 -- so there is one
-pub first-none : {X : Type 0} (p : X → Bool) (xs : List X) (d : X) → count_by p xs ≡ 1 → None ≡ position p xs → ⊥
-first-none p xs d one h =
+pub first_none : {X : Type 0} (p : X → Bool) (xs : List X) (d : X) → count_by p xs ≡ 1 → None ≡ position p xs → ⊥
+first_none p xs d one h =
     let within = (first-is p xs d (omega arith)).0 in
     let test : ltb (position_or_len p xs) (length xs) ≡ true = grind (arith, nat_tests) in
     let e = rw test at h in cc

@@ -1,12 +1,12 @@
 -- No pawn on the first or the last rank, square by square.
-use Rattle.std.proofs.Common.{◌≡◌, ℕ, ◌+◌, ◌-◌, ◌<◌, inl, inr, Some, None, length, arith}
-use Rattle.std.proofs.lemmas.List.{get_or_past}
+use Rattle.std.proofs.Common.{◌≡◌, ℕ, ◌+◌, ◌-◌, ◌<◌, inl, inr, Some, length, arith}
 use Rattle.std.proofs.lemmas.Bool.{cases_lt}
 use Rattle.cell_core.specs.declared.man.Colour.{Colour}
 use Rattle.cell_core.specs.declared.man.Kind.TheVariants.{Pawn}
 use Rattle.cell_core.specs.Board.{Men, man_at}
 use Rattle.cell_core.specs.Man.{man}
 use Rattle.chess_laws.specs.Position.{HasPawnsInside}
+use Rattle.chess_laws.proofs.Boards.{on_board}
 
 -- no pawn on this square
 abbrev pub NoPawn : Men → ℕ → Type 0
@@ -20,14 +20,11 @@ pub record Clear (men : Men) (k : ℕ) : Type 0 where
 
 pub pawns-inside : (men : Men) → Clear men 8 → HasPawnsInside men
 pawns-inside men b s c e =
-    let len = b.squares (omega arith) in
+    let on = on_board men s (man c Pawn) (b.squares (omega arith)) e in
     elim (cases_lt s 8) [
       | inl low ↦ absurd (b.first s low c e)
       | inr above ↦ elim (cases_lt s 56) [
         | inl below ↦ (omega arith, omega arith)
-        | inr high ↦ elim (cases_lt s 64) [
-          | inl within ↦ let same : 56 + (s - 56) ≡ s = omega arith in absurd (b.last (s - 56) (omega arith) c (rw same e))
-          | inr past ↦ let empty : man_at men s ≡ None = get_or_past men s None (omega arith) in absurd (cc)
-        ]
+        | inr high ↦ let same : 56 + (s - 56) ≡ s = omega arith in absurd (b.last (s - 56) (omega arith) c (rw same e))
       ]
     ]

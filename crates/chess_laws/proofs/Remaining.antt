@@ -1,9 +1,9 @@
 -- What is left of a side's men after a move of the other side.
-use Rattle.std.proofs.Common.{◌≡◌, ℕ, ◌-◌, ◌*◌, ◌%◌, ◌^◌, ◌<◌, false, Some, None, is_some, length, refl, ◌∙◌, ap, arith}
+use Rattle.std.proofs.Common.{◌≡◌, ℕ, ◌-◌, ◌*◌, ◌%◌, ◌^◌, ◌<◌, false, Some, None, is_some, length, refl, sym, ◌∙◌, ap, arith}
 use Rattle.std.specs.Int.RustNames.{bit_and, bit_or}
-use Rattle.std.proofs.lemmas.Nat.Bits.{bit_at_and, same_from_bits}
+use Rattle.std.proofs.lemmas.Bool.Decides.{nat_tests}
+use Rattle.std.proofs.lemmas.Nat.{and_assoc, and_comm}
 use Rattle.cell_core.specs.declared.man.Colour.{Colour}
-use Rattle.cell_core.specs.declared.man.Colour.TheVariants.{White, Black}
 use Rattle.cell_core.specs.declared.man.Kind.{Kind}
 use Rattle.cell_core.specs.Board.{Men, man_at, put}
 use Rattle.cell_core.specs.Man.{is_man, is_of, man, other}
@@ -14,14 +14,7 @@ use Rattle.chess_laws.proofs.Boards.{length-put, put-same}
 
 -- a square is taken out of a set before or after another
 and-last : (a b c : ℕ) → bit_and (bit_and a b) c ≡ bit_and (bit_and a c) b
-and-last a b c =
-    same_from_bits (bit_and (bit_and a b) c) (bit_and (bit_and a c) b)
-    (λ i.
-    let ab = bit_at_and a b i in
-    let ac = bit_at_and a c i in
-    let one = bit_at_and (bit_and a b) c i in
-    let two = bit_at_and (bit_and a c) b i in
-    omega (arith, ab, ac, one, two))
+and-last a b c = and_assoc c a b ∙ ap (bit_and a) (and_comm b c) ∙ sym (and_assoc b a c)
 
 pub leaves-emptied : (men new : Men) (c : Colour) (own full s others : ℕ) → length new ≡ 64 → s < 64 → others ≡ 18446744073709551615 - 1 * 2 ^ s % 18446744073709551616
     → Leaves men c own full new → Leaves men c (bit_and own others) (bit_and full others) (put new s None)
@@ -36,8 +29,7 @@ leaves-emptied men new c own full s others squares less is l = record {
 
 -- a man of the other side belongs to no set of this one
 strange : (c : Colour) (k j : Kind) → is_man (other c) k (Some (man c j)) ≡ false
-strange White k j = refl
-strange Black k j = refl
+strange c k j = grind (arith, nat_tests)
 
 pub leaves-entered : (men new : Men) (c : Colour) (j : Kind) (own full s place : ℕ) → length new ≡ 64 → s < 64 → place ≡ 1 * 2 ^ s % 18446744073709551616
     → Leaves men (other c) own full new → Leaves men (other c) (bit_and own (18446744073709551615 - place)) (bit_or full place) (put new s (Some (man c j)))

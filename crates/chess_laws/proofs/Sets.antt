@@ -40,15 +40,15 @@ pub man-bit : (men : Men) (c : Colour) (k : Kind) (s : ℕ) → man_at men s ≡
 man-bit men c k s stands = (bit-told (is_man c k) refl men s).1 (rw stands (is_man-true c k))
 
 -- a man stands on a square of his colour's set, and none of the colour on a square that is not in it
-pub own-told : (men : Men) (c : Colour) (bits s : ℕ) → bits ≡ set_of (is_of c) men → (bit_at bits s ≡ 1) ↔ ((k : Kind) × (man_at men s ≡ Some (man c k)))
-own-told men c bits s is =
+pub own_told : (men : Men) (c : Colour) (bits s : ℕ) → bits ≡ set_of (is_of c) men → (bit_at bits s ≡ 1) ↔ ((k : Kind) × (man_at men s ≡ Some (man c k)))
+own_told men c bits s is =
     let bit = bit-told (is_of c) refl men s in
     let of = is_of-Decides c (man_at men s) in
     rw is (λ h. of.0 (bit.0 h), λ h. bit.1 (of.1 h))
 
 pub no_own : (men : Men) (c : Colour) (bits s : ℕ) → bits ≡ set_of (is_of c) men → (bit_at bits s ≡ 0) ↔ HasNoOwn men c s
 no_own men c bits s is =
-    let told = own-told men c bits s is in (
+    let told = own_told men c bits s is in (
       λ none k stands. omega (arith, none, told.1 (k, stands)),
       λ none. elim (cases_eq (bit_at bits s) 1) [
         | inl set ↦ let (k, stands) = told.0 set in absurd (none k stands)
@@ -57,9 +57,9 @@ no_own men c bits s is =
     )
 
 -- what is left of a set
-pub without-bits : (n bits : ℕ) → n < 18446744073709551616 → bits < 18446744073709551616 → (s : ℕ)
+pub without_bits : (n bits : ℕ) → n < 18446744073709551616 → bits < 18446744073709551616 → (s : ℕ)
     → (bit_at (bit_and n (18446744073709551615 - bits)) s ≡ 1) ↔ ((bit_at n s ≡ 1) × (bit_at bits s ≡ 0))
-without-bits n bits less fits s =
+without_bits n bits less fits s =
     let both = bit_at_and n (18446744073709551615 - bits) s in
     let one = bit_at-lt n s in
     let two = bit_at-lt bits s in
@@ -70,8 +70,8 @@ without-bits n bits less fits s =
     (λ h. (omega arith, omega arith), λ h. omega (arith, h.0, h.1))
 
 -- the squares that two sets have
-pub both-bits : (n m s : ℕ) → (bit_at (bit_and n m) s ≡ 1) ↔ ((bit_at n s ≡ 1) × (bit_at m s ≡ 1))
-both-bits n m s =
+pub both_bits : (n m s : ℕ) → (bit_at (bit_and n m) s ≡ 1) ↔ ((bit_at n s ≡ 1) × (bit_at m s ≡ 1))
+both_bits n m s =
     let both = bit_at_and n m s in
     let one = bit_at-lt n s in
     let two = bit_at-lt m s in
@@ -84,20 +84,20 @@ some-bit n less some = let lowest = bit_at-trailing_zeros w64 n (omega arith) le
 no-bit : (n s : ℕ) → n ≡ 0 → bit_at n s ≡ 1 → ⊥
 no-bit n s none set = omega (arith, rw none at set, bit_at-zero s)
 
-pub empty-told : (n : ℕ) (test : Bool) → n < 18446744073709551616 → test ≡ eqb n 0 → IsTrue test ↔ ((s : ℕ) → bit_at n s ≡ 1 → ⊥)
-empty-told n test less told = rw told (
+pub empty_told : (n : ℕ) (test : Bool) → n < 18446744073709551616 → test ≡ eqb n 0 → IsTrue test ↔ ((s : ℕ) → bit_at n s ≡ 1 → ⊥)
+empty_told n test less told = rw told (
   λ h s. no-bit n s (eqb-true n 0 h),
   λ none. eq-eqb n 0 (elim (cases_eq n 0) [ inl is ↦ is | inr some ↦ let (s, set) = some-bit n less some in absurd (none s set) ]),
 )
 
 -- whether two words have a bit in common
-pub meets-told : (n m : ℕ) (test : Bool) → n < 18446744073709551616 → test ≡ not (eqb (bit_and n m) 0)
+pub meets_told : (n m : ℕ) (test : Bool) → n < 18446744073709551616 → test ≡ not (eqb (bit_and n m) 0)
     → IsTrue test ↔ ((s : ℕ) × ((bit_at n s ≡ 1) × (bit_at m s ≡ 1)))
-meets-told n m test less told =
+meets_told n m test less told =
     let decides = Decides-not _ (Decides-eqb (bit_and n m) 0) in
     rw told (
-      λ h. let (s, set) = some-bit (bit_and n m) (omega (arith, and_le_l n m)) (decides.0 h) in (s, (both-bits n m s).0 set),
-      λ some. decides.1 (λ none. no-bit (bit_and n m) some.0 none ((both-bits n m some.0).1 some.1)),
+      λ h. let (s, set) = some-bit (bit_and n m) (omega (arith, and_le_l n m)) (decides.0 h) in (s, (both_bits n m s).0 set),
+      λ some. decides.1 (λ none. no-bit (bit_and n m) some.0 none ((both_bits n m some.0).1 some.1)),
     )
 
 -- where men of one kind stand on one of the squares to which steps lead, one leaps
@@ -116,10 +116,10 @@ leapers men c k bits s steps Squares test is less told each = (
 )
 
 -- a table says where steps lead
-pub leap-set : (table : List ℕ) (steps : List Offset) (a b : ℕ) → names_leaps table steps ≡ true → a < 64
+pub leap_set : (table : List ℕ) (steps : List Offset) (a b : ℕ) → names_leaps table steps ≡ true → a < 64
     → (bit_at (squares_of table a) b ≡ 1) ↔ Any (Leaps a b) steps
 unfolding names_leaps
-leap-set table steps a b all a_less =
+leap_set table steps a b all a_less =
     let row = agree_below_at (λ a. ltb (squares_of table a) 18446744073709551616 && agree_below (λ b. bit_at (squares_of table a) b == 1) (λ b. list_any (leaps_now a b) steps) 64) (λ a. true) 64 a all a_less in
     let parts = and_parts (ltb (squares_of table a) 18446744073709551616) _ row in
     let less : squares_of table a < 18446744073709551616 = ltb-true (squares_of table a) 18446744073709551616 parts.0 in
@@ -131,5 +131,5 @@ leap-set table steps a b all a_less =
     )
 
 -- one bit of a word, as the code reads it
-pub has-told : (n s : ℕ) (test : Bool) → test ≡ eqb (bit_and (n / 2 ^ s) 1) 1 → IsTrue test ↔ (bit_at n s ≡ 1)
-has-told n s test told = rw (told, shr_and_one n s) (Decides-eqb (bit_at n s) 1)
+pub has_told : (n s : ℕ) (test : Bool) → test ≡ eqb (bit_and (n / 2 ^ s) 1) 1 → IsTrue test ↔ (bit_at n s ≡ 1)
+has_told n s test told = rw (told, shr_and_one n s) (Decides-eqb (bit_at n s) 1)

@@ -13,10 +13,7 @@ line_at-Some : (line up down : ℕ) (to : ℕ) → line_at line up down ≡ Some
 line_at-Some line up down to h = grind (arith, nat_tests)
 
 line_at-on_board : (line up down to : ℕ) → to + down ≡ line + up → to < 8 → line_at line up down ≡ Some to
-line_at-on_board line up down to h less =
-    let low : leb down (line + up) ≡ true = grind (arith, nat_tests) in
-    let high : ltb (line + up) (8 + down) ≡ true = grind (arith, nat_tests) in
-    rw (low, high) (ap Some (omega arith))
+line_at-on_board line up down to h less = grind (arith, nat_tests)
 
 square_at-Some : (file rank : Option ℕ) (b : ℕ) → square_at file rank ≡ Some b → (f : ℕ) × (r : ℕ) × (file ≡ Some f) × (rank ≡ Some r) × (b ≡ square f r)
 square_at-Some None rank b h = absurd (cc)

@@ -1,11 +1,10 @@
 -- What a move leads to: a legal one to one position alone.
 use Rattle.std.proofs.Common.{◌≡◌, refl, subst, true}
-use Rattle.std.proofs.lemmas.Bool.{false≢true}
 use Rattle.cell_core.specs.Man.{other}
 use Rattle.chess_laws.specs.Castling.{rights_after}
 use Rattle.chess_laws.specs.LegalTests.{is_calm}
 use Rattle.chess_laws.specs.declared.effect.Effect.{Effect}
-use Rattle.chess_laws.specs.declared.effect.Effect.TheVariants.{Plain, Double, Passing, Castle, Null}
+use Rattle.chess_laws.specs.declared.effect.Effect.TheVariants.{Plain, Double}
 use Rattle.cell_core.specs.declared.step.Move.{Move}
 use Rattle.chess_laws.specs.declared.setup.Setup.{Setup}
 use Rattle.chess_laws.specs.Step.{Legal, Step, after, en_passant_after, moved, stepped}
@@ -23,6 +22,4 @@ pub calm-after : (p : Setup) (m : Move) (e : Effect) → is_calm e ≡ true →
     ≡ record { board = moved p m; side = other p.side; rights = rights_after p.rights m; en_passant = en_passant_after p m e }
 calm-after p m Plain h = refl
 calm-after p m Double h = refl
-calm-after p m Passing h = absurd (false≢true h)
-calm-after p m (Castle wing) h = absurd (false≢true h)
-calm-after p m Null h = absurd (false≢true h)
+calm-after p m e h = absurd (cc)

@@ -27,6 +27,7 @@ pub fn attacks(board: &Board, by: Colour, s: Square) -> bool
 }
 
 /// Whether some man of the colour `by` attacks the square `s`, where these of its men are left of the board.
+#[tactic(auto, unfolding(crate::specs::LegalTests::line, crate::specs::Between::names_seen))]
 pub fn attacks_left(board: &Board, left: Left, by: Colour, s: Square) -> bool
     ensures { (new : Men) → Leaves board.now by left.men left.occupied new → IsTrue result ↔ Attacks new by s }
 {

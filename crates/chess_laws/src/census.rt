@@ -9,6 +9,7 @@ ghost use Rattle.chess_laws.specs.Position.{king_square};
 use cell_core::{Board, Colour, Kind, Man, Square};
 
 /// The square of the king of this colour, where there is just one.
+#[tactic(auto, using(crate::proofs::Kings::first_none))]
 pub fn only_king(board: &Board, colour: Colour) -> Option<Square>
     ensures { MatchOption result (count_of board.now colour King ≢ 1) (λ s. (count_of board.now colour King ≡ 1) × (s ≡ king_square board.now colour)) }
 {
@@ -31,6 +32,7 @@ fn first_king(board: &Board, colour: Colour) -> Option<usize>
 }
 
 /// How many men of this colour there are.
+#[tactic(auto, using(crate::proofs::Counting::ones))]
 pub fn count_side(board: &Board, colour: Colour) -> usize
     ensures number { result ≡ count_by (is_of colour) board.now }
     ensures squares { length board.now ≡ 64 }
@@ -39,6 +41,7 @@ pub fn count_side(board: &Board, colour: Colour) -> usize
 }
 
 /// How many men of this colour and kind there are.
+#[tactic(auto, using(crate::proofs::Counting::ones))]
 fn count(board: &Board, colour: Colour, kind: Kind) -> usize
     ensures number { result ≡ count_of board.now colour kind }
     ensures few { result ≤ 64 }

@@ -56,6 +56,7 @@ pub fn is_capture_step(colour: Colour, from: Square, to: Square) -> bool
 }
 
 // What a table that says where steps lead has of the square.
+#[tactic(auto, using(crate::proofs::Sets::leap_set))]
 fn squares_in(table: &[u64; 64], s: Square) -> SquareSet
     ensures leaps { (steps : List Offset) → names_leaps table.now steps ≡ true → (b : ℕ) → Has result b ↔ Any (Leaps s b) steps }
     ensures on_board { s < 64 }

@@ -31,6 +31,7 @@ impl SquareSet {
     }
 
     /// Whether the square is in the set.
+    #[tactic(auto, using(crate::proofs::Sets::has_told))]
     pub fn has(&self, s: Square) -> bool
         ensures has { IsTrue result ↔ Has self.now s }
     {
@@ -38,6 +39,7 @@ impl SquareSet {
     }
 
     /// The squares of the set that are among those of these bits.
+    #[tactic(auto, using(crate::proofs::Sets::both_bits))]
     pub fn within(&self, bits: u64) -> SquareSet
         ensures both { (s : ℕ) → Has result s ↔ (Has self.now s × (bit_at bits s ≡ 1)) }
     {
@@ -47,6 +49,7 @@ impl SquareSet {
     }
 
     /// Whether the set has one of the squares of these bits.
+    #[tactic(auto, using(crate::proofs::Sets::meets_told))]
     pub fn meets(&self, bits: u64) -> bool
         ensures meets { IsTrue result ↔ ((s : ℕ) × (Has self.now s × (bit_at bits s ≡ 1))) }
     {
@@ -54,6 +57,7 @@ impl SquareSet {
     }
 
     /// The set without the squares of these bits.
+    #[tactic(auto, using(crate::proofs::Sets::without_bits))]
     pub fn without(&self, bits: u64) -> SquareSet
         ensures left { (s : ℕ) → Has result s ↔ (Has self.now s × (bit_at bits s ≡ 0)) }
     {
@@ -70,6 +74,7 @@ impl SquareSet {
     }
 
     /// Whether no square is in the set.
+    #[tactic(auto, using(crate::proofs::Sets::empty_told))]
     pub fn is_empty(&self) -> bool
         ensures empty { IsTrue result ↔ ((k : ℕ) → Has self.now k → ⊥) }
     {
@@ -88,6 +93,7 @@ impl SquareSet {
     }
 
     /// The first square of the set from the number `at` on.
+    #[tactic(auto, using(crate::proofs::Bits::shifted))]
     pub fn next(&self, at: u8) -> Option<Square>
         requires { at ≤ 64 }
         ensures from { MatchOption result (Unit {0}) (λ s. at ≤ s × s < 64) }
@@ -103,6 +109,7 @@ impl SquareSet {
 }
 
 /// The word with the bit `k`.
+#[tactic(auto, using(crate::proofs::Bits::bit_kept, crate::proofs::Bits::bit_set, crate::proofs::Bits::bit_only))]
 fn with_bit(word: u64, k: u8) -> u64
     requires { k < 64 }
     ensures set { bit_at result k ≡ 1 }
@@ -113,6 +120,7 @@ fn with_bit(word: u64, k: u8) -> u64
 }
 
 /// The lowest bit of the word.
+#[tactic(auto, using(crate::proofs::Bits::lowest_set, crate::proofs::Bits::lowest_first))]
 fn first_bit(word: u64) -> Option<u8>
     ensures none { MatchOption result (word ≡ 0) (λ k. k < 64) }
     ensures first { MatchOption result (Unit {0}) (λ k. (i : ℕ) → i < k → bit_at word i ≡ 0) }
@@ -286,6 +294,7 @@ fn add_run(p: &Setup, step: &Offset, from: Square, set: SquareSet) -> SquareSet
 }
 
 /// The set, and each square on the way by this step to the edge or to a man, with this one if it is an enemy.
+#[tactic(auto, using(crate::proofs::Collecting::step_collects, crate::proofs::Collecting::edge_collects, crate::proofs::Collecting::end_collects, crate::proofs::Collecting::man_collects))]
 fn walk_run(p: &Setup, step: &Offset, from: Square, set: SquareSet) -> SquareSet
     ensures runs { (b : ℕ) → run p.now.board step.now 8 b from ≡ true → HasNoOwn p.now.board p.now.side b → Has result b }
     ensures kept { (b : ℕ) → Has set b → Has result b }

@@ -3,20 +3,9 @@ use Rattle.std.proofs.lemmas.Bool.{false≢true}
 use Rattle.std.specs.Int.RustNames.{bit_or}
 use Rattle.cell_core.specs.declared.man.Kind.TheVariants.{King, Knight, Pawn}
 use Rattle.cell_core.specs.Man.{other}
-use Rattle.chess_laws.specs.Between.{names_seen}
 use Rattle.chess_laws.specs.Geometry.{king_steps, knight_steps, pawn_captures}
-use Rattle.chess_laws.specs.LegalTests.{line}
 use Rattle.chess_laws.proofs.Attackers.{attackers-of, by-attackers}
 use Rattle.chess_laws.proofs.attack.attacks_left.Goals as goal
-
--- The tables are compared with the definition for any two squares, by computing.
-pub slides-requires : goal.slides-requires
-unfolding line names_seen
-slides-requires c = record { lines = refl }
-
-pub slides-requires-2 : goal.slides-requires-2
-unfolding line names_seen
-slides-requires-2 c = record { lines = refl }
 
 pub returns-then-slides : goal.returns-then-slides
 returns-then-slides c = λ new l. (λ h. by-attackers new c.args.by c.args.s (inl ((c.if-slides.ensures new c.args.by (λ i. bit_or (c.of_kind.ensures new c.args.by l i) (c.of_kind-queens.ensures new c.args.by l i)) (c.occupied.ensures ∙ l.occupied)).0 refl)), λ h. refl)

@@ -17,16 +17,15 @@ returns-then-not-is_move-clause-listed g c =
     (lists-skip c.args.p.now g.row.N c.args.into.now.items m c.requires.sound c.requires.on_board c.requires.before
     (λ is. false≢true (sym c.if-not-is_move.true ∙ c.is_move.ensures.1 is)))
 
-pub returns-clause-listed : goal.returns-clause-listed
-returns-clause-listed g c =
+pub returns : goal.returns
+returns g c =
     let m : Move = record { from = c.args.from; to = c.args.to; promo = c.args.promo } in
     let same : place_of m + 1 ≡ 512 * c.args.from + (8 * c.args.to + (promotion_number c.args.promo + 1)) = omega arith in
-    subst (λ n. OnTrue c.push.result (ListsBelow c.args.p.now g.row.N n c.push.new.into.items)) same
-    (joins c.args.p.now g.row.N (place_of m) c.args.into.now.items c.push.new.into.items m c.push.result refl c.requires.sound c.requires.before
-    (c.is_move.ensures.0 c.if-not-is_move.false) c.push.ensures.added c.push.ensures.room)
-
-pub returns-clause-many : goal.returns-clause-many
-returns-clause-many g c =
-    let m : Move = record { from = c.args.from; to = c.args.to; promo = c.args.promo } in
-    overflows c.args.p.now g.row.N (place_of m) c.args.into.now.items m c.push.result refl c.requires.before
-    (c.is_move.ensures.0 c.if-not-is_move.false) c.push.ensures.full
+    let is = c.is_move.ensures.0 c.if-not-is_move.false in
+    record {
+      listed =
+          subst (λ n. OnTrue c.push.result (ListsBelow c.args.p.now g.row.N n c.push.new.into.items)) same
+          (joins c.args.p.now g.row.N (place_of m) c.args.into.now.items c.push.new.into.items m c.push.result refl c.requires.sound c.requires.before is
+          c.push.ensures.added c.push.ensures.room);
+      many = overflows c.args.p.now g.row.N (place_of m) c.args.into.now.items m c.push.result refl c.requires.before is c.push.ensures.full;
+    }

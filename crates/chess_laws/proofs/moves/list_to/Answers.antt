@@ -1,7 +1,7 @@
 -- What is known to come there has one move to make, which joins the list or is none.
 use Rattle.std.proofs.Common.{◌≡◌, ◌+◌, ◌*◌, sym, ◌∙◌, arith}
 use Rattle.std.proofs.lemmas.Bool.{false≢true}
-use Rattle.chess_laws.specs.Moves.{place_of}
+use Rattle.chess_laws.specs.Moves.{IsMove, place_of}
 use Rattle.chess_laws.specs.Targets.{Known, goes}
 use Rattle.chess_laws.proofs.Joining.{joins, known-joins, known-skips, overflows}
 use Rattle.chess_laws.proofs.Knowing.{known}
@@ -26,19 +26,15 @@ returns-then-not-is_legal_allowed-clause-listed g c =
     (λ is. false≢true (sym c.if-not-is_legal_allowed.true ∙ c.is_legal_allowed.ensures.1 is.legal))
     c.requires.before
 
-pub returns-clause-listed : goal.returns-clause-listed
-returns-clause-listed g c =
+pub returns : goal.returns
+returns g c =
     let is = known c.args.p.now c.args.from c.args.to c.args.kind c.requires.stands c.requires.comes c.if-not-is_known.ensures in
     let here : 512 * c.args.from + 8 * c.args.to ≡ place_of (goes c.args.from c.args.to) = omega arith in
-    known-joins c.args.p.now g.row.N c.args.from c.args.to _ c.push.new.into.items c.push.result c.requires.sound c.requires.on_board is
-    (joins c.args.p.now g.row.N (512 * c.args.from + 8 * c.args.to) c.args.into.now.items c.push.new.into.items (goes c.args.from c.args.to) c.push.result here
-    c.requires.sound c.requires.before (record { legal = c.is_legal_allowed.ensures.0 c.if-not-is_legal_allowed.false; leaves = is.leaves })
-    c.push.ensures.added c.push.ensures.room)
-
-pub returns-clause-many : goal.returns-clause-many
-returns-clause-many g c =
-    let is = known c.args.p.now c.args.from c.args.to c.args.kind c.requires.stands c.requires.comes c.if-not-is_known.ensures in
-    let here : 512 * c.args.from + 8 * c.args.to ≡ place_of (goes c.args.from c.args.to) = omega arith in
-    overflows c.args.p.now g.row.N (512 * c.args.from + 8 * c.args.to) c.args.into.now.items (goes c.args.from c.args.to) c.push.result here
-    c.requires.before (record { legal = c.is_legal_allowed.ensures.0 c.if-not-is_legal_allowed.false; leaves = is.leaves })
-    c.push.ensures.full
+    let move : IsMove c.args.p.now (goes c.args.from c.args.to) = record { legal = c.is_legal_allowed.ensures.0 c.if-not-is_legal_allowed.false; leaves = is.leaves } in
+    record {
+      listed =
+          known-joins c.args.p.now g.row.N c.args.from c.args.to _ c.push.new.into.items c.push.result c.requires.sound c.requires.on_board is
+          (joins c.args.p.now g.row.N _ c.args.into.now.items c.push.new.into.items (goes c.args.from c.args.to) c.push.result here
+          c.requires.sound c.requires.before move c.push.ensures.added c.push.ensures.room);
+      many = overflows c.args.p.now g.row.N _ c.args.into.now.items (goes c.args.from c.args.to) c.push.result here c.requires.before move c.push.ensures.full;
+    }
