@@ -21,7 +21,7 @@ use Rattle.chess_laws.specs.Geometry.{rank_of}
 use Rattle.chess_laws.specs.Position.{Sound}
 use Rattle.chess_laws.specs.Step.{effect_of, Case, CastleCase, GoesPlainly, may_become, last_rank, promotes_rightly}
 use Rattle.chess_laws.specs.Moves.{IsMove, promotion_number, place_of, Ascends, ListsMoves, HasMoreMoves}
-use Rattle.chess_laws.specs.Targets.{Comes, Has, ListsBelow, MayPromote, MayTake, goes}
+use Rattle.chess_laws.specs.Targets.{Comes, Has, Known, ListsBelow, MayPromote, MayTake, goes}
 use Rattle.chess_laws.proofs.Boards.{man-kind, on_board}
 use Rattle.chess_laws.proofs.Following.{case-on_board}
 use Rattle.chess_laws.proofs.Keeping.{castle-squares}
@@ -177,20 +177,41 @@ lists-plain p room f t ms sound less never h =
     let to : m.to ≡ t = omega arith in
     elim b.fits.promotes [ inl none ↦ omega (arith, ap promotion_number none) | inr may ↦ never (rw (from, to) at may.0) ])
 
+-- so a move that is added joins the list, or shows that there are more, and one that is none changes nothing
+pub lists_added : (p : Setup) (room n k : ℕ) (ms new : List Move) (m : Move) (done : Bool) → IsMove p m → Sound p → ListsBelow p room n ms →
+    OnTrue done (new ≡ ms ++ m ∷ []) → OnTrue done (length ms < room) → n ≡ place_of m → k ≡ place_of m + 1 → OnTrue done (ListsBelow p room k new)
+lists_added p room n k ms new m true is sound h added less at next = rw (added, next) (lists-push p room ms m sound (rw at at h) less is)
+lists_added p room n k ms new m false is sound h added less at next = tt
+
+pub lists_over : (p : Setup) (room n : ℕ) (ms : List Move) (m : Move) (done : Bool) → IsMove p m → ListsBelow p room n ms →
+    OnFalse done (length ms ≡ room) → n ≡ place_of m → OnFalse done (HasMoreMoves p room)
+lists_over p room n ms m true is h full at = tt
+lists_over p room n ms m false is h full at = lists-many p room ms m (rw at at h) is full
+
+pub lists_none : (p : Setup) (room n k : ℕ) (ms : List Move) (m : Move) → (IsMove p m → ⊥) → Sound p → m.to < 64 → ListsBelow p room n ms →
+    n ≡ place_of m → k ≡ place_of m + 1 → ListsBelow p room k ms
+lists_none p room n k ms m none sound less h at next = rw next (lists-skip p room ms m sound less (rw at at h) none)
+
+-- and no other move goes from the one square to the other, where this one is known
+pub lists_known : (p : Setup) (room a b : ℕ) (e : Effect) (ms : List Move) (done : Bool) → Known p a b e → Sound p → b < 64 →
+    OnTrue done (ListsBelow p room (512 * a + (8 * b + 1)) ms) → OnTrue done (ListsBelow p room (512 * a + 8 * (b + 1)) ms)
+lists_known p room a b e ms true known sound less h = lists-plain p room a b ms sound less known.plain h
+lists_known p room a b e ms false known sound less h = tt
+
 -- none becomes a king
 becomes : (x : Option Kind) → IsTrue (may_become x) → 1 < promotion_number x
 becomes x h = grind arith
 
-pub lists-no_king : (p : Setup) (room f t : ℕ) (ms : List Move) → Sound p → t < 64 → ListsBelow p room (512 * f + (8 * t + 1)) ms → ListsBelow p room (512 * f + (8 * t + 2)) ms
-lists-no_king p room f t ms sound less h =
+pub lists_no_king : (p : Setup) (room f t : ℕ) (ms : List Move) → Sound p → t < 64 → ListsBelow p room (512 * f + (8 * t + 1)) ms → ListsBelow p room (512 * f + (8 * t + 2)) ms
+lists_no_king p room f t ms sound less h =
     lists-gap p room (512 * f + (8 * t + 1)) (512 * f + (8 * t + 2)) ms sound h (omega arith)
     (λ m b. elim b.fits.promotes [ inl none ↦ omega (arith, ap promotion_number none) | inr may ↦ omega (arith, becomes m.promo may.1) ])
 
 -- no move goes to a square that is not among the targets
-pub lists-targets : (p : Setup) (room f at t : ℕ) (k : Kind) (ms : List Move) (set : SquareSet) → Sound p → at ≤ t → t ≤ 64 →
+pub lists_targets : (p : Setup) (room f at t : ℕ) (k : Kind) (ms : List Move) (set : SquareSet) → Sound p → at ≤ t → t ≤ 64 →
     man_at p.board f ≡ Some (man p.side k) → ((b : ℕ) → Comes p k f b → Has set b) → ((b : ℕ) → at ≤ b → b < t → Has set b → ⊥) →
     ListsBelow p room (512 * f + 8 * at) ms → ListsBelow p room (512 * f + 8 * t) ms
-lists-targets p room f at t k ms set sound more less stands has none h =
+lists_targets p room f at t k ms set sound more less stands has none h =
     lists-gap p room (512 * f + 8 * at) (512 * f + 8 * t) ms sound h (omega arith)
     (λ m b.
     let from : m.from ≡ f = omega arith in
@@ -198,9 +219,9 @@ lists-targets p room f at t k ms set sound more less stands has none h =
     none m.to (omega arith) (omega arith) (has m.to (rw (from, kind) at b.fits.comes)))
 
 -- and none from squares on which no man of the mover's stands
-pub lists-no_man : (p : Setup) (room at t : ℕ) (ms : List Move) → Sound p → at ≤ t → ((a : ℕ) (k : Kind) → at ≤ a → a < t → man_at p.board a ≡ Some (man p.side k) → ⊥) →
+pub lists_no_man : (p : Setup) (room at t : ℕ) (ms : List Move) → Sound p → at ≤ t → ((a : ℕ) (k : Kind) → at ≤ a → a < t → man_at p.board a ≡ Some (man p.side k) → ⊥) →
     ListsBelow p room (512 * at) ms → ListsBelow p room (512 * t) ms
-lists-no_man p room at t ms sound more none h =
+lists_no_man p room at t ms sound more none h =
     lists-gap p room (512 * at) (512 * t) ms sound h (omega arith) (λ m b. none m.from b.fits.kind (omega arith) (omega arith) b.fits.stands)
 
 -- some move shows that there are more than none

@@ -1,10 +1,10 @@
 -- What is known to come there has one move to make, which joins the list or is none.
-use Rattle.std.proofs.Common.{◌≡◌, ◌+◌, ◌*◌, sym, ◌∙◌, arith}
+use Rattle.std.proofs.Common.{true, sym, ◌∙◌, arith}
 use Rattle.std.proofs.lemmas.Bool.{false≢true}
-use Rattle.chess_laws.specs.Moves.{IsMove, place_of}
+use Rattle.chess_laws.specs.Moves.{IsMove}
 use Rattle.chess_laws.specs.Targets.{Known, goes}
-use Rattle.chess_laws.proofs.Joining.{joins, known-joins, known-skips, overflows}
 use Rattle.chess_laws.proofs.Knowing.{known}
+use Rattle.chess_laws.proofs.Listing.{lists_added, lists_known, lists_none, lists_over}
 use Rattle.chess_laws.proofs.moves.list_to.Goals as goal
 
 pub is_legal_allowed-requires : goal.is_legal_allowed-requires
@@ -22,19 +22,19 @@ is_legal_allowed-requires g c =
 pub returns-then-not-is_legal_allowed-clause-listed : goal.returns-then-not-is_legal_allowed-clause-listed
 returns-then-not-is_legal_allowed-clause-listed g c =
     let is = known c.args.p.now c.args.from c.args.to c.args.kind c.requires.stands c.requires.comes c.if-not-is_known.ensures in
-    known-skips c.args.p.now g.row.N c.args.from c.args.to _ c.args.into.now.items c.requires.sound c.requires.on_board is
-    (λ is. false≢true (sym c.if-not-is_legal_allowed.true ∙ c.is_legal_allowed.ensures.1 is.legal))
-    c.requires.before
+    lists_known c.args.p.now g.row.N c.args.from c.args.to _ c.args.into.now.items true is c.requires.sound c.requires.on_board
+    (lists_none c.args.p.now g.row.N _ _ c.args.into.now.items (goes c.args.from c.args.to)
+    (λ is. false≢true (sym c.if-not-is_legal_allowed.true ∙ c.is_legal_allowed.ensures.1 is.legal)) c.requires.sound c.requires.on_board c.requires.before (omega arith) (omega arith))
 
 pub returns : goal.returns
 returns g c =
     let is = known c.args.p.now c.args.from c.args.to c.args.kind c.requires.stands c.requires.comes c.if-not-is_known.ensures in
-    let here : 512 * c.args.from + 8 * c.args.to ≡ place_of (goes c.args.from c.args.to) = omega arith in
     let move : IsMove c.args.p.now (goes c.args.from c.args.to) = record { legal = c.is_legal_allowed.ensures.0 c.if-not-is_legal_allowed.false; leaves = is.leaves } in
     record {
       listed =
-          known-joins c.args.p.now g.row.N c.args.from c.args.to _ c.push.new.into.items c.push.result c.requires.sound c.requires.on_board is
-          (joins c.args.p.now g.row.N _ c.args.into.now.items c.push.new.into.items (goes c.args.from c.args.to) c.push.result here
-          c.requires.sound c.requires.before move c.push.ensures.added c.push.ensures.room);
-      many = overflows c.args.p.now g.row.N _ c.args.into.now.items (goes c.args.from c.args.to) c.push.result here c.requires.before move c.push.ensures.full;
+          lists_known c.args.p.now g.row.N c.args.from c.args.to _ c.push.new.into.items c.push.result is c.requires.sound c.requires.on_board
+          (lists_added c.args.p.now g.row.N _ _ c.args.into.now.items c.push.new.into.items (goes c.args.from c.args.to) c.push.result move
+          c.requires.sound c.requires.before c.push.ensures.added c.push.ensures.room (omega arith) (omega arith));
+      many =
+          lists_over c.args.p.now g.row.N _ c.args.into.now.items (goes c.args.from c.args.to) c.push.result move c.requires.before c.push.ensures.full (omega arith);
     }
