@@ -17,29 +17,25 @@ use Rattle.chess_laws.proofs.Shifts.{shift-Some}
 use Rattle.chess_laws.proofs.Walks.{same-offset}
 
 -- so many equal steps lead from a to b
-record Strides (n : ℕ) (o : Offset) (a b : ℕ) : Type 0 where
-  files : file_of b + n * o.left ≡ file_of a + n * o.right
-  ranks : rank_of b + n * o.down ≡ rank_of a + n * o.up
-
-walk-strides : (men : Men) (o : Offset) (n a b : ℕ) → Walk men o n a b → Strides (suc n) o a b
-walk-strides men o zero a b walk =
-    let step = shift-Some o a b walk in
-    record { files = omega (arith, step.files); ranks = omega (arith, step.ranks) }
-walk-strides men o (suc n) a b walk =
-    let step = shift-Some o a walk.0 walk.1 in
-    let rest = walk-strides men o n walk.0 b walk.3 in
-    record { files = omega (arith, step.files, rest.files); ranks = omega (arith, step.ranks, rest.ranks) }
+walk-strides : (men : Men) (o : Offset) (n a b : ℕ) → Walk men o n a b →
+    (file_of b + suc n * o.left ≡ file_of a + suc n * o.right) × (rank_of b + suc n * o.down ≡ rank_of a + suc n * o.up)
+walk-strides men o zero a b walk = let step = shift-Some o a b walk in (omega arith, omega arith)
+walk-strides men o (suc n) a b (c, first, empty, walk) =
+    let step = shift-Some o a c first in
+    let rest = walk-strides men o n c b walk in
+    (omega (arith, step.files, rest.0), omega (arith, step.ranks, rest.1))
 
 -- a walk by a queen's step lies on the line of its ends
-line-row : (row n fa ra fb rb a b : ℕ) → row < 8 → fa ≡ file_of a → ra ≡ rank_of a → fb ≡ file_of b → rb ≡ rank_of b →
-    Strides (suc n) (offset_at row) a b → line_of fa ra fb rb ≡ Some row
-line-row (suc (suc (suc (suc (suc (suc (suc (suc row)))))))) n fa ra fb rb a b less h1 h2 h3 h4 s = absurd (omega arith)
-line-row row n fa ra fb rb a b less h1 h2 h3 h4 s = let f = s.files in let r = s.ranks in grind (arith, nat_tests)
+line-row : (row n fa ra fb rb : ℕ) → row < 8 → fb + suc n * (offset_at row).left ≡ fa + suc n * (offset_at row).right →
+    rb + suc n * (offset_at row).down ≡ ra + suc n * (offset_at row).up → line_of fa ra fb rb ≡ Some row
+line-row (suc (suc (suc (suc (suc (suc (suc (suc row)))))))) n fa ra fb rb less files ranks = absurd (omega arith)
+line-row row n fa ra fb rb less files ranks = grind (arith, nat_tests)
 
 pub line-walk : (men : Men) (row n a b : ℕ) → row < 8 → Walk men (offset_at row) n a b → line a b ≡ Some row
 unfolding line
 line-walk men row n a b less walk =
-    line-row row n (file_of a) (rank_of a) (file_of b) (rank_of b) a b less refl refl refl refl (walk-strides men (offset_at row) n a b walk)
+    let (files, ranks) = walk-strides men (offset_at row) n a b walk in
+    line-row row n (file_of a) (rank_of a) (file_of b) (rank_of b) less files ranks
 
 -- the steps by which a kind of man slides are those of the rows by which it does; by computing
 has-row : (kind : Kind) → list_all (λ x. glides kind (row_of x) && same_offset x (offset_at (row_of x))) (slides kind) ≡ true

@@ -208,15 +208,15 @@ lists_no_king p room f t ms sound less h =
     (λ m b. elim b.fits.promotes [ inl none ↦ omega (arith, ap promotion_number none) | inr may ↦ omega (arith, becomes m.promo may.1) ])
 
 -- no move goes to a square that is not among the targets
-pub lists_targets : (p : Setup) (room f at t : ℕ) (k : Kind) (ms : List Move) (set : SquareSet) → Sound p → at ≤ t → t ≤ 64 →
-    man_at p.board f ≡ Some (man p.side k) → ((b : ℕ) → Comes p k f b → Has set b) → ((b : ℕ) → at ≤ b → b < t → Has set b → ⊥) →
-    ListsBelow p room (512 * f + 8 * at) ms → ListsBelow p room (512 * f + 8 * t) ms
-lists_targets p room f at t k ms set sound more less stands has none h =
-    lists-gap p room (512 * f + 8 * at) (512 * f + 8 * t) ms sound h (omega arith)
+pub lists_targets : (p : Setup) (room f at t n k : ℕ) (kind : Kind) (ms : List Move) (set : SquareSet) → Sound p → at ≤ t → t ≤ 64 →
+    man_at p.board f ≡ Some (man p.side kind) → ((b : ℕ) → Comes p kind f b → Has set b) → ((b : ℕ) → at ≤ b → b < t → Has set b → ⊥) →
+    n ≡ 512 * f + 8 * at → k ≡ 512 * f + 8 * t → ListsBelow p room n ms → ListsBelow p room k ms
+lists_targets p room f at t n k kind ms set sound more less stands has none low high h =
+    lists-gap p room n k ms sound h (omega arith)
     (λ m b.
     let from : m.from ≡ f = omega arith in
-    let kind : b.fits.kind ≡ k = man-kind p.side p.side b.fits.kind k (sym b.fits.stands ∙ ap (man_at p.board) from ∙ stands) in
-    none m.to (omega arith) (omega arith) (has m.to (rw (from, kind) at b.fits.comes)))
+    let same : b.fits.kind ≡ kind = man-kind p.side p.side b.fits.kind kind (sym b.fits.stands ∙ ap (man_at p.board) from ∙ stands) in
+    none m.to (omega arith) (omega arith) (has m.to (rw (from, same) at b.fits.comes)))
 
 -- and none from squares on which no man of the mover's stands
 pub lists_no_man : (p : Setup) (room at t : ℕ) (ms : List Move) → Sound p → at ≤ t → ((a : ℕ) (k : Kind) → at ≤ a → a < t → man_at p.board a ≡ Some (man p.side k) → ⊥) →

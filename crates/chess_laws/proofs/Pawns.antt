@@ -28,3 +28,5 @@ pawns-inside men b s c e =
         | inr high ↦ let same : 56 + (s - 56) ≡ s = omega arith in absurd (b.last (s - 56) (omega arith) c (rw same e))
       ]
     ]
+
+pub ruleset inside = (pawns-inside)

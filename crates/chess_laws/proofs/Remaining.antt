@@ -28,9 +28,6 @@ leaves-emptied men new c own full s others squares less is l = record {
 }
 
 -- a man of the other side belongs to no set of this one
-strange : (c : Colour) (k j : Kind) → is_man (other c) k (Some (man c j)) ≡ false
-strange c k j = grind (arith, nat_tests)
-
 pub leaves-entered : (men new : Men) (c : Colour) (j : Kind) (own full s place : ℕ) → length new ≡ 64 → s < 64 → place ≡ 1 * 2 ^ s % 18446744073709551616
     → Leaves men (other c) own full new → Leaves men (other c) (bit_and own (18446744073709551615 - place)) (bit_or full place) (put new s (Some (man c j)))
 leaves-entered men new c j own full s place squares less is l =
@@ -41,7 +38,7 @@ leaves-entered men new c j own full s place squares less is l =
     record {
       of_kind = λ k.
           first.of_kind k
-          ∙ passed (is_man (other c) k) refl (put new s None) s (man c j) (strange c k j) empty (length-put new s None squares) less
+          ∙ passed (is_man (other c) k) refl (put new s None) s (man c j) (grind (arith, nat_tests)) empty (length-put new s None squares) less
           ∙ ap (set_of (is_man (other c) k)) whole;
       occupied = (λ i. bit_or (l.occupied i) (is i)) ∙ come is_some refl new s (man c j) refl squares less;
     }

@@ -33,6 +33,7 @@ impl Model for Offset {
 
 impl Offset {
     /// The square to which this step leads from `s`, if it is on the board.
+    #[tactic(auto, unfolding(crate::specs::Geometry::shift, crate::specs::Rays::names_all))]
     pub fn target(&self, s: Square) -> Option<Square>
         ensures target { result ≡ shift self.now s }
         ensures on_board { s < 64 }
@@ -62,6 +63,7 @@ impl Offset {
 }
 
 /// The row of the queen's step that leads from one square towards the other, where one does.
+#[tactic(auto, unfolding(crate::specs::LegalTests::line, crate::specs::Ways::names_lines))]
 pub fn line(from: Square, to: Square) -> Option<u8>
     ensures row { result ≡ line from to }
     ensures queen { IfSome result (λ row. row < 8) }

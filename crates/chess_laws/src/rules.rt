@@ -16,6 +16,7 @@ use super::setup::{Rights, Wing};
 use cell_core::{Board, Colour, Kind, Man, Square};
 
 /// Whether no pawn stands on the first or the last rank.
+#[tactic(auto, using(crate::proofs::Pawns::inside))]
 pub fn has_pawns_inside(board: &Board) -> bool
     ensures { IsTrue result ↔ HasPawnsInside board.now }
 {
@@ -112,6 +113,7 @@ fn is_home(board: &Board, colour: Colour, wing: Wing) -> bool
 }
 
 /// The initial board.
+#[tactic(auto, unfolding(cell_core::specs::Sets::set_of, cell_core::specs::Sets::sets_of))]
 pub fn start_board() -> Board
     ensures { result ≡ start_men }
 {

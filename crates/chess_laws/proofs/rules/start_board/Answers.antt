@@ -1,8 +1,0 @@
--- The sets are those of the initial board.
-use Rattle.std.proofs.Common.{refl}
-use Rattle.cell_core.specs.Sets.{set_of, sets_of}
-use Rattle.chess_laws.proofs.rules.start_board.Goals as goal
-
-pub with_sets-requires : goal.with_sets-requires
-unfolding set_of sets_of
-with_sets-requires c = record { sets = refl }
