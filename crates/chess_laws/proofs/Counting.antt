@@ -10,7 +10,8 @@ use Rattle.cell_core.specs.Board.{Men, man_at, put}
 use Rattle.cell_core.specs.Man.{man, is_man}
 use Rattle.chess_laws.specs.Counts.{counts_of, count_of, fewer}
 use Rattle.std.specs.Bool.{OnTrue, OnFalse}
-use Rattle.std.proofs.lemmas.Bool.{and_parts, false≢true}
+use Rattle.std.proofs.lemmas.Bool.{and_parts}
+use Rattle.std.proofs.lemmas.Bool.Decides.{nat_tests}
 use Rattle.chess_laws.specs.declared.setup.Setup.{Setup}
 use Rattle.chess_laws.specs.declared.effect.Effect.{Effect}
 use Rattle.chess_laws.specs.declared.effect.Effect.TheVariants.{Plain, Double, Passing, Castle, Null}
@@ -43,8 +44,7 @@ ten-fewer f (Some m) = by-man m.colour m.kind
     by-man c k = refl
 
 one-fewer : (b : Bool) (one n before : ℕ) → n + one + one_if b ≡ before + one → n ≡ cond b (before - 1) before
-one-fewer true one n before h = omega arith
-one-fewer false one n before h = omega arith
+one-fewer b one n before h = grind (arith, nat_tests)
 
 -- a man that goes elsewhere and stays what it is takes one man from the counts at most
 goes-counts : (men : Men) (a b : ℕ) (c : Colour) (k : Kind) → Goes men a b c k k → counts_of (relocate men a b (Some (man c k))) ≡ fewer (counts_of men) (man_at men b)

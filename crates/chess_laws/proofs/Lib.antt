@@ -1,10 +1,8 @@
-pub mod Bits
 pub mod Shifts
 pub mod Boards
 pub mod Keeping
 pub mod Following
 pub mod MovedKings
-pub mod Paths
 pub mod Running
 pub mod Kings
 pub mod Walks
@@ -14,13 +12,11 @@ pub mod Counting
 pub mod Untouched
 pub mod Opening
 pub mod Attackers
-pub mod Collecting
 pub mod Listing
 pub mod Home
 pub mod Pawns
 pub mod Soundness
 pub mod Start
-pub mod Climbing
 pub mod Stepping
 pub mod Initial
 pub mod Deciding

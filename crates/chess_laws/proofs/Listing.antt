@@ -1,7 +1,7 @@
 -- The list of moves grows in order, and nothing stands between.
 use Rattle.std.proofs.Common.{◌≡◌, ℕ, ◌+◌, ◌*◌, ◌<◌, ◌≤◌, ◌⊎◌, inl, inr, Bool, true, false, ◌&&◌, not, eqb, List, [], ◌∷◌, ◌++◌, Option, Some, None, IsTrue, length, get_or, refl, sym, ◌∙◌, ap, subst, arith, lit<, length-append}
 use Rattle.std.specs.Prelude.{All, Contains, slice_index_or}
-use Rattle.std.proofs.lemmas.Bool.{cases_Bool, cases_lt, false≢true}
+use Rattle.std.proofs.lemmas.Bool.{cases_Bool, cases_lt, false≢true, ne_eqb}
 use Rattle.std.specs.Bool.{OnTrue, OnFalse}
 use Rattle.std.proofs.lemmas.Bool.Decides.{Decides-and, Decides-eqb}
 use Rattle.std.proofs.lemmas.List.Elements.{All-push, All-cons, All-weaker, All-nil, Contains-append_left, Contains-push}
@@ -26,6 +26,10 @@ use Rattle.chess_laws.proofs.Boards.{man-kind, on_board}
 use Rattle.chess_laws.proofs.Following.{case-on_board}
 use Rattle.chess_laws.proofs.Keeping.{castle-squares}
 use Rattle.chess_laws.proofs.Running.{is_none-Decides}
+use Rattle.std.specs.Cmp.{IsEquivalence, nat_eq_equiv}
+use Rattle.std.proofs.lemmas.List.Folds.{Any-from_list_any, list_any_at}
+use Rattle.std.proofs.lemmas.Map.Keys.{IsDistinct-from_apart}
+use Rattle.std.proofs.lemmas.Map.Made.{length-le_from_is_member}
 
 -- what promotes: nothing, or a pawn that comes to its last rank
 abbrev pub Promotes : Setup → Move → Type 0
@@ -242,3 +246,24 @@ pub some-move : (p : Setup) (none : Bool) → OnTrue none (HasMoreMoves p 0 → 
     (IsTrue (not none) → (m : Move) × IsMove p m) × (((m : Move) × IsMove p m) → IsTrue (not none))
 some-move p true room many = (λ h. absurd (false≢true h), λ s. absurd (room (more-one p s.0 s.1)))
 some-move p false room many = (λ h. one-more p many, λ s. refl)
+
+-- moves of one place in the order
+abbrev same_place : Move → Move → Bool
+same_place a b = eqb (place_of a) (place_of b)
+
+laws : IsEquivalence same_place
+laws = record {
+  refl = λ a. nat_eq_equiv.refl (place_of a);
+  symm = λ a b. nat_eq_equiv.symm (place_of a) (place_of b);
+  congr = λ a b c. nat_eq_equiv.congr (place_of a) (place_of b) (place_of c);
+}
+
+-- where a list of so many has them all, there are no more
+pub no-more : (p : Setup) (room : ℕ) (ms : List Move) → ListsMoves p ms → length ms ≤ room → HasMoreMoves p room → ⊥
+no-more p room ms lists fits more =
+    let apart = IsDistinct-from_apart same_place more.moves (λ i j d less within. ne_eqb _ _ (λ e. omega (arith, e, more.in_order i j d less within))) in
+    let le = length-le_from_is_member laws more.moves ms apart (λ q h.
+    let (k, x, less, at, e) = Any-from_list_any (same_place q) more.moves h in
+    let (j, within, is) = lists.all x (rw at at (more.only k x less)) in
+    list_any_at (same_place q) ms j x within (rw is e)) in
+    omega (arith, le, more.many)

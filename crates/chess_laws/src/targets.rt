@@ -93,7 +93,7 @@ impl SquareSet {
     }
 
     /// The first square of the set from the number `at` on.
-    #[tactic(auto, using(crate::proofs::Bits::shifted))]
+    #[tactic(auto, using(crate::proofs::Sets::shifted))]
     pub fn next(&self, at: u8) -> Option<Square>
         requires { at ≤ 64 }
         ensures from { MatchOption result (Unit {0}) (λ s. at ≤ s × s < 64) }
@@ -109,7 +109,7 @@ impl SquareSet {
 }
 
 /// The word with the bit `k`.
-#[tactic(auto, using(crate::proofs::Bits::bit_kept, crate::proofs::Bits::bit_set, crate::proofs::Bits::bit_only))]
+#[tactic(auto, using(crate::proofs::Sets::bit_kept, crate::proofs::Sets::bit_set, crate::proofs::Sets::bit_only))]
 fn with_bit(word: u64, k: u8) -> u64
     requires { k < 64 }
     ensures set { bit_at result k ≡ 1 }
@@ -120,7 +120,7 @@ fn with_bit(word: u64, k: u8) -> u64
 }
 
 /// The lowest bit of the word.
-#[tactic(auto, using(crate::proofs::Bits::lowest_set, crate::proofs::Bits::lowest_first))]
+#[tactic(auto, using(crate::proofs::Sets::lowest_set, crate::proofs::Sets::lowest_first))]
 fn first_bit(word: u64) -> Option<u8>
     ensures none { MatchOption result (word ≡ 0) (λ k. k < 64) }
     ensures first { MatchOption result (Unit {0}) (λ k. (i : ℕ) → i < k → bit_at word i ≡ 0) }
@@ -294,7 +294,7 @@ fn add_run(p: &Setup, step: &Offset, from: Square, set: SquareSet) -> SquareSet
 }
 
 /// The set, and each square on the way by this step to the edge or to a man, with this one if it is an enemy.
-#[tactic(auto, using(crate::proofs::Collecting::step_collects, crate::proofs::Collecting::edge_collects, crate::proofs::Collecting::end_collects, crate::proofs::Collecting::man_collects))]
+#[tactic(auto, using(crate::proofs::Running::step_collects, crate::proofs::Running::edge_collects, crate::proofs::Running::end_collects, crate::proofs::Running::man_collects))]
 fn walk_run(p: &Setup, step: &Offset, from: Square, set: SquareSet) -> SquareSet
     ensures runs { (b : ℕ) → run p.now.board step.now 8 b from ≡ true → HasNoOwn p.now.board p.now.side b → Has result b }
     ensures kept { (b : ℕ) → Has set b → Has result b }

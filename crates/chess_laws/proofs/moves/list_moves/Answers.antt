@@ -1,9 +1,8 @@
 -- No move begins on a square that is not one of the mover's, and below the last place there are all.
 use Rattle.std.proofs.Common.{arith, rules, ◌*◌, ◌∙◌}
 use Rattle.chess_laws.specs.Targets.{ListsBelow}
-use Rattle.chess_laws.proofs.Listing.{lists-all, lists_no_man}
+use Rattle.chess_laws.proofs.Listing.{lists-all, lists_no_man, no-more}
 use Rattle.chess_laws.proofs.Sets.{own_told}
-use Rattle.chess_laws.proofs.Climbing.{no-more}
 use Rattle.chess_laws.proofs.moves.list_moves.Goals as goal
 
 pub list_from-requires : goal.list_from-requires

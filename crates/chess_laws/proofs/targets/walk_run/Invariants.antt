@@ -1,4 +1,4 @@
-use Rattle.chess_laws.proofs.Collecting.{Collects}
+use Rattle.chess_laws.proofs.Running.{Collects}
 use Rattle.chess_laws.proofs.targets.walk_run.Given as goal
 
 abbrev pub invariant-loop-i : goal.invariant-loop-i

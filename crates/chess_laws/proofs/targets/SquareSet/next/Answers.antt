@@ -1,5 +1,5 @@
 -- Below the lowest bit of the word that is shifted down there is none.
-use Rattle.chess_laws.proofs.Bits.{bit-first}
+use Rattle.chess_laws.proofs.Sets.{bit-first}
 use Rattle.chess_laws.proofs.targets.SquareSet.next.Goals as goal
 
 pub returns-clause-first : goal.returns-clause-first
