@@ -1,5 +1,5 @@
 -- A record's marks are told from packed moves by their byte, and bytes decode to one answer.
-use Rattle.std.proofs.Common.{◌≡◌, ℕ, suc, ◌+◌, ◌*◌, ◌<◌, ◌≤◌, false, List, [], ◌∷◌, Option, Some, None, Ok, Err, length, slice_get, inl, inr, refl, sym, ◌∙◌, ap, subst, arith}
+use Rattle.std.proofs.Common.{◌≡◌, ℕ, suc, ◌+◌, ◌*◌, ◌<◌, ◌≤◌, false, List, [], ◌∷◌, ◌++◌, Option, Some, None, Ok, Err, length, slice_get, refl, sym, ◌∙◌, ap, subst, arith}
 use Rattle.std.specs.Prelude.{Result, option_and_then}
 use Rattle.std.proofs.lemmas.Bool.Decides.{nat_tests}
 use Rattle.std.proofs.lemmas.Option.{same_Some, slice_get_within}
@@ -9,7 +9,7 @@ use Rattle.cell_core.specs.declared.man.Kind.TheVariants.{King}
 use Rattle.cell_core.specs.declared.step.Move.{Move}
 use Rattle.cell_core.specs.Board.{Men, man_at}
 use Rattle.chess_laws.specs.Position.{Sound, king_square}
-use Rattle.chess_laws.specs.Step.{Legal, effect_of}
+use Rattle.chess_laws.specs.Step.{Legal}
 use Rattle.chess_laws.proofs.Boards.{man-kind}
 use Rattle.chess_laws.proofs.Kings.{king-stands}
 use Rattle.move_codec.specs.declared.fault.MoveFault.{MoveFault}
@@ -17,11 +17,10 @@ use Rattle.move_codec.specs.declared.fault.MoveFault.TheVariants.{Short, NoMan, 
 use Rattle.move_codec.specs.declared.numbers.Numbers.{Numbers}
 use Rattle.move_codec.specs.Numbers.{Numbered, AreNumbers, HasKingFirst, number_of, squares_of}
 use Rattle.move_codec.specs.Packed.{Decodes, at_difference, encoding, is_mark, king_differences, named, named_value, rest_of, to_square, value_of}
-use Rattle.move_codec.proofs.Cases.{Mover, Spelled, mover}
-use Rattle.move_codec.proofs.Decoding.{named-used, same_ok}
+use Rattle.move_codec.proofs.Cases.{Mover, Spelled}
+use Rattle.move_codec.proofs.Decoding.{named-fits, same_ok}
 use Rattle.move_codec.proofs.Boards.{first_of}
-use Rattle.move_codec.proofs.Lists.{same_or_not}
-use Rattle.move_codec.proofs.RoundTrip.{encoding-mover, has_number}
+use Rattle.move_codec.proofs.RoundTrip.{encoding-mover, has_number, mover_of, round_trip}
 
 -- No packed move begins with a mark
 
@@ -37,88 +36,64 @@ king_value side m spelled =
     listed_value m.from (value_of King m) (m, suc (length (rest_of King m))) (slice_get king_differences (value_of King m)) refl (spelled.names [])
 
 unmarked : (number value : ℕ) → (number ≡ 0 → value < 11) → is_mark (16 * number + value) ≡ false
-unmarked number value king =
-    elim (same_or_not number 0) [
-      | inl none ↦ let small = king none in grind (arith, nat_tests)
-      | inr more ↦ grind (arith, nat_tests)
-    ]
+unmarked number value king = grind (arith, nat_tests)
 
 king_first : (men : Men) (numbers : Numbers) → AreNumbers men numbers → (c : Colour) → HasKingFirst men c (squares_of c numbers)
 king_first men numbers h White = h.white_king
 king_first men numbers h Black = h.black_king
 
--- the man with the number 0 is the king
-zero_king : (n : Numbered) (m : Move) → Sound n.position → AreNumbers n.position.board n.numbers → (moves : Mover n.position m)
-    → number_of (squares_of n.position.side n.numbers) m.from ≡ 0 → moves.kind ≡ King
-zero_king n m sound numbers moves none =
-    let side : Colour = n.position.side in
-    let men : Men = n.position.board in
-    let squares : List ℕ = squares_of side n.numbers in
-    let first = first_of men side squares sound.kings (king_first men n.numbers numbers side) in
-    let here : slice_get squares 0 ≡ Some m.from = ap (slice_get squares) (sym none) ∙ has_number n m sound.squares numbers moves in
-    let same : m.from ≡ king_square men side = same_Some m.from (king_square men side) (sym here ∙ first) in
-    man-kind side side moves.kind King (sym moves.stands ∙ ap (man_at men) same ∙ king-stands men side (sound.kings side))
-
 pub encoding-apart : (n : Numbered) (m : Move) → Sound n.position → AreNumbers n.position.board n.numbers → Legal n.position m
     → (byte : ℕ) × ((later : List ℕ) × ((encoding n m ≡ byte ∷ later) × (is_mark byte ≡ false)))
 encoding-apart n m sound numbers legal =
-    let moves : Mover n.position m = mover n.position m (effect_of n.position m) sound.squares refl legal.1.allowed in
-    let number : ℕ = number_of (squares_of n.position.side n.numbers) m.from in
-    let king : number ≡ 0 → value_of moves.kind m < 11 = λ none.
-    let is : moves.kind ≡ King = zero_king n m sound numbers moves none in
-    rw is (king_value n.position.side m (subst (λ k. Spelled n.position.side k m) is moves.spelled)) in (
-      16 * number + value_of moves.kind m,
-      (rest_of moves.kind m, (encoding-mover n m sound.squares numbers moves, unmarked number (value_of moves.kind m) king)),
+    let side : Colour = n.position.side in
+    let men : Men = n.position.board in
+    let squares : List ℕ = squares_of side n.numbers in
+    let moves : Mover n.position m = mover_of n m sound.squares legal in
+    -- the man with the number 0 is the king
+    let king : number_of squares m.from ≡ 0 → value_of moves.kind m < 11 = λ none.
+    let here : slice_get squares 0 ≡ Some m.from = ap (slice_get squares) (sym none) ∙ has_number n m sound.squares numbers legal in
+    let same : m.from ≡ king_square men side = same_Some m.from (king_square men side) (sym here ∙ first_of men side squares sound.kings (king_first men n.numbers numbers side)) in
+    let is : moves.kind ≡ King = man-kind side side moves.kind King (sym moves.stands ∙ ap (man_at men) same ∙ king-stands men side (sound.kings side)) in
+    rw is (king_value side m (subst (λ k. Spelled side k m) is moves.spelled)) in (
+      16 * number_of squares m.from + value_of moves.kind m,
+      (rest_of moves.kind m, (encoding-mover n m sound.squares numbers legal, unmarked (number_of squares m.from) (value_of moves.kind m) king)),
     )
 
--- what the code has: the fields of a position with its numbers
-pub encode-apart : (n now : Numbered) → n ≡ now → (m : Move) → Sound n.position → AreNumbers n.position.board n.numbers
+-- what the code has: the fields of a position with its numbers, and the bytes
+pub encode-told : (n now : Numbered) → n ≡ now → (m : Move) → Sound n.position → AreNumbers n.position.board n.numbers
     → Legal now.position m → (items : List ℕ) → items ≡ encoding now m
-    → (byte : ℕ) × ((later : List ℕ) × ((items ≡ byte ∷ later) × (is_mark byte ≡ false)))
-encode-apart n now is m sound numbers legal items bytes =
+    → ((rest : List ℕ) → Decodes now (items ++ rest) (Ok (m, length items)))
+    × ((byte : ℕ) × ((later : List ℕ) × ((items ≡ byte ∷ later) × (is_mark byte ≡ false))))
+encode-told n now is m sound numbers legal items bytes =
     let kept : Sound now.position = subst (λ k. Sound k.position) is sound in
     let numbered : AreNumbers now.position.board now.numbers = subst (λ k. AreNumbers k.position.board k.numbers) is numbers in
-    rw bytes (encoding-apart now m kept numbered legal)
+    rw bytes (round_trip now m kept.squares numbered legal, encoding-apart now m kept numbered legal)
 
 -- What bytes decode to is one answer
 
--- what an answer says of the move that is named
+-- an answer is what is named, a legal move if it is one, or the refusal of an illegal one
 data Judged (n : Numbered) (bytes : List ℕ) (a : Result (Move × ℕ) MoveFault) : Type 0 where
-  faulty : (fault : MoveFault) → named n bytes ≡ Err fault → a ≡ Err fault → Judged n bytes a
-  legal : (d : Move × ℕ) → named n bytes ≡ Ok d → Legal n.position d.0 → a ≡ Ok d → Judged n bytes a
+  told : named n bytes ≡ a → ((d : Move × ℕ) → a ≡ Ok d → Legal n.position d.0) → Judged n bytes a
   illegal : (d : Move × ℕ) → named n bytes ≡ Ok d → (Legal n.position d.0 → ⊥) → a ≡ Err Illegal → Judged n bytes a
 
 judged : (n : Numbered) (bytes : List ℕ) (a : Result (Move × ℕ) MoveFault) → Decodes n bytes a → Judged n bytes a
-judged n bytes (Ok d) h = legal d h.0 h.1 refl
-judged n bytes (Err Short) h = faulty Short h refl
-judged n bytes (Err NoMan) h = faulty NoMan h refl
-judged n bytes (Err Value) h = faulty Value h refl
+judged n bytes (Ok d) h = told h.0 (λ e is. subst (λ k. Legal n.position k.0) (same_ok d e is) h.1)
+judged n bytes (Err Short) h = told h (λ e is. absurd (cc))
+judged n bytes (Err NoMan) h = told h (λ e is. absurd (cc))
+judged n bytes (Err Value) h = told h (λ e is. absurd (cc))
 judged n bytes (Err Illegal) (d, h) = illegal d h.0 h.1 refl
-
-same_named : (n : Numbered) (bytes : List ℕ) (d e : Move × ℕ) → named n bytes ≡ Ok d → named n bytes ≡ Ok e → d ≡ e
-same_named n bytes d e first second = same_ok d e (sym first ∙ second)
 
 pub Decodes-one : (n : Numbered) (bytes : List ℕ) (a b : Result (Move × ℕ) MoveFault) → Decodes n bytes a → Decodes n bytes b → a ≡ b
 Decodes-one n bytes a b first second =
     elim (judged n bytes a first) [
-      | faulty f named_a is_a ↦
-          elim (judged n bytes b second) [
-            | faulty g named_b is_b ↦ is_a ∙ sym named_a ∙ named_b ∙ sym is_b
-            | legal e named_b legal_b is_b ↦ absurd (cc (named_a, named_b))
-            | illegal e named_b illegal_b is_b ↦ absurd (cc (named_a, named_b))
-          ]
-      | legal d named_a legal_a is_a ↦
-          elim (judged n bytes b second) [
-            | faulty g named_b is_b ↦ absurd (cc (named_a, named_b))
-            | legal e named_b legal_b is_b ↦ is_a ∙ sym named_a ∙ named_b ∙ sym is_b
-            | illegal e named_b illegal_b is_b ↦ absurd (illegal_b (subst (λ k. Legal n.position k.0) (same_named n bytes d e named_a named_b) legal_a))
-          ]
-      | illegal d named_a illegal_a is_a ↦
-          elim (judged n bytes b second) [
-            | faulty g named_b is_b ↦ absurd (cc (named_a, named_b))
-            | legal e named_b legal_b is_b ↦ absurd (illegal_a (subst (λ k. Legal n.position k.0) (same_named n bytes e d named_b named_a) legal_b))
-            | illegal e named_b illegal_b is_b ↦ is_a ∙ sym is_b
-          ]
+      | told is_a legal_a ↦ elim (judged n bytes b second) [
+        | told is_b legal_b ↦ sym is_a ∙ is_b
+        | illegal d named_b not_b is_b ↦ absurd (not_b (legal_a d (sym is_a ∙ named_b)))
+      ]
+      | illegal d named_a not_a is_a ↦ elim (judged n bytes b second) [
+        | told is_b legal_b ↦ absurd (not_a (legal_b d (sym is_b ∙ named_a)))
+        | illegal e named_b not_b is_b ↦ is_a ∙ sym is_b
+      ]
     ]
 
 -- How many bytes an answer takes
@@ -126,4 +101,4 @@ Decodes-one n bytes a b first second =
 -- a move takes bytes, of those that there are
 pub Decodes-used : (n : Numbered) (bytes : List ℕ) (m : Move) (used : ℕ) → Decodes n bytes (Ok (m, used))
     → (0 < used) × (used ≤ length bytes)
-Decodes-used n bytes m used decodes = let within = named-used n bytes (m, used) decodes.0 in (within.0, within.1.1)
+Decodes-used n bytes m used decodes = let within = (named-fits n bytes (m, used) decodes.0).0 in (within.0, within.1.1)

@@ -1,8 +1,6 @@
 -- What stands on a board, and of which side and kind it is.
-use Rattle.std.proofs.Common.{◌≡◌, ℕ, ◌<◌, Bool, true, false, List, Option, Some, None, length, slice_get, inl, inr, refl, sym, ◌∙◌, ap}
-use Rattle.std.proofs.lemmas.Bool.{cases_lt}
-use Rattle.std.proofs.lemmas.Option.{none-some}
-use Rattle.std.proofs.lemmas.List.{get_or_past}
+use Rattle.std.proofs.Common.{◌≡◌, ℕ, Bool, true, false, List, Option, Some, None, slice_get, refl, ap}
+use Rattle.std.proofs.lemmas.Bool.{and_parts, cases_Bool, false_from_ne_true, false≢true}
 use Rattle.cell_core.specs.declared.man.Colour.{Colour}
 use Rattle.cell_core.specs.declared.man.Colour.TheVariants.{White, Black}
 use Rattle.cell_core.specs.declared.man.Kind.{Kind}
@@ -10,6 +8,7 @@ use Rattle.cell_core.specs.declared.man.Kind.TheVariants.{King}
 use Rattle.cell_core.specs.declared.man.Man.{Man}
 use Rattle.cell_core.specs.Board.{Men, man_at}
 use Rattle.cell_core.specs.Man.{is_man, is_of, man, other, same_colour, same_kind}
+use Rattle.cell_core.proofs.Same.{same_colour-Decides}
 use Rattle.chess_laws.specs.Position.{HasKings, king_square}
 use Rattle.chess_laws.proofs.Kings.{is_man-true, king-stands}
 use Rattle.move_codec.specs.Numbers.{HasKingFirst}
@@ -17,14 +16,6 @@ use Rattle.move_codec.specs.Numbers.{HasKingFirst}
 -- whether a man of a side stands on a square
 abbrev pub holds : Colour → Men → ℕ → Bool
 holds colour men s = is_of colour (man_at men s)
-
--- a man stands only on the board
-pub stands_within : (men : Men) (s : ℕ) (x : Man) → man_at men s ≡ Some x → s < length men
-stands_within men s x h =
-    elim (cases_lt s (length men)) [
-      | inl within ↦ within
-      | inr past ↦ absurd (none-some x (sym (get_or_past men s None past) ∙ h))
-    ]
 
 pub own_man : (c : Colour) (k : Kind) → is_of c (Some (man c k)) ≡ true
 own_man White k = refl
@@ -38,24 +29,20 @@ pub own_of_enemy : (c : Colour) (k : Kind) → is_of c (Some (man (other c) k)) 
 own_of_enemy White k = refl
 own_of_enemy Black k = refl
 
-pub enemy_king : (c : Colour) (k : Kind) → is_man (other c) King (Some (man c k)) ≡ false
-enemy_king White k = refl
-enemy_king Black k = refl
+-- a king is a man of its side
+pub king_held : (c : Colour) (o : Option Man) → is_man c King o ≡ true → is_of c o ≡ true
+king_held c None h = absurd (false≢true h)
+king_held c (Some m) h = (and_parts (same_colour m.colour c) (same_kind m.kind King) h).0
 
-pub other_kind : (c : Colour) (k : Kind) → same_kind k King ≡ false → is_man c King (Some (man c k)) ≡ false
-other_kind White k h = h
-other_kind Black k h = h
+pub no_king : (c : Colour) (o : Option Man) → is_of c o ≡ false → is_man c King o ≡ false
+no_king c None h = refl
+no_king c (Some m) h = rw h refl
 
 -- a square with no man of a side is not held by it
-no_own_of : (m : Man) (c a : Colour) → m.colour ≡ a → ((k : Kind) → Some m ≡ Some (man c k) → ⊥) → same_colour a c ≡ false
-no_own_of m White White is none = absurd (none m.kind (ap (λ (v : Colour). Some (man v m.kind)) is))
-no_own_of m White Black is none = refl
-no_own_of m Black White is none = refl
-no_own_of m Black Black is none = absurd (none m.kind (ap (λ (v : Colour). Some (man v m.kind)) is))
-
 pub no_own : (o : Option Man) (c : Colour) → ((k : Kind) → o ≡ Some (man c k) → ⊥) → is_of c o ≡ false
 no_own None c none = refl
-no_own (Some m) c none = no_own_of m c m.colour refl none
+no_own (Some m) c none =
+    false_from_ne_true (same_colour m.colour c) (λ h. none m.kind (ap (λ (d : Colour). Some (man d m.kind)) ((same_colour-Decides m.colour c).0 h)))
 
 -- the list of a side begins with its one king
 pub first_of : (men : Men) (c : Colour) (squares : List ℕ) → HasKings men → HasKingFirst men c squares → slice_get squares 0 ≡ Some (king_square men c)

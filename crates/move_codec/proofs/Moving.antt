@@ -1,16 +1,15 @@
 -- A number is that of its square, and where no man stands none is captured.
-use Rattle.std.proofs.Common.{◌≡◌, ℕ, ◌<◌, Bool, true, false, List, Option, Some, None, length, refl, sym, ap, ◌∙◌, inl, inr, arith}
-use Rattle.std.specs.Prelude.{IsTrue, slice_get, is_some, nat_lt}
+use Rattle.std.proofs.Common.{◌≡◌, ℕ, Bool, true, false, List, Option, Some, None, sym, ap, ◌∙◌}
+use Rattle.std.specs.Prelude.{IsTrue, slice_get, is_some}
 use Rattle.std.specs.Bool.{OnFalse}
-use Rattle.std.proofs.lemmas.Bool.{cases_Bool, false≢true}
-use Rattle.std.proofs.lemmas.Bool.Decides.{nat_tests}
+use Rattle.std.proofs.lemmas.Bool.{false≢true}
 use Rattle.cell_core.specs.declared.man.Colour.{Colour}
 use Rattle.cell_core.specs.declared.man.Man.{Man}
 use Rattle.cell_core.specs.Board.{Men, man_at}
 use Rattle.cell_core.specs.Man.{is_of, man, same_colour}
 use Rattle.cell_core.proofs.Same.{same_colour-Decides}
 use Rattle.move_codec.specs.Numbers.{IsNumbering, number_of, without}
-use Rattle.move_codec.proofs.Lists.{found-within}
+use Rattle.move_codec.proofs.Lists.{without-idle}
 
 -- the man with a number is of its side
 pub numbered-man : (men : Men) (side : Colour) (squares : List ℕ) (number square : ℕ) (m : Man) → IsNumbering men side squares
@@ -31,17 +30,8 @@ none-of None side empty h = false≢true h
 none-of (Some man) side empty h = absurd (cc)
 
 -- where no man stands none is captured
-pub without-none : (men : Men) (side : Colour) (squares : List ℕ) (square : ℕ) → IsNumbering men side squares
-    → is_some (man_at men square) ≡ false → without squares square ≡ squares
-without-none men side squares square h empty =
-    elim (cases_Bool (nat_lt (number_of squares square) (length squares))) [
-      | inl within ↦
-          let less : number_of squares square < length squares = grind (arith, nat_tests) in
-          absurd (none-of (man_at men square) side empty (h.held (number_of squares square) square (found-within squares square less)))
-      | inr past ↦ rw past refl
-    ]
-
 pub without-unless : (men : Men) (side : Colour) (squares : List ℕ) (square : ℕ) (taken : Bool) → IsNumbering men side squares
     → taken ≡ is_some (man_at men square) → OnFalse taken (without squares square ≡ squares)
 without-unless men side squares square true h is = tt
-without-unless men side squares square false h is = without-none men side squares square h (sym is)
+without-unless men side squares square false h is =
+    without-idle squares square (λ e. none-of (man_at men square) side (sym is) (h.held (number_of squares square) square e))

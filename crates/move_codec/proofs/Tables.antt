@@ -1,35 +1,29 @@
 -- Tests of all squares, and of all that steps lead to: what computing settles once for every board.
-use Rattle.std.proofs.Common.{◌≡◌, ℕ, zero, suc, ◌<◌, Bool, true, false, ◌&&◌, List, [], ◌∷◌, Option, Some, None, length, get_or, inl, inr, sym, ◌∙◌, ap, subst, arith}
+use Rattle.std.proofs.Common.{◌≡◌, ℕ, zero, suc, ◌<◌, Bool, true, false, ◌&&◌, List, ◌∷◌, ◌++◌, Option, Some, None, inl, inr, sym, ◌∙◌, ap, subst}
 use Rattle.std.specs.Prelude.{Any}
 use Rattle.std.specs.List.{list_all}
-use Rattle.std.proofs.lemmas.Bool.{and_parts, cases_lt}
+use Rattle.std.proofs.lemmas.Bool.{agree_below, agree_below_at, and_parts}
+use Rattle.std.proofs.lemmas.List.Sums.{AllPass-from_list_all}
+use Rattle.cell_core.specs.declared.man.Colour.{Colour}
+use Rattle.cell_core.specs.declared.man.Kind.{Kind}
+use Rattle.cell_core.specs.declared.man.Kind.TheVariants.{King, Queen, Rook, Bishop, Knight, Pawn}
+use Rattle.cell_core.specs.declared.step.Move.{Move}
 use Rattle.cell_core.specs.Board.{Men}
-use Rattle.chess_laws.specs.Geometry.{Offset, shift, Leaps, Runs, Walk}
+use Rattle.chess_laws.specs.declared.setup.Setup.{Setup}
+use Rattle.chess_laws.specs.Geometry.{Offset, shift, Leaps, Runs, Walk, king_steps, knight_steps, rook_steps, bishop_steps, forward, pawn_captures}
+use Rattle.chess_laws.specs.Step.{GoesPlainly}
 
 -- a test of every number below n
 abbrev pub all_below : (ℕ → Bool) → ℕ → Bool
-all_below test zero = true
-all_below test (suc n) = test n && all_below test n
+all_below test n = agree_below test (λ k. true) n
 
 pub below : (test : ℕ → Bool) (n k : ℕ) → all_below test n ≡ true → k < n → test k ≡ true
-below test zero k all h = absurd (omega arith)
-below test (suc n) k all h =
-    let parts = and_parts (test n) (all_below test n) all in
-    elim (cases_lt k n) [
-      | inl before ↦ below test n k parts.1 before
-      | inr last ↦ let same : k ≡ n = omega arith in rw same parts.0
-    ]
+below test n k all h = agree_below_at test (λ k. true) n k all h
 
 -- what holds at some element of a list, all of which pass a test, holds at one that passes it
 any_passes : (P : Offset → Type 0) (test : Offset → Bool) (os : List Offset) → list_all test os ≡ true → Any P os
     → (o : Offset) × ((test o ≡ true) × P o)
-any_passes P test os all any = passes os any.0 any.1 any.2 any.3 any.4 all
-  where
-    passes : (os : List Offset) (k : ℕ) (x : Offset) → k < length os → get_or os k x ≡ x → P x → list_all test os ≡ true
-        → (o : Offset) × ((test o ≡ true) × P o)
-    passes [] k x h is p all = absurd (omega arith)
-    passes (o ∷ os) zero x h is p all = (o, ((and_parts (test o) (list_all test os) all).0, subst P (sym is) p))
-    passes (o ∷ os) (suc k) x h is p all = passes os k x (omega arith) is p (and_parts (test o) (list_all test os) all).1
+any_passes P test os all (k, o, less, at, p) = (o, (subst (λ (x : Offset). test x ≡ true) at (AllPass-from_list_all test os all k o less), p))
 
 -- a test of the square that a step leads to, if it stays on the board
 abbrev pub at_square : (ℕ → Bool) → Option ℕ → Bool
@@ -44,21 +38,11 @@ pub leap-passes : (test : ℕ → ℕ → Bool) (o : Offset) (a b : ℕ) → lea
 unfolding leaps_pass
 leap-passes test o a b all h step = ap (at_square (test a)) (sym step) ∙ below (λ a. at_square (test a) (shift o a)) 64 a all h
 
-pub leaps-pass : (test : ℕ → ℕ → Bool) (steps : List Offset) (a b : ℕ) → list_all (leaps_pass test) steps ≡ true → a < 64
+leaps-pass : (test : ℕ → ℕ → Bool) (steps : List Offset) (a b : ℕ) → list_all (leaps_pass test) steps ≡ true → a < 64
     → Any (Leaps a b) steps → test a b ≡ true
 leaps-pass test steps a b all h any =
     let some = any_passes (Leaps a b) (leaps_pass test) steps all any in
     leap-passes test some.0 a b some.1.0 h some.1.1
-
--- two equal steps from every square
-unfoldable pub twos_pass : (ℕ → ℕ → Bool) → Offset → Bool
-twos_pass test o = all_below (λ a. at_square (λ c. at_square (test a) (shift o c)) (shift o a)) 64
-
-pub two-passes : (test : ℕ → ℕ → Bool) (o : Offset) (men : Men) (a b : ℕ) → twos_pass test o ≡ true → a < 64 → Walk men o 1 a b → test a b ≡ true
-unfolding twos_pass
-two-passes test o men a b all h walk =
-    ap (at_square (test a)) (sym walk.3) ∙ ap (at_square (λ c. at_square (test a) (shift o c))) (sym walk.1)
-    ∙ below (λ a. at_square (λ c. at_square (test a) (shift o c)) (shift o a)) 64 a all h
 
 -- equal steps from a square to the edge, which is less than n of them away
 abbrev pub goes_on : (ℕ → Bool) → (ℕ → Bool) → Option ℕ → Bool
@@ -81,9 +65,34 @@ walk-passes test men o (suc n) (suc far) a b walk all =
 unfoldable pub rays_pass : (ℕ → ℕ → Bool) → Offset → Bool
 rays_pass test o = all_below (λ a. ray_passes (test a) o 8 a) 64
 
-pub runs-pass : (test : ℕ → ℕ → Bool) (steps : List Offset) (men : Men) (a b : ℕ) → list_all (rays_pass test) steps ≡ true → a < 64
+runs-pass : (test : ℕ → ℕ → Bool) (steps : List Offset) (men : Men) (a b : ℕ) → list_all (rays_pass test) steps ≡ true → a < 64
     → Any (Runs men a b) steps → test a b ≡ true
 unfolding rays_pass
 runs-pass test steps men a b all h any =
     let some = any_passes (Runs men a b) (rays_pass test) steps all any in
     walk-passes (test a) men some.0 some.1.1.0 8 a b some.1.1.1 (below (λ a. ray_passes (test a) some.0 8 a) 64 a some.1.0 h)
+
+-- a plain move of a man of a kind from every square
+unfoldable pub plain_pass : Colour → Kind → (ℕ → ℕ → Bool) → Bool
+plain_pass side King test = list_all (leaps_pass test) king_steps
+plain_pass side Queen test = list_all (rays_pass test) (rook_steps ++ bishop_steps)
+plain_pass side Rook test = list_all (rays_pass test) rook_steps
+plain_pass side Bishop test = list_all (rays_pass test) bishop_steps
+plain_pass side Knight test = list_all (leaps_pass test) knight_steps
+plain_pass side Pawn test = list_all (leaps_pass test) (forward side ∷ pawn_captures side)
+
+pub across-passes : (side : Colour) (m : Move) (test : ℕ → ℕ → Bool) → plain_pass side Pawn test ≡ true → m.from < 64
+    → Any (Leaps m.from m.to) (pawn_captures side) → test m.from m.to ≡ true
+unfolding plain_pass
+across-passes side m test all h any = leaps-pass test (pawn_captures side) m.from m.to (and_parts _ _ all).1 h any
+
+pub plain-passes : (p : Setup) (kind : Kind) (m : Move) (test : ℕ → ℕ → Bool) → plain_pass p.side kind test ≡ true → m.from < 64
+    → GoesPlainly p kind m → test m.from m.to ≡ true
+unfolding plain_pass
+plain-passes p King m test all h goes = leaps-pass test king_steps m.from m.to all h goes.0
+plain-passes p Queen m test all h goes = runs-pass test (rook_steps ++ bishop_steps) p.board m.from m.to all h goes.0
+plain-passes p Rook m test all h goes = runs-pass test rook_steps p.board m.from m.to all h goes.0
+plain-passes p Bishop m test all h goes = runs-pass test bishop_steps p.board m.from m.to all h goes.0
+plain-passes p Knight m test all h goes = leaps-pass test knight_steps m.from m.to all h goes.0
+plain-passes p Pawn m test all h (inl ahead) = leap-passes test (forward p.side) m.from m.to (and_parts _ _ all).0 h ahead.0
+plain-passes p Pawn m test all h (inr takes) = across-passes p.side m test all h takes.0

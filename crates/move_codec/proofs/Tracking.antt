@@ -1,251 +1,162 @@
--- A side's numbered squares follow what it holds: a man goes from one square to another, or is taken away.
-use Rattle.std.proofs.Common.{◌≡◌, ◌≢◌, ℕ, ◌-◌, ◌<◌, ◌≤◌, Bool, true, false, cond, eqb, ltb, List, Some, length, slice_get, take, set, inl, inr, refl, sym, ◌∙◌, ap, arith, length-set, length-take, get_or}
-use Rattle.std.proofs.lemmas.Bool.{cases_Bool, cases_lt, eq-eqb, false≢true, ne_eqb}
-use Rattle.std.proofs.lemmas.Bool.Decides.{nat_tests}
-use Rattle.std.proofs.lemmas.Option.{slice_get-get_or, slice_get_within, same_Some}
+-- A side's numbered squares follow what stands where: a man is taken away or added, or one of the other side comes or goes.
+use Rattle.std.proofs.Common.{◌≡◌, ℕ, suc, ◌-◌, ◌<◌, ◌≤◌, Bool, true, false, cond, eqb, ltb, List, [], ◌∷◌, ◌++◌, Option, Some, None, length, slice_get, get_or, take, set, inl, inr, refl, sym, ◌∙◌, ap, subst, arith, length-set, length-take, length-append}
+use Rattle.std.specs.List.{swap_remove}
+use Rattle.std.proofs.lemmas.List.{take-set-le}
+use Rattle.std.proofs.Math.Seq.{take-set-lt}
+use Rattle.std.proofs.lemmas.Bool.{cases_Bool, cases_eq, eq-eqb, false≢true, ne_eqb}
+use Rattle.std.proofs.lemmas.Bool.Decides.{eqb_tells, nat_tests}
+use Rattle.std.proofs.lemmas.Option.{same_Some, none-some, slice_get-get_or, slice_get_past, slice_get_within}
+use Rattle.cell_core.specs.declared.man.Colour.{Colour}
+use Rattle.cell_core.specs.declared.man.Kind.TheVariants.{King}
+use Rattle.cell_core.specs.declared.man.Man.{Man}
+use Rattle.cell_core.specs.Man.{is_of, is_man}
 use Rattle.move_codec.specs.Numbers.{number_of, went, without}
-use Rattle.move_codec.proofs.Lists.{get-set_same, get-set_other, get-take_before, found, found-within, same_or_not}
+use Rattle.move_codec.proofs.Lists.{at, found, get-front, get-push, get-set, without-idle}
+use Rattle.move_codec.proofs.Boards.{no_king}
 
--- a function that is another one but for its value at one number
-abbrev pub at : {A : Type 0} → (ℕ → A) → ℕ → A → ℕ → A
-at f t x s = cond (eqb s t) x (f s)
-
-pub at-same : {A : Type 0} (f : ℕ → A) (t : ℕ) (x : A) (s : ℕ) → s ≡ t → at f t x s ≡ x
-at-same f t x s same = ap (λ b. cond b x (f s)) (eq-eqb s t same)
-
-pub at-other : {A : Type 0} (f : ℕ → A) (t : ℕ) (x : A) (s : ℕ) → s ≢ t → at f t x s ≡ f s
-at-other f t x s other = ap (λ b. cond b x (f s)) (ne_eqb s t other)
-
--- the same value again changes nothing
-pub at-idle : {A : Type 0} (f : ℕ → A) (t : ℕ) (x : A) → f t ≡ x → (s : ℕ) → at f t x s ≡ f s
-at-idle f t x is s =
-    elim (same_or_not s t) [
-      | inl same ↦ at-same f t x s same ∙ sym is ∙ ap f (sym same)
-      | inr other ↦ at-other f t x s other
-    ]
-
-pub at-like : {A : Type 0} (f g : ℕ → A) (t : ℕ) (x : A) (s : ℕ) → f s ≡ g s → at f t x s ≡ at g t x s
-at-like f g t x s like = ap (λ y. cond (eqb s t) x y) like
-
--- what holds after a square was left held elsewhere before
-pub record Before (f : ℕ → Bool) (left s : ℕ) : Type 0 where
-  pub away : s ≢ left
-  pub was : f s ≡ true
-
-pub before : (f : ℕ → Bool) (left s : ℕ) → at f left false s ≡ true → Before f left s
-before f left s holds =
-    let away : s ≢ left = λ same. false≢true (sym (at-same f left false s same) ∙ holds) in
-    record { away = away; was = sym (at-other f left false s away) ∙ holds }
-
--- a list has each square that is held, at its place, and no other; the first one is the king's
-pub record Tracks (held king : ℕ → Bool) (squares : List ℕ) : Type 0 where
+-- the numbers name each square that a man of the side stands on, at its place, and no other; the king's is 0
+pub record Tracks (c : Colour) (f : ℕ → Option Man) (get : ℕ → Option ℕ) : Type 0 where
   pub place : ℕ → ℕ
-  pub few : length squares ≤ 16
-  pub numbered : (n s : ℕ) → slice_get squares n ≡ Some s → (held s ≡ true) × (place s ≡ n)
-  pub whole : (s : ℕ) → held s ≡ true → slice_get squares (place s) ≡ Some s
-  pub first : (s : ℕ) → king s ≡ true → slice_get squares 0 ≡ Some s
+  pub numbered : (n s : ℕ) → get n ≡ Some s → (is_of c (f s) ≡ true) × (place s ≡ n)
+  pub whole : (s : ℕ) → is_of c (f s) ≡ true → get (place s) ≡ Some s
+  pub first : (s : ℕ) → is_man c King (f s) ≡ true → get 0 ≡ Some s
 
--- the place of what is held is its number
-number-is : {held king : ℕ → Bool} {squares : List ℕ} (s : ℕ) (h : Tracks held king squares) → held s ≡ true → number_of squares s ≡ h.place s
-number-is {squares = squares} s h holds = sym (h.numbered (number_of squares s) s (found squares (h.place s) s (h.whole s holds))).1
+pub Tracks-like : {c : Colour} {f g : ℕ → Option Man} {get list : ℕ → Option ℕ} → Tracks c f get → ((s : ℕ) → g s ≡ f s) → ((n : ℕ) → list n ≡ get n) → Tracks c g list
+Tracks-like {c} {f} {g} {get} {list} h same new = subst (λ u. Tracks c u list) (λ i s. sym (same s) i) (subst (λ u. Tracks c f u) (λ i n. sym (new n) i) h)
 
-pub Tracks-like : {held king held' king' : ℕ → Bool} {squares : List ℕ} → Tracks held king squares
-    → ((s : ℕ) → held' s ≡ held s) → ((s : ℕ) → king' s ≡ true → king s ≡ true) → Tracks held' king' squares
-Tracks-like h same kings = record {
-  place = h.place;
-  few = h.few;
-  numbered = λ n s e. (same s ∙ (h.numbered n s e).0, (h.numbered n s e).1);
-  whole = λ s t. h.whole s (sym (same s) ∙ t);
-  first = λ s t. h.first s (kings s t);
-}
+-- what stands on a square where no man of the side came
+pub away : (p : Option Man → Bool) (f : ℕ → Option Man) (t : ℕ) (x : Option Man) (s : ℕ) → p x ≡ false → p (at f t x s) ≡ true → (s ≡ t → ⊥) × (p (f s) ≡ true)
+away p f t x s none h = elim (eqb_tells s t) [
+  | inl same ↦ absurd (false≢true (sym none ∙ (rw same.0 at h)))
+  | inr other ↦ (other.1, rw other.0 at h)
+]
 
--- A man goes from one square to another
+module _ (c : Colour) (f : ℕ → Option Man) (get : ℕ → Option ℕ) (h : Tracks c f get) (t : ℕ) (x : Option Man) where
+  -- a man that is not of the side, where none of it stood
+  pub Tracks-other : is_of c (f t) ≡ false → is_of c x ≡ false → Tracks c (at f t x) get
+  Tracks-other free none = record {
+    place = h.place;
+    numbered = λ n s e.
+        let was = h.numbered n s e in
+        rw (ne_eqb s t (λ same. false≢true (sym free ∙ ap (λ u. is_of c (f u)) (sym same) ∙ was.0))) was;
+    whole = λ s own. h.whole s (away (is_of c) f t x s none own).1;
+    first = λ s is. h.first s (away (is_man c King) f t x s (no_king c x none) is).1;
+  }
 
-module _ (held king : ℕ → Bool) (squares : List ℕ) (from to : ℕ) (arrives : Bool) (h : Tracks held king squares)
-    (stood : held from ≡ true) (free : held to ≡ false) (kings : arrives ≡ true → king from ≡ true) where
-  here : slice_get squares (h.place from) ≡ Some from
-  here = h.whole from stood
+  -- and where a man of it stood
+  pub Tracks-taken : (k : ℕ) → get k ≡ Some t → is_of c x ≡ false → Tracks c (at f t x) (at get k None)
+  Tracks-taken k here none = record {
+    place = h.place;
+    numbered = λ n s e. elim (eqb_tells n k) [
+      | inl same ↦ absurd (none-some s (rw same.0 at e))
+      | inr other ↦
+          let was = h.numbered n s (rw other.0 at e) in
+          rw (ne_eqb s t (λ same. other.1 (sym was.1 ∙ ap h.place same ∙ (h.numbered k t here).1))) was
+    ];
+    whole = λ s own. let b = away (is_of c) f t x s none own in left s (h.place s) b.0 (h.whole s b.1);
+    first = λ s is. let b = away (is_man c King) f t x s (no_king c x none) is in left s 0 b.0 (h.first s b.1);
+  }
+    where
+      left : (s n : ℕ) → (s ≡ t → ⊥) → get n ≡ Some s → at get k None n ≡ Some s
+      left s n apart e = rw (ne_eqb n k (λ same. apart (same_Some s t (sym e ∙ ap get same ∙ here)))) e
 
-  arrived : slice_get (set squares (h.place from) to) (h.place from) ≡ Some to
-  arrived = get-set_same squares (h.place from) to (slice_get_within squares (h.place from) from here)
+  -- a man of the side comes to a square that it has free, with a number that none has
+  pub Tracks-added : (k : ℕ) → get k ≡ None → is_of c (f t) ≡ false → is_of c x ≡ true → (is_man c King x ≡ true → k ≡ 0) → Tracks c (at f t x) (at get k (Some t))
+  Tracks-added k unused free own king = record {
+    place = at h.place t k;
+    numbered = λ n s e. elim (eqb_tells n k) [
+      | inl same ↦ let is : t ≡ s = same_Some t s (rw same.0 at e) in rw (eq-eqb s t (sym is)) (own, sym same.1)
+      | inr other ↦
+          let was = h.numbered n s (rw other.0 at e) in
+          rw (ne_eqb s t (λ same. false≢true (sym free ∙ ap (λ u. is_of c (f u)) (sym same) ∙ was.0))) was
+    ];
+    whole = λ s held. elim (eqb_tells s t) [
+      | inl same ↦ rw (same.0, eq-eqb k k refl) (ap (λ (v : ℕ). Some v) (sym same.1))
+      | inr other ↦ rw other.0 (left s (h.place s) (h.whole s (rw other.0 at held)))
+    ];
+    first = λ s is. elim (eqb_tells s t) [
+      | inl same ↦ rw (eq-eqb 0 k (sym (king (rw same.0 at is)))) (ap (λ (v : ℕ). Some v) (sym same.1))
+      | inr other ↦ left s 0 (h.first s (rw other.0 at is))
+    ];
+  }
+    where
+      left : (s n : ℕ) → get n ≡ Some s → at get k (Some t) n ≡ Some s
+      left s n e = rw (ne_eqb n k (λ same. none-some s (sym unused ∙ sym (ap get same) ∙ e))) e
 
-  stayed : (s : ℕ) → s ≢ from → slice_get squares (h.place s) ≡ Some s → h.place s ≢ h.place from
-  stayed s away e same = away (same_Some s from (sym e ∙ ap (slice_get squares) same ∙ here))
+-- So the list follows: at most sixteen numbers
 
-  went_numbered : (n s : ℕ) → slice_get (set squares (h.place from) to) n ≡ Some s
-      → (at (at held from false) to true s ≡ true) × (at h.place to (h.place from) s ≡ n)
-  went_numbered n s e =
-      elim (same_or_not n (h.place from)) [
-        | inl same ↦
-            let is_to : s ≡ to = same_Some s to (sym e ∙ ap (slice_get (set squares (h.place from) to)) same ∙ arrived) in
-            (at-same (at held from false) to true s is_to, at-same h.place to (h.place from) s is_to ∙ sym same)
-        | inr other ↦
-            let was = h.numbered n s (sym (get-set_other squares (h.place from) to n other) ∙ e) in
-            let not_to : s ≢ to = λ t. false≢true (sym (ap held t ∙ free) ∙ was.0) in
-            let not_from : s ≢ from = λ f. other (sym was.1 ∙ ap h.place f) in
-            (at-other (at held from false) to true s not_to ∙ at-other held from false s not_from ∙ was.0, at-other h.place to (h.place from) s not_to ∙ was.1)
-      ]
+abbrev pub Tracked : Colour → (ℕ → Option Man) → List ℕ → Type 0
+Tracked c f squares = (length squares ≤ 16) × Tracks c f (slice_get squares)
 
-  went_whole : (s : ℕ) → at (at held from false) to true s ≡ true → slice_get (set squares (h.place from) to) (at h.place to (h.place from) s) ≡ Some s
-  went_whole s t =
-      elim (same_or_not s to) [
-        | inl is_to ↦
-            ap (slice_get (set squares (h.place from) to)) (at-same h.place to (h.place from) s is_to) ∙ arrived ∙ ap (λ (v : ℕ). Some v) (sym is_to)
-        | inr away ↦
-            let b = before held from s (sym (at-other (at held from false) to true s away) ∙ t) in
-            ap (slice_get (set squares (h.place from) to)) (at-other h.place to (h.place from) s away)
-            ∙ get-set_other squares (h.place from) to (h.place s) (stayed s b.away (h.whole s b.was)) ∙ h.whole s b.was
-      ]
+module _ (c : Colour) (f : ℕ → Option Man) (squares : List ℕ) (h : Tracked c f squares) (t : ℕ) (x : Option Man) where
+  -- what stands on a square has its number
+  pub there : is_of c (f t) ≡ true → slice_get squares (number_of squares t) ≡ Some t
+  there own = found squares (h.1.place t) t (h.1.whole t own)
 
-  went_first : (s : ℕ) → at (at king from false) to arrives s ≡ true → slice_get (set squares (h.place from) to) 0 ≡ Some s
-  went_first s t =
-      elim (same_or_not s to) [
-        | inl is_to ↦
-            let moves : king from ≡ true = kings (sym (at-same (at king from false) to arrives s is_to) ∙ t) in
-            let zeroth : h.place from ≡ 0 = (h.numbered 0 from (h.first from moves)).1 in
-            ap (slice_get (set squares (h.place from) to)) (sym zeroth) ∙ arrived ∙ ap (λ (v : ℕ). Some v) (sym is_to)
-        | inr away ↦
-            let b = before king from s (sym (at-other (at king from false) to arrives s away) ∙ t) in
-            let first : slice_get squares 0 ≡ Some s = h.first s b.was in
-            get-set_other squares (h.place from) to 0 (λ same. b.away (same_Some s from (sym first ∙ ap (slice_get squares) same ∙ here))) ∙ first
-      ]
+  -- a man goes to a free square
+  pub Tracked-went : (a : ℕ) → slice_get squares (number_of squares a) ≡ Some a → (is_man c King x ≡ true → slice_get squares 0 ≡ Some a)
+      → is_of c (f t) ≡ false → is_of c x ≡ true → Tracked c (at (at f a None) t x) (went squares a t)
+  Tracked-went a here king free own =
+      let n = number_of squares a in
+      let within = slice_get_within squares n a here in
+      let zeroth : is_man c King x ≡ true → n ≡ 0 = λ is. sym (h.1.numbered n a here).1 ∙ (h.1.numbered 0 a (king is)).1 in (
+        rw (length-set squares n t) h.0,
+        Tracks-like (Tracks-added c (at f a None) (at (slice_get squares) n None) (Tracks-taken c f (slice_get squares) h.1 a None n here refl) t x n
+            (rw (eq-eqb n n refl) refl) (free_still (eqb t a)) own zeroth) (λ s. refl) (λ j. get-set squares n t j within),
+      )
+    where
+      free_still : (b : Bool) → is_of c (cond b None (f t)) ≡ false
+      free_still true = refl
+      free_still false = free
 
-  pub Tracks-went : Tracks (at (at held from false) to true) (at (at king from false) to arrives) (went squares from to)
-  Tracks-went = rw (number-is from h stood) (record {
-    place = at h.place to (h.place from);
-    few = rw (length-set squares (h.place from) to) h.few;
-    numbered = went_numbered;
-    whole = went_whole;
-    first = went_first;
-  })
+  -- a man is added
+  pub Tracked-push : length squares < 16 → is_of c (f t) ≡ false → is_of c x ≡ true → (is_man c King x ≡ true → length squares ≡ 0)
+      → Tracked c (at f t x) (squares ++ t ∷ [])
+  Tracked-push room free own king = (
+    omega (arith, length-append squares (t ∷ [])),
+    Tracks-like (Tracks-added c f (slice_get squares) h.1 t x (length squares) (slice_get_past squares (length squares) (omega arith)) free own king)
+        (λ s. refl) (get-push squares t),
+  )
 
--- A man is taken away
+  -- a man is taken away: the last man takes his number
+  taken : slice_get squares (number_of squares t) ≡ Some t → is_of c x ≡ false → Tracked c (at f t x) (swap_remove squares (number_of squares t) t)
+  taken here none =
+      let n : ℕ = number_of squares t in
+      let within = slice_get_within squares n t here in
+      let m : ℕ = length squares - 1 in
+      let last : ℕ = get_or squares m t in
+      let at_last : slice_get squares m ≡ Some last = slice_get-get_or squares m t (omega arith) in
+      let size : length squares ≡ suc m = omega arith in (
+        omega (arith, length-take m (set squares n last), h.0),
+        elim (cases_eq n m) [
+          | inl same ↦
+              Tracks-like (Tracks-taken c f (slice_get squares) h.1 t x n here none) (λ s. refl)
+              (λ j. ap (λ l. slice_get l j) (take-set-le m squares n last (omega arith)) ∙ get-front squares m j size ∙ ap (λ i. at (slice_get squares) i None j) (sym same))
+          | inr apart ↦
+              let below : n < m = omega arith in
+              let other : last ≡ t → ⊥ = λ e. apart (sym (h.1.numbered n t here).1 ∙ ap h.1.place (sym e) ∙ (h.1.numbered m last at_last).1) in
+              let first = Tracks-taken c f (slice_get squares) h.1 last None m at_last refl in
+              let second = Tracks-taken c (at f last None) (at (slice_get squares) m None) first t x n (rw (ne_eqb n m apart) here) none in
+              let third = Tracks-added c (at (at f last None) t x) (at (at (slice_get squares) m None) n None) second last (f last) n
+              (rw (eq-eqb n n refl) refl) (rw (ne_eqb last t other, eq-eqb last last refl) refl) (h.1.numbered m last at_last).0
+              (λ is. absurd (omega (arith, (h.1.numbered 0 last (h.1.first last is)).1, (h.1.numbered m last at_last).1))) in
+              Tracks-like third
+              (λ s. elim (eqb_tells s last) [ inl same ↦ rw (same.0, ne_eqb s t (λ e. other (sym same.1 ∙ e))) (ap f same.1) | inr e ↦ rw e.0 refl ])
+              (λ j. ap (λ l. slice_get l j) (take-set-lt m squares n last below)
+              ∙ get-set (take m squares) n last j (omega (arith, length-take m squares))
+              ∙ ap (λ o. cond (eqb j n) (Some last) (cond (eqb j n) None o)) (get-front squares m j size))
+        ],
+      )
 
--- the h.place of the last element, and that element
-abbrev pub last_place : List ℕ → ℕ
-last_place squares = length squares - 1
+  -- where none stands none is taken away
+  pub idle : is_of c (f t) ≡ false → without squares t ≡ squares
+  idle free = without-idle squares t (λ e. false≢true (sym free ∙ (h.1.numbered (number_of squares t) t e).0))
 
-abbrev pub last_square : List ℕ → ℕ → ℕ
-last_square squares captured = get_or squares (last_place squares) captured
-
--- the list with the last element at a h.place, cut off at its end
-abbrev cut : List ℕ → ℕ → ℕ → List ℕ
-cut squares k captured = take (last_place squares) (set squares k (last_square squares captured))
-
-module _ (squares : List ℕ) (k captured : ℕ) (within : k < length squares) where
-  last_stands : slice_get squares (last_place squares) ≡ Some (last_square squares captured)
-  last_stands = slice_get-get_or squares (last_place squares) captured (omega arith)
-
-  cut-at_k : k < last_place squares → slice_get (cut squares k captured) k ≡ Some (last_square squares captured)
-  cut-at_k below =
-      get-take_before (set squares k (last_square squares captured)) (last_place squares) k below
-      ∙ get-set_same squares k (last_square squares captured) within
-
-  cut-elsewhere : (j : ℕ) → j ≢ k → j < last_place squares → slice_get (cut squares k captured) j ≡ slice_get squares j
-  cut-elsewhere j other below =
-      get-take_before (set squares k (last_square squares captured)) (last_place squares) j below
-      ∙ get-set_other squares k (last_square squares captured) j other
-
-module _ (held king : ℕ → Bool) (squares : List ℕ) (captured : ℕ) (h : Tracks held king squares)
-    (stood : held captured ≡ true) where
-  there : slice_get squares (h.place captured) ≡ Some captured
-  there = h.whole captured stood
-
-  inside : h.place captured < length squares
-  inside = slice_get_within squares (h.place captured) captured there
-
-  last_at : slice_get squares (last_place squares) ≡ Some (last_square squares captured)
-  last_at = last_stands squares (h.place captured) captured inside
-
-  last_number : h.place (last_square squares captured) ≡ last_place squares
-  last_number = (h.numbered (last_place squares) (last_square squares captured) last_at).1
-
-  -- where the places are then
-  abbrev later : ℕ → ℕ
-  later = at h.place (last_square squares captured) (h.place captured)
-
-  cut_numbered : (n s : ℕ) → slice_get (cut squares (h.place captured) captured) n ≡ Some s → (at held captured false s ≡ true) × (later s ≡ n)
-  cut_numbered n s e =
-      let shorter : n < length (cut squares (h.place captured) captured) = slice_get_within (cut squares (h.place captured) captured) n s e in
-      let below : n < last_place squares = omega (arith, length-take (last_place squares) (set squares (h.place captured) (last_square squares captured))) in
-      elim (same_or_not n (h.place captured)) [
-        | inl same ↦
-            let below' : h.place captured < last_place squares = omega arith in
-            let is_last : s ≡ last_square squares captured =
-            same_Some s (last_square squares captured) (sym e ∙ ap (slice_get (cut squares (h.place captured) captured)) same ∙ cut-at_k squares (h.place captured) captured inside below') in
-            let kept : s ≢ captured = λ c. omega (arith, last_number, ap h.place (sym is_last ∙ c)) in (
-              at-other held captured false s kept ∙ ap held is_last ∙ (h.numbered (last_place squares) (last_square squares captured) last_at).0,
-              at-same h.place (last_square squares captured) (h.place captured) s is_last ∙ sym same,
-            )
-        | inr other ↦
-            let was = h.numbered n s (sym (cut-elsewhere squares (h.place captured) captured inside n other below) ∙ e) in
-            let kept : s ≢ captured = λ c. other (sym was.1 ∙ ap h.place c) in
-            let not_last : s ≢ last_square squares captured = λ l. omega (arith, last_number, was.1, ap h.place l) in
-            (at-other held captured false s kept ∙ was.0, at-other h.place (last_square squares captured) (h.place captured) s not_last ∙ was.1)
-      ]
-
-  apart : (s n : ℕ) → s ≢ captured → slice_get squares n ≡ Some s → n ≢ h.place captured
-  apart s n away e same = away (same_Some s captured (sym e ∙ ap (slice_get squares) same ∙ there))
-
-  cut_whole : (s : ℕ) → at held captured false s ≡ true → slice_get (cut squares (h.place captured) captured) (later s) ≡ Some s
-  cut_whole s t =
-      let b = before held captured s t in
-      let e : slice_get squares (h.place s) ≡ Some s = h.whole s b.was in
-      let other : h.place s ≢ h.place captured = apart s (h.place s) b.away e in
-      let within : h.place s < length squares = slice_get_within squares (h.place s) s e in
-      elim (same_or_not s (last_square squares captured)) [
-        | inl last ↦
-            let at_end : h.place s ≡ last_place squares = ap h.place last ∙ last_number in
-            let below : h.place captured < last_place squares = elim (cases_lt (h.place captured) (last_place squares)) [
-              | inl less ↦ less
-              | inr more ↦ absurd (other (omega (arith, inside)))
-            ] in
-            ap (slice_get (cut squares (h.place captured) captured)) (at-same h.place (last_square squares captured) (h.place captured) s last)
-            ∙ cut-at_k squares (h.place captured) captured inside below ∙ ap (λ (v : ℕ). Some v) (sym last)
-        | inr before_last ↦
-            let not_end : h.place s ≢ last_place squares = λ same. before_last (same_Some s (last_square squares captured) (sym e ∙ ap (slice_get squares) same ∙ last_at)) in
-            let below : h.place s < last_place squares = elim (cases_lt (h.place s) (last_place squares)) [
-              | inl less ↦ less
-              | inr more ↦ absurd (not_end (omega arith))
-            ] in
-            ap (slice_get (cut squares (h.place captured) captured)) (at-other h.place (last_square squares captured) (h.place captured) s before_last)
-            ∙ cut-elsewhere squares (h.place captured) captured inside (h.place s) other below ∙ e
-      ]
-
-  cut_first : (s : ℕ) → at king captured false s ≡ true → slice_get (cut squares (h.place captured) captured) 0 ≡ Some s
-  cut_first s t =
-      let b = before king captured s t in
-      let first : slice_get squares 0 ≡ Some s = h.first s b.was in
-      let other : 0 ≢ h.place captured = apart s 0 b.away first in
-      let below : 0 < last_place squares = elim (cases_lt 0 (last_place squares)) [
-        | inl less ↦ less
-        | inr more ↦ absurd (other (omega (arith, inside)))
-      ] in
-      cut-elsewhere squares (h.place captured) captured inside 0 other below ∙ first
-
-  Tracks-taken : Tracks (at held captured false) (at king captured false) (without squares captured)
-  Tracks-taken =
-      let test : ltb (h.place captured) (length squares) ≡ true = grind (arith, nat_tests, inside) in
-      rw (number-is captured h stood, test) (record {
-        place = later;
-        few = omega (arith, length-take (last_place squares) (set squares (h.place captured) (last_square squares captured)), h.few);
-        numbered = cut_numbered;
-        whole = cut_whole;
-        first = cut_first;
-      })
-
--- the man of a square is taken away, if one stands there
-module _ (held king : ℕ → Bool) (squares : List ℕ) (captured : ℕ) (h : Tracks held king squares) where
-  kept : held captured ≡ false → without squares captured ≡ squares
-  kept free =
-      elim (cases_lt (number_of squares captured) (length squares)) [
-        | inl within ↦ absurd (false≢true (sym free ∙ (h.numbered (number_of squares captured) captured (found-within squares captured within)).0))
-        | inr past ↦ let test : ltb (number_of squares captured) (length squares) ≡ false = grind (arith, nat_tests) in rw test refl
-      ]
-
-  pub Tracks-without : Tracks (at held captured false) (at king captured false) (without squares captured)
-  Tracks-without =
-      elim (cases_Bool (held captured)) [
-        | inl stood ↦ Tracks-taken held king squares captured h stood
-        | inr free ↦ rw (kept free) (Tracks-like h (at-idle held captured false free) (λ s t. (before king captured s t).was))
-      ]
+  -- if one stands there
+  pub Tracked-without : is_of c x ≡ false → Tracked c (at f t x) (without squares t)
+  Tracked-without none = elim (cases_Bool (is_of c (f t))) [
+    | inl stood ↦
+        let test : ltb (number_of squares t) (length squares) ≡ true = grind (arith, nat_tests, slice_get_within squares (number_of squares t) t (there stood)) in
+        rw test (taken (there stood) none)
+    | inr free ↦ rw (idle free) (h.0, Tracks-other c f (slice_get squares) h.1 t x free none)
+  ]

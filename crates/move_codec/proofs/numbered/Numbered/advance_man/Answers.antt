@@ -5,7 +5,7 @@ use Rattle.std.proofs.lemmas.Result.{err_from_is_err_and}
 use Rattle.cell_core.specs.Board.{man_at}
 use Rattle.cell_core.specs.Man.{man}
 use Rattle.move_codec.specs.Numbers.{squares_of}
-use Rattle.move_codec.proofs.Decoding.{Decodes-fault, named-from, named-used, named-second}
+use Rattle.move_codec.proofs.Decoding.{Decodes-fault, named-from, named-fits}
 use Rattle.move_codec.proofs.numbered.Numbered.advance_man.Goals as goal
 
 pub returns-in_err-m-clause-decodes : goal.returns-in_err-m-clause-decodes
@@ -15,11 +15,11 @@ returns-in_err-m-clause-decodes c =
 
 pub returns-then-follow_legal-clause-used : goal.returns-then-follow_legal-clause-used
 returns-then-follow_legal-clause-used c =
-    named-used c.args.self.now c.args.bytes.now (c.in_ok-m.m, c.in_ok-m.used) (sym c.named_by.ensures ∙ c.in_ok-m.was)
+    (named-fits c.args.self.now c.args.bytes.now (c.in_ok-m.m, c.in_ok-m.used) (sym c.named_by.ensures ∙ c.in_ok-m.was)).0
 
 pub returns-then-follow_legal-clause-second : goal.returns-then-follow_legal-clause-second
 returns-then-follow_legal-clause-second c =
-    named-second c.args.self.now c.args.bytes.now (c.in_ok-m.m, c.in_ok-m.used) (sym c.named_by.ensures ∙ c.in_ok-m.was)
+    (named-fits c.args.self.now c.args.bytes.now (c.in_ok-m.m, c.in_ok-m.used) (sym c.named_by.ensures ∙ c.in_ok-m.was)).1
 
 pub follow_legal-requires : goal.follow_legal-requires
 follow_legal-requires c =

@@ -3,7 +3,7 @@ use Rattle.std.proofs.lemmas.Bool.{false≢true}
 use Rattle.std.proofs.lemmas.Result.{err_from_is_err_and}
 use Rattle.chess_laws.specs.Step.{Legal}
 use Rattle.move_codec.specs.Numbers.{Numbered}
-use Rattle.move_codec.proofs.Decoding.{Decodes-fault, Decodes-legal, Decodes-illegal, named-used, named-second}
+use Rattle.move_codec.proofs.Decoding.{Decodes-fault, named-fits}
 use Rattle.move_codec.proofs.numbered.Numbered.decode_move.Goals as goal
 
 pub returns-in_err-m : goal.returns-in_err-m
@@ -13,19 +13,24 @@ returns-in_err-m c =
 
 pub returns-then-is_legal : goal.returns-then-is_legal
 returns-then-is_legal c =
-    let legal : Legal c.self.inside.position c.in_ok-m.m = c.is_legal.ensures.legal.0 c.if-is_legal.true in
+    let named = sym c.named.ensures ∙ c.in_ok-m.was in
+    let fits = named-fits c.args.self.now c.args.bytes.now (c.in_ok-m.m, c.in_ok-m.used) named in
     record {
-      decodes = Decodes-legal c.args.self.now c.args.bytes.now (c.in_ok-m.m, c.in_ok-m.used) (sym c.named.ensures ∙ c.in_ok-m.was)
-          (subst (λ (n : Numbered). Legal n.position c.in_ok-m.m) c.self.view_is legal);
-      used = named-used c.args.self.now c.args.bytes.now (c.in_ok-m.m, c.in_ok-m.used) (sym c.named.ensures ∙ c.in_ok-m.was);
-      second = named-second c.args.self.now c.args.bytes.now (c.in_ok-m.m, c.in_ok-m.used) (sym c.named.ensures ∙ c.in_ok-m.was);
+      decodes = (named, subst (λ (n : Numbered). Legal n.position c.in_ok-m.m) c.self.view_is (c.is_legal.ensures.legal.0 c.if-is_legal.true));
+      used = fits.0;
+      second = fits.1;
     }
 
 pub returns-else-is_legal : goal.returns-else-is_legal
 returns-else-is_legal c =
     record {
-      decodes = Decodes-illegal c.args.self.now c.args.bytes.now (c.in_ok-m.m, c.in_ok-m.used) (sym c.named.ensures ∙ c.in_ok-m.was)
-          (λ legal. false≢true (sym c.if-is_legal.false ∙ c.is_legal.ensures.legal.1 (subst (λ (n : Numbered). Legal n.position c.in_ok-m.m) (sym c.self.view_is) legal)));
+      decodes = (
+        (c.in_ok-m.m, c.in_ok-m.used),
+        (
+          sym c.named.ensures ∙ c.in_ok-m.was,
+          λ legal. false≢true (sym c.if-is_legal.false ∙ c.is_legal.ensures.legal.1 (subst (λ (n : Numbered). Legal n.position c.in_ok-m.m) (sym c.self.view_is) legal)),
+        ),
+      );
       used = tt;
       second = tt;
     }
