@@ -92,7 +92,7 @@ plain_table Black Pawn true (Some Queen) rest h = refl
 plain_table Black Pawn true (Some Rook) rest h = refl
 plain_table Black Pawn true (Some Bishop) rest h = refl
 plain_table Black Pawn true (Some Knight) rest h = refl
-plain_table side kind last promo rest h = absurd (cc)
+plain_table c k last promo rest h = absurd (cc)
 
 -- two steps ahead
 abbrev ahead : Colour → List ℕ → ℕ → ℕ → Bool

@@ -1,5 +1,6 @@
 -- The numbered squares after a legal move are those of the men after it, the kings' first.
 use Rattle.std.proofs.Common.{◌≡◌, ℕ, ◌<◌, true, false, cond, eqb, List, Option, Some, None, length, slice_get, set, inl, inr, refl, sym, ◌∙◌, ap, subst}
+use Rattle.std.proofs.lemmas.Bool.{false≢true}
 use Rattle.std.proofs.lemmas.Bool.Decides.{eqb_tells}
 use Rattle.std.proofs.lemmas.Option.{none-some, get_or_from_slice_get}
 use Rattle.std.proofs.lemmas.List.{set-get_or}
@@ -21,7 +22,7 @@ use Rattle.chess_laws.specs.Step.{Case, NullCase, PassingCase, CastleCase, arriv
 use Rattle.chess_laws.specs.Geometry.{rank_of}
 use Rattle.chess_laws.proofs.Boards.{Goes, length-put, on_board, put-other, put-same, relocate}
 use Rattle.chess_laws.proofs.Following.{case-on_board}
-use Rattle.chess_laws.proofs.Keeping.{CastleSquares, arriving-lands, castle-apart, castle-crossed, castle-king_goes, castle-rook_goes, castle-squares, lands, lands_as, moved-other, plain-no_king, plain-no_own}
+use Rattle.chess_laws.proofs.Keeping.{CastleSquares, arriving-lands, castle-apart, castle-crossed, castle-rook_goes, castle-squares, lands, lands_as, moved-other, plain-no_king, plain-no_own}
 use Rattle.move_codec.specs.declared.numbers.Numbers.{Numbers}
 use Rattle.move_codec.specs.Numbers.{AreNumbers, HasKingFirst, IsNumbering, number_of, squares_of, went, without, movers_after, capture_square, numbers_by, numbers_after}
 use Rattle.move_codec.proofs.Lists.{at, found}
@@ -63,61 +64,64 @@ both_goes men a b c k j g =
           (new.0, Tracks-like new.1 relocated (λ n. refl));
     }
 
+-- a man of the other side is taken away
+both_taken : (men : Men) (s : ℕ) (c : Colour) (k : Kind) → length men ≡ 64 → man_at men s ≡ Some (man (other c) k)
+    → Both c men (put men s None) (λ squares. squares) (λ squares. without squares s)
+both_taken men s c k size stands =
+    let emptied : (t : ℕ) → man_at (put men s None) t ≡ at (man_at men) s None t = λ t. put-at men s None t size (on_board men s (man (other c) k) size stands) in
+    record {
+      movers = λ squares h. (h.0, Tracks-like (Tracks-other c (man_at men) (slice_get squares) h.1 s None (ap (is_of c) stands ∙ own_of_enemy c k) refl) emptied (λ n. refl));
+      others = λ squares h. let new = Tracked-without (other c) (man_at men) squares h s None refl in (new.0, Tracks-like new.1 emptied (λ n. refl));
+    }
+
+-- where a square was empty none was taken from it
+nothing_taken : (men after : Men) (c : Colour) (s : ℕ) (own : List ℕ → List ℕ) → man_at men s ≡ None
+    → Both c men after own (λ squares. without squares s) → Both c men after own (λ squares. squares)
+nothing_taken men after c s own empty both = record {
+  movers = both.movers;
+  others = λ squares h. subst (λ l. Own (other c) after l) (idle (other c) (man_at men) squares h s None (ap (is_of (other c)) empty)) (both.others squares h);
+}
+
 -- a move to an empty square
-empty_goes : (p : Setup) (m : Move) (k : Kind) → Sound p → man_at p.board m.from ≡ Some (man p.side k) → m.to < 64 → man_at p.board m.to ≡ None
-    → Goes p.board m.from m.to p.side k k
-empty_goes p m k sound stands target empty = record {
+moved_empty : (p : Setup) (m : Move) (k : Kind) → Sound p → man_at p.board m.from ≡ Some (man p.side k) → m.promo ≡ None → m.to < 64 → man_at p.board m.to ≡ None
+    → Both p.side p.board (moved p m) (λ squares. went squares m.from m.to) (λ squares. without squares m.to)
+moved_empty p m k sound stands promo target empty = rw (promo, stands) (both_goes p.board m.from m.to p.side k k (record {
   squares = sound.squares;
   from = stands;
   target = target;
   no_own = λ i h. cc empty;
   no_king = λ d h. cc empty;
   same_king = refl;
-}
+}))
 
 -- The change of each effect
 abbrev After : Setup → Move → Effect → Type 0
 After p m e = Both p.side p.board (board_after p m e) (movers_after p.side m e) (λ squares. without squares (capture_square m e))
 
--- en passant: the passed pawn's square is emptied too
+size_moved : (p : Setup) (m : Move) → Sound p → length (moved p m) ≡ 64
+size_moved p m sound = length-put (put p.board m.from None) m.to (arriving p m m.promo) (length-put p.board m.from None sound.squares)
+
+-- en passant: the passed pawn is taken away too
 both_passing : (p : Setup) (m : Move) → Sound p → m.to < 64 → PassingCase p m → After p m Passing
 both_passing p m sound target c =
-    let passed : man_at p.board (passed_square m) ≡ Some (man (other p.side) Pawn) = c.passed in
-    let away : passed_square m ≡ m.from → ⊥ = λ same.
-    let own : is_of p.side (Some (man (other p.side) Pawn)) ≡ true = ap (is_of p.side) (sym passed ∙ ap (man_at p.board) same ∙ c.stands) ∙ own_man p.side Pawn in
-    absurd (cc (own_of_enemy p.side Pawn)) in
-    let apart : passed_square m ≡ m.to → ⊥ = λ same. none-some (man (other p.side) Pawn) (sym c.empty ∙ sym (ap (man_at p.board) same) ∙ passed) in
-    let goes = both_goes p.board m.from m.to p.side Pawn Pawn (empty_goes p m Pawn sound c.stands target c.empty) in
-    let now : man_at (moved p m) (passed_square m) ≡ Some (man (other p.side) Pawn) = moved-other p m (passed_square m) away apart ∙ passed in
-    let emptied : (s : ℕ) → man_at (put (moved p m) (passed_square m) None) s ≡ at (man_at (moved p m)) (passed_square m) None s =
-    λ s. put-at (moved p m) (passed_square m) None s (length-put (put p.board m.from None) m.to (arriving p m m.promo) (length-put p.board m.from None sound.squares))
-    (on_board p.board (passed_square m) (man (other p.side) Pawn) sound.squares passed) in
-    record {
-      movers = λ squares h.
-          let new : Own p.side (moved p m) (went squares m.from m.to) = rw (c.promo, c.stands) (goes.movers squares h) in
-          (new.0, Tracks-like (Tracks-other p.side (man_at (moved p m)) (slice_get (went squares m.from m.to)) new.1 (passed_square m) None (ap (is_of p.side) now ∙ own_of_enemy p.side Pawn) refl) emptied (λ n. refl));
-      others = λ squares h.
-          let new : Own (other p.side) (moved p m) squares =
-          rw (c.promo, c.stands) (subst (λ l. Own (other p.side) (relocate p.board m.from m.to (Some (man p.side Pawn))) l)
-          (idle (other p.side) (man_at p.board) squares h m.to None (ap (is_of (other p.side)) c.empty)) (goes.others squares h)) in
-          let taken = Tracked-without (other p.side) (man_at (moved p m)) squares new (passed_square m) None refl in
-          (taken.0, Tracks-like taken.1 emptied (λ n. refl));
-    }
+    let s : ℕ = passed_square m in
+    let from : s ≡ m.from → ⊥ = λ e.
+    false≢true (sym (own_of_enemy p.side Pawn) ∙ ap (is_of p.side) (sym c.passed ∙ ap (man_at p.board) e ∙ c.stands) ∙ own_man p.side Pawn) in
+    let to : s ≡ m.to → ⊥ = λ e. none-some (man (other p.side) Pawn) (sym c.empty ∙ sym (ap (man_at p.board) e) ∙ c.passed) in
+    let goes = nothing_taken p.board (moved p m) p.side m.to (λ squares. went squares m.from m.to) c.empty (moved_empty p m Pawn sound c.stands c.promo target c.empty) in
+    let taken = both_taken (moved p m) s p.side Pawn (size_moved p m sound) (moved-other p m s from to ∙ c.passed) in
+    record { movers = λ squares h. taken.movers (went squares m.from m.to) (goes.movers squares h); others = λ squares h. taken.others squares (goes.others squares h) }
 
 -- castling: the rook goes too, to a square that the king has crossed
 both_castle : (p : Setup) (m : Move) (wing : Wing) → Sound p → m.to < 64 → CastleSquares p m wing → CastleCase p m wing → After p m (Castle wing)
 both_castle p m wing sound target at c =
-    let size : length (moved p m) ≡ 64 = length-put (put p.board m.from None) m.to (arriving p m m.promo) (length-put p.board m.from None sound.squares) in
-    let king : Both p.side p.board (moved p m) (λ squares. went squares m.from m.to) (λ squares. without squares m.to) =
-    rw (c.promo, c.stands) (both_goes p.board m.from m.to p.side King King (castle-king_goes p m wing sound target at c)) in
-    let rook = both_goes (moved p m) (rook_home p.side wing) (rook_target p.side wing) p.side Rook Rook (castle-rook_goes p m wing sound size at c) in
+    let king = moved_empty p m King sound c.stands c.promo target (ap (man_at p.board) at.to ∙ (castle-apart p.board p.side wing c.empty).king_to) in
+    let rook = nothing_taken (moved p m) (board_after p m (Castle wing)) p.side (rook_target p.side wing) (λ squares. went squares (rook_home p.side wing) (rook_target p.side wing))
+    (castle-crossed p m wing at c)
+    (both_goes (moved p m) (rook_home p.side wing) (rook_target p.side wing) p.side Rook Rook (castle-rook_goes p m wing sound (size_moved p m sound) at c)) in
     record {
       movers = λ squares h. rook.movers (went squares m.from m.to) (king.movers squares h);
-      others = λ squares h.
-          let new = king.others squares h in
-          subst (λ l. Own (other p.side) (board_after p m (Castle wing)) l)
-          (idle (other p.side) (man_at (moved p m)) (without squares m.to) new (rook_target p.side wing) None (ap (is_of (other p.side)) (castle-crossed p m wing at c)))
-          (rook.others (without squares m.to) new);
+      others = λ squares h. rook.others (without squares m.to) (king.others squares h);
     }
 
 -- a null move: the king keeps his square
@@ -135,7 +139,6 @@ both_null p m c = record {
 -- every effect of a legal move
 both : (p : Setup) (m : Move) (e : Effect) → Sound p → effect_of p m ≡ e → Case p m e → m.to < 64 → After p m e
 both p m Plain sound is c target =
-    let landing = lands c.kind (eqb (rank_of m.to) (last_rank p.side)) m.promo c.promotes in
     rw (arriving-lands p m c.kind m.promo c.stands)
     (both_goes p.board m.from m.to p.side c.kind (lands_as c.kind m.promo)
     (record {
@@ -144,10 +147,9 @@ both p m Plain sound is c target =
       target = target;
       no_own = plain-no_own p m c.kind c.goes;
       no_king = plain-no_king p m c.kind sound c.stands c.goes;
-      same_king = landing.same_king;
+      same_king = (lands c.kind (eqb (rank_of m.to) (last_rank p.side)) m.promo c.promotes).same_king;
     }))
-both p m Double sound is c target =
-    rw (c.promo, c.stands) (both_goes p.board m.from m.to p.side Pawn Pawn (empty_goes p m Pawn sound c.stands target c.target))
+both p m Double sound is c target = moved_empty p m Pawn sound c.stands c.promo target c.target
 both p m Passing sound is c target = both_passing p m sound target c
 both p m (Castle wing) sound is c target = both_castle p m wing sound target (castle-squares p m wing c.stands is) c
 both p m Null sound is c target = both_null p m c
