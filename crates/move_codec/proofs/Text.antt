@@ -20,7 +20,7 @@ use Rattle.move_codec.proofs.Lists.{at, found}
 use Rattle.move_codec.proofs.Standard.{held_on_board}
 use Rattle.move_codec.proofs.Steps.{Numbered, numbered}
 use Rattle.move_codec.proofs.Tables.{below}
-use Rattle.move_codec.proofs.Tracking.{Tracked, Tracked-push, Tracked-went, Tracks-like, Tracks-other, away}
+use Rattle.move_codec.proofs.Tracking.{Tracked, Tracked-push, Tracked-went, Tracked-like, Tracks-other, away}
 
 -- How many numbers there are
 
@@ -105,13 +105,9 @@ module _ (men : Men) (c : Colour) (one : count_by (is_man c King) men ≡ 1) whe
       let went : Tracked c (at (at f y None) x (man_at men x)) (x ∷ ys) = rw (eq-eqb y y refl) at
       (Tracked-went c f (y ∷ ys) h x (man_at men x) y (found (y ∷ ys) 0 y refl) (λ is. refl) (ap (is_of c) none) (king_held c (man_at men x) king)) in
       let pushed = Tracked-push c (at (at f y None) x (man_at men x)) (x ∷ ys) went y (f y) room (rw (ne_eqb y x apart, eq-eqb y y refl) refl) held
-      (λ is. absurd (apart (only y is))) in (
-        pushed.0,
-        Tracks-like pushed.1 (λ s. elim (eqb_tells s y) [
-          | inl same ↦ rw (same.0, ne_eqb s x (λ e. apart (sym same.1 ∙ e))) (ap f same.1)
-          | inr other ↦ rw other.0 refl
-        ]) (λ n. refl),
-      )
+      (λ is. absurd (apart (only y is))) in
+      Tracked-like (x ∷ (ys ++ y ∷ [])) pushed
+      (λ s. elim (eqb_tells s y) [ inl same ↦ rw (same.0, ne_eqb s x (λ e. apart (sym same.1 ∙ e))) (ap f same.1) | inr other ↦ rw other.0 refl ])
 
   Tracked-square : (f : ℕ → Option Man) (squares : List ℕ) (x : ℕ) → Tracked c f squares → f x ≡ None
       → ((s : ℕ) → is_man c King (f s) ≡ true → is_man c King (man_at men s) ≡ true) → length (with_square men c squares x) ≤ 16
@@ -139,13 +135,10 @@ module _ (men : Men) (c : Colour) (one : count_by (is_man c King) men ≡ 1) whe
       let next = with_square men c squares x in
       let added = Tracked-square (before men (x ∷ later)) squares x h (rw (eq-eqb x x refl) refl) (λ s. before-some (is_man c King) men (x ∷ later) s refl)
       (omega (arith, length-with_squares men c next later)) in
-      Tracked-squares later next both.1 room (
-        added.0,
-        Tracks-like added.1 (λ s. elim (eqb_tells s x) [
-          | inl same ↦ rw same.0 (ap (before men later) same.1 ∙ before-fresh men later x both.0)
-          | inr other ↦ rw other.0 refl
-        ]) (λ n. refl),
-      )
+      Tracked-squares later next both.1 room (Tracked-like next added (λ s. elim (eqb_tells s x) [
+        | inl same ↦ rw same.0 (ap (before men later) same.1 ∙ before-fresh men later x both.0)
+        | inr other ↦ rw other.0 refl
+      ]))
 
 -- the numbers from a placement text are those of a side's men, of which there are at most sixteen, its king's first
 numbers-text : (men : Men) (c : Colour) → length men ≡ 64 → count_by (is_man c King) men ≡ 1 → count_by (is_of c) men ≤ 16 → Numbered men c (text_numbers_of men c)

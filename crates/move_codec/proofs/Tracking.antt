@@ -21,8 +21,9 @@ pub record Tracks (c : Colour) (f : ℕ → Option Man) (get : ℕ → Option �
   pub whole : (s : ℕ) → is_of c (f s) ≡ true → get (place s) ≡ Some s
   pub first : (s : ℕ) → is_man c King (f s) ≡ true → get 0 ≡ Some s
 
-pub Tracks-like : {c : Colour} {f g : ℕ → Option Man} {get list : ℕ → Option ℕ} → Tracks c f get → ((s : ℕ) → g s ≡ f s) → ((n : ℕ) → list n ≡ get n) → Tracks c g list
-Tracks-like {c} {f} {g} {get} {list} h same new = subst (λ u. Tracks c u list) (λ i s. sym (same s) i) (subst (λ u. Tracks c f u) (λ i n. sym (new n) i) h)
+-- and the same for functions with the same values
+Tracks-list : {c : Colour} {f : ℕ → Option Man} {get list : ℕ → Option ℕ} → Tracks c f get → ((n : ℕ) → list n ≡ get n) → Tracks c f list
+Tracks-list {c} {f} h same = subst (λ u. Tracks c f u) (λ i n. sym (same n) i) h
 
 -- what stands on a square where no man of the side came
 pub away : (p : Option Man → Bool) (f : ℕ → Option Man) (t : ℕ) (x : Option Man) (s : ℕ) → p x ≡ false → p (at f t x s) ≡ true → (s ≡ t → ⊥) × (p (f s) ≡ true)
@@ -88,6 +89,9 @@ module _ (c : Colour) (f : ℕ → Option Man) (get : ℕ → Option ℕ) (h : T
 abbrev pub Tracked : Colour → (ℕ → Option Man) → List ℕ → Type 0
 Tracked c f squares = (length squares ≤ 16) × Tracks c f (slice_get squares)
 
+pub Tracked-like : {c : Colour} {f g : ℕ → Option Man} (squares : List ℕ) → Tracked c f squares → ((s : ℕ) → g s ≡ f s) → Tracked c g squares
+Tracked-like {c} squares h same = subst (λ u. Tracked c u squares) (λ i s. sym (same s) i) h
+
 module _ (c : Colour) (f : ℕ → Option Man) (squares : List ℕ) (h : Tracked c f squares) (t : ℕ) (x : Option Man) where
   -- what stands on a square has its number
   pub there : is_of c (f t) ≡ true → slice_get squares (number_of squares t) ≡ Some t
@@ -101,21 +105,16 @@ module _ (c : Colour) (f : ℕ → Option Man) (squares : List ℕ) (h : Tracked
       let within = slice_get_within squares n a here in
       let zeroth : is_man c King x ≡ true → n ≡ 0 = λ is. sym (h.1.numbered n a here).1 ∙ (h.1.numbered 0 a (king is)).1 in (
         rw (length-set squares n t) h.0,
-        Tracks-like (Tracks-added c (at f a None) (at (slice_get squares) n None) (Tracks-taken c f (slice_get squares) h.1 a None n here refl) t x n
-            (rw (eq-eqb n n refl) refl) (free_still (eqb t a)) own zeroth) (λ s. refl) (λ j. get-set squares n t j within),
+        Tracks-list (Tracks-added c (at f a None) (at (slice_get squares) n None) (Tracks-taken c f (slice_get squares) h.1 a None n here refl) t x n
+            (rw (eq-eqb n n refl) refl) (elim (cases_Bool (eqb t a)) [ inl e ↦ rw e refl | inr e ↦ rw e free ]) own zeroth) (λ j. get-set squares n t j within),
       )
-    where
-      free_still : (b : Bool) → is_of c (cond b None (f t)) ≡ false
-      free_still true = refl
-      free_still false = free
 
   -- a man is added
   pub Tracked-push : length squares < 16 → is_of c (f t) ≡ false → is_of c x ≡ true → (is_man c King x ≡ true → length squares ≡ 0)
       → Tracked c (at f t x) (squares ++ t ∷ [])
   Tracked-push room free own king = (
     omega (arith, length-append squares (t ∷ [])),
-    Tracks-like (Tracks-added c f (slice_get squares) h.1 t x (length squares) (slice_get_past squares (length squares) (omega arith)) free own king)
-        (λ s. refl) (get-push squares t),
+    Tracks-list (Tracks-added c f (slice_get squares) h.1 t x (length squares) (slice_get_past squares (length squares) (omega arith)) free own king) (get-push squares t),
   )
 
   -- a man is taken away: the last man takes his number
@@ -126,27 +125,28 @@ module _ (c : Colour) (f : ℕ → Option Man) (squares : List ℕ) (h : Tracked
       let m : ℕ = length squares - 1 in
       let last : ℕ = get_or squares m t in
       let at_last : slice_get squares m ≡ Some last = slice_get-get_or squares m t (omega arith) in
-      let size : length squares ≡ suc m = omega arith in (
-        omega (arith, length-take m (set squares n last), h.0),
-        elim (cases_eq n m) [
-          | inl same ↦
-              Tracks-like (Tracks-taken c f (slice_get squares) h.1 t x n here none) (λ s. refl)
-              (λ j. ap (λ l. slice_get l j) (take-set-le m squares n last (omega arith)) ∙ get-front squares m j size ∙ ap (λ i. at (slice_get squares) i None j) (sym same))
-          | inr apart ↦
-              let below : n < m = omega arith in
-              let other : last ≡ t → ⊥ = λ e. apart (sym (h.1.numbered n t here).1 ∙ ap h.1.place (sym e) ∙ (h.1.numbered m last at_last).1) in
-              let first = Tracks-taken c f (slice_get squares) h.1 last None m at_last refl in
-              let second = Tracks-taken c (at f last None) (at (slice_get squares) m None) first t x n (rw (ne_eqb n m apart) here) none in
-              let third = Tracks-added c (at (at f last None) t x) (at (at (slice_get squares) m None) n None) second last (f last) n
-              (rw (eq-eqb n n refl) refl) (rw (ne_eqb last t other, eq-eqb last last refl) refl) (h.1.numbered m last at_last).0
-              (λ is. absurd (omega (arith, (h.1.numbered 0 last (h.1.first last is)).1, (h.1.numbered m last at_last).1))) in
-              Tracks-like third
-              (λ s. elim (eqb_tells s last) [ inl same ↦ rw (same.0, ne_eqb s t (λ e. other (sym same.1 ∙ e))) (ap f same.1) | inr e ↦ rw e.0 refl ])
-              (λ j. ap (λ l. slice_get l j) (take-set-lt m squares n last below)
-              ∙ get-set (take m squares) n last j (omega (arith, length-take m squares))
-              ∙ ap (λ o. cond (eqb j n) (Some last) (cond (eqb j n) None o)) (get-front squares m j size))
-        ],
-      )
+      let size : length squares ≡ suc m = omega arith in
+      let few : length (take m (set squares n last)) ≤ 16 = omega (arith, length-take m (set squares n last), h.0) in
+      elim (cases_eq n m) [
+        | inl same ↦ (
+          few,
+          Tracks-list (Tracks-taken c f (slice_get squares) h.1 t x n here none)
+              (λ j. ap (λ l. slice_get l j) (take-set-le m squares n last (omega arith)) ∙ get-front squares m j size ∙ ap (λ i. at (slice_get squares) i None j) (sym same)),
+        )
+        | inr apart ↦
+            let below : n < m = omega arith in
+            let other : last ≡ t → ⊥ = λ e. apart (sym (h.1.numbered n t here).1 ∙ ap h.1.place (sym e) ∙ (h.1.numbered m last at_last).1) in
+            let first = Tracks-taken c f (slice_get squares) h.1 last None m at_last refl in
+            let second = Tracks-taken c (at f last None) (at (slice_get squares) m None) first t x n (rw (ne_eqb n m apart) here) none in
+            let third = Tracks-added c (at (at f last None) t x) (at (at (slice_get squares) m None) n None) second last (f last) n
+            (rw (eq-eqb n n refl) refl) (rw (ne_eqb last t other, eq-eqb last last refl) refl) (h.1.numbered m last at_last).0
+            (λ is. absurd (omega (arith, (h.1.numbered 0 last (h.1.first last is)).1, (h.1.numbered m last at_last).1))) in
+            let list : (j : ℕ) → slice_get (take m (set squares n last)) j ≡ at (at (at (slice_get squares) m None) n None) n (Some last) j =
+            λ j. ap (λ l. slice_get l j) (take-set-lt m squares n last below) ∙ get-set (take m squares) n last j (omega (arith, length-take m squares))
+            ∙ ap (λ o. cond (eqb j n) (Some last) (cond (eqb j n) None o)) (get-front squares m j size) in
+            Tracked-like (take m (set squares n last)) (few, Tracks-list third list)
+            (λ s. elim (eqb_tells s last) [ inl same ↦ rw (same.0, ne_eqb s t (λ e. other (sym same.1 ∙ e))) (ap f same.1) | inr e ↦ rw e.0 refl ])
+      ]
 
   -- where none stands none is taken away
   pub idle : is_of c (f t) ≡ false → without squares t ≡ squares
