@@ -1,46 +1,30 @@
 -- A record's marks are told from packed moves by their byte, and bytes decode to one answer.
-use Rattle.std.proofs.Common.{◌≡◌, ℕ, suc, ◌+◌, ◌*◌, ◌<◌, ◌≤◌, false, List, [], ◌∷◌, ◌++◌, Option, Some, None, Ok, Err, length, slice_get, refl, sym, ◌∙◌, ap, subst, arith}
-use Rattle.std.specs.Prelude.{Result, option_and_then}
+use Rattle.std.proofs.Common.{◌≡◌, ℕ, ◌+◌, ◌*◌, ◌<◌, ◌≤◌, false, cond, List, ◌∷◌, ◌++◌, Some, Ok, Err, length, slice_get, refl, sym, ◌∙◌, ap, subst, arith}
+use Rattle.std.specs.Prelude.{Result}
 use Rattle.std.proofs.lemmas.Bool.Decides.{nat_tests}
-use Rattle.std.proofs.lemmas.Option.{same_Some, slice_get_within}
+use Rattle.std.proofs.lemmas.Option.{same_Some}
 use Rattle.cell_core.specs.declared.man.Colour.{Colour}
-use Rattle.cell_core.specs.declared.man.Colour.TheVariants.{White, Black}
 use Rattle.cell_core.specs.declared.man.Kind.TheVariants.{King}
 use Rattle.cell_core.specs.declared.step.Move.{Move}
 use Rattle.cell_core.specs.Board.{Men, man_at}
+use Rattle.cell_core.specs.Man.{same_kind}
 use Rattle.chess_laws.specs.Position.{Sound, king_square}
 use Rattle.chess_laws.specs.Step.{Legal}
 use Rattle.chess_laws.proofs.Boards.{man-kind}
-use Rattle.chess_laws.proofs.Kings.{king-stands}
+use Rattle.chess_laws.proofs.Kings.{is_man-true, king-stands}
 use Rattle.move_codec.specs.declared.fault.MoveFault.{MoveFault}
 use Rattle.move_codec.specs.declared.fault.MoveFault.TheVariants.{Short, NoMan, Value, Illegal}
-use Rattle.move_codec.specs.declared.numbers.Numbers.{Numbers}
-use Rattle.move_codec.specs.Numbers.{Numbered, AreNumbers, HasKingFirst, number_of, squares_of}
-use Rattle.move_codec.specs.Packed.{Decodes, at_difference, encoding, is_mark, king_differences, named, named_value, rest_of, to_square, value_of}
-use Rattle.move_codec.proofs.Cases.{Mover, Spelled}
+use Rattle.move_codec.specs.Numbers.{Numbered, AreNumbers, number_of, squares_of}
+use Rattle.move_codec.specs.Packed.{Decodes, encoding, is_mark, named, rest_of, value_of}
+use Rattle.move_codec.proofs.Cases.{Mover}
 use Rattle.move_codec.proofs.Decoding.{named-fits, same_ok}
-use Rattle.move_codec.proofs.Boards.{first_of}
+use Rattle.move_codec.proofs.Boards.{numbering_of}
 use Rattle.move_codec.proofs.RoundTrip.{encoding-mover, has_number, mover_of, round_trip}
 
 -- No packed move begins with a mark
 
--- a king's value that names a square is one of the eleven
-listed_value : (from v : ℕ) (d : Move × ℕ) (difference : Option ℕ) → slice_get king_differences v ≡ difference
-    → to_square from None 1 (option_and_then (λ k. at_difference from k) difference) ≡ Ok d → v < 11
-listed_value from v d None is h = absurd (cc)
-listed_value from v d (Some k) is h = slice_get_within king_differences v k is
-
-king_value : (side : Colour) (m : Move) → Spelled side King m → value_of King m < 11
-unfolding named_value
-king_value side m spelled =
-    listed_value m.from (value_of King m) (m, suc (length (rest_of King m))) (slice_get king_differences (value_of King m)) refl (spelled.names [])
-
 unmarked : (number value : ℕ) → (number ≡ 0 → value < 11) → is_mark (16 * number + value) ≡ false
 unmarked number value king = grind (arith, nat_tests)
-
-king_first : (men : Men) (numbers : Numbers) → AreNumbers men numbers → (c : Colour) → HasKingFirst men c (squares_of c numbers)
-king_first men numbers h White = h.white_king
-king_first men numbers h Black = h.black_king
 
 pub encoding-apart : (n : Numbered) (m : Move) → Sound n.position → AreNumbers n.position.board n.numbers → Legal n.position m
     → (byte : ℕ) × ((later : List ℕ) × ((encoding n m ≡ byte ∷ later) × (is_mark byte ≡ false)))
@@ -51,10 +35,13 @@ encoding-apart n m sound numbers legal =
     let moves : Mover n.position m = mover_of n m sound.squares legal in
     -- the man with the number 0 is the king
     let king : number_of squares m.from ≡ 0 → value_of moves.kind m < 11 = λ none.
+    let at_king = king-stands men side (sound.kings side) in
+    let first : slice_get squares 0 ≡ Some (king_square men side) =
+    (numbering_of men n.numbers numbers side).1 (king_square men side) (rw at_king (is_man-true side King)) in
     let here : slice_get squares 0 ≡ Some m.from = ap (slice_get squares) (sym none) ∙ has_number n m sound.squares numbers legal in
-    let same : m.from ≡ king_square men side = same_Some m.from (king_square men side) (sym here ∙ first_of men side squares sound.kings (king_first men n.numbers numbers side)) in
-    let is : moves.kind ≡ King = man-kind side side moves.kind King (sym moves.stands ∙ ap (man_at men) same ∙ king-stands men side (sound.kings side)) in
-    rw is (king_value side m (subst (λ k. Spelled side k m) is moves.spelled)) in (
+    let same : m.from ≡ king_square men side = same_Some m.from (king_square men side) (sym here ∙ first) in
+    let is : moves.kind ≡ King = man-kind side side moves.kind King (sym moves.stands ∙ ap (man_at men) same ∙ at_king) in
+    rw is (subst (λ k. value_of k m < cond (same_kind k King) 11 16) is moves.spelled.small) in (
       16 * number_of squares m.from + value_of moves.kind m,
       (rest_of moves.kind m, (encoding-mover n m sound.squares numbers legal, unmarked (number_of squares m.from) (value_of moves.kind m) king)),
     )

@@ -1,6 +1,8 @@
--- What stands on a board, and of which side and kind it is.
-use Rattle.std.proofs.Common.{◌≡◌, ℕ, Bool, true, false, List, Option, Some, None, slice_get, refl, ap}
-use Rattle.std.proofs.lemmas.Bool.{and_parts, cases_Bool, false_from_ne_true, false≢true}
+-- What stands on a board, of which side and kind it is, and that its number is that of its square.
+use Rattle.std.proofs.Common.{◌≡◌, ◌∙◌, ℕ, Bool, true, false, List, Option, Some, None, slice_get, refl, sym, ap}
+use Rattle.std.specs.Prelude.{IsTrue, is_some}
+use Rattle.std.specs.Bool.{OnFalse}
+use Rattle.std.proofs.lemmas.Bool.{and_parts, false_from_ne_true, false≢true}
 use Rattle.cell_core.specs.declared.man.Colour.{Colour}
 use Rattle.cell_core.specs.declared.man.Colour.TheVariants.{White, Black}
 use Rattle.cell_core.specs.declared.man.Kind.{Kind}
@@ -9,9 +11,9 @@ use Rattle.cell_core.specs.declared.man.Man.{Man}
 use Rattle.cell_core.specs.Board.{Men, man_at}
 use Rattle.cell_core.specs.Man.{is_man, is_of, man, other, same_colour, same_kind}
 use Rattle.cell_core.proofs.Same.{same_colour-Decides}
-use Rattle.chess_laws.specs.Position.{HasKings, king_square}
-use Rattle.chess_laws.proofs.Kings.{is_man-true, king-stands}
-use Rattle.move_codec.specs.Numbers.{HasKingFirst}
+use Rattle.move_codec.specs.declared.numbers.Numbers.{Numbers}
+use Rattle.move_codec.specs.Numbers.{AreNumbers, HasKingFirst, IsNumbering, number_of, squares_of, without}
+use Rattle.move_codec.proofs.Lists.{without-idle}
 
 -- whether a man of a side stands on a square
 abbrev pub holds : Colour → Men → ℕ → Bool
@@ -44,6 +46,38 @@ no_own None c none = refl
 no_own (Some m) c none =
     false_from_ne_true (same_colour m.colour c) (λ h. none m.kind (ap (λ (d : Colour). Some (man d m.kind)) ((same_colour-Decides m.colour c).0 h)))
 
--- the list of a side begins with its one king
-pub first_of : (men : Men) (c : Colour) (squares : List ℕ) → HasKings men → HasKingFirst men c squares → slice_get squares 0 ≡ Some (king_square men c)
-first_of men c squares kings first = first (king_square men c) (rw (king-stands men c (kings c)) (is_man-true c King))
+-- a side's numbers and where its king stands, and those of both sides
+abbrev pub Numbering : Men → Colour → List ℕ → Type 0
+Numbering men c squares = IsNumbering men c squares × HasKingFirst men c squares
+
+pub numbering_of : (men : Men) (numbers : Numbers) → AreNumbers men numbers → (c : Colour) → Numbering men c (squares_of c numbers)
+numbering_of men numbers h White = (h.white, h.white_king)
+numbering_of men numbers h Black = (h.black, h.black_king)
+
+pub are_numbers : (men : Men) (numbers : Numbers) → Numbering men White numbers.white → Numbering men Black numbers.black → AreNumbers men numbers
+are_numbers men numbers white black = record { white = white.0; black = black.0; white_king = white.1; black_king = black.1 }
+
+-- the man with a number is of its side
+pub numbered-man : (men : Men) (side : Colour) (squares : List ℕ) (number square : ℕ) (m : Man) → IsNumbering men side squares
+    → slice_get squares number ≡ Some square → man_at men square ≡ Some m → man_at men square ≡ Some (man side m.kind)
+numbered-man men side squares number square m h at stands =
+    let own : same_colour m.colour side ≡ true = rw stands at (h.held number square at) in
+    let same : m.colour ≡ side = (same_colour-Decides m.colour side).0 own in
+    stands ∙ ap (λ c. Some (man c m.kind)) same
+
+-- a number of a square is its number
+pub number-is : (men : Men) (side : Colour) (squares : List ℕ) (number square : ℕ) → IsNumbering men side squares
+    → slice_get squares number ≡ Some square → number ≡ number_of squares square
+number-is men side squares number square h at =
+    h.once number (number_of squares square) square at (h.whole square (h.held number square at))
+
+none-of : (o : Option Man) (side : Colour) → is_some o ≡ false → IsTrue (is_of side o) → ⊥
+none-of None side empty h = false≢true h
+none-of (Some man) side empty h = absurd (cc)
+
+-- where no man stands none is captured
+pub without-unless : (men : Men) (side : Colour) (squares : List ℕ) (square : ℕ) (taken : Bool) → IsNumbering men side squares
+    → taken ≡ is_some (man_at men square) → OnFalse taken (without squares square ≡ squares)
+without-unless men side squares square true h is = tt
+without-unless men side squares square false h is =
+    without-idle squares square (λ e. none-of (man_at men square) side (sym is) (h.held (number_of squares square) square e))

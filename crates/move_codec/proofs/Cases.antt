@@ -25,10 +25,10 @@ use Rattle.move_codec.specs.declared.fault.MoveFault.{MoveFault}
 use Rattle.move_codec.specs.Packed.{named_value, value_of, rest_of}
 use Rattle.move_codec.proofs.Tables.{across-passes, all_below, at_square, below, leap-passes, leaps_pass, plain-passes, plain_pass, ray_passes, rays_pass}
 
--- the value of a move and the bytes after it name the move, whatever follows
+-- the value of a move, a king's below 11, and the bytes after it name the move, whatever follows
 pub record Spelled (side : Colour) (kind : Kind) (m : Move) : Type 0 where
   pub target : m.to < 64
-  pub small : value_of kind m < 16
+  pub small : value_of kind m < cond (same_kind kind King) 11 16
   pub names : (rest : List ℕ) → named_value kind side m.from (value_of kind m) (rest_of kind m ++ rest) ≡ Ok (m, suc (length (rest_of kind m)))
 
 -- a move of these parts
@@ -57,14 +57,14 @@ answered m n (Ok d) h =
 
 unfoldable spells : Colour → Kind → List ℕ → Move → Bool
 spells side kind rest m =
-    ltb m.to 64 && (ltb (value_of kind m) 16
+    ltb m.to 64 && (ltb (value_of kind m) (cond (same_kind kind King) 11 16)
     && is_answer m (suc (length (rest_of kind m))) (named_value kind side m.from (value_of kind m) (rest_of kind m ++ rest)))
 
 spelled : (side : Colour) (kind : Kind) (m : Move) → ((rest : List ℕ) → spells side kind rest m ≡ true) → Spelled side kind m
 unfolding spells
 spelled side kind m all = record {
   target = ltb-true m.to 64 (and_parts _ _ (all [])).0;
-  small = ltb-true (value_of kind m) 16 (and_parts _ _ (and_parts _ _ (all [])).1).0;
+  small = ltb-true (value_of kind m) (cond (same_kind kind King) 11 16) (and_parts _ _ (and_parts _ _ (all [])).1).0;
   names = λ rest. answered m (suc (length (rest_of kind m))) (named_value kind side m.from (value_of kind m) (rest_of kind m ++ rest))
       (and_parts _ _ (and_parts _ _ (all rest)).1).1;
 }

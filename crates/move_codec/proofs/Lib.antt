@@ -1,4 +1,3 @@
-pub mod Places
 pub mod Lists
 pub mod Tracking
 pub mod Boards
@@ -10,4 +9,3 @@ pub mod Standard
 pub mod Text
 pub mod Decoding
 pub mod Apart
-pub mod Moving

@@ -1,8 +1,10 @@
 -- Lists by their places: after a write, with one more element, without the last, and where an element stands.
-use Rattle.std.proofs.Common.{◌≡◌, ℕ, zero, suc, ◌-◌, ◌<◌, false, cond, eqb, ltb, List, [], ◌∷◌, ◌++◌, Option, Some, None, length, slice_get, take, set, inl, inr, refl, sym, ◌∙◌, ap, one-add, arith}
+use Rattle.std.proofs.Common.{◌≡◌, ℕ, zero, suc, ◌<◌, ◌≤◌, Bool, false, cond, eqb, ltb, List, [], ◌∷◌, ◌++◌, Option, Some, None, length, slice_get, take, set, inl, inr, refl, sym, ◌∙◌, ap, one-add, arith}
 use Rattle.std.proofs.lemmas.Bool.{cases_lt, eq-eqb}
 use Rattle.std.proofs.Math.Dec.{eqb-suc-suc, eqb-suc-zero, eqb-zero-suc}
 use Rattle.std.proofs.lemmas.Bool.Decides.{eqb_tells, nat_tests}
+use Rattle.std.specs.List.{position_or_len}
+use Rattle.std.proofs.lemmas.List.Sums.{prefix_len-le-length}
 use Rattle.std.proofs.lemmas.Option.{same_Some, none-some, slice_get_past}
 use Rattle.move_codec.specs.Numbers.{number_of, without}
 
@@ -53,3 +55,7 @@ without-idle xs x none = elim (cases_lt (number_of xs x) (length xs)) [
   | inl within ↦ absurd (none (found-within xs x within))
   | inr past ↦ let test : ltb (number_of xs x) (length xs) ≡ false = grind (arith, nat_tests) in rw test refl
 ]
+
+-- a place is at most the length
+pub place_within : (test : ℕ → Bool) (xs : List ℕ) → position_or_len test xs ≤ length xs
+place_within test xs = prefix_len-le-length _ xs

@@ -1,28 +1,17 @@
 -- The bytes of a legal move decode to it, whatever follows.
-use Rattle.std.proofs.Common.{◌≡◌, ℕ, ◌+◌, ◌*◌, ◌/◌, ◌%◌, ◌<◌, List, ◌∷◌, ◌++◌, Option, Some, Ok, length, slice_get, refl, sym, ◌∙◌, ap, subst, arith}
-use Rattle.cell_core.specs.declared.man.Colour.{Colour}
-use Rattle.cell_core.specs.declared.man.Colour.TheVariants.{White, Black}
+use Rattle.std.proofs.Common.{◌≡◌, ℕ, ◌+◌, ◌*◌, ◌/◌, ◌%◌, ◌<◌, List, ◌∷◌, ◌++◌, Option, Some, Ok, length, slice_get, inl, inr, refl, sym, ◌∙◌, ap, subst, arith}
+use Rattle.cell_core.specs.declared.man.Kind.TheVariants.{King}
 use Rattle.cell_core.specs.declared.man.Man.{Man}
 use Rattle.cell_core.specs.declared.step.Move.{Move}
-use Rattle.cell_core.specs.Board.{Men, man_at}
-use Rattle.cell_core.specs.Man.{man, is_of}
+use Rattle.cell_core.specs.Board.{man_at}
+use Rattle.cell_core.specs.Man.{is_of, same_kind}
 use Rattle.chess_laws.specs.Step.{Legal, effect_of}
-use Rattle.move_codec.specs.declared.numbers.Numbers.{Numbers}
-use Rattle.move_codec.specs.Numbers.{Numbered, AreNumbers, IsNumbering, number_of, squares_of}
+use Rattle.move_codec.specs.Numbers.{Numbered, AreNumbers, number_of, squares_of}
 use Rattle.move_codec.specs.Packed.{Decodes, encoding, encoding_by, named, value_of, rest_of}
-use Rattle.move_codec.proofs.Boards.{own_man}
+use Rattle.move_codec.proofs.Boards.{numbering_of, own_man}
 use Rattle.move_codec.proofs.Cases.{Mover, mover}
+use Rattle.std.proofs.lemmas.Bool.{cases_Bool}
 use Rattle.std.proofs.lemmas.Option.{same_Some, slice_get_within}
-
-pub numbering_of : (men : Men) (numbers : Numbers) → AreNumbers men numbers → (c : Colour) → IsNumbering men c (squares_of c numbers)
-numbering_of men numbers h White = h.white
-numbering_of men numbers h Black = h.black
-
-number_part : (k v : ℕ) → v < 16 → (16 * k + v) / 16 ≡ k
-number_part k v small = omega arith
-
-value_part : (k v : ℕ) → v < 16 → (16 * k + v) % 16 ≡ v
-value_part k v small = omega arith
 
 -- the man that makes a legal move
 pub mover_of : (n : Numbered) (m : Move) → length n.position.board ≡ 64 → Legal n.position m → Mover n.position m
@@ -36,19 +25,23 @@ module _ (n : Numbered) (m : Move) (squares : length n.position.board ≡ 64) (n
   pub has_number : slice_get (squares_of n.position.side n.numbers) number ≡ Some m.from
   has_number =
       let moves = mover_of n m squares legal in
-      (numbering_of n.position.board n.numbers numbers n.position.side).whole m.from
+      (numbering_of n.position.board n.numbers numbers n.position.side).0.whole m.from
       (ap (is_of n.position.side) moves.stands ∙ own_man n.position.side moves.kind)
 
   pub number-small : number < 16
   number-small =
-      let few = (numbering_of n.position.board n.numbers numbers n.position.side).few in
+      let few = (numbering_of n.position.board n.numbers numbers n.position.side).0.few in
       let inside = slice_get_within (squares_of n.position.side n.numbers) number m.from has_number in
       omega arith
 
+  small : value_of (mover_of n m squares legal).kind m < 16
+  small = elim (cases_Bool (same_kind (mover_of n m squares legal).kind King)) [
+    | inl king ↦ let less = rw king at (mover_of n m squares legal).spelled.small in omega (arith, less)
+    | inr other ↦ rw other at (mover_of n m squares legal).spelled.small
+  ]
+
   pub value-small : (x : Man) → man_at n.position.board m.from ≡ Some x → value_of x.kind m < 16
-  value-small x at =
-      let moves = mover_of n m squares legal in
-      subst (λ (y : Man). value_of y.kind m < 16) (same_Some (man n.position.side moves.kind) x (sym moves.stands ∙ at)) moves.spelled.small
+  value-small x at = subst (λ (y : Man). value_of y.kind m < 16) (same_Some _ x (sym (mover_of n m squares legal).stands ∙ at)) small
 
   pub encoding-mover : encoding n m ≡ (16 * number + value_of (mover_of n m squares legal).kind m) ∷ rest_of (mover_of n m squares legal).kind m
   encoding-mover = ap (λ (o : Option Man). encoding_by o number m) (mover_of n m squares legal).stands
@@ -56,7 +49,6 @@ module _ (n : Numbered) (m : Move) (squares : length n.position.board ≡ 64) (n
   pub round_trip : (rest : List ℕ) → Decodes n (encoding n m ++ rest) (Ok (m, length (encoding n m)))
   round_trip rest =
       let moves = mover_of n m squares legal in
-      let value : ℕ = value_of moves.kind m in (
-        rw (encoding-mover, number_part number value moves.spelled.small, value_part number value moves.spelled.small, has_number, moves.stands) (moves.spelled.names rest),
-        legal,
-      )
+      let number_part : (16 * number + value_of moves.kind m) / 16 ≡ number = omega (arith, small) in
+      let value_part : (16 * number + value_of moves.kind m) % 16 ≡ value_of moves.kind m = omega (arith, small) in
+      (rw (encoding-mover, number_part, value_part, has_number, moves.stands) (moves.spelled.names rest), legal)

@@ -23,9 +23,9 @@ use Rattle.chess_laws.proofs.Boards.{Goes, length-put, on_board, put-other, put-
 use Rattle.chess_laws.proofs.Following.{case-on_board}
 use Rattle.chess_laws.proofs.Keeping.{arriving-lands, castle-apart, castle-crossed, castle-rook_goes, castle-squares, lands, lands_as, moved-other, plain-no_king, plain-no_own}
 use Rattle.move_codec.specs.declared.numbers.Numbers.{Numbers}
-use Rattle.move_codec.specs.Numbers.{AreNumbers, HasKingFirst, IsNumbering, number_of, squares_of, went, without, movers_after, capture_square, numbers_by, numbers_after}
+use Rattle.move_codec.specs.Numbers.{AreNumbers, number_of, squares_of, went, without, movers_after, capture_square, numbers_by, numbers_after}
 use Rattle.move_codec.proofs.Lists.{at, found}
-use Rattle.move_codec.proofs.Boards.{enemy_man, no_own, own_man, own_of_enemy}
+use Rattle.move_codec.proofs.Boards.{Numbering, are_numbers, enemy_man, no_own, numbering_of, own_man, own_of_enemy}
 use Rattle.move_codec.proofs.Tracking.{Tracked, Tracked-like, Tracked-went, Tracked-without, Tracks-other, idle, there}
 
 -- a board as a function, after one more man was put on it
@@ -122,10 +122,7 @@ module _ (p : Setup) (m : Move) (own enemy : List ℕ) (sound : Sound p) (target
 
 -- A side's numbered squares and where its king stands, as both definitions say it
 
-abbrev pub Numbered : Men → Colour → List ℕ → Type 0
-Numbered men c squares = IsNumbering men c squares × HasKingFirst men c squares
-
-tracked : (men : Men) (c : Colour) (squares : List ℕ) → Numbered men c squares → Tracked c (man_at men) squares
+tracked : (men : Men) (c : Colour) (squares : List ℕ) → Numbering men c squares → Tracked c (man_at men) squares
 tracked men c squares (h, first) = (
   h.few,
   record {
@@ -136,7 +133,7 @@ tracked men c squares (h, first) = (
   },
 )
 
-pub numbered : (men : Men) (c : Colour) (squares : List ℕ) → Tracked c (man_at men) squares → Numbered men c squares
+pub numbered : (men : Men) (c : Colour) (squares : List ℕ) → Tracked c (man_at men) squares → Numbering men c squares
 numbered men c squares (few, h) = (
   record {
     few = few;
@@ -147,25 +144,17 @@ numbered men c squares (few, h) = (
   h.first,
 )
 
+-- both lists
+both_lists : (men : Men) (m : Move) (e : Effect) (numbers : Numbers) (c : Colour)
+    → Sides c men (movers_after c m e (squares_of c numbers)) (without (squares_of (other c) numbers) (capture_square m e)) → AreNumbers men (numbers_by c m e numbers)
+both_lists men m e numbers White h = are_numbers _ _ (numbered _ White _ h.0) (numbered _ Black _ h.1)
+both_lists men m e numbers Black h = are_numbers _ _ (numbered _ White _ h.1) (numbered _ Black _ h.0)
+
 -- a legal move keeps the numbers those of the men, the kings' first
 pub AreNumbers-step : (p : Setup) (m : Move) (q : Setup) (numbers : Numbers) → Sound p → Step p m q → AreNumbers p.board numbers
     → AreNumbers q.board (numbers_after p m numbers)
 AreNumbers-step p m q numbers sound step h =
     let e : Effect = effect_of p m in
-    let target = case-on_board p m e sound refl step.allowed in
-    rw step.becomes (by_side p.side (λ own enemy before. both p m own enemy sound target before e refl step.allowed))
-  where
-    by_side : (c : Colour)
-        → ((own enemy : List ℕ) → Sides c p.board own enemy
-        → Sides c (board_after p m (effect_of p m)) (movers_after c m (effect_of p m) own) (without enemy (capture_square m (effect_of p m))))
-        → AreNumbers (board_after p m (effect_of p m)) (numbers_by c m (effect_of p m) numbers)
-    by_side White follow =
-        let next = follow numbers.white numbers.black (tracked p.board White numbers.white (h.white, h.white_king), tracked p.board Black numbers.black (h.black, h.black_king)) in
-        let mine = numbered _ White _ next.0 in
-        let theirs = numbered _ Black _ next.1 in
-        record { white = mine.0; black = theirs.0; white_king = mine.1; black_king = theirs.1 }
-    by_side Black follow =
-        let next = follow numbers.black numbers.white (tracked p.board Black numbers.black (h.black, h.black_king), tracked p.board White numbers.white (h.white, h.white_king)) in
-        let mine = numbered _ Black _ next.0 in
-        let theirs = numbered _ White _ next.1 in
-        record { white = theirs.0; black = mine.0; white_king = theirs.1; black_king = mine.1 }
+    let side : (c : Colour) → Tracked c (man_at p.board) (squares_of c numbers) = λ c. tracked p.board c (squares_of c numbers) (numbering_of p.board numbers h c) in
+    rw step.becomes (both_lists (board_after p m e) m e numbers p.side
+    (both p m (squares_of p.side numbers) (squares_of (other p.side) numbers) sound (case-on_board p m e sound refl step.allowed) (side p.side, side (other p.side)) e refl step.allowed))

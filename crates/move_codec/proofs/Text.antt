@@ -15,10 +15,10 @@ use Rattle.cell_core.specs.Man.{is_of, is_man}
 use Rattle.chess_laws.specs.Position.{HasKings, HasFewMen, king_square}
 use Rattle.chess_laws.proofs.Kings.{is_man-Some, king-only}
 use Rattle.move_codec.specs.Numbers.{AreNumbers, text_numbers, text_squares, rank_squares, with_king, with_square, with_squares, text_numbers_of}
-use Rattle.move_codec.proofs.Boards.{holds, king_held}
+use Rattle.move_codec.proofs.Boards.{Numbering, are_numbers, holds, king_held}
 use Rattle.move_codec.proofs.Lists.{at, found}
 use Rattle.move_codec.proofs.Standard.{held_on_board}
-use Rattle.move_codec.proofs.Steps.{Numbered, numbered}
+use Rattle.move_codec.proofs.Steps.{numbered}
 use Rattle.move_codec.proofs.Tables.{below}
 use Rattle.move_codec.proofs.Tracking.{Tracked, Tracked-push, Tracked-went, Tracked-like, Tracks-other, away}
 
@@ -141,7 +141,7 @@ module _ (men : Men) (c : Colour) (one : count_by (is_man c King) men ≡ 1) whe
       ]))
 
 -- the numbers from a placement text are those of a side's men, of which there are at most sixteen, its king's first
-numbers-text : (men : Men) (c : Colour) → length men ≡ 64 → count_by (is_man c King) men ≡ 1 → count_by (is_of c) men ≤ 16 → Numbered men c (text_numbers_of men c)
+numbers-text : (men : Men) (c : Colour) → length men ≡ 64 → count_by (is_man c King) men ≡ 1 → count_by (is_of c) men ≤ 16 → Numbering men c (text_numbers_of men c)
 numbers-text men c size one few =
     let nothing : (s : ℕ) → is_of c (before men text_squares s) ≡ true → ⊥ = λ s h.
     let on_board = held_on_board men c s size (before-some (is_of c) men text_squares s refl h) in
@@ -158,9 +158,7 @@ numbers-text men c size one few =
 
 pub AreNumbers-text : (men : Men) → length men ≡ 64 → HasKings men → HasFewMen men → AreNumbers men (text_numbers men)
 AreNumbers-text men size kings few =
-    let white = numbers-text men White size (kings White) (few White) in
-    let black = numbers-text men Black size (kings Black) (few Black) in
-    record { white = white.0; black = black.0; white_king = white.1; black_king = black.1 }
+    are_numbers men (text_numbers men) (numbers-text men White size (kings White) (few White)) (numbers-text men Black size (kings Black) (few Black))
 
 -- How far a loop over the places of the text has come: what is left gives the same as all.
 abbrev pub InText : Men → Colour → ℕ → List ℕ → Type 0

@@ -241,7 +241,7 @@ impl Numbers {
 }
 
 /// The place of a square in a list, or the list's length.
-#[tactic(auto, using(crate::proofs::Places::place_within))]
+#[tactic(auto, using(crate::proofs::Lists::place_within))]
 fn number_on(squares: &[Square], square: Square) -> usize
     ensures { result ≡ number_of squares.now square }
 {

@@ -7,7 +7,7 @@ use super::targets::{KING, KNIGHT};
 use cell_core::{Kind, Move};
 
 /// The place of a move's difference in a list of differences, each written 64 + difference, or the list's length.
-#[tactic(auto, using(crate::proofs::Places::difference_within))]
+#[tactic(auto, using(crate::proofs::Lists::place_within))]
 fn difference_value(differences: &[u8], m: &Move) -> u8
     requires { length differences.now < 256 }
     ensures { result ≡ difference_value differences.now m.now }

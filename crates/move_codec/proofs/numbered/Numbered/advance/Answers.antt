@@ -3,8 +3,7 @@ use Rattle.std.proofs.Common.{◌≡◌, ◌/◌, Some, slice_get, slice_index_o
 use Rattle.cell_core.specs.Board.{man_at}
 use Rattle.cell_core.specs.Man.{man}
 use Rattle.move_codec.specs.Numbers.{Numbered, squares_of}
-use Rattle.move_codec.proofs.Moving.{numbered-man}
-use Rattle.move_codec.proofs.RoundTrip.{numbering_of}
+use Rattle.move_codec.proofs.Boards.{numbered-man, numbering_of}
 use Rattle.move_codec.proofs.numbered.Numbered.advance.Goals as goal
 
 pub advance_by-requires-clause-stands : goal.advance_by-requires-clause-stands
@@ -15,4 +14,4 @@ advance_by-requires-clause-stands c =
     let there : man_at p.board c.in-Some.from ≡ Some c.in-Some-at.man = cc in
     subst (λ (n : Numbered). man_at n.position.board c.in-Some.from ≡ Some (man n.position.side c.in-Some-at.man.kind)) c.self.view_is
     (numbered-man p.board p.side squares (slice_index_or c.args.bytes.now 0 0 / 16) c.in-Some.from c.in-Some-at.man
-    (numbering_of p.board c.self.inside.numbers c.self.invariant p.side) here there)
+    (numbering_of p.board c.self.inside.numbers c.self.invariant p.side).0 here there)

@@ -3,8 +3,7 @@ use Rattle.cell_core.specs.Man.{other}
 use Rattle.cell_core.specs.Board.{man_at}
 use Rattle.move_codec.specs.Numbers.{Numbered, squares_of, capture_square}
 use Rattle.std.specs.Prelude.{is_some}
-use Rattle.move_codec.proofs.Moving.{number-is, without-unless}
-use Rattle.move_codec.proofs.RoundTrip.{numbering_of}
+use Rattle.move_codec.proofs.Boards.{number-is, numbering_of, without-unless}
 use Rattle.move_codec.proofs.Steps.{AreNumbers-step}
 use Rattle.move_codec.proofs.numbered.Numbered.follow_legal.Goals as goal
 
@@ -16,7 +15,7 @@ follow_by-requires-clause-number c =
     (sym c.self.view_is) c.requires.number in
     rw c.setup.ensures.setup
     (number-is p.board p.side (squares_of p.side c.self.inside.numbers) c.args.number c.args.m.now.from
-    (numbering_of p.board c.self.inside.numbers c.self.invariant p.side) here)
+    (numbering_of p.board c.self.inside.numbers c.self.invariant p.side).0 here)
 
 pub follow_by-requires-clause-none : goal.follow_by-requires-clause-none
 follow_by-requires-clause-none c =
@@ -26,7 +25,7 @@ follow_by-requires-clause-none c =
     c.is_some-taken.ensures ∙ ap is_some (c.at.ensures.man ∙ rw (c.board.ensures.board, c.capture_square.ensures) refl) in
     rw c.setup.ensures.setup
     (without-unless p.board (other p.side) (squares_of (other p.side) c.self.inside.numbers) s c.is_some-taken.result
-    (numbering_of p.board c.self.inside.numbers c.self.invariant (other p.side)) taken)
+    (numbering_of p.board c.self.inside.numbers c.self.invariant (other p.side)).0 taken)
 
 pub invariant_of-self : goal.invariant_of-self
 invariant_of-self c =
