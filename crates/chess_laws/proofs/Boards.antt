@@ -1,21 +1,5 @@
 -- Boards: what stands where after a man is put somewhere, and how many of a kind there are then.
-use Rattle.std.proofs.Common.{◌≡◌, ℕ, ◌+◌, ◌<◌, ◌≤◌, ◌≢◌, ◌⊎◌, inl, inr, Bool, true, false, cond, Option, Some, None, length, count_by, refl, sym, ◌∙◌, ap, arith}
-use Rattle.std.proofs.Math.ListN.{length-set}
-use Rattle.std.proofs.lemmas.Bool.{cases_eq, cases_lt, false_from_ne_true}
-use Rattle.std.proofs.lemmas.List.{get_or-set_same, get_or-set_other, get_or_past}
-use Rattle.std.proofs.lemmas.List.Sums.{sum_by-set}
-use Rattle.cell_core.specs.declared.man.Colour.{Colour}
-use Rattle.cell_core.specs.declared.man.Colour.TheVariants.{White, Black}
-use Rattle.cell_core.specs.declared.man.Kind.{Kind}
-use Rattle.cell_core.specs.declared.man.Kind.TheVariants.{King, Pawn}
-use Rattle.cell_core.specs.declared.man.Man.{Man}
-use Rattle.cell_core.specs.Board.{Men, man_at, put}
-use Rattle.cell_core.specs.Man.{man, other, same_kind, is_man, is_of}
-use Rattle.chess_laws.specs.declared.setup.Setup.{Setup}
-use Rattle.chess_laws.specs.Attacks.{IsInCheck}
-use Rattle.chess_laws.specs.Geometry.{rank_of}
-use Rattle.chess_laws.specs.Position.{Sound, HasKings, HasPawnsInside, HasFewMen, HasFitRights, HasFitEnPassant, king_square}
-use Rattle.chess_laws.specs.LegalTests.{IsOnlyKing}
+use Rattle.chess_laws.proofs.Words.{◌≡◌, ℕ, ◌+◌, ◌<◌, ◌≤◌, ◌≢◌, ◌⊎◌, inl, inr, Bool, true, false, cond, Option, Some, None, length, count_by, refl, sym, ◌∙◌, ap, arith, length-set, cases_eq, cases_lt, false_from_ne_true, get_or-set_same, get_or-set_other, get_or_past, sum_by-set, Colour, White, Black, Kind, King, Pawn, Man, Men, man_at, put, man, other, same_kind, is_man, is_of, Setup, IsInCheck, rank_of, Sound, HasKings, HasPawnsInside, HasFewMen, HasFitRights, HasFitEnPassant, king_square, IsOnlyKing}
 use Rattle.chess_laws.proofs.Kings.{is_man-Some, king-only, king-stands}
 
 pub put-same : (men : Men) (s : ℕ) (x : Option Man) → length men ≡ 64 → s < 64 → man_at (put men s x) s ≡ x

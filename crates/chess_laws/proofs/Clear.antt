@@ -1,24 +1,7 @@
 -- A walk along a line comes to its end where no man stands between.
-use Rattle.std.proofs.Common.{◌≡◌, ℕ, zero, suc, ◌^◌, ◌<◌, ◌↔◌, IsTrue, ◌&&◌, ◌⊎◌, ◌==◌, inl, inr, Bool, true, false, eqb, List, [], Option, Some, None, is_none, is_some, refl, sym, subst, ◌∙◌, ap, arith}
-use Rattle.std.specs.Int.{bit_at}
-use Rattle.std.specs.Int.RustNames.{bit_and, bit_or}
-use Rattle.std.proofs.lemmas.Bool.{agree_below, agree_below_at, and_parts, cases_Bool, cases_eq, eq-eqb, eqb-true, false≢true, ne_eqb}
-use Rattle.std.proofs.Math.Bool.{and-false}
-use Rattle.std.proofs.lemmas.Nat.Bits.{bit_at-lt, bit_at-pow_same, bit_at-pow_other, bit_at-zero, bit_at_and, bit_at_or, same_from_bits}
-use Rattle.std.specs.Prelude.{Any}
-use Rattle.cell_core.specs.declared.man.Colour.{Colour}
-use Rattle.cell_core.specs.declared.man.Kind.{Kind}
-use Rattle.cell_core.specs.declared.man.Kind.TheVariants.{Queen}
-use Rattle.cell_core.specs.declared.man.Man.{Man}
-use Rattle.cell_core.specs.Man.{is_man, man}
-use Rattle.cell_core.specs.Board.{Men, man_at}
-use Rattle.cell_core.specs.Sets.{set_of}
-use Rattle.cell_core.proofs.Squares.{bit-set_of}
-use Rattle.chess_laws.specs.Geometry.{Offset, shift, Runs}
-use Rattle.chess_laws.specs.LegalTests.{glides, line, run, run_on, slides}
-use Rattle.chess_laws.specs.Between.{between, crossed, crossed_on, is_between, is_on, is_seen, names_between, names_seen}
-use Rattle.chess_laws.specs.Rays.{entry, glider, offset_at, sliders, SlidesFrom}
-use Rattle.chess_laws.specs.Leaps.{squares_of}
+use Rattle.chess_laws.proofs.Words.{◌≡◌, ℕ, zero, suc, ◌^◌, ◌<◌, ◌↔◌, IsTrue, ◌&&◌, ◌⊎◌, ◌==◌, inl, inr, Bool, true, false, eqb, List, [], Option, Some, None, is_none, is_some, refl, sym, subst, ◌∙◌, ap, arith, bit_at, bit_and, bit_or, agree_below, agree_below_at, and_parts, cases_Bool, cases_eq, eq-eqb, eqb-true, false≢true, ne_eqb, and-false, bit_at-lt, bit_at-pow_same, bit_at-pow_other, bit_at-zero, bit_at_and, bit_at_or, same_from_bits, Any, Colour, Kind, Queen, Man, is_man, man, Men, man_at, set_of, bit-set_of, Offset, shift, Runs, glides, line, run_on, slides, crossed_on, is_between, is_on, is_seen, entry, glider, offset_at, sliders, SlidesFrom, squares_of}
+use Rattle.chess_laws.specs.LegalTests.{run}
+use Rattle.chess_laws.specs.Between.{between, crossed, names_between, names_seen}
 use Rattle.chess_laws.proofs.Lines.{any-slide, line-walk, slide-any}
 use Rattle.chess_laws.proofs.Rows.{pair-at}
 use Rattle.chess_laws.proofs.Running.{walk-ends}

@@ -1,29 +1,8 @@
 -- One man less makes one less of the ten counts.
-use Rattle.std.proofs.Common.{◌≡◌, ℕ, ◌+◌, ◌-◌, ◌<◌, ◌&&◌, is_none, Bool, true, false, cond, List, [], ◌∷◌, Option, Some, None, length, refl, sym, ◌∙◌, ap, arith}
-use Rattle.cell_core.specs.declared.man.Colour.{Colour}
-use Rattle.cell_core.specs.declared.man.Colour.TheVariants.{White, Black}
-use Rattle.cell_core.specs.declared.man.Kind.{Kind}
-use Rattle.cell_core.specs.declared.man.Kind.TheVariants.{King, Queen, Rook, Bishop, Knight, Pawn}
-use Rattle.cell_core.specs.declared.man.Man.{Man}
-use Rattle.cell_core.specs.declared.step.Move.{Move}
-use Rattle.cell_core.specs.Board.{Men, man_at, put}
-use Rattle.cell_core.specs.Man.{man, is_man}
-use Rattle.chess_laws.specs.Counts.{counts_of, count_of, fewer}
-use Rattle.std.specs.Bool.{OnTrue, OnFalse}
-use Rattle.std.proofs.lemmas.Bool.{and_parts}
-use Rattle.std.proofs.lemmas.Bool.Decides.{nat_tests}
-use Rattle.chess_laws.specs.declared.setup.Setup.{Setup}
-use Rattle.chess_laws.specs.declared.effect.Effect.{Effect}
-use Rattle.chess_laws.specs.declared.effect.Effect.TheVariants.{Plain, Double, Passing, Castle, Null}
-use Rattle.chess_laws.specs.LegalTests.{takes_target}
-use Rattle.chess_laws.specs.Position.{Sound}
-use Rattle.chess_laws.specs.Castling.{rook_home, rook_target}
-use Rattle.chess_laws.specs.Step.{Case, Legal, arriving, effect_of, board_after, moved}
+use Rattle.chess_laws.proofs.Words.{◌≡◌, ℕ, ◌+◌, ◌-◌, ◌<◌, ◌&&◌, is_none, Bool, true, false, cond, List, [], ◌∷◌, Option, Some, None, length, refl, sym, ◌∙◌, ap, arith, Colour, White, Black, Kind, King, Queen, Rook, Bishop, Knight, Pawn, Man, Move, Men, man_at, put, man, is_man, counts_of, count_of, fewer, OnTrue, OnFalse, and_parts, nat_tests, Setup, Effect, Plain, Double, Passing, Castle, Null, takes_target, Sound, rook_home, rook_target, Case, Legal, arriving, effect_of, board_after, moved, count_by-le-length, ones-set_of}
 use Rattle.chess_laws.proofs.Boards.{Goes, Goes-count, length-put, one_if, relocate}
 use Rattle.chess_laws.proofs.Keeping.{castle-crossed, castle-king_goes, castle-rook_goes, castle-squares, plain-no_own, plain-no_king}
 use Rattle.chess_laws.proofs.Following.{case-on_board}
-use Rattle.std.proofs.lemmas.List.Sums.{count_by-le-length}
-use Rattle.cell_core.proofs.Squares.{ones-set_of}
 use Rattle.chess_laws.proofs.Running.{is_none-Decides}
 use Rattle.chess_laws.proofs.MovedKings.{legal-allowed}
 

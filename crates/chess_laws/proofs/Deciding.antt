@@ -1,27 +1,7 @@
 -- The tests of the Laws decide what the Laws say.
-use Rattle.std.proofs.Common.{◌≡◌, ℕ, zero, suc, ◌<◌, Bool, false, not, ◌&&◌, ◌==◌, IsTrue, Option, Some, None, is_none, List, [], All, Any, rules, refl, sym, ap, subst}
-use Rattle.std.specs.Bool.{Decides}
-use Rattle.std.specs.List.{list_all, list_any}
-use Rattle.std.proofs.lemmas.Bool.Decides.{Decides-and, Decides-or, Decides-not, Decides-like, Decides-eqb, Decides-below_or, Decides-by_and}
-use Rattle.std.proofs.lemmas.Bool.{and_parts}
-use Rattle.std.proofs.lemmas.List.Folds.{Any-from_list_any, list_any-from_Any}
-use Rattle.cell_core.specs.declared.man.Colour.{Colour}
-use Rattle.cell_core.specs.declared.man.Kind.{Kind}
-use Rattle.cell_core.specs.declared.man.Kind.TheVariants.{King, Knight, Pawn}
-use Rattle.cell_core.specs.declared.man.Man.{Man}
-use Rattle.cell_core.specs.declared.step.Move.{Move}
-use Rattle.cell_core.specs.Board.{Men, man_at}
-use Rattle.cell_core.specs.Man.{man, other, is_man, is_of, same_colour}
-use Rattle.cell_core.proofs.Same.{same_colour-Decides}
-use Rattle.chess_laws.specs.declared.setup.Setup.{Setup}
-use Rattle.chess_laws.specs.declared.effect.Effect.{Effect}
-use Rattle.chess_laws.specs.declared.effect.Effect.TheVariants.{Plain, Double, Passing, Castle, Null}
-use Rattle.chess_laws.specs.Geometry.{Offset, rank_of, shift, forward, pawn_captures, knight_steps, king_steps, Leaps, Walk, Runs}
-use Rattle.chess_laws.specs.Attacks.{Attacks, IsInCheck, Reaches}
-use Rattle.chess_laws.specs.LegalTests.{slides}
-use Rattle.chess_laws.specs.Castling.{between, king_path, has_right}
-use Rattle.chess_laws.specs.Step.{board_after, effect_of, after, pawn_rank, passed_square, promotes_rightly, HasNoOwn, GoesPlainly, Case, Legal}
-use Rattle.chess_laws.specs.LegalNow.{some_below, is_square, leaps_now, walks_on, walks_now, runs_now, reaches_now, attacks_from, attacks_now, in_check_now, goes_plainly_now, plain_now, double_now, passing_now, castle_now, null_now, case_now, legal_now}
+use Rattle.chess_laws.proofs.Words.{◌≡◌, ℕ, zero, suc, ◌<◌, Bool, false, not, ◌&&◌, ◌==◌, IsTrue, Option, Some, None, is_none, List, [], All, Any, rules, refl, sym, ap, subst, Decides, list_all, list_any, Decides-and, Decides-or, Decides-not, Decides-like, Decides-eqb, Decides-below_or, Decides-by_and, and_parts, Any-from_list_any, list_any-from_Any, Colour, Kind, King, Knight, Pawn, Man, Move, Men, man_at, man, other, is_man, is_of, same_colour, same_colour-Decides, Setup, Effect, Plain, Double, Passing, Castle, Null, Offset, rank_of, shift, forward, pawn_captures, knight_steps, king_steps, Leaps, Walk, Runs, Attacks, IsInCheck, Reaches, slides, king_path, has_right, board_after, effect_of, after, pawn_rank, passed_square, promotes_rightly, HasNoOwn, GoesPlainly, Case, Legal, is_square, walks_on, reaches_now, attacks_from, goes_plainly_now, plain_now, double_now, passing_now, castle_now, null_now, case_now}
+use Rattle.chess_laws.specs.Castling.{between}
+use Rattle.chess_laws.specs.LegalNow.{some_below, leaps_now, walks_now, runs_now, attacks_now, in_check_now, legal_now}
 use Rattle.chess_laws.proofs.Running.{is_none-Decides, short-walk, walk-ends}
 use Rattle.chess_laws.proofs.Kings.{is_man-Decides}
 

@@ -1,28 +1,5 @@
 -- A legal move leads from a position within the rules to one within the rules.
-use Rattle.std.proofs.Common.{◌≡◌, ℕ, ◌<◌, inl, inr, ◌&&◌, not, eqb, false, Some, None, IsTrue, refl, sym, ◌∙◌, ap, arith}
-use Rattle.std.specs.Prelude.{Any}
-use Rattle.std.proofs.lemmas.Bool.{eqb-false}
-use Rattle.std.proofs.lemmas.Bool.Decides.{nat_tests}
-use Rattle.cell_core.specs.declared.man.Colour.{Colour}
-use Rattle.cell_core.specs.declared.man.Colour.TheVariants.{White, Black}
-use Rattle.cell_core.specs.declared.man.Kind.{Kind}
-use Rattle.cell_core.specs.declared.man.Kind.TheVariants.{King, Queen, Rook, Bishop, Knight, Pawn}
-use Rattle.cell_core.specs.declared.man.Man.{Man}
-use Rattle.cell_core.specs.declared.step.Move.{Move}
-use Rattle.cell_core.specs.Board.{Men, man_at, put}
-use Rattle.cell_core.specs.Man.{man, other}
-use Rattle.chess_laws.specs.declared.setup.Rights.{Rights}
-use Rattle.chess_laws.specs.declared.setup.Setup.{Setup}
-use Rattle.chess_laws.specs.declared.setup.Wing.{Wing}
-use Rattle.chess_laws.specs.declared.setup.Wing.TheVariants.{KingSide, QueenSide}
-use Rattle.chess_laws.specs.declared.effect.Effect.{Effect}
-use Rattle.chess_laws.specs.declared.effect.Effect.TheVariants.{Plain, Double, Passing, Castle, Null}
-use Rattle.chess_laws.specs.Geometry.{Offset, file_of, rank_of, square, forward, pawn_captures, rook_steps, bishop_steps, knight_steps, king_steps, Leaps, Runs}
-use Rattle.chess_laws.specs.Attacks.{IsInCheck}
-use Rattle.chess_laws.specs.Castling.{king_home, king_target, rook_home, rook_target, has_right, touches, keeps, rights_after, StandAtHome}
-use Rattle.chess_laws.specs.Position.{Sound, HasFitEnPassant, en_passant_rank}
-use Rattle.chess_laws.specs.Step.{effect_of, GoesPlainly, PassingCase, CastleCase, Case, arriving, last_rank, moved, passed_square, board_after, rights_left, en_passant_after, after}
-use Rattle.chess_laws.specs.LegalTests.{slides}
+use Rattle.chess_laws.proofs.Words.{◌≡◌, ℕ, ◌<◌, inl, inr, ◌&&◌, not, eqb, false, Some, None, IsTrue, refl, sym, ◌∙◌, ap, arith, Any, eqb-false, nat_tests, Colour, White, Black, Kind, King, Queen, Rook, Bishop, Knight, Pawn, Man, Move, Men, man_at, put, man, other, Rights, Setup, Wing, KingSide, QueenSide, Effect, Plain, Double, Passing, Castle, Null, Offset, file_of, rank_of, square, forward, pawn_captures, rook_steps, bishop_steps, knight_steps, king_steps, Leaps, Runs, IsInCheck, king_home, king_target, rook_home, rook_target, has_right, touches, keeps, rights_after, StandAtHome, Sound, HasFitEnPassant, en_passant_rank, effect_of, GoesPlainly, PassingCase, CastleCase, Case, arriving, last_rank, moved, passed_square, board_after, rights_left, en_passant_after, after, slides}
 use Rattle.chess_laws.proofs.Shifts.{shift-Some}
 use Rattle.chess_laws.proofs.Running.{walk-ends}
 use Rattle.chess_laws.proofs.Boards.{man-colour, man-kind, put-other, relocate-stays, other-other, on_board, Goes, free-goes, Inside, Kept, Sound-kept, Kept-goes, Kept-away}

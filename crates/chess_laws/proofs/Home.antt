@@ -1,19 +1,8 @@
 -- The pawns at home as bits.
-use Rattle.std.proofs.Common.{pow_pos, ◌≡◌, ℕ, zero, suc, ◌+◌, ◌-◌, ◌*◌, ◌/◌, ◌%◌, ◌^◌, ◌<◌, ◌≤◌, ltb, Bool, true, false, cond, ◌↔◌, ◌≢◌, IsTrue, IsBitSet, w16, refl, sym, ◌∙◌, ap, arith, inl, inr}
-use Rattle.std.specs.Int.{bit_at, reverse_bits, reverse_bits_onto}
-use Rattle.std.specs.Int.RustNames.{bit_or}
+use Rattle.chess_laws.proofs.Words.{pow_pos, ◌≡◌, ℕ, zero, suc, ◌+◌, ◌-◌, ◌*◌, ◌/◌, ◌%◌, ◌^◌, ◌<◌, ◌≤◌, ltb, Bool, true, false, cond, ◌↔◌, ◌≢◌, IsTrue, IsBitSet, w16, refl, sym, ◌∙◌, ap, arith, inl, inr, bit_at, reverse_bits, bit_or, shr-shr, and_pow, bit_at-lt, bit_at-suc, bit_at_and, bit_at_lowest, bit_at_mask_below, bit_at_mask_inside, bit_at_ones, bit_at_ones_above, bit_at_or, bit_at_set_same, bit_at_set_other, cases_eq, cases_lt, false≢true, lt-ltb, le-ltb, White, Black, Pawn, Men, man_at, is_man, set_of, bit-set_of, is_home}
+use Rattle.std.specs.Int.{reverse_bits_onto}
 use lib.Bits.{bit_and}
 use mir.Val.{bits}
-use Rattle.std.proofs.lemmas.Nat.{shr-shr}
-use Rattle.std.proofs.lemmas.Nat.Bits.{and_pow, bit_at-lt, bit_at-suc, bit_at_and, bit_at_lowest, bit_at_mask_below, bit_at_mask_inside, bit_at_ones, bit_at_ones_above, bit_at_or, bit_at_set_same, bit_at_set_other}
-use Rattle.std.proofs.lemmas.Bool.{cases_eq, cases_lt, false≢true, lt-ltb, le-ltb}
-use Rattle.cell_core.specs.declared.man.Colour.TheVariants.{White, Black}
-use Rattle.cell_core.specs.declared.man.Kind.TheVariants.{Pawn}
-use Rattle.cell_core.specs.Board.{Men, man_at}
-use Rattle.cell_core.specs.Man.{is_man}
-use Rattle.cell_core.specs.Sets.{set_of}
-use Rattle.cell_core.proofs.Squares.{bit-set_of}
-use Rattle.chess_laws.specs.Counts.{is_home}
 
 -- bit v is set for each v below k that passes the test, and no bit from k on
 pub record Bits (test : ℕ → Bool) (n k : ℕ) : Type 0 where

@@ -1,14 +1,6 @@
 -- The tests of setups decide.
-use Rattle.std.proofs.Common.{◌≡◌, ℕ, Bool, true, ◌&&◌, Option, Some, None, is_none, ap, refl}
-use Rattle.std.specs.Bool.{Decides}
-use Rattle.std.proofs.lemmas.Bool.Decides.{Decides-and, Decides-like}
-use Rattle.cell_core.specs.declared.man.Colour.TheVariants.{White}
-use Rattle.cell_core.specs.Man.{same_colour}
-use Rattle.cell_core.specs.Board.{same_men}
-use Rattle.cell_core.proofs.Same.{same_colour-Decides, same_men-Decides}
-use Rattle.chess_laws.specs.declared.setup.Rights.{Rights}
-use Rattle.chess_laws.specs.declared.setup.Setup.{Setup}
-use Rattle.chess_laws.specs.Position.{has_all_rights, start_men, start_setup, is_start}
+use Rattle.chess_laws.proofs.Words.{◌≡◌, ℕ, Bool, true, ◌&&◌, Option, Some, None, is_none, ap, refl, Decides, Decides-and, Decides-like, White, same_colour, same_men, same_colour-Decides, same_men-Decides, Rights, Setup, has_all_rights, start_men, start_setup}
+use Rattle.chess_laws.specs.Position.{is_start}
 
 four : (a b c d : Bool) → (a && (b && (c && d))) ≡ true → (record { white_king_side = a; white_queen_side = b; black_king_side = c; black_queen_side = d }) ≡ start_setup.rights
 four true true true true h = refl

@@ -1,12 +1,5 @@
 -- A legal move joins the list where there is room for it, and where there is none, there are more moves than it holds.
-use Rattle.std.proofs.Common.{◌≡◌, ℕ, ◌+◌, ◌*◌, ◌<◌, Bool, true, false, List, [], ◌∷◌, ◌++◌, length, subst, arith}
-use Rattle.std.specs.Bool.{OnTrue, OnFalse}
-use Rattle.cell_core.specs.declared.step.Move.{Move}
-use Rattle.chess_laws.specs.declared.setup.Setup.{Setup}
-use Rattle.chess_laws.specs.declared.effect.Effect.{Effect}
-use Rattle.chess_laws.specs.Position.{Sound}
-use Rattle.chess_laws.specs.Moves.{HasMoreMoves, IsMove, place_of}
-use Rattle.chess_laws.specs.Targets.{Known, ListsBelow, goes}
+use Rattle.chess_laws.proofs.Words.{◌≡◌, ℕ, ◌+◌, ◌*◌, ◌<◌, Bool, true, false, List, [], ◌∷◌, ◌++◌, length, subst, arith, OnTrue, OnFalse, Move, Setup, Effect, Sound, HasMoreMoves, IsMove, place_of, Known, ListsBelow, goes}
 use Rattle.chess_laws.proofs.Listing.{lists-many, lists-plain, lists-push, lists-skip}
 
 pub joins : (p : Setup) (room n : ℕ) (ms new : List Move) (m : Move) (done : Bool) → n ≡ place_of m → Sound p → ListsBelow p room n ms → IsMove p m →

@@ -1,24 +1,6 @@
 -- The board keeps its rules in each case of a move: its squares, its kings, its pawns and how many men there are.
-use Rattle.std.proofs.Common.{length, ◌≡◌, ℕ, zero, suc, ◌+◌, ◌<◌, inl, inr, Bool, true, false, ◌&&◌, cond, eqb, Option, Some, None, is_none, IsTrue, refl, sym, ◌∙◌, ap, arith, lit<}
-use Rattle.std.specs.Prelude.{Any, All}
-use Rattle.std.proofs.lemmas.Bool.Decides.{nat_tests}
-use Rattle.cell_core.specs.declared.man.Colour.{Colour}
-use Rattle.cell_core.specs.declared.man.Colour.TheVariants.{White, Black}
-use Rattle.cell_core.specs.declared.man.Kind.{Kind}
-use Rattle.cell_core.specs.declared.man.Kind.TheVariants.{King, Queen, Rook, Bishop, Knight, Pawn}
-use Rattle.cell_core.specs.declared.man.Man.{Man}
-use Rattle.cell_core.specs.declared.step.Move.{Move}
-use Rattle.cell_core.specs.Board.{Men, man_at, put}
-use Rattle.cell_core.specs.Man.{man, other, same_kind}
-use Rattle.chess_laws.specs.declared.setup.Setup.{Setup}
-use Rattle.chess_laws.specs.declared.setup.Wing.{Wing}
-use Rattle.chess_laws.specs.declared.setup.Wing.TheVariants.{KingSide, QueenSide}
-use Rattle.chess_laws.specs.declared.effect.Effect.TheVariants.{Plain, Castle, Null}
-use Rattle.chess_laws.specs.Geometry.{Offset, rank_of, forward, pawn_captures, Leaps, Walk, by}
-use Rattle.chess_laws.specs.Attacks.{Attacks, AttacksAs, Reaches}
-use Rattle.chess_laws.specs.Castling.{king_home, king_target, rook_home, rook_target, between}
-use Rattle.chess_laws.specs.Position.{Sound, en_passant_rank}
-use Rattle.chess_laws.specs.Step.{effect_as, effect_of, GoesPlainly, may_become, last_rank, pawn_rank, PlainCase, DoubleCase, PassingCase, CastleCase, arriving, moved, passed_square}
+use Rattle.chess_laws.proofs.Words.{length, ◌≡◌, ℕ, zero, suc, ◌+◌, ◌<◌, inl, inr, Bool, true, false, ◌&&◌, cond, eqb, Option, Some, None, is_none, IsTrue, refl, sym, ◌∙◌, ap, arith, lit<, Any, All, nat_tests, Colour, White, Black, Kind, King, Queen, Rook, Bishop, Knight, Pawn, Man, Move, Men, man_at, put, man, other, same_kind, Setup, Wing, KingSide, QueenSide, Plain, Castle, Null, Offset, rank_of, forward, pawn_captures, Leaps, Walk, by, Attacks, AttacksAs, Reaches, king_home, king_target, rook_home, rook_target, Sound, en_passant_rank, effect_as, effect_of, GoesPlainly, may_become, last_rank, pawn_rank, PlainCase, DoubleCase, PassingCase, CastleCase, arriving, moved, passed_square}
+use Rattle.chess_laws.specs.Castling.{between}
 use Rattle.chess_laws.proofs.Shifts.{shift-Some}
 use Rattle.chess_laws.proofs.Boards.{man-colour, other-other, colour_cases, on_board, relocate-other, Goes, free-goes, Inside}
 

@@ -1,19 +1,5 @@
 -- A side that has one king has it where the first one stands.
-use Rattle.std.proofs.Common.{◌≡◌, ℕ, zero, suc, ◌+◌, ◌<◌, Bool, true, false, ◌&&◌, cond, List, [], ◌∷◌, length, count_by, Option, Some, None, get_or, refl, sym, ◌∙◌, ap, arith}
-use Rattle.std.specs.Bool.{Decides}
-use Rattle.std.specs.List.{position_or_len, position}
-use Rattle.std.proofs.lemmas.List.Sums.{sum_by-cons}
-use Rattle.std.proofs.lemmas.Bool.{cases_Bool}
-use Rattle.std.proofs.Common.{inl, inr, ltb}
-use Rattle.std.proofs.lemmas.Bool.Decides.{Decides-and, Decides-like, nat_tests}
-use Rattle.cell_core.specs.declared.man.Colour.{Colour}
-use Rattle.cell_core.specs.declared.man.Kind.{Kind}
-use Rattle.cell_core.specs.declared.man.Kind.TheVariants.{King}
-use Rattle.cell_core.specs.declared.man.Man.{Man}
-use Rattle.cell_core.specs.Board.{Men, man_at}
-use Rattle.cell_core.specs.Man.{man, is_man, same_colour, same_kind}
-use Rattle.cell_core.proofs.Same.{same_colour-Decides, same_kind-Decides}
-use Rattle.chess_laws.specs.Position.{king_square}
+use Rattle.chess_laws.proofs.Words.{◌≡◌, ℕ, zero, suc, ◌+◌, ◌<◌, Bool, true, false, ◌&&◌, cond, List, [], ◌∷◌, length, count_by, Option, Some, None, get_or, refl, sym, ◌∙◌, ap, arith, Decides, position_or_len, position, sum_by-cons, cases_Bool, inl, inr, ltb, Decides-and, Decides-like, nat_tests, Colour, Kind, King, Man, Men, man_at, man, is_man, same_colour, same_kind, same_colour-Decides, same_kind-Decides, king_square}
 
 -- the test of a man finds just that man
 pub is_man-Decides : (c : Colour) (k : Kind) (x : Option Man) → Decides (is_man c k x) (x ≡ Some (man c k))

@@ -1,23 +1,7 @@
 -- What comes to a square makes one move, whose rule allows it.
-use Rattle.std.proofs.Common.{◌≡◌, ℕ, inl, inr, true, Some, refl, sym, ◌∙◌, ap, subst, arith}
-use Rattle.std.specs.Prelude.{Any}
-use Rattle.std.proofs.lemmas.Bool.{false≢true}
-use Rattle.std.proofs.lemmas.Bool.Decides.{nat_tests}
-use Rattle.cell_core.specs.declared.man.Colour.{Colour}
-use Rattle.cell_core.specs.declared.man.Colour.TheVariants.{White, Black}
-use Rattle.cell_core.specs.declared.man.Kind.{Kind}
-use Rattle.cell_core.specs.declared.man.Kind.TheVariants.{King, Queen, Rook, Bishop, Knight, Pawn}
-use Rattle.cell_core.specs.Board.{man_at}
-use Rattle.cell_core.specs.Man.{man}
-use Rattle.chess_laws.specs.declared.setup.Setup.{Setup}
-use Rattle.chess_laws.specs.declared.setup.Wing.{Wing}
-use Rattle.chess_laws.specs.declared.setup.Wing.TheVariants.{KingSide, QueenSide}
-use Rattle.chess_laws.specs.declared.effect.Effect.TheVariants.{Plain, Castle}
-use Rattle.chess_laws.specs.Geometry.{king_steps, shift, Leaps}
-use Rattle.chess_laws.specs.Castling.{king_home, king_target}
+use Rattle.chess_laws.proofs.Words.{◌≡◌, ℕ, inl, inr, true, Some, refl, sym, ◌∙◌, ap, subst, arith, Any, false≢true, nat_tests, Colour, White, Black, Kind, King, Queen, Rook, Bishop, Knight, Pawn, man_at, man, Setup, Wing, KingSide, QueenSide, Plain, Castle, king_steps, Leaps, king_home, king_target, effect_as, effect_on, promotes_rightly, Case, CastleCase, GoesPlainly, HasNoOwn, Comes, IsKnown, Known, goes}
+use Rattle.chess_laws.specs.Geometry.{shift}
 use Rattle.chess_laws.specs.LegalNow.{leaps_now}
-use Rattle.chess_laws.specs.Step.{effect_as, effect_on, promotes_rightly, Case, CastleCase, GoesPlainly, HasNoOwn}
-use Rattle.chess_laws.specs.Targets.{Comes, IsKnown, Known, goes}
 use Rattle.chess_laws.proofs.Boards.{man-kind}
 use Rattle.chess_laws.proofs.Deciding.{any-Decides, leaps-Decides}
 use Rattle.chess_laws.proofs.Keeping.{castle-apart}

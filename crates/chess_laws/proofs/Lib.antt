@@ -27,3 +27,4 @@ pub mod PawnMoves
 pub mod Sets
 pub mod Clear
 pub mod Remaining
+pub mod Words

@@ -1,17 +1,6 @@
 -- The line between two squares: the one queen's step by which a walk may lead from one to the other.
-use Rattle.std.proofs.Common.{◌≡◌, ◌↔◌, ℕ, zero, suc, ◌+◌, ◌*◌, ◌<◌, Bool, true, false, ◌&&◌, ◌||◌, ◌-◌, not, Some, None, IsTrue, length, refl, sym, ◌∙◌, subst, arith}
-use Rattle.std.specs.Prelude.{Any}
-use Rattle.std.proofs.lemmas.Bool.Decides.{Decides-and, nat_tests}
-use Rattle.std.specs.List.{list_all, list_any}
-use Rattle.std.proofs.lemmas.Bool.{agree_below, agree_below_at, and_parts, false≢true}
-use Rattle.std.proofs.lemmas.List.Folds.{Any-from_list_any}
-use Rattle.std.proofs.lemmas.List.Sums.{AllPass-from_list_all}
-use Rattle.cell_core.specs.declared.man.Kind.{Kind}
-use Rattle.cell_core.specs.declared.man.Kind.TheVariants.{King}
-use Rattle.cell_core.specs.Board.{Men}
-use Rattle.chess_laws.specs.Geometry.{Offset, file_of, rank_of, Walk, Runs}
-use Rattle.chess_laws.specs.LegalTests.{line, line_of, glides, run, slides}
-use Rattle.chess_laws.specs.Rays.{offset_at, row_of, same_offset}
+use Rattle.chess_laws.proofs.Words.{◌≡◌, ◌↔◌, ℕ, zero, suc, ◌+◌, ◌*◌, ◌<◌, Bool, true, false, ◌&&◌, ◌||◌, ◌-◌, not, Some, None, IsTrue, length, refl, sym, ◌∙◌, subst, arith, Any, Decides-and, nat_tests, list_all, list_any, agree_below, agree_below_at, and_parts, false≢true, Any-from_list_any, AllPass-from_list_all, Kind, King, Men, Offset, file_of, rank_of, Walk, Runs, line_of, glides, run, slides, offset_at, row_of, same_offset}
+use Rattle.chess_laws.specs.LegalTests.{line}
 use Rattle.chess_laws.proofs.Running.{run_is}
 use Rattle.chess_laws.proofs.Shifts.{shift-Some}
 use Rattle.chess_laws.proofs.Walks.{same-offset}

@@ -1,35 +1,10 @@
 -- The list of moves grows in order, and nothing stands between.
-use Rattle.std.proofs.Common.{◌≡◌, ℕ, ◌+◌, ◌*◌, ◌<◌, ◌≤◌, ◌⊎◌, inl, inr, Bool, true, false, ◌&&◌, not, eqb, List, [], ◌∷◌, ◌++◌, Option, Some, None, IsTrue, length, get_or, refl, sym, ◌∙◌, ap, subst, arith, lit<, length-append}
-use Rattle.std.specs.Prelude.{All, Contains, slice_index_or}
-use Rattle.std.proofs.lemmas.Bool.{cases_Bool, cases_lt, false≢true, ne_eqb}
-use Rattle.std.specs.Bool.{OnTrue, OnFalse}
-use Rattle.std.proofs.lemmas.Bool.Decides.{Decides-and, Decides-eqb}
-use Rattle.std.proofs.lemmas.List.Elements.{All-push, All-cons, All-weaker, All-nil, Contains-append_left, Contains-push}
-use Rattle.std.proofs.lemmas.List.Quantifiers.{all_pairs_push}
-use Rattle.cell_core.specs.declared.man.Kind.{Kind}
-use Rattle.cell_core.specs.declared.man.Kind.TheVariants.{King, Queen, Rook, Bishop, Knight, Pawn}
-use Rattle.cell_core.specs.declared.step.Move.{Move}
-use Rattle.cell_core.specs.Board.{man_at}
-use Rattle.cell_core.specs.Man.{man, same_kind}
-use Rattle.cell_core.proofs.Same.{same_kind-Decides}
-use Rattle.chess_laws.specs.declared.setup.Setup.{Setup}
-use Rattle.chess_laws.specs.declared.targets.SquareSet.{SquareSet}
-use Rattle.chess_laws.specs.declared.effect.Effect.{Effect}
-use Rattle.chess_laws.specs.declared.effect.Effect.TheVariants.{Plain, Double, Passing, Castle, Null}
-use Rattle.chess_laws.specs.Castling.{king_target}
-use Rattle.chess_laws.specs.Geometry.{rank_of}
-use Rattle.chess_laws.specs.Position.{Sound}
-use Rattle.chess_laws.specs.Step.{effect_of, Case, CastleCase, GoesPlainly, may_become, last_rank, promotes_rightly}
-use Rattle.chess_laws.specs.Moves.{IsMove, promotion_number, place_of, Ascends, ListsMoves, HasMoreMoves}
-use Rattle.chess_laws.specs.Targets.{Comes, Has, Known, ListsBelow, MayPromote, MayTake, goes}
+use Rattle.chess_laws.proofs.Words.{◌≡◌, ℕ, ◌+◌, ◌*◌, ◌<◌, ◌≤◌, ◌⊎◌, inl, inr, Bool, true, false, ◌&&◌, not, eqb, List, [], ◌∷◌, ◌++◌, Option, Some, None, IsTrue, length, get_or, refl, sym, ◌∙◌, ap, subst, arith, lit<, length-append, All, Contains, slice_index_or, cases_Bool, cases_lt, false≢true, ne_eqb, OnTrue, OnFalse, Decides-and, Decides-eqb, All-push, All-cons, All-weaker, All-nil, Contains-append_left, Contains-push, all_pairs_push, Kind, King, Queen, Rook, Bishop, Knight, Pawn, Move, man_at, man, same_kind, same_kind-Decides, Setup, SquareSet, Effect, Plain, Double, Passing, Castle, Null, king_target, rank_of, Sound, effect_of, Case, CastleCase, GoesPlainly, may_become, last_rank, promotes_rightly, IsMove, promotion_number, place_of, Ascends, ListsMoves, HasMoreMoves, Comes, Has, Known, ListsBelow, MayPromote, goes, IsEquivalence, nat_eq_equiv, Any-from_list_any, list_any_at, IsDistinct-from_apart, length-le_from_is_member}
+use Rattle.chess_laws.specs.Targets.{MayTake}
 use Rattle.chess_laws.proofs.Boards.{man-kind, on_board}
 use Rattle.chess_laws.proofs.Following.{case-on_board}
 use Rattle.chess_laws.proofs.Keeping.{castle-squares}
 use Rattle.chess_laws.proofs.Running.{is_none-Decides}
-use Rattle.std.specs.Cmp.{IsEquivalence, nat_eq_equiv}
-use Rattle.std.proofs.lemmas.List.Folds.{Any-from_list_any, list_any_at}
-use Rattle.std.proofs.lemmas.Map.Keys.{IsDistinct-from_apart}
-use Rattle.std.proofs.lemmas.Map.Made.{length-le_from_is_member}
 
 -- what promotes: nothing, or a pawn that comes to its last rank
 abbrev pub Promotes : Setup → Move → Type 0

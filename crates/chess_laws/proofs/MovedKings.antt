@@ -1,25 +1,5 @@
 -- Where the kings stand after a move, and what is kept beside the position then.
-use Rattle.std.proofs.Common.{◌≡◌, ℕ, ◌<◌, inl, inr, ◌⊎◌, ◌↔◌, IsTrue, not, true, false, eqb, Some, None, length, count_by, Bool, List, refl, sym, ◌∙◌, ap}
-use Rattle.std.proofs.lemmas.Bool.{eq-eqb, ne_eqb, cases_eq, false≢true}
-use Rattle.cell_core.specs.declared.man.Colour.{Colour}
-use Rattle.cell_core.specs.declared.man.Colour.TheVariants.{White, Black}
-use Rattle.cell_core.specs.declared.man.Kind.{Kind}
-use Rattle.cell_core.specs.declared.man.Kind.TheVariants.{King, Rook, Pawn}
-use Rattle.cell_core.specs.declared.step.Move.{Move}
-use Rattle.cell_core.specs.Board.{Men, man_at, put}
-use Rattle.cell_core.specs.Man.{man, other, same_kind, is_man}
-use Rattle.chess_laws.specs.declared.setup.Setup.{Setup}
-use Rattle.chess_laws.specs.declared.setup.Wing.{Wing}
-use Rattle.chess_laws.specs.declared.effect.Effect.{Effect}
-use Rattle.chess_laws.specs.declared.effect.Effect.TheVariants.{Plain, Double, Passing, Castle, Null}
-use Rattle.chess_laws.specs.Geometry.{rank_of}
-use Rattle.chess_laws.specs.Attacks.{Attacks, IsInCheck}
-use Rattle.chess_laws.specs.Castling.{rook_home, rook_target}
-use Rattle.chess_laws.specs.Counts.{counts_of}
-use Rattle.chess_laws.specs.Keeps.{Keeps, in_check}
-use Rattle.chess_laws.specs.Position.{Sound, king_square}
-use Rattle.chess_laws.specs.Step.{effect_of, last_rank, PlainCase, PassingCase, CastleCase, Case, arriving, moved, passed_square, board_after, after, Legal}
-use Rattle.chess_laws.specs.LegalTests.{IsOnlyKing, king_after}
+use Rattle.chess_laws.proofs.Words.{◌≡◌, ℕ, ◌<◌, inl, inr, ◌⊎◌, ◌↔◌, IsTrue, not, true, false, eqb, Some, None, length, count_by, Bool, List, refl, sym, ◌∙◌, ap, eq-eqb, ne_eqb, cases_eq, false≢true, Colour, White, Black, Kind, King, Rook, Pawn, Move, Men, man_at, put, man, other, same_kind, is_man, Setup, Wing, Effect, Plain, Double, Passing, Castle, Null, rank_of, Attacks, IsInCheck, rook_home, rook_target, counts_of, Keeps, in_check, Sound, king_square, effect_of, last_rank, PlainCase, PassingCase, CastleCase, Case, arriving, moved, passed_square, board_after, after, Legal, IsOnlyKing, king_after}
 use Rattle.chess_laws.proofs.Kings.{king-only, king-stands}
 use Rattle.chess_laws.proofs.Boards.{only-king, man-colour, man-kind, same_kind-true, put-same, length-put}
 use Rattle.chess_laws.proofs.Keeping.{other-apart}

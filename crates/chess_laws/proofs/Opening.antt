@@ -1,26 +1,5 @@
 -- What a move opens: an attack after it was there before, or comes from its target, or runs over the square that it left.
-use Rattle.std.proofs.Common.{◌≡◌, ℕ, zero, suc, ◌<◌, [], ◌∷◌, lit<, ◌⊎◌, inl, inr, ◌↔◌, IsTrue, Bool, true, false, ltb, Some, None, length, refl, sym, ◌∙◌, ap, arith}
-use Rattle.std.specs.Prelude.{Any, slice_index_or}
-use Rattle.std.proofs.lemmas.Bool.{cases_Bool, cases_eq, false≢true}
-use Rattle.std.specs.Bool.{Decides}
-use Rattle.std.proofs.lemmas.Bool.Decides.{nat_tests, same_from_decides}
-use Rattle.cell_core.specs.declared.man.Colour.{Colour}
-use Rattle.cell_core.specs.declared.man.Kind.{Kind}
-use Rattle.cell_core.specs.declared.man.Kind.TheVariants.{King, Queen, Rook, Bishop, Knight, Pawn}
-use Rattle.cell_core.specs.declared.man.Man.{Man}
-use Rattle.cell_core.specs.declared.step.Move.{Move}
-use Rattle.cell_core.specs.Board.{Men, man_at, put}
-use Rattle.cell_core.specs.Man.{man, other}
-use Rattle.chess_laws.specs.declared.setup.Setup.{Setup}
-use Rattle.chess_laws.specs.declared.effect.Effect.{Effect}
-use Rattle.chess_laws.specs.declared.effect.Effect.TheVariants.{Plain, Double, Passing, Castle, Null}
-use Rattle.chess_laws.specs.Geometry.{Offset, Walk, Runs}
-use Rattle.chess_laws.specs.Attacks.{Attacks, Reaches, IsInCheck}
-use Rattle.chess_laws.specs.LegalTests.{IsOnlyKing, is_calm, glides, slides}
-use Rattle.chess_laws.specs.Keeps.{in_check}
-use Rattle.chess_laws.specs.Position.{Sound, king_square}
-use Rattle.chess_laws.specs.Rays.{Opens, Covers, Hits, SlidesFrom, glider, offset_at}
-use Rattle.chess_laws.specs.Step.{effect_of, arriving, moved, board_after, after, Case, Legal}
+use Rattle.chess_laws.proofs.Words.{◌≡◌, ℕ, zero, suc, ◌<◌, [], ◌∷◌, lit<, ◌⊎◌, inl, inr, ◌↔◌, IsTrue, Bool, true, false, ltb, Some, None, length, refl, sym, ◌∙◌, ap, arith, Any, slice_index_or, cases_Bool, cases_eq, false≢true, Decides, nat_tests, same_from_decides, Colour, Kind, King, Queen, Rook, Bishop, Knight, Pawn, Man, Move, Men, man_at, put, man, other, Setup, Effect, Plain, Double, Passing, Castle, Null, Offset, Walk, Runs, Attacks, Reaches, IsInCheck, IsOnlyKing, is_calm, glides, slides, in_check, Sound, king_square, Opens, Covers, Hits, SlidesFrom, glider, offset_at, effect_of, arriving, moved, board_after, after, Case, Legal}
 use Rattle.chess_laws.proofs.Boards.{man-colour, on_board, other-other, put-same, put-other}
 use Rattle.chess_laws.proofs.Clear.{Slider}
 use Rattle.chess_laws.proofs.Keeping.{moved-other, other-apart}

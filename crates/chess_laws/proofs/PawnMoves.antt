@@ -1,20 +1,6 @@
 -- A pawn that goes neither in passing nor to be promoted makes a plain move or a double step to each of its targets.
-use Rattle.std.proofs.Common.{◌≡◌, ℕ, zero, suc, ◌+◌, inl, inr, Bool, true, false, ◌&&◌, not, is_none, Some, refl, sym, ◌∙◌, ap, subst, arith}
-use Rattle.std.specs.Prelude.{Any}
-use Rattle.std.proofs.lemmas.Bool.{ne_eqb}
-use Rattle.std.proofs.lemmas.Bool.Decides.{nat_tests}
-use Rattle.cell_core.specs.declared.man.Colour.{Colour}
-use Rattle.cell_core.specs.declared.man.Colour.TheVariants.{White, Black}
-use Rattle.cell_core.specs.declared.man.Kind.TheVariants.{Pawn}
-use Rattle.cell_core.specs.declared.step.Move.{Move}
-use Rattle.cell_core.specs.Board.{Men, man_at}
-use Rattle.cell_core.specs.Man.{man, other}
-use Rattle.chess_laws.specs.declared.setup.Setup.{Setup}
-use Rattle.chess_laws.specs.declared.effect.Effect.{Effect}
-use Rattle.chess_laws.specs.declared.effect.Effect.TheVariants.{Plain, Double}
-use Rattle.chess_laws.specs.Geometry.{Offset, file_of, rank_of, forward, pawn_captures, Leaps, Walk}
-use Rattle.chess_laws.specs.Step.{changes_file, effect_as, effect_on, goes_two, last_rank, promotes_rightly, Case}
-use Rattle.chess_laws.specs.Targets.{Known, MayTake, PawnComes, PawnGoes, goes}
+use Rattle.chess_laws.proofs.Words.{◌≡◌, ℕ, zero, suc, ◌+◌, inl, inr, Bool, true, false, ◌&&◌, not, is_none, Some, refl, sym, ◌∙◌, ap, subst, arith, Any, ne_eqb, nat_tests, Colour, White, Black, Pawn, Move, Men, man_at, man, other, Setup, Effect, Plain, Double, Offset, file_of, rank_of, forward, pawn_captures, Leaps, Walk, changes_file, effect_as, effect_on, goes_two, last_rank, promotes_rightly, Case, Known, PawnComes, PawnGoes, goes}
+use Rattle.chess_laws.specs.Targets.{MayTake}
 use Rattle.chess_laws.proofs.Boards.{man-colour}
 use Rattle.chess_laws.proofs.Keeping.{other-apart}
 use Rattle.chess_laws.proofs.Shifts.{shift-Some}

@@ -1,11 +1,5 @@
 -- No pawn on the first or the last rank, square by square.
-use Rattle.std.proofs.Common.{◌≡◌, ℕ, ◌+◌, ◌-◌, ◌<◌, inl, inr, Some, length, arith}
-use Rattle.std.proofs.lemmas.Bool.{cases_lt}
-use Rattle.cell_core.specs.declared.man.Colour.{Colour}
-use Rattle.cell_core.specs.declared.man.Kind.TheVariants.{Pawn}
-use Rattle.cell_core.specs.Board.{Men, man_at}
-use Rattle.cell_core.specs.Man.{man}
-use Rattle.chess_laws.specs.Position.{HasPawnsInside}
+use Rattle.chess_laws.proofs.Words.{◌≡◌, ℕ, ◌+◌, ◌-◌, ◌<◌, inl, inr, Some, length, arith, cases_lt, Colour, Pawn, Men, man_at, man, HasPawnsInside}
 use Rattle.chess_laws.proofs.Boards.{on_board}
 
 -- no pawn on this square

@@ -1,15 +1,5 @@
 -- What is left of a side's men after a move of the other side.
-use Rattle.std.proofs.Common.{◌≡◌, ℕ, ◌-◌, ◌*◌, ◌%◌, ◌^◌, ◌<◌, false, Some, None, is_some, length, refl, sym, ◌∙◌, ap, arith}
-use Rattle.std.specs.Int.RustNames.{bit_and, bit_or}
-use Rattle.std.proofs.lemmas.Bool.Decides.{nat_tests}
-use Rattle.std.proofs.lemmas.Nat.{and_assoc, and_comm}
-use Rattle.cell_core.specs.declared.man.Colour.{Colour}
-use Rattle.cell_core.specs.declared.man.Kind.{Kind}
-use Rattle.cell_core.specs.Board.{Men, man_at, put}
-use Rattle.cell_core.specs.Man.{is_man, is_of, man, other}
-use Rattle.cell_core.specs.Sets.{is_kind, set_of}
-use Rattle.cell_core.proofs.Squares.{come, filled, left, man-set, passed}
-use Rattle.chess_laws.specs.Rays.{Leaves}
+use Rattle.chess_laws.proofs.Words.{◌≡◌, ℕ, ◌-◌, ◌*◌, ◌%◌, ◌^◌, ◌<◌, false, Some, None, is_some, length, refl, sym, ◌∙◌, ap, arith, bit_and, bit_or, nat_tests, and_assoc, and_comm, Colour, Kind, Men, man_at, put, is_man, is_of, man, other, is_kind, set_of, come, filled, left, man-set, passed, Leaves}
 use Rattle.chess_laws.proofs.Boards.{length-put, put-same}
 
 -- a square is taken out of a set before or after another

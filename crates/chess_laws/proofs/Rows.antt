@@ -1,9 +1,6 @@
 -- The tables of steps say what the steps are, square by square.
-use Rattle.std.proofs.Common.{◌≡◌, ℕ, ◌<◌, Bool, true, List, Option, Some, None, refl, ◌∙◌, ap, arith}
-use Rattle.std.specs.Prelude.{SomeIff}
-use Rattle.std.proofs.lemmas.Bool.{agree_below, agree_below_at, eqb-true, leb-true}
-use Rattle.chess_laws.specs.Geometry.{shift}
-use Rattle.chess_laws.specs.Rays.{offset_at, entry, is_named, names_all, target_by}
+use Rattle.chess_laws.proofs.Words.{◌≡◌, ℕ, ◌<◌, Bool, true, List, Option, Some, None, refl, ◌∙◌, ap, arith, SomeIff, agree_below, agree_below_at, eqb-true, leb-true, shift, offset_at, entry, is_named, target_by}
+use Rattle.chess_laws.specs.Rays.{names_all}
 use Rattle.chess_laws.proofs.Walks.{shift-on_board}
 
 -- what a table of two sides says of all pairs, it says of one

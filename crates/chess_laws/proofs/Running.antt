@@ -1,17 +1,7 @@
 -- A walk over empty squares is at most seven steps long, and the code's walk finds it, also the one that collects its squares.
-use Rattle.std.proofs.Common.{◌≡◌, ◌↔◌, ℕ, zero, suc, ◌+◌, ◌-◌, ◌<◌, ◌≤◌, ◌⊎◌, inl, inr, Bool, true, false, ◌&&◌, ◌||◌, ◌==◌, eqb, IsTrue, Option, Some, None, is_none, is_some, refl, sym, ◌∙◌, ap, arith, subst}
-use Rattle.std.specs.Bool.{Decides}
-use Rattle.std.proofs.lemmas.Bool.{eq-eqb, cases_order}
-use Rattle.std.proofs.lemmas.Bool.Decides.{Decides-and, Decides-or, Decides-eqb, nat_tests}
-use Rattle.cell_core.specs.declared.man.Man.{Man}
-use Rattle.cell_core.specs.Board.{Men, man_at}
-use Rattle.chess_laws.specs.Geometry.{Offset, file_of, rank_of, shift, Walk, Runs}
-use Rattle.chess_laws.specs.LegalTests.{run, run_on}
+use Rattle.chess_laws.proofs.Words.{◌≡◌, ◌↔◌, ℕ, zero, suc, ◌+◌, ◌-◌, ◌<◌, ◌≤◌, ◌⊎◌, inl, inr, Bool, true, false, ◌&&◌, ◌||◌, ◌==◌, eqb, IsTrue, Option, Some, None, is_none, is_some, refl, sym, ◌∙◌, ap, arith, subst, Decides, eq-eqb, cases_order, Decides-and, Decides-or, Decides-eqb, nat_tests, Man, Men, man_at, Offset, file_of, rank_of, shift, Walk, Runs, run_on, Colour, SquareSet, HasNoOwn, Has}
+use Rattle.chess_laws.specs.LegalTests.{run}
 use Rattle.chess_laws.proofs.Shifts.{shift-Some}
-use Rattle.cell_core.specs.declared.man.Colour.{Colour}
-use Rattle.chess_laws.specs.declared.targets.SquareSet.{SquareSet}
-use Rattle.chess_laws.specs.Step.{HasNoOwn}
-use Rattle.chess_laws.specs.Targets.{Has}
 
 pub is_none-Decides : {A : Type 0} (x : Option A) → Decides (is_none x) (x ≡ None)
 is_none-Decides None = (λ h. refl, λ h. refl)

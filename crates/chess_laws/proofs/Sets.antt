@@ -1,25 +1,6 @@
 -- Bits of a word, and what the sets of squares say: of a board, and of a table of leaps.
-use Rattle.std.proofs.Common.{◌≡◌, ◌↔◌, ℕ, ◌-◌, ◌&&◌, ◌==◌, ltb, ◌/◌, ◌^◌, ◌<◌, inl, inr, Bool, true, false, cond, not, eqb, IsTrue, List, Option, Some, None, refl, sym, ◌∙◌, arith, min, w64, ◌+◌, ◌≤◌, ◌⊎◌, ◌*◌, ◌%◌}
-use Rattle.std.specs.Prelude.{Any}
-use Rattle.std.specs.Int.{bit_at, trailing_zeros}
-use Rattle.std.specs.Int.RustNames.{bit_and, bit_or}
-use Rattle.std.specs.List.{list_any}
-use Rattle.std.proofs.lemmas.Bool.{agree_below, agree_below_at, and_parts, cases_eq, cases_lt, eq-eqb, eqb-true, ltb-true}
-use Rattle.std.proofs.lemmas.Bool.Decides.{Decides-eqb, Decides-not}
-use Rattle.std.proofs.lemmas.Nat.{and_le_l, shr-shr}
-use Rattle.std.proofs.lemmas.Nat.Bits.{bit_at-lt, bit_at-trailing_zeros, bit_at-zero, bit_at_above, bit_at_and, bit_at_not, shr_and_one, bit_at_set_same, bit_at_set_other, bit_at_or}
-use Rattle.cell_core.specs.declared.man.Colour.{Colour}
-use Rattle.cell_core.specs.declared.man.Kind.{Kind}
-use Rattle.cell_core.specs.declared.man.Man.{Man}
-use Rattle.cell_core.specs.Board.{Men, man_at}
-use Rattle.cell_core.specs.Man.{is_man, is_of, man}
-use Rattle.cell_core.specs.Sets.{set_of}
-use Rattle.cell_core.proofs.Squares.{bit-set_of}
-use Rattle.chess_laws.specs.Rays.{LeapsFrom}
-use Rattle.chess_laws.specs.Geometry.{Offset, Leaps}
-use Rattle.chess_laws.specs.Leaps.{names_leaps, squares_of}
-use Rattle.chess_laws.specs.LegalNow.{leaps_now}
-use Rattle.chess_laws.specs.Step.{HasNoOwn}
+use Rattle.chess_laws.proofs.Words.{◌≡◌, ◌↔◌, ℕ, ◌-◌, ◌&&◌, ◌==◌, ltb, ◌/◌, ◌^◌, ◌<◌, inl, inr, Bool, true, false, cond, not, eqb, IsTrue, List, Option, Some, None, refl, sym, ◌∙◌, arith, min, w64, ◌+◌, ◌≤◌, ◌⊎◌, ◌*◌, ◌%◌, Any, bit_at, trailing_zeros, bit_and, bit_or, list_any, agree_below, agree_below_at, and_parts, cases_eq, cases_lt, eq-eqb, eqb-true, ltb-true, Decides-eqb, Decides-not, and_le_l, shr-shr, bit_at-lt, bit_at-trailing_zeros, bit_at-zero, bit_at_above, bit_at_and, bit_at_not, shr_and_one, bit_at_set_same, bit_at_set_other, bit_at_or, Colour, Kind, Man, Men, man_at, is_man, is_of, man, set_of, bit-set_of, LeapsFrom, Offset, Leaps, squares_of, leaps_now, HasNoOwn}
+use Rattle.chess_laws.specs.Leaps.{names_leaps}
 use Rattle.chess_laws.proofs.Kings.{is_man-Some, is_man-true}
 use Rattle.chess_laws.proofs.Deciding.{any-Decides, is_of-Decides, leaps-Decides}
 use Rattle.chess_laws.proofs.Walks.{shift-on_board}

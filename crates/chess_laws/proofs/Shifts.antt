@@ -1,7 +1,6 @@
 -- A step is two linear equations, of the files and of the ranks.
-use Rattle.std.proofs.Common.{◌≡◌, ℕ, ◌+◌, ◌<◌, true, leb, ltb, Option, Some, None, refl, ap, arith}
-use Rattle.std.proofs.lemmas.Bool.Decides.{nat_tests}
-use Rattle.chess_laws.specs.Geometry.{Offset, file_of, rank_of, square, line_at, square_at, shift}
+use Rattle.chess_laws.proofs.Words.{◌≡◌, ℕ, ◌+◌, ◌<◌, true, leb, ltb, Option, Some, None, refl, ap, arith, nat_tests, Offset, file_of, rank_of, square, line_at, square_at}
+use Rattle.chess_laws.specs.Geometry.{shift}
 
 -- a step leads from a to b where the files and the ranks differ by it
 pub record Differ (o : Offset) (a b : ℕ) : Type 0 where

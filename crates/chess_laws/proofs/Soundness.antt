@@ -1,17 +1,5 @@
 -- A setup that passes the tests keeps the rules of a position.
-use Rattle.std.proofs.Common.{Option, length, ◌<◌, leb, ◌≡◌, ℕ, ◌≤◌, Bool, true, false, ◌&&◌, IsTrue, ◌↔◌, count_by, refl, sym, ◌∙◌, arith}
-use Rattle.std.proofs.lemmas.Bool.{and_parts, le-leb, leb-true}
-use Rattle.cell_core.specs.declared.man.Colour.{Colour}
-use Rattle.cell_core.specs.declared.man.Colour.TheVariants.{White, Black}
-use Rattle.cell_core.specs.declared.man.Kind.TheVariants.{King, Rook}
-use Rattle.cell_core.specs.Board.{Men, man_at}
-use Rattle.cell_core.specs.Man.{other, is_man, is_of}
-use Rattle.chess_laws.specs.declared.setup.Wing.{Wing}
-use Rattle.chess_laws.specs.declared.setup.Wing.TheVariants.{KingSide, QueenSide}
-use Rattle.chess_laws.specs.declared.setup.Rights.{Rights}
-use Rattle.chess_laws.specs.Attacks.{Attacks, IsInCheck}
-use Rattle.chess_laws.specs.Castling.{StandAtHome, has_right, king_home, rook_home}
-use Rattle.chess_laws.specs.Position.{Sound, HasPawnsInside, HasFitEnPassant, HasFewMen, HasKings, king_square, is_at_home, rights_of, has_bit}
+use Rattle.chess_laws.proofs.Words.{Option, length, ◌<◌, leb, ◌≡◌, ℕ, ◌≤◌, Bool, true, false, ◌&&◌, IsTrue, ◌↔◌, count_by, refl, sym, ◌∙◌, arith, and_parts, le-leb, leb-true, Colour, White, Black, King, Rook, Men, man_at, other, is_man, is_of, Wing, KingSide, QueenSide, Rights, Attacks, IsInCheck, StandAtHome, has_right, king_home, rook_home, Sound, HasPawnsInside, HasFitEnPassant, HasFewMen, HasKings, king_square, is_at_home, rights_of, has_bit}
 use Rattle.chess_laws.proofs.Boards.{Sound-kept}
 use Rattle.chess_laws.proofs.Kings.{king-stands, king-only, is_man-Some}
 

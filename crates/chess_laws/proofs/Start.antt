@@ -1,15 +1,7 @@
 -- The initial position keeps the rules, by computing.
-use Rattle.std.proofs.Common.{◌+◌, ◌≡◌, ℕ, Bool, false, Option, Some, None, refl, sym, ◌∙◌, ap, arith}
-use Rattle.std.proofs.lemmas.Bool.{agree_below_at, false≢true}
-use Rattle.cell_core.specs.declared.man.Colour.TheVariants.{White, Black}
-use Rattle.cell_core.specs.declared.man.Kind.TheVariants.{Pawn}
-use Rattle.cell_core.specs.declared.man.Man.{Man}
-use Rattle.cell_core.specs.Board.{man_at}
-use Rattle.cell_core.specs.Man.{same_kind}
+use Rattle.chess_laws.proofs.Words.{◌+◌, ◌≡◌, ℕ, Bool, false, Option, Some, None, refl, sym, ◌∙◌, ap, arith, agree_below_at, false≢true, White, Black, Pawn, Man, man_at, same_kind, IsInCheck, Sound, start_men, start_setup}
 use Rattle.chess_laws.specs.Geometry.{shift}
-use Rattle.chess_laws.specs.Attacks.{IsInCheck}
 use Rattle.chess_laws.specs.LegalNow.{attacks_now, in_check_now, leaps_now, runs_now, some_below, walks_now}
-use Rattle.chess_laws.specs.Position.{Sound, start_men, start_setup}
 use Rattle.chess_laws.proofs.Deciding.{in_check-Decides}
 use Rattle.chess_laws.proofs.Pawns.{Clear, NoPawn, pawns-inside}
 use Rattle.chess_laws.proofs.Soundness.{sound_of, both_kings, few_men}

@@ -1,13 +1,6 @@
 -- What a move leads to: a legal one to one position alone.
-use Rattle.std.proofs.Common.{◌≡◌, refl, subst, true}
-use Rattle.cell_core.specs.Man.{other}
-use Rattle.chess_laws.specs.Castling.{rights_after}
-use Rattle.chess_laws.specs.LegalTests.{is_calm}
-use Rattle.chess_laws.specs.declared.effect.Effect.{Effect}
-use Rattle.chess_laws.specs.declared.effect.Effect.TheVariants.{Plain, Double}
-use Rattle.cell_core.specs.declared.step.Move.{Move}
-use Rattle.chess_laws.specs.declared.setup.Setup.{Setup}
-use Rattle.chess_laws.specs.Step.{Legal, Step, after, en_passant_after, moved, stepped}
+use Rattle.chess_laws.proofs.Words.{◌≡◌, refl, subst, true, other, rights_after, is_calm, Effect, Plain, Double, Move, Setup, Legal, Step, after, en_passant_after, moved}
+use Rattle.chess_laws.specs.Step.{stepped}
 
 pub Step-stepped : (p : Setup) (m : Move) (q : Setup) → Step p m q → q ≡ stepped p m
 unfolding stepped

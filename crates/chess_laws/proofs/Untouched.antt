@@ -1,14 +1,5 @@
 -- A move that touches no home square leaves all rights.
-use Rattle.std.proofs.Common.{◌≡◌, false, ◌||◌, refl, sym, arith}
-use Rattle.std.proofs.lemmas.Bool.Decides.{nat_tests}
-use Rattle.cell_core.specs.declared.man.Colour.{Colour}
-use Rattle.cell_core.specs.declared.man.Colour.TheVariants.{White, Black}
-use Rattle.cell_core.specs.declared.step.Move.{Move}
-use Rattle.chess_laws.specs.declared.setup.Rights.{Rights}
-use Rattle.chess_laws.specs.declared.setup.Wing.{Wing}
-use Rattle.chess_laws.specs.declared.setup.Wing.TheVariants.{KingSide, QueenSide}
-use Rattle.chess_laws.specs.Castling.{has_right, keeps, rights_after}
-use Rattle.chess_laws.specs.LegalTests.{is_home_square}
+use Rattle.chess_laws.proofs.Words.{◌≡◌, false, ◌||◌, refl, sym, arith, nat_tests, Colour, White, Black, Move, Rights, Wing, KingSide, QueenSide, has_right, keeps, rights_after, is_home_square}
 
 keeps-all : (r : Rights) (m : Move) (c : Colour) (w : Wing) → (is_home_square m.from || is_home_square m.to) ≡ false → keeps r m c w ≡ has_right r c w
 keeps-all r m White KingSide none = grind (arith, nat_tests)

@@ -1,13 +1,5 @@
 -- A walk read from its end: the same squares by the steps back.
-use Rattle.std.proofs.Common.{◌≡◌, ℕ, zero, suc, ◌<◌, ◌==◌, ◌&&◌, Bool, true, List, subst, Some, None, sym}
-use Rattle.std.specs.Prelude.{Any}
-use Rattle.std.specs.List.{list_all, list_any}
-use Rattle.std.proofs.lemmas.Bool.Decides.{Decides-and, Decides-eqb}
-use Rattle.std.proofs.lemmas.List.Folds.{Any-from_list_any}
-use Rattle.cell_core.specs.Board.{Men, man_at}
-use Rattle.chess_laws.specs.Geometry.{Offset, shift, Leaps, Walk, Runs}
-use Rattle.chess_laws.specs.Rays.{same_offset}
-use Rattle.std.proofs.lemmas.List.Sums.{AllPass-from_list_all}
+use Rattle.chess_laws.proofs.Words.{◌≡◌, ℕ, zero, suc, ◌<◌, ◌==◌, ◌&&◌, Bool, true, List, subst, Some, None, sym, Any, list_all, list_any, Decides-and, Decides-eqb, Any-from_list_any, Men, man_at, Offset, shift, Leaps, Walk, Runs, same_offset, AllPass-from_list_all}
 use Rattle.chess_laws.proofs.Shifts.{shift-Some, shift-Differ}
 
 -- the step back

@@ -1,9 +1,7 @@
 -- The table of ways says which step leads from one square towards another.
-use Rattle.std.proofs.Common.{◌≡◌, ℕ, ◌<◌, ◌≤◌, true, List, Option, Some, None, refl, ap, arith}
-use Rattle.std.proofs.lemmas.Bool.{agree_below, agree_below_at, eqb-true, leb-true}
-use Rattle.std.proofs.lemmas.Bool.Decides.{nat_tests}
+use Rattle.chess_laws.proofs.Words.{◌≡◌, ℕ, ◌<◌, ◌≤◌, true, List, Option, Some, None, refl, ap, arith, agree_below, agree_below_at, eqb-true, leb-true, nat_tests, is_row, way}
 use Rattle.chess_laws.specs.LegalTests.{line}
-use Rattle.chess_laws.specs.Ways.{is_row, names_lines, way}
+use Rattle.chess_laws.specs.Ways.{names_lines}
 
 row-named : (table : List ℕ) (a b : ℕ) → names_lines table ≡ true → a < 64 → b < 64 → is_row (line a b) (way table a b) ≡ true
 unfolding names_lines

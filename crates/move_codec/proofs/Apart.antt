@@ -1,21 +1,5 @@
 -- A record's marks are told from packed moves by their byte, and bytes decode to one answer.
-use Rattle.std.proofs.Common.{◌≡◌, ℕ, ◌+◌, ◌*◌, ◌<◌, ◌≤◌, false, cond, List, ◌∷◌, ◌++◌, Some, Ok, Err, length, slice_get, refl, sym, ◌∙◌, ap, subst, arith}
-use Rattle.std.specs.Prelude.{Result}
-use Rattle.std.proofs.lemmas.Bool.Decides.{nat_tests}
-use Rattle.std.proofs.lemmas.Option.{same_Some}
-use Rattle.cell_core.specs.declared.man.Colour.{Colour}
-use Rattle.cell_core.specs.declared.man.Kind.TheVariants.{King}
-use Rattle.cell_core.specs.declared.step.Move.{Move}
-use Rattle.cell_core.specs.Board.{Men, man_at}
-use Rattle.cell_core.specs.Man.{same_kind}
-use Rattle.chess_laws.specs.Position.{Sound, king_square}
-use Rattle.chess_laws.specs.Step.{Legal}
-use Rattle.chess_laws.proofs.Boards.{man-kind}
-use Rattle.chess_laws.proofs.Kings.{is_man-true, king-stands}
-use Rattle.move_codec.specs.declared.fault.MoveFault.{MoveFault}
-use Rattle.move_codec.specs.declared.fault.MoveFault.TheVariants.{Short, NoMan, Value, Illegal}
-use Rattle.move_codec.specs.Numbers.{Numbered, AreNumbers, number_of, squares_of}
-use Rattle.move_codec.specs.Packed.{Decodes, encoding, is_mark, named, rest_of, value_of}
+use Rattle.move_codec.proofs.Words.{◌≡◌, ℕ, ◌+◌, ◌*◌, ◌<◌, ◌≤◌, false, cond, List, ◌∷◌, ◌++◌, Some, Ok, Err, length, slice_get, refl, sym, ◌∙◌, ap, subst, arith, Result, nat_tests, same_Some, Colour, King, Move, Men, man_at, same_kind, Sound, king_square, Legal, man-kind, is_man-true, king-stands, MoveFault, Short, NoMan, Value, Illegal, Numbered, AreNumbers, number_of, squares_of, Decodes, encoding, is_mark, named, rest_of, value_of}
 use Rattle.move_codec.proofs.Cases.{Mover}
 use Rattle.move_codec.proofs.Decoding.{named-fits, same_ok}
 use Rattle.move_codec.proofs.Boards.{numbering_of}

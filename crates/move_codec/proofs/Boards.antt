@@ -1,18 +1,5 @@
 -- What stands on a board, of which side and kind it is, and that its number is that of its square.
-use Rattle.std.proofs.Common.{◌≡◌, ◌∙◌, ℕ, Bool, true, false, List, Option, Some, None, slice_get, refl, sym, ap}
-use Rattle.std.specs.Prelude.{IsTrue, is_some}
-use Rattle.std.specs.Bool.{OnFalse}
-use Rattle.std.proofs.lemmas.Bool.{and_parts, false_from_ne_true, false≢true}
-use Rattle.cell_core.specs.declared.man.Colour.{Colour}
-use Rattle.cell_core.specs.declared.man.Colour.TheVariants.{White, Black}
-use Rattle.cell_core.specs.declared.man.Kind.{Kind}
-use Rattle.cell_core.specs.declared.man.Kind.TheVariants.{King}
-use Rattle.cell_core.specs.declared.man.Man.{Man}
-use Rattle.cell_core.specs.Board.{Men, man_at}
-use Rattle.cell_core.specs.Man.{is_man, is_of, man, other, same_colour, same_kind}
-use Rattle.cell_core.proofs.Same.{same_colour-Decides}
-use Rattle.move_codec.specs.declared.numbers.Numbers.{Numbers}
-use Rattle.move_codec.specs.Numbers.{AreNumbers, HasKingFirst, IsNumbering, number_of, squares_of, without}
+use Rattle.move_codec.proofs.Words.{◌≡◌, ◌∙◌, ℕ, Bool, true, false, List, Option, Some, None, slice_get, refl, sym, ap, IsTrue, is_some, OnFalse, and_parts, false_from_ne_true, false≢true, Colour, White, Black, Kind, King, Man, Men, man_at, is_man, is_of, man, other, same_colour, same_kind, same_colour-Decides, Numbers, AreNumbers, HasKingFirst, IsNumbering, number_of, squares_of, without}
 use Rattle.move_codec.proofs.Lists.{without-idle}
 
 -- whether a man of a side stands on a square

@@ -1,27 +1,6 @@
 -- In every case of a legal move its bytes name it, and its target is on the board.
-use Rattle.std.proofs.Common.{◌≡◌, ℕ, suc, ◌<◌, Bool, true, false, cond, eqb, ltb, ◌&&◌, List, [], ◌++◌, Option, Some, None, Ok, Err, IsTrue, length, refl, sym, ◌∙◌, ap, subst}
-use Rattle.std.specs.Prelude.{Result, is_none}
-use Rattle.std.specs.Option.{option_eq}
-use Rattle.std.proofs.lemmas.Bool.{and_parts, eqb-true, ltb-true}
-use Rattle.cell_core.specs.declared.man.Colour.{Colour}
-use Rattle.cell_core.specs.declared.man.Colour.TheVariants.{White, Black}
-use Rattle.cell_core.specs.declared.man.Kind.{Kind}
-use Rattle.cell_core.specs.declared.man.Kind.TheVariants.{King, Queen, Rook, Bishop, Knight, Pawn}
-use Rattle.cell_core.specs.declared.step.Move.{Move}
-use Rattle.cell_core.specs.Board.{man_at}
-use Rattle.cell_core.specs.Man.{man, same_kind}
-use Rattle.cell_core.proofs.Same.{same_kind-Decides}
-use Rattle.chess_laws.specs.declared.setup.Setup.{Setup}
-use Rattle.chess_laws.specs.declared.setup.Wing.{Wing}
-use Rattle.chess_laws.specs.declared.setup.Wing.TheVariants.{KingSide, QueenSide}
-use Rattle.chess_laws.specs.declared.effect.Effect.{Effect}
-use Rattle.chess_laws.specs.declared.effect.Effect.TheVariants.{Plain, Double, Passing, Castle, Null}
-use Rattle.chess_laws.specs.Geometry.{shift, forward}
-use Rattle.chess_laws.specs.Castling.{king_home, king_target}
-use Rattle.chess_laws.specs.Step.{Case, effect_of, may_become}
-use Rattle.chess_laws.proofs.Boards.{on_board}
-use Rattle.chess_laws.proofs.Keeping.{castle-squares}
-use Rattle.move_codec.specs.declared.fault.MoveFault.{MoveFault}
+use Rattle.move_codec.proofs.Words.{◌≡◌, ℕ, suc, ◌<◌, Bool, true, false, cond, eqb, ltb, ◌&&◌, List, [], ◌++◌, Option, Some, None, Ok, Err, IsTrue, length, refl, sym, ◌∙◌, ap, subst, Result, is_none, option_eq, and_parts, eqb-true, ltb-true, Colour, White, Black, Kind, King, Queen, Rook, Bishop, Knight, Pawn, Move, man_at, man, same_kind, same_kind-Decides, Setup, Wing, KingSide, QueenSide, Effect, Plain, Double, Passing, Castle, Null, forward, king_home, king_target, Case, effect_of, may_become, on_board, castle-squares, MoveFault}
+use Rattle.chess_laws.specs.Geometry.{shift}
 use Rattle.move_codec.specs.Packed.{named_value, value_of, rest_of}
 use Rattle.move_codec.proofs.Tables.{across-passes, all_below, at_square, below, leap-passes, leaps_pass, plain-passes, plain_pass, ray_passes, rays_pass}
 

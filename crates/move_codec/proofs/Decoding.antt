@@ -1,19 +1,6 @@
 -- What is decoded, from what is named and whether it is legal.
-use Rattle.std.proofs.Common.{◌≡◌, ℕ, suc, ◌-◌, ◌/◌, ◌%◌, ◌<◌, ◌≤◌, Bool, true, false, cond, eqb, leb, ltb, ◌&&◌, List, [], ◌∷◌, Option, Some, None, Ok, Err, length, refl, sym, ap, subst, arith}
-use Rattle.std.specs.Prelude.{Result, slice_get}
-use Rattle.std.proofs.lemmas.Bool.{and_parts, leb-true}
-use Rattle.std.proofs.lemmas.Option.{same_Some}
-use Rattle.cell_core.specs.declared.man.Colour.{Colour}
-use Rattle.cell_core.specs.declared.man.Kind.{Kind}
-use Rattle.cell_core.specs.declared.man.Kind.TheVariants.{King, Queen, Rook, Bishop, Knight, Pawn}
-use Rattle.cell_core.specs.declared.man.Man.{Man}
-use Rattle.cell_core.specs.declared.step.Move.{Move}
-use Rattle.cell_core.specs.Board.{man_at}
-use Rattle.chess_laws.specs.Geometry.{file_of}
-use Rattle.move_codec.specs.declared.fault.MoveFault.{MoveFault}
-use Rattle.move_codec.specs.declared.fault.MoveFault.TheVariants.{Short, NoMan, Value, Illegal}
-use Rattle.move_codec.specs.Numbers.{Numbered, squares_of}
-use Rattle.move_codec.specs.Packed.{Decodes, HasHighSecond, diagonal_move, diagonal_square, is_diagonal, king_differences, knight_differences, by_difference, named, named_by, named_from, named_value, on_diagonal, on_line, pawn_square, promotion, to_square}
+use Rattle.move_codec.proofs.Words.{◌≡◌, ℕ, suc, ◌-◌, ◌/◌, ◌%◌, ◌<◌, ◌≤◌, Bool, true, false, cond, eqb, leb, ltb, ◌&&◌, List, [], ◌∷◌, Option, Some, None, Ok, Err, length, refl, sym, ap, subst, arith, Result, slice_get, and_parts, leb-true, same_Some, Colour, Kind, King, Queen, Rook, Bishop, Knight, Pawn, Man, Move, man_at, file_of, MoveFault, Short, NoMan, Value, Illegal, Numbered, squares_of, Decodes, HasHighSecond, diagonal_move, diagonal_square, is_diagonal, king_differences, knight_differences, by_difference, named, named_by, named_from, on_diagonal, on_line, pawn_square, promotion, to_square}
+use Rattle.move_codec.specs.Packed.{named_value}
 
 pub same_ok : (a b : Move × ℕ) → ◌≡◌ {A = Result (Move × ℕ) MoveFault} (Ok a) (Ok b) → a ≡ b
 same_ok a b h = cc

@@ -9,3 +9,4 @@ pub mod Standard
 pub mod Text
 pub mod Decoding
 pub mod Apart
+pub mod Words

@@ -1,12 +1,5 @@
 -- Lists by their places: after a write, with one more element, without the last, and where an element stands.
-use Rattle.std.proofs.Common.{◌≡◌, ℕ, zero, suc, ◌<◌, ◌≤◌, Bool, false, cond, eqb, ltb, List, [], ◌∷◌, ◌++◌, Option, Some, None, length, slice_get, take, set, inl, inr, refl, sym, ◌∙◌, ap, one-add, arith}
-use Rattle.std.proofs.lemmas.Bool.{cases_lt, eq-eqb}
-use Rattle.std.proofs.Math.Dec.{eqb-suc-suc, eqb-suc-zero, eqb-zero-suc}
-use Rattle.std.proofs.lemmas.Bool.Decides.{eqb_tells, nat_tests}
-use Rattle.std.specs.List.{position_or_len}
-use Rattle.std.proofs.lemmas.List.Sums.{prefix_len-le-length}
-use Rattle.std.proofs.lemmas.Option.{same_Some, none-some, slice_get_past}
-use Rattle.move_codec.specs.Numbers.{number_of, without}
+use Rattle.move_codec.proofs.Words.{◌≡◌, ℕ, zero, suc, ◌<◌, ◌≤◌, Bool, false, cond, eqb, ltb, List, [], ◌∷◌, ◌++◌, Option, Some, None, length, slice_get, take, set, inl, inr, refl, sym, ◌∙◌, ap, one-add, arith, cases_lt, eq-eqb, eqb-suc-suc, eqb-suc-zero, eqb-zero-suc, eqb_tells, nat_tests, position_or_len, prefix_len-le-length, same_Some, none-some, slice_get_past, number_of, without}
 
 -- a function that is another one but for its value at one number
 abbrev pub at : {A : Type 0} → (ℕ → A) → ℕ → A → ℕ → A

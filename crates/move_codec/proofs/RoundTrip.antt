@@ -1,17 +1,7 @@
 -- The bytes of a legal move decode to it, whatever follows.
-use Rattle.std.proofs.Common.{◌≡◌, ℕ, ◌+◌, ◌*◌, ◌/◌, ◌%◌, ◌<◌, List, ◌∷◌, ◌++◌, Option, Some, Ok, length, slice_get, inl, inr, refl, sym, ◌∙◌, ap, subst, arith}
-use Rattle.cell_core.specs.declared.man.Kind.TheVariants.{King}
-use Rattle.cell_core.specs.declared.man.Man.{Man}
-use Rattle.cell_core.specs.declared.step.Move.{Move}
-use Rattle.cell_core.specs.Board.{man_at}
-use Rattle.cell_core.specs.Man.{is_of, same_kind}
-use Rattle.chess_laws.specs.Step.{Legal, effect_of}
-use Rattle.move_codec.specs.Numbers.{Numbered, AreNumbers, number_of, squares_of}
-use Rattle.move_codec.specs.Packed.{Decodes, encoding, encoding_by, named, value_of, rest_of}
+use Rattle.move_codec.proofs.Words.{◌≡◌, ℕ, ◌+◌, ◌*◌, ◌/◌, ◌%◌, ◌<◌, List, ◌∷◌, ◌++◌, Option, Some, Ok, length, slice_get, inl, inr, refl, sym, ◌∙◌, ap, subst, arith, King, Man, Move, man_at, is_of, same_kind, Legal, effect_of, Numbered, AreNumbers, number_of, squares_of, Decodes, encoding, encoding_by, named, value_of, rest_of, cases_Bool, same_Some, slice_get_within}
 use Rattle.move_codec.proofs.Boards.{numbering_of, own_man}
 use Rattle.move_codec.proofs.Cases.{Mover, mover}
-use Rattle.std.proofs.lemmas.Bool.{cases_Bool}
-use Rattle.std.proofs.lemmas.Option.{same_Some, slice_get_within}
 
 -- the man that makes a legal move
 pub mover_of : (n : Numbered) (m : Move) → length n.position.board ≡ 64 → Legal n.position m → Mover n.position m

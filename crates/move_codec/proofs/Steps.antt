@@ -1,29 +1,5 @@
 -- The numbered squares after a legal move are those of the men after it, the kings' first.
-use Rattle.std.proofs.Common.{◌≡◌, ℕ, ◌<◌, true, false, cond, eqb, List, Option, Some, None, length, slice_get, set, inl, inr, refl, sym, ◌∙◌, ap, subst}
-use Rattle.std.proofs.lemmas.Bool.{false≢true}
-use Rattle.std.proofs.lemmas.Bool.Decides.{eqb_tells}
-use Rattle.std.proofs.lemmas.Option.{none-some, get_or_from_slice_get}
-use Rattle.std.proofs.lemmas.List.{set-get_or}
-use Rattle.cell_core.specs.declared.man.Colour.{Colour}
-use Rattle.cell_core.specs.declared.man.Colour.TheVariants.{White, Black}
-use Rattle.cell_core.specs.declared.man.Kind.{Kind}
-use Rattle.cell_core.specs.declared.man.Kind.TheVariants.{King, Rook, Pawn}
-use Rattle.cell_core.specs.declared.man.Man.{Man}
-use Rattle.cell_core.specs.declared.step.Move.{Move}
-use Rattle.cell_core.specs.Board.{Men, man_at, put}
-use Rattle.cell_core.specs.Man.{man, other, is_man, is_of}
-use Rattle.chess_laws.specs.declared.setup.Setup.{Setup}
-use Rattle.chess_laws.specs.declared.effect.Effect.{Effect}
-use Rattle.chess_laws.specs.declared.effect.Effect.TheVariants.{Plain, Double, Passing, Castle, Null}
-use Rattle.chess_laws.specs.Castling.{rook_home, rook_target}
-use Rattle.chess_laws.specs.Position.{Sound}
-use Rattle.chess_laws.specs.Step.{Case, arriving, moved, board_after, effect_of, passed_square, Step, last_rank}
-use Rattle.chess_laws.specs.Geometry.{rank_of}
-use Rattle.chess_laws.proofs.Boards.{Goes, length-put, on_board, put-other, put-same, relocate}
-use Rattle.chess_laws.proofs.Following.{case-on_board}
-use Rattle.chess_laws.proofs.Keeping.{arriving-lands, castle-apart, castle-crossed, castle-rook_goes, castle-squares, lands, lands_as, moved-other, plain-no_king, plain-no_own}
-use Rattle.move_codec.specs.declared.numbers.Numbers.{Numbers}
-use Rattle.move_codec.specs.Numbers.{AreNumbers, number_of, squares_of, went, without, movers_after, capture_square, numbers_by, numbers_after}
+use Rattle.move_codec.proofs.Words.{◌≡◌, ℕ, ◌<◌, true, false, cond, eqb, List, Option, Some, None, length, slice_get, set, inl, inr, refl, sym, ◌∙◌, ap, subst, false≢true, eqb_tells, none-some, get_or_from_slice_get, set-get_or, Colour, White, Black, Kind, King, Rook, Pawn, Man, Move, Men, man_at, put, man, other, is_man, is_of, Setup, Effect, Plain, Double, Passing, Castle, Null, rook_home, rook_target, Sound, Case, arriving, moved, board_after, effect_of, passed_square, Step, last_rank, rank_of, Goes, length-put, on_board, put-other, put-same, relocate, case-on_board, arriving-lands, castle-apart, castle-crossed, castle-rook_goes, castle-squares, lands, lands_as, moved-other, plain-no_king, plain-no_own, Numbers, AreNumbers, number_of, squares_of, went, without, movers_after, capture_square, numbers_by, numbers_after}
 use Rattle.move_codec.proofs.Lists.{at, found}
 use Rattle.move_codec.proofs.Boards.{Numbering, are_numbers, enemy_man, no_own, numbering_of, own_man, own_of_enemy}
 use Rattle.move_codec.proofs.Tracking.{Tracked, Tracked-like, Tracked-went, Tracked-without, Tracks-other, idle, there}

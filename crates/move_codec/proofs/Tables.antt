@@ -1,17 +1,5 @@
 -- Tests of all squares, and of all that steps lead to: what computing settles once for every board.
-use Rattle.std.proofs.Common.{◌≡◌, ℕ, zero, suc, ◌<◌, Bool, true, false, ◌&&◌, List, ◌∷◌, ◌++◌, Option, Some, None, inl, inr, sym, ◌∙◌, ap, subst}
-use Rattle.std.specs.Prelude.{Any}
-use Rattle.std.specs.List.{list_all}
-use Rattle.std.proofs.lemmas.Bool.{agree_below, agree_below_at, and_parts}
-use Rattle.std.proofs.lemmas.List.Sums.{AllPass-from_list_all}
-use Rattle.cell_core.specs.declared.man.Colour.{Colour}
-use Rattle.cell_core.specs.declared.man.Kind.{Kind}
-use Rattle.cell_core.specs.declared.man.Kind.TheVariants.{King, Queen, Rook, Bishop, Knight, Pawn}
-use Rattle.cell_core.specs.declared.step.Move.{Move}
-use Rattle.cell_core.specs.Board.{Men}
-use Rattle.chess_laws.specs.declared.setup.Setup.{Setup}
-use Rattle.chess_laws.specs.Geometry.{Offset, shift, Leaps, Runs, Walk, king_steps, knight_steps, rook_steps, bishop_steps, forward, pawn_captures}
-use Rattle.chess_laws.specs.Step.{GoesPlainly}
+use Rattle.move_codec.proofs.Words.{◌≡◌, ℕ, zero, suc, ◌<◌, Bool, true, false, ◌&&◌, List, ◌∷◌, ◌++◌, Option, Some, None, inl, inr, sym, ◌∙◌, ap, subst, Any, list_all, agree_below, agree_below_at, and_parts, AllPass-from_list_all, Colour, Kind, King, Queen, Rook, Bishop, Knight, Pawn, Move, Men, Setup, Offset, shift, Leaps, Runs, Walk, king_steps, knight_steps, rook_steps, bishop_steps, forward, pawn_captures, GoesPlainly}
 
 -- a test of every number below n
 abbrev pub all_below : (ℕ → Bool) → ℕ → Bool

@@ -1,20 +1,6 @@
 -- The numbers from a placement text are those of the men.
-use Rattle.std.proofs.Common.{◌≡◌, ℕ, zero, suc, ◌+◌, ◌-◌, ◌*◌, ◌/◌, ◌%◌, ◌<◌, ◌≤◌, Bool, true, false, not, ◌&&◌, cond, eqb, List, [], ◌∷◌, ◌++◌, Option, Some, None, length, get_or, slice_get, inl, inr, refl, sym, ◌∙◌, ap, arith, length-append, zero-add, add-one, drop, drop-cons}
-use Rattle.std.specs.Prelude.{count_by, sum_by}
-use Rattle.std.specs.List.{list_all}
-use Rattle.std.proofs.lemmas.List.Sums.{sum_by-cons, sum_by-append, sum_by-drop_more}
-use Rattle.std.proofs.lemmas.Bool.{and_parts, cases_Bool, eq-eqb, eqb-true, false≢true, ne_eqb, not-true}
-use Rattle.std.proofs.lemmas.Bool.Decides.{eqb_tells}
-use Rattle.std.proofs.lemmas.Option.{none-some}
-use Rattle.cell_core.specs.declared.man.Colour.{Colour}
-use Rattle.cell_core.specs.declared.man.Colour.TheVariants.{White, Black}
-use Rattle.cell_core.specs.declared.man.Kind.TheVariants.{King}
-use Rattle.cell_core.specs.declared.man.Man.{Man}
-use Rattle.cell_core.specs.Board.{Men, man_at}
-use Rattle.cell_core.specs.Man.{is_of, is_man}
-use Rattle.chess_laws.specs.Position.{HasKings, HasFewMen, king_square}
-use Rattle.chess_laws.proofs.Kings.{is_man-Some, king-only}
-use Rattle.move_codec.specs.Numbers.{AreNumbers, text_numbers, text_squares, rank_squares, with_king, with_square, with_squares, text_numbers_of}
+use Rattle.move_codec.proofs.Words.{◌≡◌, ℕ, zero, suc, ◌+◌, ◌-◌, ◌*◌, ◌/◌, ◌%◌, ◌<◌, ◌≤◌, Bool, true, false, not, ◌&&◌, cond, eqb, List, [], ◌∷◌, ◌++◌, Option, Some, None, length, get_or, slice_get, inl, inr, refl, sym, ◌∙◌, ap, arith, length-append, zero-add, add-one, drop, drop-cons, count_by, sum_by, list_all, sum_by-cons, sum_by-append, sum_by-drop_more, and_parts, cases_Bool, eq-eqb, eqb-true, false≢true, ne_eqb, not-true, eqb_tells, none-some, Colour, White, Black, King, Man, Men, man_at, is_of, is_man, HasKings, HasFewMen, king_square, is_man-Some, king-only, AreNumbers, text_numbers, text_squares, rank_squares, with_king, with_square, text_numbers_of}
+use Rattle.move_codec.specs.Numbers.{with_squares}
 use Rattle.move_codec.proofs.Boards.{Numbering, are_numbers, holds, king_held}
 use Rattle.move_codec.proofs.Lists.{at, found}
 use Rattle.move_codec.proofs.Standard.{held_on_board}

@@ -1,16 +1,5 @@
 -- A side's numbered squares follow what stands where: a man is taken away or added, or one of the other side comes or goes.
-use Rattle.std.proofs.Common.{◌≡◌, ℕ, suc, ◌-◌, ◌<◌, ◌≤◌, Bool, true, false, cond, eqb, ltb, List, [], ◌∷◌, ◌++◌, Option, Some, None, length, slice_get, get_or, take, set, inl, inr, refl, sym, ◌∙◌, ap, subst, arith, length-set, length-take, length-append}
-use Rattle.std.specs.List.{swap_remove}
-use Rattle.std.proofs.lemmas.List.{take-set-le}
-use Rattle.std.proofs.Math.Seq.{take-set-lt}
-use Rattle.std.proofs.lemmas.Bool.{cases_Bool, cases_eq, eq-eqb, false≢true, ne_eqb}
-use Rattle.std.proofs.lemmas.Bool.Decides.{eqb_tells, nat_tests}
-use Rattle.std.proofs.lemmas.Option.{same_Some, none-some, slice_get-get_or, slice_get_past, slice_get_within}
-use Rattle.cell_core.specs.declared.man.Colour.{Colour}
-use Rattle.cell_core.specs.declared.man.Kind.TheVariants.{King}
-use Rattle.cell_core.specs.declared.man.Man.{Man}
-use Rattle.cell_core.specs.Man.{is_of, is_man}
-use Rattle.move_codec.specs.Numbers.{number_of, went, without}
+use Rattle.move_codec.proofs.Words.{◌≡◌, ℕ, suc, ◌-◌, ◌<◌, ◌≤◌, Bool, true, false, cond, eqb, ltb, List, [], ◌∷◌, ◌++◌, Option, Some, None, length, slice_get, get_or, take, set, inl, inr, refl, sym, ◌∙◌, ap, subst, arith, length-set, length-take, length-append, swap_remove, take-set-le, take-set-lt, cases_Bool, cases_eq, eq-eqb, false≢true, ne_eqb, eqb_tells, nat_tests, same_Some, none-some, slice_get-get_or, slice_get_past, slice_get_within, Colour, King, Man, is_of, is_man, number_of, went, without}
 use Rattle.move_codec.proofs.Lists.{at, found, get-front, get-push, get-set, without-idle}
 use Rattle.move_codec.proofs.Boards.{no_king}
 

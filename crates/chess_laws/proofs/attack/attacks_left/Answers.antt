@@ -1,9 +1,4 @@
-use Rattle.std.proofs.Common.{refl, inl, inr, ◌∙◌}
-use Rattle.std.proofs.lemmas.Bool.{false≢true}
-use Rattle.std.specs.Int.RustNames.{bit_or}
-use Rattle.cell_core.specs.declared.man.Kind.TheVariants.{King, Knight, Pawn}
-use Rattle.cell_core.specs.Man.{other}
-use Rattle.chess_laws.specs.Geometry.{king_steps, knight_steps, pawn_captures}
+use Rattle.chess_laws.proofs.Words.{refl, inl, inr, ◌∙◌, false≢true, bit_or, King, Knight, Pawn, other, king_steps, knight_steps, pawn_captures}
 use Rattle.chess_laws.proofs.Attackers.{attackers-of, by-attackers}
 use Rattle.chess_laws.proofs.attack.attacks_left.Goals as goal
 

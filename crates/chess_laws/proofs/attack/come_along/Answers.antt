@@ -1,8 +1,4 @@
-use Rattle.std.proofs.Common.{inl, inr, sym, ◌∙◌, arith}
-use Rattle.std.proofs.lemmas.Bool.{cases_eq, cases_lt, false≢true}
-use Rattle.std.specs.Prelude.{Any}
-use Rattle.chess_laws.specs.Geometry.{Runs}
-use Rattle.chess_laws.specs.LegalTests.{slides}
+use Rattle.chess_laws.proofs.Words.{inl, inr, sym, ◌∙◌, arith, cases_eq, cases_lt, false≢true, Any, Runs, slides}
 use Rattle.chess_laws.proofs.Running.{walk-ends}
 use Rattle.chess_laws.proofs.attack.come_along.Goals as goal
 

@@ -1,11 +1,5 @@
 -- Steps lead to none of the squares before this one.
-use Rattle.std.proofs.Common.{ℕ, ◌-◌, ◌<◌, ◌≤◌, ◌≡◌, is_some}
-use Rattle.std.specs.Prelude.{Any}
-use Rattle.cell_core.specs.Board.{Men}
-use Rattle.cell_core.specs.Sets.{set_of}
-use Rattle.chess_laws.specs.Geometry.{Runs}
-use Rattle.chess_laws.specs.LegalTests.{slides}
-use Rattle.chess_laws.specs.Targets.{Has}
+use Rattle.chess_laws.proofs.Words.{ℕ, ◌-◌, ◌<◌, ◌≤◌, ◌≡◌, is_some, Any, Men, set_of, Runs, slides, Has}
 use Rattle.chess_laws.proofs.attack.come_along.Given as goal
 
 abbrev pub invariant-loop-a : goal.invariant-loop-a

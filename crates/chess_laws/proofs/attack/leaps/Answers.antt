@@ -1,5 +1,5 @@
 -- Such a man stands where a step leads.
-use Rattle.chess_laws.specs.Targets.{Has}
+use Rattle.chess_laws.proofs.Words.{Has}
 use Rattle.chess_laws.proofs.Sets.{leapers}
 use Rattle.chess_laws.proofs.attack.leaps.Goals as goal
 

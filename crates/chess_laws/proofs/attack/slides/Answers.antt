@@ -1,6 +1,4 @@
-use Rattle.std.proofs.Common.{◌≡◌, ◌∙◌, ap}
-use Rattle.chess_laws.specs.Leaps.{squares_of}
-use Rattle.chess_laws.specs.Targets.{Has}
+use Rattle.chess_laws.proofs.Words.{◌≡◌, ◌∙◌, ap, squares_of, Has}
 use Rattle.chess_laws.proofs.Clear.{seen-slides, slides-told}
 use Rattle.chess_laws.proofs.attack.slides.Goals as goal
 

@@ -1,4 +1,4 @@
-use Rattle.chess_laws.specs.Targets.{Has}
+use Rattle.chess_laws.proofs.Words.{Has}
 use Rattle.chess_laws.proofs.Clear.{along-told}
 use Rattle.chess_laws.proofs.attack.slides_along.Goals as goal
 

@@ -1,4 +1,4 @@
-use Rattle.std.proofs.Common.{refl}
+use Rattle.chess_laws.proofs.Words.{refl}
 use Rattle.chess_laws.proofs.Clear.{clear-told}
 use Rattle.chess_laws.proofs.between.is_clear_in.Goals as goal
 

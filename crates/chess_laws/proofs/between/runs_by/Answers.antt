@@ -1,7 +1,5 @@
 -- The row is one of this kind of man, and the walk by it is found.
-use Rattle.std.proofs.Common.{sym, ◌∙◌, true, refl}
-use Rattle.std.proofs.lemmas.Bool.{false≢true}
-use Rattle.chess_laws.specs.Rays.{offset_at}
+use Rattle.chess_laws.proofs.Words.{sym, ◌∙◌, true, refl, false≢true, offset_at}
 use Rattle.chess_laws.proofs.Lines.{runs_by}
 use Rattle.chess_laws.proofs.between.runs_by.Goals as goal
 

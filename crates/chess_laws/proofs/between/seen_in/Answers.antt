@@ -1,5 +1,4 @@
-use Rattle.chess_laws.specs.Rays.{entry, offset_at}
-use Rattle.std.proofs.Common.{ap}
+use Rattle.chess_laws.proofs.Words.{entry, offset_at, ap}
 use Rattle.chess_laws.proofs.Clear.{seen-row}
 use Rattle.chess_laws.proofs.Lines.{line-walk}
 use Rattle.chess_laws.proofs.Running.{walk-ends}

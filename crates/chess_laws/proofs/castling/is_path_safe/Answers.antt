@@ -1,9 +1,5 @@
 -- The three squares that are tested are the king's path.
-use Rattle.std.proofs.Common.{ℕ, [], ◌∷◌, lit<}
-use Rattle.std.proofs.lemmas.List.Elements.{All-cons, All-nil}
-use Rattle.cell_core.specs.Man.{other}
-use Rattle.chess_laws.specs.Attacks.{Attacks}
-use Rattle.chess_laws.specs.Castling.{king_home, king_target, rook_target}
+use Rattle.chess_laws.proofs.Words.{ℕ, [], ◌∷◌, lit<, All-cons, All-nil, other, Attacks, king_home, king_target, rook_target}
 use Rattle.chess_laws.proofs.castling.is_path_safe.Goals as goal
 
 pub returns : goal.returns

@@ -1,5 +1,5 @@
 -- A move that touches no home square leaves all rights.
-use Rattle.std.proofs.Common.{sym, ◌∙◌}
+use Rattle.chess_laws.proofs.Words.{sym, ◌∙◌}
 use Rattle.chess_laws.proofs.Untouched.{rights-untouched}
 use Rattle.chess_laws.proofs.castling.leave_rights.Goals as goal
 

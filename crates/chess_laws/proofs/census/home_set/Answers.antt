@@ -1,6 +1,4 @@
-use Rattle.std.proofs.Common.{ℕ, ap, ◌∙◌}
-use Rattle.std.specs.Int.{bit_at}
-use Rattle.chess_laws.specs.Counts.{is_home}
+use Rattle.chess_laws.proofs.Words.{ℕ, ap, ◌∙◌, bit_at, is_home}
 use Rattle.chess_laws.proofs.Home.{bit-set, home-bit}
 use Rattle.chess_laws.proofs.census.home_set.Goals as goal
 

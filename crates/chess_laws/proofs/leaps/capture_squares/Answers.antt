@@ -1,7 +1,6 @@
 -- The tables are compared with the definition for any two squares, by computing.
-use Rattle.std.proofs.Common.{refl}
-use Rattle.cell_core.specs.declared.man.Colour.TheVariants.{White, Black}
-use Rattle.chess_laws.specs.Geometry.{shift, pawn_captures}
+use Rattle.chess_laws.proofs.Words.{refl, White, Black, pawn_captures}
+use Rattle.chess_laws.specs.Geometry.{shift}
 use Rattle.chess_laws.specs.Leaps.{names_leaps}
 use Rattle.chess_laws.specs.LegalNow.{leaps_now}
 use Rattle.chess_laws.proofs.leaps.capture_squares.Goals as goal

@@ -1,6 +1,6 @@
 -- The table is compared with the definition for any two squares, by computing.
-use Rattle.std.proofs.Common.{refl}
-use Rattle.chess_laws.specs.Geometry.{shift, king_steps}
+use Rattle.chess_laws.proofs.Words.{refl, king_steps}
+use Rattle.chess_laws.specs.Geometry.{shift}
 use Rattle.chess_laws.specs.Leaps.{names_leaps}
 use Rattle.chess_laws.specs.LegalNow.{leaps_now}
 use Rattle.chess_laws.proofs.leaps.king_squares.Goals as goal

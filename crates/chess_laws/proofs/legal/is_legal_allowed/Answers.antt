@@ -1,8 +1,5 @@
 -- After an allowed move the mover's king is safe where it stays so, or where it is not attacked on the new board.
-use Rattle.std.proofs.Common.{sym, ◌∙◌}
-use Rattle.std.proofs.lemmas.Bool.{and_parts, OnTrue_at}
-use Rattle.chess_laws.specs.LegalTests.{is_calm}
-use Rattle.chess_laws.specs.Step.{effect_of, Case}
+use Rattle.chess_laws.proofs.Words.{sym, ◌∙◌, and_parts, OnTrue_at, is_calm, effect_of, Case}
 use Rattle.chess_laws.proofs.MovedKings.{legal-of, legal-safe}
 use Rattle.chess_laws.proofs.Opening.{legal-calm}
 use Rattle.chess_laws.proofs.legal.is_legal_allowed.Goals as goal

@@ -1,9 +1,5 @@
 -- After an allowed move the mover's one king stands where it is looked for.
-use Rattle.std.proofs.Common.{◌↔◌, IsTrue}
-use Rattle.cell_core.specs.Man.{other}
-use Rattle.chess_laws.specs.Attacks.{Attacks}
-use Rattle.chess_laws.specs.LegalTests.{IsOnlyKing}
-use Rattle.chess_laws.specs.Step.{board_after}
+use Rattle.chess_laws.proofs.Words.{◌↔◌, IsTrue, other, Attacks, IsOnlyKing, board_after}
 use Rattle.chess_laws.proofs.MovedKings.{only-king-after, safe-told}
 use Rattle.chess_laws.proofs.legal.is_safe_after.Goals as goal
 

@@ -1,12 +1,5 @@
 -- What came and what was opened tell of check.
-use Rattle.std.proofs.Common.{◌≡◌, ◌↔◌, ◌⊎◌, IsTrue, true, sym, ◌∙◌, ap, subst}
-use Rattle.std.proofs.lemmas.Bool.{OnFalse_at}
-use Rattle.chess_laws.specs.Attacks.{Attacks}
-use Rattle.chess_laws.specs.Keeps.{in_check}
-use Rattle.chess_laws.specs.Rays.{Hits}
-use Rattle.chess_laws.specs.Step.{after, effect_of}
-use Rattle.std.specs.Bool.{OnFalse}
-use Rattle.chess_laws.specs.Counts.{counts_of}
+use Rattle.chess_laws.proofs.Words.{◌≡◌, ◌↔◌, ◌⊎◌, IsTrue, true, sym, ◌∙◌, ap, subst, OnFalse_at, Attacks, in_check, Hits, after, effect_of, OnFalse, counts_of}
 use Rattle.chess_laws.proofs.Counting.{counts-after}
 use Rattle.chess_laws.proofs.Opening.{check-told}
 use Rattle.chess_laws.proofs.making.make.Goals as goal

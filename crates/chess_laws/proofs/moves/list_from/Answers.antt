@@ -1,6 +1,5 @@
 -- No move goes to a square that is not among the targets.
-use Rattle.std.proofs.Common.{rules, refl, arith, ◌≡◌, ◌+◌, ◌*◌}
-use Rattle.chess_laws.specs.Targets.{Comes, ListsBelow}
+use Rattle.chess_laws.proofs.Words.{rules, refl, arith, ◌≡◌, ◌+◌, ◌*◌, Comes, ListsBelow}
 use Rattle.chess_laws.proofs.Listing.{lists_no_man, lists_targets}
 use Rattle.chess_laws.proofs.moves.list_from.Goals as goal
 

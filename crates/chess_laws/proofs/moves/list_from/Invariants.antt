@@ -1,6 +1,5 @@
 -- The list has the moves to the squares before this one.
-use Rattle.std.proofs.Common.{◌+◌, ◌-◌, ◌*◌, ◌≤◌}
-use Rattle.chess_laws.specs.Targets.{ListsBelow}
+use Rattle.chess_laws.proofs.Words.{◌+◌, ◌-◌, ◌*◌, ◌≤◌, ListsBelow}
 use Rattle.chess_laws.proofs.moves.list_from.Given as goal
 
 abbrev pub invariant-loop-to : goal.invariant-loop-to

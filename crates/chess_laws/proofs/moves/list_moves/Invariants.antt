@@ -1,6 +1,5 @@
 -- The list has the moves from the squares before this one.
-use Rattle.std.proofs.Common.{◌-◌, ◌*◌, ◌≤◌}
-use Rattle.chess_laws.specs.Targets.{ListsBelow}
+use Rattle.chess_laws.proofs.Words.{◌-◌, ◌*◌, ◌≤◌, ListsBelow}
 use Rattle.chess_laws.proofs.moves.list_moves.Given as goal
 
 abbrev pub invariant-loop-from : goal.invariant-loop-from

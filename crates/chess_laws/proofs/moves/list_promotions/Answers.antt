@@ -1,6 +1,5 @@
 -- None becomes a king, which would stand before the queen, or a pawn, which would stand behind the knight.
-use Rattle.std.proofs.Common.{rules, ◌+◌, ◌*◌}
-use Rattle.chess_laws.specs.Targets.{ListsBelow}
+use Rattle.chess_laws.proofs.Words.{rules, ◌+◌, ◌*◌, ListsBelow}
 use Rattle.chess_laws.proofs.Listing.{lists_no_king}
 use Rattle.chess_laws.proofs.moves.list_promotions.Goals as goal
 

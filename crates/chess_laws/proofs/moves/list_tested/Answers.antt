@@ -1,6 +1,5 @@
 -- Where no pawn promotes, no move stands behind the plain one.
-use Rattle.std.proofs.Common.{sym, ◌∙◌}
-use Rattle.std.proofs.lemmas.Bool.{false≢true}
+use Rattle.chess_laws.proofs.Words.{sym, ◌∙◌, false≢true}
 use Rattle.chess_laws.proofs.Listing.{lists-plain}
 use Rattle.chess_laws.proofs.moves.list_tested.Goals as goal
 

@@ -1,8 +1,5 @@
 -- What is known to come there has one move to make, which joins the list or is none.
-use Rattle.std.proofs.Common.{true, sym, ◌∙◌, arith}
-use Rattle.std.proofs.lemmas.Bool.{false≢true}
-use Rattle.chess_laws.specs.Moves.{IsMove}
-use Rattle.chess_laws.specs.Targets.{Known, goes}
+use Rattle.chess_laws.proofs.Words.{true, sym, ◌∙◌, arith, false≢true, IsMove, Known, goes}
 use Rattle.chess_laws.proofs.Knowing.{known}
 use Rattle.chess_laws.proofs.Listing.{lists_added, lists_known, lists_none, lists_over}
 use Rattle.chess_laws.proofs.moves.list_to.Goals as goal

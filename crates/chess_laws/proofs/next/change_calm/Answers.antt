@@ -1,7 +1,5 @@
 -- The board is that of a man who moves, and he stands where he was put.
-use Rattle.std.proofs.Common.{◌≡◌, Some, None, length, refl, sym, ◌∙◌}
-use Rattle.std.proofs.Math.ListN.{length-set}
-use Rattle.cell_core.specs.Board.{put}
+use Rattle.chess_laws.proofs.Words.{◌≡◌, Some, None, length, refl, sym, ◌∙◌, length-set, put}
 use Rattle.chess_laws.proofs.Boards.{put-same}
 use Rattle.chess_laws.proofs.Stepping.{calm-after}
 use Rattle.chess_laws.proofs.next.change_calm.Goals as goal

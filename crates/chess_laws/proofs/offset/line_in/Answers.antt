@@ -1,5 +1,5 @@
 -- The table tells the row, or that there is none.
-use Rattle.std.proofs.Common.{arith}
+use Rattle.chess_laws.proofs.Words.{arith}
 use Rattle.chess_laws.proofs.Ways.{way-none, way-row}
 use Rattle.chess_laws.proofs.offset.line_in.Goals as goal
 

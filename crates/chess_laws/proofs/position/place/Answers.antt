@@ -1,10 +1,4 @@
-use Rattle.std.proofs.Common.{refl}
-use Rattle.std.specs.Bool.{Decides}
-use Rattle.std.proofs.lemmas.Bool.{false≢true}
-use Rattle.std.proofs.lemmas.Bool.Decides.{same_from_decides}
-use Rattle.chess_laws.specs.Attacks.{IsInCheck}
-use Rattle.chess_laws.specs.Keeps.{in_check}
-use Rattle.chess_laws.specs.declared.setup.Setup.{Setup}
+use Rattle.chess_laws.proofs.Words.{refl, Decides, false≢true, same_from_decides, IsInCheck, in_check, Setup}
 use Rattle.chess_laws.proofs.Boards.{other-other}
 use Rattle.chess_laws.proofs.Deciding.{in_check-Decides}
 use Rattle.chess_laws.proofs.Soundness.{both_kings, sound_of}

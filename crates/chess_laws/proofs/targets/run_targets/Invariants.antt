@@ -1,9 +1,5 @@
 -- Each step before this one has its walk in the set, and nothing else is in it.
-use Rattle.std.proofs.Common.{◌≡◌, ℕ, ◌<◌, get_or}
-use Rattle.std.specs.Prelude.{Any}
-use Rattle.chess_laws.specs.Geometry.{Offset, Runs}
-use Rattle.chess_laws.specs.Step.{HasNoOwn}
-use Rattle.chess_laws.specs.Targets.{Has}
+use Rattle.chess_laws.proofs.Words.{◌≡◌, ℕ, ◌<◌, get_or, Any, Offset, Runs, HasNoOwn, Has}
 use Rattle.chess_laws.proofs.targets.run_targets.Given as goal
 
 abbrev pub invariant-loop-step : goal.invariant-loop-step

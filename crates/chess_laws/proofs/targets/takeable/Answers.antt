@@ -1,5 +1,5 @@
 -- An enemy's square, or the en passant square.
-use Rattle.std.proofs.Common.{◌≡◌, inl, inr, Some, sym, ap, ◌∙◌}
+use Rattle.chess_laws.proofs.Words.{◌≡◌, inl, inr, Some, sym, ap, ◌∙◌}
 use Rattle.chess_laws.specs.Targets.{MayTake}
 use Rattle.chess_laws.proofs.Sets.{own_told}
 use Rattle.chess_laws.proofs.targets.takeable.Goals as goal

@@ -1,9 +1,5 @@
 -- The mover's man goes to its target, and what else the move changes follows.
-use Rattle.std.proofs.Common.{None, Some}
-use Rattle.cell_core.specs.declared.man.Kind.TheVariants.{King, Pawn, Rook}
-use Rattle.cell_core.specs.Board.{put}
-use Rattle.cell_core.specs.Man.{man, other}
-use Rattle.chess_laws.specs.Step.{CastleCase, DoubleCase, PassingCase, PlainCase}
+use Rattle.chess_laws.proofs.Words.{None, Some, King, Pawn, Rook, put, man, other, CastleCase, DoubleCase, PassingCase, PlainCase}
 use Rattle.chess_laws.proofs.Boards.{length-put}
 use Rattle.chess_laws.proofs.Keeping.{arriving-lands, lands_as}
 use Rattle.chess_laws.proofs.left.Left.after.Goals as goal

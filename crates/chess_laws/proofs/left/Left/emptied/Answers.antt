@@ -1,4 +1,4 @@
-use Rattle.std.proofs.Common.{◌-◌, ◌*◌, ◌%◌, ◌^◌, ap}
+use Rattle.chess_laws.proofs.Words.{◌-◌, ◌*◌, ◌%◌, ◌^◌, ap}
 use Rattle.chess_laws.proofs.Remaining.{leaves-emptied}
 use Rattle.chess_laws.proofs.left.Left.emptied.Goals as goal
 

@@ -1,4 +1,4 @@
-use Rattle.std.proofs.Common.{◌*◌, ◌%◌, ◌^◌, ap}
+use Rattle.chess_laws.proofs.Words.{◌*◌, ◌%◌, ◌^◌, ap}
 use Rattle.chess_laws.proofs.Remaining.{leaves-entered}
 use Rattle.chess_laws.proofs.left.Left.entered.Goals as goal
 

@@ -1,6 +1,4 @@
-use Rattle.std.proofs.Common.{None}
-use Rattle.cell_core.specs.Board.{put}
-use Rattle.cell_core.specs.Man.{other}
+use Rattle.chess_laws.proofs.Words.{None, put, other}
 use Rattle.chess_laws.proofs.Boards.{length-put}
 use Rattle.chess_laws.proofs.left.Left.moved.Goals as goal
 

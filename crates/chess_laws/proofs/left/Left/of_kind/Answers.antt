@@ -1,5 +1,4 @@
-use Rattle.std.proofs.Common.{◌∙◌, ap}
-use Rattle.std.specs.Int.RustNames.{bit_and}
+use Rattle.chess_laws.proofs.Words.{◌∙◌, ap, bit_and}
 use Rattle.chess_laws.proofs.left.Left.of_kind.Goals as goal
 
 pub returns : goal.returns

@@ -1,6 +1,4 @@
-use Rattle.std.proofs.Common.{◌↔◌, IsTrue, sym, subst}
-use Rattle.chess_laws.specs.declared.setup.Setup.{Setup}
-use Rattle.chess_laws.specs.Attacks.{IsInCheck}
+use Rattle.chess_laws.proofs.Words.{◌↔◌, IsTrue, sym, subst, Setup, IsInCheck}
 use Rattle.chess_laws.proofs.position.Position.advance_of.Goals as goal
 
 pub is_legal_as-legal-requires-clause-check : goal.is_legal_as-legal-requires-clause-check

@@ -1,8 +1,4 @@
-use Rattle.std.proofs.Common.{rules}
-use Rattle.std.specs.Bool.{Decides}
-use Rattle.std.proofs.lemmas.Bool.Decides.{same_from_decides}
-use Rattle.chess_laws.specs.Attacks.{Attacks}
-use Rattle.chess_laws.specs.LegalNow.{attacks_now}
+use Rattle.chess_laws.proofs.Words.{rules, Decides, same_from_decides, Attacks, attacks_now}
 use Rattle.chess_laws.proofs.Deciding.{attacks-Decides}
 use Rattle.chess_laws.proofs.position.Position.attacked.Goals as goal
 

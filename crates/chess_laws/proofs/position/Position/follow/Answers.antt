@@ -1,10 +1,5 @@
 -- A legal move keeps the rules, and what is kept beside the position follows it.
-use Rattle.std.proofs.Common.{◌≡◌, sym, ◌∙◌, ap, subst}
-use Rattle.cell_core.specs.declared.man.Colour.TheVariants.{White, Black}
-use Rattle.cell_core.specs.Man.{other}
-use Rattle.chess_laws.specs.Keeps.{in_check}
-use Rattle.chess_laws.specs.Counts.{counts_of}
-use Rattle.chess_laws.specs.Step.{after, effect_of, Legal}
+use Rattle.chess_laws.proofs.Words.{◌≡◌, sym, ◌∙◌, ap, subst, White, Black, other, in_check, counts_of, after, effect_of, Legal}
 use Rattle.chess_laws.proofs.MovedKings.{mover-square, resting-square, Sound-after}
 use Rattle.chess_laws.proofs.position.Position.follow.Goals as goal
 

@@ -1,7 +1,5 @@
 -- There is some move exactly where a list with room for none is too short.
-use Rattle.std.proofs.Common.{not, IsTrue, subst}
-use Rattle.cell_core.specs.declared.step.Move.{Move}
-use Rattle.chess_laws.specs.Moves.{IsMove}
+use Rattle.chess_laws.proofs.Words.{not, IsTrue, subst, Move, IsMove}
 use Rattle.chess_laws.proofs.Listing.{some-move}
 use Rattle.chess_laws.proofs.position.Position.has_move.Goals as goal
 

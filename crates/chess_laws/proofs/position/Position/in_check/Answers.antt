@@ -1,7 +1,5 @@
 -- What is kept tells of check.
-use Rattle.std.proofs.Common.{◌≡◌, ◌↔◌, IsTrue, subst}
-use Rattle.chess_laws.specs.Attacks.{IsInCheck}
-use Rattle.chess_laws.specs.LegalNow.{in_check_now}
+use Rattle.chess_laws.proofs.Words.{◌≡◌, ◌↔◌, IsTrue, subst, IsInCheck, in_check_now}
 use Rattle.chess_laws.proofs.Deciding.{in_check-Decides}
 use Rattle.chess_laws.proofs.position.Position.in_check.Goals as goal
 

@@ -1,8 +1,5 @@
 -- The test of the Laws decides what the Laws say, and so does the call.
-use Rattle.std.specs.Bool.{Decides}
-use Rattle.std.proofs.lemmas.Bool.Decides.{same_from_decides}
-use Rattle.chess_laws.specs.LegalNow.{legal_now}
-use Rattle.chess_laws.specs.Step.{Legal}
+use Rattle.chess_laws.proofs.Words.{Decides, same_from_decides, legal_now, Legal}
 use Rattle.chess_laws.proofs.Deciding.{legal-Decides}
 use Rattle.chess_laws.proofs.position.Position.is_legal.Goals as goal
 

@@ -1,7 +1,4 @@
-use Rattle.std.proofs.Common.{◌≡◌, ◌∙◌}
-use Rattle.std.specs.Bool.{Decides}
-use Rattle.std.proofs.lemmas.Bool.Decides.{same_from_decides}
-use Rattle.chess_laws.specs.Position.{start_setup, is_start}
+use Rattle.chess_laws.proofs.Words.{◌≡◌, ◌∙◌, Decides, same_from_decides, start_setup, is_start}
 use Rattle.chess_laws.proofs.Initial.{is_start-Decides}
 use Rattle.chess_laws.proofs.position.Position.is_start.Goals as goal
 

@@ -1,4 +1,4 @@
-use Rattle.cell_core.specs.declared.man.Colour.TheVariants.{White, Black}
+use Rattle.chess_laws.proofs.Words.{White, Black}
 use Rattle.chess_laws.proofs.Boards.{first-only}
 use Rattle.chess_laws.proofs.position.Position.king.Goals as goal
 

@@ -1,5 +1,5 @@
 -- The initial position keeps the rules, and nobody is in check: that is computed.
-use Rattle.std.proofs.Common.{refl}
+use Rattle.chess_laws.proofs.Words.{refl}
 use Rattle.chess_laws.specs.Geometry.{shift}
 use Rattle.chess_laws.specs.LegalNow.{attacks_now, in_check_now, leaps_now, runs_now, some_below, walks_now}
 use Rattle.chess_laws.proofs.Start.{start-sound}

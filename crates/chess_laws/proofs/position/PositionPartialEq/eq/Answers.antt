@@ -1,5 +1,5 @@
 -- The setups and what is kept beside them are compared.
-use Rattle.std.proofs.Common.{rules, ◌≡◌, Bool, true, false, ◌&&◌, refl}
+use Rattle.chess_laws.proofs.Words.{rules, ◌≡◌, Bool, true, false, ◌&&◌, refl}
 use Rattle.chess_laws.proofs.position.PositionPartialEq.eq.Goals as goal
 
 -- the tests in the order in which the code makes them

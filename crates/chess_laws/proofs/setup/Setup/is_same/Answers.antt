@@ -1,5 +1,4 @@
-use Rattle.std.proofs.Common.{◌≡◌, ap, rules}
-use Rattle.chess_laws.specs.declared.setup.Setup.{Setup}
+use Rattle.chess_laws.proofs.Words.{◌≡◌, ap, rules, Setup}
 use Rattle.chess_laws.proofs.setup.Setup.is_same.Goals as goal
 
 pub returns : goal.returns

@@ -1,8 +1,5 @@
 -- The man with the number of the first byte is the mover's.
-use Rattle.std.proofs.Common.{◌≡◌, ◌/◌, Some, slice_get, slice_index_or, subst}
-use Rattle.cell_core.specs.Board.{man_at}
-use Rattle.cell_core.specs.Man.{man}
-use Rattle.move_codec.specs.Numbers.{Numbered, squares_of}
+use Rattle.move_codec.proofs.Words.{◌≡◌, ◌/◌, Some, slice_get, slice_index_or, subst, man_at, man, Numbered, squares_of}
 use Rattle.move_codec.proofs.Boards.{numbered-man, numbering_of}
 use Rattle.move_codec.proofs.numbered.Numbered.advance.Goals as goal
 

@@ -1,10 +1,5 @@
 -- What is named is what the bytes decode to, where it is legal.
-use Rattle.std.proofs.Common.{◌≡◌, ◌∙◌, ◌/◌, sym, subst, Some, slice_get}
-use Rattle.std.specs.Prelude.{slice_index_or}
-use Rattle.std.proofs.lemmas.Result.{err_from_is_err_and}
-use Rattle.cell_core.specs.Board.{man_at}
-use Rattle.cell_core.specs.Man.{man}
-use Rattle.move_codec.specs.Numbers.{squares_of}
+use Rattle.move_codec.proofs.Words.{◌≡◌, ◌∙◌, ◌/◌, sym, subst, Some, slice_get, slice_index_or, err_from_is_err_and, man_at, man, squares_of}
 use Rattle.move_codec.proofs.Decoding.{Decodes-fault, named-from, named-fits}
 use Rattle.move_codec.proofs.numbered.Numbered.advance_man.Goals as goal
 

@@ -1,8 +1,4 @@
-use Rattle.std.proofs.Common.{◌∙◌, sym, subst}
-use Rattle.std.proofs.lemmas.Bool.{false≢true}
-use Rattle.std.proofs.lemmas.Result.{err_from_is_err_and}
-use Rattle.chess_laws.specs.Step.{Legal}
-use Rattle.move_codec.specs.Numbers.{Numbered}
+use Rattle.move_codec.proofs.Words.{◌∙◌, sym, subst, false≢true, err_from_is_err_and, Legal, Numbered}
 use Rattle.move_codec.proofs.Decoding.{Decodes-fault, named-fits}
 use Rattle.move_codec.proofs.numbered.Numbered.decode_move.Goals as goal
 

@@ -1,9 +1,4 @@
-use Rattle.std.proofs.Common.{◌≡◌, Some, subst, sym, arith}
-use Rattle.std.proofs.lemmas.Grind.{common_steps}
-use Rattle.cell_core.specs.Board.{man_at}
-use Rattle.chess_laws.specs.Step.{Legal}
-use Rattle.move_codec.specs.Numbers.{Numbered}
-use Rattle.move_codec.specs.Packed.{encoding}
+use Rattle.move_codec.proofs.Words.{◌≡◌, Some, subst, sym, arith, common_steps, man_at, Legal, Numbered, encoding}
 use Rattle.move_codec.proofs.Apart.{encode-told}
 use Rattle.move_codec.proofs.RoundTrip.{number-small, value-small}
 use Rattle.move_codec.proofs.numbered.Numbered.encode.Goals as goal

@@ -1,6 +1,4 @@
-use Rattle.std.proofs.Common.{sym, subst}
-use Rattle.chess_laws.specs.Step.{Legal, Step}
-use Rattle.move_codec.specs.Numbers.{Numbered}
+use Rattle.move_codec.proofs.Words.{sym, subst, Legal, Step, Numbered}
 use Rattle.move_codec.proofs.Steps.{AreNumbers-step}
 use Rattle.move_codec.proofs.numbered.Numbered.follow.Goals as goal
 

@@ -1,8 +1,4 @@
-use Rattle.std.proofs.Common.{◌≡◌, ◌∙◌, ap, refl, sym, subst, Some, slice_get}
-use Rattle.cell_core.specs.Man.{other}
-use Rattle.cell_core.specs.Board.{man_at}
-use Rattle.move_codec.specs.Numbers.{Numbered, squares_of, capture_square}
-use Rattle.std.specs.Prelude.{is_some}
+use Rattle.move_codec.proofs.Words.{◌≡◌, ◌∙◌, ap, refl, sym, subst, Some, slice_get, other, man_at, Numbered, squares_of, capture_square, is_some}
 use Rattle.move_codec.proofs.Boards.{number-is, numbering_of, without-unless}
 use Rattle.move_codec.proofs.Steps.{AreNumbers-step}
 use Rattle.move_codec.proofs.numbered.Numbered.follow_legal.Goals as goal

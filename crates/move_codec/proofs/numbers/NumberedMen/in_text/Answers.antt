@@ -1,5 +1,4 @@
-use Rattle.std.proofs.Common.{refl, ap, ◌∙◌, arith}
-use Rattle.move_codec.specs.Numbers.{with_square}
+use Rattle.move_codec.proofs.Words.{refl, ap, ◌∙◌, arith, with_square}
 use Rattle.move_codec.proofs.Text.{InText-room, InText-next, InText-end}
 use Rattle.move_codec.proofs.numbers.NumberedMen.in_text.Goals as goal
 
