@@ -1,5 +1,5 @@
 -- Who attacks a square: a pawn, a knight or a king that leaps, or a rook, a bishop or a queen that slides.
-use Rattle.chess_laws.proofs.Words.{◌≡◌, ◌↔◌, ℕ, ◌<◌, true, refl, arith, List, ◌++◌, Any, ◌⊎◌, inl, inr, Some, cases_lt, nat_tests, Colour, White, Black, Kind, King, Queen, Rook, Bishop, Knight, Pawn, Men, man_at, man, other, Offset, rook_steps, bishop_steps, knight_steps, king_steps, pawn_captures, Leaps, Runs, Attacks, AttacksAs, Reaches, slides, LeapsFrom, SlidesFrom}
+use Rattle.chess_laws.proofs.Words.{◌≡◌, ◌↔◌, ℕ, ◌<◌, true, refl, arith, List, Any, ◌⊎◌, inl, inr, Some, cases_lt, nat_tests, Colour, White, Black, Kind, King, Queen, Rook, Bishop, Knight, Pawn, Men, man_at, man, other, Offset, rook_steps, bishop_steps, knight_steps, king_steps, pawn_captures, Leaps, Runs, Attacks, AttacksAs, Reaches, slides, LeapsFrom, SlidesFrom}
 use Rattle.chess_laws.proofs.Lines.{any-slide, slide-any}
 use Rattle.chess_laws.proofs.Running.{walk-ends}
 use Rattle.chess_laws.proofs.Walks.{leaps-turned, runs-turned, shift-on_board, turns}

@@ -1,5 +1,5 @@
 -- Boards: what stands where after a man is put somewhere, and how many of a kind there are then.
-use Rattle.chess_laws.proofs.Words.{◌≡◌, ℕ, ◌+◌, ◌<◌, ◌≤◌, ◌≢◌, ◌⊎◌, inl, inr, Bool, true, false, cond, Option, Some, None, length, count_by, refl, sym, ◌∙◌, ap, arith, length-set, cases_eq, cases_lt, false_from_ne_true, get_or-set_same, get_or-set_other, get_or_past, sum_by-set, Colour, White, Black, Kind, King, Pawn, Man, Men, man_at, put, man, other, same_kind, is_man, is_of, Setup, IsInCheck, rank_of, Sound, HasKings, HasPawnsInside, HasFewMen, HasFitRights, HasFitEnPassant, king_square, IsOnlyKing}
+use Rattle.chess_laws.proofs.Words.{◌≡◌, ℕ, ◌+◌, ◌<◌, ◌≢◌, ◌⊎◌, inl, inr, Bool, true, false, cond, Option, Some, None, length, count_by, refl, sym, ◌∙◌, ap, arith, length-set, cases_eq, false_from_ne_true, get_or-set_same, get_or-set_other, get_or_past, sum_by-set, Colour, White, Black, Kind, King, Pawn, Man, Men, man_at, put, man, other, same_kind, is_man, is_of, Setup, IsInCheck, rank_of, Sound, HasKings, HasPawnsInside, HasFewMen, HasFitRights, HasFitEnPassant, king_square, IsOnlyKing}
 use Rattle.chess_laws.proofs.Kings.{is_man-Some, king-only, king-stands}
 
 pub put-same : (men : Men) (s : ℕ) (x : Option Man) → length men ≡ 64 → s < 64 → man_at (put men s x) s ≡ x

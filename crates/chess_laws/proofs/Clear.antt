@@ -1,5 +1,5 @@
 -- A walk along a line comes to its end where no man stands between.
-use Rattle.chess_laws.proofs.Words.{◌≡◌, ℕ, zero, suc, ◌^◌, ◌<◌, ◌↔◌, IsTrue, ◌&&◌, ◌⊎◌, ◌==◌, inl, inr, Bool, true, false, eqb, List, [], Option, Some, None, is_none, is_some, refl, sym, subst, ◌∙◌, ap, arith, bit_at, bit_and, bit_or, agree_below, agree_below_at, and_parts, cases_Bool, cases_eq, eq-eqb, eqb-true, false≢true, ne_eqb, and-false, bit_at-lt, bit_at-pow_same, bit_at-pow_other, bit_at-zero, bit_at_and, bit_at_or, same_from_bits, Any, Colour, Kind, Queen, Man, is_man, man, Men, man_at, set_of, bit-set_of, Offset, shift, Runs, glides, line, run_on, slides, crossed_on, is_between, is_on, is_seen, entry, glider, offset_at, sliders, SlidesFrom, squares_of}
+use Rattle.chess_laws.proofs.Words.{◌≡◌, ℕ, zero, suc, ◌^◌, ◌<◌, ◌↔◌, IsTrue, ◌&&◌, ◌⊎◌, ◌==◌, inl, inr, Bool, true, false, eqb, List, [], Option, Some, None, is_none, is_some, refl, sym, ◌∙◌, ap, arith, bit_at, bit_and, bit_or, agree_below, agree_below_at, and_parts, cases_Bool, cases_eq, eq-eqb, eqb-true, false≢true, ne_eqb, and-false, bit_at-lt, bit_at-pow_same, bit_at-pow_other, bit_at-zero, bit_at_and, bit_at_or, same_from_bits, Any, Colour, Kind, Queen, Man, is_man, man, Men, man_at, set_of, bit-set_of, Offset, shift, Runs, glides, line, run_on, slides, crossed_on, is_between, is_on, is_seen, entry, glider, offset_at, sliders, SlidesFrom, squares_of}
 use Rattle.chess_laws.specs.LegalTests.{run}
 use Rattle.chess_laws.specs.Between.{between, crossed, names_between, names_seen}
 use Rattle.chess_laws.proofs.Lines.{any-slide, line-walk, slide-any}

@@ -1,5 +1,5 @@
 -- The tests of the Laws decide what the Laws say.
-use Rattle.chess_laws.proofs.Words.{◌≡◌, ℕ, zero, suc, ◌<◌, Bool, false, not, ◌&&◌, ◌==◌, IsTrue, Option, Some, None, is_none, List, [], All, Any, rules, refl, sym, ap, subst, Decides, list_all, list_any, Decides-and, Decides-or, Decides-not, Decides-like, Decides-eqb, Decides-below_or, Decides-by_and, and_parts, Any-from_list_any, list_any-from_Any, Colour, Kind, King, Knight, Pawn, Man, Move, Men, man_at, man, other, is_man, is_of, same_colour, same_colour-Decides, Setup, Effect, Plain, Double, Passing, Castle, Null, Offset, rank_of, shift, forward, pawn_captures, knight_steps, king_steps, Leaps, Walk, Runs, Attacks, IsInCheck, Reaches, slides, king_path, has_right, board_after, effect_of, after, pawn_rank, passed_square, promotes_rightly, HasNoOwn, GoesPlainly, Case, Legal, is_square, walks_on, reaches_now, attacks_from, goes_plainly_now, plain_now, double_now, passing_now, castle_now, null_now, case_now}
+use Rattle.chess_laws.proofs.Words.{◌≡◌, ℕ, zero, suc, ◌<◌, Bool, false, not, ◌&&◌, ◌==◌, IsTrue, Option, Some, None, List, All, Any, rules, refl, sym, ap, subst, Decides, list_all, list_any, Decides-and, Decides-or, Decides-not, Decides-like, Decides-eqb, Decides-below_or, Decides-by_and, and_parts, Any-from_list_any, list_any-from_Any, Colour, Kind, King, Knight, Pawn, Man, Move, Men, man_at, man, other, is_man, is_of, same_colour, same_colour-Decides, Setup, Effect, Plain, Double, Passing, Castle, Null, Offset, shift, forward, pawn_captures, knight_steps, king_steps, Leaps, Walk, Runs, Attacks, IsInCheck, Reaches, slides, king_path, has_right, board_after, effect_of, after, passed_square, promotes_rightly, HasNoOwn, GoesPlainly, Case, Legal, is_square, walks_on, reaches_now, attacks_from, goes_plainly_now, plain_now, passing_now, castle_now, case_now}
 use Rattle.chess_laws.specs.Castling.{between}
 use Rattle.chess_laws.specs.LegalNow.{some_below, leaps_now, walks_now, runs_now, attacks_now, in_check_now, legal_now}
 use Rattle.chess_laws.proofs.Running.{is_none-Decides, short-walk, walk-ends}

@@ -1,5 +1,5 @@
 -- A legal move leads from a position within the rules to one within the rules.
-use Rattle.chess_laws.proofs.Words.{◌≡◌, ℕ, ◌<◌, inl, inr, ◌&&◌, not, eqb, false, Some, None, IsTrue, refl, sym, ◌∙◌, ap, arith, Any, eqb-false, nat_tests, Colour, White, Black, Kind, King, Queen, Rook, Bishop, Knight, Pawn, Man, Move, Men, man_at, put, man, other, Rights, Setup, Wing, KingSide, QueenSide, Effect, Plain, Double, Passing, Castle, Null, Offset, file_of, rank_of, square, forward, pawn_captures, rook_steps, bishop_steps, knight_steps, king_steps, Leaps, Runs, IsInCheck, king_home, king_target, rook_home, rook_target, has_right, touches, keeps, rights_after, StandAtHome, Sound, HasFitEnPassant, en_passant_rank, effect_of, GoesPlainly, PassingCase, CastleCase, Case, arriving, last_rank, moved, passed_square, board_after, rights_left, en_passant_after, after, slides}
+use Rattle.chess_laws.proofs.Words.{◌≡◌, ℕ, ◌<◌, inl, inr, eqb, Some, None, IsTrue, refl, sym, ◌∙◌, ap, arith, eqb-false, nat_tests, Colour, White, Kind, King, Rook, Knight, Pawn, Man, Move, man_at, man, other, Rights, Setup, Wing, KingSide, QueenSide, Effect, Plain, Double, Passing, Castle, Null, rank_of, forward, IsInCheck, king_home, rook_home, rook_target, has_right, keeps, rights_after, StandAtHome, Sound, HasFitEnPassant, effect_of, GoesPlainly, PassingCase, CastleCase, Case, arriving, last_rank, moved, passed_square, board_after, rights_left, en_passant_after, after}
 use Rattle.chess_laws.proofs.Shifts.{shift-Some}
 use Rattle.chess_laws.proofs.Running.{walk-ends}
 use Rattle.chess_laws.proofs.Boards.{man-colour, man-kind, put-other, relocate-stays, other-other, on_board, Goes, free-goes, Inside, Kept, Sound-kept, Kept-goes, Kept-away}

@@ -1,5 +1,5 @@
 -- The pawns at home as bits.
-use Rattle.chess_laws.proofs.Words.{pow_pos, ◌≡◌, ℕ, zero, suc, ◌+◌, ◌-◌, ◌*◌, ◌/◌, ◌%◌, ◌^◌, ◌<◌, ◌≤◌, ltb, Bool, true, false, cond, ◌↔◌, ◌≢◌, IsTrue, IsBitSet, w16, refl, sym, ◌∙◌, ap, arith, inl, inr, bit_at, reverse_bits, bit_or, shr-shr, and_pow, bit_at-lt, bit_at-suc, bit_at_and, bit_at_lowest, bit_at_mask_below, bit_at_mask_inside, bit_at_ones, bit_at_ones_above, bit_at_or, bit_at_set_same, bit_at_set_other, cases_eq, cases_lt, false≢true, lt-ltb, le-ltb, White, Black, Pawn, Men, man_at, is_man, set_of, bit-set_of, is_home}
+use Rattle.chess_laws.proofs.Words.{pow_pos, ◌≡◌, ℕ, zero, suc, ◌+◌, ◌-◌, ◌*◌, ◌/◌, ◌%◌, ◌^◌, ◌<◌, ◌≤◌, Bool, true, false, cond, ◌↔◌, IsTrue, IsBitSet, w16, refl, sym, ◌∙◌, ap, arith, inl, inr, bit_at, reverse_bits, bit_or, shr-shr, and_pow, bit_at-lt, bit_at-suc, bit_at_and, bit_at_lowest, bit_at_mask_below, bit_at_mask_inside, bit_at_ones, bit_at_ones_above, bit_at_or, bit_at_set_same, bit_at_set_other, cases_eq, cases_lt, false≢true, lt-ltb, le-ltb, White, Black, Pawn, Men, man_at, is_man, set_of, bit-set_of, is_home}
 use Rattle.std.specs.Int.{reverse_bits_onto}
 use lib.Bits.{bit_and}
 use mir.Val.{bits}

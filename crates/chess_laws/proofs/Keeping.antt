@@ -1,5 +1,5 @@
 -- The board keeps its rules in each case of a move: its squares, its kings, its pawns and how many men there are.
-use Rattle.chess_laws.proofs.Words.{length, ◌≡◌, ℕ, zero, suc, ◌+◌, ◌<◌, inl, inr, Bool, true, false, ◌&&◌, cond, eqb, Option, Some, None, is_none, IsTrue, refl, sym, ◌∙◌, ap, arith, lit<, Any, All, nat_tests, Colour, White, Black, Kind, King, Queen, Rook, Bishop, Knight, Pawn, Man, Move, Men, man_at, put, man, other, same_kind, Setup, Wing, KingSide, QueenSide, Plain, Castle, Null, Offset, rank_of, forward, pawn_captures, Leaps, Walk, by, Attacks, AttacksAs, Reaches, king_home, king_target, rook_home, rook_target, Sound, en_passant_rank, effect_as, effect_of, GoesPlainly, may_become, last_rank, pawn_rank, PlainCase, DoubleCase, PassingCase, CastleCase, arriving, moved, passed_square}
+use Rattle.chess_laws.proofs.Words.{length, ◌≡◌, ℕ, zero, suc, ◌+◌, ◌<◌, inl, inr, Bool, true, false, ◌&&◌, cond, Option, Some, None, is_none, IsTrue, refl, sym, ◌∙◌, ap, arith, lit<, Any, All, nat_tests, Colour, White, Black, Kind, King, Queen, Rook, Pawn, Man, Move, Men, man_at, man, other, same_kind, Setup, Wing, KingSide, QueenSide, Castle, Offset, rank_of, forward, pawn_captures, Leaps, Walk, AttacksAs, Reaches, king_home, king_target, rook_home, rook_target, Sound, en_passant_rank, effect_as, effect_of, GoesPlainly, may_become, last_rank, pawn_rank, CastleCase, arriving, moved}
 use Rattle.chess_laws.specs.Castling.{between}
 use Rattle.chess_laws.proofs.Shifts.{shift-Some}
 use Rattle.chess_laws.proofs.Boards.{man-colour, other-other, colour_cases, on_board, relocate-other, Goes, free-goes, Inside}

@@ -1,5 +1,5 @@
 -- A side that has one king has it where the first one stands.
-use Rattle.chess_laws.proofs.Words.{◌≡◌, ℕ, zero, suc, ◌+◌, ◌<◌, Bool, true, false, ◌&&◌, cond, List, [], ◌∷◌, length, count_by, Option, Some, None, get_or, refl, sym, ◌∙◌, ap, arith, Decides, position_or_len, position, sum_by-cons, cases_Bool, inl, inr, ltb, Decides-and, Decides-like, nat_tests, Colour, Kind, King, Man, Men, man_at, man, is_man, same_colour, same_kind, same_colour-Decides, same_kind-Decides, king_square}
+use Rattle.chess_laws.proofs.Words.{◌≡◌, ℕ, zero, suc, ◌+◌, ◌<◌, Bool, true, false, cond, List, [], ◌∷◌, length, count_by, Option, Some, None, get_or, refl, ◌∙◌, ap, arith, Decides, position_or_len, position, sum_by-cons, cases_Bool, inl, inr, ltb, Decides-and, Decides-like, nat_tests, Colour, Kind, King, Man, Men, man_at, man, is_man, same_colour-Decides, same_kind-Decides, king_square}
 
 -- the test of a man finds just that man
 pub is_man-Decides : (c : Colour) (k : Kind) (x : Option Man) → Decides (is_man c k x) (x ≡ Some (man c k))

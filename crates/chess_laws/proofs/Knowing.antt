@@ -1,5 +1,5 @@
 -- What comes to a square makes one move, whose rule allows it.
-use Rattle.chess_laws.proofs.Words.{◌≡◌, ℕ, inl, inr, true, Some, refl, sym, ◌∙◌, ap, subst, arith, Any, false≢true, nat_tests, Colour, White, Black, Kind, King, Queen, Rook, Bishop, Knight, Pawn, man_at, man, Setup, Wing, KingSide, QueenSide, Plain, Castle, king_steps, Leaps, king_home, king_target, effect_as, effect_on, promotes_rightly, Case, CastleCase, GoesPlainly, HasNoOwn, Comes, IsKnown, Known, goes}
+use Rattle.chess_laws.proofs.Words.{◌≡◌, ℕ, inl, inr, true, Some, refl, sym, ◌∙◌, ap, subst, arith, Any, false≢true, nat_tests, Colour, White, Black, Kind, King, Pawn, man_at, man, Setup, Wing, KingSide, QueenSide, Plain, Castle, king_steps, Leaps, king_home, king_target, effect_as, effect_on, promotes_rightly, Case, CastleCase, GoesPlainly, HasNoOwn, Comes, IsKnown, Known, goes}
 use Rattle.chess_laws.specs.Geometry.{shift}
 use Rattle.chess_laws.specs.LegalNow.{leaps_now}
 use Rattle.chess_laws.proofs.Boards.{man-kind}

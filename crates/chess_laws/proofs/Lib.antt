@@ -22,7 +22,6 @@ pub mod Initial
 pub mod Deciding
 pub mod Knowing
 pub mod Ways
-pub mod Joining
 pub mod PawnMoves
 pub mod Sets
 pub mod Clear

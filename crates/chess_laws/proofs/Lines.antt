@@ -1,5 +1,5 @@
 -- The line between two squares: the one queen's step by which a walk may lead from one to the other.
-use Rattle.chess_laws.proofs.Words.{◌≡◌, ◌↔◌, ℕ, zero, suc, ◌+◌, ◌*◌, ◌<◌, Bool, true, false, ◌&&◌, ◌||◌, ◌-◌, not, Some, None, IsTrue, length, refl, sym, ◌∙◌, subst, arith, Any, Decides-and, nat_tests, list_all, list_any, agree_below, agree_below_at, and_parts, false≢true, Any-from_list_any, AllPass-from_list_all, Kind, King, Men, Offset, file_of, rank_of, Walk, Runs, line_of, glides, run, slides, offset_at, row_of, same_offset}
+use Rattle.chess_laws.proofs.Words.{◌≡◌, ◌↔◌, ℕ, zero, suc, ◌+◌, ◌*◌, ◌<◌, Bool, true, ◌&&◌, ◌||◌, not, Some, None, IsTrue, refl, subst, arith, Any, Decides-and, nat_tests, list_all, list_any, agree_below, agree_below_at, and_parts, Any-from_list_any, AllPass-from_list_all, Kind, King, Men, Offset, file_of, rank_of, Walk, Runs, line_of, glides, run, slides, offset_at, row_of, same_offset}
 use Rattle.chess_laws.specs.LegalTests.{line}
 use Rattle.chess_laws.proofs.Running.{run_is}
 use Rattle.chess_laws.proofs.Shifts.{shift-Some}

@@ -1,5 +1,5 @@
 -- Where the kings stand after a move, and what is kept beside the position then.
-use Rattle.chess_laws.proofs.Words.{◌≡◌, ℕ, ◌<◌, inl, inr, ◌⊎◌, ◌↔◌, IsTrue, not, true, false, eqb, Some, None, length, count_by, Bool, List, refl, sym, ◌∙◌, ap, eq-eqb, ne_eqb, cases_eq, false≢true, Colour, White, Black, Kind, King, Rook, Pawn, Move, Men, man_at, put, man, other, same_kind, is_man, Setup, Wing, Effect, Plain, Double, Passing, Castle, Null, rank_of, Attacks, IsInCheck, rook_home, rook_target, counts_of, Keeps, in_check, Sound, king_square, effect_of, last_rank, PlainCase, PassingCase, CastleCase, Case, arriving, moved, passed_square, board_after, after, Legal, IsOnlyKing, king_after}
+use Rattle.chess_laws.proofs.Words.{◌≡◌, ℕ, inl, inr, ◌⊎◌, ◌↔◌, IsTrue, not, true, false, Some, None, Bool, refl, sym, ◌∙◌, ap, eq-eqb, ne_eqb, cases_eq, false≢true, Colour, King, Move, Men, man_at, put, man, other, same_kind, Setup, Effect, Null, Attacks, IsInCheck, Sound, king_square, effect_of, Case, arriving, moved, board_after, after, Legal, IsOnlyKing, king_after}
 use Rattle.chess_laws.proofs.Kings.{king-only, king-stands}
 use Rattle.chess_laws.proofs.Boards.{only-king, man-colour, man-kind, same_kind-true, put-same, length-put}
 use Rattle.chess_laws.proofs.Keeping.{other-apart}

@@ -1,5 +1,5 @@
 -- What a move opens: an attack after it was there before, or comes from its target, or runs over the square that it left.
-use Rattle.chess_laws.proofs.Words.{◌≡◌, ℕ, zero, suc, ◌<◌, [], ◌∷◌, lit<, ◌⊎◌, inl, inr, ◌↔◌, IsTrue, Bool, true, false, ltb, Some, None, length, refl, sym, ◌∙◌, ap, arith, Any, slice_index_or, cases_Bool, cases_eq, false≢true, Decides, nat_tests, same_from_decides, Colour, Kind, King, Queen, Rook, Bishop, Knight, Pawn, Man, Move, Men, man_at, put, man, other, Setup, Effect, Plain, Double, Passing, Castle, Null, Offset, Walk, Runs, Attacks, Reaches, IsInCheck, IsOnlyKing, is_calm, glides, slides, in_check, Sound, king_square, Opens, Covers, Hits, SlidesFrom, glider, offset_at, effect_of, arriving, moved, board_after, after, Case, Legal}
+use Rattle.chess_laws.proofs.Words.{◌≡◌, ℕ, zero, suc, ◌<◌, [], ◌∷◌, lit<, ◌⊎◌, inl, inr, ◌↔◌, IsTrue, Bool, true, false, ltb, Some, None, length, refl, sym, ◌∙◌, ap, arith, Any, slice_index_or, cases_Bool, cases_eq, false≢true, Decides, nat_tests, same_from_decides, Colour, Kind, King, Queen, Rook, Bishop, Knight, Pawn, Man, Move, Men, man_at, put, man, other, Setup, Effect, Plain, Offset, Walk, Runs, Attacks, Reaches, IsInCheck, IsOnlyKing, is_calm, glides, slides, in_check, Sound, king_square, Opens, Covers, Hits, SlidesFrom, glider, offset_at, effect_of, arriving, moved, board_after, after, Case, Legal}
 use Rattle.chess_laws.proofs.Boards.{man-colour, on_board, other-other, put-same, put-other}
 use Rattle.chess_laws.proofs.Clear.{Slider}
 use Rattle.chess_laws.proofs.Keeping.{moved-other, other-apart}

@@ -1,5 +1,5 @@
 -- A pawn that goes neither in passing nor to be promoted makes a plain move or a double step to each of its targets.
-use Rattle.chess_laws.proofs.Words.{◌≡◌, ℕ, zero, suc, ◌+◌, inl, inr, Bool, true, false, ◌&&◌, not, is_none, Some, refl, sym, ◌∙◌, ap, subst, arith, Any, ne_eqb, nat_tests, Colour, White, Black, Pawn, Move, Men, man_at, man, other, Setup, Effect, Plain, Double, Offset, file_of, rank_of, forward, pawn_captures, Leaps, Walk, changes_file, effect_as, effect_on, goes_two, last_rank, promotes_rightly, Case, Known, PawnComes, PawnGoes, goes}
+use Rattle.chess_laws.proofs.Words.{◌≡◌, ℕ, suc, inl, inr, Bool, true, false, ◌&&◌, is_none, Some, refl, sym, ap, arith, Any, ne_eqb, nat_tests, Colour, White, Black, Pawn, Men, man_at, man, other, Setup, Offset, rank_of, forward, pawn_captures, Leaps, Walk, changes_file, effect_as, effect_on, goes_two, last_rank, promotes_rightly, Case, Known, PawnComes, PawnGoes, goes}
 use Rattle.chess_laws.specs.Targets.{MayTake}
 use Rattle.chess_laws.proofs.Boards.{man-colour}
 use Rattle.chess_laws.proofs.Keeping.{other-apart}

@@ -1,5 +1,5 @@
 -- What is left of a side's men after a move of the other side.
-use Rattle.chess_laws.proofs.Words.{◌≡◌, ℕ, ◌-◌, ◌*◌, ◌%◌, ◌^◌, ◌<◌, false, Some, None, is_some, length, refl, sym, ◌∙◌, ap, arith, bit_and, bit_or, nat_tests, and_assoc, and_comm, Colour, Kind, Men, man_at, put, is_man, is_of, man, other, is_kind, set_of, come, filled, left, man-set, passed, Leaves}
+use Rattle.chess_laws.proofs.Words.{◌≡◌, ℕ, ◌-◌, ◌*◌, ◌%◌, ◌^◌, ◌<◌, Some, None, is_some, length, refl, sym, ◌∙◌, ap, arith, bit_and, bit_or, nat_tests, and_assoc, and_comm, Colour, Kind, Men, man_at, put, is_man, is_of, man, other, is_kind, set_of, come, filled, left, man-set, passed, Leaves}
 use Rattle.chess_laws.proofs.Boards.{length-put, put-same}
 
 -- a square is taken out of a set before or after another

@@ -1,5 +1,5 @@
 -- A walk over empty squares is at most seven steps long, and the code's walk finds it, also the one that collects its squares.
-use Rattle.chess_laws.proofs.Words.{◌≡◌, ◌↔◌, ℕ, zero, suc, ◌+◌, ◌-◌, ◌<◌, ◌≤◌, ◌⊎◌, inl, inr, Bool, true, false, ◌&&◌, ◌||◌, ◌==◌, eqb, IsTrue, Option, Some, None, is_none, is_some, refl, sym, ◌∙◌, ap, arith, subst, Decides, eq-eqb, cases_order, Decides-and, Decides-or, Decides-eqb, nat_tests, Man, Men, man_at, Offset, file_of, rank_of, shift, Walk, Runs, run_on, Colour, SquareSet, HasNoOwn, Has}
+use Rattle.chess_laws.proofs.Words.{◌≡◌, ◌↔◌, ℕ, zero, suc, ◌+◌, ◌-◌, ◌<◌, ◌≤◌, ◌⊎◌, inl, inr, Bool, true, IsTrue, Option, Some, None, is_none, is_some, refl, sym, ◌∙◌, ap, arith, subst, Decides, eq-eqb, cases_order, Decides-and, Decides-or, Decides-eqb, nat_tests, Men, man_at, Offset, file_of, rank_of, shift, Walk, Runs, run_on, Colour, SquareSet, HasNoOwn, Has}
 use Rattle.chess_laws.specs.LegalTests.{run}
 use Rattle.chess_laws.proofs.Shifts.{shift-Some}
 

@@ -1,5 +1,5 @@
 -- A step is two linear equations, of the files and of the ranks.
-use Rattle.chess_laws.proofs.Words.{◌≡◌, ℕ, ◌+◌, ◌<◌, true, leb, ltb, Option, Some, None, refl, ap, arith, nat_tests, Offset, file_of, rank_of, square, line_at, square_at}
+use Rattle.chess_laws.proofs.Words.{◌≡◌, ℕ, ◌+◌, ◌<◌, Option, Some, None, refl, ap, arith, nat_tests, Offset, file_of, rank_of, square, line_at, square_at}
 use Rattle.chess_laws.specs.Geometry.{shift}
 
 -- a step leads from a to b where the files and the ranks differ by it

@@ -1,5 +1,5 @@
 -- A setup that passes the tests keeps the rules of a position.
-use Rattle.chess_laws.proofs.Words.{Option, length, ◌<◌, leb, ◌≡◌, ℕ, ◌≤◌, Bool, true, false, ◌&&◌, IsTrue, ◌↔◌, count_by, refl, sym, ◌∙◌, arith, and_parts, le-leb, leb-true, Colour, White, Black, King, Rook, Men, man_at, other, is_man, is_of, Wing, KingSide, QueenSide, Rights, Attacks, IsInCheck, StandAtHome, has_right, king_home, rook_home, Sound, HasPawnsInside, HasFitEnPassant, HasFewMen, HasKings, king_square, is_at_home, rights_of, has_bit}
+use Rattle.chess_laws.proofs.Words.{Option, length, ◌<◌, leb, ◌≡◌, ℕ, ◌≤◌, Bool, ◌&&◌, IsTrue, ◌↔◌, count_by, sym, ◌∙◌, arith, and_parts, le-leb, leb-true, Colour, White, Black, King, Rook, Men, man_at, other, is_man, is_of, Wing, KingSide, QueenSide, Rights, Attacks, IsInCheck, StandAtHome, has_right, king_home, rook_home, Sound, HasPawnsInside, HasFitEnPassant, HasFewMen, HasKings, king_square, is_at_home, rights_of, has_bit}
 use Rattle.chess_laws.proofs.Boards.{Sound-kept}
 use Rattle.chess_laws.proofs.Kings.{king-stands, king-only, is_man-Some}
 

@@ -1,5 +1,5 @@
 -- A walk read from its end: the same squares by the steps back.
-use Rattle.chess_laws.proofs.Words.{◌≡◌, ℕ, zero, suc, ◌<◌, ◌==◌, ◌&&◌, Bool, true, List, subst, Some, None, sym, Any, list_all, list_any, Decides-and, Decides-eqb, Any-from_list_any, Men, man_at, Offset, shift, Leaps, Walk, Runs, same_offset, AllPass-from_list_all}
+use Rattle.chess_laws.proofs.Words.{◌≡◌, ℕ, zero, suc, ◌<◌, Bool, true, List, subst, Some, None, sym, Any, list_all, list_any, Decides-and, Decides-eqb, Any-from_list_any, Men, man_at, Offset, shift, Leaps, Walk, Runs, same_offset, AllPass-from_list_all}
 use Rattle.chess_laws.proofs.Shifts.{shift-Some, shift-Differ}
 
 -- the step back

@@ -11,20 +11,20 @@ pub use Rattle.cell_core.specs.declared.man.Kind.TheVariants.{King, Queen, Rook,
 pub use Rattle.cell_core.specs.declared.man.Man.{Man}
 pub use Rattle.cell_core.specs.declared.step.Move.{Move}
 pub use Rattle.chess_laws.specs.Attacks.{Attacks, AttacksAs, Reaches, IsInCheck}
-pub use Rattle.chess_laws.specs.Between.{crossed, crossed_on, is_between, is_on, is_seen, names_between, names_seen}
-pub use Rattle.chess_laws.specs.Castling.{rook_home, rook_target, king_path, has_right, king_home, king_target, touches, keeps, rights_after, StandAtHome}
+pub use Rattle.chess_laws.specs.Between.{crossed_on, is_between, is_on, is_seen}
+pub use Rattle.chess_laws.specs.Castling.{rook_home, rook_target, king_path, has_right, king_home, king_target, keeps, rights_after, StandAtHome}
 pub use Rattle.chess_laws.specs.Counts.{counts_of, count_of, fewer, is_home}
-pub use Rattle.chess_laws.specs.Geometry.{Offset, rook_steps, bishop_steps, knight_steps, king_steps, pawn_captures, Leaps, Runs, rank_of, shift, forward, Walk, file_of, square, by, line_at, square_at}
-pub use Rattle.chess_laws.specs.Keeps.{Keeps, in_check}
-pub use Rattle.chess_laws.specs.Leaps.{squares_of, names_leaps}
-pub use Rattle.chess_laws.specs.LegalNow.{some_below, is_square, leaps_now, walks_on, walks_now, runs_now, reaches_now, attacks_from, attacks_now, in_check_now, goes_plainly_now, plain_now, double_now, passing_now, castle_now, null_now, case_now, legal_now}
+pub use Rattle.chess_laws.specs.Geometry.{Offset, rook_steps, bishop_steps, knight_steps, king_steps, pawn_captures, Leaps, Runs, rank_of, shift, forward, Walk, file_of, square, line_at, square_at}
+pub use Rattle.chess_laws.specs.Keeps.{in_check}
+pub use Rattle.chess_laws.specs.Leaps.{squares_of}
+pub use Rattle.chess_laws.specs.LegalNow.{is_square, leaps_now, walks_on, reaches_now, attacks_from, attacks_now, in_check_now, goes_plainly_now, plain_now, passing_now, castle_now, case_now, legal_now}
 pub use Rattle.chess_laws.specs.LegalTests.{slides, IsOnlyKing, glides, line, run, run_on, takes_target, line_of, king_after, is_calm, is_home_square}
 pub use Rattle.chess_laws.specs.Moves.{HasMoreMoves, IsMove, place_of, promotion_number, Ascends, ListsMoves}
 pub use Rattle.chess_laws.specs.Position.{Sound, HasKings, HasPawnsInside, HasFewMen, HasFitRights, HasFitEnPassant, king_square, en_passant_rank, has_all_rights, start_men, start_setup, is_start, is_at_home, rights_of, has_bit}
-pub use Rattle.chess_laws.specs.Rays.{LeapsFrom, SlidesFrom, entry, glider, offset_at, sliders, row_of, same_offset, Opens, Covers, Hits, Leaves, is_named, names_all, target_by}
-pub use Rattle.chess_laws.specs.Step.{Case, Legal, arriving, effect_of, board_after, moved, after, pawn_rank, passed_square, promotes_rightly, HasNoOwn, GoesPlainly, PassingCase, CastleCase, last_rank, rights_left, en_passant_after, effect_as, may_become, PlainCase, DoubleCase, effect_on, changes_file, goes_two, Step, stepped}
-pub use Rattle.chess_laws.specs.Targets.{Known, ListsBelow, goes, Comes, IsKnown, Has, MayPromote, MayTake, PawnComes, PawnGoes}
-pub use Rattle.chess_laws.specs.Ways.{is_row, names_lines, way}
+pub use Rattle.chess_laws.specs.Rays.{LeapsFrom, SlidesFrom, entry, glider, offset_at, sliders, row_of, same_offset, Opens, Covers, Hits, Leaves, is_named, target_by}
+pub use Rattle.chess_laws.specs.Step.{Case, Legal, arriving, effect_of, board_after, moved, after, pawn_rank, passed_square, promotes_rightly, HasNoOwn, GoesPlainly, PassingCase, CastleCase, last_rank, rights_left, en_passant_after, effect_as, may_become, PlainCase, DoubleCase, effect_on, changes_file, goes_two, Step}
+pub use Rattle.chess_laws.specs.Targets.{Known, ListsBelow, goes, Comes, IsKnown, Has, MayPromote, PawnComes, PawnGoes}
+pub use Rattle.chess_laws.specs.Ways.{is_row, way}
 pub use Rattle.chess_laws.specs.declared.effect.Effect.{Effect}
 pub use Rattle.chess_laws.specs.declared.effect.Effect.TheVariants.{Plain, Double, Passing, Castle, Null}
 pub use Rattle.chess_laws.specs.declared.setup.Rights.{Rights}
@@ -48,7 +48,7 @@ pub use Rattle.std.proofs.lemmas.Nat.{shr-shr, and_assoc, and_comm, and_le_l}
 pub use Rattle.std.proofs.lemmas.Nat.Bits.{bit_at-lt, bit_at-pow_same, bit_at-pow_other, bit_at-zero, bit_at_and, bit_at_or, same_from_bits, and_pow, bit_at-suc, bit_at_lowest, bit_at_mask_below, bit_at_mask_inside, bit_at_ones, bit_at_ones_above, bit_at_set_same, bit_at_set_other, bit_at-trailing_zeros, bit_at_above, bit_at_not, shr_and_one}
 pub use Rattle.std.specs.Bool.{OnTrue, OnFalse, Decides}
 pub use Rattle.std.specs.Cmp.{IsEquivalence, nat_eq_equiv}
-pub use Rattle.std.specs.Int.{bit_at, reverse_bits, reverse_bits_onto, trailing_zeros}
+pub use Rattle.std.specs.Int.{bit_at, reverse_bits, trailing_zeros}
 pub use Rattle.std.specs.Int.RustNames.{bit_and, bit_or}
 pub use Rattle.std.specs.List.{list_all, list_any, position_or_len, position}
 pub use Rattle.std.specs.Prelude.{Contains, SomeIff}

@@ -1,5 +1,5 @@
 -- The move joins the list, or there is none of its place, or there is no room.
-use Rattle.chess_laws.proofs.Words.{sym, ◌∙◌, arith, false≢true, Move}
+use Rattle.chess_laws.proofs.Words.{sym, ◌∙◌, arith, false≢true}
 use Rattle.chess_laws.proofs.Listing.{lists_none, lists_over}
 use Rattle.chess_laws.proofs.moves.add.Goals as goal
 

@@ -1,5 +1,5 @@
 -- No move begins on a square that is not one of the mover's, and below the last place there are all.
-use Rattle.chess_laws.proofs.Words.{arith, rules, ◌*◌, ◌∙◌, ListsBelow}
+use Rattle.chess_laws.proofs.Words.{rules, ◌*◌, ◌∙◌, ListsBelow}
 use Rattle.chess_laws.proofs.Listing.{lists-all, lists_no_man, no-more}
 use Rattle.chess_laws.proofs.Sets.{own_told}
 use Rattle.chess_laws.proofs.moves.list_moves.Goals as goal
