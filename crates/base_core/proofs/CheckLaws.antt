@@ -11,7 +11,8 @@ use Rattle.base_core.specs.declared.fault.IdField.TheVariants as id
 use Rattle.base_core.specs.declared.fault.PlaceWhat.{PlaceWhat}
 use Rattle.base_core.specs.declared.fault.PlaceWhat.TheVariants as place
 use Rattle.base_core.specs.Entries.{HasNames}
-use Rattle.base_core.specs.FirstFault.{blamed, unless, ◌>>=◌, entry_checked, id_fault, place_fault}
+use Rattle.name_base.specs.Reading.{◌>>=◌}
+use Rattle.base_core.specs.FirstFault.{blamed, unless, entry_checked, id_fault, place_fault}
 use Rattle.base_core.proofs.Results.{same_ok, ok_err, step_none}
 
 pub record Checked (names : NameLists) (end : ℕ) (r : Result Entry EntryFault) (e : Entry) : Type 0 where

@@ -11,7 +11,6 @@ use Rattle.index_entry.specs.Index.{entry_bytes}
 use Rattle.index_entry.specs.declared.entry.Entry.{Entry}
 use Rattle.index_entry.specs.declared.index.IndexHead.{IndexHead}
 use Rattle.name_base.specs.NameLists.{NameLists}
-use Rattle.name_base.proofs.FileLemmas.{names_again}
 use Rattle.base_core.specs.Base.{Base, Held}
 use Rattle.base_core.specs.Entries.{Says, extent_of, head_of}
 use Rattle.base_core.specs.Means.{AreGames, IsEntryOf, Means}
@@ -51,7 +50,7 @@ base-by a b header names games end =
 pub means-one : (index names games : List ℕ) (a b : Base) → Means index names games a → Means index names games b → a ≡ b
 means-one index names games a b x y =
     let header : a.header ≡ b.header = same_ok _ a.header b.header x.header y.header in
-    let lists : a.names ≡ b.names = same_ok _ a.names b.names (names_again names a.names x.lists) (names_again names b.names y.lists) in
+    let lists : a.names ≡ b.names = same_ok _ a.names b.names x.lists y.lists in
     let N : NameLists → Type 0 = λ n. AreGames index n games a.header.games a.games in
     let H : IndexHead → Type 0 = λ h. AreGames index b.names games h.games a.games in
     let all : a.games ≡ b.games = games-one index b.names games b.header.games a.games b.games (subst H header (subst N lists x.held)) y.held in

@@ -1,10 +1,9 @@
 -- Three files have one first fault, and none where each entry passes.
-use Rattle.std.proofs.Common.{◌≡◌, ◌<◌, ℕ, Bool, true, false, List, Ok, [], if◌then◌else◌, MatchBool, refl, sym, ap, ◌∙◌, subst, inl, inr}
+use Rattle.std.proofs.Common.{◌≡◌, ◌<◌, ℕ, Bool, true, false, List, None, Ok, [], if◌then◌else◌, MatchBool, IsTrue, refl, sym, ap, ◌∙◌, subst, inl, inr}
 use Rattle.std.proofs.lemmas.Bool.{cases_order}
 use Rattle.std.proofs.lemmas.Option.{same_Some, none-some}
 use Rattle.base_files.specs.Extents.{record_in}
 use Rattle.game_tree.specs.Game.{GameTree}
-use Rattle.game_codec.specs.Record.{IsRecord}
 use Rattle.game_codec.specs.Fault.{IsRecordFault}
 use Rattle.game_codec.specs.declared.fault.RecordFault.{RecordFault}
 use Rattle.game_codec.proofs.DecodeLaws.{record-one, fault-one, record-unbroken}
@@ -17,7 +16,7 @@ use Rattle.base_core.specs.declared.fault.BaseFault.{BaseFault}
 use Rattle.base_core.specs.declared.fault.BaseFault.TheVariants.{Packed, Derived}
 use Rattle.base_core.specs.declared.fault.DerivedField.{DerivedField}
 use Rattle.base_core.specs.Entries.{extent_of}
-use Rattle.base_core.specs.FirstFault.{Whole, whole_read, derived_fault, Signs, Passes, BreaksRecord, Fails, EntryFails, FirstFault}
+use Rattle.base_core.specs.FirstFault.{Whole, whole_read, derived_fault, IsNotTaken, Signs, Passes, Fails, EntryFails, FirstFault}
 use Rattle.base_core.proofs.Results.{same_ok, same_err, ok_err}
 use Rattle.base_core.proofs.SigLaws.{sig-by}
 
@@ -36,55 +35,56 @@ sig-one game a b x y =
     sig-by a b (x.material ∙ sym y.material) home (x.plies ∙ sym y.plies) (x.promo ∙ sym y.promo) (x.under ∙ sym y.under) own
     (x.vars ∙ sym y.vars) (x.comments ∙ sym y.comments) (x.nags ∙ sym y.nags)
 
--- What the entry of a game has in common, read twice.
-record Same (e d : Entry) (s t : Sig) : Type 0 where
-  fields : e ≡ d
-  sigs : s ≡ t
+-- ---- a record.
 
-signs-one : (names : NameLists) (games : List ℕ) (game : ℕ) (bytes : List ℕ) (e d : Entry) (s t : Sig) → Signs names games game bytes e s → Signs names games game bytes d t → Same e d s t
-signs-one names games game bytes e d s t x y =
-    let fields : e ≡ d = same_ok _ e d x.checked y.checked in
-    let R : Entry → Type 0 = λ z. IsRecord (record_in games (extent_of z)) x.tags x.tree in
-    let trees : x.tree ≡ y.tree = (record-one (record_in games (extent_of d)) x.tags y.tags x.tree y.tree (subst R fields x.read) y.read).1 in
+-- It has one signature.
+signs-one : (bytes : List ℕ) (s t : Sig) → Signs bytes s → Signs bytes t → s ≡ t
+signs-one bytes s t x y =
+    let trees : x.tree ≡ y.tree = (record-one bytes x.tags y.tags x.tree y.tree x.read y.read).1 in
     let S : GameTree → Type 0 = λ z. IsSig z s in
-    record { fields = fields; sigs = sig-one y.tree s t (subst S trees x.signed) y.signed }
+    sig-one y.tree s t (subst S trees x.signed) y.signed
 
-signs-unbroken : (names : NameLists) (games : List ℕ) (game : ℕ) (bytes : List ℕ) (e : Entry) (s : Sig) (fault : BaseFault) → Signs names games game bytes e s → BreaksRecord names games game bytes fault → ⊥
-signs-unbroken names games game bytes e s fault x y =
-    let fields : e ≡ y.fields = same_ok _ e y.fields x.checked y.checked in
-    let R : Entry → Type 0 = λ z. IsRecord (record_in games (extent_of z)) x.tags x.tree in
-    record-unbroken (record_in games (extent_of y.fields)) x.tags x.tree y.what (subst R fields x.read) y.broken
+signs-unbroken : (bytes : List ℕ) (s : Sig) (what : RecordFault) → Signs bytes s → IsRecordFault bytes what → ⊥
+signs-unbroken bytes s what x broken = record-unbroken bytes x.tags x.tree what x.read broken
 
-derived-one : (e d : Entry) (s t : Sig) → Same e d s t → derived_fault e s ≡ derived_fault d t
-derived-one e d s t same =
-    ap (λ (z : Entry). derived_fault z s) same.fields ∙ ap (λ (z : Sig). derived_fault d z) same.sigs
+-- One that passes has no fault.
+signs-taken : (strict : Bool) (game : ℕ) (bytes : List ℕ) (e : Entry) (s : Sig) (fault : BaseFault) → Signs bytes s → (IsTrue strict → derived_fault e s ≡ None) → IsNotTaken strict game bytes e fault → ⊥
+signs-taken strict game bytes e s fault x derived (inl f) = signs-unbroken bytes s f.0 x f.1.0
+signs-taken strict game bytes e s fault x derived (inr f) =
+    let d = f.1.1.1 in
+    none-some d.0 (sym (derived f.0) ∙ (ap (λ (z : Sig). derived_fault e z) (signs-one bytes s f.1.0 x f.1.1.0) ∙ d.1.0))
 
--- An entry that passes has no fault.
+not_taken-one : (strict : Bool) (game : ℕ) (bytes : List ℕ) (e : Entry) (fault other : BaseFault) → IsNotTaken strict game bytes e fault → IsNotTaken strict game bytes e other → fault ≡ other
+not_taken-one strict game bytes e fault other (inl f) (inl g) =
+    let what : f.0 ≡ g.0 = fault-one bytes f.0 g.0 f.1.0 g.1.0 in
+    f.1.1 ∙ (ap (λ (w : RecordFault). Packed game w) what ∙ sym g.1.1)
+not_taken-one strict game bytes e fault other (inl f) (inr g) = absurd (signs-unbroken bytes g.1.0 f.0 g.1.1.0 f.1.0)
+not_taken-one strict game bytes e fault other (inr f) (inl g) = absurd (signs-unbroken bytes f.1.0 g.0 f.1.1.0 g.1.0)
+not_taken-one strict game bytes e fault other (inr f) (inr g) =
+    let d = f.1.1.1 in
+    let h = g.1.1.1 in
+    let field : d.0 ≡ h.0 = same_Some d.0 h.0 (sym d.1.0 ∙ (ap (λ (z : Sig). derived_fault e z) (signs-one bytes f.1.0 g.1.0 f.1.1.0 g.1.1.0) ∙ h.1.0)) in
+    d.1.1 ∙ (ap (λ (x : DerivedField). Derived game x) field ∙ sym h.1.1)
+
+-- ---- an entry.
+
+-- One that passes has no fault.
 pub passes_fails : (strict : Bool) (names : NameLists) (games : List ℕ) (game : ℕ) (bytes : List ℕ) (fault : BaseFault) → Passes strict names games game bytes → Fails strict names games game bytes fault → ⊥
-passes_fails strict names games game bytes fault p (inl f) = ok_err _ p.fields fault p.signs.checked f
-passes_fails strict names games game bytes fault p (inr (inl f)) = signs-unbroken names games game bytes p.fields p.sig fault p.signs f
-passes_fails strict names games game bytes fault p (inr (inr f)) =
-    let same = signs-one names games game bytes p.fields f.fields p.sig f.sig p.signs f.signs in
-    none-some f.field (sym (p.derived f.asked) ∙ (derived-one p.fields f.fields p.sig f.sig same ∙ f.differs))
+passes_fails strict names games game bytes fault p (inl f) = ok_err _ p.fields fault p.checked f
+passes_fails strict names games game bytes fault p (inr f) =
+    let fields : f.0 ≡ p.fields = same_ok _ f.0 p.fields f.1.0 p.checked in
+    let N : Entry → Type 0 = λ e. IsNotTaken strict game (record_in games (extent_of e)) e fault in
+    signs-taken strict game (record_in games (extent_of p.fields)) p.fields p.sig fault p.signs p.derived (subst N fields f.1.1)
 
--- An entry has one first fault.
+-- It has one first fault.
 pub fails-one : (strict : Bool) (names : NameLists) (games : List ℕ) (game : ℕ) (bytes : List ℕ) (fault other : BaseFault) → Fails strict names games game bytes fault → Fails strict names games game bytes other → fault ≡ other
 fails-one strict names games game bytes fault other (inl f) (inl g) = same_err _ fault other f g
-fails-one strict names games game bytes fault other (inl f) (inr (inl g)) = absurd (ok_err _ g.fields fault g.checked f)
-fails-one strict names games game bytes fault other (inl f) (inr (inr g)) = absurd (ok_err _ g.fields fault g.signs.checked f)
-fails-one strict names games game bytes fault other (inr (inl f)) (inl g) = absurd (ok_err _ f.fields other f.checked g)
-fails-one strict names games game bytes fault other (inr (inr f)) (inl g) = absurd (ok_err _ f.fields other f.signs.checked g)
-fails-one strict names games game bytes fault other (inr (inl f)) (inr (inr g)) = absurd (signs-unbroken names games game bytes g.fields g.sig fault g.signs f)
-fails-one strict names games game bytes fault other (inr (inr f)) (inr (inl g)) = absurd (signs-unbroken names games game bytes f.fields f.sig other f.signs g)
-fails-one strict names games game bytes fault other (inr (inl f)) (inr (inl g)) =
-    let fields : f.fields ≡ g.fields = same_ok _ f.fields g.fields f.checked g.checked in
-    let B : Entry → Type 0 = λ z. IsRecordFault (record_in games (extent_of z)) f.what in
-    let what : f.what ≡ g.what = fault-one (record_in games (extent_of g.fields)) f.what g.what (subst B fields f.broken) g.broken in
-    f.is ∙ (ap (λ (w : RecordFault). Packed game w) what ∙ sym g.is)
-fails-one strict names games game bytes fault other (inr (inr f)) (inr (inr g)) =
-    let same = signs-one names games game bytes f.fields g.fields f.sig g.sig f.signs g.signs in
-    let field : f.field ≡ g.field = same_Some f.field g.field (sym f.differs ∙ (derived-one f.fields g.fields f.sig g.sig same ∙ g.differs)) in
-    f.is ∙ (ap (λ (x : DerivedField). Derived game x) field ∙ sym g.is)
+fails-one strict names games game bytes fault other (inl f) (inr g) = absurd (ok_err _ g.0 fault g.1.0 f)
+fails-one strict names games game bytes fault other (inr f) (inl g) = absurd (ok_err _ f.0 other f.1.0 g)
+fails-one strict names games game bytes fault other (inr f) (inr g) =
+    let fields : f.0 ≡ g.0 = same_ok _ f.0 g.0 f.1.0 g.1.0 in
+    let N : Entry → Type 0 = λ e. IsNotTaken strict game (record_in games (extent_of e)) e fault in
+    not_taken-one strict game (record_in games (extent_of g.0)) g.0 fault other (subst N fields f.1.1) g.1.1
 
 entry_fails-one : (strict : Bool) (index : List ℕ) (names : NameLists) (games : List ℕ) (count : ℕ) (fault other : BaseFault) → EntryFails strict index names games count fault → EntryFails strict index names games count other → fault ≡ other
 entry_fails-one strict index names games count fault other f g =

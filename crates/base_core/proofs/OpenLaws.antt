@@ -9,12 +9,10 @@ use Rattle.index_entry.specs.declared.index.IndexHead.{IndexHead}
 use Rattle.index_entry.specs.declared.fault.IndexFault.{IndexFault}
 use Rattle.name_base.specs.declared.fault.NameFault.{NameFault}
 use Rattle.name_base.specs.NameLists.{NameLists, no_names}
-use Rattle.name_base.specs.NamesFile.{NameFile}
 use Rattle.name_base.specs.Reading.{Fails, names_at}
 use Rattle.name_base.specs.declared.fault.NamesError.{NamesError}
 use Rattle.name_base.specs.declared.fault.NamesError.TheVariants as failed
 use Rattle.base_core.specs.Errors.{names_error}
-use Rattle.name_base.proofs.FileLemmas.{names_again}
 use Rattle.base_core.specs.declared.fault.BaseFault.TheVariants.{Index, Names}
 use Rattle.base_core.specs.declared.fault.DerivedField.{DerivedField}
 use Rattle.base_core.specs.declared.fault.OpenError.{OpenError}
@@ -25,7 +23,7 @@ use Rattle.base_core.specs.FirstFault.{Whole, whole_read, EntryFails, FirstFault
 use Rattle.base_core.specs.Represents.{IsSound, Kept, Represents, AreDifferences, extents_of}
 use Rattle.base_core.specs.Opening.{IfBad, IfTold, Opens, Refuses, are_empty, is_created}
 use Rattle.base_core.specs.Reading.{AreRead, IsRead}
-use Rattle.base_core.proofs.CheckLaws.{checked, has_names, read_is}
+use Rattle.base_core.proofs.CheckLaws.{checked, read_is}
 use Rattle.base_core.proofs.Lists.{get_some}
 use Rattle.sig_index.specs.Games.{AreWithin}
 use Rattle.base_core.proofs.GamesLaws.{are-within}
@@ -65,8 +63,8 @@ games_of strict index names games entries mended count r long = record {
   each = λ i held at.
       let h = held_at strict index names games entries mended r i held at in
       let read = h.1.1.1.1 in
-      let c = checked names (length games) i (entry_bytes index i) read.fields read.signs.checked in
-      record { fields = read.fields; read = c.read; named = has_names names read.fields c.named; says = read.says };
+      let c = checked names (length games) i (entry_bytes index i) read.fields read.checked in
+      record { fields = read.fields; read = c.read; named = c.named; says = read.says };
 }
 
 differences_of : (strict : Bool) (index : List ℕ) (names : NameLists) (games : List ℕ) (entries : List Entry) (mended : ℕ) (r : AreRead strict index names games entries mended) → AreDifferences index r.all r.fields
@@ -75,12 +73,12 @@ differences_of strict index names games entries mended r = record {
   each = λ i held field at_held at_field.
       let e = get_some entries i (subst (λ n. i < n) r.held (slice_get_within r.all i held at_held)) in
       let read = r.each i e.0 held field e.1 at_held at_field in
-      let c = checked names (length games) i (entry_bytes index i) read.fields read.signs.checked in
+      let c = checked names (length games) i (entry_bytes index i) read.fields read.checked in
       (read.sig, read.signed, rw (read_is (entry_bytes index i) read.fields c.read) read.differs);
 }
 
 -- What was read of three files opens them.
-pub opens : (strict : Bool) (index names games : List ℕ) (header : IndexHead) (lists : NameLists) (entries : List Entry) (mended end : ℕ) → index_read index ≡ Ok header → NameFile names lists → end ≡ length games →
+pub opens : (strict : Bool) (index names games : List ℕ) (header : IndexHead) (lists : NameLists) (entries : List Entry) (mended end : ℕ) → index_read index ≡ Ok header → names_at names ≡ Ok lists → end ≡ length games →
     length entries ≡ header.games → AreRead strict index lists games entries mended → (create : Bool) → is_created create index names games ≡ false →
     Opens create strict index names games (record { header = header; names = lists; entries = entries; end = end; unsaved = false }) mended
 opens strict index names games header lists entries mended end one two long count r create there =
@@ -108,7 +106,7 @@ opens strict index names games header lists entries mended end one two long coun
       mends = (r.fields, differences_of strict index lists games entries mended r, r.mends);
       strictly = r.strictly;
       sound = λ fault refuses.
-          none_fails strict index names games whole fault (whole_is index names header lists one (names_again names lists two))
+          none_fails strict index names games whole fault (whole_is index names header lists one two)
           (λ i below. passes_of strict index lists games entries mended r i (subst (λ n. i < n) (sym count) below)) refuses.first;
       saved = refl;
     }
@@ -138,7 +136,7 @@ opened_meant create strict index names games kept mended base there o means =
 
 -- ---- where the files may be told.
 
-pub opens_told : (told : Option (List ℕ)) (strict : Bool) (index names : List ℕ) (header : IndexHead) (lists : NameLists) (entries : List Entry) (mended end : ℕ) → index_read index ≡ Ok header → NameFile names lists →
+pub opens_told : (told : Option (List ℕ)) (strict : Bool) (index names : List ℕ) (header : IndexHead) (lists : NameLists) (entries : List Entry) (mended end : ℕ) → index_read index ≡ Ok header → names_at names ≡ Ok lists →
     TellsLength told end → length entries ≡ header.games → IfSome told (λ games. AreRead strict index lists games entries mended) →
     IfSome told (λ games. (create : Bool) → is_created create index names games ≡ false → Opens create strict index names games (record { header = header; names = lists; entries = entries; end = end; unsaved = false }) mended)
 opens_told None strict index names header lists entries mended end one two long count read = tt
@@ -153,11 +151,11 @@ whole_refuses (Some games) strict index names (opening.Bad fault) fails = inl fa
 whole_refuses told strict index names opening.Failed fails = tt
 whole_refuses told strict index names opening.Memory fails = tt
 
-pub entries_refuse : (told : Option (List ℕ)) (strict : Bool) (index names : List ℕ) (header : IndexHead) (lists : NameLists) (error : OpenError) → index_read index ≡ Ok header → NameFile names lists →
+pub entries_refuse : (told : Option (List ℕ)) (strict : Bool) (index names : List ℕ) (header : IndexHead) (lists : NameLists) (error : OpenError) → index_read index ≡ Ok header → names_at names ≡ Ok lists →
     IfBad (λ fault. IfSome told (λ games. EntryFails strict index lists games header.games fault)) error → IfBad (λ fault. IfSome told (λ games. FirstFault strict index names games fault)) error
 entries_refuse None strict index names header lists (opening.Bad fault) one two fails = tt
 entries_refuse (Some games) strict index names header lists (opening.Bad fault) one two fails =
-    inr (record { header = header; names = lists }, (whole_is index names header lists one (names_again names lists two), fails))
+    inr (record { header = header; names = lists }, (whole_is index names header lists one two, fails))
 entries_refuse told strict index names header lists opening.Failed one two fails = tt
 entries_refuse told strict index names header lists opening.Memory one two fails = tt
 

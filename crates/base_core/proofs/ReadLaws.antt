@@ -18,9 +18,9 @@ use Rattle.base_core.specs.declared.fault.BaseFault.{BaseFault}
 use Rattle.base_core.specs.declared.fault.DerivedField.{DerivedField}
 use Rattle.base_core.specs.Base.{Held}
 use Rattle.base_core.specs.Entries.{Says, head_of, extent_of}
-use Rattle.base_core.specs.FirstFault.{Passes, EntryFails, Fails, entry_checked, derived_fault}
+use Rattle.base_core.specs.FirstFault.{Passes, EntryFails, Fails, IsNotTaken, entry_checked, derived_fault}
 use Rattle.base_core.specs.Represents.{IsKept, Keeps}
-use Rattle.base_core.specs.Reading.{AreRead, IsNotTaken, IsRead, IsReadSo, IsSigned, IsTaken, kept_entry}
+use Rattle.base_core.specs.Reading.{AreRead, IsRead, IsReadSo, IsSigned, IsTaken, kept_entry}
 use Rattle.game_codec.specs.Fault.{IfBad as IfBadRecord}
 use Rattle.game_codec.specs.declared.fault.DecodeError.{DecodeError}
 use Rattle.game_codec.specs.declared.fault.DecodeError.TheVariants as decode
@@ -67,8 +67,9 @@ taken_so strict names games game bytes e kept mended rule passed taken =
       field = derived_fault e s;
       read = record {
         fields = e;
+        checked = passed;
         sig = s;
-        signs = record { checked = passed; tags = signed.tags; tree = signed.tree; read = signed.read; signed = signed.signed };
+        signs = record { tags = signed.tags; tree = signed.tree; read = signed.read; signed = signed.signed };
         says = k.1.0;
         signed = k.1.1.0;
         keeps = subst K (sym taken.keeps) k.1.1.1;
@@ -77,22 +78,6 @@ taken_so strict names games game bytes e kept mended rule passed taken =
       };
       mends = taken.mends;
     }
-
--- A game that was not taken fails so.
-not_taken_so : (strict : Bool) (names : NameLists) (games : List ℕ) (game : ℕ) (bytes : List ℕ) (e : Entry) (fault : BaseFault) →
-    entry_checked names (length games) game bytes ≡ Ok e → IsNotTaken strict game (record_in games (extent_of e)) e fault → Fails strict names games game bytes fault
-not_taken_so strict names games game bytes e fault checked (inl h) =
-    inr (inl (record { fields = e; what = h.0; checked = checked; broken = h.1.0; is = h.1.1 }))
-not_taken_so strict names games game bytes e fault checked (inr h) =
-    inr (inr (record {
-      fields = e;
-      sig = h.1.1.1.0;
-      field = h.1.1.1.1.0;
-      asked = h.0;
-      signs = record { checked = checked; tags = h.1.0; tree = h.1.1.0; read = h.1.1.1.1.1.0; signed = h.1.1.1.1.1.1.0 };
-      differs = h.1.1.1.1.1.1.1.0;
-      is = h.1.1.1.1.1.1.1.1;
-    }))
 
 -- The same where the games file may be told.
 pub taken_told : (told : Option (List ℕ)) (strict : Bool) (names : NameLists) (end game : ℕ) (bytes read : List ℕ) (e kept : Entry) (mended : Bool) → IsTrue (keeps_rule e.event_date e.date) →
@@ -111,7 +96,7 @@ not_taken_told None strict names end game bytes read e fault long tells checked 
 not_taken_told (Some games) strict names end game bytes read e fault long tells checked not =
     let C : ℕ → Type 0 = λ n. entry_checked names n game bytes ≡ Ok e in
     let T : List ℕ → Type 0 = λ b. IsNotTaken strict game b e fault in
-    not_taken_so strict names games game bytes e fault (subst C long checked) (subst T tells not)
+    inr (e, (subst C long checked, subst T tells not))
 
 -- An entry that fails before its record is read.
 pub checked_told : (told : Option (List ℕ)) (strict : Bool) (names : NameLists) (end game : ℕ) (bytes : List ℕ) (fault : BaseFault) →
@@ -217,7 +202,7 @@ pub passes_of : (strict : Bool) (index : List ℕ) (names : NameLists) (games : 
     Passes strict names games i (entry_bytes index i)
 passes_of strict index names games entries mended r i below =
     let a = read_at strict index names games entries mended r i below in
-    record { fields = a.read.fields; sig = a.read.sig; signs = a.read.signs; derived = λ is. a.read.differs ∙ a.read.strictly is }
+    record { fields = a.read.fields; checked = a.read.checked; sig = a.read.sig; signs = a.read.signs; derived = λ is. a.read.differs ∙ a.read.strictly is }
 
 -- The first that fails, behind those that were read.
 pub fails_told : (told : Option (List ℕ)) (strict : Bool) (index : List ℕ) (names : NameLists) (entries : List Entry) (mended game count : ℕ) (fault : BaseFault) → length entries ≡ game → game < count →

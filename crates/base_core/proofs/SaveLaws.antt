@@ -13,7 +13,7 @@ use Rattle.index_entry.specs.declared.entry.Entry.{Entry}
 use Rattle.index_entry.specs.declared.fault.IndexFault.TheVariants.{Short, Magic, Version, Games, Length}
 use Rattle.index_entry.specs.declared.index.IndexHead.{IndexHead}
 use Rattle.name_base.specs.NameLists.{AreSound, NameLists}
-use Rattle.name_base.specs.NamesFile.{NameFile}
+use Rattle.name_base.specs.Reading.{names_at}
 use Rattle.name_base.specs.NamesText.{IsNamesText}
 use Rattle.name_base.proofs.AgainLemmas.{text_again}
 use Rattle.name_base.proofs.FileLemmas.{names_again}
@@ -95,13 +95,13 @@ written-at kept index i e is read at =
 -- ---- what is written means the base.
 
 -- The names file of what is kept.
-pub names-written : (kept : Kept) (names : List ℕ) → AreSound kept.names → IsNamesText kept.names (frequencies_of kept.names kept.entries) names → NameFile names kept.names
+pub names-written : (kept : Kept) (names : List ℕ) → AreSound kept.names → IsNamesText kept.names (frequencies_of kept.names kept.entries) names → names_at names ≡ Ok kept.names
 names-written kept names sound is =
-    text_again kept.names (frequencies_of kept.names kept.entries) names sound
+    names_again names kept.names (text_again kept.names (frequencies_of kept.names kept.entries) names sound
     (are-frequencies kept.names.players (player_uses kept.entries))
     (are-frequencies kept.names.events (uses_of (λ e. e.event) kept.entries))
     (are-frequencies kept.names.sites (uses_of (λ e. e.site) kept.entries))
-    (are-frequencies kept.names.rounds (uses_of (λ e. e.round) kept.entries)) is
+    (are-frequencies kept.names.rounds (uses_of (λ e. e.round) kept.entries)) is)
 
 -- The game at a place, and its entry.
 record At (kept : Kept) (games : List ℕ) (i : ℕ) (held : Held) : Type 0 where
@@ -115,28 +115,7 @@ game-at kept games base i held sound is at =
     let e = get_some kept.entries i (subst (λ n. i < n) (sym is.count) (slice_get_within base.games i held at)) in
     record { e = e.0; at = e.1; keeps = is.each i e.0 held e.1 at; is = at-all (IsKept kept.names kept.end) kept.entries i e.0 sound.entries e.1 }
 
-written-games : (kept : Kept) (index games : List ℕ) (base : Base) → IsSound kept → IsIndexOf kept index → index_read index ≡ Ok kept.header → Represents kept games base → AreGames index kept.names games base.header.games base.games
-written-games kept index games base sound written read is = record {
-  long = sym is.count ∙ (sound.count ∙ ap (λ (h : IndexHead). h.games) is.header);
-  each = λ i held at.
-      let g = game-at kept games base i held sound is at in
-      record { fields = g.e; read = written-at kept index i g.e written read g.at; named = g.is.named; says = g.keeps.says };
-}
-
-pub written-means : (kept : Kept) (index names games : List ℕ) (base : Base) → IsSound kept → Writes kept index names → index_read index ≡ Ok kept.header → kept.end ≡ length games → Represents kept games base →
-    Means index names games base
-written-means kept index names games base sound writes read end is =
-    let N : NameLists → Type 0 = λ n. NameFile names n in
-    let G : NameLists → Type 0 = λ n. AreGames index n games base.header.games base.games in
-    record {
-      header = read ∙ ap (λ (h : IndexHead). Ok h) is.header;
-      lists = subst N is.names (names-written kept names sound.names writes.uses);
-      end = sym is.end ∙ end;
-      held = subst G is.names (written-games kept index games base sound writes.entries read is);
-    }
-
--- ---- and has no fault.
-
+-- Its ids have names.
 no-id-fault : (names : NameLists) (e : Entry) → HasNames names e → id_fault names e ≡ None
 unfolding id_fault
 no-id-fault names e has =
@@ -148,6 +127,28 @@ no-id-fault names e has =
       lt-leb (length names.rounds) e.round has.round,
     ) refl
 
+written-games : (kept : Kept) (index games : List ℕ) (base : Base) → IsSound kept → IsIndexOf kept index → index_read index ≡ Ok kept.header → Represents kept games base → AreGames index kept.names games base.header.games base.games
+written-games kept index games base sound written read is = record {
+  long = sym is.count ∙ (sound.count ∙ ap (λ (h : IndexHead). h.games) is.header);
+  each = λ i held at.
+      let g = game-at kept games base i held sound is at in
+      record { fields = g.e; read = written-at kept index i g.e written read g.at; named = no-id-fault kept.names g.e g.is.named; says = g.keeps.says };
+}
+
+pub written-means : (kept : Kept) (index names games : List ℕ) (base : Base) → IsSound kept → Writes kept index names → index_read index ≡ Ok kept.header → kept.end ≡ length games → Represents kept games base →
+    Means index names games base
+written-means kept index names games base sound writes read end is =
+    let N : NameLists → Type 0 = λ n. names_at names ≡ Ok n in
+    let G : NameLists → Type 0 = λ n. AreGames index n games base.header.games base.games in
+    record {
+      header = read ∙ ap (λ (h : IndexHead). Ok h) is.header;
+      lists = subst N is.names (names-written kept names sound.names writes.uses);
+      end = sym is.end ∙ end;
+      held = subst G is.names (written-games kept index games base sound writes.entries read is);
+    }
+
+-- ---- and has no fault.
+
 checks : (names : NameLists) (end game : ℕ) (bytes : List ℕ) (e : Entry) → entry_read bytes ≡ Ok e → id_fault names e ≡ None → place_fault end e ≡ None → entry_checked names end game bytes ≡ Ok e
 unfolding entry_checked
 checks names end game bytes e read named placed = rw (read, named, placed) refl
@@ -158,14 +159,9 @@ passes strict kept index games i held written read end g =
     let P : ℕ → Type 0 = λ n. place_fault n g.e ≡ None in
     record {
       fields = g.e;
+      checked = checks kept.names (length games) i (entry_bytes index i) g.e (written-at kept index i g.e written read g.at) (no-id-fault kept.names g.e g.is.named) (subst P end g.is.placed);
       sig = sig_in g.e;
-      signs = record {
-        checked = checks kept.names (length games) i (entry_bytes index i) g.e (written-at kept index i g.e written read g.at) (no-id-fault kept.names g.e g.is.named) (subst P end g.is.placed);
-        tags = g.keeps.says.tags;
-        tree = held.game;
-        read = g.keeps.says.read;
-        signed = g.keeps.signed;
-      };
+      signs = record { tags = g.keeps.says.tags; tree = held.game; read = g.keeps.says.read; signed = g.keeps.signed };
       derived = λ strictly. own-sig g.e;
     }
 
@@ -173,7 +169,7 @@ faultless : (kept : Kept) (index names games : List ℕ) (base : Base) (strict :
     Represents kept games base → FirstFault strict index names games fault → ⊥
 faultless kept index names games base strict fault sound writes read end is =
     none_fails strict index names games (record { header = kept.header; names = kept.names }) fault
-    (whole_is index names kept.header kept.names read (names_again names kept.names (names-written kept names sound.names writes.uses)))
+    (whole_is index names kept.header kept.names read (names-written kept names sound.names writes.uses))
     (λ i below.
     let held = get_some base.games i (subst (λ n. i < n) (sym sound.count ∙ is.count) below) in
     passes strict kept index games i held.0 writes.entries read end (game-at kept games base i held.0 sound is held.1))

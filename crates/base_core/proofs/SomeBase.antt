@@ -1,5 +1,5 @@
 -- Three files have a first fault, or mean a base of which each entry passes.
-use Rattle.std.proofs.Common.{◌≡◌, ◌<◌, ◌≤◌, ◌+◌, ◌⊎◌, ℕ, zero, suc, Bool, true, false, List, [], ◌∷◌, ◌++◌, length, get_or, slice_get, Option, Some, None, Result, Ok, Err, IfOk, IfErr, refl, sym, ap, ◌∙◌, subst, inl, inr, arith, true≢false, eq-or-lt_of_le}
+use Rattle.std.proofs.Common.{◌≡◌, ◌<◌, ◌≤◌, ◌+◌, ◌⊎◌, ℕ, zero, suc, Bool, true, false, List, [], ◌∷◌, ◌++◌, length, slice_get, Option, Some, None, Result, Ok, Err, IfOk, IfErr, refl, sym, ap, ◌∙◌, subst, inl, inr, arith, true≢false, eq-or-lt_of_le}
 use Rattle.std.proofs.lemmas.List.{length_push}
 use Rattle.std.proofs.lemmas.Option.{same_Some, none-some, slice_get_within}
 use Rattle.base_files.specs.Extents.{record_in}
@@ -17,7 +17,6 @@ use Rattle.index_entry.specs.declared.fault.IndexFault.{IndexFault}
 use Rattle.name_base.specs.NameLists.{NameLists}
 use Rattle.name_base.specs.Reading.{names_at}
 use Rattle.name_base.specs.declared.fault.NameFault.{NameFault}
-use Rattle.name_base.proofs.FileLemmas.{names_take}
 use Rattle.sig_index.specs.Signature.{IsSig}
 use Rattle.sig_index.specs.declared.signature.Sig.{Sig}
 use Rattle.base_core.specs.declared.fault.BaseFault.{BaseFault}
@@ -28,7 +27,7 @@ use Rattle.base_core.specs.Entries.{extent_of, head_of}
 use Rattle.base_core.specs.FirstFault.{AllPass, entry_checked, derived_fault, Signs, Passes, Fails, EntryFails, FirstFault}
 use Rattle.base_core.specs.Means.{IsEntryOf, Means}
 use Rattle.base_core.specs.Reading.{IsDecided, IsGameDecided}
-use Rattle.base_core.proofs.CheckLaws.{checked, ends_within, has_names}
+use Rattle.base_core.proofs.CheckLaws.{checked, ends_within}
 use Rattle.base_core.proofs.Lists.{get_push_new, get_push_old}
 use Rattle.base_core.proofs.Results.{same_ok}
 use Rattle.base_core.proofs.OpenLaws.{whole_is, index_fails, names_fail}
@@ -36,7 +35,7 @@ use Rattle.base_core.proofs.OpenLaws.{whole_is, index_fails, names_fail}
 -- Bytes are decided by what their reading answers.
 pub decided_by : (r : Result Sig RecordFault) (bytes : List ℕ) → IfOk r (λ s. (tags : List Tag) × ((tree : GameTree) × (IsRecord bytes tags tree × IsSig tree s))) →
     IfErr r (IsRecordFault bytes) → IsDecided bytes
-decided_by (Ok s) bytes ok err = inl (ok.0, (ok.1.0, (s, (ok.1.1.0, ok.1.1.1))))
+decided_by (Ok s) bytes ok err = inl (s, record { tags = ok.0; tree = ok.1.0; read = ok.1.1.0; signed = ok.1.1.1 })
 decided_by (Err what) bytes ok err = inr (what, err)
 
 pub game_decided : (index games bytes : List ℕ) (game : ℕ) (e : Entry) → Ok e ≡ entry_read bytes → bytes ≡ entry_bytes index game → IsDecided (record_in games (extent_of e)) → IsGameDecided index games game
@@ -57,21 +56,17 @@ abbrev PassesOrFails : Bool → NameLists → List ℕ → List ℕ → ℕ → 
 PassesOrFails strict names index games game =
     Passes strict names games game (entry_bytes index game) ⊎ ((fault : BaseFault) × Fails strict names games game (entry_bytes index game) fault)
 
-by_derived : (strict : Bool) (names : NameLists) (games : List ℕ) (game : ℕ) (bytes : List ℕ) (e : Entry) (s : Sig) (d : Option DerivedField) → Signs names games game bytes e s → derived_fault e s ≡ d →
-    Passes strict names games game bytes ⊎ ((fault : BaseFault) × Fails strict names games game bytes fault)
-by_derived strict names games game bytes e s None signs same = inl (record { fields = e; sig = s; signs = signs; derived = λ is. same })
-by_derived true names games game bytes e s (Some field) signs same =
-    inr (Derived game field, inr (inr (record { fields = e; sig = s; field = field; asked = refl; signs = signs; differs = same; is = refl })))
-by_derived false names games game bytes e s (Some field) signs same =
-    inl (record { fields = e; sig = s; signs = signs; derived = λ is. absurd (true≢false (sym is)) })
+by_derived : (strict : Bool) (names : NameLists) (games : List ℕ) (game : ℕ) (bytes : List ℕ) (e : Entry) (s : Sig) (d : Option DerivedField) → entry_checked names (length games) game bytes ≡ Ok e →
+    Signs (record_in games (extent_of e)) s → derived_fault e s ≡ d → Passes strict names games game bytes ⊎ ((fault : BaseFault) × Fails strict names games game bytes fault)
+by_derived strict names games game bytes e s None passed signs same = inl (record { fields = e; checked = passed; sig = s; signs = signs; derived = λ is. same })
+by_derived true names games game bytes e s (Some field) passed signs same = inr (Derived game field, inr (e, (passed, inr (refl, (s, (signs, (field, (same, refl))))))))
+by_derived false names games game bytes e s (Some field) passed signs same =
+    inl (record { fields = e; checked = passed; sig = s; signs = signs; derived = λ is. absurd (true≢false (sym is)) })
 
 by_record : (strict : Bool) (names : NameLists) (games : List ℕ) (game : ℕ) (bytes : List ℕ) (e : Entry) → entry_checked names (length games) game bytes ≡ Ok e → IsDecided (record_in games (extent_of e)) →
     Passes strict names games game bytes ⊎ ((fault : BaseFault) × Fails strict names games game bytes fault)
-by_record strict names games game bytes e passed (inl d) =
-    by_derived strict names games game bytes e d.1.1.0 (derived_fault e d.1.1.0)
-    (record { checked = passed; tags = d.0; tree = d.1.0; read = d.1.1.1.0; signed = d.1.1.1.1 }) refl
-by_record strict names games game bytes e passed (inr d) =
-    inr (Packed game d.0, inr (inl (record { fields = e; what = d.0; checked = passed; broken = d.1; is = refl })))
+by_record strict names games game bytes e passed (inl d) = by_derived strict names games game bytes e d.0 (derived_fault e d.0) passed d.1 refl
+by_record strict names games game bytes e passed (inr d) = inr (Packed game d.0, inr (e, (passed, inl (d.0, (d.1, refl)))))
 
 by_checks : (strict : Bool) (names : NameLists) (index games : List ℕ) (game : ℕ) (r : Result Entry BaseFault) → entry_checked names (length games) game (entry_bytes index game) ≡ r →
     IsGameDecided index games game → PassesOrFails strict names index games game
@@ -109,13 +104,13 @@ AreFirst names index games n all =
 game_of : (strict : Bool) (names : NameLists) (games : List ℕ) (game : ℕ) (bytes : List ℕ) → Passes strict names games game bytes → (held : Held) × IsEntryOf names games bytes held
 game_of strict names games game bytes p =
     let e = p.fields in
-    let c = checked names (length games) game bytes e p.signs.checked in
+    let c = checked names (length games) game bytes e p.checked in
     let held : Held = record { head = settled (head_of names e p.signs.tags); game = p.signs.tree; len = e.len } in (
       held,
       record {
         fields = e;
         read = c.read;
-        named = has_names names e c.named;
+        named = c.named;
         says = record { tags = p.signs.tags; within = ends_within (length games) e c.placed; read = p.signs.read; head = refl; len = refl };
       },
     )
@@ -147,25 +142,25 @@ FaultOrBase strict index names games =
     ((fault : BaseFault) × FirstFault strict index names games fault)
     ⊎ ((base : Base) × (Means index names games base × AllPass strict index base.names games base.header.games))
 
-by_entries : (strict : Bool) (index names games : List ℕ) (header : IndexHead) (lists : NameLists) → ((i : ℕ) → get_or names i 0 < 256) → index_read index ≡ Ok header → names_at names ≡ Ok lists →
+by_entries : (strict : Bool) (index names games : List ℕ) (header : IndexHead) (lists : NameLists) → index_read index ≡ Ok header → names_at names ≡ Ok lists →
     Until strict lists index games header.games header.games → FaultOrBase strict index names games
-by_entries strict index names games header lists fit one two (inr fails) =
+by_entries strict index names games header lists one two (inr fails) =
     inl (fails.0, inr (record { header = header; names = lists }, (whole_is index names header lists one two, fails.1)))
-by_entries strict index names games header lists fit one two (inl passes) =
+by_entries strict index names games header lists one two (inl passes) =
     let all = games_upto strict lists index games header.games passes in
     inr (
       record { header = header; names = lists; games = all.0; end = length games },
-      (record { header = one; lists = names_take names lists fit two; end = refl; held = record { long = all.1.0; each = all.1.1 } }, passes),
+      (record { header = one; lists = two; end = refl; held = record { long = all.1.0; each = all.1.1 } }, passes),
     )
 
-by_names : (strict : Bool) (index names games : List ℕ) (header : IndexHead) (r : Result NameLists NameFault) → ((i : ℕ) → get_or names i 0 < 256) → index_read index ≡ Ok header → names_at names ≡ r →
+by_names : (strict : Bool) (index names games : List ℕ) (header : IndexHead) (r : Result NameLists NameFault) → index_read index ≡ Ok header → names_at names ≡ r →
     ((i : ℕ) → i < header.games → IsGameDecided index games i) → FaultOrBase strict index names games
-by_names strict index names games header (Err fault) fit one two decided = inl (_, inl (names_fail index names header fault one two))
-by_names strict index names games header (Ok lists) fit one two decided =
-    by_entries strict index names games header lists fit one two (until strict lists index games header.games header.games (omega arith) decided)
+by_names strict index names games header (Err fault) one two decided = inl (_, inl (names_fail index names header fault one two))
+by_names strict index names games header (Ok lists) one two decided =
+    by_entries strict index names games header lists one two (until strict lists index games header.games header.games (omega arith) decided)
 
 -- Three files of which each record is decided have a first fault, or mean a base of which each entry passes.
-pub fault_or_base : (strict : Bool) (index names games : List ℕ) (r : Result IndexHead IndexFault) → ((i : ℕ) → get_or names i 0 < 256) → r ≡ index_read index →
+pub fault_or_base : (strict : Bool) (index names games : List ℕ) (r : Result IndexHead IndexFault) → r ≡ index_read index →
     IfOk r (λ header. (i : ℕ) → i < header.games → IsGameDecided index games i) → FaultOrBase strict index names games
-fault_or_base strict index names games (Err fault) fit one decided = inl (_, inl (index_fails index names fault (sym one)))
-fault_or_base strict index names games (Ok header) fit one decided = by_names strict index names games header (names_at names) fit (sym one) refl decided
+fault_or_base strict index names games (Err fault) one decided = inl (_, inl (index_fails index names fault (sym one)))
+fault_or_base strict index names games (Ok header) one decided = by_names strict index names games header (names_at names) (sym one) refl decided

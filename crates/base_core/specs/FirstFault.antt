@@ -12,7 +12,7 @@ use Rattle.index_entry.specs.Index.{index_read, entry_bytes}
 use Rattle.index_entry.specs.declared.entry.Entry.{Entry}
 use Rattle.index_entry.specs.declared.index.IndexHead.{IndexHead}
 use Rattle.name_base.specs.NameLists.{NameLists}
-use Rattle.name_base.specs.Reading.{names_at}
+use Rattle.name_base.specs.Reading.{◌>>=◌, names_at}
 use Rattle.sig_index.specs.Signature.{IsSig}
 use Rattle.sig_index.specs.declared.signature.Sig.{Sig}
 use Rattle.base_core.specs.Entries.{extent_of}
@@ -34,12 +34,6 @@ blamed blame (Err fault) = Err (blame fault)
 abbrev pub unless : {A E : Type 0} → (E → BaseFault) → Option E → Result A BaseFault → Result A BaseFault
 unless blame None next = next
 unless blame (Some fault) next = Err (blame fault)
-
-infixl 10 ◌>>=◌
--- The next step with what was read, unless there is a fault.
-abbrev pub ◌>>=◌ : {A B : Type 0} → Result A BaseFault → (A → Result B BaseFault) → Result B BaseFault
-(Ok x) >>= next = next x
-(Err fault) >>= next = Err fault
 
 -- 1, 2. What the whole base has: the header of the index, and the names.
 pub record Whole : Type 0 where
@@ -90,48 +84,36 @@ derived_fault e s =
     else if not (bytes_eq e.home s.home.values) then Some derived.Home
     else None
 
--- The entry of a game passes as far as its record: the record is one of a game with this signature.
-pub record Signs (names : NameLists) (games : List ℕ) (game : ℕ) (bytes : List ℕ) (e : Entry) (s : Sig) : Type 0 where
-  pub checked : entry_checked names (length games) game bytes ≡ Ok e
+-- The bytes are a record of a game with this signature.
+pub record Signs (bytes : List ℕ) (s : Sig) : Type 0 where
   pub tags : List Tag
   pub tree : GameTree
-  pub read : IsRecord (record_in games (extent_of e)) tags tree
+  pub read : IsRecord bytes tags tree
   pub signed : IsSig tree s
 
 -- The entry of a game has no fault; derived fields count where the opening is strict.
 pub record Passes (strict : Bool) (names : NameLists) (games : List ℕ) (game : ℕ) (bytes : List ℕ) : Type 0 where
   pub fields : Entry
+  pub checked : entry_checked names (length games) game bytes ≡ Ok fields
   pub sig : Sig
-  pub signs : Signs names games game bytes fields sig
+  pub signs : Signs (record_in games (extent_of fields)) sig
   pub derived : IsTrue strict → derived_fault fields sig ≡ None
 
 -- So do the first so many entries.
 abbrev pub AllPass : Bool → List ℕ → NameLists → List ℕ → ℕ → Type 0
 AllPass strict index names games count = (i : ℕ) → i < count → Passes strict names games i (entry_bytes index i)
 
--- Its record is none, with this first fault.
-pub record BreaksRecord (names : NameLists) (games : List ℕ) (game : ℕ) (bytes : List ℕ) (fault : BaseFault) : Type 0 where
-  pub fields : Entry
-  pub what : RecordFault
-  pub checked : entry_checked names (length games) game bytes ≡ Ok fields
-  pub broken : IsRecordFault (record_in games (extent_of fields)) what
-  pub is : fault ≡ Packed game what
-
--- The opening is strict, and a derived field differs from the record's.
-pub record Differs (strict : Bool) (names : NameLists) (games : List ℕ) (game : ℕ) (bytes : List ℕ) (fault : BaseFault) : Type 0 where
-  pub fields : Entry
-  pub sig : Sig
-  pub field : DerivedField
-  pub asked : IsTrue strict
-  pub signs : Signs names games game bytes fields sig
-  pub differs : derived_fault fields sig ≡ Some field
-  pub is : fault ≡ Derived game field
+-- The record of an entry is none, with this first fault, or the opening is strict, and a derived field differs from the record's signature.
+abbrev pub IsNotTaken : Bool → ℕ → List ℕ → Entry → BaseFault → Type 0
+IsNotTaken strict game bytes e fault =
+    ((what : RecordFault) × (IsRecordFault bytes what × (fault ≡ Packed game what)))
+    ⊎ (IsTrue strict × ((s : Sig) × (Signs bytes s × ((field : DerivedField) × ((derived_fault e s ≡ Some field) × (fault ≡ Derived game field))))))
 
 -- The first fault of the entry of a game: of the entry itself, of its record, of its derived fields.
 abbrev pub Fails : Bool → NameLists → List ℕ → ℕ → List ℕ → BaseFault → Type 0
 Fails strict names games game bytes fault =
     (entry_checked names (length games) game bytes ≡ Err fault)
-    ⊎ (BreaksRecord names games game bytes fault ⊎ Differs strict names games game bytes fault)
+    ⊎ ((e : Entry) × ((entry_checked names (length games) game bytes ≡ Ok e) × IsNotTaken strict game (record_in games (extent_of e)) e fault))
 
 -- One of so many entries has this fault, and all before it pass.
 pub record EntryFails (strict : Bool) (index : List ℕ) (names : NameLists) (games : List ℕ) (count : ℕ) (fault : BaseFault) : Type 0 where

@@ -14,12 +14,10 @@ use Rattle.index_entry.specs.declared.entry.Entry.{Entry}
 use Rattle.name_base.specs.NameLists.{NameLists}
 use Rattle.sig_index.specs.Signature.{IsSig}
 use Rattle.sig_index.specs.declared.signature.Sig.{Sig}
-use Rattle.base_core.specs.declared.fault.BaseFault.{BaseFault}
-use Rattle.base_core.specs.declared.fault.BaseFault.TheVariants.{Packed, Derived}
 use Rattle.base_core.specs.declared.fault.DerivedField.{DerivedField}
 use Rattle.base_core.specs.Base.{Held}
 use Rattle.base_core.specs.Entries.{Says, extent_of, head_of}
-use Rattle.base_core.specs.FirstFault.{Signs, derived_fault}
+use Rattle.base_core.specs.FirstFault.{Signs, derived_fault, entry_checked}
 use Rattle.base_core.specs.Represents.{Keeps}
 
 -- The entry with the derived fields of a signature and this event date.
@@ -59,18 +57,12 @@ pub record IsTaken (strict : Bool) (bytes : List ℕ) (e kept : Entry) (mended :
 abbrev pub IsMended : List ℕ → Entry → Entry → Type 0
 IsMended bytes e kept = (sig : Sig) × ((date : Date) × (IsSigned bytes e sig date × (kept ≡ kept_entry e sig date)))
 
--- They are no record, or refused by a strict opening.
-abbrev pub IsNotTaken : Bool → ℕ → List ℕ → Entry → BaseFault → Type 0
-IsNotTaken strict game bytes e fault =
-    ((what : RecordFault) × (IsRecordFault bytes what × (fault ≡ Packed game what)))
-    ⊎ (IsTrue strict × ((tags : List Tag) × ((tree : GameTree) × ((s : Sig) × ((field : DerivedField)
-    × (IsRecord bytes tags tree × (IsSig tree s × ((derived_fault e s ≡ Some field) × (fault ≡ Derived game field)))))))))
-
 -- What was read of one game: the game, the signature of which the entry may differ, and what is kept.
 pub record IsRead (strict : Bool) (names : NameLists) (games : List ℕ) (game : ℕ) (bytes : List ℕ) (kept : Entry) (held : Held) (field : Option DerivedField) : Type 0 where
   pub fields : Entry
+  pub checked : entry_checked names (length games) game bytes ≡ Ok fields
   pub sig : Sig
-  pub signs : Signs names games game bytes fields sig
+  pub signs : Signs (record_in games (extent_of fields)) sig
   pub says : Says names games fields held
   pub signed : IsSig held.game sig
   pub keeps : Keeps names games kept held
@@ -97,9 +89,7 @@ pub record AreRead (strict : Bool) (index : List ℕ) (names : NameLists) (games
 
 -- The bytes are a record of a game that has a signature, or have a first fault.
 abbrev pub IsDecided : List ℕ → Type 0
-IsDecided bytes =
-    ((tags : List Tag) × ((tree : GameTree) × ((s : Sig) × (IsRecord bytes tags tree × IsSig tree s))))
-    ⊎ ((what : RecordFault) × IsRecordFault bytes what)
+IsDecided bytes = ((s : Sig) × Signs bytes s) ⊎ ((what : RecordFault) × IsRecordFault bytes what)
 
 -- So are those of the record of a game, where its entry can be read and the record lies within the games file.
 abbrev pub IsGameDecided : List ℕ → List ℕ → ℕ → Type 0

@@ -71,10 +71,10 @@ whole_so : (index : List ℕ) (names : PartLists) (games : List ℕ) (game : ℕ
     missing ≡ missing_in names e → IsReadSo false (filled_names names) games game (entry_bytes index game) kept mended → KeepsWhole index names games game kept missing
 whole_so index names games game e kept missing mended there checked first read =
     let fields = read.read.fields in
-    let same : fields ≡ e = one-entry (filled_names names) (length games) game (entry_bytes index game) e fields checked read.read.signs.checked in
+    let same : fields ≡ e = one-entry (filled_names names) (length games) game (entry_bytes index game) e fields checked read.read.checked in
     record {
       held = read.held;
-      place = (there, record { fields = fields; checked = read.read.signs.checked; says = read.read.says; missing = first ∙ ap (missing_in names) (sym same) });
+      place = (there, record { fields = fields; checked = read.read.checked; says = read.read.says; missing = first ∙ ap (missing_in names) (sym same) });
       keeps = read.read.keeps;
     }
 

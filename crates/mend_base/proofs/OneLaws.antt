@@ -1,14 +1,14 @@
 -- A game has one place.
 use Rattle.std.proofs.Common.{◌≡◌, ◌≤◌, ◌<◌, ◌+◌, ◌*◌, ℕ, false, List, length, Option, Result, Ok, Err, sym, ap, ◌∙◌, subst, inl, inr, arith, true≢false}
 use Rattle.base_files.specs.Extents.{record_in}
-use Rattle.game_codec.specs.Record.{IsRecord}
 use Rattle.game_codec.proofs.DecodeLaws.{record-unbroken}
 use Rattle.index_entry.specs.Index.{entry_bytes}
 use Rattle.index_entry.specs.declared.entry.Entry.{Entry}
+use Rattle.name_base.specs.NameLists.{NameLists}
 use Rattle.name_base.specs.PartNames.{PartLists, filled_names}
 use Rattle.base_core.specs.Base.{Held}
 use Rattle.base_core.specs.Entries.{Says, extent_of}
-use Rattle.base_core.specs.FirstFault.{Fails}
+use Rattle.base_core.specs.FirstFault.{Fails, IsNotTaken}
 use Rattle.base_core.specs.declared.fault.BaseFault.{BaseFault}
 use Rattle.base_core.specs.declared.fault.IdField.{IdField}
 use Rattle.base_core.proofs.Lists.{same_lists}
@@ -17,14 +17,18 @@ use Rattle.base_core.proofs.OneFault.{fails-one}
 use Rattle.base_core.proofs.Results.{ok_err, same_ok}
 use Rattle.mend_base.specs.Places.{ArePlaces, Found, HasEntry, IsCut, IsPlace, IsWhole, Place, missing_in}
 
--- A game that is whole has no fault.
+-- A record that an entry says has no fault.
+says-taken : (names : NameLists) (games : List ℕ) (game : ℕ) (e : Entry) (held : Held) (fault : BaseFault) → Says names games e held → IsNotTaken false game (record_in games (extent_of e)) e fault → ⊥
+says-taken names games game e held fault says (inl f) = record-unbroken (record_in games (extent_of e)) says.tags held.game f.0 says.read f.1.0
+says-taken names games game e held fault says (inr f) = true≢false (sym f.0)
+
+-- A game that is whole has none.
 whole-unbroken : (names : PartLists) (games : List ℕ) (game : ℕ) (bytes : List ℕ) (found : Found) (fault : BaseFault) → IsWhole names games game bytes found → Fails false (filled_names names) games game bytes fault → ⊥
 whole-unbroken names games game bytes found fault is (inl f) = ok_err _ is.fields fault is.checked f
-whole-unbroken names games game bytes found fault is (inr (inl f)) =
-    let fields : is.fields ≡ f.fields = same_ok _ is.fields f.fields is.checked f.checked in
-    let R : Entry → Type 0 = λ e. IsRecord (record_in games (extent_of e)) is.says.tags found.held.game in
-    record-unbroken (record_in games (extent_of f.fields)) is.says.tags found.held.game f.what (subst R fields is.says.read) f.broken
-whole-unbroken names games game bytes found fault is (inr (inr f)) = true≢false (sym f.asked)
+whole-unbroken names games game bytes found fault is (inr f) =
+    let fields : f.0 ≡ is.fields = same_ok _ f.0 is.fields f.1.0 is.checked in
+    let N : Entry → Type 0 = λ e. IsNotTaken false game (record_in games (extent_of e)) e fault in
+    says-taken (filled_names names) games game is.fields found.held fault is.says (subst N fields f.1.1)
 
 whole-one : (names : PartLists) (games : List ℕ) (game : ℕ) (bytes : List ℕ) (found other : Found) → IsWhole names games game bytes found → IsWhole names games game bytes other → found ≡ other
 whole-one names games game bytes found other x y =

@@ -9,17 +9,15 @@ use Rattle.index_entry.specs.Index.{entry_bytes, index_read}
 use Rattle.index_entry.specs.declared.entry.Entry.{Entry}
 use Rattle.index_entry.proofs.HeaderLemmas.{index-whole}
 use Rattle.name_base.specs.NameLists.{NameLists}
-use Rattle.name_base.specs.NamesFile.{NameFile}
 use Rattle.name_base.specs.PartNames.{all_known, filled, filled_names, names_in_part}
-use Rattle.name_base.proofs.KindLemmas.{stores-AreNames}
-use Rattle.name_base.proofs.PartLemmas.{all-filled, all-met, length-filled, part-whole}
+use Rattle.name_base.proofs.PartLemmas.{AreFew, all-filled, all-met, length-filled, read-whole}
 use Rattle.base_core.specs.Base.{Base, Held}
 use Rattle.base_core.specs.Entries.{HasNames, Says, head_of, name_at}
 use Rattle.base_core.specs.FirstFault.{FirstFault, Passes, entry_checked, id_fault}
 use Rattle.base_core.specs.Means.{IsEntryOf, Means}
 use Rattle.base_core.specs.declared.fault.BaseFault.{BaseFault}
 use Rattle.base_core.specs.declared.fault.IdField.{IdField}
-use Rattle.base_core.proofs.CheckLaws.{checked}
+use Rattle.base_core.proofs.CheckLaws.{checked, has_names}
 use Rattle.base_core.proofs.Lists.{get_some, same_lists}
 use Rattle.base_core.proofs.OneBase.{says-one}
 use Rattle.base_core.proofs.OneFault.{passes_fails}
@@ -29,21 +27,6 @@ use Rattle.mend_base.specs.Places.{ArePlaces, ComesOver, Found, IsPlace, IsWhole
 use Rattle.mend_base.specs.declared.report.Note.{Note}
 
 -- ---- names that are all there.
-
--- There are no more than the ids of an entry can tell apart.
-record AreFew (names : NameLists) : Type 0 where
-  players : length names.players ≤ 1048576
-  events : length names.events ≤ 524288
-  sites : length names.sites ≤ 524288
-  rounds : length names.rounds ≤ 262144
-
-are-few : (bytes : List ℕ) (names : NameLists) → NameFile bytes names → AreFew names
-are-few bytes names f = record {
-  players = omega (arith, (stores-AreNames _ f.players names.players f.player_names).within, f.counts.players);
-  events = omega (arith, (stores-AreNames _ f.events names.events f.event_names).within, f.counts.events);
-  sites = omega (arith, (stores-AreNames _ f.sites names.sites f.site_names).within, f.counts.sites);
-  rounds = omega (arith, (stores-AreNames _ f.rounds names.rounds f.round_names).within, f.counts.rounds);
-}
 
 module _ (names : NameLists) (few : AreFew names) (e : Entry) (has : HasNames names e) where
   name_same : (limit : ℕ) (list : List (List ℕ)) (id : ℕ) → length list ≤ limit → id < length list → name_at (filled limit (map Some list)) id ≡ name_at list id
@@ -91,8 +74,9 @@ checked_filled names few end game bytes e has is =
 passes_filled : (names : NameLists) (few : AreFew names) (games : List ℕ) (game : ℕ) (bytes : List ℕ) → (p : Passes false names games game bytes) → HasNames names p.fields → Passes false (filled_names (all_known names)) games game bytes
 passes_filled names few games game bytes p has = record {
   fields = p.fields;
+  checked = checked_filled names few (length games) game bytes p.fields has p.checked;
   sig = p.sig;
-  signs = record { checked = checked_filled names few (length games) game bytes p.fields has p.signs.checked; tags = p.signs.tags; tree = p.signs.tree; read = p.signs.read; signed = p.signs.signed };
+  signs = p.signs;
   derived = p.derived;
 }
 
@@ -105,20 +89,21 @@ place_whole : (index : List ℕ) (names : NameLists) (games : List ℕ) (game : 
     Passes false names games game (entry_bytes index game) → IsPlace index (all_known names) games game place → place ≡ whole held
 place_whole index names games game held (Err fault) few there is passes (inl cut) = absurd (omega (arith, there, cut.short))
 place_whole index names games game held (Err fault) few there is passes (inr fails) =
-    let read = (checked names (length games) game (entry_bytes index game) passes.fields passes.signs.checked).read in
+    let read = (checked names (length games) game (entry_bytes index game) passes.fields passes.checked).read in
     let fields : is.fields ≡ passes.fields = same_ok _ is.fields passes.fields is.read read in
-    let has = subst (λ (e : Entry). HasNames names e) fields is.named in
+    let has = subst (λ (e : Entry). HasNames names e) fields (has_names names is.fields is.named) in
     absurd (passes_fails false (filled_names (all_known names)) games game (entry_bytes index game) fault (passes_filled names few games game (entry_bytes index game) passes has) fails.1)
 place_whole index names games game held (Ok found) few there is passes (left, right) =
     let read = (checked (filled_names (all_known names)) (length games) game (entry_bytes index game) right.fields right.checked).read in
     let fields : right.fields ≡ is.fields = same_ok _ right.fields is.fields read is.read in
+    let named = has_names names is.fields is.named in
     let tags = right.says.tags in
     let head : found.held.head ≡ settled (head_of names is.fields tags) =
-    right.says.head ∙ (ap (λ (e : Entry). settled (head_of (filled_names (all_known names)) e tags)) fields ∙ ap settled (head_same names few is.fields is.named tags)) in
+    right.says.head ∙ (ap (λ (e : Entry). settled (head_of (filled_names (all_known names)) e tags)) fields ∙ ap settled (head_same names few is.fields named tags)) in
     let says_filled = subst (λ (e : Entry). Says (filled_names (all_known names)) games e found.held) fields right.says in
-    let says : Says names games is.fields found.held = record { tags = says_filled.tags; within = says_filled.within; read = says_filled.read; head = says_filled.head ∙ ap settled (head_same names few is.fields is.named says_filled.tags); len = says_filled.len } in
+    let says : Says names games is.fields found.held = record { tags = says_filled.tags; within = says_filled.within; read = says_filled.read; head = says_filled.head ∙ ap settled (head_same names few is.fields named says_filled.tags); len = says_filled.len } in
     let same : found.held ≡ held = says-one names games is.fields found.held held says is.says in
-    let missing : found.missing ≡ None = right.missing ∙ (ap (missing_in (all_known names)) fields ∙ none_missing names few is.fields is.named) in
+    let missing : found.missing ≡ None = right.missing ∙ (ap (missing_in (all_known names)) fields ∙ none_missing names few is.fields named) in
     let made : Held → Option IdField → Place = λ h m. Ok (record { held = h; missing = m }) in
     ap (λ (h : Held). made h found.missing) same ∙ ap (λ (m : Option IdField). made held m) missing
 
@@ -133,15 +118,15 @@ notes_whole game (held ∷ helds) = notes_whole (game + 1) helds
 places_whole : (index names games : List ℕ) (base : Base) (places : List Place) → Means index names games base → ((i : ℕ) → i < base.header.games → Passes false base.names games i (entry_bytes index i)) →
     ArePlaces index (names_in_part names) games base.header.games places → places ≡ map whole base.games
 places_whole index names games base places means passes are =
-    let few = are-few names base.names means.lists in
+    let read = read-whole names base.names means.lists in
     let long : length places ≡ length (map whole base.games) = are.long ∙ (sym means.held.long ∙ sym (length-map base.games whole)) in
     let room = index-whole index base.header means.header in
     same_lists places (map whole base.games) long (λ i p q at_p at_q.
     let below : i < base.header.games = omega (arith, slice_get_within places i p at_p, are.long) in
     let held = get_some base.games i (omega (arith, below, means.held.long)) in
     let is : whole held.0 ≡ q = same_Some (whole held.0) q (sym (slice_get-map whole base.games i ∙ ap (option_map whole) held.1) ∙ at_q) in
-    let here = subst (λ n. IsPlace index n games i p) (part-whole names base.names means.lists) (are.each i p at_p) in
-    place_whole index base.names games i held.0 p few (omega (arith, room, below)) (means.held.each i held.0 held.1) (passes i below) here ∙ is)
+    let here = subst (λ n. IsPlace index n games i p) read.part (are.each i p at_p) in
+    place_whole index base.names games i held.0 p read.few (omega (arith, room, below)) (means.held.each i held.0 held.1) (passes i below) here ∙ is)
 
 pub games-over : (index names games : List ℕ) (base : Base) (places : List Place) → Means index names games base → ((i : ℕ) → i < base.header.games → Passes false base.names games i (entry_bytes index i)) →
     ArePlaces index (names_in_part names) games base.header.games places → games_of places ≡ base.games
@@ -152,7 +137,7 @@ pub notes-over : (index names games : List ℕ) (base : Base) (places : List Pla
 notes-over index names games base places means passes are = ap (notes_from 0) (places_whole index names games base places means passes are) ∙ notes_whole 0 base.games
 
 passes_loosely : (strict : Bool) (names : NameLists) (games : List ℕ) (game : ℕ) (bytes : List ℕ) → Passes strict names games game bytes → Passes false names games game bytes
-passes_loosely strict names games game bytes p = record { fields = p.fields; sig = p.sig; signs = p.signs; derived = λ is. absurd (true≢false (sym is)) }
+passes_loosely strict names games game bytes p = record { fields = p.fields; checked = p.checked; sig = p.sig; signs = p.signs; derived = λ is. absurd (true≢false (sym is)) }
 
 -- Files without a first fault mean a base that comes over as it is.
 pub comes-over : (strict : Bool) (index names games : List ℕ) → FaultOrBase strict index names games → ((fault : BaseFault) → FirstFault strict index names games fault → ⊥) →

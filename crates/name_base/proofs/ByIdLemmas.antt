@@ -99,8 +99,8 @@ below_listed count (x ∷ es) q h e = by (eqb q x.id) refl e (below_listed count
     by true same e rest = subst (λ n. n < count) (sym (eqb-true q x.id same)) h.0
     by false other e rest = rest e
 
-pub covers : (count : ℕ) (es : List Entry) → AreMet count es → length es ≡ count → (i : ℕ) → i < count → has_id es i ≡ true
-covers count es are all i lt = by (has_id es i) refl
+pub covers : (count : ℕ) (es : List Entry) → IsDistinct eqb (ids_of es) → AllByRecursion (λ e. e.id < count) es → length es ≡ count → (i : ℕ) → i < count → has_id es i ≡ true
+covers count es ids below all i lt = by (has_id es i) refl
   where
     listed : has_id es i ≡ false → list_any (eqb i) (ids_of es) ≡ false
     listed e = list_any-map (λ e. e.id) (eqb i) es ∙ e
@@ -109,8 +109,8 @@ covers count es are all i lt = by (has_id es i) refl
     by true e = refl
     by false e =
         let apart : AllByRecursion (λ y. eqb i y ≡ false) (ids_of es) = none_pass (eqb i) (ids_of es) (listed e) in
-        let more : IsDistinct eqb (i ∷ ids_of es) = IsDistinct-cons eqb i (ids_of es) apart are.ids in
-        let few = length-le_from_distinct_below (i ∷ ids_of es) count more (λ q h. below_listed count (record { id = i; name = [] } ∷ es) q (lt, are.below) h) in
+        let more : IsDistinct eqb (i ∷ ids_of es) = IsDistinct-cons eqb i (ids_of es) apart ids in
+        let few = length-le_from_distinct_below (i ∷ ids_of es) count more (λ q h. below_listed count (record { id = i; name = [] } ∷ es) q (lt, below) h) in
         absurd (omega (arith, few, length-map es (λ e. e.id), all))
 
 -- An entry with an id, at its place.
@@ -167,7 +167,7 @@ module _ (count : ℕ) (es : List Entry) (are : AreMet count es) (all : length e
           let below : k < count = subst (λ n. k < n) length-by_id lt in
           let f = found (λ e. (slice_get (by_id count es) e.id ≡ Some e.name) × (slice_get names e.id ≡ Some e.name)) es k
           (both_of_each (λ e. slice_get (by_id count es) e.id ≡ Some e.name) (λ e. slice_get names e.id ≡ Some e.name) (λ e. (slice_get (by_id count es) e.id ≡ Some e.name) × (slice_get names e.id ≡ Some e.name)) es (λ e a b. (a, b)) placed_by_id arranged.placed)
-          (covers count es are all k below) in
+          (covers count es are.ids are.below all k below) in
           let here : get_or (by_id count es) k d ≡ f.entry.name = get_or_from_slice_get (by_id count es) k f.entry.name d (ap (slice_get (by_id count es)) (sym f.id) ∙ f.holds.0) in
           let there : get_or names k d ≡ f.entry.name = get_or_from_slice_get names k f.entry.name d (ap (slice_get names) (sym f.id) ∙ f.holds.1) in
           here ∙ sym there
@@ -183,7 +183,7 @@ module _ (count : ℕ) (es : List Entry) (are : AreMet count es) (all : length e
       at : (i : ℕ) → i < length names → Found (λ e. (slice_get names e.id ≡ Some e.name) × IsName e.name) es i
       at i lt = found (λ e. (slice_get names e.id ≡ Some e.name) × IsName e.name) es i
           (both_of_each (λ e. slice_get names e.id ≡ Some e.name) (λ e. IsName e.name) (λ e. (slice_get names e.id ≡ Some e.name) × IsName e.name) es (λ e a b. (a, b)) arranged.placed are.each)
-          (covers count es are all i (subst (λ n. i < n) (arranged.count ∙ all) lt))
+          (covers count es are.ids are.below all i (subst (λ n. i < n) (arranged.count ∙ all) lt))
 
       name_is : (i : ℕ) (d : List ℕ) (lt : i < length names) → get_or names i d ≡ (at i lt).entry.name
       name_is i d lt = get_or_from_slice_get names i (at i lt).entry.name d (ap (slice_get names) (sym (at i lt).id) ∙ (at i lt).holds.0)

@@ -10,14 +10,14 @@ use Rattle.std.proofs.lemmas.Map.Keys.{IsDistinct-push}
 use Rattle.name_base.specs.declared.header.Shape.{Shape}
 use Rattle.name_base.specs.declared.kind.NameKind.{NameKind}
 use Rattle.name_base.specs.declared.fault.NameWhat.{NameWhat}
-use Rattle.name_base.specs.NameLists.{AreNames, IsName, is_in}
+use Rattle.name_base.specs.NameLists.{IsName, is_in}
 use Rattle.name_base.specs.NamesFile.{Stored, Entry, AllFit, entries, name_after, stored_bytes, kind_bytes, Arranges, StoresKind}
 use Rattle.name_base.specs.Reading.{◌>>=◌, blamed, entry_at, entries_at, by_id, kind_at, has_id, names_of, last_name}
 use Rattle.name_base.specs.KindRead.{AreMet}
 use Rattle.name_base.proofs.NameLemmas.{list_any-map, AllByRecursion-push, bytes_equiv}
 use Rattle.name_base.proofs.FieldLemmas.{IsBytes, bind_ok, ok_is}
 use Rattle.name_base.proofs.PieceLemmas.{entry_of, entry_takes, entry_again}
-use Rattle.name_base.proofs.ByIdLemmas.{ids_of, distinct_before, by_id-Arranges, by_id-only, arranged-AreNames}
+use Rattle.name_base.proofs.ByIdLemmas.{ids_of, distinct_before, by_id-Arranges, by_id-only}
 
 -- A step that did not fail, with its place.
 pub blamed_ok : {A : Type 0} (kind : Option NameKind) (index : ℕ) (r : Result A NameWhat) (x : A) → blamed kind index r ≡ Ok x → r ≡ Ok x
@@ -148,11 +148,3 @@ kind_again kind shape stored names rest le stores =
     ap (λ n. entries_at kind shape n [] (kind_bytes shape None stored rest)) (sym stores.count) ∙ entries_again kind shape stored [] rest le stores.each stores.arranged.ids stores.arranged.once in
     let are : AreMet shape.count es = record { ids = stores.arranged.ids; once = stores.arranged.once; below = all_below shape None stored stores.each; each = all_names shape None stored stores.each } in
     ap (λ r. r >>= λ es. Ok (by_id shape.count es.0, es.1)) read ∙ ap (λ ns. Ok (ns, rest)) (by_id-only shape.count es are all names stores.arranged)
-
--- Names that a file stores are names of a kind.
-pub stores-AreNames : (shape : Shape) (stored : List Stored) (names : List (List ℕ)) → StoresKind shape stored names → AreNames shape.count names
-stores-AreNames shape stored names stores =
-    let es : List Entry = entries None stored in
-    let all : length es ≡ shape.count = length-entries None stored ∙ stores.count in
-    let are : AreMet shape.count es = record { ids = stores.arranged.ids; once = stores.arranged.once; below = all_below shape None stored stores.each; each = all_names shape None stored stores.each } in
-    arranged-AreNames shape.count es are all names stores.arranged

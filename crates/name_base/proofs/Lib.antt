@@ -9,5 +9,6 @@ pub mod FileLemmas
 pub mod TextLemmas
 pub mod AgainLemmas
 pub mod OneTextLemmas
+pub mod ReadLemmas
 pub mod PartLemmas
 pub mod PlaceLemmas

@@ -1,10 +1,11 @@
 -- The names of a names file as far as they were read.
-use Rattle.std.proofs.Common.{◌≡◌, ◌≤◌, ◌<◌, ◌+◌, ◌-◌, ℕ, zero, suc, Bool, true, false, List, [], ◌∷◌, length, map, get_or, slice_get, unwrap_or, replicate, is_some, Option, Some, None, Result, Ok, Err, refl, sym, ap, subst, ◌∙◌, arith, true≢false}
-use Rattle.std.specs.List.{AllByRecursion, range_with_len}
+use Rattle.std.proofs.Common.{◌≡◌, ◌≤◌, ◌<◌, ◌+◌, ◌-◌, ℕ, zero, suc, eqb, Bool, true, false, List, [], ◌∷◌, length, map, get_or, slice_get, unwrap_or, replicate, is_some, Option, Some, None, Result, Ok, Err, refl, sym, ap, subst, ◌∙◌, arith, true≢false}
+use Rattle.std.specs.List.{AllByRecursion, IsDistinct, range_with_len}
 use Rattle.std.specs.Option.{option_map}
 use Rattle.std.proofs.lemmas.List.{get_or-replicate, get_or_past, length-map, length-replicate, same_lists}
 use Rattle.std.proofs.lemmas.List.FromFn.{get_or-map-range_with_len, length-map-range_with_len}
 use Rattle.std.proofs.lemmas.Option.{none-some, same_Some, slice_get_within, slice_get-get_or, slice_get-map, unwrap_or-slice_get}
+use Rattle.name_base.specs.declared.header.Header.{Header}
 use Rattle.name_base.specs.declared.header.Shape.{Shape}
 use Rattle.name_base.specs.declared.fault.NameFault.{NameFault}
 use Rattle.name_base.specs.declared.fault.NameWhat.{NameWhat}
@@ -12,15 +13,16 @@ use Rattle.name_base.specs.declared.fault.NamesError.TheVariants.{Bad, Memory}
 use Rattle.name_base.specs.declared.kind.NameKind.{NameKind}
 use Rattle.name_base.specs.declared.kind.NameKind.TheVariants.{Player, Event, Site, Round}
 use Rattle.name_base.specs.NameLists.{IsName, NameLists, limit_of, of_kind}
-use Rattle.name_base.specs.NamesFile.{Entry, NameFile, Stored, StoresKind, entries, event_shape, kind_bytes, player_shape, round_shape, site_shape}
+use Rattle.name_base.specs.NamesFile.{Entry, NameFile, event_shape, player_shape, round_shape, site_shape}
 use Rattle.name_base.specs.KindRead.{AreMet}
 use Rattle.name_base.specs.KindReading.{IsReading}
-use Rattle.name_base.specs.Reading.{blamed, by_id, entries_at, entry_at, has_id}
+use Rattle.name_base.specs.Reading.{◌>>=◌, blamed, by_id, entries_at, entry_at, has_id, header_at, kind_at, names_at}
 use Rattle.name_base.specs.PartNames.{AreKnown, Known, Part, PartLists, all_known, entries_in_part, filled, filled_names, kind_in_part, known, marked, marks, met_then, name_met, names_in_part, or_unknown, part_of_kind, unknown}
-use Rattle.name_base.proofs.ByIdLemmas.{by_id-only, covers, found, length-put_names, placed}
+use Rattle.name_base.proofs.ByIdLemmas.{covers, found, ids_of, length-put_names, placed}
 use Rattle.name_base.proofs.FieldLemmas.{bind_ok, ok_is}
-use Rattle.name_base.proofs.FileLemmas.{header_again}
-use Rattle.name_base.proofs.KindLemmas.{all_below, all_names, blamed_ok, entries_again, length-entries}
+use Rattle.name_base.proofs.FileLemmas.{names_again}
+use Rattle.name_base.proofs.KindLemmas.{blamed_ok}
+use Rattle.name_base.proofs.ReadLemmas.{entries_new, header_few}
 
 -- ---- names that are marked.
 
@@ -163,51 +165,84 @@ marked-all zero (name ∷ names) long = absurd (omega (arith, long))
 marked-all (suc n) [] long = absurd (omega (arith, long))
 marked-all (suc n) (name ∷ names) long = ap (λ ns. Some name ∷ ns) (marked-all n names (omega (arith, long)))
 
-all-marked : (count : ℕ) (es : List Entry) → AreMet count es → length es ≡ count → marks count es ≡ replicate count true
-all-marked count es are all = same_lists (marks count es) (replicate count true) (length-map-range_with_len (has_id es) 0 count ∙ sym (length-replicate count true)) each
+all-marked : (count : ℕ) (es : List Entry) → IsDistinct eqb (ids_of es) → AllByRecursion (λ e. e.id < count) es → length es ≡ count → marks count es ≡ replicate count true
+all-marked count es ids below all = same_lists (marks count es) (replicate count true) (length-map-range_with_len (has_id es) 0 count ∙ sym (length-replicate count true)) each
   where
     each : (k : ℕ) (d : Bool) → k < length (marks count es) → get_or (marks count es) k d ≡ get_or (replicate count true) k d
     each k d lt =
-        let below : k < count = subst (λ n. k < n) (length-map-range_with_len (has_id es) 0 count) lt in
-        get_or-map-range_with_len (has_id es) 0 count k k d below (omega arith) ∙ (covers count es are all k below ∙ sym (get_or-replicate count k true d below))
+        let within : k < count = subst (λ n. k < n) (length-map-range_with_len (has_id es) 0 count) lt in
+        get_or-map-range_with_len (has_id es) 0 count k k d within (omega arith) ∙ (covers count es ids below all k within ∙ sym (get_or-replicate count k true d within))
 
-known-all : (count : ℕ) (es : List Entry) → AreMet count es → length es ≡ count → known count es ≡ map Some (by_id count es)
+known-all : (count : ℕ) (es : List Entry) → IsDistinct eqb (ids_of es) → AllByRecursion (λ e. e.id < count) es → length es ≡ count → known count es ≡ map Some (by_id count es)
 unfolding known
-known-all count es are all = ap (λ ts. marked ts (by_id count es)) (all-marked count es are all) ∙ marked-all count (by_id count es) (length-by_id count es)
+known-all count es ids below all = ap (λ ts. marked ts (by_id count es)) (all-marked count es ids below all) ∙ marked-all count (by_id count es) (length-by_id count es)
 
--- What is read of a kind that is spelled whole.
-pub record ReadsWhole (shape : Shape) (names : List (List ℕ)) (bytes rest : List ℕ) : Type 0 where
-  pub rest_is : (kind_in_part shape (Some bytes)).1 ≡ Some rest
-  pub names_are : known shape.count (kind_in_part shape (Some bytes)).0 ≡ map Some names
+-- What is read of a kind without a fault.
+record ReadsWhole (shape : Shape) (names : List (List ℕ)) (bytes rest : List ℕ) : Type 0 where
+  rest_is : (kind_in_part shape (Some bytes)).1 ≡ Some rest
+  names_are : known shape.count (kind_in_part shape (Some bytes)).0 ≡ map Some names
+  long : length names ≡ shape.count
 
-pub kind_whole : (kind : NameKind) (shape : Shape) (stored : List Stored) (names : List (List ℕ)) (rest : List ℕ) → shape.count ≤ 16777216 → StoresKind shape stored names → ReadsWhole shape names (kind_bytes shape None stored rest) rest
-unfolding kind_in_part
-kind_whole kind shape stored names rest le stores =
-    let es : List Entry = entries None stored in
-    let all : length es ≡ shape.count = length-entries None stored ∙ stores.count in
-    let are : AreMet shape.count es = record { ids = stores.arranged.ids; once = stores.arranged.once; below = all_below shape None stored stores.each; each = all_names shape None stored stores.each } in
-    let read : entries_at kind shape shape.count [] (kind_bytes shape None stored rest) ≡ Ok (es, rest) =
-    ap (λ n. entries_at kind shape n [] (kind_bytes shape None stored rest)) (sym stores.count) ∙ entries_again kind shape stored [] rest le stores.each stores.arranged.ids stores.arranged.once in
-    let part : entries_in_part shape shape.count [] (kind_bytes shape None stored rest) ≡ (es, Some rest) = entries_whole kind shape shape.count [] (kind_bytes shape None stored rest) (es, rest) read in
-    record {
+kind_whole : (kind : NameKind) (shape : Shape) (bytes : List ℕ) (x : List (List ℕ) × List ℕ) → kind_at kind shape bytes ≡ Ok x → ReadsWhole shape x.0 bytes x.1
+unfolding kind_at kind_in_part IsDistinct
+kind_whole kind shape bytes x e =
+    let a = bind_ok (entries_at kind shape shape.count [] bytes) (λ es. Ok (by_id shape.count es.0, es.1)) x e in
+    let new = entries_new kind shape shape.count [] bytes a.0 tt tt a.1 in
+    let all : length a.0.0 ≡ shape.count = omega (arith, new.long) in
+    let part : entries_in_part shape shape.count [] bytes ≡ (a.0.0, Some a.0.1) = entries_whole kind shape shape.count [] bytes a.0 a.1 in
+    let whole : ReadsWhole shape (by_id shape.count a.0.0) bytes a.0.1 = record {
       rest_is = ap (λ (p : Part). p.1) part;
-      names_are = ap (λ (p : Part). known shape.count p.0) part ∙ (known-all shape.count es are all ∙ ap (map Some) (by_id-only shape.count es are all names stores.arranged));
-    }
+      names_are = ap (λ (p : Part). known shape.count p.0) part ∙ known-all shape.count a.0.0 new.ids new.below all;
+      long = length-by_id shape.count a.0.0;
+    } in
+    subst (λ (y : List (List ℕ) × List ℕ). ReadsWhole shape y.0 bytes y.1) (ok_is (by_id shape.count a.0.0, a.0.1) x a.2) whole
 
--- A file without a fault is read whole.
-pub part-whole : (bytes : List ℕ) (lists : NameLists) → NameFile bytes lists → names_in_part bytes ≡ all_known lists
+-- No kind has more names than its limit.
+pub record AreFew (lists : NameLists) : Type 0 where
+  pub players : length lists.players ≤ limit_of Player
+  pub events : length lists.events ≤ limit_of Event
+  pub sites : length lists.sites ≤ limit_of Site
+  pub rounds : length lists.rounds ≤ limit_of Round
+
+parts_whole : (bytes : List ℕ) (x : Header × List ℕ) (players events sites rounds : List (List ℕ)) (two three four rest : List ℕ) → header_at bytes ≡ Ok x → ReadsWhole (player_shape x.0) players x.1 two →
+    ReadsWhole (event_shape x.0) events two three → ReadsWhole (site_shape x.0) sites three four → ReadsWhole (round_shape x.0) rounds four rest →
+    names_in_part bytes ≡ all_known (record { players = players; events = events; sites = sites; rounds = rounds })
 unfolding names_in_part
-part-whole bytes lists f =
-    let h = f.header in
-    let round_bytes = kind_bytes (round_shape h) None f.rounds f.rest in
-    let site_bytes = kind_bytes (site_shape h) None f.sites round_bytes in
-    let event_bytes = kind_bytes (event_shape h) None f.events site_bytes in
-    let header = header_again f.stamp h (kind_bytes (player_shape h) None f.players event_bytes) f.stamped f.counts f.greatest in
-    let players = kind_whole Player (player_shape h) f.players lists.players event_bytes (omega (arith, f.counts.players)) f.player_names in
-    let events = kind_whole Event (event_shape h) f.events lists.events site_bytes (omega (arith, f.counts.events)) f.event_names in
-    let sites = kind_whole Site (site_shape h) f.sites lists.sites round_bytes (omega (arith, f.counts.sites)) f.site_names in
-    let rounds = kind_whole Round (round_shape h) f.rounds lists.rounds f.rest (omega (arith, f.counts.rounds)) f.round_names in
-    rw (f.spelled, header, players.names_are, players.rest_is, events.names_are, events.rest_is, sites.names_are, sites.rest_is, rounds.names_are) refl
+parts_whole bytes x players events sites rounds two three four rest header p e s r =
+    rw (header, p.names_are, p.rest_is, e.names_are, e.rest_is, s.names_are, s.rest_is, r.names_are) refl
+
+-- A file without a fault is read whole, and has few names.
+pub record IsReadWhole (bytes : List ℕ) (lists : NameLists) : Type 0 where
+  pub part : names_in_part bytes ≡ all_known lists
+  pub few : AreFew lists
+
+pub read-whole : (bytes : List ℕ) (lists : NameLists) → names_at bytes ≡ Ok lists → IsReadWhole bytes lists
+unfolding names_at
+read-whole bytes lists e =
+    let h = bind_ok (blamed None 0 (header_at bytes)) (λ header. kind_at Player (player_shape header.0) header.1 >>= λ players. kind_at Event (event_shape header.0) players.1 >>= λ events. kind_at Site (site_shape header.0) events.1 >>= λ sites. kind_at Round (round_shape header.0) sites.1 >>= λ rounds. Ok (record { players = players.0; events = events.0; sites = sites.0; rounds = rounds.0 })) lists e in
+    let a = bind_ok (kind_at Player (player_shape h.0.0) h.0.1) (λ players. kind_at Event (event_shape h.0.0) players.1 >>= λ events. kind_at Site (site_shape h.0.0) events.1 >>= λ sites. kind_at Round (round_shape h.0.0) sites.1 >>= λ rounds. Ok (record { players = players.0; events = events.0; sites = sites.0; rounds = rounds.0 })) lists h.2 in
+    let b = bind_ok (kind_at Event (event_shape h.0.0) a.0.1) (λ events. kind_at Site (site_shape h.0.0) events.1 >>= λ sites. kind_at Round (round_shape h.0.0) sites.1 >>= λ rounds. Ok (record { players = a.0.0; events = events.0; sites = sites.0; rounds = rounds.0 })) lists a.2 in
+    let c = bind_ok (kind_at Site (site_shape h.0.0) b.0.1) (λ sites. kind_at Round (round_shape h.0.0) sites.1 >>= λ rounds. Ok (record { players = a.0.0; events = b.0.0; sites = sites.0; rounds = rounds.0 })) lists b.2 in
+    let d = bind_ok (kind_at Round (round_shape h.0.0) c.0.1) (λ rounds. Ok (record { players = a.0.0; events = b.0.0; sites = c.0.0; rounds = rounds.0 })) lists c.2 in
+    let header : header_at bytes ≡ Ok h.0 = blamed_ok None 0 (header_at bytes) h.0 h.1 in
+    let players = kind_whole Player (player_shape h.0.0) h.0.1 a.0 a.1 in
+    let events = kind_whole Event (event_shape h.0.0) a.0.1 b.0 b.1 in
+    let sites = kind_whole Site (site_shape h.0.0) b.0.1 c.0 c.1 in
+    let rounds = kind_whole Round (round_shape h.0.0) c.0.1 d.0 d.1 in
+    let counts = header_few bytes h.0 header in
+    let made : NameLists = record { players = a.0.0; events = b.0.0; sites = c.0.0; rounds = d.0.0 } in
+    subst (IsReadWhole bytes) (ok_is made lists d.2) (record {
+      part = parts_whole bytes h.0 a.0.0 b.0.0 c.0.0 d.0.0 a.0.1 b.0.1 c.0.1 d.0.1 header players events sites rounds;
+      few = record {
+        players = omega (arith, players.long, counts.players);
+        events = omega (arith, events.long, counts.events);
+        sites = omega (arith, sites.long, counts.sites);
+        rounds = omega (arith, rounds.long, counts.rounds);
+      };
+    })
+
+pub part-whole : (bytes : List ℕ) (lists : NameLists) → NameFile bytes lists → names_in_part bytes ≡ all_known lists
+part-whole bytes lists f = (read-whole bytes lists (names_again bytes lists f)).part
 
 -- ---- names for all ids.
 

@@ -4,7 +4,7 @@ use Rattle.base_core.proofs.laws.files_mean_a_base_or_have_a_fault.Goals as goal
 
 pub returns-in_default : goal.returns-in_default
 returns-in_default c = record {
-  one_of_both = λ strict. fault_or_base strict c.args.index.now c.args.names.now c.args.games.now (Err c.in_default.field-0) (λ i. omega (arith, c.type_inv.names i)) (sym c.in_default.is ∙ c.read_index.ensures.exact) tt;
+  one_of_both = λ strict. fault_or_base strict c.args.index.now c.args.names.now c.args.games.now (Err c.in_default.field-0) (sym c.in_default.is ∙ c.read_index.ensures.exact) tt;
 }
 
 pub loop-game-init : goal.loop-game-init
@@ -15,6 +15,6 @@ loop-game-preserved c = record { decided = one_decided c.args.index.now c.args.g
 
 pub returns : goal.returns
 returns c = record {
-  one_of_both = λ strict. fault_or_base strict c.args.index.now c.args.names.now c.args.games.now (Ok c.in-Ok.header) (λ i. omega (arith, c.type_inv.names i)) (sym c.in-Ok.is ∙ c.read_index.ensures.exact)
+  one_of_both = λ strict. fault_or_base strict c.args.index.now c.args.names.now c.args.games.now (Ok c.in-Ok.header) (sym c.in-Ok.is ∙ c.read_index.ensures.exact)
       (λ i less. c.loop-game.invariant.decided i (omega (arith, less, c.loop-game-test.false)));
 }
