@@ -5,8 +5,8 @@ pub mod NameLaws
 pub mod CheckLaws
 pub mod SigLaws
 pub mod KeptLaws
-pub mod ReadLaws
 pub mod OneFault
+pub mod ReadLaws
 pub mod OneBase
 pub mod GamesLaws
 pub mod GameLaws

@@ -92,8 +92,8 @@ entry_fails-one strict index names games count fault other f g =
       | inl same ↦
           let G : ℕ → Type 0 = λ n. Fails strict names games n (entry_bytes index n) fault in
           fails-one strict names games g.game (entry_bytes index g.game) fault other (subst G same f.fails) g.fails
-      | inr (inl less) ↦ absurd (passes_fails strict names games f.game (entry_bytes index f.game) fault (g.before f.game less) f.fails)
-      | inr (inr more) ↦ absurd (passes_fails strict names games g.game (entry_bytes index g.game) other (f.before g.game more) g.fails)
+      | inr (inl less) ↦ absurd (g.before f.game less fault f.fails)
+      | inr (inr more) ↦ absurd (f.before g.game more other g.fails)
     ]
 
 -- Three files have one first fault.

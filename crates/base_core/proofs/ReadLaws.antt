@@ -37,6 +37,7 @@ use Rattle.base_core.specs.declared.reading.GameRead.{GameRead}
 use Rattle.base_core.proofs.CheckLaws.{checked, ends_within, has_names}
 use Rattle.base_core.proofs.KeptLaws.{is-kept, settled_kept}
 use Rattle.base_core.proofs.Lists.{get_some, get_push_old, get_push_new, count_push}
+use Rattle.base_core.proofs.OneFault.{passes_fails}
 
 -- Nothing is there where the test says so.
 none_by : {X : Type 0} (o : Option X) → is_some o ≡ false → o ≡ None
@@ -212,7 +213,7 @@ fails_told None strict index names entries mended game count fault long below re
 fails_told (Some games) strict index names entries mended game count fault long below read fails = record {
   game = game;
   there = below;
-  before = λ i less. passes_of strict index names games entries mended read i (subst (λ n. i < n) (sym long) less);
+  before = λ i less earlier. passes_fails strict names games i (entry_bytes index i) earlier (passes_of strict index names games entries mended read i (subst (λ n. i < n) (sym long) less));
   fails = fails;
 }
 

@@ -30,6 +30,7 @@ use Rattle.base_core.specs.Reading.{IsDecided, IsGameDecided}
 use Rattle.base_core.proofs.CheckLaws.{checked, ends_within}
 use Rattle.base_core.proofs.Lists.{get_push_new, get_push_old}
 use Rattle.base_core.proofs.Results.{same_ok}
+use Rattle.base_core.proofs.OneFault.{passes_fails}
 use Rattle.base_core.proofs.OpenLaws.{whole_is, index_fails, names_fail}
 
 -- Bytes are decided by what their reading answers.
@@ -83,7 +84,7 @@ Until strict names index games count n =
 one_more : (strict : Bool) (names : NameLists) (index games : List ℕ) (count n : ℕ) → n < count → Until strict names index games count n → PassesOrFails strict names index games n → Until strict names index games count (suc n)
 one_more strict names index games count n below (inr fails) next = inr fails
 one_more strict names index games count n below (inl before) (inr fails) =
-    inr (fails.0, record { game = n; there = below; before = before; fails = fails.1 })
+    inr (fails.0, record { game = n; there = below; before = λ i less earlier. passes_fails strict names games i (entry_bytes index i) earlier (before i less); fails = fails.1 })
 one_more strict names index games count n below (inl before) (inl passes) =
     inl (λ i less. elim (eq-or-lt_of_le {n = i} {m = n} (omega (arith, less))) [
       | inl same ↦ subst (λ (k : ℕ). Passes strict names games k (entry_bytes index k)) (sym same) passes

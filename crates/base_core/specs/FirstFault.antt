@@ -115,11 +115,11 @@ Fails strict names games game bytes fault =
     (entry_checked names (length games) game bytes ≡ Err fault)
     ⊎ ((e : Entry) × ((entry_checked names (length games) game bytes ≡ Ok e) × IsNotTaken strict game (record_in games (extent_of e)) e fault))
 
--- One of so many entries has this fault, and all before it pass.
+-- One of so many entries has this fault, and none before it has one.
 pub record EntryFails (strict : Bool) (index : List ℕ) (names : NameLists) (games : List ℕ) (count : ℕ) (fault : BaseFault) : Type 0 where
   pub game : ℕ
   pub there : game < count
-  pub before : (i : ℕ) → i < game → Passes strict names games i (entry_bytes index i)
+  pub before : (i : ℕ) → i < game → (earlier : BaseFault) → Fails strict names games i (entry_bytes index i) earlier → ⊥
   pub fails : Fails strict names games game (entry_bytes index game) fault
 
 -- The first fault of three files: of the whole base, or of an entry.
