@@ -1,12 +1,12 @@
 -- The base of some games alone, with one game more.
-use Rattle.std.proofs.Common.{◌≡◌, ◌≤◌, ◌+◌, ℕ, List, [], ◌∷◌, ◌++◌, length, map, replicate, refl, sym, ap, ◌∙◌, subst, arith}
+use Rattle.std.proofs.Common.{◌≡◌, ◌≤◌, ◌+◌, ℕ, List, [], ◌∷◌, ◌++◌, length, map, fold, replicate, refl, sym, ap, ◌∙◌, subst, arith}
 use Rattle.std.proofs.lemmas.List.{length-append, length_push, length-replicate, map-append}
 use Rattle.base_files.specs.Extents.{record_in}
 use Rattle.block_store.specs.Placing.{end_after, padded, padding}
 use Rattle.index_entry.specs.declared.entry.Entry.{Entry}
 use Rattle.name_base.specs.NameLists.{NameLists, no_names}
 use Rattle.base_core.specs.Base.{Base, Held}
-use Rattle.base_core.specs.Compacted.{end_of, names_used, only}
+use Rattle.base_core.specs.Compacted.{end_of, only}
 use Rattle.base_core.specs.Edits.{names_with, with_game}
 use Rattle.base_core.specs.Entries.{extent_of}
 use Rattle.base_core.proofs.TakeLaws.{record-long}
@@ -15,6 +15,10 @@ use Rattle.base_core.proofs.TakeLaws.{record-long}
 pub end_more : (end : ℕ) (lens : List ℕ) (len : ℕ) → end_of end (lens ++ len ∷ []) ≡ end_after (end_of end lens) len
 end_more end [] len = refl
 end_more end (l ∷ lens) len = end_more (end_after end l) lens len
+
+-- The names that games use.
+abbrev names_used : NameLists → List Held → NameLists
+names_used names games = fold (λ names held. names_with held.head names) names games
 
 names_more : (names : NameLists) (games : List Held) (held : Held) → names_used names (games ++ held ∷ []) ≡ names_with held.head (names_used names games)
 names_more names [] held = refl

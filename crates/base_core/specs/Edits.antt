@@ -70,8 +70,7 @@ added head game base = with_game (held_of head game) base
 
 -- Putting a game in the place of another one. The record of the old one stays in the games file, with nothing that points to it.
 unfoldable pub game_replaced : ℕ → Head → GameTree → Base → Base
-game_replaced i head game base = record {
-  header = base.header;
+game_replaced i head game base = record base {
   names = names_with head base.names;
   games = changed_at (λ _. held_of head game) i base.games;
   end = end_with head game base.end;
