@@ -52,64 +52,24 @@ deleted_item asked deleted = holds asked (λ yes. if yes then deleted else not d
 unfoldable pub mark_item : Option ℕ → ℕ → Bool
 mark_item asked marks = holds asked (λ bit. bit_at marks bit == 1)
 
--- Keys `white`, `black` and `player`: the beginning of the name of White, of Black, of either.
-abbrev pub white_holds : Head → HeadQuery → Bool
-white_holds head query = name_item query.white head.white
+-- All items hold but those of plies and of names. Key `deleted` asks whether the game is marked as deleted, `mark` for a mark that is set,
+-- `year` for that of the game's date (an unknown year is 0), `welo` and `belo` for the ratings of White and Black, of any kind (no rating
+-- is 0), `eco` for the opening code.
+abbrev pub numbers_match : Head → HeadQuery → Bool
+numbers_match head query =
+    deleted_item query.deleted head.deleted && mark_item query.mark head.marks && result_item query.result head.result
+    && span_item query.year head.date.year && span_item query.welo head.white_rating.value && span_item query.belo head.black_rating.value
+    && eco_item query.eco head.eco
 
-abbrev pub black_holds : Head → HeadQuery → Bool
-black_holds head query = name_item query.black head.black
+-- All items of names hold: each key asks for the beginning of that name, `player` of White's or of Black's.
+abbrev pub names_match : Head → HeadQuery → Bool
+names_match head query =
+    name_item query.white head.white && name_item query.black head.black && player_item query.player head.white head.black
+    && name_item query.event head.event && name_item query.site head.site && name_item query.round head.round
 
-abbrev pub player_holds : Head → HeadQuery → Bool
-player_holds head query = player_item query.player head.white head.black
-
--- Keys `event`, `site` and `round`: the beginning of that name.
-abbrev pub event_holds : Head → HeadQuery → Bool
-event_holds head query = name_item query.event head.event
-
-abbrev pub site_holds : Head → HeadQuery → Bool
-site_holds head query = name_item query.site head.site
-
-abbrev pub round_holds : Head → HeadQuery → Bool
-round_holds head query = name_item query.round head.round
-
--- Key `result`: that result.
-abbrev pub result_holds : Head → HeadQuery → Bool
-result_holds head query = result_item query.result head.result
-
--- Key `year`: that of the game's date; an unknown year is 0. Keys `welo` and `belo`: the ratings of White and Black, of any kind; no rating is 0.
-abbrev pub year_holds : Head → HeadQuery → Bool
-year_holds head query = span_item query.year head.date.year
-
-abbrev pub welo_holds : Head → HeadQuery → Bool
-welo_holds head query = span_item query.welo head.white_rating.value
-
-abbrev pub belo_holds : Head → HeadQuery → Bool
-belo_holds head query = span_item query.belo head.black_rating.value
-
--- Key `plies`: those of the main line; more than 1,023 count as 1,023.
-abbrev pub plies_hold : ℕ → HeadQuery → Bool
-plies_hold plies query = span_item query.plies plies
-
--- Key `eco`: the opening code.
-abbrev pub eco_holds : Head → HeadQuery → Bool
-eco_holds head query = eco_item query.eco head.eco
-
--- Key `deleted`: whether the game is marked as deleted.
-abbrev pub deleted_holds : Head → HeadQuery → Bool
-deleted_holds head query = deleted_item query.deleted head.deleted
-
--- Key `mark`: that mark is set.
-abbrev pub mark_holds : Head → HeadQuery → Bool
-mark_holds head query = mark_item query.mark head.marks
-
--- A game with this head and so many plies is one that is asked for: every item holds.
+-- A game with this head and so many plies (of the main line; more than 1,023 count as 1,023) is one that is asked for: every item holds.
 unfoldable pub head_matches : Head → ℕ → HeadQuery → Bool
-head_matches head plies query =
-    (deleted_holds head query && mark_holds head query && result_holds head query && year_holds head query && welo_holds head query
-    && belo_holds head query && eco_holds head query)
-    && (plies_hold plies query
-    && (white_holds head query && black_holds head query && player_holds head query && event_holds head query && site_holds head query
-    && round_holds head query))
+head_matches head plies query = numbers_match head query && (span_item query.plies plies && names_match head query)
 
 -- The first ply at which a game matches: a search of heads matches at ply 0 or not at all.
 abbrev pub first_of : HeadQuery → Head → ℕ → Option ℕ

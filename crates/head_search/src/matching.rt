@@ -1,8 +1,8 @@
 //! What a search of heads asks of one game.
-ghost use Rattle.std.specs.Prelude.{◌≡◌, ◌==◌, ◌&&◌, []};
+ghost use Rattle.std.specs.Prelude.{◌≡◌, ◌==◌, []};
 ghost use Rattle.std.specs.Int.{bit_at};
 ghost use Rattle.game_tree.specs.Head.{head_of};
-ghost use Rattle.head_search.specs.Matching.{begins, belo_holds, black_holds, deleted_holds, deleted_item, eco_holds, eco_item, event_holds, head_matches, is_in, mark_holds, mark_item, name_item, player_holds, player_item, result_holds, result_item, round_holds, site_holds, span_item, welo_holds, white_holds, year_holds};
+ghost use Rattle.head_search.specs.Matching.{begins, deleted_item, eco_item, head_matches, is_in, mark_item, name_item, names_match, numbers_match, player_item, result_item, span_item};
 
 use cell_core::Text;
 use game_tree::{HeadRef, Outcome};
@@ -18,9 +18,7 @@ pub fn matches(h: HeadRef<'_>, s: &Sig, q: &HeadQuery) -> bool
 
 // Whether all items hold but those of plies and of names: these cost the least.
 fn numbers_hold(h: &HeadRef<'_>, q: &HeadQuery) -> bool
-    ensures { result ≡ (deleted_holds (head_of h.now []) q.now && mark_holds (head_of h.now []) q.now && result_holds (head_of h.now []) q.now
-        && year_holds (head_of h.now []) q.now && welo_holds (head_of h.now []) q.now && belo_holds (head_of h.now []) q.now
-        && eco_holds (head_of h.now []) q.now) }
+    ensures { result ≡ numbers_match (head_of h.now []) q.now }
 {
     deleted_holds(q.deleted, h.deleted)
         && mark_holds(q.mark, h.marks)
@@ -33,8 +31,7 @@ fn numbers_hold(h: &HeadRef<'_>, q: &HeadQuery) -> bool
 
 // Whether all items of names hold.
 fn names_hold(h: &HeadRef<'_>, q: &HeadQuery) -> bool
-    ensures { result ≡ (white_holds (head_of h.now []) q.now && black_holds (head_of h.now []) q.now && player_holds (head_of h.now []) q.now
-        && event_holds (head_of h.now []) q.now && site_holds (head_of h.now []) q.now && round_holds (head_of h.now []) q.now) }
+    ensures { result ≡ names_match (head_of h.now []) q.now }
 {
     name_holds(&q.white, h.white)
         && name_holds(&q.black, h.black)

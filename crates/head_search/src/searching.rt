@@ -1,8 +1,8 @@
 //! The search of all games.
-ghost use Rattle.std.specs.Prelude.{◌≡◌, ◌<◌, ◌&&◌, None, length, slice_index_or, slice_set};
+ghost use Rattle.std.specs.Prelude.{◌≡◌, ◌<◌, None, length, slice_index_or, slice_set};
 ghost use Rattle.game_filter.specs.Search.{entry_after, searched};
 ghost use Rattle.sig_index.specs.Games.{head_in, name_in, plies_in};
-ghost use Rattle.head_search.specs.Matching.{belo_holds, black_holds, deleted_holds, eco_holds, event_holds, firsts_of, head_matches, mark_holds, name_item, player_holds, player_item, result_holds, round_holds, site_holds, welo_holds, white_holds, year_holds};
+ghost use Rattle.head_search.specs.Matching.{firsts_of, head_matches, name_item, names_match, numbers_match, player_item};
 
 use crate::matching::{begins, deleted_holds, eco_holds, mark_holds, result_holds, span_holds};
 use cell_core::Text;
@@ -57,10 +57,7 @@ fn is_asked<G: Games>(games: &G, i: u32, q: &HeadQuery) -> bool
 // Whether all items of a game hold but those of plies and of names.
 fn numbers_fit<G: Games>(games: &G, i: u32, q: &HeadQuery) -> bool
     requires game { i < length (G.sigs games.now) }
-    ensures { result ≡ (deleted_holds (head_in (G.heads games.now) i) q.now && mark_holds (head_in (G.heads games.now) i) q.now
-        && result_holds (head_in (G.heads games.now) i) q.now && year_holds (head_in (G.heads games.now) i) q.now
-        && welo_holds (head_in (G.heads games.now) i) q.now && belo_holds (head_in (G.heads games.now) i) q.now
-        && eco_holds (head_in (G.heads games.now) i) q.now) }
+    ensures { result ≡ numbers_match (head_in (G.heads games.now) i) q.now }
 {
     deleted_holds(q.deleted, games.is_deleted(i))
         && mark_holds(q.mark, games.marks(i))
@@ -74,9 +71,7 @@ fn numbers_fit<G: Games>(games: &G, i: u32, q: &HeadQuery) -> bool
 // Whether all items of names of a game hold.
 fn names_fit<G: Games>(games: &G, i: u32, q: &HeadQuery) -> bool
     requires game { i < length (G.sigs games.now) }
-    ensures { result ≡ (white_holds (head_in (G.heads games.now) i) q.now && black_holds (head_in (G.heads games.now) i) q.now
-        && player_holds (head_in (G.heads games.now) i) q.now && event_holds (head_in (G.heads games.now) i) q.now
-        && site_holds (head_in (G.heads games.now) i) q.now && round_holds (head_in (G.heads games.now) i) q.now) }
+    ensures { result ≡ names_match (head_in (G.heads games.now) i) q.now }
 {
     name_fits(games, i, HeadName::White, &q.white)
         && name_fits(games, i, HeadName::Black, &q.black)
