@@ -8,6 +8,7 @@ use Rattle.index_entry.specs.Bits.{bit_in, field, run, bits}
 use Rattle.index_entry.proofs.BitLemmas.{field-append}
 use Rattle.game_tree.specs.declared.head.Rating.{Rating}
 use Rattle.index_entry.specs.Places as places
+use Rattle.index_entry.proofs.FieldPlaces as spots
 use Rattle.index_entry.specs.Entry.{outcome_of, date_in, event_date_in, has_event_date, event_date_of, rating_of, home_in, entry_in, entry_read, home_from, event_places, free_places, is_among, AreCleared, IsWritten}
 use Rattle.index_entry.proofs.SoundLemmas.{field-lt, Passed, passed, Has, has_is}
 use Rattle.game_tree.specs.Date.{unknown_date, date_number, date_of}
@@ -138,29 +139,29 @@ outside b p e =
 
 -- the fields that say the same
 record Same (b c : List ℕ) : Type 0 where
-  offset : field b places.offset ≡ field c places.offset
-  len : field b places.len ≡ field c places.len
-  marks : field b places.marks ≡ field c places.marks
-  deleted : field b places.deleted ≡ field c places.deleted
-  under : field b places.under ≡ field c places.under
-  promo : field b places.promo ≡ field c places.promo
-  own_start : field b places.own_start ≡ field c places.own_start
-  white : field b places.white ≡ field c places.white
-  black : field b places.black ≡ field c places.black
-  event : field b places.event ≡ field c places.event
-  site : field b places.site ≡ field c places.site
-  round : field b places.round ≡ field c places.round
+  offset : field b spots.offset ≡ field c spots.offset
+  len : field b spots.len ≡ field c spots.len
+  marks : field b spots.marks ≡ field c spots.marks
+  deleted : field b spots.deleted ≡ field c spots.deleted
+  under : field b spots.under ≡ field c spots.under
+  promo : field b spots.promo ≡ field c spots.promo
+  own_start : field b spots.own_start ≡ field c spots.own_start
+  white : field b spots.white ≡ field c spots.white
+  black : field b spots.black ≡ field c spots.black
+  event : field b spots.event ≡ field c spots.event
+  site : field b spots.site ≡ field c spots.site
+  round : field b spots.round ≡ field c spots.round
   outcome : field b places.outcome ≡ field c places.outcome
-  nags : field b places.nags ≡ field c places.nags
-  comments : field b places.comments ≡ field c places.comments
-  vars : field b places.vars ≡ field c places.vars
+  nags : field b spots.nags ≡ field c spots.nags
+  comments : field b spots.comments ≡ field c spots.comments
+  vars : field b spots.vars ≡ field c spots.vars
   eco : field b places.eco ≡ field c places.eco
-  date : field b places.date ≡ field c places.date
+  date : field b spots.date ≡ field c spots.date
   event_date : event_date_in b ≡ event_date_in c
   white_rating : rating_of (field b places.white_kind) (field b places.white_value) ≡ rating_of (field c places.white_kind) (field c places.white_value)
   black_rating : rating_of (field b places.black_kind) (field b places.black_value) ≡ rating_of (field c places.black_kind) (field c places.black_value)
-  material : map (field b) places.material ≡ map (field c) places.material
-  plies : field b places.plies ≡ field c places.plies
+  material : map (field b) spots.material ≡ map (field c) spots.material
+  plies : field b spots.plies ≡ field c spots.plies
   home_count : field b places.home_count ≡ field c places.home_count
   home : map (home_in b) (range_with_len 0 16) ≡ map (home_in c) (range_with_len 0 16)
 
@@ -181,15 +182,15 @@ code_back (suc (suc (suc zero))) le = refl
 code_back (suc (suc (suc (suc n)))) le = absurd (omega arith)
 
 same_is : (b c : List ℕ) → Passed b → Passed c → entry_in b ≡ entry_in c → Same b c
-unfolding entry_in places.deleted places.under places.promo places.own_start
+unfolding entry_in
 same_is b c pb pc e = record {
   offset = ap (λ (x : Entry). x.offset) e;
   len = ap (λ (x : Entry). x.len) e;
   marks = ap (λ (x : Entry). x.marks) e;
-  deleted = one_bit _ _ (field-lt b places.deleted) (field-lt c places.deleted) (ap (λ (x : Entry). x.deleted) e);
-  under = one_bit _ _ (field-lt b places.under) (field-lt c places.under) (ap (λ (x : Entry). x.under) e);
-  promo = one_bit _ _ (field-lt b places.promo) (field-lt c places.promo) (ap (λ (x : Entry). x.promo) e);
-  own_start = one_bit _ _ (field-lt b places.own_start) (field-lt c places.own_start) (ap (λ (x : Entry). x.own_start) e);
+  deleted = one_bit _ _ (field-lt b spots.deleted) (field-lt c spots.deleted) (ap (λ (x : Entry). x.deleted) e);
+  under = one_bit _ _ (field-lt b spots.under) (field-lt c spots.under) (ap (λ (x : Entry). x.under) e);
+  promo = one_bit _ _ (field-lt b spots.promo) (field-lt c spots.promo) (ap (λ (x : Entry). x.promo) e);
+  own_start = one_bit _ _ (field-lt b spots.own_start) (field-lt c spots.own_start) (ap (λ (x : Entry). x.own_start) e);
   white = ap (λ (x : Entry). x.white) e;
   black = ap (λ (x : Entry). x.black) e;
   event = ap (λ (x : Entry). x.event) e;
@@ -200,7 +201,7 @@ same_is b c pb pc e = record {
   comments = ap (λ (x : Entry). x.comments) e;
   vars = ap (λ (x : Entry). x.vars) e;
   eco = ap (λ (x : Entry). x.eco) e;
-  date = sym (date_number-date_of (field b places.date)) ∙ ap (λ (x : Entry). date_number x.date) e ∙ date_number-date_of (field c places.date);
+  date = sym (date_number-date_of (field b spots.date)) ∙ ap (λ (x : Entry). date_number x.date) e ∙ date_number-date_of (field c spots.date);
   event_date = ap (λ (x : Entry). x.event_date) e;
   white_rating = ap (λ (x : Entry). x.white_rating) e;
   black_rating = ap (λ (x : Entry). x.black_rating) e;
@@ -308,7 +309,7 @@ event_fields b c same there =
     field_two b c places.event_code (places.event_month ++ places.event_day) (events.code there)
     (field_two b c places.event_month places.event_day (events.month there) (events.day there))
 
-material_field : (b c : List ℕ) (k : ℕ) → map (field b) places.material ≡ map (field c) places.material → get_or (map (field b) places.material) k 0 ≡ get_or (map (field c) places.material) k 0
+material_field : (b c : List ℕ) (k : ℕ) → map (field b) spots.material ≡ map (field c) spots.material → get_or (map (field b) spots.material) k 0 ≡ get_or (map (field c) spots.material) k 0
 material_field b c k e = ap (λ xs. get_or xs k 0) e
 
 -- a home value
@@ -349,25 +350,25 @@ all_joined P (xs ∷ lists) h = all-append P xs (joined lists) h.0 (all_joined P
 -- the places before the home values, as the table has them
 lists : List (List ℕ)
 lists =
-    places.offset
-    ∷ places.len
-    ∷ places.marks
-    ∷ places.deleted
-    ∷ places.under
-    ∷ places.promo
-    ∷ places.own_start
-    ∷ places.white
-    ∷ places.black
-    ∷ places.event
-    ∷ places.site
-    ∷ places.round
+    spots.offset
+    ∷ spots.len
+    ∷ spots.marks
+    ∷ spots.deleted
+    ∷ spots.under
+    ∷ spots.promo
+    ∷ spots.own_start
+    ∷ spots.white
+    ∷ spots.black
+    ∷ spots.event
+    ∷ spots.site
+    ∷ spots.round
     ∷ places.outcome
-    ∷ places.nags
-    ∷ places.comments
-    ∷ places.vars
+    ∷ spots.nags
+    ∷ spots.comments
+    ∷ spots.vars
     ∷ places.eco
-    ∷ places.date
-    ∷ places.plies
+    ∷ spots.date
+    ∷ spots.plies
     ∷ places.home_count
     ∷ places.white_value
     ∷ places.black_value
@@ -389,49 +390,49 @@ lists =
     ∷ []
 
 lists_are_whole : agree_below (λ p. is_among p (joined lists)) (λ p. true) 312 ≡ true
-unfolding lists places.offset places.len places.marks places.deleted places.under places.promo places.own_start places.white places.black places.event places.site places.round places.outcome places.nags places.comments places.vars places.eco places.date places.plies places.home_count places.spare places.stored_line places.white_kind places.white_value places.black_kind places.black_value places.event_code places.event_month places.event_day
+unfolding lists places.outcome places.eco places.home_count places.spare places.stored_line places.white_kind places.white_value places.black_kind places.black_value places.event_code places.event_month places.event_day
 lists_are_whole = refl
 
 kept_lists : (b c : List ℕ) → Same b c → AllOf (Kept b c) lists
-unfolding lists places.material
+unfolding lists
 kept_lists b c same = (
-  kept_field b c places.offset same.offset,
+  kept_field b c spots.offset same.offset,
   (
-    kept_field b c places.len same.len,
+    kept_field b c spots.len same.len,
     (
-      kept_field b c places.marks same.marks,
+      kept_field b c spots.marks same.marks,
       (
-        kept_field b c places.deleted same.deleted,
+        kept_field b c spots.deleted same.deleted,
         (
-          kept_field b c places.under same.under,
+          kept_field b c spots.under same.under,
           (
-            kept_field b c places.promo same.promo,
+            kept_field b c spots.promo same.promo,
             (
-              kept_field b c places.own_start same.own_start,
+              kept_field b c spots.own_start same.own_start,
               (
-                kept_field b c places.white same.white,
+                kept_field b c spots.white same.white,
                 (
-                  kept_field b c places.black same.black,
+                  kept_field b c spots.black same.black,
                   (
-                    kept_field b c places.event same.event,
+                    kept_field b c spots.event same.event,
                     (
-                      kept_field b c places.site same.site,
+                      kept_field b c spots.site same.site,
                       (
-                        kept_field b c places.round same.round,
+                        kept_field b c spots.round same.round,
                         (
                           kept_field b c places.outcome same.outcome,
                           (
-                            kept_field b c places.nags same.nags,
+                            kept_field b c spots.nags same.nags,
                             (
-                              kept_field b c places.comments same.comments,
+                              kept_field b c spots.comments same.comments,
                               (
-                                kept_field b c places.vars same.vars,
+                                kept_field b c spots.vars same.vars,
                                 (
                                   kept_field b c places.eco same.eco,
                                   (
-                                    kept_field b c places.date same.date,
+                                    kept_field b c spots.date same.date,
                                     (
-                                      kept_field b c places.plies same.plies,
+                                      kept_field b c spots.plies same.plies,
                                       (
                                         kept_field b c places.home_count same.home_count,
                                         (

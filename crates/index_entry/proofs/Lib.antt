@@ -1,4 +1,5 @@
 pub mod BitLemmas
+pub mod FieldPlaces
 pub mod FieldLemmas
 pub mod ReadLemmas
 pub mod WrittenLemmas

@@ -9,6 +9,7 @@ use Rattle.index_entry.specs.declared.entry.Entry.{Entry}
 use Rattle.index_entry.specs.declared.fault.EntryFault.TheVariants as faults
 use Rattle.index_entry.specs.Bits.{field, run}
 use Rattle.index_entry.specs.Places as places
+use Rattle.index_entry.proofs.FieldPlaces as spots
 use Rattle.index_entry.specs.Entry.{outcome_of, date_in, event_date_in, event_date_of, rating_of, is_bad_rating, home_in, entry_in, fault_in, first_of, entry_read}
 use Rattle.index_entry.specs.Reading.{◌>>=◌, outcome_at, eco_at, event_at, dates_at, rating_at, material_at, home_at, fields_at, entry_at}
 use Rattle.index_entry.proofs.BitLemmas.{IsBytes, field-run}
@@ -27,16 +28,16 @@ event_date_read_is b h =
     let day : field b places.event_day ≡ big_from 25 4 b / 1048576 % 32 = omega (arith, fields.event_day-is b h) in
     λ i. event_date_of (date i).year (code i) (month i) (day i)
 
-pub offset_read_is : (b : List ℕ) → IsBytes b → field b places.offset ≡ big_from 0 4 b
+pub offset_read_is : (b : List ℕ) → IsBytes b → field b spots.offset ≡ big_from 0 4 b
 offset_read_is b h = omega (arith, fields.offset-is b h, big_from-lt 0 4 b h)
 
-pub nags_read_is : (b : List ℕ) → IsBytes b → field b places.nags ≡ get_or b 21 0 % 16
+pub nags_read_is : (b : List ℕ) → IsBytes b → field b spots.nags ≡ get_or b 21 0 % 16
 nags_read_is b h = omega (arith, fields.nags-is b h)
 
-pub comments_read_is : (b : List ℕ) → IsBytes b → field b places.comments ≡ get_or b 22 0 / 16
+pub comments_read_is : (b : List ℕ) → IsBytes b → field b spots.comments ≡ get_or b 22 0 / 16
 comments_read_is b h = omega (arith, fields.comments-is b h, h 21, h 22)
 
-pub vars_read_is : (b : List ℕ) → IsBytes b → field b places.vars ≡ get_or b 22 0 % 16
+pub vars_read_is : (b : List ℕ) → IsBytes b → field b spots.vars ≡ get_or b 22 0 % 16
 vars_read_is b h = omega (arith, fields.vars-is b h, h 22)
 
 pub outcome_read_is : (b : List ℕ) → IsBytes b → field b places.outcome ≡ get_or b 21 0 / 16
@@ -60,40 +61,40 @@ black_value_read_is b h = omega (arith, fields.black_value-is b h)
 pub home_count_read_is : (b : List ℕ) → IsBytes b → field b places.home_count ≡ get_or b 38 0 % 64
 home_count_read_is b h = omega (arith, fields.home_count-is b h)
 
-pub own_start_read_is : (b : List ℕ) → IsBytes b → field b places.own_start ≡ big_from 7 2 b % 2
+pub own_start_read_is : (b : List ℕ) → IsBytes b → field b spots.own_start ≡ big_from 7 2 b % 2
 own_start_read_is b h = omega (arith, fields.own_start-is b h)
 
-pub promo_read_is : (b : List ℕ) → IsBytes b → field b places.promo ≡ big_from 7 2 b / 2 % 2
+pub promo_read_is : (b : List ℕ) → IsBytes b → field b spots.promo ≡ big_from 7 2 b / 2 % 2
 promo_read_is b h = omega (arith, fields.promo-is b h)
 
-pub under_read_is : (b : List ℕ) → IsBytes b → field b places.under ≡ big_from 7 2 b / 4 % 2
+pub under_read_is : (b : List ℕ) → IsBytes b → field b spots.under ≡ big_from 7 2 b / 4 % 2
 under_read_is b h = omega (arith, fields.under-is b h)
 
-pub deleted_read_is : (b : List ℕ) → IsBytes b → field b places.deleted ≡ big_from 7 2 b / 8 % 2
+pub deleted_read_is : (b : List ℕ) → IsBytes b → field b spots.deleted ≡ big_from 7 2 b / 8 % 2
 deleted_read_is b h = omega (arith, fields.deleted-is b h)
 
-pub len_read_is : (b : List ℕ) → IsBytes b → field b places.len ≡ get_or b 6 0 / 128 * 65536 + big_from 4 2 b
+pub len_read_is : (b : List ℕ) → IsBytes b → field b spots.len ≡ get_or b 6 0 / 128 * 65536 + big_from 4 2 b
 len_read_is b h = omega (arith, fields.len-is b h, h 6, big_from-lt 4 2 b h)
 
-pub marks_read_is : (b : List ℕ) → IsBytes b → field b places.marks ≡ get_or b 6 0 % 64 * 4096 + big_from 7 2 b / 16
+pub marks_read_is : (b : List ℕ) → IsBytes b → field b spots.marks ≡ get_or b 6 0 % 64 * 4096 + big_from 7 2 b / 16
 marks_read_is b h = omega (arith, fields.marks-is b h, big_from-lt 7 2 b h)
 
-pub white_read_is : (b : List ℕ) → IsBytes b → field b places.white ≡ get_or b 9 0 / 16 * 65536 + big_from 10 2 b
+pub white_read_is : (b : List ℕ) → IsBytes b → field b spots.white ≡ get_or b 9 0 / 16 * 65536 + big_from 10 2 b
 white_read_is b h = omega (arith, fields.white-is b h, h 9, big_from-lt 10 2 b h)
 
-pub black_read_is : (b : List ℕ) → IsBytes b → field b places.black ≡ get_or b 9 0 % 16 * 65536 + big_from 12 2 b
+pub black_read_is : (b : List ℕ) → IsBytes b → field b spots.black ≡ get_or b 9 0 % 16 * 65536 + big_from 12 2 b
 black_read_is b h = omega (arith, fields.black-is b h, big_from-lt 12 2 b h)
 
-pub event_read_is : (b : List ℕ) → IsBytes b → field b places.event ≡ get_or b 14 0 / 32 * 65536 + big_from 15 2 b
+pub event_read_is : (b : List ℕ) → IsBytes b → field b spots.event ≡ get_or b 14 0 / 32 * 65536 + big_from 15 2 b
 event_read_is b h = omega (arith, fields.event-is b h, h 14, big_from-lt 15 2 b h)
 
-pub site_read_is : (b : List ℕ) → IsBytes b → field b places.site ≡ get_or b 14 0 / 4 % 8 * 65536 + big_from 17 2 b
+pub site_read_is : (b : List ℕ) → IsBytes b → field b spots.site ≡ get_or b 14 0 / 4 % 8 * 65536 + big_from 17 2 b
 site_read_is b h = omega (arith, fields.site-is b h, big_from-lt 17 2 b h)
 
-pub round_read_is : (b : List ℕ) → IsBytes b → field b places.round ≡ get_or b 14 0 % 4 * 65536 + big_from 19 2 b
+pub round_read_is : (b : List ℕ) → IsBytes b → field b spots.round ≡ get_or b 14 0 % 4 * 65536 + big_from 19 2 b
 round_read_is b h = omega (arith, fields.round-is b h, big_from-lt 19 2 b h)
 
-pub plies_read_is : (b : List ℕ) → IsBytes b → field b places.plies ≡ get_or b 38 0 / 64 * 256 + get_or b 37 0
+pub plies_read_is : (b : List ℕ) → IsBytes b → field b spots.plies ≡ get_or b 38 0 / 64 * 256 + get_or b 37 0
 plies_read_is b h = omega (arith, fields.plies-is b h, h 38, h 37)
 
 pub home_read_is : (b : List ℕ) → IsBytes b → (i : ℕ) → home_in b i ≡ home_at b i
@@ -106,8 +107,8 @@ home_values_read_is b h = let home = home_read_is b h in λ i. map (λ j. home j
 pub home_value_read_is : (b : List ℕ) → IsBytes b → (i : ℕ) → i < 16 → home_at b i ≡ get_or (map (home_in b) (range_with_len 0 16)) i 0
 home_value_read_is b h i less = sym (get_or-map-range_with_len (home_in b) 0 16 i i 0 less (omega arith) ∙ home_read_is b h i)
 
-pub material_read_is : (b : List ℕ) → IsBytes b → map (field b) places.material ≡ material_at (get_or b 34 0) (get_or b 35 0) (get_or b 36 0)
-unfolding material_at places.material
+pub material_read_is : (b : List ℕ) → IsBytes b → map (field b) spots.material ≡ material_at (get_or b 34 0) (get_or b 35 0) (get_or b 36 0)
+unfolding material_at
 material_read_is b h =
     let m0 : field b (run 272 2) ≡ get_or b 34 0 / 64 = omega (arith, field-run b 34 1 272 2 6 h (omega arith) refl, h 34) in
     let m1 : field b (run 274 2) ≡ get_or b 34 0 / 16 % 4 = omega (arith, field-run b 34 1 274 2 4 h (omega arith) refl, h 34) in

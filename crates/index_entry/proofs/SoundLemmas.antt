@@ -15,6 +15,7 @@ use Rattle.index_entry.specs.declared.fault.EntryFault.{EntryFault}
 use Rattle.index_entry.specs.declared.fault.EntryFault.TheVariants as faults
 use Rattle.index_entry.specs.Bits.{bit_in, field, bits}
 use Rattle.index_entry.specs.Places as places
+use Rattle.index_entry.proofs.FieldPlaces as spots
 use Rattle.index_entry.specs.Entry.{date_in, event_date_in, has_event_date, event_date_of, rating_of, is_bad_rating, home_in, entry_in, fault_in, first_of, entry_read, AreHomeValues, AreCounts, IsEntry}
 
 power_step : (bit rest half whole : ℕ) → bit < 2 → rest < half → whole ≡ 2 ^ 1 * half → bit * half + rest < whole
@@ -70,9 +71,8 @@ passed b e is =
 
 -- The bounds of each part.
 date_sound : (b : List ℕ) → (date_in b).month ≤ 12 → IsDate (date_in b)
-unfolding places.date
 date_sound b month =
-    let fits : field b places.date < 1048576 = field-lt b places.date in
+    let fits : field b spots.date < 1048576 = field-lt b spots.date in
     record { year = omega arith; month = month; day = omega arith }
 
 unknown_sound : IsDate unknown_date
@@ -137,8 +137,7 @@ rating_sound kind value kind_fits value_fits fine = elim (cases_eq value 0) [
   })
 ]
 
-counts_small : (b : List ℕ) (i : ℕ) → get_or (map (field b) places.material) i 0 ≤ get_or (3 ∷ 3 ∷ 3 ∷ 3 ∷ 15 ∷ 3 ∷ 3 ∷ 3 ∷ 3 ∷ 15 ∷ []) i 0
-unfolding places.material
+counts_small : (b : List ℕ) (i : ℕ) → get_or (map (field b) spots.material) i 0 ≤ get_or (3 ∷ 3 ∷ 3 ∷ 3 ∷ 15 ∷ 3 ∷ 3 ∷ 3 ∷ 3 ∷ 15 ∷ []) i 0
 counts_small b zero = omega (arith, field-lt b (bits 34 0 2))
 counts_small b (suc zero) = omega (arith, field-lt b (bits 34 2 2))
 counts_small b (suc (suc zero)) = omega (arith, field-lt b (bits 34 4 2))
@@ -151,8 +150,7 @@ counts_small b (suc (suc (suc (suc (suc (suc (suc (suc zero)))))))) = omega (ari
 counts_small b (suc (suc (suc (suc (suc (suc (suc (suc (suc zero))))))))) = omega (arith, field-lt b (bits 34 20 4))
 counts_small b (suc (suc (suc (suc (suc (suc (suc (suc (suc (suc i)))))))))) = omega arith
 
-material_sound : (b : List ℕ) → AreCounts (map (field b) places.material)
-unfolding places.material
+material_sound : (b : List ℕ) → AreCounts (map (field b) spots.material)
 material_sound b = record { size = refl; small = counts_small b }
 
 home_small : (b : List ℕ) (i : ℕ) → home_in b i < 16
@@ -176,22 +174,22 @@ home_sound b = record {
 }
 
 entry_sound : (b : List ℕ) → Passed b → IsEntry (entry_in b)
-unfolding entry_in places.len places.marks places.white places.black places.event places.site places.round places.vars places.comments places.nags places.plies places.home_count places.event_code places.event_day places.white_kind places.white_value places.black_kind places.black_value
+unfolding entry_in places.home_count places.event_code places.event_day places.white_kind places.white_value places.black_kind places.black_value
 entry_sound b p =
     let event = event_sound (date_in b) (field b places.event_code) (field b places.event_month) (field b places.event_day)
     (field-lt b places.event_code) (field-lt b places.event_day) p.event_month in
     record {
-      len = field-lt b places.len;
-      marks = field-lt b places.marks;
-      white = field-lt b places.white;
-      black = field-lt b places.black;
-      event = field-lt b places.event;
-      site = field-lt b places.site;
-      round = field-lt b places.round;
-      vars = field-lt b places.vars;
-      comments = field-lt b places.comments;
-      nags = field-lt b places.nags;
-      plies = field-lt b places.plies;
+      len = field-lt b spots.len;
+      marks = field-lt b spots.marks;
+      white = field-lt b spots.white;
+      black = field-lt b spots.black;
+      event = field-lt b spots.event;
+      site = field-lt b spots.site;
+      round = field-lt b spots.round;
+      vars = field-lt b spots.vars;
+      comments = field-lt b spots.comments;
+      nags = field-lt b spots.nags;
+      plies = field-lt b spots.plies;
       eco = p.eco;
       date = date_sound b p.month;
       event_date = event.0;

@@ -19,7 +19,3 @@ run place (suc count) = place ∷ run (suc place) count
 -- So many bits of what begins at a byte, after those that are skipped there, from the highest on.
 abbrev pub bits : ℕ → ℕ → ℕ → List ℕ
 bits byte skipped count = run (8 * byte + skipped) count
-
--- Whole bytes, from one on.
-abbrev pub bytes : ℕ → ℕ → List ℕ
-bytes byte count = bits byte 0 (8 * count)

@@ -10,7 +10,7 @@ use Rattle.game_tree.specs.declared.head.Rating.{Rating}
 use Rattle.index_entry.specs.declared.entry.Entry.{Entry}
 use Rattle.index_entry.specs.declared.fault.EntryFault.{EntryFault}
 use Rattle.index_entry.specs.declared.fault.EntryFault.TheVariants as faults
-use Rattle.index_entry.specs.Bits.{bit_in, field}
+use Rattle.index_entry.specs.Bits.{bit_in, field, bits}
 use Rattle.index_entry.specs.Places as places
 
 -- The result of a code: 0 unknown, 1 White, 2 Black, 3 draw.
@@ -21,9 +21,9 @@ outcome_of code =
     else if nat_eq code 3 then outcomes.Draw
     else outcomes.Unknown
 
--- The game's date, by its number.
+-- 25 to 28: the dates. The low 20 bits are the number of the game's date.
 abbrev pub date_in : List ℕ → Date
-date_in bytes = date_of (field bytes places.date)
+date_in bytes = date_of (field bytes (bits 25 12 20))
 
 -- An event date is there where its code is not 0, the game's year is known, and the event's year, the game's and the code less 4, is from 1 to 2047.
 abbrev pub has_event_date : ℕ → ℕ → Bool
@@ -49,29 +49,37 @@ home_in bytes i = if nat_lt i (field bytes places.home_count) then field bytes (
 -- What the bytes say.
 unfoldable pub entry_in : List ℕ → Entry
 entry_in bytes = record {
-  offset = field bytes places.offset;
-  len = field bytes places.len;
-  own_start = nat_eq (field bytes places.own_start) 1;
-  promo = nat_eq (field bytes places.promo) 1;
-  under = nat_eq (field bytes places.under) 1;
-  deleted = nat_eq (field bytes places.deleted) 1;
-  marks = field bytes places.marks;
-  white = field bytes places.white;
-  black = field bytes places.black;
-  event = field bytes places.event;
-  site = field bytes places.site;
-  round = field bytes places.round;
-  vars = field bytes places.vars;
-  comments = field bytes places.comments;
-  nags = field bytes places.nags;
+  -- 0 to 3: where the record begins in the games file. 4, 5: its length; byte 6 has its highest bit in bit 7.
+  offset = field bytes (bits 0 0 32);
+  len = field bytes (bits 6 0 1 ++ bits 4 0 16);
+  -- 7, 8: the flags in bits 0 to 3, and the user marks above them; bits 0 to 5 of byte 6, the custom marks, are above these.
+  own_start = nat_eq (field bytes (bits 7 15 1)) 1;
+  promo = nat_eq (field bytes (bits 7 14 1)) 1;
+  under = nat_eq (field bytes (bits 7 13 1)) 1;
+  deleted = nat_eq (field bytes (bits 7 12 1)) 1;
+  marks = field bytes (bits 6 2 6 ++ bits 7 0 12);
+  -- 9 to 20: the ids of the names. Bytes 9 and 14 have their high bits, and then two bytes each the low 16.
+  white = field bytes (bits 9 0 4 ++ bits 10 0 16);
+  black = field bytes (bits 9 4 4 ++ bits 12 0 16);
+  event = field bytes (bits 14 0 3 ++ bits 15 0 16);
+  site = field bytes (bits 14 3 3 ++ bits 17 0 16);
+  round = field bytes (bits 14 6 2 ++ bits 19 0 16);
+  -- 21, 22: the result in bits 12 to 15, and below it the codes of the numbers of NAGs, comments and variations.
+  vars = field bytes (bits 21 12 4);
+  comments = field bytes (bits 21 8 4);
+  nags = field bytes (bits 21 4 4);
   result = outcome_of (field bytes places.outcome);
   eco = field bytes places.eco;
   date = date_in bytes;
   event_date = event_date_in bytes;
   white_rating = rating_of (field bytes places.white_kind) (field bytes places.white_value);
   black_rating = rating_of (field bytes places.black_kind) (field bytes places.black_value);
-  material = map (field bytes) places.material;
-  plies = field bytes places.plies;
+  -- 34 to 36: the final material, from the highest bit on: queens, rooks, bishops, knights with 2 bits and pawns with 4, White's and then Black's.
+  material =
+      map (field bytes) (bits 34 0 2 ∷ bits 34 2 2 ∷ bits 34 4 2 ∷ bits 34 6 2 ∷ bits 34 8 4
+      ∷ bits 34 12 2 ∷ bits 34 14 2 ∷ bits 34 16 2 ∷ bits 34 18 2 ∷ bits 34 20 4 ∷ []);
+  -- 37: the low 8 bits of the half-moves; byte 38 has the top two in bits 6 and 7.
+  plies = field bytes (bits 38 0 2 ++ bits 37 0 8);
   home_count = field bytes places.home_count;
   home = map (home_in bytes) (range_with_len 0 16);
 }
