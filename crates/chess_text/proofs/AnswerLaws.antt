@@ -1,5 +1,6 @@
 -- The computed answers to the texts of moves and positions are the right ones.
-use Rattle.std.proofs.Common.{◌≡◌, ◌⊎◌, inl, inr, ◌≤◌, ◌<◌, ◌+◌, ◌==◌, ◌&&◌, ◌||◌, nat_le, ℕ, zero, suc, Bool, true, false, not, cond, List, [], ◌∷◌, map, filter, Option, Some, None, Result, Ok, Err, IfOk, IfErr, IfSome, MatchResult, refl, sym, ap, ◌∙◌, subst, arith, length, count_by}
+use Rattle.std.proofs.Common.{◌≡◌, ◌⊎◌, inl, inr, ◌≤◌, ◌<◌, ◌+◌, ◌*◌, length-append, ◌==◌, ◌&&◌, ◌||◌, nat_le, ℕ, zero, suc, Bool, true, false, not, cond, List, [], ◌∷◌, map, filter, Option, Some, None, Result, Ok, Err, IfOk, IfErr, IfSome, MatchResult, refl, sym, ap, ◌∙◌, subst, arith, length, count_by}
+use Rattle.std.specs.Prelude.{IsTrue}
 use Rattle.std.specs.Bool.{Decides}
 use Rattle.std.proofs.lemmas.Bool.{cases_Bool, and_parts, and_from, not-true, true≢false, leb-true, le-leb, cases_lt}
 use Rattle.std.proofs.lemmas.List.{get_or_past}
@@ -7,7 +8,7 @@ use Rattle.std.proofs.lemmas.Bool.Decides.{Decides-and, Decides-eqb, Decides-bel
 use Rattle.cell_core.specs.declared.man.Colour.{Colour}
 use Rattle.cell_core.specs.declared.man.Colour.TheVariants.{White, Black}
 use Rattle.cell_core.specs.declared.man.Kind.{Kind}
-use Rattle.cell_core.specs.declared.man.Kind.TheVariants.{King, Pawn}
+use Rattle.cell_core.specs.declared.man.Kind.TheVariants.{King, Rook, Pawn}
 use Rattle.cell_core.specs.declared.man.Man.{Man}
 use Rattle.cell_core.specs.declared.step.Move.{Move}
 use Rattle.cell_core.specs.Board.{Men, man_at}
@@ -21,7 +22,8 @@ use Rattle.chess_laws.specs.declared.fault.PlaceFault.{PlaceFault}
 use Rattle.chess_laws.specs.declared.fault.PlaceFault.TheVariants as place
 use Rattle.chess_laws.specs.Geometry.{file_of, rank_of}
 use Rattle.chess_laws.specs.LegalNow.{some_below, in_check_now}
-use Rattle.chess_laws.specs.Position.{Sound, Breaks, HasKings, HasPawnsInside, HasFewMen, HasFitEnPassant, king_square, en_passant_rank}
+use Rattle.chess_laws.specs.Position.{Sound, Breaks, HasKings, HasPawnsInside, HasFewMen, HasFitEnPassant, king_square, en_passant_rank, has_bit, bits_of, is_at_home, rights_of}
+use Rattle.chess_laws.specs.Castling.{StandAtHome, has_right, king_home, rook_home}
 use Rattle.chess_laws.specs.Step.{effect_of}
 use Rattle.chess_laws.proofs.Deciding.{legal-Decides, in_check-Decides}
 use Rattle.chess_laws.proofs.Kings.{king-only, is_man-Some, is_man-true}
@@ -31,12 +33,13 @@ use Rattle.chess_text.specs.declared.shape.Going.{Going}
 use Rattle.chess_text.specs.declared.shape.Shape.{Shape}
 use Rattle.chess_text.specs.declared.shape.Shape.TheVariants.{Castle, Null, Goes}
 use Rattle.chess_text.specs.Fault.{fault_of}
-use Rattle.chess_text.specs.Fen.{kept, FenReads, FenFaultOf}
+use Rattle.chess_text.specs.Placement.{RanksText, PlacementText}
+use Rattle.chess_text.specs.Fen.{placement_field, kept, FenReads, FenFaultOf}
 use Rattle.chess_text.specs.FieldReading.{setup_named}
 use Rattle.chess_text.specs.SanReading.{shape_named}
 use Rattle.chess_text.specs.SanReads.{has_own_form, Fits, SanReads, SanFaultOf}
 use Rattle.chess_text.specs.SanSearch.{AreTwo, AnswersShape, FitsFrom, FoundBelow}
-use Rattle.chess_text.proofs.FenLaws.{fen_text_only, fen_fault_only}
+use Rattle.chess_text.proofs.FenLaws.{fen_text_found, fen_text_only, fen_fault_only}
 use Rattle.chess_text.proofs.SearchLaws.{same-move, found-none, found-some, found-two, found-all, castle-one, null-one, answers-text, shapeless}
 use Rattle.chess_text.specs.SanAnswer.{goes, castling, is_castling, is_null, is_as_said, below, from_square, fits_now, only_of, shape_answer, san_answer}
 use Rattle.chess_text.specs.FenAnswer.{has_kings, has_pawn_outside, has_few_men, is_fit, first_broken, placed_unless, placed, fen_answer}
@@ -389,3 +392,76 @@ fen_is text (Ok p) reads faulty =
     let sound : Sound (kept reads.says) = subst Sound reads.position reads.sound in
     sym (ap placed fields ∙ ap (placed_unless (kept reads.says)) (sound_unbroken (kept reads.says) sound) ∙ ap Ok (sym reads.position))
 fen_is text (Err fault) reads faulty = sym (fault_from (setup_named text) fault (fen_fault_only text fault faulty))
+
+-- ---- what the answer to the text of a position says
+
+ranks_long : (n : ℕ) (text : List ℕ) (squares : Men) → RanksText n text squares → length squares ≡ 8 * (n + 1)
+unfolding RanksText
+ranks_long zero text squares h = h.1
+ranks_long (suc n) text squares (top, below, rank, lower, spelled, is, row, long, more) =
+    omega (arith, ap length is, length-append lower rank, ranks_long n below lower more)
+
+placement_long : (text : List ℕ) (men : Men) → PlacementText text men → length men ≡ 64
+unfolding PlacementText
+placement_long text men h = ranks_long 7 text men h
+
+home_at : (men : Men) (c : Colour) (w : Wing) (bit : Bool) → IsTrue (bit && is_at_home men c w) → StandAtHome men c w
+home_at men c w bit h =
+    let both = and_parts bit (is_at_home men c w) h in
+    let men_there = and_parts (is_man c King (man_at men (king_home c))) (is_man c Rook (man_at men (rook_home c w))) both.1 in
+    record { king = is_man-Some c King (man_at men (king_home c)) men_there.0; rook = is_man-Some c Rook (man_at men (rook_home c w)) men_there.1 }
+
+rights_fit : (men : Men) (bits : ℕ) (c : Colour) (w : Wing) → IsTrue (has_right (rights_of men bits) c w) → StandAtHome men c w
+rights_fit men bits White KingSide h = home_at men White KingSide (has_bit bits 0) h
+rights_fit men bits White QueenSide h = home_at men White QueenSide (has_bit bits 1) h
+rights_fit men bits Black KingSide h = home_at men Black KingSide (has_bit bits 2) h
+rights_fit men bits Black QueenSide h = home_at men Black QueenSide (has_bit bits 3) h
+
+chain_none : (kings pawns few check fit : Bool) → chain kings pawns few check fit ≡ None
+    → (kings ≡ true) × (pawns ≡ true) × (few ≡ true) × (check ≡ false) × (fit ≡ true)
+unfolding chain
+chain_none true true true false true h = (refl, refl, refl, refl, refl)
+chain_none true true true false false h = absurd (cc)
+chain_none true true true true fit h = absurd (cc)
+chain_none true true false check fit h = absurd (cc)
+chain_none true false few check fit h = absurd (cc)
+chain_none false pawns few check fit h = absurd (cc)
+
+unbroken_sound : (says : Setup) → length says.board ≡ 64 → first_broken (kept says) ≡ None → Sound (kept says)
+unbroken_sound says long none =
+    let p = kept says in
+    let tests = chain_none (has_kings p.board) (not (has_pawn_outside p.board White || has_pawn_outside p.board Black))
+    (has_few_men p.board) (in_check_now p.board (other p.side)) (is_fit p.side p.en_passant) (sym (chained p) ∙ none) in
+    record {
+      squares = long;
+      kings = (kings-Decides p.board).0 tests.0;
+      pawns = (pawns-Decides p.board).0 tests.1;
+      few = (few-Decides p.board).0 tests.2;
+      not_in_check = not_from_Decides (in_check_now p.board (other p.side)) (in_check-Decides p.board (other p.side)) tests.3;
+      rights = rights_fit says.board (bits_of says.rights);
+      en_passant = (fit-Decides p.side p.en_passant).0 tests.4;
+    }
+
+unless_sound : (says p : Setup) (broken : Option PlaceFault) → length says.board ≡ 64 → first_broken (kept says) ≡ broken
+    → placed_unless (kept says) broken ≡ Ok p → Sound p
+unless_sound says p None long none is = let same : kept says ≡ p = cc in subst Sound same (unbroken_sound says long none)
+unless_sound says p (Some broken) long some is = absurd (cc)
+
+placed_sound : (fields : Result Setup FenFault) (p : Setup) → IfOk fields (λ says. length says.board ≡ 64) → placed fields ≡ Ok p → Sound p
+placed_sound (Ok says) p long is = unless_sound says p (first_broken (kept says)) long refl is
+placed_sound (Err fault) p long is = absurd (cc)
+
+says_long : (text : List ℕ) (fields : Result Setup FenFault) → setup_named text ≡ fields → IfOk fields (λ says. length says.board ≡ 64)
+says_long text (Ok says) is =
+    let says_it = fen_text_found text says is in
+    placement_long (placement_field says_it.words) says.board says_it.placement
+says_long text (Err fault) is = tt
+
+-- The position that a text says keeps the rules.
+pub answer_sound : (text : List ℕ) (p : Setup) → fen_answer text ≡ Ok p → Sound p
+unfolding fen_answer
+answer_sound text p is = placed_sound (setup_named text) p (says_long text (setup_named text) refl) is
+
+-- A text that reads as a position says it.
+pub reads_answer : (text : List ℕ) (p : Setup) → FenReads text p → fen_answer text ≡ Ok p
+reads_answer text p reads = sym (fen_is text (Ok p) reads tt)

@@ -1,6 +1,7 @@
 -- A text has at most one shape, and the reader finds it.
 use Rattle.std.proofs.Common.{◌≡◌, ℕ, zero, suc, ◌+◌, ◌<◌, ◌≤◌, ◌⊎◌, inl, inr, ◌==◌, nat_le, nat_lt, Bool, true, false, cond, List, [], ◌∷◌, ◌++◌, Option, Some, None, is_some, IsTrue, IfSome, refl, sym, ◌∙◌, ap, subst, arith, append_assoc}
 use Rattle.std.specs.List.{list_all}
+use Rattle.std.specs.Prelude.{unwrap_or}
 use Rattle.std.proofs.lemmas.Bool.{ltb-true, leb-true, false≢true, and_parts, or_cases, eqb-true, cases_Bool}
 use Rattle.cell_core.specs.declared.man.Kind.{Kind}
 use Rattle.cell_core.specs.declared.man.Kind.TheVariants.{King, Queen, Rook, Bishop, Knight, Pawn}
@@ -14,7 +15,7 @@ use Rattle.chess_text.specs.declared.shape.Shape.TheVariants.{Castle, Null, Goes
 use Rattle.chess_text.specs.Letters.{capital_of}
 use Rattle.chess_text.specs.Squares.{file_text, rank_text, square_text}
 use Rattle.chess_text.specs.SanShape.{man_text, castling_text, castling_digits, null_text, part, IsCaptureSign, IsPromotion, IsMoveText, AreSigns, HasShape}
-use Rattle.chess_text.specs.SanReading.{promotion_named, piece_named, file_named, rank_named, is_capture_sign, is_sign, front, behind, or_pawn, begins, passed, square_from, square_front, behind_square, promotion_front, behind_promotion, aimed, ended, from_capture, from_rank, from_file, from_kind, going_named, is_form, form_named, shape_from, shape_named}
+use Rattle.chess_text.specs.SanReading.{promotion_named, piece_named, file_named, rank_named, is_capture_sign, is_sign, front, behind, begins, passed, square_from, square_front, behind_square, promotion_front, behind_promotion, aimed, ended, from_capture, from_rank, from_file, from_kind, going_named, is_form, form_named, shape_from, shape_named}
 
 -- ---- what the bytes of files and ranks name
 
@@ -334,11 +335,11 @@ letter-rank byte r h =
 
 -- each part of the text, and what is left of it
 kind-from : (byte : ℕ) (text : List ℕ) (o : Option Kind) → piece_named byte ≡ o
-    → byte ∷ text ≡ man_text (or_pawn (piece_named byte)) ++ cond (is_some (piece_named byte)) text (byte ∷ text)
+    → byte ∷ text ≡ man_text (unwrap_or (piece_named byte) Pawn) ++ cond (is_some (piece_named byte)) text (byte ∷ text)
 kind-from byte text None h = rw h refl
 kind-from byte text (Some k) h = rw h (rw (letter-piece byte k h) refl)
 
-kind-spelled : (text : List ℕ) → text ≡ man_text (or_pawn (front piece_named text)) ++ behind piece_named text
+kind-spelled : (text : List ℕ) → text ≡ man_text (unwrap_or (front piece_named text) Pawn) ++ behind piece_named text
 kind-spelled [] = refl
 kind-spelled (byte ∷ text) = kind-from byte text (piece_named byte) refl
 
@@ -549,7 +550,7 @@ going-shape text g h =
     let r = rank-spelled t₂ in
     let x = capture-spelled t₃ in
     let q = promotion-spelled t₅ in
-    cut-shape text (or_pawn (front piece_named text)) (front file_named t₁) (front rank_named t₂) (begins is_capture_sign t₃)
+    cut-shape text (unwrap_or (front piece_named text) Pawn) (front file_named t₁) (front rank_named t₂) (begins is_capture_sign t₃)
     (square_front t₄) (promotion_front t₅) (behind_promotion t₅) (record {
       capture = x.capture;
       promotion = q.promotion;

@@ -43,9 +43,8 @@ or_word [] default = default
 or_word (byte ∷ word) default = byte ∷ word
 
 abbrev pub side_named : List ℕ → Option Colour
-side_named [] = None
 side_named (byte ∷ []) = cond (byte == 119) (Some White) (cond (byte == 98) (Some Black) None)
-side_named (first ∷ second ∷ word) = None
+side_named _ = None
 
 -- The rights with one more, where the letter names one that is not there yet.
 unfoldable pub with_right : Rights → ℕ → Option Rights
@@ -70,10 +69,9 @@ square_named side file rank =
     (Some (Some (8 * en_passant_rank side + (file - 97)))) None
 
 abbrev pub en_passant_named : Colour → List ℕ → Option (Option ℕ)
-en_passant_named side [] = None
 en_passant_named side (byte ∷ []) = cond (byte == 45) (Some None) None
 en_passant_named side (file ∷ rank ∷ []) = square_named side file rank
-en_passant_named side (file ∷ rank ∷ third ∷ word) = None
+en_passant_named side _ = None
 
 abbrev pub is_counter : List ℕ → Bool
 is_counter word = nat_lt 0 (length word) && list_all is_ascii_digit word

@@ -31,20 +31,12 @@ castling p wing = goes (king_square p.board p.side) (king_target p.side wing)
 
 abbrev pub is_castling : Wing → Effect → Bool
 is_castling KingSide (effect.Castle KingSide) = true
-is_castling KingSide (effect.Castle QueenSide) = false
-is_castling QueenSide (effect.Castle KingSide) = false
 is_castling QueenSide (effect.Castle QueenSide) = true
-is_castling wing effect.Plain = false
-is_castling wing effect.Double = false
-is_castling wing effect.Passing = false
-is_castling wing effect.Null = false
+is_castling wing _ = false
 
 abbrev pub is_null : Effect → Bool
-is_null effect.Plain = false
-is_null effect.Double = false
-is_null effect.Passing = false
-is_null (effect.Castle wing) = false
 is_null effect.Null = true
+is_null _ = false
 
 -- Whether a file or a rank is the one that is said, if one is.
 abbrev pub is_as_said : Option ℕ → ℕ → Bool

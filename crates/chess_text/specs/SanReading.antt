@@ -1,5 +1,5 @@
 -- What the reader of a move's text answers part by part.
-use Rattle.std.specs.Prelude.{ℕ, ◌-◌, ◌==◌, ◌&&◌, ◌||◌, nat_le, nat_lt, Bool, true, false, cond, List, [], ◌∷◌, Option, Some, None, is_some, drop}
+use Rattle.std.specs.Prelude.{ℕ, ◌-◌, ◌==◌, ◌&&◌, ◌||◌, nat_le, nat_lt, Bool, false, cond, List, [], ◌∷◌, Option, Some, None, is_some, unwrap_or, drop}
 use Rattle.std.specs.List.{list_all}
 use Rattle.cell_core.specs.declared.man.Kind.{Kind}
 use Rattle.cell_core.specs.declared.man.Kind.TheVariants.{King, Queen, Rook, Bishop, Knight, Pawn}
@@ -44,11 +44,6 @@ abbrev pub behind : {A : Type 0} → (ℕ → Option A) → List ℕ → List �
 behind named [] = []
 behind named (byte ∷ text) = cond (is_some (named byte)) text (byte ∷ text)
 
--- The kind of the man that moves: a pawn where no letter says another.
-abbrev pub or_pawn : Option Kind → Kind
-or_pawn None = Pawn
-or_pawn (Some kind) = kind
-
 -- Whether the text begins with such a byte, and what stands behind it then.
 abbrev pub begins : (ℕ → Bool) → List ℕ → Bool
 begins is_it [] = false
@@ -60,9 +55,8 @@ passed is_it (byte ∷ text) = cond (is_it byte) text (byte ∷ text)
 
 -- The square that the first two bytes name, if they do, and what stands behind it then.
 abbrev pub square_from : Option ℕ → Option ℕ → Option ℕ
-square_from None rank = None
-square_from (Some file) None = None
 square_from (Some file) (Some rank) = Some (square file rank)
+square_from _ _ = None
 
 unfoldable pub square_front : List ℕ → Option ℕ
 square_front text = square_from (front file_named text) (front rank_named (drop 1 text))
@@ -82,11 +76,9 @@ behind_promotion text =
 abbrev pub aimed : Kind → Option ℕ → Option ℕ → Bool → Option ℕ → Option Kind → Option Going
 aimed k file rank takes (Some target) promo =
     Some (record { kind = k; file = file; rank = rank; target = target; promo = promo })
-aimed k None rank takes None promo = None
-aimed k (Some file) None takes None promo = None
-aimed k (Some file) (Some rank) true None promo = None
 aimed k (Some file) (Some rank) false None promo =
     Some (record { kind = k; file = None; rank = None; target = square file rank; promo = promo })
+aimed k _ _ _ None promo = None
 
 -- The same, where only signs follow.
 abbrev pub ended : Option Going → List ℕ → Option Going
@@ -109,8 +101,9 @@ from_file kind file text = from_rank kind file (front rank_named text) (behind r
 abbrev pub from_kind : Kind → List ℕ → Option Going
 from_kind kind text = from_file kind (front file_named text) (behind file_named text)
 
+-- The kind of the man that moves is a pawn where no letter says another.
 unfoldable pub going_named : List ℕ → Option Going
-going_named text = from_kind (or_pawn (front piece_named text)) (behind piece_named text)
+going_named text = from_kind (unwrap_or (front piece_named text) Pawn) (behind piece_named text)
 
 -- Whether the text is this form, and then only signs.
 abbrev pub is_form : List ℕ → List ℕ → Bool

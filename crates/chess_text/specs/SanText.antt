@@ -1,14 +1,14 @@
 -- The text of a legal move as it is computed: the one text that San.antt allows (PGN standard, 8.2.3).
 use Rattle.std.specs.Prelude.{ℕ, ◌==◌, ◌&&◌, ◌||◌, not, Bool, if◌then◌else◌, List, [], ◌∷◌, ◌++◌, Option, Some, None, codes}
 use Rattle.cell_core.specs.declared.man.Kind.{Kind}
-use Rattle.cell_core.specs.declared.man.Kind.TheVariants.{King, Queen, Rook, Bishop, Knight, Pawn}
+use Rattle.cell_core.specs.declared.man.Kind.TheVariants.{Queen, Rook, Bishop, Knight, Pawn}
 use Rattle.cell_core.specs.declared.man.Man.{Man}
 use Rattle.cell_core.specs.declared.step.Move.{Move}
 use Rattle.cell_core.specs.Board.{man_at}
 use Rattle.cell_core.specs.Man.{is_man}
 use Rattle.chess_laws.specs.declared.setup.Setup.{Setup}
 use Rattle.chess_laws.specs.declared.effect.Effect.{Effect}
-use Rattle.chess_laws.specs.declared.effect.Effect.TheVariants.{Plain, Double, Passing, Castle, Null}
+use Rattle.chess_laws.specs.declared.effect.Effect.TheVariants.{Castle, Null}
 use Rattle.chess_laws.specs.Geometry.{file_of, rank_of}
 use Rattle.chess_laws.specs.Step.{effect_of, after}
 use Rattle.chess_laws.specs.LegalNow.{some_below, in_check_now, legal_now}
@@ -33,16 +33,10 @@ origin_now p k m =
     else file_text (file_of m.from))
     else []
 
-abbrev pub piece_now : Setup → Kind → Move → List ℕ
-piece_now p k m = capital_of k ∷ (origin_now p k m ++ (capture_text p m ++ square_text m.to))
-
+-- The text of a man of this kind that goes, without a sign.
 abbrev pub kind_now : Setup → Kind → Move → List ℕ
-kind_now p King m = piece_now p King m
-kind_now p Queen m = piece_now p Queen m
-kind_now p Rook m = piece_now p Rook m
-kind_now p Bishop m = piece_now p Bishop m
-kind_now p Knight m = piece_now p Knight m
 kind_now p Pawn m = pawn_text p m
+kind_now p k m = capital_of k ∷ (origin_now p k m ++ (capture_text p m ++ square_text m.to))
 
 abbrev pub going_now : Option Man → Setup → Move → List ℕ
 going_now None p m = []
@@ -64,11 +58,9 @@ abbrev pub sign_now : Setup → List ℕ
 sign_now q = if in_check_now q.board q.side then (if has_move_now q then codes "+" else codes "#") else []
 
 abbrev pub san_now : Effect → Setup → Move → List ℕ
-san_now Plain p m = going_now (man_at p.board m.from) p m ++ sign_now (after p m Plain)
-san_now Double p m = going_now (man_at p.board m.from) p m ++ sign_now (after p m Double)
-san_now Passing p m = going_now (man_at p.board m.from) p m ++ sign_now (after p m Passing)
 san_now (Castle wing) p m = castling_text wing ++ sign_now (after p m (Castle wing))
 san_now Null p m = null_text
+san_now effect p m = going_now (man_at p.board m.from) p m ++ sign_now (after p m effect)
 
 -- The text of a legal move.
 unfoldable pub san_text : Setup → Move → List ℕ

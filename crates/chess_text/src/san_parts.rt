@@ -1,7 +1,8 @@
 //! The parts of a move's text, from the left.
-ghost use Rattle.std.specs.Prelude.{◌≡◌, ◌==◌, IfSome, ◌<◌};
+ghost use Rattle.std.specs.Prelude.{◌≡◌, ◌==◌, IfSome, ◌<◌, unwrap_or};
 ghost use Rattle.std.specs.List.{list_all};
-ghost use Rattle.chess_text.specs.SanReading.{promotion_named, piece_named, file_named, rank_named, is_capture_sign, is_sign, front, behind, or_pawn, begins, passed, square_front, behind_square, promotion_front, behind_promotion};
+ghost use Rattle.cell_core.specs.declared.man.Kind.TheVariants.{Pawn};
+ghost use Rattle.chess_text.specs.SanReading.{promotion_named, piece_named, file_named, rank_named, is_capture_sign, is_sign, front, behind, begins, passed, square_front, behind_square, promotion_front, behind_promotion};
 
 use cell_core::{Kind, Square};
 
@@ -59,7 +60,7 @@ fn rank_of(byte: u8) -> Option<u8>
 
 // The kind of the man that moves, and what stands behind its letter.
 pub fn take_kind(text: &[u8]) -> (Kind, &[u8])
-    ensures kind { result.0 ≡ or_pawn (front piece_named text.now) }
+    ensures kind { result.0 ≡ unwrap_or (front piece_named text.now) Pawn }
     ensures rest { result.1.now ≡ behind piece_named text.now }
 {
     if let [byte, rest @ ..] = text {

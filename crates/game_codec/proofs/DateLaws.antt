@@ -3,7 +3,8 @@ use Rattle.std.proofs.Common.{◌≡◌, ℕ, Bool, true, false, cond, not, List
 use Rattle.std.proofs.lemmas.Slice.Eq.{bytes_eq-Decides}
 use Rattle.game_tree.specs.Date.{date_read}
 use Rattle.game_tree.specs.Game.{GameTree}
-use Rattle.game_tree.specs.Settle.{event_date_name, first_near_date, first_of, near_date, near_only}
+use Rattle.std.specs.Option.{option_or}
+use Rattle.game_tree.specs.Settle.{event_date_name, first_near_date, near_date, near_only}
 use Rattle.game_tree.specs.TagList.{is_named}
 use Rattle.game_tree.specs.TagName.{free_of, is_reserved, rating_of}
 use Rattle.game_tree.specs.declared.date.Date.{Date}
@@ -39,8 +40,8 @@ reserved_none game tag false is reserved = near_named game tag false is refl
 put : (game : Date) (tag : Tag) (tags : List Tag) (reserved : Bool) → is_reserved tag.name ≡ reserved → first_near_date game (free_of tags) ≡ first_near_date game tags
     → first_near_date game (cond (not reserved) (tag ∷ free_of tags) (free_of tags)) ≡ first_near_date game (tag ∷ tags)
 put game tag tags true is on =
-    on ∙ sym (ap (λ (o : Option Date). first_of o (first_near_date game tags)) (reserved_none game tag (is_named event_date_name tag) refl is))
-put game tag tags false is on = ap (first_of (near_date game tag)) on
+    on ∙ sym (ap (λ (o : Option Date). option_or o (first_near_date game tags)) (reserved_none game tag (is_named event_date_name tag) refl is))
+put game tag tags false is on = ap (option_or (near_date game tag)) on
 
 pub free_dates : (game : Date) (tags : List Tag) → first_near_date game (free_of tags) ≡ first_near_date game tags
 free_dates game [] = refl
@@ -81,7 +82,7 @@ none_is : (o : Option Date) → is_some o ≡ false → o ≡ None
 none_is None e = refl
 none_is (Some date) e = absurd (no (sym e))
 
-some_first : (o later : Option Date) → is_some o ≡ true → first_of o later ≡ o
+some_first : (o later : Option Date) → is_some o ≡ true → option_or o later ≡ o
 some_first None later e = absurd (no e)
 some_first (Some date) later e = refl
 
@@ -95,7 +96,7 @@ dates_more game bytes rest later used date is none later_is from = λ tags behin
         subst (λ (l : List ℕ). BeginsTags l split.others behind) (sym later_is) split.begins,
         on.1.1
             ∙ ap (first_near_date game) split.are
-            ∙ ap (λ (o : Option Date). first_of o (first_near_date game split.others)) (sym is.date_is ∙ none_is date none),
+            ∙ ap (λ (o : Option Date). option_or o (first_near_date game split.others)) (sym is.date_is ∙ none_is date none),
       ),
     )
 
@@ -105,7 +106,7 @@ dates_found game bytes rest used date is some from tags tree r =
     let on = from r.all_tags r.behind_tags r.tags_first in
     let split = starts rest is.tag (drop used rest) on.0 r.behind_tags is.begins on.1.0 in
     sym (some_first date (first_near_date game split.others) some)
-    ∙ ap (λ (o : Option Date). first_of o (first_near_date game split.others)) is.date_is
+    ∙ ap (λ (o : Option Date). option_or o (first_near_date game split.others)) is.date_is
     ∙ sym (ap (first_near_date game) split.are)
     ∙ sym on.1.1
     ∙ sym (free_dates game r.all_tags)

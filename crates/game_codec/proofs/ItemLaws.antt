@@ -10,6 +10,7 @@ use Rattle.game_codec.specs.Place.{Place, Takes, FaultAt, IsMisplaced}
 use Rattle.game_codec.specs.Token.{Token, Play, Nag, Comment, Open, Close, End}
 use Rattle.game_codec.specs.declared.fault.RecordWhat.{RecordWhat}
 use Rattle.game_codec.specs.declared.fault.RecordWhat.TheVariants as what
+use Rattle.game_codec.proofs.DecodedLaws.{to_decodes}
 
 -- An item with the bytes behind it, or a fault.
 abbrev Answer : Type 0
@@ -85,7 +86,7 @@ told_close p later deep = let test : eqb p.depth 0 ≡ false = grind (arith, nat
 
 Takes-told : (p : Place) (bytes : List ℕ) (a : Token) (r : List ℕ) → Takes p bytes a r → Told p bytes (Ok (a, r))
 Takes-told p bytes (Play m) r h =
-    moves h.0.0 h.0.1 h.0.2 h.0.3 (Ok (m, h.1.0)) h.1.1 (rw h.1.2 refl)
+    moves h.0.0 h.0.1 h.0.2 h.0.3 (Ok (m, h.1.0)) (to_decodes p.here bytes (Ok (m, h.1.0)) h.1.1) (rw h.1.2 refl)
 Takes-told p bytes (Nag n) r h = marks 11 (n ∷ r) h.1 refl (rw h.0 refl)
 Takes-told p bytes Comment r h = marks 12 r h.1 refl (rw h.0 refl)
 Takes-told p bytes Open r h = marks 13 r h.2 refl (told_open p r h.0 h.1)
@@ -116,7 +117,7 @@ FaultAt-told p bytes what.Short h = told_short p bytes h
 FaultAt-told p bytes what.Mark h = told_misplaced p bytes h
 FaultAt-told p bytes what.TwoComments h = marks 12 h.1.0 h.1.1 refl (rw h.0 refl)
 FaultAt-told p bytes what.Depth h = marks 13 h.1.1.0 h.1.1.1 refl (told_depth p h.1.1.0 h.0 h.1.0)
-FaultAt-told p bytes (what.Move fault) h = moves h.0.0 h.0.1 h.0.2 h.0.3 (Err fault) h.1 refl
+FaultAt-told p bytes (what.Move fault) h = moves h.0.0 h.0.1 h.0.2 h.0.3 (Err fault) (to_decodes p.here bytes (Err fault) h.1) refl
 FaultAt-told p bytes what.TagCode h = absurd h
 FaultAt-told p bytes what.TagName h = absurd h
 FaultAt-told p bytes what.TagValue h = absurd h

@@ -1,10 +1,11 @@
 -- A game that a record spells is legal.
-use Rattle.std.proofs.Common.{ℕ, ◌+◌, ◌≤◌, List, [], ◌∷◌, Option, Some, None, length, ap, arith}
+use Rattle.std.proofs.Common.{ℕ, ◌+◌, ◌≤◌, List, [], ◌∷◌, Option, Some, None, length, ap, arith, Ok}
 use Rattle.game_tree.specs.Tree.{depth_of, depth_within}
 use Rattle.game_tree.specs.Movetext.{Movetext, end, move, nag, comment, variation, as_comment, joined, Said, meaning}
 use Rattle.game_tree.specs.Legal.{IsComment, IsLegalLine, AreLegalBranches, IsLegalGame}
 use Rattle.chess_laws.proofs.Stepping.{Legal-stepped}
 use Rattle.move_codec.specs.Numbers.{Numbered}
+use Rattle.game_codec.proofs.DecodedLaws.{to_decodes}
 use Rattle.game_codec.specs.Place.{Place, beginning, after_move, after_comment, variation_of}
 use Rattle.game_codec.specs.Moves.{SpellsMoves}
 use Rattle.game_codec.specs.Record.{game_of}
@@ -30,7 +31,7 @@ Spells-legal p (move m s) bytes rest under spells =
     record {
       comment = tt;
       variations = tt;
-      line = (Legal-stepped p.here.position m spells.1.1.1.1, (on.comment, (on.variations, on.line)));
+      line = (Legal-stepped p.here.position m (to_decodes p.here bytes (Ok (m, spells.1.1.0)) spells.1.1.1).1, (on.comment, (on.variations, on.line)));
       depth_before = omega (arith, under);
       depth_behind = omega (arith, on.depth_before, on.depth_behind);
     }

@@ -8,6 +8,7 @@ use Rattle.game_tree.specs.Tree.{Branches, none}
 use Rattle.move_codec.specs.Numbers.{Numbered}
 use Rattle.move_codec.specs.Packed.{Decodes, is_mark}
 use Rattle.game_codec.specs.Token.{Token, Close, End}
+use Rattle.game_codec.proofs.DecodedLaws.{to_decodes}
 use Rattle.game_codec.specs.Place.{Place, Takes, ending, numbered_after, after_move, after_comment, variation_of}
 use Rattle.game_codec.specs.Moves.{SpellsMoves}
 use Rattle.game_codec.specs.Nests.{Hangs, IsCalm}
@@ -73,7 +74,7 @@ module _ (o : OpenLine) (lines : List OpenLine) (byte : ℕ) (later : List ℕ) 
       let first : left ≡ visit ∷ (now ++ rest) =
       are ∙ ap (λ (n : ℕ). visit ∷ ((branch_visits p.here.position n (meaning s).variations ++ line) ++ rest)) same in
       played (ap is_mark head ∙ due.3) m used (now ++ rest)
-      (subst (λ (n : Numbered). Decodes n (byte ∷ later) (Ok (m, used))) here_is spells.1.1.1)
+      (subst (λ (n : Numbered). Decodes n (byte ∷ later) (Ok (m, used))) here_is (to_decodes p.here (byte ∷ later) (Ok (m, used)) spells.1.1.1))
       (first ∙ ap (λ (n : Numbered). visit_from (length lines == 0) n.position o.ply m ∷ (now ++ rest)) here_is)
       (λ next is. (
         behind,

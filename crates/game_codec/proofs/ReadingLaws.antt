@@ -1,5 +1,5 @@
 -- A main line read item by item: what is read of a line and what a game's main line has.
-use Rattle.std.proofs.Common.{◌≡◌, ℕ, zero, suc, ◌+◌, ◌-◌, ◌<◌, ◌≤◌, inl, inr, ◌^◌, List, [], ◌∷◌, Some, None, length, drop, refl, sym, ap, subst, ◌∙◌, append-nil, length-drop, arith}
+use Rattle.std.proofs.Common.{◌≡◌, ℕ, zero, suc, ◌+◌, ◌-◌, ◌<◌, ◌≤◌, inl, inr, ◌^◌, List, [], ◌∷◌, Some, None, length, drop, refl, sym, ap, subst, ◌∙◌, append-nil, length-drop, arith, Ok}
 use Rattle.std.proofs.lemmas.Bool.{cases_eq}
 use Rattle.cell_core.specs.declared.step.Move.{Move}
 use Rattle.chess_laws.specs.Step.{Step}
@@ -15,6 +15,7 @@ use Rattle.game_codec.specs.Checking.{AreSomeTexts, full_among}
 use Rattle.game_codec.specs.Fault.{Breaks}
 use Rattle.game_codec.specs.Moves.{SpellsMoves, Upto, here, BreaksMoves}
 use Rattle.game_codec.specs.Nests.{IsKept, IsPast, token_of}
+use Rattle.game_codec.proofs.DecodedLaws.{to_decodes}
 use Rattle.game_codec.specs.Place.{Place, Takes, FaultAt, after_move, beginning, ending, variation_of}
 use Rattle.game_codec.specs.Reading.{BreaksLine, Does, Ends, HasRead, IsReading, Passes, Plays, Reads}
 use Rattle.game_codec.specs.Record.{IsRecord, game_of}
@@ -142,14 +143,15 @@ module _ (p q : At) (used : ℕ) (fits : used ≤ length p.rest.now) (some : 0 <
   pub plays : (m : Move) → t ≡ read.Play m → Plays p m q
   plays m is =
       let takes-move = taken (read.Play m) is in
+      let decodes = to_decodes p.place.here p.rest.now (Ok (m, takes-move.1.0)) takes-move.1.1 in
       let kept = kept-here (after_move p.place m) q.place (drop used p.rest.now) (passed (read.Play m) is) in
       record {
         reads = reads kept.1 (λ start bytes before h.
             tally.by_move start bytes p.place p.rest.now before p.tally h used fits some t takes q.place past q.rest.now later_is q.tally tally_is m is);
         less = omega (arith, size, some);
-        step = subst (λ (n : Numbered). Step p.place.here.position m n.position) (sym kept.0) (Legal-stepped p.place.here.position m takes-move.1.1.1);
+        step = subst (λ (n : Numbered). Step p.place.here.position m n.position) (sym kept.0) (Legal-stepped p.place.here.position m decodes.1);
         goes = λ moves g.
-            move_goes p.place.here q.place.here p.rest.now q.rest.now m takes-move.1.0 takes-move.0 takes-move.1.1 kept.0 (later_is ∙ takes-move.1.2) moves g;
+            move_goes p.place.here q.place.here p.rest.now q.rest.now m takes-move.1.0 takes-move.0 decodes kept.0 (later_is ∙ takes-move.1.2) moves g;
       }
 
   pub plays-as : (m n : Move) → t ≡ read.Play m → m ≡ n → Plays p n q

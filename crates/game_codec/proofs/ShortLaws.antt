@@ -1,5 +1,5 @@
 -- A game has no more moves than its record has bytes.
-use Rattle.std.proofs.Common.{ℕ, ◌+◌, ◌<◌, ◌≤◌, List, [], ◌∷◌, length, inl, inr, ap, arith, length-append, length-drop}
+use Rattle.std.proofs.Common.{ℕ, ◌+◌, ◌<◌, ◌≤◌, List, [], ◌∷◌, length, inl, inr, ap, arith, length-append, length-drop, Ok}
 use Rattle.game_tree.specs.Game.{GameTree}
 use Rattle.game_tree.specs.Tree.{moves_of}
 use Rattle.game_tree.specs.Movetext.{Movetext, end, move, nag, comment, variation, meaning}
@@ -11,13 +11,14 @@ use Rattle.game_codec.specs.TagSpelling.{BeginsTags}
 use Rattle.game_codec.specs.Start.{BeginsStart}
 use Rattle.game_codec.specs.Place.{Place, Takes, ending, beginning, after_move, after_comment, variation_of}
 use Rattle.game_codec.specs.Moves.{SpellsMoves}
+use Rattle.game_codec.proofs.DecodedLaws.{to_decodes}
 use Rattle.game_codec.specs.Record.{IsRecord}
 use Rattle.game_codec.specs.Token.{Token, Play, Nag, Comment, Open, Close, End}
 
 -- An item takes a byte at least.
 Takes-longer : (p : Place) (bytes : List ℕ) (token : Token) (later : List ℕ) → Takes p bytes token later → length later < length bytes
 Takes-longer p bytes (Play m) later takes =
-    let used = Decodes-used p.here bytes m takes.1.0 takes.1.1 in
+    let used = Decodes-used p.here bytes m takes.1.0 (to_decodes p.here bytes (Ok (m, takes.1.0)) takes.1.1) in
     let left = ap (λ (l : List ℕ). length l) takes.1.2 in
     omega (arith, used.0, used.1, left, length-drop takes.1.0 bytes)
 Takes-longer p bytes (Nag n) later takes = let e = ap (λ (l : List ℕ). length l) takes.1 in omega (arith, e)

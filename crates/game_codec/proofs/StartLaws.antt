@@ -1,14 +1,11 @@
 -- The start of a record has one reading.
-use Rattle.std.proofs.Common.{◌≡◌, ℕ, ◌%◌, inl, inr, List, [], ◌∷◌, ◌++◌, Result, Ok, Err, refl, sym, ap, subst, ◌∙◌, arith}
+use Rattle.std.proofs.Common.{◌≡◌, ℕ, ◌%◌, inl, inr, List, [], ◌∷◌, ◌++◌, refl, sym, ap, ◌∙◌, arith}
 use Rattle.cell_core.specs.Text.{IsZeroFree}
 use Rattle.chess_laws.specs.declared.setup.Setup.{Setup}
 use Rattle.chess_laws.specs.Position.{Sound}
 use Rattle.chess_laws.proofs.Start.{start-sound}
-use Rattle.chess_text.specs.declared.fault.FenFault.{FenFault}
-use Rattle.chess_text.specs.Fen.{kept, FenReads, FenFaultOf}
-use Rattle.chess_text.specs.FieldReading.{Answers}
 use Rattle.chess_text.specs.Written.{fen_text}
-use Rattle.chess_text.proofs.FenLaws.{fen_text_only, answers_first}
+use Rattle.chess_text.proofs.AnswerLaws.{reads_answer, answer_sound}
 use Rattle.chess_text.proofs.WritingLaws.{written_reads, written_zero_free}
 use Rattle.move_codec.specs.declared.numbers.Numbers.{Numbers}
 use Rattle.move_codec.specs.Numbers.{Numbered, AreNumbers, text_numbers}
@@ -20,23 +17,6 @@ use Rattle.game_codec.specs.declared.fault.RecordWhat.TheVariants as what
 use Rattle.game_codec.proofs.SameFault.{SameFault}
 use Rattle.game_codec.proofs.SameFaultLaws.{SameFault-same, SameFault-short}
 use Rattle.game_codec.proofs.ZeroLaws.{text_ends-one, text_ends-zero}
-
--- A text is the FEN of one position, or of none
-
-same_Ok : (p q : Setup) → ◌≡◌ {A = Result Setup FenFault} (Ok p) (Ok q) → p ≡ q
-same_Ok p q e = cc
-
-fen-one : (text : List ℕ) (p q : Setup) → FenReads text p → FenReads text q → p ≡ q
-fen-one text p q h k =
-    let says : h.says ≡ k.says
-    = same_Ok h.says k.says (sym (fen_text_only text h.says h.fields) ∙ fen_text_only text k.says k.fields) in
-    h.position ∙ ap kept says ∙ sym k.position
-
-fen-unbroken : (text : List ℕ) (p : Setup) (fault : FenFault) → FenReads text p → FenFaultOf text fault → ⊥
-fen-unbroken text p fault h broken =
-    let answers : Answers text (Ok p) = rw (fen_text_only text h.says h.fields) (h.position, h.sound) in
-    let e : ◌≡◌ {A = Result Setup FenFault} (Ok p) (Err fault) = answers_first text (Ok p) answers fault broken in
-    cc
 
 -- One start
 
@@ -66,8 +46,7 @@ BeginsStart-one bytes a b r s (inr h) (inl k) =
     let same = flags-one bytes h.flags k.flags _ _ h.spelled k.spelled in absurd (omega arith)
 BeginsStart-one bytes a b r s (inr h) (inr k) =
     let texts = text-one bytes h.flags k.flags h.text k.text r s h.zero_free k.zero_free h.spelled k.spelled in
-    let position : a.position ≡ b.position
-    = fen-one k.text a.position b.position (subst (λ (t : List ℕ). FenReads t a.position) texts.0 h.reads) k.reads in
+    let position : a.position ≡ b.position = let one = texts.0 in let a_reads = h.reads in let b_reads = k.reads in cc in
     (same_numbered a b position (h.numbers ∙ ap (λ (p : Setup). text_numbers p.board) position ∙ sym k.numbers), texts.1)
 
 -- A start or a fault
@@ -81,7 +60,7 @@ own-not_bad : (bytes : List ℕ) (a : Numbered) (r s : List ℕ) → IsOwnStart 
 own-not_bad bytes a r s h k =
     let e = rest-one bytes h.flags k.flags (h.text ++ 0 ∷ r) s h.spelled k.spelled in
     let texts = text_ends-one h.text k.text r k.later h.zero_free k.zero_free (e ∙ k.text_is) in
-    fen-unbroken k.text a.position k.fault (subst (λ (t : List ℕ). FenReads t a.position) texts.0 h.reads) k.faulty
+    let one = texts.0 in let reads = h.reads in let faulty = k.faulty in cc
 
 cut-not_bad : (bytes s : List ℕ) → IsCutStart bytes → IsBadStart bytes s → ⊥
 cut-not_bad bytes s h k =
@@ -152,7 +131,7 @@ own-begins flags p rest set sound =
       text = fen_text p;
       zero_free = written_zero_free p sound;
       spelled = refl;
-      reads = written_reads p sound;
+      reads = reads_answer (fen_text p) p (written_reads p sound);
       numbers = refl;
     })
 
@@ -160,11 +139,11 @@ own-begins flags p rest set sound =
 
 pub BeginsStart-Sound : (bytes : List ℕ) (a : Numbered) (r : List ℕ) → BeginsStart bytes a r → Sound a.position
 BeginsStart-Sound bytes a r (inl h) = rw h.start_is start-sound
-BeginsStart-Sound bytes a r (inr h) = h.reads.sound
+BeginsStart-Sound bytes a r (inr h) = answer_sound h.text a.position h.reads
 
 pub BeginsStart-numbers : (bytes : List ℕ) (a : Numbered) (r : List ℕ) → BeginsStart bytes a r
     → AreNumbers a.position.board a.numbers
 BeginsStart-numbers bytes a r (inl h) = rw h.start_is AreNumbers-standard
 BeginsStart-numbers bytes a r (inr h) =
-    let sound = h.reads.sound in
+    let sound = answer_sound h.text a.position h.reads in
     rw h.numbers (AreNumbers-text a.position.board sound.squares sound.kings sound.few)

@@ -17,6 +17,7 @@ use Rattle.move_codec.specs.Numbers.{Numbered, squares_of}
 use Rattle.move_codec.specs.Packed.{Decodes, diagonal_move, diagonal_square, is_diagonal, is_mark, king_differences, knight_differences, by_difference, named, named_by, named_from, named_value, on_diagonal, on_line, pawn_square, promotion, to_square}
 use Rattle.move_codec.proofs.Decoding.{to_square-takes}
 use Rattle.game_codec.specs.Token.{Token, Play, Close, End}
+use Rattle.game_codec.proofs.DecodedLaws.{to_decodes}
 use Rattle.game_codec.specs.Place.{Place, Takes, IsMoveDue, numbered_after, after_move, after_comment, variation_of}
 use Rattle.game_codec.specs.Moves.{SpellsMoves}
 use Rattle.game_codec.specs.Walking.{GoesOn, IsInside, Within}
@@ -86,7 +87,7 @@ module _ (byte : ℕ) (later behind : List ℕ) where
   moved : (p : Place) → 0 < p.depth → (m : Move) (s : Movetext) (rest : List ℕ) → Takes p (byte ∷ later) (Play m) rest
       → SpellsMoves (after_move p m) s rest behind → IsInside later behind
   moved p deep m s rest takes spells =
-      elim (named-second p.here byte later (m, takes.1.0) takes.1.1.0) [
+      elim (named-second p.here byte later (m, takes.1.0) (to_decodes p.here (byte ∷ later) (Ok (m, takes.1.0)) takes.1.1).0) [
         | inl one ↦
             let left : rest ≡ later = takes.1.2 ∙ ap (λ (n : ℕ). drop n (byte ∷ later)) one in
             record { place = after_move p m; movetext = s; inner = deep; spells = inl (subst (λ (l : List ℕ). SpellsMoves (after_move p m) s l behind) left spells) }
@@ -261,7 +262,7 @@ module _ (here : Numbered) (left : List Move) (byte : ℕ) (later behind : List 
       let same : byte ∷ later ≡ due.0 ∷ due.1 = due.2 in
       let head : byte ≡ due.0 = cc in
       played (ap is_mark head ∙ due.3) m spells.1.1.0 (moves_of (meaning s).line)
-      (subst (λ (n : Numbered). Decodes n (byte ∷ later) (Ok (m, spells.1.1.0))) here_is spells.1.1.1) (sym are)
+      (subst (λ (n : Numbered). Decodes n (byte ∷ later) (Ok (m, spells.1.1.0))) here_is (to_decodes p.here (byte ∷ later) (Ok (m, spells.1.1.0)) spells.1.1.1)) (sym are)
       (record {
         place = after_move p m;
         movetext = s;

@@ -1,5 +1,5 @@
 -- The written form is a record of the game and the tags.
-use Rattle.std.proofs.Common.{◌≡◌, ℕ, zero, suc, ◌+◌, ◌%◌, ◌<◌, ◌≤◌, max, Bool, true, false, IsTrue, List, [], ◌∷◌, ◌++◌, Option, Some, None, length, refl, sym, ap, subst, append_assoc, add-one, arith}
+use Rattle.std.proofs.Common.{◌≡◌, ℕ, zero, suc, ◌+◌, ◌%◌, ◌<◌, ◌≤◌, max, Bool, true, false, IsTrue, List, [], ◌∷◌, ◌++◌, Option, Some, None, Ok, length, refl, sym, ap, subst, append_assoc, add-one, arith}
 use Rattle.std.specs.Prelude.{All, if◌then◌else◌}
 use Rattle.std.proofs.Math.Seq.{drop-append_seam}
 use Rattle.std.proofs.lemmas.List.Elements.{All-append, All-cons, All-nil}
@@ -27,6 +27,7 @@ use Rattle.move_codec.specs.Packed.{encoding}
 use Rattle.move_codec.proofs.Apart.{encoding-apart}
 use Rattle.move_codec.proofs.RoundTrip.{round_trip}
 use Rattle.move_codec.proofs.Steps.{AreNumbers-step}
+use Rattle.game_codec.proofs.DecodedLaws.{from_decodes}
 use Rattle.game_codec.specs.Place.{Place, Takes, ending, numbered_after, beginning, after_move, after_comment, variation_of}
 use Rattle.game_codec.specs.Token.{Play}
 use Rattle.game_codec.specs.Moves.{SpellsMoves}
@@ -69,7 +70,8 @@ takes-play p m later stands legal =
       (due.0, due.1.0 ++ later, ap (λ (bytes : List ℕ). bytes ++ later) due.1.1.0, due.1.1.1),
       (
         length (encoding p.here m),
-        round_trip p.here m stands.sound.squares stands.numbers legal later,
+        from_decodes p.here (encoding p.here m ++ later) (Ok (m, length (encoding p.here m)))
+            (round_trip p.here m stands.sound.squares stands.numbers legal later),
         sym (drop-append_seam (encoding p.here m) later),
       ),
     )

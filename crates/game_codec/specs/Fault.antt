@@ -62,17 +62,7 @@ Breaks bytes rest what =
 abbrev pub place_of : ℕ → List ℕ → RecordWhat → ℕ
 place_of len rest what.Short = len
 place_of len rest (what.Move move.Short) = len
-place_of len rest (what.Move move.NoMan) = len - length rest
-place_of len rest (what.Move move.Value) = len - length rest
-place_of len rest (what.Move move.Illegal) = len - length rest
-place_of len rest what.TagCode = len - length rest
-place_of len rest what.TagName = len - length rest
-place_of len rest what.TagValue = len - length rest
-place_of len rest what.Fen = len - length rest
-place_of len rest what.Mark = len - length rest
-place_of len rest what.TwoComments = len - length rest
-place_of len rest what.Depth = len - length rest
-place_of len rest what.Extra = len - length rest
+place_of len rest _ = len - length rest
 
 -- This is the first fault of the bytes.
 pub record IsRecordFault (bytes : List ℕ) (fault : RecordFault) : Type 0 where

@@ -7,7 +7,7 @@ use Rattle.cell_core.specs.declared.step.Move.{Move}
 use Rattle.chess_laws.specs.Step.{stepped}
 use Rattle.game_tree.specs.Legal.{deepest}
 use Rattle.move_codec.specs.Numbers.{Numbered, numbers_after}
-use Rattle.move_codec.specs.Packed.{Decodes, is_mark}
+use Rattle.move_codec.specs.Packed.{decoded, is_mark}
 use Rattle.game_codec.specs.Token.{Token, Play, Nag, Comment, Open, Close, End}
 use Rattle.game_codec.specs.declared.fault.RecordWhat.{RecordWhat}
 use Rattle.game_codec.specs.declared.fault.RecordWhat.TheVariants as what
@@ -46,7 +46,7 @@ IsMoveDue bytes = (byte : ℕ) × (later : List ℕ) × (bytes ≡ byte ∷ late
 
 -- The bytes begin with this item, which may stand at the place, and these bytes follow it.
 abbrev pub Takes : Place → List ℕ → Token → List ℕ → Type 0
-Takes p bytes (Play m) later = IsMoveDue bytes × ((used : ℕ) × Decodes p.here bytes (Ok (m, used)) × (later ≡ drop used bytes))
+Takes p bytes (Play m) later = IsMoveDue bytes × ((used : ℕ) × (decoded p.here bytes ≡ Ok (m, used)) × (later ≡ drop used bytes))
 Takes p bytes (Nag n) later = IsTrue p.has_move × (bytes ≡ 11 ∷ n ∷ later)
 Takes p bytes Comment later = (p.has_comment ≡ false) × (bytes ≡ 12 ∷ later)
 Takes p bytes Open later = IsTrue p.has_move × (p.depth < deepest) × (bytes ≡ 13 ∷ later)
@@ -70,9 +70,5 @@ FaultAt p bytes what.Short = (bytes ≡ []) ⊎ (IsTrue p.has_move × (bytes ≡
 FaultAt p bytes what.Mark = IsMisplaced p bytes
 FaultAt p bytes what.TwoComments = IsTrue p.has_comment × ((later : List ℕ) × (bytes ≡ 12 ∷ later))
 FaultAt p bytes what.Depth = IsTrue p.has_move × ((deepest ≤ p.depth) × ((later : List ℕ) × (bytes ≡ 13 ∷ later)))
-FaultAt p bytes (what.Move fault) = IsMoveDue bytes × Decodes p.here bytes (Err fault)
-FaultAt p bytes what.TagCode = ⊥
-FaultAt p bytes what.TagName = ⊥
-FaultAt p bytes what.TagValue = ⊥
-FaultAt p bytes what.Fen = ⊥
-FaultAt p bytes what.Extra = ⊥
+FaultAt p bytes (what.Move fault) = IsMoveDue bytes × (decoded p.here bytes ≡ Err fault)
+FaultAt p bytes _ = ⊥

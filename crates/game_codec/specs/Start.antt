@@ -1,9 +1,9 @@
 -- The start of a game in its record: a byte of flags, and where its bit 0 is set a FEN and a zero byte (this project's
 -- own, after Scid's format; PGN standard, 16.1, for the FEN).
-use Rattle.std.specs.Prelude.{◌≡◌, ℕ, ◌%◌, ◌⊎◌, List, [], ◌∷◌, ◌++◌}
+use Rattle.std.specs.Prelude.{◌≡◌, ℕ, ◌%◌, ◌⊎◌, List, [], ◌∷◌, ◌++◌, Ok, Err}
 use Rattle.cell_core.specs.Text.{IsZeroFree}
 use Rattle.chess_laws.specs.Position.{start_setup}
-use Rattle.chess_text.specs.Fen.{FenReads, FenFaultOf}
+use Rattle.chess_text.specs.FenAnswer.{fen_answer}
 use Rattle.chess_text.specs.declared.fault.FenFault.{FenFault}
 use Rattle.move_codec.specs.Numbers.{Numbered, standard_numbers, text_numbers}
 use Rattle.game_codec.specs.declared.fault.RecordWhat.{RecordWhat}
@@ -28,7 +28,7 @@ pub record IsOwnStart (bytes : List ℕ) (start : Numbered) (rest : List ℕ) : 
   pub text : List ℕ
   pub zero_free : IsZeroFree text
   pub spelled : bytes ≡ flags ∷ text ++ 0 ∷ rest
-  pub reads : FenReads text start.position
+  pub reads : fen_answer text ≡ Ok start.position
   pub numbers : start.numbers ≡ text_numbers start.position.board
 
 -- The bytes begin with flags and this start.
@@ -53,17 +53,10 @@ pub record IsBadStart (bytes : List ℕ) (rest : List ℕ) : Type 0 where
   pub spelled : bytes ≡ flags ∷ rest
   pub text_is : rest ≡ text ++ 0 ∷ later
   pub fault : FenFault
-  pub faulty : FenFaultOf text fault
+  pub faulty : fen_answer text ≡ Err fault
 
 -- The bytes begin with no start, and from here on stands the fault.
 abbrev pub BreaksStart : List ℕ → List ℕ → RecordWhat → Type 0
 BreaksStart bytes rest what.Short = (bytes ≡ []) ⊎ IsCutStart bytes
 BreaksStart bytes rest what.Fen = IsBadStart bytes rest
-BreaksStart bytes rest what.TagCode = ⊥
-BreaksStart bytes rest what.TagName = ⊥
-BreaksStart bytes rest what.TagValue = ⊥
-BreaksStart bytes rest (what.Move fault) = ⊥
-BreaksStart bytes rest what.Mark = ⊥
-BreaksStart bytes rest what.TwoComments = ⊥
-BreaksStart bytes rest what.Depth = ⊥
-BreaksStart bytes rest what.Extra = ⊥
+BreaksStart bytes rest _ = ⊥

@@ -45,10 +45,8 @@ dated number rest =
     else Err TagValue
 
 unfoldable pub date_at : List ℕ → Result (Option (Tag × List ℕ)) RecordWhat
-date_at [] = Err Short
-date_at (a ∷ []) = Err Short
-date_at (a ∷ b ∷ []) = Err Short
 date_at (a ∷ b ∷ c ∷ rest) = dated (65536 * a + 256 * b + c) rest
+date_at _ = Err Short
 
 -- The next tag and the bytes behind it, none at the zero byte that ends the tags, or the first fault.
 unfoldable pub tag_at : List ℕ → Result (Option (Tag × List ℕ)) RecordWhat

@@ -28,14 +28,7 @@ pub record AreTexts (bytes : List ℕ) (texts : List (List ℕ)) : Type 0 where
 abbrev pub TextFault : ℕ → ℕ → List ℕ → RecordWhat → Type 0
 TextFault read due rest what.Short = (read < due) × IsZeroFree rest
 TextFault read due rest what.Extra = (read ≡ due) × (rest ≢ [])
-TextFault read due rest what.TagCode = ⊥
-TextFault read due rest what.TagName = ⊥
-TextFault read due rest what.TagValue = ⊥
-TextFault read due rest what.Fen = ⊥
-TextFault read due rest (what.Move fault) = ⊥
-TextFault read due rest what.Mark = ⊥
-TextFault read due rest what.TwoComments = ⊥
-TextFault read due rest what.Depth = ⊥
+TextFault read due rest _ = ⊥
 
 -- The bytes begin with some texts, and what follows them, from there on, has this fault, where so many texts are due.
 pub record BreaksTexts (due : ℕ) (bytes rest : List ℕ) (what : RecordWhat) : Type 0 where
