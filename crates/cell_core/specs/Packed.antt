@@ -1,5 +1,5 @@
 -- A board packed into words: this project's own form, in which boards are compared and hashed.
-use Rattle.std.specs.Prelude.{ℕ, Bool, ◌+◌, ◌*◌, ◌/◌, ◌%◌, ◌==◌, ◌≡◌, List, [], ◌∷◌, map, Option, Some, None, slice_index_or}
+use Rattle.std.specs.Prelude.{ℕ, Bool, ◌+◌, ◌*◌, ◌/◌, ◌%◌, ◌==◌, ◌≡◌, List, [], ◌∷◌, ◌++◌, map, Option, Some, None, slice_index_or}
 use Rattle.std.specs.List.{range_with_len}
 use Rattle.std.specs.Int.{bit_at}
 use Rattle.std.specs.Int.RustNames.{bit_xor}
@@ -8,7 +8,7 @@ use Rattle.cell_core.specs.declared.man.Colour.TheVariants.{White, Black}
 use Rattle.cell_core.specs.declared.man.Kind.TheVariants.{King, Queen, Rook, Bishop, Knight, Pawn}
 use Rattle.cell_core.specs.declared.man.Man.{Man}
 use Rattle.cell_core.specs.Board.{Men}
-use Rattle.cell_core.specs.Man.{kind_number}
+use Rattle.cell_core.specs.Man.{man, kind_number}
 use Rattle.cell_core.specs.Sets.{set_of}
 
 -- Four words of 64 bits, a bit a square in each, and the side to move.
@@ -16,25 +16,13 @@ pub record Packed : Type 0 where
   pub cells : List ℕ
   pub side : Colour
 
--- What a nibble stands for: 0 an empty square, 1 to 6 the white men from king to pawn, 9 to 14 the black ones.
+-- The men of a side, from king to pawn.
+abbrev pub men_from : Colour → Men
+men_from c = map (λ kind. Some (man c kind)) (King ∷ Queen ∷ Rook ∷ Bishop ∷ Knight ∷ Pawn ∷ [])
+
+-- What a nibble stands for: 0 an empty square, 1 to 6 the white men, 9 to 14 the black ones.
 abbrev pub nibble_men : Men
-nibble_men =
-    None
-    ∷ Some (record { colour = White; kind = King })
-    ∷ Some (record { colour = White; kind = Queen })
-    ∷ Some (record { colour = White; kind = Rook })
-    ∷ Some (record { colour = White; kind = Bishop })
-    ∷ Some (record { colour = White; kind = Knight })
-    ∷ Some (record { colour = White; kind = Pawn })
-    ∷ None
-    ∷ None
-    ∷ Some (record { colour = Black; kind = King })
-    ∷ Some (record { colour = Black; kind = Queen })
-    ∷ Some (record { colour = Black; kind = Rook })
-    ∷ Some (record { colour = Black; kind = Bishop })
-    ∷ Some (record { colour = Black; kind = Knight })
-    ∷ Some (record { colour = Black; kind = Pawn })
-    ∷ []
+nibble_men = None ∷ men_from White ++ (None ∷ None ∷ men_from Black)
 
 -- The man of a nibble, and none of a nibble of no man.
 unfoldable pub man_of : ℕ → Option Man
