@@ -8,7 +8,8 @@ use Rattle.game_tree.specs.Date.{IsDate, unknown_date, is_unknown, is_near, keep
 use Rattle.game_tree.specs.TagName.{IsTagName, IsTagByte, rating_of, is_reserved}
 use Rattle.game_tree.specs.Head.{IsTag, IsBounded}
 use Rattle.game_tree.specs.TagList.{is_named, tags_without}
-use Rattle.game_tree.specs.Settle.{event_date_name, event_date_tag, near_only, near_date, first_of, first_near_date, taken_up, settled}
+use Rattle.std.specs.Option.{option_or}
+use Rattle.game_tree.specs.Settle.{event_date_name, event_date_tag, near_only, near_date, first_near_date, taken_up, settled}
 use Rattle.game_tree.specs.declared.date.Date.{Date}
 use Rattle.game_tree.specs.declared.head.Tag.{Tag}
 use Rattle.game_tree.specs.declared.head.Head.{Head}
@@ -77,7 +78,7 @@ near_date-within game tag date e =
       | inr other ↦ absurd (none-some date (rw other at e))
     ]
 
-first_of-within : (game : Date) (first later : Option Date) → ((d : Date) → first ≡ Some d → IsWithin game d) → ((d : Date) → later ≡ Some d → IsWithin game d) → (date : Date) → first_of first later ≡ Some date → IsWithin game date
+first_of-within : (game : Date) (first later : Option Date) → ((d : Date) → first ≡ Some d → IsWithin game d) → ((d : Date) → later ≡ Some d → IsWithin game d) → (date : Date) → option_or first later ≡ Some date → IsWithin game date
 first_of-within game None later one two date e = two date e
 first_of-within game (Some d) later one two date e = one date e
 

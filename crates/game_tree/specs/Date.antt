@@ -44,9 +44,7 @@ part limit text =
 -- The date of three parts, where all are there.
 abbrev pub of_parts : Option ℕ → Option ℕ → Option ℕ → Option Date
 of_parts (Some y) (Some m) (Some d) = Some (record { year = y; month = m; day = d })
-of_parts (Some y) (Some m) None = None
-of_parts (Some y) None d = None
-of_parts None m d = None
+of_parts _ _ _ = None
 
 -- The date of the texts of its three parts.
 abbrev pub dated : List ℕ → List ℕ → List ℕ → Option Date

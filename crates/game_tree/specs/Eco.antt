@@ -30,10 +30,8 @@ extension_read (letter ∷ digit ∷ other ∷ others) = None
 
 -- The number that a text is the code of; the empty text is no code.
 unfoldable pub eco_read : List ℕ → Option ℕ
-eco_read [] = None
-eco_read (letter ∷ []) = None
-eco_read (letter ∷ tens ∷ []) = None
 eco_read (letter ∷ tens ∷ units ∷ extension) =
     if is_from 65 69 letter && is_from 48 57 tens && is_from 48 57 units
     then option_map (λ n. eco_number (letter - 65) (tens - 48) (units - 48) n) (extension_read extension)
     else None
+eco_read _ = None

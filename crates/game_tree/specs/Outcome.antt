@@ -4,6 +4,13 @@ use Rattle.std.specs.Str.{bytes_eq}
 use Rattle.game_tree.specs.declared.head.Outcome.{Outcome}
 use Rattle.game_tree.specs.declared.head.Outcome.TheVariants.{White, Black, Draw, Unknown}
 
+-- The number of a result, in the order of the declaration.
+abbrev pub outcome_number : Outcome → ℕ
+outcome_number Unknown = 0
+outcome_number White = 1
+outcome_number Black = 2
+outcome_number Draw = 3
+
 -- The text of a result; `*` is one that is unknown or of a game in progress.
 abbrev pub outcome_text : Outcome → List ℕ
 outcome_text White = codes "1-0"

@@ -1,7 +1,7 @@
 -- Promotions in the lines of a game (FIDE Laws, Article 3.7.3.3).
 use Rattle.std.specs.Prelude.{◌||◌, Bool, false, true, Option, Some, None, is_some}
 use Rattle.cell_core.specs.declared.man.Kind.{Kind}
-use Rattle.cell_core.specs.declared.man.Kind.TheVariants.{King, Queen, Rook, Bishop, Knight, Pawn}
+use Rattle.cell_core.specs.declared.man.Kind.TheVariants.{Queen}
 use Rattle.cell_core.specs.declared.step.Move.{Move}
 use Rattle.game_tree.specs.Tree.{Line, ends, goes, Branches, none, more}
 use Rattle.game_tree.specs.Game.{GameTree}
@@ -22,12 +22,8 @@ is_promotion m = is_some m.promo
 
 abbrev pub is_underpromotion_to : Option Kind → Bool
 is_underpromotion_to None = false
-is_underpromotion_to (Some King) = true
 is_underpromotion_to (Some Queen) = false
-is_underpromotion_to (Some Rook) = true
-is_underpromotion_to (Some Bishop) = true
-is_underpromotion_to (Some Knight) = true
-is_underpromotion_to (Some Pawn) = true
+is_underpromotion_to (Some _) = true
 
 abbrev pub is_underpromotion : Move → Bool
 is_underpromotion m = is_underpromotion_to m.promo

@@ -1,6 +1,7 @@
 -- Where the date of an event stands: as the event date where it follows the rule of event dates, else as a tag
 -- (this project's own).
 use Rattle.std.specs.Prelude.{◌≡◌, ℕ, if◌then◌else◌, List, [], ◌∷◌, ◌++◌, Option, Some, None, codes}
+use Rattle.std.specs.Option.{option_or}
 use Rattle.game_tree.specs.TagList.{is_named, tags_without}
 use Rattle.game_tree.specs.Date.{unknown_date, is_unknown, is_near, date_text, date_read}
 use Rattle.game_tree.specs.declared.date.Date.{Date}
@@ -22,14 +23,10 @@ near_only game (Some date) = if is_near date game then Some date else None
 unfoldable pub near_date : Date → Tag → Option Date
 near_date game tag = if is_named event_date_name tag then near_only game (date_read tag.value) else None
 
-abbrev pub first_of : Option Date → Option Date → Option Date
-first_of None later = later
-first_of (Some date) later = Some date
-
 -- The first such date of the tags.
 abbrev pub first_near_date : Date → List Tag → Option Date
 first_near_date game [] = None
-first_near_date game (tag ∷ tags) = first_of (near_date game tag) (first_near_date game tags)
+first_near_date game (tag ∷ tags) = option_or (near_date game tag) (first_near_date game tags)
 
 -- A head without an event date, where the tags have this first date within the rule.
 abbrev pub taken_up : Head → Option Date → Head

@@ -9,7 +9,7 @@ use Rattle.cell_core.specs.Board.{Men, man_at}
 use Rattle.cell_core.specs.Man.{is_man, is_of}
 use Rattle.chess_laws.specs.declared.setup.Setup.{Setup}
 use Rattle.chess_laws.specs.declared.effect.Effect.{Effect}
-use Rattle.chess_laws.specs.declared.effect.Effect.TheVariants.{Plain, Double, Passing, Castle, Null}
+use Rattle.chess_laws.specs.declared.effect.Effect.TheVariants.{Passing, Castle}
 use Rattle.chess_laws.specs.Castling.{rook_home, rook_target}
 use Rattle.chess_laws.specs.Step.{effect_of, passed_square}
 use Rattle.move_codec.specs.declared.numbers.Numbers.{Numbers}
@@ -86,19 +86,13 @@ without squares captured =
 
 -- The mover's squares after a move: castling takes the rook along.
 abbrev pub movers_after : Colour → Move → Effect → List ℕ → List ℕ
-movers_after side m Plain squares = went squares m.from m.to
-movers_after side m Double squares = went squares m.from m.to
-movers_after side m Passing squares = went squares m.from m.to
 movers_after side m (Castle wing) squares = went (went squares m.from m.to) (rook_home side wing) (rook_target side wing)
-movers_after side m Null squares = went squares m.from m.to
+movers_after side m _ squares = went squares m.from m.to
 
 -- The square on which a move captures, if it captures.
 abbrev pub capture_square : Move → Effect → ℕ
-capture_square m Plain = m.to
-capture_square m Double = m.to
 capture_square m Passing = passed_square m
-capture_square m (Castle wing) = m.to
-capture_square m Null = m.to
+capture_square m _ = m.to
 
 -- The numbers after a move.
 abbrev pub numbers_by : Colour → Move → Effect → Numbers → Numbers

@@ -11,6 +11,7 @@ use Rattle.cell_core.specs.declared.step.Move.{Move}
 use Rattle.cell_core.specs.Board.{man_at}
 use Rattle.chess_laws.specs.Geometry.{file_of, rank_of, square}
 use Rattle.chess_laws.specs.Step.{Legal}
+use Rattle.chess_laws.specs.LegalNow.{legal_now}
 use Rattle.move_codec.specs.Numbers.{Numbered, squares_of, number_of}
 use Rattle.move_codec.specs.declared.fault.MoveFault.{MoveFault}
 use Rattle.move_codec.specs.declared.fault.MoveFault.TheVariants.{Short, NoMan, Value, Illegal}
@@ -132,6 +133,14 @@ Decodes n bytes (Err Value) = named n bytes ≡ Err Value
 Decodes n bytes (Err Illegal) =
     (decoded : Move × ℕ) × ((named n bytes ≡ Ok decoded) × (Legal n.position decoded.0 → ⊥))
 
+-- The same as it is computed.
+abbrev pub judged : Numbered → Result (Move × ℕ) MoveFault → Result (Move × ℕ) MoveFault
+judged n (Ok decoded) = if legal_now n.position decoded.0 then Ok decoded else Err Illegal
+judged n (Err fault) = Err fault
+
+unfoldable pub decoded : Numbered → List ℕ → Result (Move × ℕ) MoveFault
+decoded n bytes = judged n (named n bytes)
+
 -- Where two of these bytes are a move, the second is at least 64, as no first byte need be.
 abbrev pub HasHighSecond : List ℕ → ℕ → Type 0
 HasHighSecond bytes size = (byte : ℕ) → size ≡ 2 → slice_get bytes 1 ≡ Some byte → 64 ≤ byte
@@ -152,13 +161,11 @@ diagonal_value m = if rank_of m.to + file_of m.from == rank_of m.from + file_of 
 
 -- What a promotion adds to a pawn's value.
 abbrev pub promotion_value : Option Kind → ℕ
-promotion_value None = 0
-promotion_value (Some King) = 0
 promotion_value (Some Queen) = 3
 promotion_value (Some Rook) = 6
 promotion_value (Some Bishop) = 9
 promotion_value (Some Knight) = 12
-promotion_value (Some Pawn) = 0
+promotion_value _ = 0
 
 abbrev pub pawn_value : Move → ℕ
 pawn_value m = if gap m.from m.to == 16 then 15 else gap m.from m.to - 7 + promotion_value m.promo
@@ -177,12 +184,8 @@ value_of Knight m = difference_value knight_differences m
 value_of Pawn m = pawn_value m
 
 unfoldable pub rest_of : Kind → Move → List ℕ
-rest_of King m = []
 rest_of Queen m = if is_line m then [] else (64 + m.to) ∷ []
-rest_of Rook m = []
-rest_of Bishop m = []
-rest_of Knight m = []
-rest_of Pawn m = []
+rest_of _ m = []
 
 abbrev pub encoding_by : Option Man → ℕ → Move → List ℕ
 encoding_by None number m = []
