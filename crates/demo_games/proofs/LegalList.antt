@@ -12,7 +12,8 @@ use Rattle.chess_laws.specs.Position.{Sound}
 use Rattle.chess_laws.specs.Step.{Legal, may_become}
 use Rattle.chess_laws.proofs.Deciding.{legal-Decides}
 use Rattle.chess_laws.proofs.Listing.{move-fits, move-from, move-to}
-use Rattle.demo_games.specs.Moves.{all_moves, is_move, legal_moves, moves_from, moves_to, numbers_from, promotions}
+use Rattle.std.specs.List.{range_with_len}
+use Rattle.demo_games.specs.Moves.{all_moves, is_move, legal_moves, moves_from, moves_to, promotions}
 
 -- ---- lists of moves in order
 
@@ -37,7 +38,7 @@ rises-append a b c (m ∷ ms) ns h k = (h.0, rises-append (place_of m + 1) b c m
 
 -- blocks of one width, one behind the other
 rises-blocks : (f : ℕ → List Move) (base w : ℕ) → ((k : ℕ) → Rises (base + k * w) (base + (k + 1) * w) (f k))
-    → (first count : ℕ) → Rises (base + first * w) (base + (first + count) * w) (flat_map f (numbers_from first count))
+    → (first count : ℕ) → Rises (base + first * w) (base + (first + count) * w) (flat_map f (range_with_len first count))
 unfolding Rises
 rises-blocks f base w each first zero = omega (arith, ap (λ n. n * w) (same first))
   where
@@ -45,8 +46,8 @@ rises-blocks f base w each first zero = omega (arith, ap (λ n. n * w) (same fir
     same n = omega arith
 rises-blocks f base w each first (suc count) =
     let at : (first + 1) + count ≡ first + suc count = omega arith in
-    rises-append (base + first * w) (base + (first + 1) * w) (base + (first + suc count) * w) (f first) (flat_map f (numbers_from (first + 1) count)) (each first)
-    (subst (λ n. Rises (base + (first + 1) * w) (base + n * w) (flat_map f (numbers_from (first + 1) count))) at (rises-blocks f base w each (first + 1) count))
+    rises-append (base + first * w) (base + (first + 1) * w) (base + (first + suc count) * w) (f first) (flat_map f (range_with_len (first + 1) count)) (each first)
+    (subst (λ n. Rises (base + (first + 1) * w) (base + n * w) (flat_map f (range_with_len (first + 1) count))) at (rises-blocks f base w each (first + 1) count))
 
 rises-to : (from to : ℕ) → Rises (512 * from + to * 8) (512 * from + (to + 1) * 8) (moves_to from to)
 unfolding Rises
@@ -172,13 +173,13 @@ unfolding Has
 has-right [] ys x h = h
 has-right (y ∷ xs) ys x h = inr (has-right xs ys x h)
 
-has-block : (f : ℕ → List Move) (first count k : ℕ) (m : Move) → first ≤ k → k < first + count → Has (f k) m → Has (flat_map f (numbers_from first count)) m
+has-block : (f : ℕ → List Move) (first count k : ℕ) (m : Move) → first ≤ k → k < first + count → Has (f k) m → Has (flat_map f (range_with_len first count)) m
 has-block f first zero k m low high h = absurd (omega arith)
 has-block f first (suc count) k m low high h = elim (cases_lt first k) [
-  | inl more ↦ has-right (f first) (flat_map f (numbers_from (first + 1) count)) m (has-block f (first + 1) count k m (omega arith) (omega arith) h)
+  | inl more ↦ has-right (f first) (flat_map f (range_with_len (first + 1) count)) m (has-block f (first + 1) count k m (omega arith) (omega arith) h)
   | inr here ↦
       let same : k ≡ first = omega arith in
-      has-left (f first) (flat_map f (numbers_from (first + 1) count)) m (subst (λ j. Has (f j) m) same h)
+      has-left (f first) (flat_map f (range_with_len (first + 1) count)) m (subst (λ j. Has (f j) m) same h)
 ]
 
 has-promotion : (from to : ℕ) (promo : Option Kind) → (promo ≡ None) ⊎ (may_become promo ≡ true) → Has (moves_to from to) (record { from = from; to = to; promo = promo })

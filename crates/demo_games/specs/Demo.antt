@@ -30,10 +30,7 @@ after_draws (suc count) x = after_draws count (next_number x)
 
 -- ---- the line of a game
 
--- The greatest number of plies, and of legal moves from which one is drawn.
-abbrev pub most_plies : ℕ
-most_plies = 60
-
+-- The greatest number of legal moves from which one is drawn.
 abbrev pub most_moves : ℕ
 most_moves = 256
 
@@ -51,8 +48,9 @@ abbrev pub line_drawn : ℕ → ℕ → Setup → List Move
 line_drawn zero x p = []
 line_drawn (suc plies) x p = goes_on (picked (drawn x) (legal_moves p)) (λ m. line_drawn plies (next_number x) (stepped p m))
 
+-- The line of a game has at most 60 plies.
 unfoldable pub moves_drawn : ℕ → List Move
-moves_drawn x = line_drawn most_plies x start_setup
+moves_drawn x = line_drawn 60 x start_setup
 
 -- The game of these moves from the initial position.
 unfoldable pub game_of : List Move → GameTree
