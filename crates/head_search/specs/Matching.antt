@@ -4,7 +4,7 @@ use Rattle.std.specs.Int.{bit_at}
 use Rattle.std.specs.List.{starts_with}
 use Rattle.game_tree.specs.declared.head.Head.{Head}
 use Rattle.game_tree.specs.declared.head.Outcome.{Outcome}
-use Rattle.game_tree.specs.declared.head.Outcome.TheVariants as outcome
+use Rattle.game_tree.specs.Outcome.{outcome_number}
 use Rattle.sig_index.specs.declared.head_query.HeadQuery.{HeadQuery}
 use Rattle.sig_index.specs.declared.signature.Sig.{Sig}
 use Rattle.sig_index.specs.declared.span.Span.{Span}
@@ -21,13 +21,6 @@ is_in span n = nat_le span.lo n && nat_le n span.hi
 -- A name begins with these bytes, byte by byte.
 abbrev pub begins : List ℕ → List ℕ → Bool
 begins name text = starts_with (λ a b. a == b) name text
-
--- The number of a result, in the order of the declaration.
-abbrev pub outcome_number : Outcome → ℕ
-outcome_number outcome.Unknown = 0
-outcome_number outcome.White = 1
-outcome_number outcome.Black = 2
-outcome_number outcome.Draw = 3
 
 -- An item of a name, of either player's name, of a result, of a number, of the opening code, of the deleted mark and of a mark, beside what a
 -- game has there. An item of the opening code never holds of a game without one.

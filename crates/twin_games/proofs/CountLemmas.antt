@@ -13,7 +13,8 @@ use Rattle.sig_index.specs.Games.{head_in, no_head}
 use Rattle.twin_games.specs.declared.pairing.Pairing.{Pairing}
 use Rattle.twin_games.specs.Asking.{agreeing, is_shared}
 use Rattle.twin_games.specs.Keys.{AreCounts, IsPairing, count_in, same_pairing}
-use Rattle.twin_games.specs.Twins.{Agree, agrees, outcome_number, same_date}
+use Rattle.game_tree.specs.Outcome.{outcome_number}
+use Rattle.twin_games.specs.Twins.{Agree, agrees, same_date}
 use Rattle.twin_games.proofs.KeyLemmas.{pairing_eq}
 use Rattle.twin_games.proofs.TestLemmas.{agrees-Decides}
 

@@ -28,7 +28,8 @@ use Rattle.twin_games.specs.declared.meeting.Met.{Met}
 use Rattle.twin_games.specs.declared.opening.Start.{Start}
 use Rattle.twin_games.specs.declared.pairing.Pairing.{Pairing}
 use Rattle.twin_games.specs.Keys.{IsMet, IsPairing, same_met, same_pairing, start_of}
-use Rattle.twin_games.specs.Twins.{agrees, begins_like, first_moves, outcome_number, same_date, same_move, same_start}
+use Rattle.game_tree.specs.Outcome.{outcome_number}
+use Rattle.twin_games.specs.Twins.{agrees, begins_like, first_moves, same_date, same_move, same_start}
 use Rattle.twin_games.proofs.TestLemmas.{same_bits, same_date-Decides, same_move-Decides, same_outcome-Decides, same_start-Decides}
 
 date_is : (a b : Date) → (date.ghosts).eq a b ≡ same_date a b

@@ -18,7 +18,8 @@ use Rattle.game_tree.specs.Game.{GameTree}
 use Rattle.game_tree.specs.declared.date.Date.{Date}
 use Rattle.game_tree.specs.declared.head.Head.{Head}
 use Rattle.game_tree.specs.declared.head.Outcome.{Outcome}
-use Rattle.twin_games.specs.Twins.{Agree, BeginAlike, agrees, begins_like, first_moves, outcome_number, same_date, same_move, same_start}
+use Rattle.game_tree.specs.Outcome.{outcome_number}
+use Rattle.twin_games.specs.Twins.{Agree, BeginAlike, agrees, begins_like, first_moves, same_date, same_move, same_start}
 
 pub same_date-Decides : (a b : Date) → Decides (same_date a b) (a ≡ b)
 same_date-Decides a b =

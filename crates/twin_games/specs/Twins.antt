@@ -10,12 +10,11 @@ use Rattle.cell_core.specs.Man.{same_colour, same_kind}
 use Rattle.chess_laws.specs.declared.setup.Setup.{Setup}
 use Rattle.chess_laws.specs.Position.{bits_of, start_setup}
 use Rattle.game_tree.specs.Game.{GameTree}
+use Rattle.game_tree.specs.Outcome.{outcome_number}
 use Rattle.game_tree.specs.Replay.{main_moves}
 use Rattle.game_tree.specs.Tree.{ends}
 use Rattle.game_tree.specs.declared.date.Date.{Date}
 use Rattle.game_tree.specs.declared.head.Head.{Head}
-use Rattle.game_tree.specs.declared.head.Outcome.{Outcome}
-use Rattle.game_tree.specs.declared.head.Outcome.TheVariants as outcome
 use Rattle.sig_index.specs.Games.{head_in}
 
 -- A game without moves from the initial position.
@@ -55,12 +54,6 @@ pub record Twin (heads : List Head) (games : List GameTree) (depth i : ℕ) : Ty
 -- The same as tests.
 abbrev pub same_date : Date → Date → Bool
 same_date a b = (a.year == b.year) && ((a.month == b.month) && (a.day == b.day))
-
-abbrev pub outcome_number : Outcome → ℕ
-outcome_number outcome.Unknown = 0
-outcome_number outcome.White = 1
-outcome_number outcome.Black = 2
-outcome_number outcome.Draw = 3
 
 unfoldable pub agrees : Head → Head → Bool
 agrees a b =
