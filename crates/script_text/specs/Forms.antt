@@ -13,37 +13,26 @@ use Rattle.sig_index.specs.declared.pos_query.Mode.TheVariants.{Exact, Pawns, Fi
 use Rattle.script_text.specs.declared.forms.SearchKind.{SearchKind}
 use Rattle.script_text.specs.declared.forms.SearchKind.TheVariants as kind
 
+-- What a word stands for by a table of words, if it is one of them.
+abbrev pub by_word : {A : Type 0} → List (List ℕ × A) → List ℕ → Option A
+by_word [] word = None
+by_word (row ∷ rows) word = if bytes_eq word row.0 then Some row.1 else by_word rows word
+
 -- SIDE: w or b.
 abbrev pub side : List ℕ → Option Colour
-side word =
-    if bytes_eq word (codes "w") then Some colour.White
-    else if bytes_eq word (codes "b") then Some colour.Black
-    else None
+side word = by_word ((codes "w", colour.White) ∷ (codes "b", colour.Black) ∷ []) word
 
 -- OP: how a search joins the filter that it finds.
 abbrev pub op : List ℕ → Option Op
-op word =
-    if bytes_eq word (codes "ignore") then Some Ignore
-    else if bytes_eq word (codes "and") then Some And
-    else if bytes_eq word (codes "or") then Some Or
-    else None
+op word = by_word ((codes "ignore", Ignore) ∷ (codes "and", And) ∷ (codes "or", Or) ∷ []) word
 
 -- KIND: what a search looks at.
 abbrev pub search_kind : List ℕ → Option SearchKind
-search_kind word =
-    if bytes_eq word (codes "position") then Some kind.Position
-    else if bytes_eq word (codes "material") then Some kind.Material
-    else if bytes_eq word (codes "header") then Some kind.Header
-    else None
+search_kind word = by_word ((codes "position", kind.Position) ∷ (codes "material", kind.Material) ∷ (codes "header", kind.Header) ∷ []) word
 
 -- MODE: what a position has in common with the board that is sought.
 abbrev pub mode : List ℕ → Option Mode
-mode word =
-    if bytes_eq word (codes "exact") then Some Exact
-    else if bytes_eq word (codes "pawns") then Some Pawns
-    else if bytes_eq word (codes "files") then Some Files
-    else if bytes_eq word (codes "material") then Some Material
-    else None
+mode word = by_word ((codes "exact", Exact) ∷ (codes "pawns", Pawns) ∷ (codes "files", Files) ∷ (codes "material", Material) ∷ []) word
 
 -- vars: variations are looked at too.
 abbrev pub vars : List ℕ → Option Bool
@@ -51,23 +40,16 @@ vars word = if bytes_eq word (codes "vars") then Some true else None
 
 -- on or off.
 abbrev pub switch : List ℕ → Option Bool
-switch word =
-    if bytes_eq word (codes "on") then Some true
-    else if bytes_eq word (codes "off") then Some false
-    else None
+switch word = by_word ((codes "on", true) ∷ (codes "off", false) ∷ []) word
 
 -- yes or no.
 abbrev pub answer : List ℕ → Option Bool
-answer word =
-    if bytes_eq word (codes "yes") then Some true
-    else if bytes_eq word (codes "no") then Some false
-    else None
+answer word = by_word ((codes "yes", true) ∷ (codes "no", false) ∷ []) word
 
 -- LETTER of a mark, as the bit of the marks that it names: the user marks from 0 on, then the custom marks. The letters are those of ScidFlags.
 abbrev pub mark_bit : List ℕ → Option ℕ
-mark_bit [] = None
 mark_bit (byte ∷ []) = position_from (λ letter. letter == byte) 0 mark_letters
-mark_bit (byte ∷ second ∷ word) = None
+mark_bit _ = None
 
 -- NAME of a filter: 1 to 32 letters, digits and underscores.
 abbrev pub is_name_byte : ℕ → Bool
@@ -87,6 +69,5 @@ end_word word =
     if nat_le 1 (length word) && nat_le (length word) 32 && list_all is_ascii_alphanumeric word then Some word else None
 
 unfoldable pub body_end : List ℕ → Option (List ℕ)
-body_end [] = None
-body_end (first ∷ []) = None
 body_end (first ∷ second ∷ word) = if first == 60 && second == 60 then end_word word else None
+body_end _ = None

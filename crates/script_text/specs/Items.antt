@@ -22,11 +22,8 @@ abbrev pub has_key : List Word → List ℕ → Bool
 has_key words key = list_any (λ word. is_keyed key (key_and_value word)) words
 
 -- Key and value of the next item, where no item before it has its key.
-abbrev pub unless_met : List Word → List ℕ × List ℕ → Option (List ℕ × List ℕ)
-unless_met before parts = if has_key before parts.0 then None else Some parts
-
 abbrev pub new_item : List Word → Word → Option (List ℕ × List ℕ)
-new_item before word = option_and_then (unless_met before) (key_and_value word)
+new_item before word = option_and_then (λ parts. if has_key before parts.0 then None else Some parts) (key_and_value word)
 
 -- A query with one item more, whose key and value `add` knows.
 unfoldable pub with_item : {Q : Type 0} → (Q → List ℕ → List ℕ → Option Q) → List Word → Q → Word → Option Q

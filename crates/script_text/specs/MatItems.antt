@@ -1,25 +1,19 @@
 -- The items of a search of material (this project's own).
-use Rattle.std.specs.Prelude.{ℕ, nat_le, true, if◌then◌else◌, List, Option, Some, None, option_map, option_and_then, slice_set, codes}
+use Rattle.std.specs.List.{position_from}
+use Rattle.std.specs.Prelude.{ℕ, nat_le, true, if◌then◌else◌, List, [], ◌∷◌, Option, Some, None, option_map, option_and_then, slice_set, codes}
 use Rattle.std.specs.Str.{bytes_eq}
 use Rattle.game_tree.specs.Decimal.{decimal_read}
 use Rattle.sig_index.specs.declared.span.Span.{Span}
 use Rattle.sig_index.specs.declared.mat_query.MatQuery.{MatQuery}
 use Rattle.script_text.specs.Numbers.{span_within}
 
--- The place of a count in a range, by its key: the colour and the letter of the man.
+-- The keys of the counts of a range, each the colour and the letter of the man, and the place of a count by its key.
+abbrev pub count_keys : List (List ℕ)
+count_keys =
+    codes "wq" ∷ codes "wr" ∷ codes "wb" ∷ codes "wn" ∷ codes "wp" ∷ codes "bq" ∷ codes "br" ∷ codes "bb" ∷ codes "bn" ∷ codes "bp" ∷ []
+
 abbrev pub count_place : List ℕ → Option ℕ
-count_place key =
-    if bytes_eq key (codes "wq") then Some 0
-    else if bytes_eq key (codes "wr") then Some 1
-    else if bytes_eq key (codes "wb") then Some 2
-    else if bytes_eq key (codes "wn") then Some 3
-    else if bytes_eq key (codes "wp") then Some 4
-    else if bytes_eq key (codes "bq") then Some 5
-    else if bytes_eq key (codes "br") then Some 6
-    else if bytes_eq key (codes "bb") then Some 7
-    else if bytes_eq key (codes "bn") then Some 8
-    else if bytes_eq key (codes "bp") then Some 9
-    else None
+count_place key = position_from (bytes_eq key) 0 count_keys
 
 -- The query with a span of one count.
 abbrev pub with_count : MatQuery → ℕ → Span → MatQuery

@@ -22,12 +22,9 @@ abbrev pub index_depth : List ℕ → Option (Option ℕ)
 index_depth word = if bytes_eq word (codes "off") then Some None else option_map Some (decimal_read 40 word)
 
 -- What stands before the first such byte, and what stands behind it.
-abbrev pub with_byte : ℕ → List ℕ × List ℕ → List ℕ × List ℕ
-with_byte byte parts = (byte ∷ parts.0, parts.1)
-
 abbrev pub split_once : ℕ → List ℕ → Option (List ℕ × List ℕ)
 split_once at [] = None
-split_once at (byte ∷ text) = if byte == at then Some ([], text) else option_map (with_byte byte) (split_once at text)
+split_once at (byte ∷ text) = if byte == at then Some ([], text) else option_map (λ parts. (byte ∷ parts.0, parts.1)) (split_once at text)
 
 -- The two ends of LO..HI: the first dot has another right behind it.
 abbrev pub behind_dot : List ℕ → List ℕ → Option (List ℕ × List ℕ)
@@ -39,9 +36,8 @@ ends text = option_and_then (λ parts. behind_dot parts.0 parts.1) (split_once 4
 
 -- The span between two ends that read as numbers, where the lower one is not above the upper one.
 abbrev pub between : Option ℕ → Option ℕ → Option Span
-between None hi = None
-between (Some lo) None = None
 between (Some lo) (Some hi) = if nat_le lo hi then Some (record { lo = lo; hi = hi }) else None
+between _ _ = None
 
 -- LO..HI with ends that are read so.
 abbrev pub span : (List ℕ → Option ℕ) → List ℕ → Option Span

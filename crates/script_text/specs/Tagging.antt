@@ -1,5 +1,5 @@
 -- The arguments of `tag`: a game, the name of a tag and its value (this project's own).
-use Rattle.std.specs.Prelude.{ℕ, List, [], Option, Some, None, unwrap_or, Result, Ok, Err}
+use Rattle.std.specs.Prelude.{ℕ, List, [], Option, Some, unwrap_or, Result, Ok, Err}
 use Rattle.game_tree.specs.TagEdit.{edit_of}
 use Rattle.game_tree.specs.declared.tag_edit.TagEdit.{TagEdit}
 use Rattle.game_tree.specs.declared.tag_edit.TagEditError.{TagEditError}
@@ -11,10 +11,8 @@ use Rattle.script_text.specs.declared.fault.ScriptFault.TheVariants.{Argument}
 -- closed. An edit is never refused for want of memory by its definition.
 abbrev pub edit_or_fault : Result TagEdit TagEditError → Option (List ℕ) → Result TagEdit ScriptFault
 edit_or_fault (Err fault.Name) value = Err (Argument 2)
-edit_or_fault (Err fault.Value) value = Err (Argument 3)
-edit_or_fault (Err fault.Memory) value = Err (Argument 3)
-edit_or_fault (Ok edit) None = Err (Argument 3)
 edit_or_fault (Ok edit) (Some text) = Ok edit
+edit_or_fault _ _ = Err (Argument 3)
 
 -- The edit of a name, and of a value where there is one.
 unfoldable pub tag_edit : List ℕ → Option (List ℕ) → Result TagEdit ScriptFault

@@ -27,8 +27,7 @@ front bytes (Some text ∷ words) = Some (bytes ++ text) ∷ words
 unfoldable pub cut : Place → List ℕ → List Word
 cut Between [] = []
 cut Inside [] = Some [] ∷ []
-cut Quoted [] = None ∷ []
-cut Escaped [] = None ∷ []
+cut _ [] = None ∷ []
 cut Between (byte ∷ line) =
     if is_blank byte then cut Between line
     else if byte == 34 then cut Quoted line
