@@ -5,8 +5,7 @@ use Rattle.std.proofs.lemmas.List.{length-map}
 use Rattle.std.specs.Prelude.{nat_lt}
 use Rattle.base_files.specs.Seen.{Seen}
 use Rattle.filter_seat.specs.Seats.{Seat, first_seat}
-use Rattle.script_lines.specs.Clients.{Order}
-use Rattle.script_text.specs.Tasks.{Task}
+use Rattle.script_text.specs.Tasks.{Order, Task}
 use Rattle.script_text.specs.declared.command.Command.TheVariants.{Watch}
 use Rattle.shell_commands.proofs.SlotLaws.{task_others, task_stays}
 use Rattle.shell_commands.specs.Tasks.{tasks}

@@ -26,8 +26,7 @@ use Rattle.pgn_read.specs.Items.{items_of}
 use Rattle.pgn_read.specs.declared.item.Item.{Item}
 use Rattle.report_commands.specs.Classifying.{state_by}
 use Rattle.report_commands.specs.Twins.{found_twins, with_deleted}
-use Rattle.script_lines.specs.Clients.{Order}
-use Rattle.script_text.specs.Tasks.{task}
+use Rattle.script_text.specs.Tasks.{Order, task}
 use Rattle.script_text.specs.declared.command.Command.TheVariants.{Import, Replace, Eco, Tag, Delete, Undelete, Mark, Twins, Index, Save, Demo, Quit, Compact}
 use Rattle.shell_commands.proofs.FitLaws.{task_has}
 use Rattle.shell_commands.proofs.RefusedLaws.{imported, made}

@@ -11,8 +11,7 @@ use Rattle.game_tree.specs.Game.{GameTree}
 use Rattle.game_tree.specs.declared.head.Head.{Head}
 use Rattle.intake_commands.specs.Importing.{line_with, state_with, the_new}
 use Rattle.pgn_read.specs.Items.{items_of}
-use Rattle.script_lines.specs.Clients.{Order}
-use Rattle.script_text.specs.Tasks.{Task, task}
+use Rattle.script_text.specs.Tasks.{Order, Task, task}
 use Rattle.script_text.specs.declared.command.Command.TheVariants.{Compact, Replace}
 use Rattle.shell_commands.proofs.SlotLaws.{task_stays}
 use Rattle.shell_commands.specs.Tasks.{tasks}

@@ -1,15 +1,15 @@
 -- What a line of a script says at a desk: nothing where no client says it, or one who has ended.
 use Rattle.std.proofs.Common.{◌≡◌, ◌≤◌, ◌+◌, ℕ, Bool, true, false, cond, ◌||◌, zero, suc, List, [], ◌∷◌, Option, Some, None, Result, Ok, Err, OnOk, codes, length, refl, sym, ap, ap₂, subst, ◌∙◌, arith}
-use Rattle.std.specs.Prelude.{IfErr, IfSome, slice_get, slice_set, unwrap_or}
+use Rattle.std.specs.Prelude.{IfErr, IfSome, option_map, slice_get, slice_set, unwrap_or}
 use Rattle.base_files.specs.Seen.{Seen}
 use Rattle.base_files.specs.Told.{adds}
 use Rattle.base_files.specs.declared.faults.Stop.TheVariants as stop
 use Rattle.command_runs.specs.Counts.{Causes, counts}
 use Rattle.command_runs.specs.Endings.{Done, Halted, Serves}
 use Rattle.filter_seat.specs.Seats.{first_seat}
-use Rattle.script_lines.specs.Clients.{Clients, Order, ended_by, has_ended, heard, leaver, said, tagged_task, with_ended}
+use Rattle.script_lines.specs.Clients.{Clients, ended_by, has_ended, heard, leaver, said, tagged_task}
 use Rattle.script_lines.specs.declared.line.Line.{Line}
-use Rattle.script_text.specs.Tasks.{Task, task}
+use Rattle.script_text.specs.Tasks.{Order, Task, task}
 use Rattle.script_text.specs.declared.command.Command.TheVariants.{Nothing}
 use Rattle.shell_commands.proofs.WindowLaws.{any_body, any_files}
 use Rattle.shell_commands.specs.Tasks.{BrokenTask, SettledTask, order_left, order_price, order_work}
@@ -231,7 +231,7 @@ ended_set (e ∷ ended) zero (suc client) is = is
 ended_set (e ∷ ended) (suc x) zero is = is
 ended_set (e ∷ ended) (suc x) (suc client) is = ended_set ended x client is
 
-ended_with : (ended : List Bool) (leaves : Option ℕ) (client : ℕ) → unwrap_or (slice_get (with_ended ended leaves) client) true ≡ false → unwrap_or (slice_get ended client) true ≡ false
+ended_with : (ended : List Bool) (leaves : Option ℕ) (client : ℕ) → unwrap_or (slice_get (unwrap_or (option_map (λ (x : ℕ). slice_set ended x true) leaves) ended) client) true ≡ false → unwrap_or (slice_get ended client) true ≡ false
 ended_with ended None client is = is
 ended_with ended (Some x) client is = ended_set ended x client is
 

@@ -8,8 +8,7 @@ use Rattle.base_files.specs.Seen.{Seen}
 use Rattle.base_files.specs.declared.faults.Stop.TheVariants as stop
 use Rattle.filter_seat.specs.Seats.{FitsGames, Seat, first_seat}
 use Rattle.filter_seat.specs.declared.seat.Seat.{Seat as SeatStruct}
-use Rattle.script_lines.specs.Clients.{Order}
-use Rattle.script_text.specs.Tasks.{Task, task}
+use Rattle.script_text.specs.Tasks.{Order, Task, task}
 use Rattle.shell_commands.specs.Tasks.{SettledTask, order_left, tasks}
 use Rattle.shell_commands.specs.Watching.{ViewsDone, most_told}
 use Rattle.shell_state.specs.Carrying.{CarryAfter, Settled}

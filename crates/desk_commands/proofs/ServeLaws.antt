@@ -11,8 +11,8 @@ use Rattle.base_files.specs.declared.faults.Stop.TheVariants as stop
 use Rattle.command_runs.proofs.Joining.{halted_all, halted_unsure}
 use Rattle.command_runs.specs.Counts.{Causes, Why, counts}
 use Rattle.command_runs.specs.Endings.{Halted, Serves}
-use Rattle.script_lines.specs.Clients.{Clients, Order}
-use Rattle.script_text.specs.Tasks.{Task, task}
+use Rattle.script_lines.specs.Clients.{Clients}
+use Rattle.script_text.specs.Tasks.{Order, Task, task}
 use Rattle.shell_commands.specs.Tasks.{BrokenTask, SettledTask, order_left, task_work, tasks}
 use Rattle.shell_state.proofs.CarryLaws.{settled_of}
 use Rattle.shell_state.proofs.Causing.{broken_by_output, output_of}

@@ -5,8 +5,8 @@ use Rattle.std.specs.Prelude.{IfErr}
 use Rattle.base_files.specs.Seen.{Seen}
 use Rattle.filter_seat.specs.Seats.{Seat}
 use Rattle.filter_seat.specs.declared.seat.Seat.{Seat as SeatStruct}
-use Rattle.script_lines.specs.Clients.{Clients, Order}
-use Rattle.script_text.specs.Tasks.{Task, task}
+use Rattle.script_lines.specs.Clients.{Clients}
+use Rattle.script_text.specs.Tasks.{Order, Task, task}
 use Rattle.script_text.specs.declared.command.Command.TheVariants.{Compact, Replace}
 use Rattle.shell_commands.specs.Tasks.{BrokenTask, SettledTask, order_price, task_work, tasks}
 use Rattle.shell_commands.specs.Watching.{ViewsDone, touches}

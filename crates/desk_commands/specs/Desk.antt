@@ -5,8 +5,8 @@ use Rattle.base_core.specs.Base.{Base}
 use Rattle.command_runs.specs.Plain.{Plain}
 use Rattle.filter_seat.specs.Seats.{Seat, first_seat}
 use Rattle.filter_seat.specs.declared.saved.SavedFilter.{SavedFilter}
-use Rattle.script_lines.specs.Clients.{Clients, Order, Tagged, has_ended, heard, new_clients, said}
-use Rattle.script_text.specs.Tasks.{Task}
+use Rattle.script_lines.specs.Clients.{Clients, Tagged, has_ended, heard, new_clients, said}
+use Rattle.script_text.specs.Tasks.{Order, Task}
 use Rattle.script_text.specs.declared.command.Command.TheVariants.{Nothing}
 use Rattle.shell_commands.specs.Tasks.{tasks}
 use Rattle.shell_state.specs.Lines.{error_line}

@@ -4,7 +4,8 @@ use Rattle.base_core.specs.Base.{Base}
 use Rattle.base_files.specs.Seen.{Seen}
 use Rattle.filter_seat.specs.Seats.{Seat}
 use Rattle.filter_seat.specs.declared.seat.Seat.{Seat as SeatStruct}
-use Rattle.script_lines.specs.Clients.{Clients, Order, Tagged, has_ended, said}
+use Rattle.script_text.specs.Tasks.{Order}
+use Rattle.script_lines.specs.Clients.{Clients, Tagged, has_ended, said}
 use Rattle.script_lines.specs.declared.line.Line.{Line}
 use Rattle.script_text.specs.declared.command.Command.TheVariants.{Nothing}
 use Rattle.shell_commands.specs.Tasks.{order_left, order_price, order_work}

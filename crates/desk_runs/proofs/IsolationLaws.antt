@@ -3,9 +3,9 @@ use Rattle.std.proofs.Common.{◌≡◌, ℕ, zero, suc, ◌+◌, ◌==◌, nat_
 use Rattle.std.proofs.lemmas.Bool.{eqb-true, eqb-false, leb-true, ltb-true}
 use Rattle.filter_seat.specs.Seats.{Seat, first_seat}
 use Rattle.script_lines.proofs.ClientLaws.{none_ends}
-use Rattle.script_lines.specs.Clients.{Clients, Order, Tagged, has_ended, heard, is_quit, said as said_by}
+use Rattle.script_lines.specs.Clients.{Clients, Tagged, has_ended, heard, is_quit, said as said_by}
 use Rattle.script_lines.specs.declared.line.Line.{Line}
-use Rattle.script_text.specs.Tasks.{Task}
+use Rattle.script_text.specs.Tasks.{Order, Task}
 use Rattle.script_text.specs.declared.command.Command.TheVariants.{Nothing, Find, SearchPosition, SearchMaterial, SearchHeader, Reset, Clear, Negate, Restrict, Keep, Take, And, Or, Drop, Hits, List as Listing, Show, Export, Import, Replace, Eco, Tag, Delete, Undelete, Mark, Tree, Watch, View, Unwatch, Cross, Twins, Index, Save, Info, Demo, Quit, Compact}
 use Rattle.shell_commands.specs.Tasks.{task_work, tasks}
 use Rattle.shell_state.specs.State.{Shared, State}

@@ -1,7 +1,8 @@
 -- Laws of clients: those of a script of one.
 use Rattle.std.proofs.Common.{◌≡◌, ℕ, Bool, true, false, List, Some, refl}
 use Rattle.script_text.specs.Reading.{reading}
-use Rattle.script_lines.specs.Clients.{Clients, Order, ended_by, heard, is_end, is_quit, line_of, new_clients, said}
+use Rattle.script_text.specs.Tasks.{Order}
+use Rattle.script_lines.specs.Clients.{Clients, ended_by, heard, is_end, is_quit, line_of, new_clients, said}
 use Rattle.script_lines.specs.declared.line.Line.{Line}
 
 one_ends_by : (order : Order) (quit : Bool) → is_quit order ≡ quit → is_end (new_clients false) (said (Some 0) order) ≡ is_quit order

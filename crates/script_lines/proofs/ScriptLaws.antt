@@ -8,7 +8,8 @@ use Rattle.script_text.specs.declared.command.Command.TheVariants.{Nothing}
 use Rattle.script_text.specs.declared.fault.ScriptFault.TheVariants.{TooLong, Unknown}
 use Rattle.script_text.specs.Reading.{reading, shorn, is_remark}
 use Rattle.script_lines.specs.Bytewise.{script_from, with_byte}
-use Rattle.script_lines.specs.Clients.{Clients, Order, Tagged, desk_line, is_idle, line_of, named, said, tagged_task}
+use Rattle.script_text.specs.Tasks.{Order}
+use Rattle.script_lines.specs.Clients.{Clients, Tagged, desk_line, is_idle, line_of, named, said, tagged_task}
 use Rattle.script_lines.specs.Script.{Script, script}
 use Rattle.script_lines.specs.Bodies.{feed_at}
 use Rattle.script_lines.specs.Reading.{grown, led_on, most_kept}

@@ -1,27 +1,17 @@
 -- What a line of a script says, who says it, and when the last client has ended. A script has one client, whose lines stand as they are, or it is
 -- said at a desk of four, where each line begins with its client: `@0 `, `@1 `, `@2 ` or `@3 `. This project's own.
-use Rattle.std.specs.Prelude.{ℕ, ◌-◌, ◌==◌, nat_le, nat_lt, Bool, true, false, ◌&&◌, ◌||◌, not, if◌then◌else◌, List, [], ◌∷◌, length, drop, slice_get, slice_set, unwrap_or, Option, Some, None, is_some, Result, Ok, Err}
+use Rattle.std.specs.Prelude.{ℕ, ◌-◌, ◌==◌, nat_le, nat_lt, Bool, true, false, ◌&&◌, ◌||◌, not, if◌then◌else◌, List, [], ◌∷◌, length, drop, slice_get, slice_set, unwrap_or, Option, Some, None, is_some, option_map, Ok, Err}
 use Rattle.std.specs.List.{list_all}
 use Rattle.script_text.specs.Reading.{is_remark, reading, shorn}
-use Rattle.script_text.specs.declared.command.Command.{Command}
 use Rattle.script_text.specs.declared.command.Command.TheVariants.{Nothing, Quit}
-use Rattle.script_text.specs.declared.fault.ScriptFault.{ScriptFault}
 use Rattle.script_text.specs.declared.fault.ScriptFault.TheVariants.{Unknown}
-use Rattle.script_text.specs.Tasks.{Task, task}
+use Rattle.script_text.specs.Tasks.{Order, Task, task}
 use Rattle.script_lines.specs.declared.line.Line.{Line}
 
--- The command that a line says, or its first fault.
-abbrev pub Order : Type 0
-Order = Result Command ScriptFault
-
--- Whether a command is `quit`, and whether a line says so.
-abbrev pub ends : Command → Bool
-ends Quit = true
-ends _ = false
-
+-- Whether a line says `quit`.
 abbrev pub is_quit : Order → Bool
-is_quit (Ok command) = ends command
-is_quit (Err fault) = false
+is_quit (Ok Quit) = true
+is_quit _ = false
 
 -- ---- what a line says
 
@@ -81,12 +71,8 @@ has_ended clients client = unwrap_or (slice_get clients.ended client) true
 abbrev pub leaver : Line → Option ℕ
 leaver line = if is_quit line.order then line.client else None
 
-abbrev pub with_ended : List Bool → Option ℕ → List Bool
-with_ended ended None = ended
-with_ended ended (Some client) = slice_set ended client true
-
 unfoldable pub ended_by : List Bool → Line → List Bool
-ended_by ended line = with_ended ended (leaver line)
+ended_by ended line = unwrap_or (option_map (λ client. slice_set ended client true) (leaver line)) ended
 
 -- The clients behind a line.
 abbrev pub heard : Clients → Line → Clients

@@ -19,7 +19,7 @@ use Rattle.game_tree.specs.declared.tag_edit.TagEdit.{TagEdit}
 use Rattle.pgn_read.specs.Items.{items_of}
 use Rattle.pgn_read.specs.declared.item.Item.{Item}
 use Rattle.pgn_read.specs.declared.item.Item.TheVariants.{Bad, Good}
-use Rattle.script_text.specs.Tasks.{Task}
+use Rattle.script_text.specs.Tasks.{Order, Task}
 use Rattle.script_text.specs.declared.command.Command.{Command}
 use Rattle.script_text.specs.declared.command.Command.TheVariants.{Nothing, Find, SearchPosition, SearchMaterial, SearchHeader, Reset, Clear, Negate, Restrict, Keep, Take, And, Or, Drop, Hits, List as Listing, Show, Export, Import, Replace, Eco, Tag, Delete, Undelete, Mark, Tree, Watch, View, Unwatch, Cross, Twins, Index, Save, Info, Demo, Quit, Compact}
 use Rattle.edit_commands.specs.Compacting.{compacted_line, compacted_state, is_within}
@@ -29,7 +29,7 @@ use Rattle.intake_commands.specs.Demo.{Adding, adding, one_more, unless_ended, u
 use Rattle.intake_commands.specs.Importing.{Intake, intake, item_after, line_with, none_taken, state_with, the_new, unless_not_added}
 use Rattle.report_commands.specs.Classifying.{state_by, text_by}
 use Rattle.shell_commands.specs.Refused.{IsError}
-use Rattle.shell_commands.specs.Tasks.{Order, command_work, order_work, tasks}
+use Rattle.shell_commands.specs.Tasks.{command_work, order_work, tasks}
 use Rattle.game_filter.proofs.Searches.{length-searched}
 use Rattle.game_filter.specs.Filter.{intersection, union}
 use Rattle.game_filter.specs.declared.op.Op.TheVariants.{Ignore}

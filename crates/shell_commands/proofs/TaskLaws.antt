@@ -4,7 +4,7 @@ use Rattle.std.specs.Prelude.{IfErr, IfSome}
 use Rattle.base_core.specs.Base.{Base}
 use Rattle.base_files.specs.Seen.{Seen}
 use Rattle.command_runs.specs.Endings.{Serves}
-use Rattle.script_text.specs.Tasks.{Task, body_word, task, word_of}
+use Rattle.script_text.specs.Tasks.{Order, Task, body_word, task}
 use Rattle.script_text.specs.declared.command.Command.{Command}
 use Rattle.script_text.specs.declared.command.Command.TheVariants.{Compact, Demo, Import, Replace, Eco, Save}
 use Rattle.intake_commands.specs.Demo.{demo_price}
@@ -21,7 +21,7 @@ use Rattle.shell_commands.specs.declared.parts.Part.{Part}
 use Rattle.shell_commands.specs.declared.parts.Part.TheVariants.{Edits, Texts}
 use Rattle.view_commands.specs.Views.{all_slots}
 use Rattle.view_commands.specs.declared.window.Window.{Window}
-use Rattle.shell_commands.specs.Tasks.{BrokenTask, Order, SettledTask, order_left, order_price, command_work, order_work, task_work, tasks}
+use Rattle.shell_commands.specs.Tasks.{BrokenTask, SettledTask, order_left, order_price, command_work, order_work, task_work, tasks}
 
 pub task_serves : {A : Type 0} (r : Result A Halt) (w : Window) (new : Holding) (seen : Seen) (s : State) (t : Task) (told told' : Option (List ℕ))
     → Serves works (Stands new seen) Broken s (task_work w t) told told' r → Serves (tasks w) (Stands new seen) (BrokenTask w) s t told told' r
@@ -29,15 +29,11 @@ task_serves (Ok x) w new seen s t told told' done = record { stands = done.stand
 task_serves (Err e) w new seen s t told told' cut = record { wrote = cut.wrote; broken = cut.broken }
 
 -- A line without a body reads none.
-alone-command : (w : Window) (command : Command) (body : List ℕ) → word_of command ≡ None → (command_work w command body).body ≡ false
-alone-command w (Import word) body none = cc
-alone-command w (Replace game word) body none = cc
-alone-command w (Eco word) body none = cc
-alone-command w _ body none = refl
-
 pub alone : (w : Window) (order : Order) (body : List ℕ) → body_word order ≡ None → (order_work w order body).body ≡ false
-alone w (Ok command) body none = alone-command w command body none
-alone w (Err fault) body none = refl
+alone w (Ok (Import word)) body none = cc
+alone w (Ok (Replace game word)) body none = cc
+alone w (Ok (Eco word)) body none = cc
+alone w _ body none = refl
 
 -- What is asked where the files are told.
 asks_so : (work : Work) (price : List Look → List (Option ℕ) → ℕ) (holding : Holding) (seen : Seen) (s : State) (old new : ℕ) → work.price ≡ by_looks price → Stands holding seen s → Asks holding work old new → new ≤ old + price_by work.price s

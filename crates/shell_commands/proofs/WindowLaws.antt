@@ -2,7 +2,8 @@
 use Rattle.std.proofs.Common.{◌≡◌, ℕ, List, Ok, Err, refl}
 use Rattle.script_text.specs.declared.command.Command.{Command}
 use Rattle.script_text.specs.declared.command.Command.TheVariants.{Unwatch, View, Watch}
-use Rattle.shell_commands.specs.Tasks.{Order, command_work, order_work}
+use Rattle.script_text.specs.Tasks.{Order}
+use Rattle.shell_commands.specs.Tasks.{command_work, order_work}
 use Rattle.shell_state.specs.Work.{Work}
 use Rattle.view_commands.specs.Views.{all_slots}
 use Rattle.view_commands.specs.declared.window.Window.{Window}

@@ -1,12 +1,11 @@
 -- The plain machine over the tasks of a script, its lines with their bodies: what each command does. This project's own.
-use Rattle.std.specs.Prelude.{ℕ, Bool, List, [], Option, IfSome, Result, Ok, Err}
+use Rattle.std.specs.Prelude.{ℕ, Bool, List, [], Option, IfSome, Ok, Err}
 use Rattle.base_files.specs.Seen.{Seen}
 use Rattle.base_core.specs.Base.{Base}
 use Rattle.command_runs.specs.Plain.{Plain}
-use Rattle.script_text.specs.Tasks.{Task}
+use Rattle.script_text.specs.Tasks.{Order, Task}
 use Rattle.script_text.specs.declared.command.Command.{Command}
 use Rattle.script_text.specs.declared.command.Command.TheVariants.{Nothing, Find, SearchPosition, SearchMaterial, SearchHeader, Reset, Clear, Negate, Restrict, Keep, Take, And, Or, Drop, Hits, List as Listing, Show, Export, Import, Replace, Eco, Tag, Delete, Undelete, Mark, Tree, Watch, View, Unwatch, Cross, Twins, Index, Save, Info, Demo, Quit, Compact}
-use Rattle.script_text.specs.declared.fault.ScriptFault.{ScriptFault}
 use Rattle.edit_commands.specs.Compacting.{compact_work}
 use Rattle.edit_commands.specs.Editing.{delete_work, mark_work, tag_work, undelete_work}
 use Rattle.edit_commands.specs.Saving.{save_work}
@@ -30,10 +29,6 @@ use Rattle.text_commands.specs.Listing.{list_work}
 use Rattle.text_commands.specs.Showing.{info_work, quit_work}
 use Rattle.view_commands.specs.Views.{all_slots, unwatch_work, view_work, watch_work}
 use Rattle.view_commands.specs.declared.window.Window.{Window}
-
--- A line of a script: the command that it says, or its first fault.
-abbrev pub Order : Type 0
-Order = Result Command ScriptFault
 
 -- What a command does with its body, where it has one, for a user with these slots of his own.
 abbrev pub command_work : Window → Command → List ℕ → Work

@@ -1,8 +1,8 @@
 -- What a task of a script owes the views of the slots. This project's own.
 use Rattle.std.specs.Prelude.{ℕ, ◌+◌, ◌==◌, ◌||◌, ◌&&◌, nat_lt, if◌then◌else◌, Bool, false, List, Option, Ok, length}
-use Rattle.script_text.specs.Tasks.{Task}
+use Rattle.script_text.specs.Tasks.{Order, Task}
 use Rattle.script_text.specs.declared.command.Command.TheVariants.{Watch}
-use Rattle.shell_commands.specs.Tasks.{Order, tasks}
+use Rattle.shell_commands.specs.Tasks.{tasks}
 use Rattle.shell_state.specs.Slots.{slot_at}
 use Rattle.shell_state.specs.State.{State}
 use Rattle.tree_rows.specs.declared.row.Row.{Row}

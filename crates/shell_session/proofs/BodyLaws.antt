@@ -28,7 +28,7 @@ use Rattle.desk_commands.specs.Standing.{BrokenLine, DeskHolding, SettledLine, l
 use Rattle.desk_commands.specs.Views.{line_told}
 use Rattle.script_lines.specs.Bodies.{Body, body_of}
 use Rattle.script_lines.specs.Bytewise.{script_from}
-use Rattle.script_lines.specs.Clients.{Clients, Order, Tagged, heard, is_end, is_quit, tagged_task}
+use Rattle.script_lines.specs.Clients.{Clients, Tagged, heard, is_end, is_quit, tagged_task}
 use Rattle.script_lines.specs.Reading.{Reader, grown, led_on, piece_len}
 use Rattle.script_lines.specs.Script.{Script, at_end, led_by, longest_script, script}
 use Rattle.script_lines.specs.Standing.{IsBegun, NoEnd, Standing, is_open, left_of, rest_told, start_at}
@@ -42,7 +42,7 @@ use Rattle.script_lines.proofs.BodyLaws.{body_none}
 use Rattle.script_lines.proofs.StandingLaws.{standing_begun, told}
 use Rattle.script_lines.proofs.TaskLaws.{on_body, on_end, on_line, on_open}
 use Rattle.script_text.specs.Sound.{IsSoundLine}
-use Rattle.script_text.specs.Tasks.{body_word, task, word_of}
+use Rattle.script_text.specs.Tasks.{Order, body_word, task}
 use Rattle.script_text.specs.declared.command.Command.{Command}
 use Rattle.script_text.specs.declared.command.Command.TheVariants.{Import, Replace, Eco}
 use Rattle.report_commands.specs.Classifying.{state_by}
@@ -74,15 +74,11 @@ use Rattle.shell_session.proofs.RunningLaws.{at_front, at_other, end_did, end_st
 abbrev pub HasBody : Order → List ℕ → Type 0
 HasBody order word = (order ≡ Ok (Import word)) ⊎ (((game : ℕ) × (order ≡ Ok (Replace game word))) ⊎ (order ≡ Ok (Eco word)))
 
-command_body : (command : Command) (word : List ℕ) → word_of command ≡ Some word → HasBody (Ok command) word
-command_body (Import end) word is = let e : end ≡ word = cc in let P : List ℕ → Order = λ w. Ok (Import w) in inl (ap P e)
-command_body (Replace game end) word is = let e : end ≡ word = cc in let P : List ℕ → Order = λ w. Ok (Replace game w) in inr (inl (game, ap P e))
-command_body (Eco end) word is = let e : end ≡ word = cc in let P : List ℕ → Order = λ w. Ok (Eco w) in inr (inr (ap P e))
-command_body _ word is = cc
-
 pub has_body : (order : Order) (word : List ℕ) → body_word order ≡ Some word → HasBody order word
-has_body (Ok command) word is = command_body command word is
-has_body (Err fault) word is = cc
+has_body (Ok (Import end)) word is = let e : end ≡ word = cc in let P : List ℕ → Order = λ w. Ok (Import w) in inl (ap P e)
+has_body (Ok (Replace game end)) word is = let e : end ≡ word = cc in let P : List ℕ → Order = λ w. Ok (Replace game w) in inr (inl (game, ap P e))
+has_body (Ok (Eco end)) word is = let e : end ≡ word = cc in let P : List ℕ → Order = λ w. Ok (Eco w) in inr (inr (ap P e))
+has_body _ word is = cc
 
 -- The word of a line that has one.
 pub worded : {A : Type 0} (found : Option A) (f : A → List ℕ) (word : Option (List ℕ)) (none : Bool) → option_map f found ≡ word → is_some found ≡ not none → none ≡ false

@@ -6,8 +6,8 @@ use Rattle.base_files.specs.Seen.{Seen}
 use Rattle.command_runs.specs.Plain.{after_all}
 use Rattle.desk_commands.specs.Desk.{Desk, desk_by, desk_done, desks, seat_at, seen_by}
 use Rattle.desk_commands.specs.Standing.{DeskHolding, DeskStands, SettledLine, effective, line_left, with_seat}
-use Rattle.script_lines.specs.Clients.{Clients, Order, Tagged, has_ended}
-use Rattle.script_text.specs.Tasks.{Task, body_word}
+use Rattle.script_lines.specs.Clients.{Clients, Tagged, has_ended}
+use Rattle.script_text.specs.Tasks.{Order, Task, body_word}
 use Rattle.script_text.specs.declared.command.Command.TheVariants.{Nothing}
 use Rattle.shell_commands.proofs.TaskLaws.{alone}
 use Rattle.shell_commands.specs.Tasks.{order_work}

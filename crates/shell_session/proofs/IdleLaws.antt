@@ -8,8 +8,8 @@ use Rattle.cell_core.specs.Packed.{Packed, packed_of}
 use Rattle.cell_core.specs.declared.man.Colour.{Colour}
 use Rattle.desk_commands.specs.Desk.{Desk, desk_by, desk_done, desks, seen_by, window_of}
 use Rattle.desk_commands.specs.Views.{line_watches}
-use Rattle.script_lines.specs.Clients.{Order, Tagged, has_ended, said}
-use Rattle.script_text.specs.Tasks.{Task}
+use Rattle.script_lines.specs.Clients.{Tagged, has_ended, said}
+use Rattle.script_text.specs.Tasks.{Order, Task}
 use Rattle.script_text.specs.declared.command.Command.{Command}
 use Rattle.script_text.specs.declared.command.Command.TheVariants.{Nothing, Find, SearchPosition, SearchMaterial, SearchHeader, Reset, Clear, Negate, Restrict, Keep, Take, And, Or, Drop, Hits, List as Listing, Show, Export, Import, Replace, Eco, Tag, Delete, Undelete, Mark, Tree, Watch, View, Unwatch, Cross, Twins, Index, Save, Info, Demo, Quit, Compact}
 use Rattle.shell_commands.proofs.SlotLaws.{command_stays}

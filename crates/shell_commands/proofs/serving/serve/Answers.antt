@@ -1,10 +1,10 @@
 use Rattle.std.proofs.Common.{◌≤◌, ◌+◌, Ok, sym, subst}
 use Rattle.command_runs.specs.Endings.{Serves}
-use Rattle.script_text.specs.Tasks.{task}
+use Rattle.script_text.specs.Tasks.{Order, task}
 use Rattle.shell_commands.proofs.TaskLaws.{asked_by, task_serves}
 use Rattle.shell_commands.proofs.ViewLaws.{fault_done}
 use Rattle.shell_commands.proofs.serving.serve.Goals as goal
-use Rattle.shell_commands.specs.Tasks.{BrokenTask, Order, order_price, tasks}
+use Rattle.shell_commands.specs.Tasks.{BrokenTask, order_price, tasks}
 use Rattle.shell_state.proofs.CarryLaws.{carry_of, if_err}
 use Rattle.shell_state.proofs.Served.{on_ok}
 use Rattle.shell_state.specs.Stands.{Stands}
