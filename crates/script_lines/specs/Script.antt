@@ -1,5 +1,5 @@
 -- A script as the list of its lines, each with the body that stands behind it. This project's own.
-use Rattle.std.specs.Prelude.{ℕ, suc, ◌+◌, ◌==◌, Bool, if◌then◌else◌, List, [], ◌∷◌, ◌++◌, length, Option, Some, None, Ok}
+use Rattle.std.specs.Prelude.{ℕ, suc, ◌+◌, ◌==◌, Bool, ◌||◌, if◌then◌else◌, List, [], ◌∷◌, ◌++◌, length, Option, Some, None, Ok}
 use Rattle.std.specs.Str.{bytes_eq}
 use Rattle.script_text.specs.Reading.{shorn}
 use Rattle.script_text.specs.declared.command.Command.TheVariants.{Quit}
@@ -68,13 +68,9 @@ script_at last end clients (Inside t word) (line ∷ lines) =
 abbrev pub script_by : (Tagged → List Tagged) → Clients → List ℕ → Script
 script_by last clients bytes = script_at last (lines_from [] bytes).1 clients Between (lines_from [] bytes).0
 
--- The end of the input ends the last task, and stands for `quit` of the one client where that is not.
-abbrev pub then_quit : Tagged → List Tagged
-then_quit last = if is_quit last.task.order then last ∷ [] else last ∷ tagged_task (said (Some 0) (Ok Quit)) [] ∷ []
-
--- At a desk it ends the last task alone.
+-- The end of the input ends the last task, and stands for `quit` of the one client where that is not; at a desk it ends the last task alone.
 abbrev pub at_end : Bool → Tagged → List Tagged
-at_end desk last = if desk then last ∷ [] else then_quit last
+at_end desk last = if desk || is_quit last.task.order then last ∷ [] else last ∷ tagged_task (said (Some 0) (Ok Quit)) [] ∷ []
 
 -- The tasks of a script, said at a desk or by one client: one a line, a faulty line too, up to the `quit` by which the last of them ends.
 abbrev pub script_of : Bool → List ℕ → List Tagged

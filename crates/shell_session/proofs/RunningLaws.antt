@@ -1,5 +1,5 @@
 -- Laws of the run of a script: a task more, its end, and what stops it.
-use Rattle.std.proofs.Common.{Result, OnOk, IfErr, inl, inr, ◌≡◌, ◌≤◌, ◌<◌, ◌+◌, ◌-◌, ◌==◌, ℕ, zero, suc, Bool, true, false, cond, List, [], ◌∷◌, ◌++◌, length, take, Option, Some, None, Ok, Err, refl, sym, ap, ◌∙◌, subst, arith, append_assoc, append-nil}
+use Rattle.std.proofs.Common.{Result, OnOk, IfErr, inl, inr, ◌≡◌, ◌≤◌, ◌<◌, ◌+◌, ◌-◌, ◌==◌, ℕ, zero, suc, Bool, true, false, ◌||◌, cond, List, [], ◌∷◌, ◌++◌, length, take, Option, Some, None, Ok, Err, refl, sym, ap, ◌∙◌, subst, arith, append_assoc, append-nil}
 use Rattle.std.proofs.Math.Seq.{take-append_seam}
 use Rattle.std.proofs.lemmas.List.{length-append}
 use Rattle.base_files.specs.Counters.{Rose}
@@ -408,7 +408,7 @@ paid_last d bytes t₀ held around line used t a₀ a a' at asked =
 -- ---- where no line was read
 
 -- A script has a task.
-some_last : (desk quit : Bool) (last end : Tagged) → (next : Tagged) × (left : List Tagged) × (cond desk (last ∷ []) (cond quit (last ∷ []) (last ∷ end ∷ [])) ≡ next ∷ left)
+some_last : (desk quit : Bool) (last end : Tagged) → (next : Tagged) × (left : List Tagged) × (cond (desk || quit) (last ∷ []) (last ∷ end ∷ []) ≡ next ∷ left)
 some_last true quit last end = (last, [], refl)
 some_last false true last end = (last, [], refl)
 some_last false false last end = (last, end ∷ [], refl)
