@@ -31,8 +31,8 @@ use Rattle.script_text.specs.declared.command.Command.TheVariants.{Import, Repla
 use Rattle.shell_commands.proofs.FitLaws.{task_has}
 use Rattle.shell_commands.proofs.RefusedLaws.{imported, made}
 use Rattle.shell_commands.specs.Tasks.{order_left, tasks}
-use Rattle.shell_state.proofs.CarryLaws.{carry_later}
-use Rattle.shell_state.specs.Carrying.{CarryIt, MayCarry, StillCarry}
+use Rattle.shell_state.proofs.CarryLaws.{MayCarry, carry_later}
+use Rattle.shell_state.specs.Carrying.{CarryIt, StillCarry}
 use Rattle.shell_state.specs.Refusing.{refusal_of}
 use Rattle.shell_state.specs.Slots.{Slot}
 use Rattle.shell_state.specs.Stands.{Holding, Stands}

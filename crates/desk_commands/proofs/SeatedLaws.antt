@@ -11,7 +11,8 @@ use Rattle.filter_seat.specs.declared.seat.Seat.{Seat as SeatStruct}
 use Rattle.script_text.specs.Tasks.{Order, Task, task}
 use Rattle.shell_commands.specs.Tasks.{SettledTask, order_left, tasks}
 use Rattle.shell_commands.specs.Watching.{ViewsDone, most_told}
-use Rattle.shell_state.specs.Carrying.{CarryAfter, Settled}
+use Rattle.shell_state.proofs.CarryLaws.{CarryAfter}
+use Rattle.shell_state.specs.Carrying.{Settled}
 use Rattle.shell_state.specs.Slots.{Slot, slot_at}
 use Rattle.shell_state.specs.Stands.{Broken, Fits, Holding, Sound, Stands, TablesFit}
 use Rattle.shell_state.specs.State.{Shared, State}

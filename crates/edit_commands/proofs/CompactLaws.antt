@@ -36,7 +36,8 @@ use Rattle.shell_state.proofs.IndexLaws.{index_is}
 use Rattle.shell_state.proofs.PriceLaws.{none_looked}
 use Rattle.shell_state.proofs.Quietly.{held_by, tables_with}
 use Rattle.shell_state.proofs.TableLaws.{hits_on, in_mapped, in_tables, same_slots}
-use Rattle.shell_state.specs.Carrying.{Contents, AreBeside, Beside, StillCarry, MayCarry}
+use Rattle.shell_state.proofs.CarryLaws.{MayCarry}
+use Rattle.shell_state.specs.Carrying.{Contents, AreBeside, Beside, StillCarry}
 use Rattle.shell_state.specs.Ends.{IsDevice, EndsAs}
 use Rattle.shell_state.specs.Refusing.{refusal_line}
 use Rattle.shell_state.specs.Slots.{HitTable, Slot, exactly_on, hit_of_game, slot_at, table_in, table_of, tables_in, tables_of}

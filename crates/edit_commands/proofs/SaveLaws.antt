@@ -11,7 +11,8 @@ use Rattle.edit_commands.specs.Saving.{save_after}
 use Rattle.filter_seat.specs.declared.saved.SavedFilter.{SavedFilter}
 use Rattle.shell_state.proofs.CarryLaws.{beside_meant}
 use Rattle.shell_state.proofs.Quietly.{held_by}
-use Rattle.shell_state.specs.Carrying.{AreBeside, Contents, Beside, CarryIt, MayCarry, StillCarry}
+use Rattle.shell_state.proofs.CarryLaws.{MayCarry}
+use Rattle.shell_state.specs.Carrying.{AreBeside, Contents, Beside, CarryIt, StillCarry}
 use Rattle.shell_state.specs.Stands.{Sound, Stands, Holding, Tables}
 use Rattle.shell_state.specs.State.{Carried, State}
 

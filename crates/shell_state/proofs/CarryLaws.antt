@@ -1,6 +1,6 @@
 -- Laws of what the files carry while a script runs.
 use Rattle.std.proofs.Common.{true≢false, ◌≡◌, false, sym, subst, Bool, Option, Some, inl, Result, Ok, Err, ℕ, true, List, ◌++◌, ap, ◌∙◌, inr, None}
-use Rattle.std.specs.Prelude.{IfErr}
+use Rattle.std.specs.Prelude.{IfErr, IfSome, IsSomeAnd, ◌⊎◌}
 use Rattle.base_core.proofs.GrowLaws.{holds-own, means-carries, carries-longer}
 use Rattle.base_core.proofs.SaveLaws.{holds-more}
 use Rattle.base_core.specs.Base.{Base}
@@ -9,7 +9,7 @@ use Rattle.base_core.specs.Represents.{Kept}
 use Rattle.base_files.specs.Seen.{Seen, appended}
 use Rattle.base_files.specs.Told.{adds, Grew}
 use Rattle.name_base.specs.NameLists.{NameLists}
-use Rattle.shell_state.specs.Carrying.{IsFaultless, Beside, CarryAfter, Contents, AreBeside, AreLeft, CarryIt, MayCarry, Settled, StillCarry}
+use Rattle.shell_state.specs.Carrying.{IsFaultless, Beside, Contents, AreBeside, AreLeft, CarryIt, Settled, StillCarry}
 use Rattle.shell_state.specs.Stands.{Holding, Stands}
 use Rattle.shell_state.specs.State.{Carried, State}
 use Rattle.shell_state.specs.declared.halt.Halt.{Halt}
@@ -31,6 +31,13 @@ beside_meant kept seen base sound c names means opens =
 pub carried_left : (kept : Kept) (seen : Seen) (unsaved : Bool) (carried : Option Carried) → AreBeside kept seen unsaved carried → AreLeft seen carried unsaved
 carried_left kept seen unsaved (Some carried) b = ((b.contents, b.carries), (λ clean. (b.contents, b.means clean), λ clean sound. (b.contents, b.opens clean sound)))
 carried_left kept seen unsaved None b = b
+
+-- Where there is a base that is carried: it, or what a command leaves of another one; and it alone.
+abbrev pub MayCarry : Seen → Option Carried → Option (Base → Base) → Base → Type 0
+MayCarry seen carried left base = IfSome carried (λ (own : Carried). CarryIt seen own.base ⊎ IsSomeAnd left (λ leaves. CarryIt seen (leaves base)))
+
+abbrev pub CarryAfter : Seen → Option Carried → Type 0
+CarryAfter seen carried = IfSome carried (λ (own : Carried). CarryIt seen own.base)
 
 may_carry : (kept : Kept) (seen : Seen) (unsaved : Bool) (carried : Option Carried) (left : Option (Base → Base)) (base : Base) → AreBeside kept seen unsaved carried → MayCarry seen carried left base
 may_carry kept seen unsaved (Some own) left base b = inl (b.contents, b.carries)

@@ -1,5 +1,5 @@
 -- What the files carry while a script runs. This project's own.
-use Rattle.std.specs.Prelude.{true, ◌≡◌, ℕ, List, Some, Bool, false, [], Option, None, ◌⊎◌, ⊤}
+use Rattle.std.specs.Prelude.{true, ◌≡◌, ℕ, List, Some, Bool, false, [], Option, None, IfSome, IsSomeAnd, ◌⊎◌}
 use Rattle.base_core.specs.Base.{Base}
 use Rattle.base_core.specs.FirstFault.{FirstFault}
 use Rattle.base_core.specs.Means.{Carries, Means, HoldsNames}
@@ -17,19 +17,13 @@ pub record Contents (seen : Seen) : Type 0 where
   pub names_told : seen.names ≡ Some names
   pub games_told : seen.games ≡ Some games
 
--- The files tell that they carry this base, or that they mean it.
+-- The files tell that they carry this base.
 abbrev pub CarryIt : Seen → Base → Type 0
 CarryIt seen base = (c : Contents seen) × Carries c.index c.names c.games base
-
-abbrev pub MeanIt : Seen → Base → Type 0
-MeanIt seen base = (c : Contents seen) × Means c.index c.names c.games base
 
 -- They have no fault, however strict the opening is.
 abbrev pub IsFaultless : List ℕ → List ℕ → List ℕ → Type 0
 IsFaultless index names games = (strict : Bool) (fault : BaseFault) → FirstFault strict index names games fault → ⊥
-
-abbrev pub AreFaultless : Seen → Type 0
-AreFaultless seen = (c : Contents seen) × IsFaultless c.index c.names c.games
 
 -- The files beside a base that is open: they carry this base, whose names have the same ids in what is kept, and where nothing is unsaved they
 -- mean it, without a fault where it was written as a whole.
@@ -53,28 +47,18 @@ AreBeside kept seen unsaved None = AreEmpty seen
 -- after; one that was saved or compacted opens again then without a fault, however strict the opening is. Those of a base that was created and neither saved nor compacted are empty.
 abbrev pub AreLeft : Seen → Option Carried → Bool → Type 0
 AreLeft seen (Some carried) unsaved =
-    CarryIt seen carried.base × ((unsaved ≡ false → MeanIt seen carried.base) × (unsaved ≡ false → carried.sound ≡ true → AreFaultless seen))
+    CarryIt seen carried.base
+    × ((unsaved ≡ false → (c : Contents seen) × Means c.index c.names c.games carried.base)
+    × (unsaved ≡ false → carried.sound ≡ true → (c : Contents seen) × IsFaultless c.index c.names c.games))
 AreLeft seen None unsaved = AreEmpty seen
 
--- The files carry what a command leaves of a base that replaces them, if it does.
-abbrev pub CarryLeft : Seen → Option (Base → Base) → Base → Type 0
-CarryLeft seen (Some left) base = CarryIt seen (left base)
-CarryLeft seen None base = ⊥
-
--- What the files carry where a command was broken off: what they carried before it, or perhaps what it leaves of the base. Nothing is said
--- where the base was created and neither saved nor compacted.
-abbrev pub MayCarry : Seen → Option Carried → Option (Base → Base) → Base → Type 0
-MayCarry seen (Some carried) left base = CarryIt seen carried.base ⊎ CarryLeft seen left base
-MayCarry seen None left base = ⊤
-
+-- What the files carry where a command was broken off: what they carried before it, or perhaps what it leaves of a base that replaces them.
+-- Nothing is said where the base was created and neither saved nor compacted.
 abbrev pub StillCarry : Seen → State → Option (Base → Base) → Type 0
-StillCarry seen s left = MayCarry seen s.shared.carried left s.shared.base
+StillCarry seen s left =
+    IfSome s.shared.carried (λ (carried : Carried). CarryIt seen carried.base ⊎ IsSomeAnd left (λ leaves. CarryIt seen (leaves s.shared.base)))
 
--- The files carry the base that a state says, where there is one.
-abbrev pub CarryAfter : Seen → Option Carried → Type 0
-CarryAfter seen (Some carried) = CarryIt seen carried.base
-CarryAfter seen None = ⊤
-
--- Nothing of a text was written, or the files carry what the state behind its command says: so they do before the text goes out.
+-- Nothing of a text was written, or the files carry what the state behind its command says, if they carry a base: so they do before the text
+-- goes out.
 abbrev pub Settled : Seen → State → Option (List ℕ) → Option (List ℕ) → Type 0
-Settled seen later told told' = (told' ≡ told) ⊎ CarryAfter seen later.shared.carried
+Settled seen later told told' = (told' ≡ told) ⊎ IfSome later.shared.carried (λ (carried : Carried). CarryIt seen carried.base)
