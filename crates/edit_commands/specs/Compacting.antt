@@ -25,10 +25,7 @@ is_within base = nat_le (compacted base).end longest_file
 
 -- compact: the undeleted games stay, the filters and the index move with them, and the files carry the base that is left.
 abbrev pub compacted_state : State → State
-compacted_state s = record s {
-  shared = saved_whole s.shared (compacted s.shared.base);
-  seat = seat_renumbered (numbers_of s.shared.base) s.seat;
-}
+compacted_state s = record s { shared = saved_whole s.shared (compacted s.shared.base); seat = seat_renumbered (numbers_of s.shared.base) s.seat }
 
 abbrev pub compact_after : State → State
 compact_after s = if is_within s.shared.base then compacted_state s else s

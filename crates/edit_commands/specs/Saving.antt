@@ -12,8 +12,5 @@ save_after s = record s { shared = saved_whole s.shared s.shared.base }
 abbrev pub saved_line : ℕ → List ℕ
 saved_line games = codes "saved " ++ decimal games ++ codes " games\n"
 
-abbrev pub save_text : State → List ℕ
-save_text s = saved_line (length s.shared.base.games)
-
 abbrev pub save_work : Work
-save_work = record (writing save_after save_text (by_looks (λ looks plies. 0))) { left = Some (λ base. base) }
+save_work = record (writing save_after (λ s. saved_line (length s.shared.base.games)) (by_looks (λ looks plies. 0))) { left = Some (λ base. base) }

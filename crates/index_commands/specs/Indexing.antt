@@ -1,13 +1,12 @@
 -- The commands on the position index: `index D` and `index off`. This project's own.
 use Rattle.std.specs.Fmt.{decimal}
-use Rattle.std.specs.Prelude.{ℕ, Bool, false, is_some, List, ◌++◌, codes, if◌then◌else◌, length, Option, Some, None, sum_by}
+use Rattle.std.specs.Prelude.{ℕ, Bool, is_some, List, ◌++◌, codes, if◌then◌else◌, length, Option, Some, None, sum_by}
 use Rattle.pos_index.specs.Hits.{entries_of}
 use Rattle.shell_state.specs.Lines.{error_line}
 use Rattle.shell_state.specs.Refusing.{index_is_full}
 use Rattle.shell_state.specs.Stands.{index_of}
 use Rattle.shell_state.specs.State.{State, games_of, with_index}
-use Rattle.shell_state.specs.Work.{Look, Work}
-use Rattle.shell_state.specs.Work.Price.{by_looks}
+use Rattle.shell_state.specs.Work.{Look, Work, reading}
 
 -- An index to this depth has no room for the games of the base.
 abbrev pub is_too_big : State → ℕ → Bool
@@ -35,12 +34,4 @@ index_price (Some depth) looks plies = sum_by (λ look. look.len) looks
 index_price None looks plies = 0
 
 abbrev pub index_work : Option ℕ → Work
-index_work depth = record {
-  after = λ s. index_after s depth;
-  text = λ s. index_text s depth;
-  files = is_some depth;
-  writes = false;
-  body = false;
-  left = None;
-  price = by_looks (index_price depth);
-}
+index_work depth = record (reading (λ s. index_after s depth) (λ s. index_text s depth) (index_price depth)) { files = is_some depth }

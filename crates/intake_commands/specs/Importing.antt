@@ -102,9 +102,6 @@ import_text s body = run intake (none_taken s) (items_of body) ++ imported_line 
 
 -- ---- replace G <<WORD
 
-abbrev pub with_other_game : State → ℕ → Head → GameTree → State
-with_other_game s game head tree = with_seat (with_base s (game_replaced game head tree s.shared.base)) (seat_to_start game s.seat)
-
 abbrev pub one_game_line : List ℕ
 one_game_line = line_of (codes "error: one game expected")
 
@@ -131,7 +128,7 @@ abbrev pub the_new : State → ℕ → List ℕ → Result (Head × GameTree) (L
 the_new s game body = new_game s game (slice_get s.shared.base.games game) (items_of body)
 
 abbrev pub state_with : State → ℕ → Result (Head × GameTree) (List ℕ) → State
-state_with s game (Ok new) = with_other_game s game new.0 new.1
+state_with s game (Ok new) = with_seat (with_base s (game_replaced game new.0 new.1 s.shared.base)) (seat_to_start game s.seat)
 state_with s game (Err line) = s
 
 abbrev pub line_with : ℕ → Result (Head × GameTree) (List ℕ) → List ℕ

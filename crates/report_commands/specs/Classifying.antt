@@ -21,14 +21,11 @@ abbrev pub with_code : Option ℕ → Held → Held
 with_code None held = held
 with_code (Some code) held = record held { head = record held.head { eco = code } }
 
--- The base in which each game has the code that a table gives it.
-abbrev pub classified_base : List Opening → Base → Base
-classified_base table base = record base { games = map (λ held. with_code (eco_of table held.game) held) base.games }
-
--- The state with this base, which is unsaved where a game got a code.
+-- The state in which each game has the code that a table gives it; it is unsaved where a game got one.
 abbrev pub classified_by : State → List Opening → State
 classified_by s table =
-    record s { shared = record s.shared { base = classified_base table s.shared.base; unsaved = list_any is_some (codes_of table s) || s.shared.unsaved } }
+    let base : Base = record s.shared.base { games = map (λ held. with_code (eco_of table held.game) held) s.shared.base.games } in
+    record s { shared = record s.shared { base = base; unsaved = list_any is_some (codes_of table s) || s.shared.unsaved } }
 
 -- `classified C of N`: how many games got a code, and how many there are.
 abbrev pub of_games : ℕ → List ℕ

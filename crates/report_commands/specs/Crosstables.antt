@@ -4,7 +4,6 @@ use Rattle.cross_table.specs.Causes.{players}
 use Rattle.cross_table.specs.Crosstable.{crosstable, table_text}
 use Rattle.game_tree.specs.declared.head.Head.{Head}
 use Rattle.shell_state.specs.Lines.{error_line}
-use Rattle.shell_state.specs.State.{State}
 use Rattle.shell_state.specs.Work.{Work, quiet}
 
 -- cross EVENT: the table of the games with these heads, or an error line where more than 200 names play.
@@ -12,8 +11,5 @@ abbrev pub cross_of : List ℕ → List Head → List ℕ
 cross_of event heads =
     if nat_lt 200 (players event heads) then error_line (codes "too many players") else table_text (crosstable event heads)
 
-abbrev pub cross_text : State → List ℕ → List ℕ
-cross_text s event = cross_of event (map (λ held. held.head) s.shared.base.games)
-
 abbrev pub cross_work : List ℕ → Work
-cross_work event = quiet (λ s. s) (λ s. cross_text s event)
+cross_work event = quiet (λ s. s) (λ s. cross_of event (map (λ held. held.head) s.shared.base.games))

@@ -28,13 +28,6 @@ search_position_after s op query = with_filter s (searched op (position.firsts_o
 abbrev pub search_position_text : State → Op → PosQuery → List ℕ
 search_position_text s op query = filter_line (search_position_after s op query).seat.filter
 
--- find BOARD SIDE: a search of all main lines for the board on all squares.
-abbrev pub find_after : State → Men → Colour → State
-find_after s board side = search_position_after s Ignore (exactly board side)
-
-abbrev pub find_text : State → Men → Colour → List ℕ
-find_text s board side = hits_text (find_after s board side).seat.filter
-
 -- The first ply at which the head of a game is one that is asked for: 0, or none where it is not. More than 1,023 plies count as 1,023.
 abbrev pub first_by_head : HeadQuery → Held → Option ℕ
 first_by_head query held = head.first_of query held.head (min (plies_of held.game) 1023)
@@ -43,15 +36,9 @@ first_by_head query held = head.first_of query held.head (min (plies_of held.gam
 abbrev pub search_header_after : State → Op → HeadQuery → State
 search_header_after s op query = with_filter s (searched op (map (first_by_head query) s.shared.base.games) s.seat.filter)
 
-abbrev pub search_header_text : State → Op → HeadQuery → List ℕ
-search_header_text s op query = filter_line (search_header_after s op query).seat.filter
-
 -- search OP material ITEM ..
 abbrev pub search_material_after : State → Op → MatQuery → State
 search_material_after s op query = with_filter s (searched op (material.firsts_of query (games_of s)) s.seat.filter)
-
-abbrev pub search_material_text : State → Op → MatQuery → List ℕ
-search_material_text s op query = filter_line (search_material_after s op query).seat.filter
 
 -- The bytes of the records that a search for a position reads, those that the index does not decide, and one for counts of men.
 abbrev pub position_len : Op → PosQuery → List Look → List (Option ℕ) → ℕ
@@ -60,18 +47,24 @@ position_len op query looks plies = searched_len (λ look. look.len) (λ look. i
 abbrev pub material_len : Op → MatQuery → List Look → List (Option ℕ) → ℕ
 material_len op query looks plies = searched_len (λ look. look.len) (λ look. material_passes look.sig query) op plies looks
 
--- What the searches do, and `hits`, which writes the games that are in.
-abbrev pub find_work : Men → Colour → Work
-find_work board side = reading (λ s. find_after s board side) (λ s. find_text s board side) (position_len Ignore (exactly board side))
+-- find BOARD SIDE: a search of all main lines for the board on all squares, which writes the games that are in.
+abbrev pub find_after : State → Men → Colour → State
+find_after s board side = search_position_after s Ignore (exactly board side)
 
+abbrev pub find_work : Men → Colour → Work
+find_work board side =
+    reading (λ s. find_after s board side) (λ s. hits_text (find_after s board side).seat.filter) (position_len Ignore (exactly board side))
+
+-- What the searches do, which tell how many games are in, and `hits`, which writes those that are.
 abbrev pub search_position_work : Op → PosQuery → Work
 search_position_work op query = reading (λ s. search_position_after s op query) (λ s. search_position_text s op query) (position_len op query)
 
 abbrev pub search_material_work : Op → MatQuery → Work
-search_material_work op query = reading (λ s. search_material_after s op query) (λ s. search_material_text s op query) (material_len op query)
+search_material_work op query =
+    reading (λ s. search_material_after s op query) (λ s. filter_line (search_material_after s op query).seat.filter) (material_len op query)
 
 abbrev pub search_header_work : Op → HeadQuery → Work
-search_header_work op query = quiet (λ s. search_header_after s op query) (λ s. search_header_text s op query)
+search_header_work op query = quiet (λ s. search_header_after s op query) (λ s. filter_line (search_header_after s op query).seat.filter)
 
 abbrev pub hits_work : Work
 hits_work = quiet (λ s. s) (λ s. hits_text s.seat.filter)

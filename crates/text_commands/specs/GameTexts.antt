@@ -42,9 +42,6 @@ text_if_in game None held = []
 abbrev pub exported : List (Option ℕ) → List Held → List ℕ
 exported plies games = texts_from text_if_in 0 plies games
 
-abbrev pub export_text : State → List ℕ
-export_text s = exported s.seat.filter s.shared.base.games
-
 -- The text of those among the first so many games that are in.
 abbrev pub exported_first : ℕ → List (Option ℕ) → List Held → List ℕ
 exported_first count plies games = exported (take count plies) (take count games)
@@ -94,4 +91,4 @@ abbrev pub show_work : ℕ → Work
 show_work game = reading (λ s. s) (λ s. show_text s game) (λ looks plies. len_in (λ look. look.len) (slice_get looks game))
 
 abbrev pub export_work : Work
-export_work = reading (λ s. s) export_text (λ looks plies. filtered_len (λ look. look.len) plies looks)
+export_work = reading (λ s. s) (λ s. exported s.seat.filter s.shared.base.games) (λ looks plies. filtered_len (λ look. look.len) plies looks)

@@ -33,13 +33,9 @@ info_text s =
     info_line (length s.shared.base.games) (deleted_in s) (length s.shared.base.names.players) (length s.shared.base.names.events) (length s.shared.base.names.sites) (length s.shared.base.names.rounds) s.shared.unsaved
     s.shared.index
 
--- quit, where the script ends
-abbrev pub quit_text : State → List ℕ
-quit_text s = if s.shared.unsaved then line_of (codes "unsaved") else []
-
--- What the two do.
 abbrev pub info_work : Work
 info_work = quiet (λ s. s) info_text
 
+-- quit, where the script ends
 abbrev pub quit_work : Work
-quit_work = quiet (λ s. s) quit_text
+quit_work = quiet (λ s. s) (λ s. if s.shared.unsaved then line_of (codes "unsaved") else [])
