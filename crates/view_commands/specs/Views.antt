@@ -40,13 +40,11 @@ no_view_line k = game_line (codes "error: no view ") k
 -- watch K BOARD SIDE: a slot that has a view shows the tree of this position from now on.
 abbrev pub showing : Packed → Slot → Slot
 showing board empty = empty
-showing board idle = shows board
-showing board (shows other) = shows board
+showing board _ = shows board
 
 abbrev pub watch_line : ℕ → Slot → List ℕ
 watch_line k empty = no_view_line k
-watch_line k idle = game_line (codes "watching ") k
-watch_line k (shows other) = game_line (codes "watching ") k
+watch_line k _ = game_line (codes "watching ") k
 
 abbrev pub watch_work : Window → ℕ → Men → Colour → Work
 watch_work w k board side =
@@ -54,23 +52,20 @@ watch_work w k board side =
 
 -- view K: the text of the tree that a slot shows, over the games that are in.
 abbrev pub view_text : State → ℕ → Slot → List ℕ
-view_text s k empty = no_view_line k
-view_text s k idle = no_view_line k
 view_text s k (shows board) = tree_of (exactly_on board) s.seat.filter s.shared.base.games
+view_text s k _ = no_view_line k
 
 abbrev pub view_work : Window → ℕ → Work
 view_work w k = quiet (λ s. s) (λ s. view_text s k (own_slot w s k))
 
 -- unwatch K: a slot that shows a tree loses its view.
 abbrev pub left : Slot → Slot
-left empty = empty
-left idle = idle
 left (shows board) = empty
+left slot = slot
 
 abbrev pub unwatch_line : ℕ → Slot → List ℕ
-unwatch_line k empty = no_view_line k
-unwatch_line k idle = no_view_line k
 unwatch_line k (shows board) = game_line (codes "unwatched ") k
+unwatch_line k _ = no_view_line k
 
 abbrev pub unwatch_work : Window → ℕ → Work
 unwatch_work w k = quiet (λ s. with_slot w s k (left (own_slot w s k))) (λ s. unwatch_line k (own_slot w s k))
@@ -94,20 +89,17 @@ AreRight rows w s views = (i : ℕ) → is_own w i ≡ true → IsRight rows s (
 
 -- Whether a slot shows a tree, and the hits that its tree counts in a state.
 abbrev pub is_shown : Slot → Bool
-is_shown empty = false
-is_shown idle = false
 is_shown (shows board) = true
+is_shown _ = false
 
 abbrev pub slot_hits : State → Slot → List GameHit
-slot_hits s empty = []
-slot_hits s idle = []
 slot_hits s (shows board) = shown_hits s board
+slot_hits s _ = []
 
 -- How many rows of the tree that a slot shows differ between two states.
 abbrev pub changes_of : State → State → Slot → ℕ
-changes_of s later empty = 0
-changes_of s later idle = 0
 changes_of s later (shows board) = rows_changed (rows_of (shown_hits s board)) (rows_of (shown_hits later board))
+changes_of s later _ = 0
 
 -- A view that stays was told no more than so many changes; there is none where there was none.
 abbrev pub IsToldAtMost : {B : Type 0} → (B → ℕ) → ℕ → Option B → Option B → Type 0
