@@ -11,16 +11,17 @@ use Rattle.eco_class.specs.Reading.{table_of}
 use Rattle.eco_class.specs.Table.{Opening}
 use Rattle.eco_class.specs.declared.fault.EcoFault.{EcoFault}
 use Rattle.edit_commands.specs.Compacting.{compacted_state, is_within}
-use Rattle.edit_commands.specs.Editing.{edited_there, tagged_there, unless_refused}
+use Rattle.edit_commands.proofs.TagLaws.{unless_refused}
+use Rattle.edit_commands.specs.Editing.{edited_there, tagged_there}
 use Rattle.filter_seat.specs.Seats.{Seat, first_seat}
 use Rattle.game_tree.specs.Game.{GameTree}
 use Rattle.game_tree.specs.TagEdit.{edited}
 use Rattle.game_tree.specs.declared.head.Head.{Head}
 use Rattle.game_tree.specs.declared.tag_edit.TagEdit.{TagEdit}
 use Rattle.index_commands.specs.Indexing.{is_too_big}
-use Rattle.intake_commands.proofs.DemoLaws.{adding_carried}
+use Rattle.intake_commands.proofs.DemoLaws.{adding_carried, unless_shown}
 use Rattle.intake_commands.proofs.IntakeLaws.{item_keeps}
-use Rattle.intake_commands.specs.Demo.{adding, unless_shown}
+use Rattle.intake_commands.specs.Demo.{adding}
 use Rattle.intake_commands.specs.Importing.{Intake, intake, item_after, none_taken, state_with, the_new}
 use Rattle.pgn_read.specs.Items.{items_of}
 use Rattle.pgn_read.specs.declared.item.Item.{Item}

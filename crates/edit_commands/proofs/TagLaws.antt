@@ -1,7 +1,7 @@
 -- Laws of `tag`.
 use Rattle.std.proofs.Common.{◌≡◌, ℕ, List, Option, Some, IfSome, subst, sym, ap, ◌∙◌, ◌<◌, true, ◌++◌, length, None, arith, Ok, Err, inl, inr, refl, ◌≤◌, map, option_map, Bool, ap₂, Result, [], ◌∷◌}
 use Rattle.std.proofs.lemmas.Option.{slice_get_past}
-use Rattle.std.specs.Prelude.{slice_get, unwrap_or, codes}
+use Rattle.std.specs.Prelude.{cond, is_some, slice_get, unwrap_or, codes}
 use Rattle.base_core.proofs.Lists.{get_some}
 use Rattle.base_core.specs.Base.{Base, Held}
 use Rattle.base_core.specs.Edits.{tagged, tagged_at, held_of, game_replaced}
@@ -21,7 +21,7 @@ use Rattle.game_tree.specs.TagEdit.{edited}
 use Rattle.game_tree.specs.declared.head.Head.{Head}
 use Rattle.game_tree.specs.declared.tag_edit.TagEdit.{TagEdit}
 use Rattle.pos_index.specs.Hits.{Index, rows_told}
-use Rattle.edit_commands.specs.Editing.{DidTag, tag_after, tagged_there, unless_refused, tag_line_there, tag_text}
+use Rattle.edit_commands.specs.Editing.{DidTag, tag_after, tagged_there, tag_line_there, tag_text}
 use Rattle.filter_seat.specs.declared.saved.SavedFilter.{SavedFilter}
 use Rattle.edit_commands.proofs.RetagLaws.{slots_tagged}
 use Rattle.edit_commands.specs.Retagging.{AreAgain}
@@ -36,7 +36,7 @@ use Rattle.shell_state.specs.Passing.{len_in}
 use Rattle.shell_state.specs.Refusing.{refusal_of}
 use Rattle.shell_state.specs.Slots.{HitTable}
 use Rattle.shell_state.specs.Stands.{len_at, Stands, looks_in, Holding, Tables, index_of}
-use Rattle.shell_state.specs.State.{State}
+use Rattle.shell_state.specs.State.{State, with_base}
 use Rattle.shell_state.specs.Work.{Look}
 use Rattle.shell_state.specs.declared.halt.Halt.{Halt}
 use Rattle.shell_state.specs.declared.halt.Halt.TheVariants as halt
@@ -44,6 +44,10 @@ use Rattle.sig_index.specs.Games.{head_in}
 use Rattle.tree_live.specs.Slots.{in_slot}
 use Rattle.tree_live.specs.Watching.{Watched, with_game}
 use Rattle.tree_rows.specs.declared.hit.GameHit.{GameHit}
+
+-- The state with this base, unless there is an error line.
+abbrev pub unless_refused : Option (List ℕ) → State → Base → State
+unless_refused line s base = cond (is_some line) s (with_base s base)
 
 -- The game that was read is that of the base.
 read-is : (kept : Kept) (games : List ℕ) (told : Option (List ℕ)) (i : ℕ) (head : Head) (game : GameTree) (base : Base) (held : Held) → told ≡ Some games → IfSome told (λ bytes. IsGameAt kept bytes i head game)

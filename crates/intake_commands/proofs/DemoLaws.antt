@@ -1,6 +1,6 @@
 -- Laws of games that are made of draws and added one by one, and of showing them.
 use Rattle.std.proofs.Common.{false, ◌+◌, ℕ, List, Option, ◌≡◌, ap, ◌∙◌, None, sym, true, [], ◌++◌, Some, subst, Ok, refl, suc, arith, zero, ◌-◌, ◌<◌, Result, Err, ◌≤◌, OnOk}
-use Rattle.std.specs.Prelude.{IfErr}
+use Rattle.std.specs.Prelude.{IfErr, cond, is_some, option_map, unwrap_or}
 use Rattle.base_files.specs.Seen.{Seen}
 use Rattle.base_files.specs.Told.{adds}
 use Rattle.base_files.specs.declared.faults.Stop.TheVariants as stop
@@ -12,7 +12,7 @@ use Rattle.demo_games.specs.Demo.{Made, demo_game}
 use Rattle.game_filter.specs.declared.op.Op.TheVariants.{And, Ignore}
 use Rattle.game_tree.specs.Replay.{plies_of}
 use Rattle.sig_index.specs.declared.pos_query.PosQuery.{PosQuery}
-use Rattle.intake_commands.specs.Demo.{adding, one_more, Adding, unless_ended, unless_refusal, at_start, shown_after, shown_text, demo_line, demo_text, unless_said, demo_after, unless_shown, demo_work, shown_price, unless_priced, demo_price}
+use Rattle.intake_commands.specs.Demo.{adding, one_more, Adding, unless_ended, unless_refusal, at_start, shown_after, shown_text, demo_line, demo_text, demo_after, demo_work, shown_price, demo_price}
 use Rattle.intake_commands.specs.Demoing.{IsAdding, IsRefused, Wrote}
 use Rattle.search_commands.specs.Searching.{search_position_text, search_position_after, search_position_work, position_len}
 use Rattle.search_commands.specs.Trees.{tree_said, tree_work}
@@ -29,6 +29,17 @@ use Rattle.shell_state.specs.Work.{price, works, Work}
 use Rattle.shell_state.specs.declared.halt.Halt.{Halt}
 use Rattle.shell_state.specs.declared.halt.Halt.TheVariants as halt
 use Rattle.shell_state.specs.declared.refusing.Refusal.{Refusal}
+
+-- ---- what `demo` does, by whether a game was refused
+
+abbrev pub unless_shown : Option Refusal → State → State
+unless_shown refused s = cond (is_some refused) s (shown_after s)
+
+abbrev pub unless_said : Option Refusal → ℕ → ℕ → State → List ℕ
+unless_said refused games plies s = unwrap_or (option_map refusal_line refused) (demo_line games plies ++ shown_text s)
+
+abbrev unless_priced : Option Refusal → State → ℕ
+unless_priced refused s = cond (is_some refused) 0 (shown_price s)
 
 -- ---- one after the other
 

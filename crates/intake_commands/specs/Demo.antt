@@ -1,6 +1,6 @@
 -- The command that adds games which are made of draws, and shows them. This project's own.
 use Rattle.std.specs.Fmt.{decimal}
-use Rattle.std.specs.Prelude.{ℕ, List, Option, None, ◌+◌, Some, zero, suc, ◌∷◌, ◌++◌, [], codes}
+use Rattle.std.specs.Prelude.{ℕ, List, Option, None, ◌+◌, Some, is_some, option_map, unwrap_or, if◌then◌else◌, zero, suc, ◌∷◌, ◌++◌, [], codes}
 use Rattle.cell_core.specs.declared.man.Colour.TheVariants.{White}
 use Rattle.chess_laws.specs.Position.{start_men}
 use Rattle.demo_games.specs.Demo.{Made, demo_game}
@@ -65,31 +65,21 @@ abbrev pub shown_text : State → List ℕ
 shown_text s = search_position_text s Ignore at_start ++ tree_said (shown_after s) start_men White
 
 -- The command ends with the error line of a game that is refused, and the games before it stay.
-abbrev pub unless_shown : Option Refusal → State → State
-unless_shown (Some why) s = s
-unless_shown None s = shown_after s
-
-abbrev pub unless_said : Option Refusal → ℕ → ℕ → State → List ℕ
-unless_said (Some why) games plies s = refusal_line why
-unless_said None games plies s = demo_line games plies ++ shown_text s
-
 abbrev pub demo_after : State → ℕ → ℕ → State
-demo_after s seed games = unless_shown (adding s seed games).refused (adding s seed games).state
+demo_after s seed games = if is_some (adding s seed games).refused then (adding s seed games).state else shown_after (adding s seed games).state
 
 abbrev pub demo_text : State → ℕ → ℕ → List ℕ
-demo_text s seed games = unless_said (adding s seed games).refused games (adding s seed games).plies (adding s seed games).state
+demo_text s seed games =
+    let added : Adding = adding s seed games in
+    unwrap_or (option_map refusal_line added.refused) (demo_line games added.plies ++ shown_text added.state)
 
 -- The initial position is searched among all games, and its tree is that of the games that it leaves in.
 abbrev pub shown_price : State → ℕ
 shown_price s = price s (search_position_work Ignore at_start) + price (shown_after s) (tree_work start_men White)
 
 -- Where a game is refused, nothing is searched.
-abbrev pub unless_priced : Option Refusal → State → ℕ
-unless_priced (Some why) s = 0
-unless_priced None s = shown_price s
-
 abbrev pub demo_price : State → ℕ → ℕ → ℕ
-demo_price s seed games = unless_priced (adding s seed games).refused (adding s seed games).state
+demo_price s seed games = if is_some (adding s seed games).refused then 0 else shown_price (adding s seed games).state
 
 abbrev pub demo_work : ℕ → ℕ → Work
 demo_work seed games = writing (λ s. demo_after s seed games) (λ s. demo_text s seed games) (by_state (λ s. demo_price s seed games))
