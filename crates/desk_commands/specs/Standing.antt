@@ -1,5 +1,5 @@
 -- How the machine of a desk stands for it, beside the files of its base. This project's own.
-use Rattle.std.specs.Prelude.{◌≡◌, ℕ, List, map, Option, Some, None, Ok, All, IfSome, if◌then◌else◌}
+use Rattle.std.specs.Prelude.{◌≡◌, ℕ, List, map, Option, Some, None, Ok, All, IfSome, unwrap_or, if◌then◌else◌}
 use Rattle.base_core.specs.Base.{Base}
 use Rattle.base_files.specs.Seen.{Seen}
 use Rattle.filter_seat.specs.Seats.{Seat}
@@ -49,12 +49,9 @@ abbrev pub effective : Clients → Option ℕ → Order → Order
 effective clients None order = Ok Nothing
 effective clients (Some client) order = if has_ended clients client then Ok Nothing else order
 
--- What it asks at most of the games file.
+-- What it asks at most of the games file: nothing, where no client says it.
 abbrev pub line_price : Desk → Line → ℕ
-line_price desk line = elim line.client [
-  | None ↦ 0
-  | Some client ↦ order_price (seen_by desk client) (effective desk.clients line.client line.order)
-]
+line_price desk line = order_price (seen_by desk (unwrap_or line.client 0)) (effective desk.clients line.client line.order)
 
 -- The base that it leaves in the place of the files, if it does.
 abbrev pub line_left : Desk → Line → Option (Base → Base)

@@ -1,5 +1,5 @@
 -- The views of the slots beside a desk. This project's own.
-use Rattle.std.specs.Prelude.{ℕ, ◌+◌, ◌||◌, nat_lt, if◌then◌else◌, Bool, false, List, Option, Some, None, length}
+use Rattle.std.specs.Prelude.{ℕ, ◌+◌, ◌||◌, nat_lt, if◌then◌else◌, Bool, List, Option, length, unwrap_or}
 use Rattle.script_lines.specs.Clients.{Tagged, said}
 use Rattle.script_lines.specs.declared.line.Line.{Line}
 use Rattle.shell_commands.specs.Watching.{watches}
@@ -18,12 +18,9 @@ owner tagged i = if tagged then (if nat_lt i 2 then 0 else if nat_lt i 4 then 1 
 abbrev pub AllRight : {B : Type 0} → (B → List Row) → Desk → List (Option B) → Type 0
 AllRight rows desk views = (i : ℕ) → IsRight rows (seen_by desk (owner desk.clients.tagged i)) (slot_at desk.slots i) (in_slot views i)
 
--- Whether a line watches a slot.
+-- Whether a line watches a slot: none does that no client says.
 abbrev pub line_watches : Desk → Line → ℕ → Bool
-line_watches desk line i = elim line.client [
-  | None ↦ false
-  | Some client ↦ watches (window_of desk.clients client) (effective desk.clients line.client line.order) i
-]
+line_watches desk line i = watches (window_of desk.clients (unwrap_or line.client 0)) (effective desk.clients line.client line.order) i
 
 -- The slots whose views it may change: those that show trees, and the one that it watches.
 abbrev pub line_touches : Desk → Line → ℕ → Bool
@@ -31,16 +28,12 @@ line_touches desk line i = is_shown (slot_at desk.slots i) || line_watches desk 
 
 -- How many changes a line tells the view of a slot at most: one for each row that differs behind it; where it watches the slot, one more than
 -- hits are shown then.
-abbrev pub changes_behind : Desk → Tagged → ℕ → ℕ
-changes_behind desk t i =
-    let client : ℕ = owner desk.clients.tagged i in
-    changes_of (seen_by desk client) (seen_by (desk_after desk t) client) (slot_at desk.slots i)
-
 abbrev pub line_told : Desk → Tagged → ℕ → ℕ
 line_told desk t i =
+    let client : ℕ = owner desk.clients.tagged i in
     if line_watches desk (said t.client t.task.order) i
-    then 1 + length (slot_hits (seen_by (desk_after desk t) (owner desk.clients.tagged i)) (slot_at (desk_after desk t).slots i))
-    else changes_behind desk t i
+    then 1 + length (slot_hits (seen_by (desk_after desk t) client) (slot_at (desk_after desk t).slots i))
+    else changes_of (seen_by desk client) (seen_by (desk_after desk t) client) (slot_at desk.slots i)
 
 -- The views are right behind it, and were told no more.
 pub record LineShown {B : Type 0} (rows : B → List Row) (told : B → ℕ) (desk : Desk) (t : Tagged) (before after : List (Option B)) : Type 0 where
