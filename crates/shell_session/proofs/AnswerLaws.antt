@@ -58,48 +58,48 @@ opening_answers words index names games script views seen seen' t input wanted (
 -- The base was opened.
 abbrev pub opened : (words : List (List ℕ)) (index names games script : List ℕ) (views : Views) (seen : Seen) (wanted : Wanted) (held : DeskHolding) (mended : ℕ)
     → words_read words ≡ Some wanted → (o : Opening wanted.create wanted.strict wanted.desk index names games held seen mended)
-    → Opened (given words index names games script views) o.base mended
+    → Opened (given words index names games script views)
 opened words index names games script views seen wanted held mended said o =
-    record { wanted = wanted; words = said; means = o.means; mends = o.mends; faultless = o.faultless }
+    record { base = o.base; mended = mended; wanted = wanted; words = said; means = o.means; mends = o.mends; faultless = o.faultless }
 
 none_rose : Rose 0 0 → ⊥
 none_rose (inl rose) = absurd (omega (arith, rose))
 none_rose (inr last) = absurd (omega (arith, last))
 
 -- The opening line was broken off.
-pub line_answers : (g : Given) (t t' : Option (List ℕ)) (input : Inlet) (around' : Around) (base : Base) (mended : ℕ) (s : Stop) (k k' : ℕ)
-    → Opened g base mended → Halted [] (opening_line base mended) t t' → AreGiven g around'.seen → around'.now ≡ around'.first → Why s (counts 0 0 k) (counts 0 0 k')
+pub line_answers : (g : Given) (t t' : Option (List ℕ)) (input : Inlet) (around' : Around) (s : Stop) (k k' : ℕ)
+    → (o : Opened g) → Halted [] (opening_line o.base o.mended) t t' → AreGiven g around'.seen → around'.now ≡ around'.first → Why s (counts 0 0 k) (counts 0 0 k')
     → Answers g t t' input input around' (status_of s)
-line_answers g t t' input around' base mended stop.Read k k' base_open wrote files views why = absurd (none_rose why)
-line_answers g t t' input around' base mended stop.Files k k' base_open wrote files views why = absurd (none_rose why)
-line_answers g t t' input around' base mended stop.Write k k' base_open wrote files views why = inl (record { base = base; mended = mended; opened = base_open; wrote = wrote; unread = refl; files = files; views = views })
-line_answers g t t' input around' base mended stop.Memory k k' base_open wrote files views why = inr (inl (record { base = base; mended = mended; opened = base_open; wrote = wrote; unread = refl; files = files; views = views }))
+line_answers g t t' input around' stop.Read k k' base_open wrote files views why = absurd (none_rose why)
+line_answers g t t' input around' stop.Files k k' base_open wrote files views why = absurd (none_rose why)
+line_answers g t t' input around' stop.Write k k' base_open wrote files views why = inl (record { opened = base_open; wrote = wrote; unread = refl; files = files; views = views })
+line_answers g t t' input around' stop.Memory k k' base_open wrote files views why = inr (inl (record { opened = base_open; wrote = wrote; unread = refl; files = files; views = views }))
 
 -- The run of the script stopped.
-pub part_answers : (g : Given) (t t' : Option (List ℕ)) (input input' : Inlet) (around' : Around) (base : Base) (mended : ℕ) (status : Status)
-    → (o : Opened g base mended) → RanPart status (begun g base mended o) g.script (adds t (opening_line base mended)) t' input'.left around'
+pub part_answers : (g : Given) (t t' : Option (List ℕ)) (input input' : Inlet) (around' : Around) (status : Status)
+    → (o : Opened g) → RanPart status (begun g o) g.script (adds t (opening_line o.base o.mended)) t' input'.left around'
     → Answers g t t' input input' around' status
-part_answers g t t' input input' around' base mended ReadFault base_open ran = record { base = base; mended = mended; opened = base_open; ran = ran }
-part_answers g t t' input input' around' base mended WriteFault base_open ran = inr (record { base = base; mended = mended; opened = base_open; ran = ran })
-part_answers g t t' input input' around' base mended FilesFault base_open ran = inr (record { base = base; mended = mended; opened = base_open; ran = ran })
-part_answers g t t' input input' around' base mended InputTooLong base_open ran = record { base = base; mended = mended; opened = base_open; ran = ran }
-part_answers g t t' input input' around' base mended Memory base_open ran = inr (inr (record { base = base; mended = mended; opened = base_open; ran = ran }))
-part_answers g t t' input input' around' base mended Done base_open ran = absurd ran.broken.broken
-part_answers g t t' input input' around' base mended Usage base_open ran = absurd ran.broken.broken
-part_answers g t t' input input' around' base mended (BadBase fault) base_open ran = absurd ran.broken.broken
-part_answers g t t' input input' around' base mended (Changed game kept found) base_open ran = absurd ran.broken.broken
+part_answers g t t' input input' around' ReadFault base_open ran = record { opened = base_open; ran = ran }
+part_answers g t t' input input' around' WriteFault base_open ran = inr (record { opened = base_open; ran = ran })
+part_answers g t t' input input' around' FilesFault base_open ran = inr (record { opened = base_open; ran = ran })
+part_answers g t t' input input' around' InputTooLong base_open ran = record { opened = base_open; ran = ran }
+part_answers g t t' input input' around' Memory base_open ran = inr (inr (record { opened = base_open; ran = ran }))
+part_answers g t t' input input' around' Done base_open ran = absurd ran.broken.broken
+part_answers g t t' input input' around' Usage base_open ran = absurd ran.broken.broken
+part_answers g t t' input input' around' (BadBase fault) base_open ran = absurd ran.broken.broken
+part_answers g t t' input input' around' (Changed game kept found) base_open ran = absurd ran.broken.broken
 
 -- Where no device has a fault, the status is due, or memory ran out.
 pub due_of : (g : Given) (t t' : Option (List ℕ)) (input input' : Inlet) (around' : Around) (status : Status) (f f' i i' k k' : ℕ) → Answers g t t' input input' around' status
     → WhyStatus status (counts f i k) (counts f' i' k') → (Rose f f' → ⊥) → (Rose i i' → ⊥) → (Rose k k' → ⊥) → (status ≡ Memory) ⊎ Due g status
-due_of g t t' input input' around' Done f f' i i' k k' answer why no_files no_input no_output = inr (record { base = answer.base; mended = answer.mended; opened = answer.opened }, answer.ran.within)
+due_of g t t' input input' around' Done f f' i i' k k' answer why no_files no_input no_output = inr (answer.opened, answer.ran.within)
 due_of g t t' input input' around' Usage f f' i i' k k' answer why no_files no_input no_output = inr answer.0
 due_of g t t' input input' around' (BadBase fault) f f' i i' k k' answer why no_files no_input no_output = inr answer.0
 due_of g t t' input input' around' ReadFault f f' i i' k k' answer why no_files no_input no_output = absurd (no_input why)
 due_of g t t' input input' around' WriteFault f f' i i' k k' answer why no_files no_input no_output = absurd (no_output why)
 due_of g t t' input input' around' FilesFault f f' i i' k k' answer why no_files no_input no_output = absurd (no_files why)
 due_of g t t' input input' around' (Changed game kept found) f f' i i' k k' answer why no_files no_input no_output = absurd answer
-due_of g t t' input input' around' InputTooLong f f' i i' k k' answer why no_files no_input no_output = inr (record { base = answer.base; mended = answer.mended; opened = answer.opened }, answer.ran.lines.0)
+due_of g t t' input input' around' InputTooLong f f' i i' k k' answer why no_files no_input no_output = inr (answer.opened, answer.ran.lines.0)
 due_of g t t' input input' around' Memory f f' i i' k k' answer why no_files no_input no_output = inl refl
 
 -- ---- for every files, input and output
@@ -279,9 +279,9 @@ pub usage_reads : (input : Inlet) → Reads Usage input input
 usage_reads input = refl
 
 -- The script was run to its end.
-pub whole_answers : (g : Given) (t t' : Option (List ℕ)) (input input' : Inlet) (around' : Around) (base : Base) (mended : ℕ)
-    → (o : Opened g base mended) → RanAll (begun g base mended o) g.script (adds t (opening_line base mended)) t' input'.left around' → Answers g t t' input input' around' Done
-whole_answers g t t' input input' around' base mended base_open ran = record { base = base; mended = mended; opened = base_open; ran = ran }
+pub whole_answers : (g : Given) (t t' : Option (List ℕ)) (input input' : Inlet) (around' : Around)
+    → (o : Opened g) → RanAll (begun g o) g.script (adds t (opening_line o.base o.mended)) t' input'.left around' → Answers g t t' input input' around' Done
+whole_answers g t t' input input' around' base_open ran = record { opened = base_open; ran = ran }
 
 pub done_chooses : (words : List (List ℕ)) (old new : List Choice) → ChoosesBase words old new → Chooses Done words old new
 done_chooses words old new chose = chose
@@ -307,7 +307,7 @@ line_session words index names games script views seen seen' wanted held mended 
     let o : Opening wanted.create wanted.strict wanted.desk index names games held seen' mended =
     told seen (λ index names games. Opening wanted.create wanted.strict wanted.desk index names games held seen' mended) index names games opens i n g in
     let P : List ℕ → Type 0 = λ text. Halted [] text t t' in
-    line_answers (given words index names games script views) t t' input (around seen' views none_told views) o.base mended s k k' (opened words index names games script views seen' wanted held mended said o)
+    line_answers (given words index names games script views) t t' input (around seen' views none_told views) s k k' (opened words index names games script views seen' wanted held mended said o)
     (subst P (count_of wanted.create wanted.strict wanted.desk index names games held seen' mended count o same) wrote) (as_given words index names games script views seen seen' files i n g) refl why
 
 -- The script was run to its end.
@@ -322,7 +322,7 @@ whole_session words index names games script views seen seen' seen'' views'' wan
     let o : Opening wanted.create wanted.strict wanted.desk index names games held seen' mended =
     told seen (λ index names games. Opening wanted.create wanted.strict wanted.desk index names games held seen' mended) index names games opens i n g in
     let P : Option (List ℕ) → Type 0 = λ x. RanAll (desk_begin wanted.desk (is_created wanted.create index names games) (slots_by views) o.base) script x t'' input'.left (around seen'' views none_told views'') in
-    whole_answers (given words index names games script views) t t'' input input' (around seen'' views none_told views'') o.base mended (opened words index names games script views seen' wanted held mended said o)
+    whole_answers (given words index names games script views) t t'' input input' (around seen'' views none_told views'') (opened words index names games script views seen' wanted held mended said o)
     (subst P (wrote ∙ ap (adds t) (count_of wanted.create wanted.strict wanted.desk index names games held seen' mended count o same)) (subst (λ (v : Views). RanAll (desk_begin wanted.desk (is_created wanted.create index names games) (slots_by views) o.base) script t' t'' input'.left (around seen'' views none_told v)) left_there (ran (desk_begin wanted.desk (is_created wanted.create index names games) (slots_by views) o.base) views none_told script (subst (λ (v : Views). Lives held (around seen' views none_told v) (desk_begin wanted.desk (is_created wanted.create index names games) (slots_by views) o.base)) (sym lent) (lives_first held seen' views wanted.desk (is_created wanted.create index names games) o.base few (o.stands (slots_by views) (show_none views)))) left)))
 
 -- The run of the script stopped.
@@ -337,7 +337,7 @@ part_session words index names games script views seen seen' seen'' views'' want
     let o : Opening wanted.create wanted.strict wanted.desk index names games held seen' mended =
     told seen (λ index names games. Opening wanted.create wanted.strict wanted.desk index names games held seen' mended) index names games opens i n g in
     let P : Option (List ℕ) → Type 0 = λ x. RanPart status (desk_begin wanted.desk (is_created wanted.create index names games) (slots_by views) o.base) script x t'' input'.left (around seen'' views none_told views'') in
-    part_answers (given words index names games script views) t t'' input input' (around seen'' views none_told views'') o.base mended status (opened words index names games script views seen' wanted held mended said o)
+    part_answers (given words index names games script views) t t'' input input' (around seen'' views none_told views'') status (opened words index names games script views seen' wanted held mended said o)
     (subst P (wrote ∙ ap (adds t) (count_of wanted.create wanted.strict wanted.desk index names games held seen' mended count o same)) (subst (λ (v : Views). RanPart status (desk_begin wanted.desk (is_created wanted.create index names games) (slots_by views) o.base) script t' t'' input'.left (around seen'' views none_told v)) left_there (ran (desk_begin wanted.desk (is_created wanted.create index names games) (slots_by views) o.base) views none_told script (subst (λ (v : Views). Lives held (around seen' views none_told v) (desk_begin wanted.desk (is_created wanted.create index names games) (slots_by views) o.base)) (sym lent) (lives_first held seen' views wanted.desk (is_created wanted.create index names games) o.base few (o.stands (slots_by views) (show_none views)))) left)))
 
 -- The opening line stands in what was written where nothing that was written is lost.

@@ -73,4 +73,4 @@ asks_script words index names games script views seen seen' wanted held mended l
     let paid : a' ≤ a + open_cost index = subst P i opening in
     let d : Desk = desk_begin wanted.desk (is_created wanted.create index names games) (slots_by views) o.base in
     let ran : a'' ≤ a' + price_all d (script_of d.clients.tagged script) = running d views none_told script (subst (λ (v : Views). Lives held (around seen' views none_told v) (desk_begin wanted.desk (is_created wanted.create index names games) (slots_by views) o.base)) (sym lent) (lives_first held seen' views wanted.desk (is_created wanted.create index names games) o.base few (o.stands (slots_by views) (show_none views)))) l in
-    inr (record { base = o.base; mended = mended; opened = opened words index names games script views seen' wanted held mended said o }, omega (arith, paid, ran))
+    inr (opened words index names games script views seen' wanted held mended said o, omega (arith, paid, ran))

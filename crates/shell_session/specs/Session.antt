@@ -54,7 +54,9 @@ inlet left budget faults = record { left = left; budget = budget; faults = fault
 -- ---- opening
 
 -- The words name a base whose files have no fault: they mean this base, or it is created. So many of its entries are mended.
-pub record Opened (given : Given) (base : Base) (mended : ℕ) : Type 0 where
+pub record Opened (given : Given) : Type 0 where
+  pub base : Base
+  pub mended : ℕ
   pub wanted : Wanted
   pub words : words_read given.words ≡ Some wanted
   pub means : OpensAs wanted.create given.index given.names given.games base
@@ -62,8 +64,8 @@ pub record Opened (given : Given) (base : Base) (mended : ℕ) : Type 0 where
   pub faultless : (fault : BaseFault) → Refuses wanted.create wanted.strict given.index given.names given.games fault → ⊥
 
 -- The desk in which the script begins: of four clients where the words ask for it, and else of one.
-abbrev pub begun : (given : Given) (base : Base) (mended : ℕ) → Opened given base mended → Desk
-begun given base mended opened = desk_begin opened.wanted.desk (is_created opened.wanted.create given.index given.names given.games) (slots_by given.views) base
+abbrev pub begun : (given : Given) → Opened given → Desk
+begun given opened = desk_begin opened.wanted.desk (is_created opened.wanted.create given.index given.names given.games) (slots_by given.views) opened.base
 
 -- The words name a base whose files have this first fault.
 pub record Faulty (given : Given) (fault : BaseFault) : Type 0 where
@@ -141,27 +143,21 @@ pub record Unbegun (given : Given) (told : Option (List ℕ)) (told' : Option (L
 
 -- The session ended in its opening line, before anything was asked of the input.
 pub record OpeningCut (given : Given) (told : Option (List ℕ)) (told' : Option (List ℕ)) (input : Inlet) (input' : Inlet) (around' : Around) : Type 0 where
-  pub base : Base
-  pub mended : ℕ
-  pub opened : Opened given base mended
-  pub wrote : Halted [] (opening_line base mended) told told'
+  pub opened : Opened given
+  pub wrote : Halted [] (opening_line opened.base opened.mended) told told'
   pub unread : input' ≡ input
   pub files : AreGiven given around'.seen
   pub views : around'.now ≡ around'.first
 
 -- The opening line was written, and the run of the script stopped.
 pub record ScriptCut (status : Status) (given : Given) (told : Option (List ℕ)) (told' : Option (List ℕ)) (later : Option (List ℕ)) (around' : Around) : Type 0 where
-  pub base : Base
-  pub mended : ℕ
-  pub opened : Opened given base mended
-  pub ran : RanPart status (begun given base mended opened) given.script (adds told (opening_line base mended)) told' later around'
+  pub opened : Opened given
+  pub ran : RanPart status (begun given opened) given.script (adds told (opening_line opened.base opened.mended)) told' later around'
 
 -- The whole text was written: the opening line, and then what the plain machine of the desk makes of the script.
 pub record Whole (given : Given) (told : Option (List ℕ)) (told' : Option (List ℕ)) (later : Option (List ℕ)) (around' : Around) : Type 0 where
-  pub base : Base
-  pub mended : ℕ
-  pub opened : Opened given base mended
-  pub ran : RanAll (begun given base mended opened) given.script (adds told (opening_line base mended)) told' later around'
+  pub opened : Opened given
+  pub ran : RanAll (begun given opened) given.script (adds told (opening_line opened.base opened.mended)) told' later around'
 
 -- What each status says of what was given, of what was written, of what was read, of what the files carry, and of the views. Told records never change.
 abbrev pub Answers : Given → Option (List ℕ) → Option (List ℕ) → Inlet → Inlet → Around → Status → Type 0
@@ -175,16 +171,10 @@ Answers given told told' input input' around' (Changed game kept found) = ⊥
 Answers given told told' input input' around' InputTooLong = ScriptCut InputTooLong given told told' input'.left around'
 Answers given told told' input input' around' Memory = Unbegun given told told' input input' around' ⊎ (OpeningCut given told told' input input' around' ⊎ ScriptCut Memory given told told' input'.left around')
 
--- A base is opened, whichever it is.
-pub record Opens (given : Given) : Type 0 where
-  pub base : Base
-  pub mended : ℕ
-  pub opened : Opened given base mended
-
 -- The status where no device has a fault and memory does not run out.
 abbrev pub Due : Given → Status → Type 0
-Due given Done = (opens : Opens given) × (script_len opens.opened.wanted.desk given.script ≤ longest_script)
-Due given InputTooLong = (opens : Opens given) × (longest_script < script_len opens.opened.wanted.desk given.script)
+Due given Done = (opened : Opened given) × (script_len opened.wanted.desk given.script ≤ longest_script)
+Due given InputTooLong = (opened : Opened given) × (longest_script < script_len opened.wanted.desk given.script)
 Due given (BadBase fault) = Faulty given fault
 Due given Usage = words_read given.words ≡ None
 Due given _ = ⊥
@@ -198,7 +188,9 @@ price_all d (next ∷ later) = line_price d (its_line next) + price_all (desks.a
 
 -- A session asks at most the records of all games, to open the base, and where it is open what the lines of its script ask.
 abbrev pub Asks : Given → ℕ → ℕ → Type 0
-Asks given old new = (new ≤ old + open_cost given.index) ⊎ ((opens : Opens given) × (new ≤ old + (open_cost given.index + price_all (begun given opens.base opens.mended opens.opened) (script_of opens.opened.wanted.desk given.script))))
+Asks given old new =
+    (new ≤ old + open_cost given.index)
+    ⊎ ((opened : Opened given) × (new ≤ old + (open_cost given.index + price_all (begun given opened) (script_of opened.wanted.desk given.script))))
 
 -- ---- causes, for every files, input and output
 
