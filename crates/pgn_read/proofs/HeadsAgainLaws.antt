@@ -22,7 +22,8 @@ use Rattle.game_tree.specs.Game.{GameTree, has_own_start}
 use Rattle.game_tree.specs.Head.{IsRating, IsTag, IsBounded}
 use Rattle.game_tree.specs.Marks.{mark_letters}
 use Rattle.game_tree.specs.Outcome.{outcome_text, outcome_read}
-use Rattle.game_tree.specs.Settle.{event_date_tag, near_only, near_date, first_of, first_near_date, taken_up, settled, IsSettled}
+use Rattle.std.specs.Option.{option_or, unwrap_or}
+use Rattle.game_tree.specs.Settle.{event_date_tag, near_only, near_date, first_near_date, taken_up, settled, IsSettled}
 use Rattle.game_tree.specs.TagList.{is_named}
 use Rattle.game_tree.specs.TagName.{rating_tag, rating_of, is_reserved, is_free, free_of}
 use Rattle.game_tree.proofs.DateLemmas.{date_read-date_text}
@@ -31,23 +32,23 @@ use Rattle.game_tree.proofs.EcoLemmas.{eco_read-eco_text}
 use Rattle.game_tree.proofs.SettleLemmas.{settled-near, settled-unknown, unknown-far, settled-keeps_rule}
 use Rattle.game_tree.proofs.TagNameLemmas.{rating_of-rating_tag}
 use Rattle.pgn_write.specs.TagPairs.{pair, roster, rating_pairs, eco_pairs, event_date_pairs, flags_text, flags_pairs, start_pairs, tags_of}
-use Rattle.pgn_read.specs.Heads.{or_else, first_or, first_told, value_of, date_from, result_from, rated, rating_as, rating_told, no_rating, rating_from, eco_told, eco_from, flags_of, has_letter, marks_of, head_told, head_from}
+use Rattle.pgn_read.specs.Heads.{first_told, value_of, date_from, result_from, rated, rating_as, rating_told, no_rating, rating_from, eco_told, eco_from, flags_of, has_letter, marks_of, head_told, head_from}
 use Rattle.pgn_read.proofs.NameLaws.{rating_name, free_name, no_flags_name}
 use Rattle.pgn_read.proofs.MarksLaws.{marks_again, deleted_again}
 
 -- ---- what the first tag tells
 
-told_or : {A : Type 0} (a b c : Option A) → first_or a (first_or b c) ≡ first_or (first_or a b) c
+told_or : {A : Type 0} (a b c : Option A) → option_or a (option_or b c) ≡ option_or (option_or a b) c
 told_or None b c = refl
 told_or (Some x) b c = refl
 
-told_then : {A : Type 0} (told : Tag → Option A) (xs ys : List Tag) → first_told told (xs ++ ys) ≡ first_or (first_told told xs) (first_told told ys)
+told_then : {A : Type 0} (told : Tag → Option A) (xs ys : List Tag) → first_told told (xs ++ ys) ≡ option_or (first_told told xs) (first_told told ys)
 told_then told [] ys = refl
-told_then told (tag ∷ xs) ys = ap (first_or (told tag)) (told_then told xs ys) ∙ told_or (told tag) (first_told told xs) (first_told told ys)
+told_then told (tag ∷ xs) ys = ap (option_or (told tag)) (told_then told xs ys) ∙ told_or (told tag) (first_told told xs) (first_told told ys)
 
 -- Behind tags that tell nothing.
 past : {A : Type 0} (told : Tag → Option A) (xs ys : List Tag) → first_told told xs ≡ None → first_told told (xs ++ ys) ≡ first_told told ys
-past told xs ys none = told_then told xs ys ∙ ap (λ o. first_or o (first_told told ys)) none
+past told xs ys none = told_then told xs ys ∙ ap (λ o. option_or o (first_told told ys)) none
 
 nothing_if : {A : Type 0} (told : Tag → Option A) (c : Bool) (xs : List Tag) → first_told told xs ≡ None → first_told told (cond c [] xs) ≡ None
 nothing_if told true xs none = refl
@@ -58,7 +59,7 @@ some_if told true xs none = none
 some_if told false xs none = refl
 
 one_none : {A : Type 0} (told : Tag → Option A) (tag : Tag) → told tag ≡ None → first_told told (tag ∷ []) ≡ None
-one_none told tag none = ap (λ o. first_or o None) none
+one_none told tag none = ap (λ o. option_or o None) none
 
 -- ---- ratings
 
@@ -92,7 +93,7 @@ free_rating side tag none = ap (rating_as side tag.value) (none_is (rating_of ta
 free_ratings : (side : Colour) (tags : List Tag) → AllByRecursion IsTag tags → first_told (rating_told side) tags ≡ None
 free_ratings side [] each = refl
 free_ratings side (tag ∷ tags) each =
-    ap (λ o. first_or o (first_told (rating_told side) tags)) (free_rating side tag (free_name tag.name each.0.free).no_rating) ∙ free_ratings side tags each.1
+    ap (λ o. option_or o (first_told (rating_told side) tags)) (free_rating side tag (free_name tag.name each.0.free).no_rating) ∙ free_ratings side tags each.1
 
 eco_rating : (side : Colour) (eco : ℕ) → first_told (rating_told side) (eco_pairs eco) ≡ None
 unfolding rating_told rating_of
@@ -146,16 +147,16 @@ no_rating_is rating is zero_value =
 -- The side's own pair, with tags behind it that tell no rating of the side.
 own_rating : (c : Bool) (side : Colour) (rating : Rating) (rest : List Tag) → (rating.value == 0) ≡ c → IsRating rating
     → first_told (rating_told side) rest ≡ None
-    → or_else (first_told (rating_told side) (cond c [] (pair (rating_tag side rating.kind) (decimal rating.value) ∷ []) ++ rest)) no_rating ≡ rating
-own_rating true side rating rest value is none = ap (λ o. or_else o no_rating) none ∙ no_rating_is rating is value
+    → unwrap_or (first_told (rating_told side) (cond c [] (pair (rating_tag side rating.kind) (decimal rating.value) ∷ []) ++ rest)) no_rating ≡ rating
+own_rating true side rating rest value is none = ap (λ o. unwrap_or o no_rating) none ∙ no_rating_is rating is value
 own_rating false side rating rest value is none =
-    ap (λ o. or_else (first_or o (first_told (rating_told side) rest)) no_rating)
+    ap (λ o. unwrap_or (option_or o (first_told (rating_told side) rest)) no_rating)
     (rating_is side side rating.kind (decimal rating.value) is.kind ∙ read_rating side rating is value)
 
 white_again : (head : Head) (game : GameTree) → IsBounded head → rating_from White (tags_of head game) ≡ head.white_rating
 white_again head game is =
     let rest : List Tag = rating_pairs Black head.black_rating ++ behind_ratings head game in
-    ap (λ o. or_else o no_rating) (past (rating_told White) (roster head) (rating_pairs White head.white_rating ++ rest) (roster_rating White head))
+    ap (λ o. unwrap_or o no_rating) (past (rating_told White) (roster head) (rating_pairs White head.white_rating ++ rest) (roster_rating White head))
     ∙ own_rating (head.white_rating.value == 0) White head.white_rating rest refl is.white_rating
     (past (rating_told White) (rating_pairs Black head.black_rating) (behind_ratings head game) (other_rating head.black_rating is.black_rating)
     ∙ rest_rating White head game is)
@@ -163,7 +164,7 @@ white_again head game is =
 black_again : (head : Head) (game : GameTree) → IsBounded head → rating_from Black (tags_of head game) ≡ head.black_rating
 black_again head game is =
     let rest : List Tag = behind_ratings head game in
-    ap (λ o. or_else o no_rating)
+    ap (λ o. unwrap_or o no_rating)
     (past (rating_told Black) (roster head) (rating_pairs White head.white_rating ++ (rating_pairs Black head.black_rating ++ rest)) (roster_rating Black head)
     ∙ past (rating_told Black) (rating_pairs White head.white_rating) (rating_pairs Black head.black_rating ++ rest) (white_rating head.white_rating is.white_rating))
     ∙ own_rating (head.black_rating.value == 0) Black head.black_rating rest refl is.black_rating (rest_rating Black head game is)
@@ -179,7 +180,7 @@ rating_eco side rating is =
 free_eco : (tags : List Tag) → AllByRecursion IsTag tags → first_told eco_told tags ≡ None
 free_eco [] each = refl
 free_eco (tag ∷ tags) each =
-    ap (λ b. first_or (cond b (eco_read tag.value) None) (first_told eco_told tags)) (free_name tag.name each.0.free).no_eco ∙ free_eco tags each.1
+    ap (λ b. option_or (cond b (eco_read tag.value) None) (first_told eco_told tags)) (free_name tag.name each.0.free).no_eco ∙ free_eco tags each.1
 
 flags_eco : (flags : List ℕ) → first_told eco_told (flags_pairs flags) ≡ None
 flags_eco [] = refl
@@ -194,16 +195,16 @@ behind_eco head game is =
     ∙ free_eco head.tags (recursion_from_All IsTag head.tags is.tags)
 
 own_eco : (c : Bool) (eco : ℕ) (rest : List Tag) → (eco == 0) ≡ c → eco ≤ 65500 → first_told eco_told rest ≡ None
-    → or_else (first_told eco_told (cond c [] (pair (codes "ECO") (eco_text eco) ∷ []) ++ rest)) 0 ≡ eco
-own_eco true eco rest is small none = ap (λ o. or_else o 0) none ∙ sym (eqb-true eco 0 is)
+    → unwrap_or (first_told eco_told (cond c [] (pair (codes "ECO") (eco_text eco) ∷ []) ++ rest)) 0 ≡ eco
+own_eco true eco rest is small none = ap (λ o. unwrap_or o 0) none ∙ sym (eqb-true eco 0 is)
 own_eco false eco rest is small none =
     let some : 1 ≤ eco = omega (arith, eqb-false eco 0 is) in
-    ap (λ o. or_else (first_or o (first_told eco_told rest)) 0) (eco_read-eco_text eco some small)
+    ap (λ o. unwrap_or (option_or o (first_told eco_told rest)) 0) (eco_read-eco_text eco some small)
 
 eco_again : (head : Head) (game : GameTree) → IsBounded head → eco_from (tags_of head game) ≡ head.eco
 eco_again head game is =
     let rest : List Tag = event_date_pairs head.event_date ++ (flags_pairs (flags_text head.deleted head.marks) ++ (start_pairs game ++ head.tags)) in
-    ap (λ o. or_else o 0)
+    ap (λ o. unwrap_or o 0)
     (past eco_told (rating_pairs White head.white_rating) (rating_pairs Black head.black_rating ++ (eco_pairs head.eco ++ rest)) (rating_eco White head.white_rating is.white_rating)
     ∙ past eco_told (rating_pairs Black head.black_rating) (eco_pairs head.eco ++ rest) (rating_eco Black head.black_rating is.black_rating))
     ∙ own_eco (head.eco == 0) head.eco rest refl is.eco (behind_eco head game is)
@@ -333,10 +334,10 @@ result_again : (o : Outcome) (tags : List Tag) → value_of (codes "Result") tag
 result_again outcome.White tags is = refl
 result_again outcome.Black tags is = refl
 result_again outcome.Draw tags is = refl
-result_again outcome.Unknown tags is = ap (λ v. or_else (option_and_then outcome_read v) outcome.Unknown) is
+result_again outcome.Unknown tags is = ap (λ v. unwrap_or (option_and_then outcome_read v) outcome.Unknown) is
 
 date_again : (head : Head) (game : GameTree) → IsBounded head → date_from (tags_of head game) ≡ head.date
-date_again head game is = ap (λ o. or_else o unknown_date) (date_read-date_text head.date is.date)
+date_again head game is = ap (λ o. unwrap_or o unknown_date) (date_read-date_text head.date is.date)
 
 abbrev unsettled : Head → Head
 unsettled head = record head { event_date = unknown_date; tags = event_date_pairs head.event_date ++ head.tags }
@@ -400,7 +401,7 @@ settled_known head is settled_so known =
     let near : is_near head.event_date head.date ≡ true = rule_near head settled_so known in
     let told : Head = record head { event_date = unknown_date; tags = event_date_tag head.event_date ∷ head.tags } in
     settled-unknown told (unknown-far head.date) refl
-    ∙ ap (λ o. taken_up told (first_of o (first_near_date head.date head.tags))) (near_is head is.event_date near)
+    ∙ ap (λ o. taken_up told (option_or o (first_near_date head.date head.tags))) (near_is head is.event_date near)
     ∙ sym (settled-near head near)
     ∙ settled_so
 

@@ -1,6 +1,7 @@
 -- The head of a game, from its tags in their order and the result of its end mark (PGN standard, 8.1 and 9).
-use Rattle.std.specs.Prelude.{ℕ, ◌+◌, ◌*◌, ◌==◌, Bool, if◌then◌else◌, List, [], ◌∷◌, ◌++◌, Option, Some, None, option_and_then, codes}
+use Rattle.std.specs.Prelude.{ℕ, ◌+◌, ◌*◌, ◌==◌, Bool, if◌then◌else◌, List, [], ◌∷◌, ◌++◌, Option, Some, None, option_and_then, unwrap_or, codes}
 use Rattle.std.specs.List.{list_any}
+use Rattle.std.specs.Option.{option_or}
 use Rattle.cell_core.specs.declared.man.Colour.{Colour}
 use Rattle.cell_core.specs.declared.man.Colour.TheVariants.{White, Black}
 use Rattle.cell_core.specs.Man.{same_colour}
@@ -25,45 +26,31 @@ pub record IsReadTag (tag : Tag) : Type 0 where
   pub name : IsTagName tag.name
   pub value : IsName tag.value
 
--- What is there, or something in its place.
-abbrev pub or_else : {A : Type 0} → Option A → A → A
-or_else None other = other
-or_else (Some x) other = x
-
 -- The first of the tags that tells something.
-abbrev pub first_or : {A : Type 0} → Option A → Option A → Option A
-first_or None later = later
-first_or (Some x) later = Some x
-
 abbrev pub first_told : {A : Type 0} → (Tag → Option A) → List Tag → Option A
 first_told told [] = None
-first_told told (tag ∷ tags) = first_or (told tag) (first_told told tags)
+first_told told (tag ∷ tags) = option_or (told tag) (first_told told tags)
 
 -- The value of the first tag of this name.
-abbrev pub value_told : List ℕ → Tag → Option (List ℕ)
-value_told name tag = if is_named name tag then Some tag.value else None
-
 abbrev pub value_of : List ℕ → List Tag → Option (List ℕ)
-value_of name tags = first_told (value_told name) tags
+value_of name tags = first_told (λ tag. if is_named name tag then Some tag.value else None) tags
 
 -- A name that is missing is `?` (PGN standard, 8.1.1).
 abbrev pub name_from : List ℕ → List Tag → List ℕ
-name_from name tags = or_else (value_of name tags) (codes "?")
+name_from name tags = unwrap_or (value_of name tags) (codes "?")
 
 -- A date that is missing or does not read is unknown.
 abbrev pub date_from : List Tag → Date
-date_from tags = or_else (option_and_then date_read (value_of (codes "Date") tags)) unknown_date
+date_from tags = unwrap_or (option_and_then date_read (value_of (codes "Date") tags)) unknown_date
 
 -- The result is that of the end mark; where there is none or it is `*`, that of the tag, if it reads.
 abbrev pub result_told : List Tag → Outcome
-result_told tags = or_else (option_and_then outcome_read (value_of (codes "Result") tags)) outcome.Unknown
+result_told tags = unwrap_or (option_and_then outcome_read (value_of (codes "Result") tags)) outcome.Unknown
 
 abbrev pub result_from : Option Outcome → List Tag → Outcome
 result_from None tags = result_told tags
-result_from (Some outcome.White) tags = outcome.White
-result_from (Some outcome.Black) tags = outcome.Black
-result_from (Some outcome.Draw) tags = outcome.Draw
 result_from (Some outcome.Unknown) tags = result_told tags
+result_from (Some result) tags = result
 
 -- A rating from 1 to 4095 of the side, of the kind that the tag's name tells.
 abbrev pub rated : ℕ → Option ℕ → Option Rating
@@ -81,14 +68,14 @@ abbrev pub no_rating : Rating
 no_rating = record { value = 0; kind = 0 }
 
 abbrev pub rating_from : Colour → List Tag → Rating
-rating_from side tags = or_else (first_told (rating_told side) tags) no_rating
+rating_from side tags = unwrap_or (first_told (rating_told side) tags) no_rating
 
 -- The first opening code that reads; 0 is none.
 abbrev pub eco_told : Tag → Option ℕ
 eco_told tag = if is_named (codes "ECO") tag then eco_read tag.value else None
 
 abbrev pub eco_from : List Tag → ℕ
-eco_from tags = or_else (first_told eco_told tags) 0
+eco_from tags = unwrap_or (first_told eco_told tags) 0
 
 -- The letters of all tags ScidFlags, and the marks that they set: the twelve user marks and the six custom marks from the lowest
 -- bit on, and D the mark of a deleted game (after Scid). Other letters set none.
