@@ -5,7 +5,7 @@ use Rattle.cell_core.specs.declared.man.Colour.TheVariants.{White, Black}
 use Rattle.cell_core.specs.declared.step.Move.{Move}
 use Rattle.cell_core.specs.Board.{Men}
 use Rattle.chess_laws.specs.declared.effect.Effect.{Effect}
-use Rattle.chess_laws.specs.declared.effect.Effect.TheVariants.{Plain, Double, Passing, Castle, Null}
+use Rattle.chess_laws.specs.declared.effect.Effect.TheVariants.{Passing, Castle}
 use Rattle.chess_laws.specs.declared.setup.Setup.{Setup}
 use Rattle.chess_laws.specs.declared.setup.Wing.TheVariants.{KingSide, QueenSide}
 use Rattle.chess_laws.specs.Position.{Sound, setup_of}
@@ -22,11 +22,8 @@ right_needed effect side = 0
 
 -- The en passant square that it needs: for a capture en passant its target, else none.
 abbrev pub square_needed : Effect → Move → Option ℕ
-square_needed Plain m = None
-square_needed Double m = None
 square_needed Passing m = Some m.to
-square_needed (Castle wing) m = None
-square_needed Null m = None
+square_needed _ m = None
 
 -- The board with the side to move, no right and no en passant square.
 abbrev pub bare : Men → Colour → Setup
