@@ -5,7 +5,8 @@ use Rattle.std.proofs.lemmas.Option.{same_Some, none-some}
 use Rattle.game_tree.specs.Date.{IsDate, is_near, is_unknown, unknown_date, keeps_rule, date_read}
 use Rattle.game_tree.specs.Head.{without_tags}
 use Rattle.game_tree.specs.TagList.{is_named}
-use Rattle.game_tree.specs.Settle.{event_date_name, near_only, near_date, first_of, first_near_date, taken_up, settled}
+use Rattle.std.specs.Option.{option_or}
+use Rattle.game_tree.specs.Settle.{event_date_name, near_only, near_date, first_near_date, taken_up, settled}
 use Rattle.game_tree.specs.declared.date.Date.{Date}
 use Rattle.game_tree.specs.declared.head.Head.{Head}
 use Rattle.game_tree.specs.declared.head.Tag.{Tag}
@@ -38,7 +39,7 @@ near_date-near game tag date e =
     ]
 
 first_of-near : (game : Date) (first later : Option Date) (date : Date) → ((d : Date) → first ≡ Some d → is_near d game ≡ true) → ((d : Date) → later ≡ Some d → is_near d game ≡ true) →
-    first_of first later ≡ Some date → is_near date game ≡ true
+    option_or first later ≡ Some date → is_near date game ≡ true
 first_of-near game None later date one two e = two date e
 first_of-near game (Some d) later date one two e = one date e
 

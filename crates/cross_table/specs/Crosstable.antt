@@ -74,18 +74,15 @@ meetings name games = filter_map (meeting name) games
 abbrev pub half_points_of : Score → ℕ
 half_points_of Won = 2
 half_points_of Drawn = 1
-half_points_of Lost = 0
-half_points_of Open = 0
+half_points_of _ = 0
 
 unfoldable pub half_points : List ℕ → List Pairing → ℕ
 half_points name games = sum_by (λ (m : Meeting). half_points_of m.score) (meetings name games)
 
 -- The games of a name that count: those with a known result.
 abbrev pub is_known : Score → Bool
-is_known Won = true
-is_known Drawn = true
-is_known Lost = true
 is_known Open = false
+is_known _ = true
 
 unfoldable pub games_known : List ℕ → List Pairing → ℕ
 games_known name games = count_by (λ (m : Meeting). is_known m.score) (meetings name games)

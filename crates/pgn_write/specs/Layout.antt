@@ -1,26 +1,17 @@
 -- How the tokens of a movetext are laid on lines (PGN standard, 8.2.1: export format has lines of at most 79 bytes).
 use Rattle.std.specs.Prelude.{ℕ, ◌+◌, ◌==◌, nat_le, Bool, true, false, ◌||◌, if◌then◌else◌, List, [], ◌∷◌, ◌++◌, map}
-use Rattle.pgn_write.specs.Token.{Token, number, move, nag, comment, opens, closes, ending, token_text}
+use Rattle.pgn_write.specs.Token.{Token, number, opens, closes, token_text}
 
 -- Tokens that have what follows them in their unit: a number has its move, an opening bracket the first unit of its variation.
 abbrev pub holds_next : Token → Bool
 holds_next (number n side) = true
-holds_next (move text) = false
-holds_next (nag n) = false
-holds_next (comment text) = false
 holds_next opens = true
-holds_next closes = false
-holds_next (ending outcome) = false
+holds_next _ = false
 
 -- A closing bracket stands in the last unit of its variation.
 abbrev pub is_closing : Token → Bool
-is_closing (number n side) = false
-is_closing (move text) = false
-is_closing (nag n) = false
-is_closing (comment text) = false
-is_closing opens = false
 is_closing closes = true
-is_closing (ending outcome) = false
+is_closing _ = false
 
 abbrev pub begins_closing : List Token → Bool
 begins_closing [] = false

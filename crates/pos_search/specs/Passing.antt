@@ -3,7 +3,7 @@ use Rattle.std.specs.Prelude.{ℕ, Bool, true, false, not, ◌&&◌, ◌||◌, �
 use Rattle.chess_laws.specs.Counts.{counts_of}
 use Rattle.sig_index.specs.declared.mat_query.MatRange.{MatRange}
 use Rattle.sig_index.specs.declared.pos_query.Mode.{Mode}
-use Rattle.sig_index.specs.declared.pos_query.Mode.TheVariants.{Exact, Pawns, Files, Material}
+use Rattle.sig_index.specs.declared.pos_query.Mode.TheVariants.{Exact, Pawns}
 use Rattle.sig_index.specs.declared.pos_query.PosQuery.{PosQuery}
 use Rattle.sig_index.specs.declared.signature.Sig.{Sig}
 use Rattle.sig_index.specs.Homes.{home_allows, home_set}
@@ -17,8 +17,7 @@ just counts = record { lo = counts; hi = counts }
 abbrev pub fixes_pawns : Mode → Bool
 fixes_pawns Exact = true
 fixes_pawns Pawns = true
-fixes_pawns Files = false
-fixes_pawns Material = false
+fixes_pawns _ = false
 
 -- A main line with this signature can match: where the mode fixes them the pawns that stand at home on the board can have been those at
 -- home, and the counts of the board can have stood.

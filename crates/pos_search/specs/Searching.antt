@@ -5,7 +5,7 @@ use Rattle.cell_core.specs.Packed.{packed_of}
 use Rattle.cell_core.specs.declared.step.Move.{Move}
 use Rattle.pos_index.specs.Hits.{Place, ply_and_next, same_packed}
 use Rattle.sig_index.specs.declared.pos_query.Mode.{Mode}
-use Rattle.sig_index.specs.declared.pos_query.Mode.TheVariants.{Exact, Pawns, Files, Material}
+use Rattle.sig_index.specs.declared.pos_query.Mode.TheVariants.{Exact}
 use Rattle.sig_index.specs.declared.pos_query.PosQuery.{PosQuery}
 use Rattle.sig_index.specs.declared.signature.Sig.{Sig}
 use Rattle.pos_search.specs.Passing.{passes}
@@ -17,9 +17,7 @@ ply_of hit = option_map (λ (found : ℕ × Option Move). found.0) hit
 -- A mode in which only the board that is sought matches.
 abbrev pub is_exact : Mode → Bool
 is_exact Exact = true
-is_exact Pawns = false
-is_exact Files = false
-is_exact Material = false
+is_exact _ = false
 
 -- A place that an index has of a game is one that is sought: the query is an exact one, for the board of this place.
 abbrev pub is_told : PosQuery → Place → Bool
