@@ -17,12 +17,12 @@ use Rattle.pgn_read.specs.Bytes.{is_white}
 use Rattle.pgn_read.specs.Token.{Token, Lexed}
 use Rattle.pgn_read.specs.Lexing.{lexed, size}
 use Rattle.pgn_read.specs.Text.{At, here, on_remark, behind_gap, longest, skipped, behind_mark, spot_at, behind_token, next_at, spots}
-use Rattle.pgn_read.specs.Reading.{Reading, Effect, goes_on, ends_behind, ends_before, is_faulty, unread, is_inside, effect, end_effect, is_next_game, is_game, game_of}
+use Rattle.pgn_read.specs.Reading.{Reading, Effect, goes_on, ends_behind, ends_before, is_faulty, unread, is_inside, effect, is_next_game, is_game, game_of}
 use Rattle.pgn_read.specs.Heads.{head_from}
-use Rattle.pgn_read.specs.Items.{Next, next, resumed_at, faulty, ended, ended_before, by_effect, effect_at, item_from, item_at, whole_room, first_token, next_item, AreItems, PgnReads}
+use Rattle.pgn_read.specs.Items.{Next, next, faulty, ended, ended_before, by_effect, effect_at, item_from, item_at, first_token, next_item, AreItems, PgnReads}
 use Rattle.pgn_read.specs.Said.{said_end, EndsWell}
 use Rattle.pgn_read.specs.Readers.{Window, with_more, ahead}
-use Rattle.pgn_read.specs.Window.{front, Decides, by_end, Moved, FrontPassed, FrontMoved}
+use Rattle.pgn_read.specs.Window.{front, resumed_at, Decides, by_end, Moved, FrontPassed, FrontMoved}
 use Rattle.pgn_read.proofs.LexingLaws.{Goes, token_goes, token_shorter}
 
 -- ---- progress
@@ -51,7 +51,8 @@ enough (suc m) (suc n) place room [] p q = refl
 enough (suc m) (suc n) place room (b ∷ w) p q =
     let next = next_at (here place room (b ∷ w)) in
     let short : length next.bytes ≤ length w = next_short place room b w in
-    ap (λ l. spot_at (here place room (b ∷ w)) ∷ l) (enough m n next.place next.room next.bytes (omega (arith, short, p)) (omega (arith, short, q)))
+    let more : nat_lt 0 (suc (length w)) ≡ true = search arith in
+    rw more (ap (λ l. spot_at (here place room (b ∷ w)) ∷ l) (enough m n next.place next.room next.bytes (omega (arith, short, p)) (omega (arith, short, q))))
 
 -- ---- what one token does
 
@@ -66,7 +67,7 @@ and_false true true = refl
 and_false true false = refl
 and_false false b = refl
 
-pub end_at : (r : Reading) (place : Place) (room : ℕ) → effect_at r (here place room []) ≡ end_effect r
+pub end_at : (r : Reading) (place : Place) (room : ℕ) → effect_at r (here place room []) ≡ cond (is_inside r) (is_faulty what.Paren) ends_before
 unfolding lexed effect
 end_at r place room =
     let below : nat_lt room 0 ≡ false = search arith in
@@ -84,9 +85,10 @@ taken r place room [] = rw (end_at r place room) (ends_same r (is_inside r) (her
 taken r place room (b ∷ w) =
     let a = here place room (b ∷ w) in
     let next = next_at a in
-    later_same r (effect_at r a) a _ _
+    let more : nat_lt 0 (suc (length w)) ≡ true = search arith in
+    rw more (later_same r (effect_at r a) a _ _
     (λ s. ap (item_from s)
-    (enough (suc (length w)) (suc (length next.bytes)) next.place next.room next.bytes (omega (arith, next_short place room b w)) (omega arith)))
+    (enough (suc (length w)) (suc (length next.bytes)) next.place next.room next.bytes (omega (arith, next_short place room b w)) (omega arith))))
 
 pub token_taken : (r : Reading) (a : At) → item_at r a ≡ by_effect r a (λ s. item_at s (next_at a)) (effect_at r a)
 token_taken r a = taken r a.place a.room a.bytes
@@ -255,6 +257,9 @@ pub one_list : (text : List ℕ) (items others : List Item) → PgnReads text it
 one_list text items others h k = one_from _ items others h k
 
 -- ---- items of what is told
+
+abbrev pub whole_room : At → At
+whole_room a = record a { room = longest }
 
 counted_told : (v w : Window) (l : Option (List ℕ)) → w ≡ record v { room = longest } → option_map whole_room (ahead v l) ≡ ahead w l
 counted_told v w None is = refl

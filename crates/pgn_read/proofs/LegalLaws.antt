@@ -32,7 +32,7 @@ use Rattle.chess_text.specs.SanAnswer.{only_of, candidates, fits_now, shape_answ
 use Rattle.chess_text.specs.FenAnswer.{fen_answer}
 use Rattle.pgn_read.specs.Token.{Token}
 use Rattle.pgn_read.specs.Token as token
-use Rattle.pgn_read.specs.Reading.{Reading, Effect, has_tag, goes_on, ends_behind, ends_before, is_faulty, unread, turn_at, turn_behind, is_inside, has_move, with_tag, starting, fen_effect, tag_effect, moving, played, move_effect, opened, closed_to, commented, nag_effect, effect, game_of}
+use Rattle.pgn_read.specs.Reading.{Reading, Effect, has_tag, goes_on, ends_behind, ends_before, is_faulty, unread, turn_at, is_inside, has_move, with_tag, starting, fen_effect, tag_effect, moving, played, move_effect, opened, closed_to, effect, game_of}
 use Rattle.pgn_read.specs.Said.{said_step, EndsWell, StepsWell}
 use Rattle.pgn_read.specs.Fit.{IsFitGame}
 use Rattle.pgn_read.specs.Legality.{IsPlayed, Leads, ComesTo, IsLine, AreLines, IsLegal, EndsLegally, StepsLegally}
@@ -86,7 +86,7 @@ leads_depth level p q (x ∷ ps) within is = omega (arith, is.0.depth, leads_dep
 -- ---- one line
 
 played_line : (level : ℕ) (p : Setup) (line : Open) (turn : Turn) (m : Move) → Legal turn.now_at m → IsLine level p line turn
-    → IsLine level p (with_move (bare m) line) (turn_behind turn m)
+    → IsLine level p (with_move (bare m) line) (record { before = turn.now_at; now_at = stepped turn.now_at m })
 played_line level p line turn m legal is = record {
   lead = is.lead;
   level_within = is.level_within;
@@ -189,7 +189,7 @@ moving_so is = absurd (cc)
 played_legal : (m : Move) (r : Reading) → Legal r.turn.now_at m → IsLegal r → IsLegal (played m r)
 played_legal m r legal is = record {
   lines =
-      lines_with r.start r.moves.current (with_move (bare m) r.moves.current) r.turn (turn_behind r.turn m) r.moves.outer r.outer
+      lines_with r.start r.moves.current (with_move (bare m) r.moves.current) r.turn (record { before = r.turn.now_at; now_at = stepped r.turn.now_at m }) r.moves.outer r.outer
       (λ p one. played_line (length r.outer) p r.moves.current r.turn m legal one) is.lines;
   no_moves = λ e. moving_so e;
 }
@@ -199,7 +199,7 @@ none_with : (text : Option (List ℕ)) (lead : Option (List ℕ)) (done : List P
 none_with text lead done None first second = (first, refl)
 none_with text lead done (Some x) first second = absurd (cc)
 
-commented_legal : (text : List ℕ) (r : Reading) → IsLegal r → IsLegal (commented text r)
+commented_legal : (text : List ℕ) (r : Reading) → IsLegal r → IsLegal (record r { moves = added (item.comment text) r.moves })
 commented_legal text r is = record {
   lines =
       lines_with r.start r.moves.current (with_comment text r.moves.current) r.turn r.turn r.moves.outer r.outer
@@ -231,7 +231,7 @@ nagged_legal n r is = record {
   no_moves = λ e. moving_so e;
 }
 
-nag_keeps : (n : ℕ) (r : Reading) → IsLegal r → Keeps (nag_effect n r)
+nag_keeps : (n : ℕ) (r : Reading) → IsLegal r → Keeps (cond (has_move r) (goes_on (record (moving r) { moves = added (item.nag n) r.moves })) (is_faulty what.Token))
 nag_keeps n r is = keeps_if (has_move r) _ _ (nagged_legal n r is) tt
 
 opened_legal : (r : Reading) → length r.outer < deepest → IsLegal r → IsLegal (opened r)

@@ -1,15 +1,16 @@
 -- A token and a few bytes behind it tell the token, whatever comes then; and each token but the end of the text has a byte.
-use Rattle.std.proofs.Common.{◌≡◌, ◌⊎◌, inl, inr, ◌≤◌, ◌<◌, ◌+◌, ◌==◌, ◌||◌, ℕ, suc, Bool, true, false, not, cond, List, [], ◌∷◌, ◌++◌, length, drop, codes, refl, sym, ap, subst, arith, length-append, length-drop}
+use Rattle.std.proofs.Common.{◌≡◌, ◌⊎◌, inl, inr, ◌≤◌, ◌<◌, ◌+◌, ◌==◌, ◌||◌, ℕ, suc, Bool, true, false, not, cond, List, [], ◌∷◌, ◌++◌, length, drop, option_map, codes, refl, sym, ap, subst, arith, length-append, length-drop}
 use Rattle.std.proofs.lemmas.Bool.{eqb-true}
 use Rattle.std.proofs.lemmas.List.{drop-append-le}
-use Rattle.std.specs.Char.{is_ascii_digit}
+use Rattle.std.specs.Option.{unwrap_or}
+use Rattle.std.specs.Char.{is_ascii_alphabetic, is_ascii_digit}
 use Rattle.game_tree.specs.Decimal.{decimal_read}
 use Rattle.game_tree.specs.TagName.{is_tag_byte}
-use Rattle.pgn_read.specs.Bytes.{is_white, is_letter, is_move_byte, is_glyph, is_dot, front, behind, begins}
+use Rattle.pgn_read.specs.Bytes.{is_white, is_move_byte, is_glyph, is_dot, front, behind, begins}
 use Rattle.pgn_read.specs.Token.{Token, Lexed, lexed_as}
 use Rattle.pgn_read.specs.Token as token
-use Rattle.pgn_read.specs.TagText.{escapes, ends_value, raw_value, behind_value, closing, unquoting, quoting, naming, named, tag_from}
-use Rattle.pgn_read.specs.Lexing.{comment_of, braced, brace_from, without_return, nag_of, suffix_of, move_from, number_from, digit_from, by_kind, lexed}
+use Rattle.pgn_read.specs.TagText.{escapes, ends_value, raw_value, behind_value, closing, quoting, naming, tag_from}
+use Rattle.pgn_read.specs.Lexing.{comment_of, braced, brace_from, without_return, suffix_of, run_from, number_from, digit_from, by_kind, lexed}
 
 -- ---- parts are no longer than the whole
 
@@ -33,6 +34,13 @@ rest_short false n x y p q = q
 closing_short : (name raw x : List ℕ) → length (closing name raw x).rest ≤ length x
 closing_short name raw [] = omega arith
 closing_short name raw (b ∷ x) = rest_short (b == 93) (suc (length x)) _ _ (omega arith) (omega arith)
+
+-- From the closing quotation mark on, and from the name on.
+abbrev unquoting : List ℕ → List ℕ → List ℕ → Lexed
+unquoting name raw x = closing name raw (behind is_white (drop 1 x))
+
+abbrev named : List ℕ → Lexed
+named x = naming (front is_tag_byte x) (behind is_tag_byte x)
 
 unquoting_short : (name raw x : List ℕ) → length (unquoting name raw x).rest ≤ length x
 unquoting_short name raw [] = omega arith
@@ -157,7 +165,7 @@ begins_more [] w more fits = refl
 begins_more (first ∷ form) [] more fits = absurd (omega (arith, fits))
 begins_more (first ∷ form) (b ∷ w) more fits = rw (begins_more form w more (omega (arith, fits))) refl
 
-move_short : (x : List ℕ) → length (move_from x).rest ≤ length x
+move_short : (x : List ℕ) → length (run_from is_move_byte token.move x).rest ≤ length x
 move_short x = behind_short is_move_byte x
 
 number_short : (x : List ℕ) → length (number_from x).rest ≤ length x
@@ -217,7 +225,7 @@ token_goes b x more =
     both more (b == 91) _ _ _ _ (tag_goes x more)
     (both more (b == 123) _ _ _ _ (brace_goes x more)
     (both more (b == 59) _ _ _ _ (run_goes (λ byte. not (byte == 10)) (λ f. comment_of (without_return f)) x more)
-    (both more (b == 36) _ _ _ _ (run_goes is_ascii_digit (λ f. nag_of (decimal_read 255 f)) x more)
+    (both more (b == 36) _ _ _ _ (run_goes is_ascii_digit (λ f. unwrap_or (option_map token.nag (decimal_read 255 f)) token.bad) x more)
     (both more (b == 40) _ _ _ _ (inl refl)
     (both more (b == 41) _ _ _ _ (inl refl)
     (both more (b == 42) _ _ _ _ (inl refl)
@@ -254,7 +262,7 @@ digit_shorter b x digit =
     (rest_short (begins (codes "1/2-1/2") (b ∷ x)) (length x) _ _ (drop_shorter 7 b x (omega arith))
     (rest_short (begins (codes "1/2") (b ∷ x)) (length x) _ _ (drop_shorter 3 b x (omega arith))
     (rest_short (begins (codes "0-0") (b ∷ x)) (length x) _ _
-    (run_shorter is_move_byte b x (digit_moves (is_letter b) (is_ascii_digit b) b digit)) (number_shorter b x digit)))))
+    (run_shorter is_move_byte b x (digit_moves (is_ascii_alphabetic b) (is_ascii_digit b) b digit)) (number_shorter b x digit)))))
 
 kind_shorter : (b : ℕ) (x : List ℕ) → length (by_kind b (b ∷ x) x).rest ≤ length x
 kind_shorter b x =

@@ -23,7 +23,7 @@ use Rattle.pgn_read.specs.declared.item.Item.TheVariants.{Good}
 use Rattle.pgn_read.specs.declared.turn.Turn.{Turn}
 use Rattle.pgn_read.specs.Items.{all_spots, by_effect, effect_of, ended, first_token, item_from, next, next_item}
 use Rattle.pgn_read.specs.Meant.{IsMeant, all_said, move_said, said, said_at, said_before}
-use Rattle.pgn_read.specs.Reading.{Effect, Reading, at_tag, closed_to, effect, ends_before, ends_behind, fen_effect, game_of, goes_on, has_move, has_tag, is_faulty, is_game, is_inside, is_next_game, move_effect, nag_effect, opened, opens_effect, starting, tag_effect, turn_at, unread}
+use Rattle.pgn_read.specs.Reading.{Effect, Reading, at_tag, closed_to, effect, ends_before, ends_behind, fen_effect, game_of, goes_on, has_move, has_tag, is_faulty, is_game, is_inside, is_next_game, move_effect, opened, starting, tag_effect, turn_at, unread}
 use Rattle.pgn_read.specs.Text.{At, Spot}
 use Rattle.pgn_read.specs.Token.{Token}
 use Rattle.pgn_read.specs.Token as token

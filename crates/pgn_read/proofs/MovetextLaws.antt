@@ -23,7 +23,7 @@ use Rattle.chess_text.specs.SanAnswer.{san_answer}
 use Rattle.pgn_read.specs.Token.{Token}
 use Rattle.pgn_read.specs.Token as token
 use Rattle.pgn_read.specs.Text.{At, skipped, behind_token, next_at}
-use Rattle.pgn_read.specs.Reading.{Reading, Effect, goes_on, effect, turn_at, moving, played, opened, commented, closed_to, move_effect, has_move, is_inside}
+use Rattle.pgn_read.specs.Reading.{Reading, Effect, goes_on, effect, turn_at, moving, played, opened, closed_to, move_effect, has_move, is_inside}
 use Rattle.pgn_read.specs.Items.{by_effect, item_at}
 use Rattle.pgn_read.proofs.SpelledLaws.{are_white, IsLed, Spells, spelled_long}
 use Rattle.pgn_read.proofs.PassingLaws.{Meets, token_met}
@@ -165,7 +165,7 @@ pub nag_effect_is : (r : Reading) (n : ℕ) → has_move r ≡ true → effect (
 unfolding effect
 nag_effect_is r n moved = rw moved refl
 
-pub comment_effect : (r : Reading) (text : List ℕ) → effect (token.comment text) r ≡ goes_on (commented text r)
+pub comment_effect : (r : Reading) (text : List ℕ) → effect (token.comment text) r ≡ goes_on (record r { moves = added (item.comment text) r.moves })
 unfolding effect
 comment_effect r text = refl
 
@@ -299,7 +299,7 @@ comment_comes : (r : Reading) (text : List ℕ) (ts : List Written) (others : Li
     → Stands (written.comment text ∷ ts) others a → Comes r (added (item.comment (map without_brace text)) r.moves) r.turn ts others a
 comment_comes r text ts others a free stands =
     let said : List ℕ = map without_brace text in
-    one_comes r (commented said r) (added (item.comment said) r.moves) r.turn (written.comment text) (token.comment said) ts others a
+    one_comes r (record r { moves = added (item.comment said) r.moves }) (added (item.comment said) r.moves) r.turn (written.comment text) (token.comment said) ts others a
     (comment_read text free) (record { goes = comment_effect r said; tags = refl; start = refl; outer = refl; moves_are = refl; turn_is = refl }) stands
 
 -- ---- a movetext

@@ -25,10 +25,11 @@ use Rattle.pgn_read.specs.Place.{next_place, place_behind}
 use Rattle.pgn_read.specs.Bytes.{is_white, begins}
 use Rattle.pgn_read.specs.Token as token
 use Rattle.pgn_read.specs.Lexing.{lexed}
-use Rattle.pgn_read.specs.Text.{At, here, longest, behind_gap, skipped, behind_token, byte_order_mark, is_first, passed, behind_mark, spots}
+use Rattle.pgn_read.specs.Text.{At, here, longest, behind_gap, skipped, behind_token, byte_order_mark, passed, behind_mark, spots}
 use Rattle.pgn_read.specs.Heads.{head_from}
 use Rattle.pgn_read.specs.Reading.{Reading, goes_on, ends_behind, effect, moving, unread, game_of}
-use Rattle.pgn_read.specs.Items.{Next, next, item_from, item_at, whole_room, next_item, AreItems, text_start, PgnReads}
+use Rattle.pgn_read.specs.Items.{Next, next, item_from, item_at, next_item, AreItems, text_start, PgnReads}
+use Rattle.pgn_read.proofs.ItemLaws.{whole_room}
 use Rattle.pgn_read.specs.RoundTrip.{Headed, IsReadAgain, text_of, texts_of, again}
 use Rattle.pgn_read.proofs.SpelledLaws.{are_white, stops, layout_spells}
 use Rattle.pgn_read.proofs.PassingLaws.{begins_token, gap_passed}
@@ -56,7 +57,7 @@ gap_end (w ∷ gap) place room white =
     rw (apart is_white w 37 b.0 refl) rw (and_right (place.column == 1) false refl) rw b.0 (gap_end gap (next_place place w) (room - 1) b.1)
 
 unmarked : (a : At) → begins byte_order_mark a.bytes ≡ false → behind_mark a ≡ a
-unmarked a none = ap (λ b. cond b (passed 3 a) a) (ap (λ b. is_first a.place && b) none ∙ and_right (is_first a.place) false refl)
+unmarked a none = ap (λ b. cond b (passed 3 a) a) (ap (λ b. ((a.place.line == 1) && (a.place.column == 1)) && b) none ∙ and_right ((a.place.line == 1) && (a.place.column == 1)) false refl)
 
 -- ---- the movetext and the result
 

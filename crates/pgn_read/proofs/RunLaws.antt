@@ -2,8 +2,8 @@
 use Rattle.std.proofs.Common.{◌≡◌, ◌≤◌, ◌==◌, ◌||◌, ◌&&◌, nat_le, ℕ, Bool, true, false, not, cond, List, [], ◌∷◌, ◌++◌, refl, sym, ap, ◌∙◌, arith, inl, inr}
 use Rattle.std.proofs.lemmas.Bool.{cases_Bool, cases_lt, eqb-true, true≢false, le-leb, ne_eqb, and_parts, and_right, not-true, agree_below_at}
 use Rattle.std.specs.List.{list_all}
-use Rattle.std.specs.Char.{is_ascii_digit}
-use Rattle.pgn_read.specs.Bytes.{is_white, is_move_byte, is_letter, front, behind}
+use Rattle.std.specs.Char.{is_ascii_alphabetic, is_ascii_digit}
+use Rattle.pgn_read.specs.Bytes.{is_white, is_move_byte, front, behind}
 use Rattle.pgn_read.proofs.SpelledLaws.{stops}
 
 -- A byte that passes a test is none that does not.
@@ -67,13 +67,13 @@ digit_moves true d b is = refl
 digit_moves false d b is = rw is refl
 
 pub small_letter : (b : ℕ) → 97 ≤ b → b ≤ 122 → is_move_byte b ≡ true
-small_letter b low high = letter_moves (is_letter b) (is_ascii_digit b) b (capital_or (nat_le 65 b && nat_le b 90) b low high)
+small_letter b low high = letter_moves (is_ascii_alphabetic b) (is_ascii_digit b) b (capital_or (nat_le 65 b && nat_le b 90) b low high)
 
 pub digit_byte : (b : ℕ) → 48 ≤ b → b ≤ 57 → is_ascii_digit b ≡ true
 digit_byte b low high = rw (le-leb 48 b low) rw (le-leb b 57 high) refl
 
 pub digit_moving : (b : ℕ) → is_ascii_digit b ≡ true → is_move_byte b ≡ true
-digit_moving b digit = digit_moves (is_letter b) (is_ascii_digit b) b digit
+digit_moving b digit = digit_moves (is_ascii_alphabetic b) (is_ascii_digit b) b digit
 
 -- ---- a byte of a move is no white space
 

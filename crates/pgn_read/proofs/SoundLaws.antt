@@ -1,17 +1,18 @@
 -- What every token keeps: the bytes of a tag's name are those of such names, and no text has a zero byte.
-use Rattle.std.proofs.Common.{◌≡◌, ◌≢◌, ◌≤◌, ◌==◌, ◌||◌, ℕ, Bool, true, false, not, cond, IsTrue, List, [], ◌∷◌, ◌++◌, length, codes, All, Option, Some, None, inl, inr, refl, arith}
+use Rattle.std.proofs.Common.{◌≡◌, ◌≢◌, ◌≤◌, ◌==◌, ◌||◌, ℕ, Bool, true, false, not, cond, IsTrue, List, [], ◌∷◌, ◌++◌, length, drop, option_map, codes, All, Option, Some, None, inl, inr, refl, arith}
 use Rattle.std.proofs.lemmas.Bool.{cases_Bool, eqb-false}
 use Rattle.std.proofs.lemmas.List.Elements.{All-from_recursion}
 use Rattle.std.specs.List.{AllByRecursion}
 use Rattle.std.specs.Str.{bytes_eq}
+use Rattle.std.specs.Option.{unwrap_or}
 use Rattle.std.specs.Char.{is_ascii_digit}
 use Rattle.game_tree.specs.Decimal.{decimal_read}
 use Rattle.game_tree.specs.TagName.{is_tag_byte, IsTagByte}
 use Rattle.pgn_read.specs.Bytes.{is_white, is_move_byte, is_glyph, has_zero, front, behind, begins}
 use Rattle.pgn_read.specs.Token.{Token, Lexed}
 use Rattle.pgn_read.specs.Token as token
-use Rattle.pgn_read.specs.TagText.{escapes, meant_by, unescaped_from, unescaped, raw_value, behind_value, closing, unquoting, quoting, naming, tag_from}
-use Rattle.pgn_read.specs.Lexing.{comment_of, braced, without_return, nag_of, suffix_of, digit_from, by_kind, lexed}
+use Rattle.pgn_read.specs.TagText.{escapes, meant_by, unescaped_from, raw_value, behind_value, closing, quoting, naming, tag_from}
+use Rattle.pgn_read.specs.Lexing.{comment_of, braced, without_return, suffix_of, digit_from, by_kind, lexed}
 use Rattle.pgn_read.specs.Said.{IsSound}
 
 sound_if : (c : Bool) (x y : Lexed) → IsSound x.token → IsSound y.token → IsSound (cond c x y).token
@@ -74,23 +75,19 @@ front_each : (test : ℕ → Bool) (w : List ℕ) → AllByRecursion (λ byte. I
 front_each test [] = tt
 front_each test (b ∷ w) = each_if test (test b) b (front test w) refl (front_each test w)
 
-pair_sound : (name raw : List ℕ) → 1 ≤ length name → All IsTagByte name → IsSound (cond (has_zero raw) token.bad_tag (token.tag name (unescaped raw)))
+pair_sound : (name raw : List ℕ) → 1 ≤ length name → All IsTagByte name → IsSound (cond (has_zero raw) token.bad_tag (token.tag name (unescaped_from false raw)))
 pair_sound name raw some each = elim (cases_Bool (has_zero raw)) [
   | inl zero ↦ rw zero tt
-  | inr none ↦ rw none (some, (each, All-from_recursion (λ byte. byte ≢ 0) (unescaped raw) (unescaped_free false raw (zero_free raw none))))
+  | inr none ↦ rw none (some, (each, All-from_recursion (λ byte. byte ≢ 0) (unescaped_from false raw) (unescaped_free false raw (zero_free raw none))))
 ]
 
 closing_sound : (name raw x : List ℕ) → 1 ≤ length name → All IsTagByte name → IsSound (closing name raw x).token
 closing_sound name raw [] some each = tt
 closing_sound name raw (b ∷ x) some each = sound_if (b == 93) _ _ (pair_sound name raw some each) tt
 
-unquoting_sound : (name raw x : List ℕ) → 1 ≤ length name → All IsTagByte name → IsSound (unquoting name raw x).token
-unquoting_sound name raw [] some each = tt
-unquoting_sound name raw (b ∷ x) some each = closing_sound name raw (behind is_white x) some each
-
 quoting_sound : (name x : List ℕ) → 1 ≤ length name → All IsTagByte name → IsSound (quoting name x).token
 quoting_sound name [] some each = tt
-quoting_sound name (b ∷ x) some each = sound_if (b == 34) _ _ (unquoting_sound name (raw_value false x) (behind_value false x) some each) tt
+quoting_sound name (b ∷ x) some each = sound_if (b == 34) _ _ (closing_sound name (raw_value false x) (behind is_white (drop 1 (behind_value false x))) some each) tt
 
 naming_sound : (name x : List ℕ) → All IsTagByte name → IsSound (naming name x).token
 naming_sound [] x each = tt
@@ -107,7 +104,7 @@ brace_sound : (text x : List ℕ) → IsSound (braced text x).token
 brace_sound text [] = tt
 brace_sound text (b ∷ x) = comment_sound text
 
-nag_sound : (n : Option ℕ) → IsSound (nag_of n)
+nag_sound : (n : Option ℕ) → IsSound (unwrap_or (option_map token.nag n) token.bad)
 nag_sound None = tt
 nag_sound (Some n) = tt
 

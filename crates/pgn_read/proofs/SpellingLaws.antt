@@ -15,7 +15,7 @@ use Rattle.pgn_read.specs.declared.turn.Turn.{Turn}
 use Rattle.pgn_read.specs.Heads.{head_from}
 use Rattle.pgn_read.specs.Items.{Next, by_effect, effect_of, item_from}
 use Rattle.pgn_read.specs.MovetextSpelling.{Spelling, end, number, move, nag, comment, variation, tokens_by, movetext_by, IsSpelling, IsSpot, StandFirst, behind_tags, game_meant}
-use Rattle.pgn_read.specs.Reading.{Reading, Effect, goes_on, ends_behind, effect, is_inside, is_next_game, moving, played, opened, commented, game_of}
+use Rattle.pgn_read.specs.Reading.{Reading, Effect, goes_on, ends_behind, effect, is_inside, is_next_game, moving, played, opened, game_of}
 use Rattle.pgn_read.specs.Text.{Spot}
 use Rattle.pgn_read.specs.Token.{Token}
 use Rattle.pgn_read.specs.Token as token
@@ -101,7 +101,7 @@ reads (nag n s) level before here moved r ts spots is at stand =
     (reads s level before here moved q ts g.left is.1
     (record { turn = at.turn; inside = at.inside; has_move = nag_kept n r.moves.current.last ∙ at.has_move }) g.stand)
 reads (comment text s) level before here moved r ts spots is at stand =
-    let q : Reading = commented text r in
+    let q : Reading = record r { moves = added (item.comment text) r.moves } in
     let g : Goes r q (tokens_by s ++ ts) spots = goes r q (token.comment text) (tokens_by s ++ ts) spots (comment_effect r text) stand in
     let kept : is_some (with_comment text r.moves.current).last ≡ moved =
     comment_kept (as_comment text) r.moves.current.lead r.moves.current.done r.moves.current.last ∙ at.has_move in

@@ -1,12 +1,12 @@
 -- A tag that is spelled with white space and escapes as they may stand is read as its name and its value.
-use Rattle.std.proofs.Common.{◌≡◌, ◌==◌, ℕ, Bool, true, false, not, List, [], ◌∷◌, ◌++◌, refl, sym, ap, ◌∙◌, arith}
+use Rattle.std.proofs.Common.{◌≡◌, ◌==◌, ℕ, Bool, true, false, not, List, [], ◌∷◌, ◌++◌, drop, refl, sym, ap, ◌∙◌, arith}
 use Rattle.std.specs.List.{list_all}
 use Rattle.std.proofs.lemmas.Bool.{and_parts, or_parts, true≢false}
 use Rattle.game_tree.specs.TagName.{is_tag_byte}
-use Rattle.pgn_read.specs.Bytes.{is_white, has_zero}
+use Rattle.pgn_read.specs.Bytes.{is_white, has_zero, front, behind}
 use Rattle.pgn_read.specs.Token.{Lexed, lexed_as}
 use Rattle.pgn_read.specs.Token as token
-use Rattle.pgn_read.specs.TagText.{raw_value, behind_value, unescaped_from, unescaped, closing, unquoting, quoting, naming, named}
+use Rattle.pgn_read.specs.TagText.{raw_value, behind_value, unescaped_from, closing, quoting, naming}
 use Rattle.pgn_read.specs.TagSpelling.{Spelling, done, byte, escape, alone, spelled, said_by, is_escaped, IsSpelling, TagParts, AreParts, tag_before}
 use Rattle.pgn_read.specs.Lexing.{lexed}
 use Rattle.pgn_read.proofs.RunLaws.{ends_run, front_run, behind_run}
@@ -47,7 +47,7 @@ meant_escape b v t is rest = rw is (ap (λ l. b ∷ l) rest)
 meant_alone : (b : ℕ) (v t : List ℕ) → is_escaped b ≡ false → unescaped_from false t ≡ v → unescaped_from false (92 ∷ b ∷ t) ≡ 92 ∷ b ∷ v
 meant_alone b v t is rest = rw is (ap (λ l. 92 ∷ b ∷ l) rest)
 
-unescaped_spelled : (s : Spelling) → IsSpelling s → unescaped (spelled s) ≡ said_by s
+unescaped_spelled : (s : Spelling) → IsSpelling s → unescaped_from false (spelled s) ≡ said_by s
 unescaped_spelled done is = refl
 unescaped_spelled (byte b s) is = meant_plain b (said_by s) (spelled s) is.0 (unescaped_spelled s is.1)
 unescaped_spelled (escape b s) is = meant_escape b (said_by s) (spelled s) is.0 (unescaped_spelled s is.1)
@@ -72,7 +72,7 @@ quoted : (name gap rest : List ℕ) (s : Spelling) → IsSpelling s → list_all
     → quoting name (34 ∷ (spelled s ++ (34 ∷ (gap ++ (93 ∷ rest))))) ≡ lexed_as (token.tag name (said_by s)) rest
 quoted name gap rest s is white free =
     let tail : List ℕ = gap ++ (93 ∷ rest) in
-    (λ i. unquoting name (raw_spelled s tail is i) (behind_spelled s tail is i))
+    (λ i. closing name (raw_spelled s tail is i) (behind is_white (drop 1 (behind_spelled s tail is i))))
     ∙ ap (closing name (spelled s)) (behind_run is_white gap (93 ∷ rest) white refl)
     ∙ closed_so name (spelled s) rest free
     ∙ ap (λ v. lexed_as (token.tag name v) rest) (unescaped_spelled s is)
@@ -86,7 +86,7 @@ tag_so before name between gap rest s b white between_white gap_white bytes is f
     let quote : List ℕ = 34 ∷ (spelled s ++ (34 ∷ (gap ++ (93 ∷ rest)))) in
     let tail : List ℕ = between ++ quote in
     let ends : ends_run is_tag_byte tail ≡ true = name_ends between (spelled s ++ (34 ∷ (gap ++ (93 ∷ rest)))) between_white in
-    ap named (behind_run is_white before ((b ∷ name) ++ tail) white (name_begins b name tail bytes))
+    ap (λ x. naming (front is_tag_byte x) (behind is_tag_byte x)) (behind_run is_white before ((b ∷ name) ++ tail) white (name_begins b name tail bytes))
     ∙ (λ i. naming (front_run is_tag_byte (b ∷ name) tail bytes ends i) (behind_run is_tag_byte (b ∷ name) tail bytes ends i))
     ∙ ap (quoting (b ∷ name)) (behind_run is_white between quote between_white refl)
     ∙ quoted (b ∷ name) gap rest s is gap_white free

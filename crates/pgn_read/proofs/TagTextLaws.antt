@@ -1,15 +1,15 @@
 -- A tag that is written is one token, and is read as the same name and the same value.
-use Rattle.std.proofs.Common.{◌≡◌, ◌≢◌, ◌≤◌, ◌==◌, ◌||◌, ◌&&◌, nat_le, ℕ, Bool, true, false, not, cond, List, [], ◌∷◌, ◌++◌, refl, ap, ◌∙◌, arith, append_assoc}
+use Rattle.std.proofs.Common.{◌≡◌, ◌≢◌, ◌≤◌, ◌==◌, ◌||◌, ◌&&◌, nat_le, ℕ, Bool, true, false, not, cond, List, [], ◌∷◌, ◌++◌, drop, refl, ap, ◌∙◌, arith, append_assoc}
 use Rattle.std.specs.List.{list_all, AllByRecursion}
 use Rattle.std.proofs.lemmas.Bool.{ne_eqb, leb-true, and_parts, and_right, or_parts}
 use Rattle.std.proofs.lemmas.List.Elements.{recursion_from_All}
 use Rattle.game_tree.specs.Head.{IsName}
 use Rattle.game_tree.specs.TagName.{is_tag_byte, IsTagByte, IsTagName}
 use Rattle.pgn_write.specs.TagPairs.{escaped_byte, escaped}
-use Rattle.pgn_read.specs.Bytes.{is_white, has_zero, behind}
+use Rattle.pgn_read.specs.Bytes.{is_white, has_zero, front, behind}
 use Rattle.pgn_read.specs.Token.{lexed_as}
 use Rattle.pgn_read.specs.Token as token
-use Rattle.pgn_read.specs.TagText.{raw_value, behind_value, unescaped_from, unescaped, closing, unquoting, quoting, naming, named}
+use Rattle.pgn_read.specs.TagText.{raw_value, behind_value, unescaped_from, closing, quoting, naming}
 use Rattle.pgn_read.specs.Lexing.{lexed}
 use Rattle.pgn_read.proofs.RunLaws.{front_run, behind_run}
 
@@ -48,7 +48,7 @@ meant_byte false b v text is rest =
     let n = or_parts (b == 34) (b == 92) is in
     rw n.1 (ap (λ l. b ∷ l) rest)
 
-unescaped_escaped : (value : List ℕ) → unescaped (escaped value) ≡ value
+unescaped_escaped : (value : List ℕ) → unescaped_from false (escaped value) ≡ value
 unescaped_escaped [] = refl
 unescaped_escaped (b ∷ value) = meant_byte ((b == 34) || (b == 92)) b value (escaped value) refl (unescaped_escaped value)
 
@@ -82,13 +82,13 @@ name_no_white b tag = above_white b (leb-true 33 b (first_and (nat_le 33 b) (nat
 
 -- ---- the whole tag
 
-pub closed_so : (name raw rest : List ℕ) → has_zero raw ≡ false → closing name raw (93 ∷ rest) ≡ lexed_as (token.tag name (unescaped raw)) rest
+pub closed_so : (name raw rest : List ℕ) → has_zero raw ≡ false → closing name raw (93 ∷ rest) ≡ lexed_as (token.tag name (unescaped_from false raw)) rest
 closed_so name raw rest free = rw free refl
 
 quoted : (name value rest : List ℕ) → AllByRecursion (λ byte. byte ≢ 0) value
     → quoting name (34 ∷ (escaped value ++ (34 ∷ 93 ∷ rest))) ≡ lexed_as (token.tag name value) rest
 quoted name value rest free =
-    (λ i. unquoting name (raw_escaped value (93 ∷ rest) i) (behind_escaped value (93 ∷ rest) i))
+    (λ i. closing name (raw_escaped value (93 ∷ rest) i) (behind is_white (drop 1 (behind_escaped value (93 ∷ rest) i))))
     ∙ closed_so name (escaped value) rest (zero_escaped value free)
     ∙ ap (λ v. lexed_as (token.tag name v) rest) (unescaped_escaped value)
 
@@ -101,6 +101,6 @@ tag_lexed (b ∷ name) value rest is value_is =
     let tail : List ℕ = 32 ∷ 34 ∷ (escaped value ++ (34 ∷ 93 ∷ rest)) in
     let begins : behind is_white ((b ∷ name) ++ tail) ≡ (b ∷ name) ++ tail =
     rw (name_no_white b (and_parts (is_tag_byte b) (list_all is_tag_byte name) bytes).0) refl in
-    ap named begins
+    ap (λ x. naming (front is_tag_byte x) (behind is_tag_byte x)) begins
     ∙ (λ i. naming (front_run is_tag_byte (b ∷ name) tail bytes refl i) (behind_run is_tag_byte (b ∷ name) tail bytes refl i))
     ∙ quoted (b ∷ name) value rest (recursion_from_All (λ byte. byte ≢ 0) value value_is.zero_free)

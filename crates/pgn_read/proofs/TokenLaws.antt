@@ -1,7 +1,8 @@
 -- Each token that is written is read as the same token, whatever may stand behind it.
-use Rattle.std.proofs.Common.{◌≡◌, ◌<◌, ◌==◌, ℕ, Bool, true, false, not, cond, List, [], ◌∷◌, ◌++◌, map, codes, Some, refl, sym, ap, ◌∙◌, arith, append_assoc, append-nil}
+use Rattle.std.proofs.Common.{◌≡◌, ◌<◌, ◌==◌, ℕ, Bool, true, false, not, cond, List, [], ◌∷◌, ◌++◌, map, codes, Some, option_map, refl, sym, ap, ◌∙◌, arith, append_assoc, append-nil}
 use Rattle.std.proofs.lemmas.Bool.{and_from, and_parts, and_right}
 use Rattle.std.specs.List.{list_all}
+use Rattle.std.specs.Option.{unwrap_or}
 use Rattle.std.specs.Char.{is_ascii_digit}
 use Rattle.std.specs.Fmt.{decimal}
 use Rattle.cell_core.specs.declared.man.Colour.{Colour}
@@ -16,7 +17,7 @@ use Rattle.pgn_write.specs.Layout.{holds_next}
 use Rattle.pgn_read.specs.Bytes.{is_move_byte, is_glyph, is_dot, has_zero, behind, begins}
 use Rattle.pgn_read.specs.Token.{Token, Lexed, lexed_as}
 use Rattle.pgn_read.specs.Token as token
-use Rattle.pgn_read.specs.Lexing.{braced, nag_of, move_from, number_from, digit_from, by_kind, lexed}
+use Rattle.pgn_read.specs.Lexing.{braced, run_from, number_from, digit_from, by_kind, lexed}
 use Rattle.pgn_read.proofs.SpelledLaws.{are_white, stops}
 use Rattle.pgn_read.proofs.PassingLaws.{begins_token}
 use Rattle.pgn_read.proofs.RunLaws.{apart, ends_run, front_run, behind_run, stops_run, digit_moving, move_no_gap}
@@ -100,9 +101,9 @@ nag_read n small =
       no_tag = refl;
       lexes = λ more stop.
           let ends : ends_run is_ascii_digit more ≡ true = stops_run is_ascii_digit more (stop refl) refl refl refl in
-          (λ i. lexed_as (nag_of (decimal_read 255 (front_run is_ascii_digit (decimal n) more digits ends i)))
+          (λ i. lexed_as (unwrap_or (option_map token.nag (decimal_read 255 (front_run is_ascii_digit (decimal n) more digits ends i))) token.bad)
           (behind_run is_ascii_digit (decimal n) more digits ends i))
-          ∙ ap (λ v. lexed_as (nag_of v) more) value;
+          ∙ ap (λ v. lexed_as (unwrap_or (option_map token.nag v) token.bad) more) value;
     }
 
 -- ---- numbers and moves
@@ -140,8 +141,8 @@ second a b x y z p q = rw p rw q refl
 third : (a b c : Bool) (x y z w : Lexed) → a ≡ false → b ≡ false → c ≡ true → cond a x (cond b y (cond c z w)) ≡ z
 third a b c x y z w p q r = rw p rw q rw r refl
 
-by_move : (b : ℕ) (text more : List ℕ) → is_glyph b ≡ false → is_ascii_digit b ≡ false → is_move_byte b ≡ true → by_kind b text more ≡ move_from text
-by_move b text more p q r = third (is_glyph b) (is_ascii_digit b) (is_move_byte b) _ _ (move_from text) _ p q r
+by_move : (b : ℕ) (text more : List ℕ) → is_glyph b ≡ false → is_ascii_digit b ≡ false → is_move_byte b ≡ true → by_kind b text more ≡ run_from is_move_byte token.move text
+by_move b text more p q r = third (is_glyph b) (is_ascii_digit b) (is_move_byte b) _ _ (run_from is_move_byte token.move text) _ p q r
 
 by_digit : (b : ℕ) (text more : List ℕ) → is_glyph b ≡ false → is_ascii_digit b ≡ true → by_kind b text more ≡ digit_from text
 by_digit b text more p q = second (is_glyph b) (is_ascii_digit b) _ (digit_from text) _ p q

@@ -1,7 +1,7 @@
 -- The kinds of bytes of which tokens are made, and runs of them (PGN standard, 7).
 use Rattle.std.specs.Prelude.{ℕ, ◌==◌, nat_le, Bool, true, false, not, ◌&&◌, ◌||◌, if◌then◌else◌, List, [], ◌∷◌}
 use Rattle.std.specs.List.{list_any}
-use Rattle.std.specs.Char.{is_ascii_digit}
+use Rattle.std.specs.Char.{is_ascii_alphabetic, is_ascii_digit}
 use Rattle.game_tree.specs.TagName.{is_tag_byte}
 use Rattle.pgn_read.specs.declared.run.Run.{Run}
 use Rattle.pgn_read.specs.declared.run.Run.TheVariants as run
@@ -10,14 +10,10 @@ use Rattle.pgn_read.specs.declared.run.Run.TheVariants as run
 abbrev pub is_white : ℕ → Bool
 is_white byte = (byte == 32) || (nat_le 9 byte && nat_le byte 13)
 
--- A letter of the alphabet.
-abbrev pub is_letter : ℕ → Bool
-is_letter byte = (nat_le 65 byte && nat_le byte 90) || (nat_le 97 byte && nat_le byte 122)
-
 -- A byte of a move's text: a letter, a digit, or one of `+ # = - :` (PGN standard, 8.2.3, and this project's own).
 abbrev pub is_move_byte : ℕ → Bool
 is_move_byte byte =
-    is_letter byte || is_ascii_digit byte
+    is_ascii_alphabetic byte || is_ascii_digit byte
     || (byte == 43) || (byte == 35) || (byte == 61) || (byte == 45) || (byte == 58)
 
 -- A byte of a suffix: `!` or `?` (PGN standard, 8.2.3.8).

@@ -34,12 +34,9 @@ resumed place room (byte ∷ bytes) =
     if begins_game place room (byte ∷ bytes) then here place room (byte ∷ bytes)
     else resumed (next_place place byte) (room - 1) bytes
 
-abbrev pub resumed_at : At → At
-resumed_at a = resumed a.place a.room a.bytes
-
 abbrev pub faulty : GameWhat → At → Next
 faulty what a =
-    next (Some (Bad (record { line = a.place.line; column = a.place.column; what = what }))) (resumed_at a)
+    next (Some (Bad (record { line = a.place.line; column = a.place.column; what = what }))) (resumed a.place a.room a.bytes)
 
 -- ---- the tokens of an item
 
@@ -75,22 +72,19 @@ item_from r (spot ∷ more) = by_effect r spot.at (λ s. item_from s more) (effe
 abbrev pub all_spots : At → List Spot
 all_spots a = spots (suc (length a.bytes)) a
 
--- The item from here on, behind what was read.
-abbrev pub item_at : Reading → At → Next
-item_at r a = item_from r (all_spots a)
-
 -- ---- items
 
 -- The first token of an item, from whose first byte its length counts.
-abbrev pub whole_room : At → At
-whole_room a = here a.place longest a.bytes
-
 abbrev pub first_token : At → At
-first_token a = whole_room (skipped (behind_mark a))
+first_token a = record (skipped (behind_mark a)) { room = longest }
 
 -- The next item from here on.
 unfoldable pub next_item : At → Next
-next_item a = item_at unread (first_token a)
+next_item a = item_from unread (all_spots (first_token a))
+
+-- The item from here on, behind what was read.
+abbrev pub item_at : Reading → At → Next
+item_at r a = item_from r (all_spots a)
 
 -- The items from here on, to the end of the text.
 abbrev pub AreItems : At → List Item → Type 0

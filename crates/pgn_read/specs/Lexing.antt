@@ -1,5 +1,6 @@
 -- The token at a place of a text: each is told by its first byte, but for what begins with a digit (PGN standard, 7 and 8.2).
-use Rattle.std.specs.Prelude.{ℕ, ◌-◌, ◌==◌, not, if◌then◌else◌, List, [], ◌∷◌, length, take, drop, slice_index_or, Option, Some, None, codes}
+use Rattle.std.specs.Prelude.{ℕ, ◌-◌, ◌==◌, Bool, not, if◌then◌else◌, List, [], ◌∷◌, length, take, drop, slice_index_or, option_map, codes}
+use Rattle.std.specs.Option.{unwrap_or}
 use Rattle.std.specs.Str.{bytes_eq}
 use Rattle.std.specs.Char.{is_ascii_digit}
 use Rattle.game_tree.specs.declared.head.Outcome.TheVariants.{White, Black, Draw, Unknown}
@@ -7,6 +8,10 @@ use Rattle.game_tree.specs.Decimal.{decimal_read}
 use Rattle.pgn_read.specs.Bytes.{is_move_byte, is_glyph, is_dot, has_zero, front, behind, begins}
 use Rattle.pgn_read.specs.Token.{Token, comment, open_comment, nag, opens, closes, ending, number, move, bad, the_end, Lexed, lexed_as}
 use Rattle.pgn_read.specs.TagText.{tag_from}
+
+-- A run of such bytes makes a token.
+abbrev pub run_from : (ℕ → Bool) → (List ℕ → Token) → List ℕ → Lexed
+run_from test make text = lexed_as (make (front test text)) (behind test text)
 
 -- No byte of a comment is zero.
 abbrev pub comment_of : List ℕ → Token
@@ -20,21 +25,9 @@ braced text (brace ∷ rest) = lexed_as (comment_of text) rest
 abbrev pub brace_from : List ℕ → Lexed
 brace_from text = braced (front (λ byte. not (byte == 125)) text) (behind (λ byte. not (byte == 125)) text)
 
--- A comment to the end of its line, from behind the semicolon, without a last carriage return (PGN standard, 5).
+-- A comment to the end of its line has no last carriage return (PGN standard, 5).
 unfoldable pub without_return : List ℕ → List ℕ
 without_return text = if slice_index_or text (length text - 1) 0 == 13 then take (length text - 1) text else text
-
-abbrev pub line_from : List ℕ → Lexed
-line_from text =
-    lexed_as (comment_of (without_return (front (λ byte. not (byte == 10)) text))) (behind (λ byte. not (byte == 10)) text)
-
--- A NAG, from behind its sign: a number of 0 to 255 (PGN standard, 8.2.4).
-abbrev pub nag_of : Option ℕ → Token
-nag_of None = bad
-nag_of (Some n) = nag n
-
-abbrev pub nag_from : List ℕ → Lexed
-nag_from text = lexed_as (nag_of (decimal_read 255 (front is_ascii_digit text))) (behind is_ascii_digit text)
 
 -- A suffix stands for one of the first six NAGs (PGN standard, 8.2.3.8 and 10).
 unfoldable pub suffix_of : List ℕ → Token
@@ -46,13 +39,6 @@ suffix_of glyphs =
     else if bytes_eq glyphs (codes "!?") then nag 5
     else if bytes_eq glyphs (codes "?!") then nag 6
     else bad
-
-abbrev pub suffix_from : List ℕ → Lexed
-suffix_from text = lexed_as (suffix_of (front is_glyph text)) (behind is_glyph text)
-
--- The text of a move (PGN standard, 8.2.3).
-abbrev pub move_from : List ℕ → Lexed
-move_from text = lexed_as (move (front is_move_byte text)) (behind is_move_byte text)
 
 -- A number of a move with any dots, or dots alone (PGN standard, 8.2.2).
 abbrev pub number_from : List ℕ → Lexed
@@ -66,25 +52,26 @@ digit_from text =
     else if begins (codes "0-1") text then lexed_as (ending Black) (drop 3 text)
     else if begins (codes "1/2-1/2") text then lexed_as (ending Draw) (drop 7 text)
     else if begins (codes "1/2") text then lexed_as (ending Draw) (drop 3 text)
-    else if begins (codes "0-0") text then move_from text
+    else if begins (codes "0-0") text then run_from is_move_byte move text
     else number_from text
 
 -- What begins with one of many bytes.
 abbrev pub by_kind : ℕ → List ℕ → List ℕ → Lexed
 by_kind byte text behind_it =
-    if is_glyph byte then suffix_from text
+    if is_glyph byte then run_from is_glyph suffix_of text
     else if is_ascii_digit byte then digit_from text
-    else if is_move_byte byte then move_from text
+    else if is_move_byte byte then run_from is_move_byte move text
     else lexed_as bad behind_it
 
--- The token at the beginning of a text.
+-- The token at the beginning of a text. Behind a semicolon a comment goes to the end of its line (PGN standard, 5), behind a dollar
+-- sign stands a NAG, which is a number of 0 to 255 (8.2.4), and what begins with a letter is the text of a move (8.2.3).
 unfoldable pub lexed : List ℕ → Lexed
 lexed [] = lexed_as the_end []
 lexed (byte ∷ text) =
     if byte == 91 then tag_from text
     else if byte == 123 then brace_from text
-    else if byte == 59 then line_from text
-    else if byte == 36 then nag_from text
+    else if byte == 59 then run_from (λ byte. not (byte == 10)) (λ line. comment_of (without_return line)) text
+    else if byte == 36 then run_from is_ascii_digit (λ digits. unwrap_or (option_map nag (decimal_read 255 digits)) bad) text
     else if byte == 40 then lexed_as opens text
     else if byte == 41 then lexed_as closes text
     else if byte == 42 then lexed_as (ending Unknown) text

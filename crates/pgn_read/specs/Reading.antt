@@ -36,19 +36,9 @@ pub record Reading : Type 0 where
 abbrev pub turn_at : Setup → Turn
 turn_at p = record { before = p; now_at = p }
 
-abbrev pub turn_behind : Turn → Move → Turn
-turn_behind t m = record { before = t.now_at; now_at = stepped t.now_at m }
-
 -- Before the first token.
 abbrev pub unread : Reading
-unread = record {
-  tags = [];
-  in_moves = false;
-  start = start_setup;
-  moves = opening;
-  turn = turn_at start_setup;
-  outer = [];
-}
+unread = record { tags = []; in_moves = false; start = start_setup; moves = opening; turn = turn_at start_setup; outer = [] }
 
 -- What a token does: reading goes on in the same game, the game ends behind the token or before it, or the token is faulty.
 pub data Effect : Type 0 where
@@ -98,7 +88,7 @@ moving r = record r { in_moves = true }
 
 abbrev pub played : Move → Reading → Reading
 played m r =
-    record (moving r) { moves = added (item.move m) r.moves; turn = turn_behind r.turn m }
+    record (moving r) { moves = added (item.move m) r.moves; turn = record { before = r.turn.now_at; now_at = stepped r.turn.now_at m } }
 
 abbrev pub move_effect : Reading → Result Move SanFault → Effect
 move_effect r (Ok m) = goes_on (played m r)
@@ -114,37 +104,22 @@ closed_to r (turn ∷ outer) = goes_on (record (moving r) { moves = added item.c
 
 -- ---- a token
 
-abbrev pub commented : List ℕ → Reading → Reading
-commented text r = record r { moves = added (item.comment text) r.moves }
-
-abbrev pub nag_effect : ℕ → Reading → Effect
-nag_effect n r = if has_move r then goes_on (record (moving r) { moves = added (item.nag n) r.moves }) else is_faulty what.Token
-
-abbrev pub opens_effect : Reading → Effect
-opens_effect r =
-    if nat_le deepest (length r.outer) then is_faulty what.Depth
-    else if has_move r then goes_on (opened r) else is_faulty what.Token
-
--- An end mark inside a variation is skipped.
-abbrev pub ending_effect : Outcome → Reading → Effect
-ending_effect outcome r = if is_inside r then goes_on (moving r) else ends_behind outcome
-
-abbrev pub end_effect : Reading → Effect
-end_effect r = if is_inside r then is_faulty what.Paren else ends_before
-
+-- NAGs and variations belong to a move. An end mark inside a variation is skipped.
 unfoldable pub effect : Token → Reading → Effect
 effect (token.tag name value) r = at_tag r (tag_effect name value r)
 effect token.bad_tag r = at_tag r (is_faulty what.Tag)
-effect (token.comment text) r = goes_on (commented text r)
+effect (token.comment text) r = goes_on (record r { moves = added (item.comment text) r.moves })
 effect token.open_comment r = is_faulty what.Brace
-effect (token.nag n) r = nag_effect n r
-effect token.opens r = opens_effect r
+effect (token.nag n) r = if has_move r then goes_on (record (moving r) { moves = added (item.nag n) r.moves }) else is_faulty what.Token
+effect token.opens r =
+    if nat_le deepest (length r.outer) then is_faulty what.Depth
+    else if has_move r then goes_on (opened r) else is_faulty what.Token
 effect token.closes r = closed_to r r.outer
-effect (token.ending outcome) r = ending_effect outcome r
+effect (token.ending outcome) r = if is_inside r then goes_on (moving r) else ends_behind outcome
 effect token.number r = goes_on (moving r)
 effect (token.move text) r = move_effect r (san_answer r.turn.now_at text)
 effect token.bad r = is_faulty what.Token
-effect token.the_end r = end_effect r
+effect token.the_end r = if is_inside r then is_faulty what.Paren else ends_before
 
 -- A tag outside variations behind moves belongs to the next game, however long it is.
 abbrev pub is_next_game : Reading → List ℕ → Bool

@@ -1,5 +1,5 @@
 -- What the lexer's tokens say, and what the steps of a game's reading do. No public contract cites these words.
-use Rattle.std.specs.Prelude.{◌≡◌, ◌≤◌, [], length, All, ⊤}
+use Rattle.std.specs.Prelude.{◌≡◌, ◌≤◌, false, [], length, All, ⊤}
 use Rattle.cell_core.specs.Text.{IsZeroFree}
 use Rattle.game_tree.specs.TagName.{IsTagByte}
 use Rattle.pgn_read.specs.declared.step.End.{End}
@@ -11,10 +11,10 @@ use Rattle.pgn_read.specs.declared.token.Token.{Token as Borrowed}
 use Rattle.pgn_read.specs.declared.token.Token.TheVariants as borrowed
 use Rattle.pgn_read.specs.Token.{Token}
 use Rattle.pgn_read.specs.Token as token
-use Rattle.pgn_read.specs.TagText.{unescaped}
+use Rattle.pgn_read.specs.TagText.{unescaped_from}
 
 abbrev pub said : Borrowed → Token
-said (borrowed.Tag name raw) = token.tag name.now (unescaped raw.now)
+said (borrowed.Tag name raw) = token.tag name.now (unescaped_from false raw.now)
 said borrowed.BadTag = token.bad_tag
 said (borrowed.Comment text) = token.comment text.now
 said borrowed.OpenComment = token.open_comment

@@ -1,6 +1,6 @@
 -- Tags: `[`, a name, a value in quotation marks, and `]`, with white space between or without (PGN standard, 8.1). A tag that
 -- is malformed ends before the first byte that does not fit.
-use Rattle.std.specs.Prelude.{ℕ, ◌==◌, Bool, true, false, not, ◌&&◌, ◌||◌, if◌then◌else◌, List, [], ◌∷◌, ◌++◌}
+use Rattle.std.specs.Prelude.{ℕ, ◌==◌, Bool, true, false, not, ◌&&◌, ◌||◌, if◌then◌else◌, List, [], ◌∷◌, ◌++◌, drop}
 use Rattle.game_tree.specs.TagName.{is_tag_byte}
 use Rattle.pgn_read.specs.Bytes.{is_white, has_zero, front, behind}
 use Rattle.pgn_read.specs.Token.{tag, bad_tag, Lexed, lexed_as}
@@ -31,34 +31,24 @@ unescaped_from true [] = 92 ∷ []
 unescaped_from false [] = []
 unescaped_from escaped (byte ∷ text) = meant_by escaped byte ++ unescaped_from (escapes escaped byte) text
 
-abbrev pub unescaped : List ℕ → List ℕ
-unescaped raw = unescaped_from false raw
-
 -- From the closing bracket on. No byte of a tag is zero.
 abbrev pub closing : List ℕ → List ℕ → List ℕ → Lexed
 closing name raw [] = lexed_as bad_tag []
 closing name raw (byte ∷ text) =
-    if byte == 93 then lexed_as (if has_zero raw then bad_tag else tag name (unescaped raw)) text else lexed_as bad_tag (byte ∷ text)
-
--- From the closing quotation mark on.
-abbrev pub unquoting : List ℕ → List ℕ → List ℕ → Lexed
-unquoting name raw [] = lexed_as bad_tag []
-unquoting name raw (mark ∷ text) = closing name raw (behind is_white text)
+    if byte == 93 then lexed_as (if has_zero raw then bad_tag else tag name (unescaped_from false raw)) text else lexed_as bad_tag (byte ∷ text)
 
 -- From the opening quotation mark on.
 abbrev pub quoting : List ℕ → List ℕ → Lexed
 quoting name [] = lexed_as bad_tag []
 quoting name (byte ∷ text) =
-    if byte == 34 then unquoting name (raw_value false text) (behind_value false text) else lexed_as bad_tag (byte ∷ text)
+    if byte == 34 then closing name (raw_value false text) (behind is_white (drop 1 (behind_value false text)))
+    else lexed_as bad_tag (byte ∷ text)
 
 -- From behind the name, which has at least one byte.
 abbrev pub naming : List ℕ → List ℕ → Lexed
 naming [] text = lexed_as bad_tag text
 naming (byte ∷ name) text = quoting (byte ∷ name) (behind is_white text)
 
--- From the name on, and from behind the opening bracket on.
-abbrev pub named : List ℕ → Lexed
-named text = naming (front is_tag_byte text) (behind is_tag_byte text)
-
+-- From behind the opening bracket on.
 abbrev pub tag_from : List ℕ → Lexed
-tag_from text = named (behind is_white text)
+tag_from text = naming (front is_tag_byte (behind is_white text)) (behind is_tag_byte (behind is_white text))

@@ -1,5 +1,5 @@
 -- A text as a list of tokens, each where it stands (PGN standard, 7).
-use Rattle.std.specs.Prelude.{ℕ, zero, suc, ◌+◌, ◌-◌, ◌*◌, ◌==◌, Bool, false, not, ◌&&◌, ◌||◌, if◌then◌else◌, List, [], ◌∷◌, take, drop}
+use Rattle.std.specs.Prelude.{ℕ, zero, suc, ◌+◌, ◌-◌, ◌*◌, ◌==◌, nat_lt, Bool, false, not, ◌&&◌, ◌||◌, if◌then◌else◌, List, [], ◌∷◌, length, take, drop}
 use Rattle.pgn_read.specs.declared.place.Place.{Place}
 use Rattle.pgn_read.specs.Place.{next_place, place_behind}
 use Rattle.pgn_read.specs.Bytes.{is_white, begins}
@@ -43,18 +43,12 @@ behind_gap inside place room (byte ∷ bytes) =
 abbrev pub byte_order_mark : List ℕ
 byte_order_mark = 239 ∷ 187 ∷ 191 ∷ []
 
-abbrev pub is_first : Place → Bool
-is_first place = (place.line == 1) && (place.column == 1)
-
 abbrev pub behind_mark : At → At
-behind_mark a = if is_first a.place && begins byte_order_mark a.bytes then passed 3 a else a
+behind_mark a = if ((a.place.line == 1) && (a.place.column == 1)) && begins byte_order_mark a.bytes then passed 3 a else a
 
 -- From here on, behind white space and skipped lines.
-abbrev pub gap_behind : Bool → At → At
-gap_behind inside a = behind_gap inside a.place a.room a.bytes
-
 abbrev pub skipped : At → At
-skipped a = gap_behind false a
+skipped a = behind_gap false a.place a.room a.bytes
 
 -- A token with its number of bytes, where it stands.
 pub record Spot : Type 0 where
@@ -73,10 +67,6 @@ abbrev pub next_at : At → At
 next_at a = skipped (behind_token a)
 
 -- At most so many tokens, the first of them here. The last one is the end of the text.
-abbrev pub unless_end : List ℕ → List Spot → List Spot
-unless_end [] more = []
-unless_end (byte ∷ bytes) more = more
-
 unfoldable pub spots : ℕ → At → List Spot
 spots zero a = []
-spots (suc n) a = spot_at a ∷ unless_end a.bytes (spots n (next_at a))
+spots (suc n) a = spot_at a ∷ (if nat_lt 0 (length a.bytes) then spots n (next_at a) else [])

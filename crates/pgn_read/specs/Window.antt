@@ -8,10 +8,18 @@ use Rattle.pgn_read.specs.declared.step.Untaken.{Untaken}
 use Rattle.pgn_read.specs.declared.step.Untaken.TheVariants as untaken
 use Rattle.pgn_read.specs.Place.{place_behind}
 use Rattle.pgn_read.specs.Lexing.{lexed, size}
-use Rattle.pgn_read.specs.Text.{At, here, behind_token, longest}
+use Rattle.pgn_read.specs.Text.{At, here, behind_gap, behind_token, longest}
 use Rattle.pgn_read.specs.Reading.{Reading}
-use Rattle.pgn_read.specs.Items.{Next, ended, ended_before, faulty}
+use Rattle.pgn_read.specs.Items.{Next, ended, ended_before, faulty, resumed}
 use Rattle.pgn_read.specs.Readers.{Window}
+
+-- From here on, behind the rest of a gap, inside or outside of a line that is skipped.
+abbrev pub gap_behind : Bool → At → At
+gap_behind inside a = behind_gap inside a.place a.room a.bytes
+
+-- From the line on which reading goes on behind a fault here.
+abbrev pub resumed_at : At → At
+resumed_at a = resumed a.place a.room a.bytes
 
 -- What the window has tells the token at its front, or that it is too long.
 abbrev pub Decides : Window → Type 0

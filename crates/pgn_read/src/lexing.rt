@@ -1,9 +1,13 @@
 //! The token at the beginning of a text.
-ghost use Rattle.std.specs.Prelude.{◌≡◌, ◌≤◌, length, drop, IfSome};
-ghost use Rattle.pgn_read.specs.Bytes.{has_zero};
+ghost use Rattle.std.specs.Prelude.{◌≡◌, ◌≤◌, ◌==◌, not, length, drop, option_map, IfSome};
+ghost use Rattle.std.specs.Char.{is_ascii_digit};
+ghost use Rattle.std.specs.Option.{unwrap_or};
+ghost use Rattle.game_tree.specs.Decimal.{decimal_read};
+ghost use Rattle.pgn_read.specs.Bytes.{behind, has_zero, is_glyph, is_move_byte};
 ghost use Rattle.pgn_read.specs.Clear.{IsClear};
 ghost use Rattle.pgn_read.specs.Said.{said};
-ghost use Rattle.pgn_read.specs.Lexing.{lexed, by_kind, comment_of, braced, brace_from, without_return, line_from, nag_of, nag_from, suffix_of, suffix_from, move_from, number_from, digit_from};
+ghost use Rattle.pgn_read.specs.Token as token;
+ghost use Rattle.pgn_read.specs.Lexing.{lexed, by_kind, comment_of, braced, brace_from, without_return, suffix_of, run_from, number_from, digit_from};
 
 use crate::clear::Clear;
 use crate::run::{
@@ -107,8 +111,8 @@ fn brace_from(text: &[u8], clear: Clear) -> Lexed<'_>
 
 // A comment to the end of its line, from behind the semicolon on.
 fn line_from(text: &[u8]) -> Lexed<'_>
-    ensures token { said result.token ≡ (line_from text.now).token }
-    ensures rest { result.rest.now ≡ (line_from text.now).rest }
+    ensures token { said result.token ≡ (run_from (λ byte. not (byte == 10)) (λ line. comment_of (without_return line)) text.now).token }
+    ensures rest { result.rest.now ≡ behind (λ byte. not (byte == 10)) text.now }
 {
     let (text, rest) = split_run(Run::ToFeed, text);
     Lexed {
@@ -130,8 +134,8 @@ fn without_return(text: &[u8]) -> &[u8]
 
 // A NAG, from behind its sign on.
 fn nag_from(text: &[u8]) -> Lexed<'_>
-    ensures token { said result.token ≡ (nag_from text.now).token }
-    ensures rest { result.rest.now ≡ (nag_from text.now).rest }
+    ensures token { said result.token ≡ (run_from is_ascii_digit (λ digits. unwrap_or (option_map token.nag (decimal_read 255 digits)) token.bad) text.now).token }
+    ensures rest { result.rest.now ≡ behind is_ascii_digit text.now }
 {
     let (digits, rest) = split_run(Run::Digits, text);
     Lexed {
@@ -142,7 +146,7 @@ fn nag_from(text: &[u8]) -> Lexed<'_>
 
 fn nag_of(number: Option<u64>) -> Token<'static>
     requires { IfSome number (λ n. n ≤ 255) }
-    ensures { said result ≡ nag_of number }
+    ensures { said result ≡ unwrap_or (option_map token.nag number) token.bad }
 {
     match number {
         Some(n) => Token::Nag(n as u8),
@@ -152,8 +156,8 @@ fn nag_of(number: Option<u64>) -> Token<'static>
 
 // A suffix.
 fn suffix_from(text: &[u8]) -> Lexed<'_>
-    ensures token { said result.token ≡ (suffix_from text.now).token }
-    ensures rest { result.rest.now ≡ (suffix_from text.now).rest }
+    ensures token { said result.token ≡ (run_from is_glyph suffix_of text.now).token }
+    ensures rest { result.rest.now ≡ behind is_glyph text.now }
 {
     let (glyphs, rest) = split_run(Run::Glyphs, text);
     Lexed {
@@ -190,8 +194,8 @@ fn suffix_of(glyphs: &[u8]) -> Token<'static>
 
 // The text of a move.
 fn move_from(text: &[u8]) -> Lexed<'_>
-    ensures token { said result.token ≡ (move_from text.now).token }
-    ensures rest { result.rest.now ≡ (move_from text.now).rest }
+    ensures token { said result.token ≡ (run_from is_move_byte token.move text.now).token }
+    ensures rest { result.rest.now ≡ behind is_move_byte text.now }
 {
     let (text, rest) = split_run(Run::Move, text);
     Lexed {

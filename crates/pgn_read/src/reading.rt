@@ -1,17 +1,17 @@
 //! A game while its tokens are read.
-ghost use Rattle.std.specs.Prelude.{◌≡◌, ◌==◌, ◌++◌, ◌∷◌, [], All, IfOk, OnOk, OnErr, IsTrue, slice_index_or, codes};
+ghost use Rattle.std.specs.Prelude.{◌≡◌, ◌==◌, ◌++◌, ◌∷◌, false, [], All, IfOk, OnOk, OnErr, IsTrue, slice_index_or, codes};
 ghost use Rattle.cell_core.specs.Text.{IsZeroFree};
 ghost use Rattle.pgn_read.specs.Legality.{IsLegal};
 ghost use Rattle.pgn_read.specs.Fit.{IsFit};
 ghost use Rattle.pgn_read.specs.Said.{said, said_step, StepsWell, IsBalanced, IsSound};
-ghost use Rattle.pgn_read.specs.TagText.{unescaped};
+ghost use Rattle.pgn_read.specs.TagText.{unescaped_from};
 ghost use Rattle.pgn_read.specs.Token as token;
 ghost use Rattle.chess_laws.specs.Step.{Legal};
 ghost use Rattle.chess_text.specs.SanAnswer.{san_answer};
 ghost use Rattle.chess_text.specs.FenAnswer.{fen_answer};
 ghost use Rattle.pgn_read.specs.declared.item.GameWhat.TheVariants as what;
 ghost use Rattle.pgn_read.specs.Heads.{head_from, IsReadTag};
-ghost use Rattle.pgn_read.specs.Reading.{unread, is_inside, has_move, with_tag, starting, fen_effect, tag_effect, at_tag, goes_on, is_faulty, commented, nag_effect, opens_effect, opened, closed_to, ending_effect, move_effect, end_effect, effect, is_next_game, is_game, game_of};
+ghost use Rattle.pgn_read.specs.Reading.{unread, is_inside, has_move, with_tag, starting, fen_effect, tag_effect, at_tag, goes_on, is_faulty, opened, closed_to, move_effect, effect, is_next_game, is_game, game_of};
 
 use crate::field::Name;
 use crate::heads::{head_from, text_of};
@@ -146,9 +146,9 @@ impl Reading {
 
     // A tag.
     fn take_tag(&mut self, alloc: Global, name: &[u8], raw: &[u8]) -> Result<Step, AllocError>
-        requires sound { IsSound (token.tag name.now (unescaped raw.now)) }
+        requires sound { IsSound (token.tag name.now (unescaped_from false raw.now)) }
         requires balanced { IsBalanced self.old }
-        ensures effect { IfOk result (λ step. said_step step self.new ≡ at_tag self.old (tag_effect name.now (unescaped raw.now) self.old)) }
+        ensures effect { IfOk result (λ step. said_step step self.new ≡ at_tag self.old (tag_effect name.now (unescaped_from false raw.now) self.old)) }
         ensures well { IfOk result (λ step. StepsWell step self.old self.new) }
         ensures balanced { OnOk result (IsBalanced self.new) }
     {
@@ -227,10 +227,11 @@ impl Reading {
     }
 
     // A comment.
+    #[tactic(auto, unfolding(crate::specs::Reading::effect))]
     fn take_comment(&mut self, alloc: Global, text: &[u8]) -> Result<Step, AllocError>
         requires sound { IsZeroFree text.now }
         requires balanced { IsBalanced self.old }
-        ensures effect { IfOk result (λ step. said_step step self.new ≡ goes_on (commented text.now self.old)) }
+        ensures effect { IfOk result (λ step. said_step step self.new ≡ effect (token.comment text.now) self.old) }
         ensures well { IfOk result (λ step. StepsWell step self.old self.new) }
         ensures balanced { OnOk result (IsBalanced self.new) }
     {
@@ -240,9 +241,10 @@ impl Reading {
     }
 
     // A NAG, which belongs to a move.
+    #[tactic(auto, unfolding(crate::specs::Reading::effect))]
     fn take_nag(&mut self, alloc: Global, n: u8) -> Result<Step, AllocError>
         requires balanced { IsBalanced self.old }
-        ensures effect { IfOk result (λ step. said_step step self.new ≡ nag_effect n self.old) }
+        ensures effect { IfOk result (λ step. said_step step self.new ≡ effect (token.nag n) self.old) }
         ensures well { IfOk result (λ step. StepsWell step self.old self.new) }
         ensures balanced { OnOk result (IsBalanced self.new) }
     {
@@ -255,9 +257,10 @@ impl Reading {
     }
 
     // The beginning of a variation of the last move.
+    #[tactic(auto, unfolding(crate::specs::Reading::effect))]
     fn open(&mut self, alloc: Global) -> Result<Step, AllocError>
         requires balanced { IsBalanced self.old }
-        ensures effect { IfOk result (λ step. said_step step self.new ≡ opens_effect self.old) }
+        ensures effect { IfOk result (λ step. said_step step self.new ≡ effect token.opens self.old) }
         ensures well { IfOk result (λ step. StepsWell step self.old self.new) }
         ensures balanced { OnOk result (IsBalanced self.new) }
     {
@@ -301,9 +304,10 @@ impl Reading {
     }
 
     // An end mark, which is skipped inside a variation.
+    #[tactic(auto, unfolding(crate::specs::Reading::effect))]
     fn take_ending(&mut self, outcome: Outcome) -> Step
         requires balanced { IsBalanced self.old }
-        ensures effect { said_step result self.new ≡ ending_effect outcome self.old }
+        ensures effect { said_step result self.new ≡ effect (token.ending outcome) self.old }
         ensures well { StepsWell result self.old self.new }
         ensures balanced { IsBalanced self.new }
     {
@@ -333,8 +337,9 @@ impl Reading {
     }
 
     // The end of the text.
+    #[tactic(auto, unfolding(crate::specs::Reading::effect))]
     fn take_end(&self) -> Step
-        ensures effect { said_step result self.now ≡ end_effect self.now }
+        ensures effect { said_step result self.now ≡ effect token.the_end self.now }
         ensures well { StepsWell result self.now self.now }
     {
         if self.is_inside() {

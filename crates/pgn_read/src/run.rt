@@ -1,10 +1,11 @@
 //! Runs of bytes of one kind.
 ghost use Rattle.std.specs.Prelude.{◌≡◌, ◌==◌, ◌∷◌, true, false, ℕ, Bool, List, MatchOption};
+ghost use Rattle.std.specs.Char.{is_ascii_alphabetic};
 ghost use Rattle.std.specs.List.{list_any};
 ghost use Rattle.pgn_read.specs.declared.run.Run.TheVariants as run;
 ghost use Rattle.pgn_read.specs.Classes.{tells};
 ghost use Rattle.pgn_read.specs.Clear.{BeginsWith};
-ghost use Rattle.pgn_read.specs.Bytes.{is_of, is_white, is_letter, is_move_byte, is_glyph, front, behind, begins, has_zero};
+ghost use Rattle.pgn_read.specs.Bytes.{is_of, is_white, is_move_byte, is_glyph, front, behind, begins, has_zero};
 
 // The classes of bytes, as they are summed up in the table.
 const WHITE: u8 = 1;
@@ -126,7 +127,7 @@ pub(crate) fn is_move_byte(byte: u8) -> bool
 }
 
 fn is_letter(byte: u8) -> bool
-    ensures letter { result ≡ is_letter byte }
+    ensures letter { result ≡ is_ascii_alphabetic byte }
 {
     (b'A' <= byte && byte <= b'Z') || (b'a' <= byte && byte <= b'z')
 }

@@ -1,8 +1,9 @@
 //! Tags as they are read.
-ghost use Rattle.std.specs.Prelude.{◌≡◌, ◌==◌, ◌++◌, false, IfOk, OnOk};
+ghost use Rattle.std.specs.Prelude.{◌≡◌, ◌==◌, ◌++◌, drop, false, IfOk, OnOk};
 ghost use Rattle.std.specs.List.{list_any};
+ghost use Rattle.pgn_read.specs.Bytes.{behind, is_white};
 ghost use Rattle.pgn_read.specs.Said.{said};
-ghost use Rattle.pgn_read.specs.TagText.{raw_value, behind_value, ends_value, escapes, meant_by, unescaped, closing, unquoting, quoting, naming, tag_from};
+ghost use Rattle.pgn_read.specs.TagText.{raw_value, behind_value, ends_value, escapes, meant_by, unescaped_from, closing, quoting, naming, tag_from};
 
 use crate::run::{Run, has_zero, split_run};
 use crate::token::{Lexed, Token};
@@ -46,8 +47,8 @@ fn quoting<'a>(name: &'a [u8], text: &'a [u8]) -> Lexed<'a>
 
 // From the closing quotation mark on.
 fn unquoting<'a>(name: &'a [u8], raw: &'a [u8], text: &'a [u8]) -> Lexed<'a>
-    ensures token { said result.token ≡ (unquoting name.now raw.now text.now).token }
-    ensures rest { result.rest.now ≡ (unquoting name.now raw.now text.now).rest }
+    ensures token { said result.token ≡ (closing name.now raw.now (behind is_white (drop 1 text.now))).token }
+    ensures rest { result.rest.now ≡ (closing name.now raw.now (behind is_white (drop 1 text.now))).rest }
 {
     match text {
         [_, text @ ..] => {
@@ -120,7 +121,7 @@ fn escapes(escaped: bool, byte: u8) -> bool
 /// The value that these bytes are, without its escapes. Most values have none.
 #[tactic(auto, using(crate::proofs::EscapeLaws::no_escapes))]
 pub(crate) fn unescaped(alloc: Global, raw: &[u8]) -> Result<Vec<u8>, AllocError>
-    ensures value { IfOk result (λ value. value.items ≡ unescaped raw.now) }
+    ensures value { IfOk result (λ value. value.items ≡ unescaped_from false raw.now) }
 {
     if has_backslash(raw) {
         return without_escapes(alloc, raw);
@@ -137,7 +138,7 @@ fn has_backslash(raw: &[u8]) -> bool
 
 // The value, byte by byte.
 fn without_escapes(alloc: Global, raw: &[u8]) -> Result<Vec<u8>, AllocError>
-    ensures value { IfOk result (λ value. value.items ≡ unescaped raw.now) }
+    ensures value { IfOk result (λ value. value.items ≡ unescaped_from false raw.now) }
 {
     let mut value = Vec::with_capacity(alloc, raw.len())?;
     let mut escaped = false;

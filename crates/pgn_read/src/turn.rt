@@ -1,6 +1,6 @@
 //! Places in lines of moves.
 ghost use Rattle.std.specs.Prelude.{◌≡◌};
-ghost use Rattle.pgn_read.specs.Reading.{turn_at, turn_behind};
+ghost use Rattle.pgn_read.specs.Reading.{turn_at};
 ghost use Rattle.chess_laws.specs.Step.{Legal, stepped};
 
 use cell_core::Move;
@@ -27,7 +27,7 @@ impl Turn {
     /// Plays a legal move.
     pub(crate) fn play(&mut self, m: &Move)
         requires legal { Legal self.old.now_at m.now }
-        ensures played { self.new ≡ turn_behind self.old m.now }
+        ensures played { self.new ≡ record { before = self.old.now_at; now_at = stepped self.old.now_at m.now } }
     {
         self.before = self.now_at;
         play(&mut self.now_at, m);

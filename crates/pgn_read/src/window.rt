@@ -1,16 +1,16 @@
 //! The bytes of a source that were read and not yet taken.
-ghost use Rattle.std.specs.Prelude.{◌≡◌, ◌≤◌, ◌<◌, ◌+◌, ◌-◌, ◌∷◌, ◌⊎◌, ℕ, List, None, IfSome, OnSome, ◌&&◌, slice_index_or, [], length, take, drop, option_map, true, false, IfOk, IfErr, OnOk, OnErr, IsTrue, MatchOption};
+ghost use Rattle.std.specs.Prelude.{◌≡◌, ◌≤◌, ◌<◌, ◌+◌, ◌-◌, ◌==◌, ◌∷◌, ◌⊎◌, ℕ, List, None, IfSome, OnSome, ◌&&◌, slice_index_or, [], length, take, drop, option_map, true, false, IfOk, IfErr, OnOk, OnErr, IsTrue, MatchOption};
 ghost use Rattle.base_files.specs.Told.{before, Tells};
 ghost use Rattle.std.specs.Bool.{OnTrue, OnFalse};
 ghost use Rattle.pgn_read.specs.Bytes.{begins};
 ghost use Rattle.pgn_read.specs.Causes.{HasCause};
-ghost use Rattle.pgn_read.specs.Items.{begins_game, resumed_at};
+ghost use Rattle.pgn_read.specs.Items.{begins_game};
 ghost use Rattle.pgn_read.specs.Lexing.{lexed};
 ghost use Rattle.pgn_read.specs.Place.{next_place, place_behind, first_place};
-ghost use Rattle.pgn_read.specs.Text.{longest, most_ahead, gap_behind, skipped, is_first, byte_order_mark, behind_mark, on_remark};
+ghost use Rattle.pgn_read.specs.Text.{longest, most_ahead, skipped, byte_order_mark, behind_mark, on_remark};
 ghost use Rattle.pgn_read.specs.Clear.{IsClear};
 ghost use Rattle.pgn_read.specs.Readers.{with_more, ahead};
-ghost use Rattle.pgn_read.specs.Window.{waiting, Decides};
+ghost use Rattle.pgn_read.specs.Window.{gap_behind, resumed_at, waiting, Decides};
 
 use crate::buffer::Buffer;
 use crate::clear::Clear;
@@ -300,7 +300,7 @@ impl Window {
 
     // Whether this is the beginning of a text, and has a byte order mark.
     fn has_mark(&self) -> bool
-        ensures mark { result ≡ is_first self.now.place && begins byte_order_mark self.now.unread }
+        ensures mark { result ≡ ((self.now.place.line == 1) && (self.now.place.column == 1)) && begins byte_order_mark self.now.unread }
     {
         self.place.line == 1 && self.place.column == 1 && begins(b"\xef\xbb\xbf", self.unread())
     }

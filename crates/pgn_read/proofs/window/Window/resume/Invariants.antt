@@ -1,6 +1,6 @@
 use Rattle.std.proofs.Common.{◌≡◌, ◌≤◌, ◌+◌, length, IsTrue, [], option_map}
 use Rattle.base_files.specs.Told.{Tells}
-use Rattle.pgn_read.specs.Items.{resumed_at}
+use Rattle.pgn_read.specs.Window.{resumed_at}
 use Rattle.pgn_read.specs.Readers.{ahead}
 use Rattle.pgn_read.proofs.window.Window.resume.Given as goal
 

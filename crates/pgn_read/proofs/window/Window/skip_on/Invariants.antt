@@ -1,6 +1,6 @@
 use Rattle.std.proofs.Common.{◌≡◌, ◌≤◌, ◌+◌, length, IsTrue, [], false, option_map}
 use Rattle.base_files.specs.Told.{Tells}
-use Rattle.pgn_read.specs.Text.{gap_behind}
+use Rattle.pgn_read.specs.Window.{gap_behind}
 use Rattle.pgn_read.specs.Readers.{ahead}
 use Rattle.pgn_read.proofs.window.Window.skip_on.Given as goal
 
