@@ -187,19 +187,19 @@ compact-carry holding seen s false st = carry_later holding seen s s (order_left
 public-carry : (w : Window) (order : Order) (body : List ℕ) (holding : Holding) (seen : Seen) (s : State) → is_private (order_kind order) ≡ false → Stands holding seen ((tasks w).after s (task order body)) → StillCarry seen s (order_left order)
 public-carry w (Ok Save) body holding seen s e st = saved-carry holding seen s body w st
 public-carry w (Ok Compact) body holding seen s e st = compact-carry holding seen s (is_within s.shared.base) st
-public-carry w (Ok (Import word)) body holding seen s e st = carry_later holding seen s _ _ (carried-items (none_taken s) (items_of body)) st
-public-carry w (Ok (Replace game word)) body holding seen s e st = carry_later holding seen s _ _ (carried-with s game (the_new s game body)) st
-public-carry w (Ok (Eco word)) body holding seen s e st = carry_later holding seen s _ _ (carried-classified s (table_of body)) st
-public-carry w (Ok (Tag game edit)) body holding seen s e st = carry_later holding seen s _ _ (carried-tagged game edit s (slice_get s.shared.base.games game)) st
-public-carry w (Ok (Delete game)) body holding seen s e st = carry_later holding seen s _ _ (carried-there (deleted game) s (slice_get s.shared.base.games game)) st
-public-carry w (Ok (Undelete game)) body holding seen s e st = carry_later holding seen s _ _ (carried-there (undeleted game) s (slice_get s.shared.base.games game)) st
-public-carry w (Ok (Mark game bit on)) body holding seen s e st = carry_later holding seen s _ _ (carried-there (marked game bit on) s (slice_get s.shared.base.games game)) st
-public-carry w (Ok (Twins depth)) body holding seen s e st = carry_later holding seen s _ _ (carried-deleted s (found_twins s depth)) st
-public-carry w (Ok (Index (Some depth))) body holding seen s e st = carry_later holding seen s _ _ (carried-indexed s (is_too_big s depth) depth) st
-public-carry w (Ok (Index None)) body holding seen s e st = carry_later holding seen s _ _ refl st
+public-carry w (Ok (Import word)) body holding seen s e st = carry_later holding seen s _ (order_left (Ok (Import word))) (carried-items (none_taken s) (items_of body)) st
+public-carry w (Ok (Replace game word)) body holding seen s e st = carry_later holding seen s _ (order_left (Ok (Replace game word))) (carried-with s game (the_new s game body)) st
+public-carry w (Ok (Eco word)) body holding seen s e st = carry_later holding seen s _ (order_left (Ok (Eco word))) (carried-classified s (table_of body)) st
+public-carry w (Ok (Tag game edit)) body holding seen s e st = carry_later holding seen s _ (order_left (Ok (Tag game edit))) (carried-tagged game edit s (slice_get s.shared.base.games game)) st
+public-carry w (Ok (Delete game)) body holding seen s e st = carry_later holding seen s _ (order_left (Ok (Delete game))) (carried-there (deleted game) s (slice_get s.shared.base.games game)) st
+public-carry w (Ok (Undelete game)) body holding seen s e st = carry_later holding seen s _ (order_left (Ok (Undelete game))) (carried-there (undeleted game) s (slice_get s.shared.base.games game)) st
+public-carry w (Ok (Mark game bit on)) body holding seen s e st = carry_later holding seen s _ (order_left (Ok (Mark game bit on))) (carried-there (marked game bit on) s (slice_get s.shared.base.games game)) st
+public-carry w (Ok (Twins depth)) body holding seen s e st = carry_later holding seen s _ (order_left (Ok (Twins depth))) (carried-deleted s (found_twins s depth)) st
+public-carry w (Ok (Index (Some depth))) body holding seen s e st = carry_later holding seen s _ (order_left (Ok (Index (Some depth)))) (carried-indexed s (is_too_big s depth) depth) st
+public-carry w (Ok (Index None)) body holding seen s e st = carry_later holding seen s _ (order_left (Ok (Index None))) refl st
 public-carry w (Ok (Demo seed games)) body holding seen s e st =
-    carry_later holding seen s _ _ (carried-shown (adding s seed games).refused (adding s seed games).state ∙ adding_carried s seed games) st
-public-carry w (Ok Quit) body holding seen s e st = carry_later holding seen s _ _ refl st
+    carry_later holding seen s _ (order_left (Ok (Demo seed games))) (carried-shown (adding s seed games).refused (adding s seed games).state ∙ adding_carried s seed games) st
+public-carry w (Ok Quit) body holding seen s e st = carry_later holding seen s _ (order_left (Ok Quit)) refl st
 public-carry w _ body holding seen s e st = absurd cc
 
 private-carry : (w : Window) (order : Order) (body : List ℕ) (holding : Holding) (seen : Seen) (s : State) → is_private (order_kind order) ≡ true → Stands holding seen ((tasks w).after s (task order body)) → StillCarry seen s (order_left order)
