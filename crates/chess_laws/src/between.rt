@@ -46,7 +46,6 @@ pub fn glides(kind: Kind, row: u8) -> bool
 }
 
 // Whether no man stands between two squares, the step of this row leading from the first towards the second.
-#[tactic(auto, unfolding(crate::specs::Geometry::shift, crate::specs::LegalTests::line, crate::specs::LegalTests::run, crate::specs::Between::crossed, crate::specs::Between::names_between))]
 #[inline(always)]
 fn is_clear(occupied: u64, row: u8, from: Square, to: Square) -> bool
     requires row { row < 8 }
@@ -79,7 +78,6 @@ fn between_in(table: &[[u64; 64]; 8], row: u8, from: Square, to: Square) -> u64
 }
 
 /// Where equal steps of this row lead from the square, to the edge of the board: the square `b` is the bit `b`.
-#[tactic(auto, unfolding(crate::specs::Geometry::shift, crate::specs::LegalTests::line, crate::specs::LegalTests::run, crate::specs::Between::crossed, crate::specs::Between::names_between))]
 #[inline(always)]
 pub fn seen(row: u8, s: Square) -> u64
     requires row { row < 8 }

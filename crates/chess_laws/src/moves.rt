@@ -264,7 +264,6 @@ fn may_promote(p: &Setup, from: Square, to: Square) -> bool
 }
 
 /// Adds the move if it is a legal one besides the null move, or answers false where there is no room for it.
-#[tactic(auto, using(crate::proofs::Listing::lists_added))]
 fn add<const N: usize>(
     p: &Setup,
     king: Square,

@@ -294,7 +294,7 @@ fn add_run(p: &Setup, step: &Offset, from: Square, set: SquareSet) -> SquareSet
 }
 
 /// The set, and each square on the way by this step to the edge or to a man, with this one if it is an enemy.
-#[tactic(auto, using(crate::proofs::Running::step_collects, crate::proofs::Running::edge_collects, crate::proofs::Running::end_collects, crate::proofs::Running::man_collects))]
+#[tactic(auto, using(crate::proofs::Running::step_collects))]
 fn walk_run(p: &Setup, step: &Offset, from: Square, set: SquareSet) -> SquareSet
     ensures runs { (b : ℕ) → run p.now.board step.now 8 b from ≡ true → HasNoOwn p.now.board p.now.side b → Has result b }
     ensures kept { (b : ℕ) → Has set b → Has result b }
