@@ -2,7 +2,6 @@
 ghost use Rattle.std.specs.Prelude.{◌≡◌, ◌↔◌, ℕ, ◌<◌, ◌≤◌, ◌⊎◌, Any, IsTrue, MatchOption, None, Some, true};
 ghost use Rattle.std.specs.Int.{bit_at};
 ghost use Rattle.cell_core.specs.Board.{man_at};
-ghost use Rattle.cell_core.specs.Man.{man};
 ghost use Rattle.chess_laws.specs.Castling.{king_target};
 ghost use Rattle.chess_laws.specs.Geometry.{Leaps, Runs, forward, king_steps, knight_steps, pawn_captures};
 ghost use Rattle.chess_laws.specs.LegalTests.{run};

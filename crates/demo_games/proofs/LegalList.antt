@@ -1,6 +1,6 @@
 -- The list of legal moves that is computed is the one that `legal_moves` of a position lists.
-use Rattle.std.proofs.Common.{◌≡◌, ℕ, zero, suc, ◌+◌, ◌*◌, ◌<◌, ◌≤◌, ◌⊎◌, inl, inr, Bool, true, false, ◌&&◌, ◌==◌, not, cond, List, [], ◌∷◌, ◌++◌, Option, Some, None, filter, flat_map, map, length, get_or, refl, sym, ◌∙◌, ap, subst, arith, All, Contains, Decides}
-use Rattle.std.proofs.lemmas.Bool.{cases_lt, cond_both, and_parts, false≢true}
+use Rattle.std.proofs.Common.{◌≡◌, ℕ, zero, suc, ◌+◌, ◌*◌, ◌<◌, ◌≤◌, ◌⊎◌, inl, inr, Bool, true, ◌&&◌, ◌==◌, not, List, [], ◌∷◌, ◌++◌, Option, Some, None, filter, flat_map, length, get_or, refl, sym, ◌∙◌, ap, subst, arith, All, Contains, Decides}
+use Rattle.std.proofs.lemmas.Bool.{cases_lt, cond_both, false≢true}
 use Rattle.std.proofs.lemmas.Bool.Decides.{Decides-and, Decides-not, Decides-eqb}
 use Rattle.cell_core.specs.declared.man.Kind.{Kind}
 use Rattle.cell_core.specs.declared.man.Kind.TheVariants.{King, Queen, Rook, Bishop, Knight, Pawn}
@@ -9,11 +9,11 @@ use Rattle.chess_laws.specs.declared.setup.Setup.{Setup}
 use Rattle.chess_laws.specs.LegalNow.{legal_now}
 use Rattle.chess_laws.specs.Moves.{Ascends, HasMoreMoves, IsMove, ListsMoves, place_of}
 use Rattle.chess_laws.specs.Position.{Sound}
-use Rattle.chess_laws.specs.Step.{Legal, may_become}
+use Rattle.chess_laws.specs.Step.{may_become}
 use Rattle.chess_laws.proofs.Deciding.{legal-Decides}
 use Rattle.chess_laws.proofs.Listing.{move-fits, move-from, move-to}
 use Rattle.std.specs.List.{range_with_len}
-use Rattle.demo_games.specs.Moves.{all_moves, is_move, legal_moves, moves_from, moves_to, promotions}
+use Rattle.demo_games.specs.Moves.{all_moves, is_move, legal_moves, moves_from, moves_to}
 
 -- ---- lists of moves in order
 

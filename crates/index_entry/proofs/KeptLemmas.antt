@@ -1,7 +1,7 @@
 -- Two entries that say the same have the same bits, but for the places that say nothing.
-use Rattle.std.proofs.Common.{◌≡◌, ◌≤◌, ◌<◌, ◌+◌, ◌-◌, ◌*◌, ◌^◌, ◌/◌, ◌%◌, ℕ, zero, suc, Bool, true, false, cond, eqb, ltb, ◌&&◌, ◌||◌, not, List, [], ◌∷◌, ◌++◌, length, map, get_or, Option, Some, None, Result, Ok, Err, refl, sym, ap, subst, ◌∙◌, arith, ◌⊎◌, inl, inr, eq-eqb}
-use Rattle.std.specs.List.{list_any, list_all, range_with_len, AllByRecursion}
-use Rattle.std.proofs.lemmas.Bool.{ltb-true, ltb-false, lt-ltb, le-ltb, eqb-true, cases_eq, cases_lt, cases_Bool, and_parts, or_parts, ne_eqb, cond-true, cond-false, or_left, or_from, both_ways, agree_below, agree_below_at}
+use Rattle.std.proofs.Common.{◌≡◌, ◌≤◌, ◌<◌, ◌+◌, ◌-◌, ◌*◌, ◌^◌, ◌/◌, ◌%◌, ℕ, zero, suc, Bool, true, false, cond, eqb, ltb, ◌&&◌, ◌||◌, List, [], ◌∷◌, ◌++◌, length, map, get_or, Ok, refl, sym, ap, subst, ◌∙◌, arith, ◌⊎◌, inl, inr, eq-eqb}
+use Rattle.std.specs.List.{range_with_len, AllByRecursion}
+use Rattle.std.proofs.lemmas.Bool.{lt-ltb, eqb-true, cases_eq, cases_lt, cases_Bool, or_parts, cond-true, cond-false, or_left, both_ways, agree_below, agree_below_at}
 use Rattle.std.proofs.lemmas.Nat.Bits.{bit_at-lt}
 use Rattle.index_entry.specs.declared.entry.Entry.{Entry}
 use Rattle.index_entry.specs.Bits.{bit_in, field, run, bits}
@@ -10,7 +10,7 @@ use Rattle.game_tree.specs.declared.head.Rating.{Rating}
 use Rattle.index_entry.specs.Places as places
 use Rattle.index_entry.proofs.FieldPlaces as spots
 use Rattle.index_entry.specs.Entry.{outcome_of, date_in, event_date_in, has_event_date, event_date_of, rating_of, home_in, entry_in, entry_read, home_from, event_places, free_places, is_among, AreCleared, IsWritten}
-use Rattle.index_entry.proofs.SoundLemmas.{field-lt, Passed, passed, Has, has_is}
+use Rattle.index_entry.proofs.SoundLemmas.{field-lt, Passed, passed, has_is}
 use Rattle.game_tree.specs.Date.{unknown_date, date_number, date_of}
 use Rattle.game_tree.proofs.DateLemmas.{date_number-date_of}
 use Rattle.game_tree.specs.declared.date.Date.{Date}

@@ -1,5 +1,5 @@
 -- A game has one place.
-use Rattle.std.proofs.Common.{◌≡◌, ◌≤◌, ◌<◌, ◌+◌, ◌*◌, ℕ, false, List, length, Option, Result, Ok, Err, sym, ap, ◌∙◌, subst, inl, inr, arith, true≢false}
+use Rattle.std.proofs.Common.{◌≡◌, ◌≤◌, ◌<◌, ◌+◌, ◌*◌, ℕ, false, List, Option, Ok, Err, sym, ap, ◌∙◌, subst, inl, inr, arith, true≢false}
 use Rattle.base_files.specs.Extents.{record_in}
 use Rattle.game_codec.proofs.DecodeLaws.{record-unbroken}
 use Rattle.index_entry.specs.Index.{entry_bytes}
@@ -15,7 +15,7 @@ use Rattle.base_core.proofs.Lists.{same_lists}
 use Rattle.base_core.proofs.OneBase.{says-one}
 use Rattle.base_core.proofs.OneFault.{fails-one}
 use Rattle.base_core.proofs.Results.{ok_err, same_ok}
-use Rattle.mend_base.specs.Places.{ArePlaces, Found, HasEntry, IsCut, IsPlace, IsWhole, Place, missing_in}
+use Rattle.mend_base.specs.Places.{ArePlaces, Found, IsPlace, IsWhole, Place, missing_in}
 
 -- A record that an entry says has no fault.
 says-taken : (names : NameLists) (games : List ℕ) (game : ℕ) (e : Entry) (held : Held) (fault : BaseFault) → Says names games e held → IsNotTaken false game (record_in games (extent_of e)) e fault → ⊥

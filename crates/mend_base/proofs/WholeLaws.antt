@@ -1,11 +1,11 @@
 -- A base without a fault comes over whole.
-use Rattle.std.proofs.Common.{◌≡◌, ◌≤◌, ◌<◌, ◌+◌, ◌*◌, ℕ, zero, suc, Bool, true, false, true≢false, not, List, [], ◌∷◌, ◌++◌, length, map, slice_get, unwrap_or, is_some, option_map, Option, Some, None, Result, Ok, Err, refl, sym, ap, ◌∙◌, subst, inl, inr, arith}
+use Rattle.std.proofs.Common.{◌≡◌, ◌≤◌, ◌<◌, ◌+◌, ◌*◌, ℕ, Bool, false, true≢false, List, [], ◌∷◌, ◌++◌, length, map, unwrap_or, option_map, Option, Some, None, Ok, Err, refl, sym, ap, ◌∙◌, subst, inl, inr, arith}
 use Rattle.std.proofs.lemmas.Bool.{lt-leb}
 use Rattle.std.proofs.lemmas.List.{length-map}
 use Rattle.std.proofs.lemmas.Option.{same_Some, slice_get-map, slice_get_within}
 use Rattle.game_tree.specs.Settle.{settled}
 use Rattle.game_tree.specs.declared.head.Tag.{Tag}
-use Rattle.index_entry.specs.Index.{entry_bytes, index_read}
+use Rattle.index_entry.specs.Index.{entry_bytes}
 use Rattle.index_entry.specs.declared.entry.Entry.{Entry}
 use Rattle.index_entry.proofs.HeaderLemmas.{index-whole}
 use Rattle.name_base.specs.NameLists.{NameLists}
@@ -23,8 +23,7 @@ use Rattle.base_core.proofs.OneBase.{says-one}
 use Rattle.base_core.proofs.OneFault.{passes_fails}
 use Rattle.base_core.proofs.Results.{same_ok}
 use Rattle.base_core.proofs.SomeBase.{FaultOrBase}
-use Rattle.mend_base.specs.Places.{ArePlaces, ComesOver, Found, IsPlace, IsWhole, Place, games_of, missing_in, note_of, notes_from}
-use Rattle.mend_base.specs.declared.report.Note.{Note}
+use Rattle.mend_base.specs.Places.{ArePlaces, ComesOver, IsPlace, Place, games_of, missing_in, notes_from}
 
 -- ---- names that are all there.
 

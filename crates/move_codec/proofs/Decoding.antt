@@ -1,5 +1,5 @@
 -- What is decoded, from what is named and whether it is legal.
-use Rattle.move_codec.proofs.Words.{◌≡◌, ℕ, suc, ◌-◌, ◌/◌, ◌%◌, ◌<◌, ◌≤◌, Bool, true, false, cond, eqb, leb, ltb, ◌&&◌, List, [], ◌∷◌, Option, Some, None, Ok, Err, length, refl, sym, ap, subst, arith, Result, slice_get, and_parts, leb-true, same_Some, Colour, Kind, King, Queen, Rook, Bishop, Knight, Pawn, Man, Move, man_at, file_of, MoveFault, Short, NoMan, Value, Illegal, Numbered, squares_of, Decodes, HasHighSecond, diagonal_move, diagonal_square, is_diagonal, king_differences, knight_differences, by_difference, named, named_by, named_from, on_diagonal, on_line, pawn_square, promotion, to_square}
+use Rattle.move_codec.proofs.Words.{◌≡◌, ℕ, ◌-◌, ◌/◌, ◌%◌, ◌<◌, ◌≤◌, Bool, true, false, cond, eqb, leb, ltb, ◌&&◌, List, [], ◌∷◌, Option, Some, None, Ok, Err, length, refl, sym, ap, subst, arith, Result, slice_get, and_parts, leb-true, same_Some, Colour, Kind, King, Queen, Rook, Bishop, Knight, Pawn, Man, Move, man_at, file_of, MoveFault, Short, NoMan, Value, Illegal, Numbered, squares_of, Decodes, HasHighSecond, diagonal_move, is_diagonal, king_differences, knight_differences, by_difference, named, named_by, named_from, on_diagonal, on_line, pawn_square, promotion, to_square}
 use Rattle.move_codec.specs.Packed.{named_value}
 
 pub same_ok : (a b : Move × ℕ) → ◌≡◌ {A = Result (Move × ℕ) MoveFault} (Ok a) (Ok b) → a ≡ b

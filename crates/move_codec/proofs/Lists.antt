@@ -1,5 +1,5 @@
 -- Lists by their places: after a write, with one more element, without the last, and where an element stands.
-use Rattle.move_codec.proofs.Words.{◌≡◌, ℕ, zero, suc, ◌<◌, ◌≤◌, Bool, false, cond, eqb, ltb, List, [], ◌∷◌, ◌++◌, Option, Some, None, length, slice_get, take, set, inl, inr, refl, sym, ◌∙◌, ap, one-add, arith, cases_lt, eq-eqb, eqb-suc-suc, eqb-suc-zero, eqb-zero-suc, eqb_tells, nat_tests, position_or_len, prefix_len-le-length, same_Some, none-some, slice_get_past, number_of, without}
+use Rattle.move_codec.proofs.Words.{◌≡◌, ℕ, zero, suc, ◌<◌, ◌≤◌, Bool, false, cond, eqb, ltb, List, [], ◌∷◌, ◌++◌, Some, None, length, slice_get, take, set, inl, inr, refl, sym, ◌∙◌, ap, one-add, arith, cases_lt, eq-eqb, eqb-suc-suc, eqb-suc-zero, eqb-zero-suc, eqb_tells, nat_tests, position_or_len, prefix_len-le-length, same_Some, none-some, slice_get_past, number_of, without}
 
 -- a function that is another one but for its value at one number
 abbrev pub at : {A : Type 0} → (ℕ → A) → ℕ → A → ℕ → A

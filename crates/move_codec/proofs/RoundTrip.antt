@@ -1,5 +1,5 @@
 -- The bytes of a legal move decode to it, whatever follows.
-use Rattle.move_codec.proofs.Words.{◌≡◌, ℕ, ◌+◌, ◌*◌, ◌/◌, ◌%◌, ◌<◌, List, ◌∷◌, ◌++◌, Option, Some, Ok, length, slice_get, inl, inr, refl, sym, ◌∙◌, ap, subst, arith, King, Man, Move, man_at, is_of, same_kind, Legal, effect_of, Numbered, AreNumbers, number_of, squares_of, Decodes, encoding, encoding_by, named, value_of, rest_of, cases_Bool, same_Some, slice_get_within}
+use Rattle.move_codec.proofs.Words.{◌≡◌, ℕ, ◌+◌, ◌*◌, ◌/◌, ◌%◌, ◌<◌, List, ◌∷◌, ◌++◌, Option, Some, Ok, length, slice_get, inl, inr, refl, sym, ◌∙◌, ap, subst, arith, King, Man, Move, man_at, is_of, same_kind, Legal, effect_of, Numbered, AreNumbers, number_of, squares_of, Decodes, encoding, encoding_by, value_of, rest_of, cases_Bool, same_Some, slice_get_within}
 use Rattle.move_codec.proofs.Boards.{numbering_of, own_man}
 use Rattle.move_codec.proofs.Cases.{Mover, mover}
 

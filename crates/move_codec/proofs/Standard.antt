@@ -1,5 +1,5 @@
 -- The numbers at the standard start are those of its men.
-use Rattle.move_codec.proofs.Words.{◌≡◌, ℕ, ◌<◌, ◌≤◌, Bool, true, cond, eqb, ltb, ◌&&◌, List, Option, Some, None, length, get_or, slice_get, inl, inr, refl, sym, ◌∙◌, ap, arith, and_parts, cases_lt, eqb-true, ltb-true, false≢true, get_or_past, get_or_from_slice_get, slice_get_within, Colour, White, Black, King, Men, man_at, is_of, start_men, is_man-Some, king-only, AreNumbers, IsNumbering, number_of, standard_numbers, start_ranks}
+use Rattle.move_codec.proofs.Words.{◌≡◌, ℕ, ◌<◌, ◌≤◌, Bool, true, cond, eqb, ltb, ◌&&◌, List, Some, None, length, get_or, slice_get, inl, inr, refl, sym, ◌∙◌, ap, arith, and_parts, cases_lt, eqb-true, ltb-true, false≢true, get_or_past, get_or_from_slice_get, slice_get_within, Colour, White, Black, King, Men, man_at, is_of, start_men, is_man-Some, king-only, AreNumbers, IsNumbering, number_of, standard_numbers, start_ranks}
 use Rattle.move_codec.proofs.Tables.{all_below, below}
 use Rattle.move_codec.proofs.Lists.{found-within}
 use Rattle.move_codec.proofs.Boards.{holds}

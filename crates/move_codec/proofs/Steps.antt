@@ -1,5 +1,5 @@
 -- The numbered squares after a legal move are those of the men after it, the kings' first.
-use Rattle.move_codec.proofs.Words.{◌≡◌, ℕ, ◌<◌, true, false, cond, eqb, List, Option, Some, None, length, slice_get, set, inl, inr, refl, sym, ◌∙◌, ap, subst, false≢true, eqb_tells, none-some, get_or_from_slice_get, set-get_or, Colour, White, Black, Kind, King, Rook, Pawn, Man, Move, Men, man_at, put, man, other, is_man, is_of, Setup, Effect, Plain, Double, Passing, Castle, Null, rook_home, rook_target, Sound, Case, arriving, moved, board_after, effect_of, passed_square, Step, last_rank, rank_of, Goes, length-put, on_board, put-other, put-same, relocate, case-on_board, arriving-lands, castle-apart, castle-crossed, castle-rook_goes, castle-squares, lands, lands_as, moved-other, plain-no_king, plain-no_own, Numbers, AreNumbers, number_of, squares_of, went, without, movers_after, capture_square, numbers_by, numbers_after}
+use Rattle.move_codec.proofs.Words.{◌≡◌, ℕ, ◌<◌, false, cond, eqb, List, Option, Some, None, length, slice_get, set, inl, inr, refl, sym, ◌∙◌, ap, subst, false≢true, eqb_tells, none-some, get_or_from_slice_get, set-get_or, Colour, White, Black, Kind, King, Rook, Pawn, Man, Move, Men, man_at, put, man, other, is_man, is_of, Setup, Effect, Plain, Double, Passing, Castle, Null, rook_home, rook_target, Sound, Case, arriving, moved, board_after, effect_of, passed_square, Step, last_rank, rank_of, Goes, length-put, on_board, put-other, put-same, relocate, case-on_board, arriving-lands, castle-apart, castle-crossed, castle-rook_goes, castle-squares, lands, lands_as, moved-other, plain-no_king, plain-no_own, Numbers, AreNumbers, number_of, squares_of, went, without, movers_after, capture_square, numbers_by, numbers_after}
 use Rattle.move_codec.proofs.Lists.{at, found}
 use Rattle.move_codec.proofs.Boards.{Numbering, are_numbers, enemy_man, no_own, numbering_of, own_man, own_of_enemy}
 use Rattle.move_codec.proofs.Tracking.{Tracked, Tracked-like, Tracked-went, Tracked-without, Tracks-other, idle, there}

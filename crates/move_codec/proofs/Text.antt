@@ -1,5 +1,5 @@
 -- The numbers from a placement text are those of the men.
-use Rattle.move_codec.proofs.Words.{◌≡◌, ℕ, zero, suc, ◌+◌, ◌-◌, ◌*◌, ◌/◌, ◌%◌, ◌<◌, ◌≤◌, Bool, true, false, not, ◌&&◌, cond, eqb, List, [], ◌∷◌, ◌++◌, Option, Some, None, length, get_or, slice_get, inl, inr, refl, sym, ◌∙◌, ap, arith, length-append, zero-add, add-one, drop, drop-cons, count_by, sum_by, list_all, sum_by-cons, sum_by-append, sum_by-drop_more, and_parts, cases_Bool, eq-eqb, eqb-true, false≢true, ne_eqb, not-true, eqb_tells, none-some, Colour, White, Black, King, Man, Men, man_at, is_of, is_man, HasKings, HasFewMen, king_square, is_man-Some, king-only, AreNumbers, text_numbers, text_squares, rank_squares, with_king, with_square, text_numbers_of}
+use Rattle.move_codec.proofs.Words.{◌≡◌, ℕ, zero, suc, ◌+◌, ◌-◌, ◌*◌, ◌/◌, ◌%◌, ◌<◌, ◌≤◌, Bool, true, false, not, ◌&&◌, cond, eqb, List, [], ◌∷◌, ◌++◌, Option, None, length, get_or, slice_get, inl, inr, refl, sym, ◌∙◌, ap, arith, length-append, zero-add, add-one, drop, drop-cons, count_by, sum_by, list_all, sum_by-cons, sum_by-append, sum_by-drop_more, and_parts, cases_Bool, eq-eqb, eqb-true, false≢true, ne_eqb, not-true, eqb_tells, none-some, Colour, White, Black, King, Man, Men, man_at, is_of, is_man, HasKings, HasFewMen, king_square, is_man-Some, king-only, AreNumbers, text_numbers, text_squares, rank_squares, with_king, with_square, text_numbers_of}
 use Rattle.move_codec.specs.Numbers.{with_squares}
 use Rattle.move_codec.proofs.Boards.{Numbering, are_numbers, holds, king_held}
 use Rattle.move_codec.proofs.Lists.{at, found}

@@ -22,7 +22,7 @@ pub use Rattle.chess_laws.specs.declared.setup.Setup.{Setup}
 pub use Rattle.chess_laws.specs.declared.setup.Wing.{Wing}
 pub use Rattle.chess_laws.specs.declared.setup.Wing.TheVariants.{KingSide, QueenSide}
 pub use Rattle.move_codec.specs.Numbers.{Numbered, AreNumbers, number_of, squares_of, HasKingFirst, IsNumbering, without, standard_numbers, start_ranks, went, movers_after, capture_square, numbers_by, numbers_after, text_numbers, text_squares, rank_squares, with_king, with_square, text_numbers_of}
-pub use Rattle.move_codec.specs.Packed.{Decodes, encoding, is_mark, named, rest_of, value_of, HasHighSecond, diagonal_move, diagonal_square, is_diagonal, king_differences, knight_differences, by_difference, named_by, named_from, on_diagonal, on_line, pawn_square, promotion, to_square, encoding_by}
+pub use Rattle.move_codec.specs.Packed.{Decodes, encoding, is_mark, named, rest_of, value_of, HasHighSecond, diagonal_move, is_diagonal, king_differences, knight_differences, by_difference, named_by, named_from, on_diagonal, on_line, pawn_square, promotion, to_square, encoding_by}
 pub use Rattle.move_codec.specs.declared.fault.MoveFault.{MoveFault}
 pub use Rattle.move_codec.specs.declared.fault.MoveFault.TheVariants.{Short, NoMan, Value, Illegal}
 pub use Rattle.move_codec.specs.declared.numbers.Numbers.{Numbers}

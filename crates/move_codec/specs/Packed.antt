@@ -133,7 +133,7 @@ Decodes n bytes (Err Value) = named n bytes ≡ Err Value
 Decodes n bytes (Err Illegal) =
     (decoded : Move × ℕ) × ((named n bytes ≡ Ok decoded) × (Legal n.position decoded.0 → ⊥))
 
--- The same as it is computed.
+-- The same, computed: a move that the bytes name counts if it is legal.
 abbrev pub judged : Numbered → Result (Move × ℕ) MoveFault → Result (Move × ℕ) MoveFault
 judged n (Ok decoded) = if legal_now n.position decoded.0 then Ok decoded else Err Illegal
 judged n (Err fault) = Err fault

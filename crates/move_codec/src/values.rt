@@ -1,7 +1,6 @@
 //! The values of packed moves: what `targets` reads.
 ghost use Rattle.std.specs.Prelude.{◌≡◌, ◌+◌, ◌-◌, ◌<◌, ◌≤◌, ◌==◌, length, position};
-ghost use Rattle.std.specs.List.{position_or_len};
-ghost use Rattle.move_codec.specs.Packed.{difference_value, diagonal_value, gap, is_line, king_differences, knight_differences, line_value, pawn_value, promotion_value, value_of};
+ghost use Rattle.move_codec.specs.Packed.{difference_value, diagonal_value, gap, is_line, line_value, pawn_value, promotion_value, value_of};
 
 use super::targets::{KING, KNIGHT};
 use cell_core::{Kind, Move};

@@ -1,5 +1,5 @@
 -- A good item's game is what the movetext of its tokens means.
-use Rattle.std.proofs.Common.{◌≡◌, ◌&&◌, ◌||◌, nat_le, nat_lt, ℕ, zero, suc, Bool, true, false, not, cond, codes, List, [], ◌∷◌, ◌++◌, length, Option, Some, None, Result, Ok, Err, refl, sym, ap, ◌∙◌, subst, arith, append_assoc}
+use Rattle.std.proofs.Common.{◌≡◌, ◌&&◌, ◌||◌, nat_le, nat_lt, ℕ, zero, suc, Bool, true, false, not, cond, codes, List, [], ◌∷◌, ◌++◌, length, Some, None, Result, Ok, Err, refl, sym, ap, ◌∙◌, subst, arith, append_assoc}
 use Rattle.std.proofs.lemmas.Bool.{and_parts, ltb-false}
 use Rattle.cell_core.specs.declared.step.Move.{Move}
 use Rattle.chess_laws.specs.declared.setup.Setup.{Setup}
@@ -8,22 +8,20 @@ use Rattle.chess_text.specs.declared.fault.SanFault.{SanFault}
 use Rattle.chess_text.specs.FenAnswer.{fen_answer}
 use Rattle.chess_text.specs.SanAnswer.{san_answer}
 use Rattle.game_tree.specs.declared.head.Head.{Head}
-use Rattle.game_tree.specs.declared.head.Outcome.{Outcome}
-use Rattle.game_tree.specs.Building.{Building, added, built, opening, read_line}
+use Rattle.game_tree.specs.Building.{Building, added, built, opening}
 use Rattle.game_tree.specs.Game.{GameTree}
 use Rattle.game_tree.specs.Item.{Item}
 use Rattle.game_tree.specs.Item as item
 use Rattle.game_tree.specs.Legal.{deepest}
-use Rattle.game_tree.specs.Movetext.{Movetext, end, move, nag, comment, variation, items_of, meaning}
+use Rattle.game_tree.specs.Movetext.{Movetext, end, move, nag, comment, variation, items_of}
 use Rattle.game_tree.specs.TagList.{is_named}
 use Rattle.game_tree.specs.TagName.{is_among, roster_names}
 use Rattle.game_tree.proofs.MovetextLemmas.{built-items_of}
-use Rattle.pgn_read.specs.declared.item.GameWhat.TheVariants.{TooLong}
 use Rattle.pgn_read.specs.declared.item.Item.TheVariants.{Good}
 use Rattle.pgn_read.specs.declared.turn.Turn.{Turn}
 use Rattle.pgn_read.specs.Items.{all_spots, by_effect, effect_of, ended, first_token, item_from, next, next_item}
 use Rattle.pgn_read.specs.Meant.{IsMeant, all_said, move_said, said, said_at, said_before}
-use Rattle.pgn_read.specs.Reading.{Effect, Reading, at_tag, closed_to, effect, ends_before, ends_behind, fen_effect, game_of, goes_on, has_move, has_tag, is_faulty, is_game, is_inside, is_next_game, move_effect, opened, starting, tag_effect, turn_at, unread}
+use Rattle.pgn_read.specs.Reading.{Effect, Reading, at_tag, closed_to, effect, ends_before, ends_behind, fen_effect, game_of, goes_on, has_move, has_tag, is_faulty, is_game, is_inside, is_next_game, move_effect, tag_effect, turn_at, unread}
 use Rattle.pgn_read.specs.Text.{At, Spot}
 use Rattle.pgn_read.specs.Token.{Token}
 use Rattle.pgn_read.specs.Token as token

@@ -4,7 +4,7 @@ use Rattle.std.specs.List.{list_all}
 use Rattle.std.proofs.lemmas.Bool.{and_parts, or_parts, true≢false}
 use Rattle.game_tree.specs.TagName.{is_tag_byte}
 use Rattle.pgn_read.specs.Bytes.{is_white, has_zero, front, behind}
-use Rattle.pgn_read.specs.Token.{Lexed, lexed_as}
+use Rattle.pgn_read.specs.Token.{lexed_as}
 use Rattle.pgn_read.specs.Token as token
 use Rattle.pgn_read.specs.TagText.{raw_value, behind_value, unescaped_from, closing, quoting, naming}
 use Rattle.pgn_read.specs.TagSpelling.{Spelling, done, byte, escape, alone, spelled, said_by, is_escaped, IsSpelling, TagParts, AreParts, tag_before}

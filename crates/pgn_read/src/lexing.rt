@@ -7,7 +7,7 @@ ghost use Rattle.pgn_read.specs.Bytes.{behind, has_zero, is_glyph, is_move_byte}
 ghost use Rattle.pgn_read.specs.Clear.{IsClear};
 ghost use Rattle.pgn_read.specs.Said.{said};
 ghost use Rattle.pgn_read.specs.Token as token;
-ghost use Rattle.pgn_read.specs.Lexing.{lexed, by_kind, comment_of, braced, brace_from, without_return, suffix_of, run_from, number_from, digit_from};
+ghost use Rattle.pgn_read.specs.Lexing.{lexed, by_kind, comment_of, brace_from, without_return, suffix_of, run_from, number_from, digit_from};
 
 use crate::clear::Clear;
 use crate::run::{

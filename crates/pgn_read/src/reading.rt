@@ -11,7 +11,7 @@ ghost use Rattle.chess_text.specs.SanAnswer.{san_answer};
 ghost use Rattle.chess_text.specs.FenAnswer.{fen_answer};
 ghost use Rattle.pgn_read.specs.declared.item.GameWhat.TheVariants as what;
 ghost use Rattle.pgn_read.specs.Heads.{head_from, IsReadTag};
-ghost use Rattle.pgn_read.specs.Reading.{unread, is_inside, has_move, with_tag, starting, fen_effect, tag_effect, at_tag, goes_on, is_faulty, opened, closed_to, move_effect, effect, is_next_game, is_game, game_of};
+ghost use Rattle.pgn_read.specs.Reading.{unread, is_inside, has_move, with_tag, starting, fen_effect, tag_effect, at_tag, is_faulty, opened, closed_to, move_effect, effect, is_next_game, is_game, game_of};
 
 use crate::field::Name;
 use crate::heads::{head_from, text_of};

@@ -1,7 +1,6 @@
 //! Runs of bytes of one kind.
 ghost use Rattle.std.specs.Prelude.{◌≡◌, ◌==◌, ◌∷◌, true, false, ℕ, Bool, List, MatchOption};
 ghost use Rattle.std.specs.Char.{is_ascii_alphabetic};
-ghost use Rattle.std.specs.List.{list_any};
 ghost use Rattle.pgn_read.specs.declared.run.Run.TheVariants as run;
 ghost use Rattle.pgn_read.specs.Classes.{tells};
 ghost use Rattle.pgn_read.specs.Clear.{BeginsWith};

@@ -1,5 +1,5 @@
 //! The bytes of a source that were read and not yet taken.
-ghost use Rattle.std.specs.Prelude.{◌≡◌, ◌≤◌, ◌<◌, ◌+◌, ◌-◌, ◌==◌, ◌∷◌, ◌⊎◌, ℕ, List, None, IfSome, OnSome, ◌&&◌, slice_index_or, [], length, take, drop, option_map, true, false, IfOk, IfErr, OnOk, OnErr, IsTrue, MatchOption};
+ghost use Rattle.std.specs.Prelude.{◌≡◌, ◌≤◌, ◌<◌, ◌+◌, ◌-◌, ◌==◌, ◌∷◌, ◌⊎◌, ℕ, List, None, IfSome, OnSome, ◌&&◌, slice_index_or, [], length, take, drop, option_map, true, false, IfErr, OnOk, IsTrue, MatchOption};
 ghost use Rattle.base_files.specs.Told.{before, Tells};
 ghost use Rattle.std.specs.Bool.{OnTrue, OnFalse};
 ghost use Rattle.pgn_read.specs.Bytes.{begins};

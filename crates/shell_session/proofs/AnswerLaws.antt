@@ -10,7 +10,6 @@ use Rattle.base_files.specs.Seen.{SameContents, Seen}
 use Rattle.base_files.specs.Told.{Grew, adds}
 use Rattle.base_files.specs.declared.faults.Stop.{Stop}
 use Rattle.base_files.specs.declared.faults.Stop.TheVariants as stop
-use Rattle.base_core.specs.Base.{Base}
 use Rattle.base_core.specs.Opening.{IfTold, is_created}
 use Rattle.command_runs.specs.Counts.{Why, counts}
 use Rattle.command_runs.specs.Endings.{Halted, NoneLost}

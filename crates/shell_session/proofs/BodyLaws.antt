@@ -43,7 +43,6 @@ use Rattle.script_lines.proofs.StandingLaws.{standing_begun, told}
 use Rattle.script_lines.proofs.TaskLaws.{on_body, on_end, on_line, on_open}
 use Rattle.script_text.specs.Sound.{IsSoundLine}
 use Rattle.script_text.specs.Tasks.{Order, body_word, task}
-use Rattle.script_text.specs.declared.command.Command.{Command}
 use Rattle.script_text.specs.declared.command.Command.TheVariants.{Import, Replace, Eco}
 use Rattle.report_commands.specs.Classifying.{state_by}
 use Rattle.shell_commands.proofs.SlotLaws.{task_stays}

@@ -1,5 +1,3 @@
-use Rattle.pgn_write.proofs.LayoutLaws.{written-layout}
-use Rattle.pgn_write.proofs.WritingLaws.{put_all-append}
 use Rattle.std.proofs.Common.{List, ◌++◌, ap, sym, ◌∙◌, append-nil}
 use Rattle.std.specs.Prelude.{codes}
 use Rattle.game_tree.specs.declared.head.Tag.{Tag}

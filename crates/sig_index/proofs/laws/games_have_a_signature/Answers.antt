@@ -1,4 +1,3 @@
-use Rattle.sig_index.proofs.Paying.{pays_on}
 use Rattle.sig_index.proofs.SigOf.{sig_of-is, sig_of-one}
 use Rattle.sig_index.proofs.laws.games_have_a_signature.Goals as goal
 
