@@ -1,12 +1,12 @@
 -- The tests of the Laws decide what the Laws say.
-use Rattle.chess_laws.proofs.Words.{◌≡◌, ℕ, zero, suc, ◌<◌, Bool, false, not, ◌&&◌, ◌==◌, IsTrue, Option, Some, None, List, All, Any, rules, refl, sym, ap, subst, Decides, list_all, list_any, Decides-and, Decides-or, Decides-not, Decides-like, Decides-eqb, Decides-below_or, Decides-by_and, and_parts, Any-from_list_any, list_any-from_Any, Colour, Kind, King, Knight, Pawn, Man, Move, Men, man_at, man, other, is_man, is_of, same_colour, same_colour-Decides, Setup, Effect, Plain, Double, Passing, Castle, Null, Offset, shift, forward, pawn_captures, knight_steps, king_steps, Leaps, Walk, Runs, Attacks, IsInCheck, Reaches, slides, king_path, has_right, board_after, effect_of, after, passed_square, promotes_rightly, HasNoOwn, GoesPlainly, Case, Legal, is_square, walks_on, reaches_now, attacks_from, goes_plainly_now, plain_now, passing_now, castle_now, case_now}
+use Rattle.chess_laws.proofs.Words.{◌≡◌, ℕ, is_none, nat_eq, zero, suc, ◌<◌, Bool, false, not, ◌&&◌, ◌==◌, IsTrue, Option, Some, None, List, All, Any, rules, refl, sym, ap, subst, Decides, list_all, list_any, Decides-and, Decides-or, Decides-not, Decides-like, Decides-eqb, Decides-below_or, Decides-by_and, and_parts, Any-from_list_any, list_any-from_Any, Colour, Kind, King, Knight, Pawn, Man, Move, Men, man_at, man, other, is_man, is_of, same_colour, same_colour-Decides, Setup, Effect, Plain, Double, Passing, Castle, Null, Offset, shift, forward, pawn_captures, knight_steps, king_steps, Leaps, Walk, Runs, Attacks, IsInCheck, Reaches, slides, king_path, has_right, board_after, effect_of, after, passed_square, promotes_rightly, HasNoOwn, GoesPlainly, Case, Legal, option_eq, option_map_or, reaches_now, goes_plainly_now, case_now}
 use Rattle.chess_laws.specs.Castling.{between}
 use Rattle.chess_laws.specs.LegalNow.{some_below, leaps_now, walks_now, runs_now, attacks_now, in_check_now, legal_now}
 use Rattle.chess_laws.proofs.Running.{is_none-Decides, short-walk, walk-ends}
 use Rattle.chess_laws.proofs.Kings.{is_man-Decides}
 
 -- the tests of squares and men
-is_square-Decides : (b : ℕ) (x : Option ℕ) → Decides (is_square b x) (x ≡ Some b)
+is_square-Decides : (b : ℕ) (x : Option ℕ) → Decides (option_eq nat_eq x (Some b)) (x ≡ Some b)
 is_square-Decides b None = (λ h. absurd (cc), λ h. absurd (cc))
 is_square-Decides b (Some a) = Decides-like (a == b) (λ h. ap Some h) (λ h. cc) (Decides-eqb a b)
 
@@ -14,13 +14,11 @@ itself : (x : Bool) → Decides x (IsTrue x)
 itself x = (λ h. h, λ h. h)
 
 -- some man of the colour stands there, of whose kind this is true
-of-Decides : (c : Colour) (x : Option Man) (f : Option Man → Bool) (test : Kind → Bool) (P : Kind → Type 0) → f None ≡ false →
-    ((m : Man) → f (Some m) ≡ (same_colour m.colour c && test m.kind)) → ((k : Kind) → Decides (test k) (P k)) →
-    Decides (f x) ((k : Kind) × ((x ≡ Some (man c k)) × P k))
-of-Decides c None f test P none some each = (λ h. absurd (cc), λ h. let e = h.1.0 in absurd (cc))
-of-Decides c (Some m) f test P none some each =
-    let both = Decides-and _ _ (same_colour-Decides m.colour c) (each m.kind) in
-    rw (some m) (
+of-Decides : (c : Colour) (x : Option Man) (test : Kind → Bool) (P : Kind → Type 0) → ((k : Kind) → Decides (test k) (P k)) →
+    Decides (option_map_or (λ m. same_colour m.colour c && test m.kind) x false) ((k : Kind) × ((x ≡ Some (man c k)) × P k))
+of-Decides c None test P each = (λ h. absurd (cc), λ h. let e = h.1.0 in absurd (cc))
+of-Decides c (Some m) test P each =
+    let both = Decides-and _ _ (same_colour-Decides m.colour c) (each m.kind) in (
       λ h. let (same, p) = both.0 h in (m.kind, ((λ i. Some (record { colour = same i; kind = m.kind })), p)),
       λ h. let (k, (e, p)) = h in let colour : m.colour ≡ c = cc in let kind : k ≡ m.kind = cc in both.1 (colour, rw kind at p),
     )
@@ -49,7 +47,7 @@ unfolding leaps_now
 leaps-Decides a b o = is_square-Decides b (shift o a)
 
 walks_on-Decides : (men : Men) (o : Offset) (n b a : ℕ) (x : Option ℕ) → shift o a ≡ x → ((c : ℕ) → Decides (walks_now men o b n c) (Walk men o n c b))
-    → Decides (walks_on men x (walks_now men o b n)) (Walk men o (suc n) a b)
+    → Decides (option_map_or (λ c. is_none (man_at men c) && walks_now men o b n c) x false) (Walk men o (suc n) a b)
 walks_on-Decides men o n b a None at rest = (λ h. absurd (cc), λ h. let e = h.1 in absurd (cc))
 walks_on-Decides men o n b a (Some c) at rest =
     let both = Decides-and _ _ (is_none-Decides (man_at men c)) (rest c) in (
@@ -81,8 +79,8 @@ attacks-Decides men c s =
     Decides-like (attacks_now men c s)
     (λ h. let (a, less, (k, (stands, reaches))) = h in (k, record { from = a; on_board = less; stands = stands; reaches = reaches }))
     (λ h. let (k, f) = h in (f.from, f.on_board, (k, (f.stands, f.reaches))))
-    (some_below-Decides (λ a. attacks_from men c s a (man_at men a)) _
-    (λ a. of-Decides c (man_at men a) (attacks_from men c s a) (λ k. reaches_now men c k a s) _ refl (λ m. refl) (λ k. reaches-Decides men c k a s)) 64)
+    (some_below-Decides (λ a. option_map_or (λ m. same_colour m.colour c && reaches_now men c m.kind a s) (man_at men a) false) _
+    (λ a. of-Decides c (man_at men a) (λ k. reaches_now men c k a s) _ (λ k. reaches-Decides men c k a s)) 64)
 
 reach-ends : (men : Men) (c : Colour) (k : Kind) (a b : ℕ) → Reaches men c k a b → b < 64
 reach-ends men c King a b (n, o, less, at, leap) = walk-ends men o zero a b leap
@@ -112,21 +110,21 @@ goes-Decides p k m = Decides-and _ _ (reaches-Decides p.board p.side k m.from m.
 
 case-Decides : (p : Setup) (m : Move) (e : Effect) → Decides (case_now p m e) (Case p m e)
 case-Decides p m Plain =
-    Decides-like (plain_now p m (man_at p.board m.from))
+    Decides-like (case_now p m Plain)
     (λ h. let (k, (stands, (goes, promotes))) = h in record { kind = k; stands = stands; goes = goes; promotes = promotes })
     (λ h. (h.kind, (h.stands, (h.goes, h.promotes))))
-    (of-Decides p.side (man_at p.board m.from) (plain_now p m) (λ k. goes_plainly_now p k m && promotes_rightly p.side k m) _ refl (λ s. refl)
+    (of-Decides p.side (man_at p.board m.from) (λ k. goes_plainly_now p k m && promotes_rightly p.side k m) _
     (λ k. Decides-and _ _ (goes-Decides p k m) (itself (promotes_rightly p.side k m))))
 case-Decides p m Double = search (rules, is_man-Decides, walks-Decides, is_none-Decides, Decides-eqb, and_parts)
 case-Decides p m Passing =
-    Decides-like (passing_now p m)
+    Decides-like (case_now p m Passing)
     (λ h. record { stands = h.0; goes = h.1.0; target = h.1.1.0; empty = h.1.1.1.0; passed = h.1.1.1.1.0; promo = h.1.1.1.1.1 })
     (λ h. (h.stands, (h.goes, (h.target, (h.empty, (h.passed, h.promo))))))
     (Decides-and _ _ (is_man-Decides p.side Pawn (man_at p.board m.from)) (Decides-and _ _ (any-Decides _ _ (leaps-Decides m.from m.to) (pawn_captures p.side))
     (Decides-and _ _ (is_square-Decides m.to p.en_passant) (Decides-and _ _ (is_none-Decides (man_at p.board m.to))
     (Decides-and _ _ (is_man-Decides (other p.side) Pawn (man_at p.board (passed_square m))) (is_none-Decides m.promo))))))
 case-Decides p m (Castle wing) =
-    Decides-like (castle_now p m wing)
+    Decides-like (case_now p m (Castle wing))
     (λ h. record { stands = h.0; right = h.1.0; empty = h.1.1.0; safe = h.1.1.1.0; promo = h.1.1.1.1 })
     (λ h. (h.stands, (h.right, (h.empty, (h.safe, h.promo)))))
     (Decides-and _ _ (is_man-Decides p.side King (man_at p.board m.from)) (Decides-and _ _ (itself (has_right p.rights p.side wing))

@@ -1,5 +1,5 @@
 -- What comes to a square makes one move, whose rule allows it.
-use Rattle.chess_laws.proofs.Words.{◌≡◌, ℕ, inl, inr, true, Some, refl, sym, ◌∙◌, ap, subst, arith, Any, false≢true, nat_tests, Colour, White, Black, Kind, King, Pawn, man_at, man, Setup, Wing, KingSide, QueenSide, Plain, Castle, king_steps, Leaps, king_home, king_target, effect_as, effect_on, promotes_rightly, Case, CastleCase, GoesPlainly, HasNoOwn, Comes, IsKnown, Known, goes}
+use Rattle.chess_laws.proofs.Words.{◌≡◌, ℕ, inl, inr, true, Some, refl, sym, ◌∙◌, ap, subst, arith, Any, false≢true, nat_tests, Colour, White, Black, Kind, King, Pawn, man_at, man, Setup, Wing, KingSide, QueenSide, Plain, Castle, king_steps, Leaps, king_home, king_target, effect_as, option_map_or, promotes_rightly, Case, CastleCase, GoesPlainly, HasNoOwn, Comes, IsKnown, Known, goes}
 use Rattle.chess_laws.specs.Geometry.{shift}
 use Rattle.chess_laws.specs.LegalNow.{leaps_now}
 use Rattle.chess_laws.proofs.Boards.{man-kind}
@@ -12,7 +12,7 @@ plainly : (p : Setup) (a b : ℕ) (k : Kind) → man_at p.board a ≡ Some (man 
     GoesPlainly p k (goes a b) → promotes_rightly p.side k (goes a b) ≡ true → HasNoOwn p.board p.side b → (k ≡ Pawn → ⊥) →
     Known p a b (effect_as k p (goes a b))
 plainly p a b k stands plain go promotes free other = record {
-  effect = sym (ap (λ o. effect_on o p (goes a b)) stands);
+  effect = sym (ap (λ o. option_map_or (λ m. effect_as m.kind p (goes a b)) o Plain) stands);
   allowed = subst (Case p (goes a b)) (sym plain) (record { kind = k; stands = stands; goes = go; promotes = promotes });
   leaves = λ same. free k (ap (man_at p.board) same ∙ stands);
   plain = λ may. other (man-kind p.side p.side k Pawn (sym stands ∙ may.stands));
@@ -47,7 +47,7 @@ king-known p a b stands (inr (from, (wing, (to, castles)))) =
     record { stands = stands; right = castles.right; empty = castles.empty; safe = castles.safe; promo = refl } in
     let free = (castle-apart p.board p.side wing castles.empty).king_to in
     record {
-      effect = sym (ap (λ o. effect_on o p (goes a b)) stands);
+      effect = sym (ap (λ o. option_map_or (λ m. effect_as m.kind p (goes a b)) o Plain) stands);
       allowed = subst (Case p (goes a b)) (sym (castles-effect p p.side wing a b refl from to)) case;
       leaves = λ same. let e = sym (ap (man_at p.board) to ∙ free) ∙ ap (man_at p.board) same ∙ stands in absurd (cc);
       plain = λ may. let e = man-kind p.side p.side King Pawn (sym stands ∙ may.stands) in absurd (cc);

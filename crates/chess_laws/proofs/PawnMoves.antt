@@ -1,5 +1,5 @@
 -- A pawn that goes neither in passing nor to be promoted makes a plain move or a double step to each of its targets.
-use Rattle.chess_laws.proofs.Words.{◌≡◌, ℕ, suc, inl, inr, Bool, true, false, ◌&&◌, is_none, Some, refl, sym, ap, arith, Any, ne_eqb, nat_tests, Colour, White, Black, Pawn, Men, man_at, man, other, Setup, Offset, rank_of, forward, pawn_captures, Leaps, Walk, changes_file, effect_as, effect_on, goes_two, last_rank, promotes_rightly, Case, Known, PawnComes, PawnGoes, goes}
+use Rattle.chess_laws.proofs.Words.{◌≡◌, ℕ, suc, inl, inr, Bool, true, false, ◌&&◌, is_none, Some, refl, sym, ap, arith, Any, ne_eqb, nat_tests, Colour, White, Black, Pawn, Plain, Men, man_at, man, other, Setup, Offset, rank_of, forward, pawn_captures, Leaps, Walk, changes_file, effect_as, option_map_or, goes_two, last_rank, promotes_rightly, Case, Known, PawnComes, PawnGoes, goes}
 use Rattle.chess_laws.specs.Targets.{MayTake}
 use Rattle.chess_laws.proofs.Boards.{man-colour}
 use Rattle.chess_laws.proofs.Keeping.{other-apart}
@@ -53,7 +53,7 @@ pawn-leaves p a b stands h (inr (inr (capture, inr passing))) same = h.apart pas
 
 pub pawn-known : (p : Setup) (a b : ℕ) → man_at p.board a ≡ Some (man p.side Pawn) → PawnGoes p b → PawnComes p a b → Known p a b (effect_as Pawn p (goes a b))
 pawn-known p a b stands h comes = record {
-  effect = sym (ap (λ o. effect_on o p (goes a b)) stands);
+  effect = sym (ap (λ o. option_map_or (λ m. effect_as m.kind p (goes a b)) o Plain) stands);
   allowed = pawn-allowed p a b stands h comes;
   leaves = pawn-leaves p a b stands h comes;
   plain = λ may. h.inside may.last;

@@ -1,5 +1,5 @@
 -- A step is two linear equations, of the files and of the ranks.
-use Rattle.chess_laws.proofs.Words.{◌≡◌, ℕ, ◌+◌, ◌<◌, Option, Some, None, refl, ap, arith, nat_tests, Offset, file_of, rank_of, square, line_at, square_at}
+use Rattle.chess_laws.proofs.Words.{◌≡◌, ℕ, ◌+◌, ◌<◌, Option, Some, None, refl, ap, arith, nat_tests, Offset, file_of, rank_of, square, line_at, option_and_then, option_map}
 use Rattle.chess_laws.specs.Geometry.{shift}
 
 -- a step leads from a to b where the files and the ranks differ by it
@@ -14,7 +14,7 @@ line_at-Some line up down to h = grind (arith, nat_tests)
 line_at-on_board : (line up down to : ℕ) → to + down ≡ line + up → to < 8 → line_at line up down ≡ Some to
 line_at-on_board line up down to h less = grind (arith, nat_tests)
 
-square_at-Some : (file rank : Option ℕ) (b : ℕ) → square_at file rank ≡ Some b → (f : ℕ) × (r : ℕ) × (file ≡ Some f) × (rank ≡ Some r) × (b ≡ square f r)
+square_at-Some : (file rank : Option ℕ) (b : ℕ) → option_and_then (λ f. option_map (square f) rank) file ≡ Some b → (f : ℕ) × (r : ℕ) × (file ≡ Some f) × (rank ≡ Some r) × (b ≡ square f r)
 square_at-Some None rank b h = absurd (cc)
 square_at-Some (Some f) None b h = absurd (cc)
 square_at-Some (Some f) (Some r) b h = (f, r, refl, refl, cc)

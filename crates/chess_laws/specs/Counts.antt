@@ -1,5 +1,6 @@
 -- How many men of each kind there are, and which pawns stand at home.
-use Rattle.std.specs.Prelude.{ℕ, ◌+◌, ◌-◌, nat_lt, if◌then◌else◌, Bool, List, [], ◌∷◌, count_by, Option, Some, None, slice_index_or, slice_set}
+use Rattle.std.specs.Prelude.{ℕ, ◌+◌, ◌-◌, nat_lt, if◌then◌else◌, Bool, List, [], ◌∷◌, count_by, map, Option, Some, None, slice_index_or, slice_set}
+use Rattle.std.specs.List.{flat_map}
 use Rattle.cell_core.specs.declared.man.Colour.{Colour}
 use Rattle.cell_core.specs.declared.man.Colour.TheVariants.{White, Black}
 use Rattle.cell_core.specs.declared.man.Kind.{Kind}
@@ -12,12 +13,14 @@ use Rattle.cell_core.specs.declared.man.Man.{Man}
 abbrev pub count_of : Men → Colour → Kind → ℕ
 count_of men c k = count_by (is_man c k) men
 
--- The ten counts in their order: queens, rooks, bishops, knights and pawns of White, then of Black (this project's own).
+-- What this says of each kind but the king, in their order: queens, rooks, bishops, knights and pawns of White, then of Black (this
+-- project's own).
+abbrev pub of_each : (Colour → Kind → ℕ) → List ℕ
+of_each says = flat_map (λ c. map (says c) (Queen ∷ Rook ∷ Bishop ∷ Knight ∷ Pawn ∷ [])) (White ∷ Black ∷ [])
+
+-- The ten counts in that order.
 abbrev pub counts_of : Men → List ℕ
-counts_of men =
-    count_of men White Queen ∷ count_of men White Rook ∷ count_of men White Bishop ∷ count_of men White Knight ∷ count_of men White Pawn
-    ∷ count_of men Black Queen ∷ count_of men Black Rook ∷ count_of men Black Bishop ∷ count_of men Black Knight ∷ count_of men Black Pawn
-    ∷ []
+counts_of men = of_each (count_of men)
 
 -- The place of a man's count among the ten; a king has none.
 abbrev pub place_in : Colour → ℕ → ℕ

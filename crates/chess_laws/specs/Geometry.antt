@@ -1,5 +1,6 @@
 -- How men move over the board: files, ranks and steps.
 use Rattle.std.specs.Prelude.{◌≡◌, ℕ, zero, suc, ◌+◌, ◌-◌, ◌*◌, ◌/◌, ◌%◌, ◌&&◌, nat_lt, nat_le, if◌then◌else◌, List, [], ◌∷◌, ◌++◌, Option, Some, None}
+use Rattle.std.specs.Option.{option_and_then, option_map}
 use Rattle.cell_core.specs.declared.man.Colour.{Colour}
 use Rattle.cell_core.specs.declared.man.Colour.TheVariants.{White, Black}
 use Rattle.cell_core.specs.Board.{Men, man_at}
@@ -29,15 +30,10 @@ by r l u d = record { right = r; left = l; up = u; down = d }
 abbrev pub line_at : ℕ → ℕ → ℕ → Option ℕ
 line_at line up down = if nat_le down (line + up) && nat_lt (line + up) (8 + down) then Some (line + up - down) else None
 
--- The square of a file and a rank, where both are on the board.
-abbrev pub square_at : Option ℕ → Option ℕ → Option ℕ
-square_at None rank = None
-square_at (Some file) None = None
-square_at (Some file) (Some rank) = Some (square file rank)
-
 -- The square that a step leads to, where it stays on the board.
 unfoldable pub shift : Offset → ℕ → Option ℕ
-shift o s = square_at (line_at (file_of s) o.right o.left) (line_at (rank_of s) o.up o.down)
+shift o s =
+    option_and_then (λ file. option_map (square file) (line_at (rank_of s) o.up o.down)) (line_at (file_of s) o.right o.left)
 
 -- Along a file or a rank (FIDE Laws, Article 3.3).
 abbrev pub rook_steps : List Offset

@@ -1,5 +1,5 @@
 -- What a position is, and the rules that every position keeps.
-use Rattle.std.specs.Prelude.{◌≡◌, ℕ, ◌+◌, ◌/◌, ◌%◌, ◌^◌, ◌<◌, ◌≤◌, ◌==◌, ◌&&◌, ◌++◌, Bool, true, if◌then◌else◌, IsTrue, [], ◌∷◌, Option, Some, None, is_none, length, replicate, count_by}
+use Rattle.std.specs.Prelude.{◌≡◌, ℕ, ◌+◌, ◌/◌, ◌%◌, ◌^◌, ◌<◌, ◌≤◌, ◌==◌, ◌&&◌, ◌++◌, Bool, if◌then◌else◌, IsTrue, [], ◌∷◌, Option, Some, None, is_none, length, replicate, count_by, map}
 use Rattle.std.specs.List.{position_or_len}
 use Rattle.cell_core.specs.declared.man.Colour.{Colour}
 use Rattle.cell_core.specs.declared.man.Colour.TheVariants.{White, Black}
@@ -95,29 +95,17 @@ setup_of men c bits square = record { board = men; side = c; rights = rights_of 
 
 -- The men of a back rank from file a to h (FIDE Laws, Article 2.3).
 abbrev pub back_rank : Colour → Men
-back_rank c =
-    Some (man c Rook) ∷ Some (man c Knight) ∷ Some (man c Bishop) ∷ Some (man c Queen)
-    ∷ Some (man c King) ∷ Some (man c Bishop) ∷ Some (man c Knight) ∷ Some (man c Rook) ∷ []
+back_rank c = map (λ kind. Some (man c kind)) (Rook ∷ Knight ∷ Bishop ∷ Queen ∷ King ∷ Bishop ∷ Knight ∷ Rook ∷ [])
 
--- The initial position (FIDE Laws, Article 2.3).
+-- The initial position, with all four rights (FIDE Laws, Article 2.3).
 abbrev pub start_men : Men
 start_men =
     back_rank White ++ (replicate 8 (Some (man White Pawn)) ++ (replicate 32 None
     ++ (replicate 8 (Some (man Black Pawn)) ++ back_rank Black)))
 
 abbrev pub start_setup : Setup
-start_setup =
-    record {
-      board = start_men;
-      side = White;
-      rights = record { white_king_side = true; white_queen_side = true; black_king_side = true; black_queen_side = true };
-      en_passant = None;
-    }
-
--- Whether all four rights are left.
-abbrev pub has_all_rights : Rights → Bool
-has_all_rights r = r.white_king_side && (r.white_queen_side && (r.black_king_side && r.black_queen_side))
+start_setup = setup_of start_men White 15 None
 
 -- Whether it is the initial position: its men, White to move, all four rights and no en passant square.
 unfoldable pub is_start : Setup → Bool
-is_start p = same_men p.board start_men && (same_colour p.side White && (has_all_rights p.rights && is_none p.en_passant))
+is_start p = same_men p.board start_men && (same_colour p.side White && ((bits_of p.rights == 15) && is_none p.en_passant))

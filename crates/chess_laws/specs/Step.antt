@@ -1,5 +1,7 @@
 -- The moves of chess: which are legal, and what they lead to (FIDE Laws, Article 3).
-use Rattle.std.specs.Prelude.{◌≡◌, ℕ, ◌+◌, ◌&&◌, not, ◌==◌, ◌⊎◌, Bool, true, false, if◌then◌else◌, IsTrue, All, Any, Option, Some, None, is_none, is_some}
+use Rattle.std.specs.List.{list_any}
+use Rattle.std.specs.Option.{option_map, option_map_or, option_or}
+use Rattle.std.specs.Prelude.{◌≡◌, ℕ, ◌+◌, ◌&&◌, not, ◌==◌, ◌⊎◌, [], ◌∷◌, Bool, true, false, if◌then◌else◌, IsTrue, All, Any, Option, Some, None, is_none, is_some}
 use Rattle.cell_core.specs.declared.man.Colour.{Colour}
 use Rattle.cell_core.specs.declared.man.Colour.TheVariants.{White, Black}
 use Rattle.cell_core.specs.declared.man.Kind.{Kind}
@@ -44,21 +46,14 @@ effect_as King p m =
     else if (m.from == king_home p.side) && (m.to == king_target p.side KingSide) then Castle KingSide
     else if (m.from == king_home p.side) && (m.to == king_target p.side QueenSide) then Castle QueenSide
     else Plain
-effect_as Queen p m = Plain
-effect_as Rook p m = Plain
-effect_as Bishop p m = Plain
-effect_as Knight p m = Plain
 effect_as Pawn p m =
     if goes_two p.side m then Double
     else if changes_file m && is_none (man_at p.board m.to) then Passing
     else Plain
-
-abbrev pub effect_on : Option Man → Setup → Move → Effect
-effect_on None p m = Plain
-effect_on (Some standing) p m = effect_as standing.kind p m
+effect_as _ p m = Plain
 
 abbrev pub effect_of : Setup → Move → Effect
-effect_of p m = effect_on (man_at p.board m.from) p m
+effect_of p m = option_map_or (λ standing. effect_as standing.kind p m) (man_at p.board m.from) Plain
 
 -- No man of this colour stands on the square.
 abbrev pub HasNoOwn : Men → Colour → ℕ → Type 0
@@ -71,22 +66,12 @@ abbrev pub GoesPlainly : Setup → Kind → Move → Type 0
 GoesPlainly p Pawn m =
     (Leaps m.from m.to (forward p.side) × (man_at p.board m.to ≡ None))
     ⊎ (Any (Leaps m.from m.to) (pawn_captures p.side) × ((k : Kind) × (man_at p.board m.to ≡ Some (man (other p.side) k))))
-GoesPlainly p King m = Reaches p.board p.side King m.from m.to × HasNoOwn p.board p.side m.to
-GoesPlainly p Queen m = Reaches p.board p.side Queen m.from m.to × HasNoOwn p.board p.side m.to
-GoesPlainly p Rook m = Reaches p.board p.side Rook m.from m.to × HasNoOwn p.board p.side m.to
-GoesPlainly p Bishop m = Reaches p.board p.side Bishop m.from m.to × HasNoOwn p.board p.side m.to
-GoesPlainly p Knight m = Reaches p.board p.side Knight m.from m.to × HasNoOwn p.board p.side m.to
+GoesPlainly p k m = Reaches p.board p.side k m.from m.to × HasNoOwn p.board p.side m.to
 
 -- A pawn that comes to the last rank becomes a queen, rook, bishop or knight (FIDE Laws, Article 3.7.3.3); no other move
 -- names a man.
 abbrev pub may_become : Option Kind → Bool
-may_become None = false
-may_become (Some King) = false
-may_become (Some Queen) = true
-may_become (Some Rook) = true
-may_become (Some Bishop) = true
-may_become (Some Knight) = true
-may_become (Some Pawn) = false
+may_become promo = option_map_or (λ kind. list_any (same_kind kind) (Queen ∷ Rook ∷ Bishop ∷ Knight ∷ [])) promo false
 
 abbrev pub promotes_rightly : Colour → Kind → Move → Bool
 promotes_rightly c k m = if same_kind k Pawn && (rank_of m.to == last_rank c) then may_become m.promo else is_none m.promo
@@ -144,8 +129,7 @@ Case p m Null = NullCase p m
 
 -- The man that arrives: the one that moved, or what it is promoted to.
 abbrev pub arriving : Setup → Move → Option Kind → Option Man
-arriving p m None = man_at p.board m.from
-arriving p m (Some k) = Some (man p.side k)
+arriving p m promo = option_or (option_map (man p.side) promo) (man_at p.board m.from)
 
 -- The board after the man has moved to its target, where it captures what stands there.
 abbrev pub moved : Setup → Move → Men
@@ -153,30 +137,20 @@ moved p m = put (put p.board m.from None) m.to (arriving p m m.promo)
 
 -- The board after a move: en passant takes the passed pawn away, castling moves the rook too.
 abbrev pub board_after : Setup → Move → Effect → Men
-board_after p m Plain = moved p m
-board_after p m Double = moved p m
 board_after p m Passing = put (moved p m) (passed_square m) None
 board_after p m (Castle wing) = put (put (moved p m) (rook_home p.side wing) None) (rook_target p.side wing) (Some (man p.side Rook))
 board_after p m Null = p.board
+board_after p m _ = moved p m
 
 -- A null move keeps all rights.
 abbrev pub rights_left : Setup → Move → Effect → Rights
-rights_left p m Plain = rights_after p.rights m
-rights_left p m Double = rights_after p.rights m
-rights_left p m Passing = rights_after p.rights m
-rights_left p m (Castle wing) = rights_after p.rights m
 rights_left p m Null = p.rights
+rights_left p m _ = rights_after p.rights m
 
 -- The square that a pawn's double step has crossed (FIDE Laws, Article 3.7.3.1).
-abbrev pub crossed_square : Setup → Move → Option ℕ
-crossed_square p m = Some (square (file_of m.from) (en_passant_rank (other p.side)))
-
 abbrev pub en_passant_after : Setup → Move → Effect → Option ℕ
-en_passant_after p m Plain = None
-en_passant_after p m Double = crossed_square p m
-en_passant_after p m Passing = None
-en_passant_after p m (Castle wing) = None
-en_passant_after p m Null = None
+en_passant_after p m Double = Some (square (file_of m.from) (en_passant_rank (other p.side)))
+en_passant_after p m _ = None
 
 -- What the position becomes: the other side is to move.
 abbrev pub after : Setup → Move → Effect → Setup
@@ -195,11 +169,10 @@ stepped p m = after p m (effect_of p m)
 -- Whether a move captures: a man stands on its target, or it is a capture en passant; castling and the null move, which go
 -- to no man, capture nothing.
 abbrev pub captures_by : Effect → Setup → Move → Bool
-captures_by Plain p m = is_some (man_at p.board m.to)
-captures_by Double p m = is_some (man_at p.board m.to)
 captures_by Passing p m = true
 captures_by (Castle wing) p m = false
 captures_by Null p m = false
+captures_by _ p m = is_some (man_at p.board m.to)
 
 unfoldable pub is_capture : Setup → Move → Bool
 is_capture p m = captures_by (effect_of p m) p m

@@ -1,5 +1,6 @@
 -- What a half-move does is said by the board and the side to move; rights and the en passant square only say whether it is allowed.
 use Rattle.std.proofs.Common.{◌≡◌, ℕ, Option, Some, None, refl, sym, subst, ◌∙◌}
+use Rattle.std.specs.Option.{option_map_or}
 use Rattle.cell_core.specs.declared.man.Kind.{Kind}
 use Rattle.cell_core.specs.declared.man.Kind.TheVariants.{King, Queen, Rook, Bishop, Knight, Pawn}
 use Rattle.cell_core.specs.declared.man.Man.{Man}
@@ -10,7 +11,7 @@ use Rattle.chess_laws.specs.declared.effect.Effect.TheVariants.{Plain, Double, P
 use Rattle.chess_laws.specs.declared.setup.Rights.{Rights}
 use Rattle.chess_laws.specs.declared.setup.Setup.{Setup}
 use Rattle.chess_laws.specs.Attacks.{IsInCheck}
-use Rattle.chess_laws.specs.Step.{effect_as, effect_on, effect_of, GoesPlainly, PlainCase, DoubleCase, Case, board_after, rights_left, en_passant_after, after, Legal}
+use Rattle.chess_laws.specs.Step.{effect_as, effect_of, GoesPlainly, PlainCase, DoubleCase, Case, board_after, rights_left, en_passant_after, after, Legal}
 
 -- the board and the side of a position with these rights and this en passant square
 abbrev pub altered : Setup → Rights → Option ℕ → Setup
@@ -25,7 +26,7 @@ effect-as_same Knight p rights square m = refl
 effect-as_same Pawn p rights square m = refl
 
 effect-on_same : (standing : Option Man) (p : Setup) (rights : Rights) (square : Option ℕ) (m : Move)
-    → effect_on standing (altered p rights square) m ≡ effect_on standing p m
+    → option_map_or (λ man. effect_as man.kind (altered p rights square) m) standing Plain ≡ option_map_or (λ man. effect_as man.kind p m) standing Plain
 effect-on_same None p rights square m = refl
 effect-on_same (Some standing) p rights square m = effect-as_same standing.kind p rights square m
 
