@@ -1,6 +1,6 @@
 -- The numbers from a placement text are those of the men.
-use Rattle.move_codec.proofs.Words.{◌≡◌, ℕ, zero, suc, ◌+◌, ◌-◌, ◌*◌, ◌/◌, ◌%◌, ◌<◌, ◌≤◌, Bool, true, false, not, ◌&&◌, cond, eqb, List, [], ◌∷◌, ◌++◌, Option, None, length, get_or, slice_get, inl, inr, refl, sym, ◌∙◌, ap, arith, length-append, zero-add, add-one, drop, drop-cons, count_by, sum_by, list_all, sum_by-cons, sum_by-append, sum_by-drop_more, and_parts, cases_Bool, eq-eqb, eqb-true, false≢true, ne_eqb, not-true, eqb_tells, none-some, Colour, White, Black, King, Man, Men, man_at, is_of, is_man, HasKings, HasFewMen, king_square, is_man-Some, king-only, AreNumbers, text_numbers, text_squares, rank_squares, with_king, with_square, text_numbers_of}
-use Rattle.move_codec.specs.Numbers.{with_squares}
+use Rattle.move_codec.proofs.Words.{◌≡◌, ℕ, zero, suc, ◌+◌, ◌-◌, ◌*◌, ◌/◌, ◌%◌, ◌<◌, ◌≤◌, Bool, true, false, not, ◌&&◌, cond, eqb, List, [], ◌∷◌, ◌++◌, Option, None, length, get_or, slice_get, inl, inr, refl, sym, ◌∙◌, ap, subst, arith, length-append, zero-add, add-one, drop, drop-cons, count_by, sum_by, list_all, sum_by-cons, sum_by-append, sum_by-drop_more, and_parts, cases_Bool, eq-eqb, eqb-true, false≢true, ne_eqb, not-true, eqb_tells, none-some, Colour, White, Black, King, Man, Men, man_at, is_of, is_man, HasKings, HasFewMen, king_square, is_man-Some, king-only, AreNumbers, text_numbers, text_squares, with_king, with_square, fold, range_with_len}
+use Rattle.move_codec.specs.Numbers.{text_numbers_of}
 use Rattle.move_codec.proofs.Boards.{Numbering, are_numbers, holds, king_held}
 use Rattle.move_codec.proofs.Lists.{at, found}
 use Rattle.move_codec.proofs.Standard.{held_on_board}
@@ -27,6 +27,14 @@ length-with_square men c squares x = elim (cases_Bool (is_man c King (man_at men
   ]
 ]
 
+-- what stands on the squares of a text is added
+unfoldable pub with_squares : Men → Colour → List ℕ → List ℕ → List ℕ
+with_squares men side squares later = fold (with_square men side) squares later
+
+pub text_is : (men : Men) (c : Colour) → with_squares men c [] text_squares ≡ text_numbers_of men c
+unfolding with_squares text_numbers_of
+text_is men c = refl
+
 length-with_squares : (men : Men) (c : Colour) (squares later : List ℕ) → length (with_squares men c squares later) ≡ length squares + count_by (holds c men) later
 unfolding with_squares
 length-with_squares men c squares [] = omega arith
@@ -50,9 +58,9 @@ ranks : (f : ℕ → ℕ) (a b c d e g h i : List ℕ)
     → sum_by f (a ++ (b ++ (c ++ (d ++ (e ++ (g ++ (h ++ i))))))) ≡ sum_by f (i ++ (h ++ (g ++ (e ++ (d ++ (c ++ (b ++ a)))))))
 ranks f a b c d e g h i = simp sum_by-append (omega arith)
 
-few-text : (men : Men) (c : Colour) → length men ≡ 64 → count_by (is_of c) men ≤ 16 → length (text_numbers_of men c) ≤ 16
+few-text : (men : Men) (c : Colour) → length men ≡ 64 → count_by (is_of c) men ≤ 16 → length (with_squares men c [] text_squares) ≤ 16
 few-text men c size few =
-    let r : ℕ → List ℕ = rank_squares in
+    let r : ℕ → List ℕ = λ rank. range_with_len (8 * rank) 8 in
     let order : sum_by (count_at men c) text_squares ≡ sum_by (count_at men c) (upto 0 64) = ranks (count_at men c) (r 7) (r 6) (r 5) (r 4) (r 3) (r 2) (r 1) (r 0) in
     let board : sum_by (count_at men c) (upto 0 64) ≡ count_by (is_of c) men = ap (λ n. sum_by (count_at men c) (upto 0 n)) (sym size)
     ∙ count_upto men (λ o. cond (is_of c o) 1 0) (count_at men c) 0 (λ i. ap (count_at men c) (zero-add i)) in
@@ -132,7 +140,7 @@ numbers-text men c size one few =
     let nothing : (s : ℕ) → is_of c (before men text_squares s) ≡ true → ⊥ = λ s h.
     let on_board = held_on_board men c s size (before-some (is_of c) men text_squares s refl h) in
     false≢true (sym (not-true (is_of c (before men text_squares s)) (below (λ t. not (is_of c (before men text_squares t))) 64 s refl on_board)) ∙ h) in
-    numbered men c (text_numbers_of men c) (Tracked-squares men c one text_squares [] refl (few-text men c size few) (
+    subst (Numbering men c) (text_is men c) (numbered men c (with_squares men c [] text_squares) (Tracked-squares men c one text_squares [] refl (few-text men c size few) (
       omega arith,
       record {
         place = λ s. s;
@@ -140,7 +148,7 @@ numbers-text men c size one few =
         whole = λ s own. absurd (nothing s own);
         first = λ s is. absurd (nothing s (king_held c (before men text_squares s) is));
       },
-    ))
+    )))
 
 pub AreNumbers-text : (men : Men) → length men ≡ 64 → HasKings men → HasFewMen men → AreNumbers men (text_numbers men)
 AreNumbers-text men size kings few =
@@ -162,7 +170,7 @@ InText-room men c place squares size few h same =
     omega (
       arith,
       few-text men c size few,
-      ap length same,
+      ap length (same ∙ sym (text_is men c)),
       length-with_squares men c squares (drop place text_squares),
       sum_by-drop_more (count_at men c) text_squares place 0 h,
       ap (count_at men c) (text_square place h),

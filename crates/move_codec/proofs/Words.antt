@@ -21,7 +21,7 @@ pub use Rattle.chess_laws.specs.declared.effect.Effect.TheVariants.{Plain, Doubl
 pub use Rattle.chess_laws.specs.declared.setup.Setup.{Setup}
 pub use Rattle.chess_laws.specs.declared.setup.Wing.{Wing}
 pub use Rattle.chess_laws.specs.declared.setup.Wing.TheVariants.{KingSide, QueenSide}
-pub use Rattle.move_codec.specs.Numbers.{Numbered, AreNumbers, number_of, squares_of, HasKingFirst, IsNumbering, without, standard_numbers, start_ranks, went, movers_after, capture_square, numbers_by, numbers_after, text_numbers, text_squares, rank_squares, with_king, with_square, text_numbers_of}
+pub use Rattle.move_codec.specs.Numbers.{Numbered, AreNumbers, number_of, squares_of, HasKingFirst, IsNumbering, without, standard_numbers, start_ranks, went, movers_after, capture_square, numbers_by, numbers_after, text_numbers, text_squares, with_king, with_square, text_numbers_of}
 pub use Rattle.move_codec.specs.Packed.{Decodes, encoding, is_mark, named, rest_of, value_of, HasHighSecond, diagonal_move, is_diagonal, king_differences, knight_differences, by_difference, named_by, named_from, on_diagonal, on_line, pawn_square, promotion, to_square, encoding_by}
 pub use Rattle.move_codec.specs.declared.fault.MoveFault.{MoveFault}
 pub use Rattle.move_codec.specs.declared.fault.MoveFault.TheVariants.{Short, NoMan, Value, Illegal}
@@ -37,6 +37,6 @@ pub use Rattle.std.proofs.lemmas.List.Sums.{prefix_len-le-length, AllPass-from_l
 pub use Rattle.std.proofs.lemmas.Option.{same_Some, none-some, slice_get_past, slice_get_within, get_or_from_slice_get, slice_get-get_or}
 pub use Rattle.std.proofs.lemmas.Result.{err_from_is_err_and}
 pub use Rattle.std.specs.Bool.{OnFalse}
-pub use Rattle.std.specs.List.{position_or_len, list_all, swap_remove}
+pub use Rattle.std.specs.List.{fold, position_or_len, list_all, range_with_len, swap_remove}
 pub use Rattle.std.specs.Option.{option_eq}
 pub use Rattle.std.specs.Prelude.{Result, is_some, is_none, sum_by}

@@ -1,12 +1,12 @@
 -- Men's numbers (this project's own): a man's number is its place in the list of its side's squares.
 use Rattle.std.specs.Prelude.{◌≡◌, ℕ, ◌+◌, ◌*◌, ◌≤◌, ◌==◌, nat_lt, if◌then◌else◌, IsTrue, List, [], ◌∷◌, ◌++◌, Some, length, slice_get, slice_set}
-use Rattle.std.specs.List.{position_or_len, swap_remove}
+use Rattle.std.specs.List.{flat_map, fold, position_or_len, range_with_len, swap_remove}
 use Rattle.cell_core.specs.declared.man.Colour.{Colour}
 use Rattle.cell_core.specs.declared.man.Colour.TheVariants.{White, Black}
 use Rattle.cell_core.specs.declared.man.Kind.TheVariants.{King}
 use Rattle.cell_core.specs.declared.step.Move.{Move}
 use Rattle.cell_core.specs.Board.{Men, man_at}
-use Rattle.cell_core.specs.Man.{is_man, is_of}
+use Rattle.cell_core.specs.Man.{is_man, is_of, same_colour}
 use Rattle.chess_laws.specs.declared.setup.Setup.{Setup}
 use Rattle.chess_laws.specs.declared.effect.Effect.{Effect}
 use Rattle.chess_laws.specs.declared.effect.Effect.TheVariants.{Passing, Castle}
@@ -39,16 +39,9 @@ start_ranks back pawns =
 abbrev pub standard_numbers : Numbers
 standard_numbers = record { white = start_ranks 0 8; black = start_ranks 56 48 }
 
--- The squares of a rank from file a, and all squares in the order of a FEN's placement: the eighth rank first.
-abbrev pub rank_squares : ℕ → List ℕ
-rank_squares rank =
-    8 * rank ∷ (8 * rank + 1) ∷ (8 * rank + 2) ∷ (8 * rank + 3)
-    ∷ (8 * rank + 4) ∷ (8 * rank + 5) ∷ (8 * rank + 6) ∷ (8 * rank + 7) ∷ []
-
+-- All squares in the order of a FEN's placement: the eighth rank first, and each rank from file a.
 abbrev pub text_squares : List ℕ
-text_squares =
-    rank_squares 7 ++ (rank_squares 6 ++ (rank_squares 5 ++ (rank_squares 4
-    ++ (rank_squares 3 ++ (rank_squares 2 ++ (rank_squares 1 ++ rank_squares 0))))))
+text_squares = flat_map (λ rank. range_with_len (8 * rank) 8) (7 ∷ 6 ∷ 5 ∷ 4 ∷ 3 ∷ 2 ∷ 1 ∷ 0 ∷ [])
 
 -- A king is added: it takes the number 0, and the man that had it takes the next number.
 abbrev pub with_king : List ℕ → ℕ → List ℕ
@@ -62,13 +55,9 @@ with_square men side squares square =
     else if is_of side (man_at men square) then squares ++ square ∷ []
     else squares
 
-unfoldable pub with_squares : Men → Colour → List ℕ → List ℕ → List ℕ
-with_squares men side squares [] = squares
-with_squares men side squares (next ∷ later) = with_squares men side (with_square men side squares next) later
-
 -- The numbers of a side from a FEN, and of both sides.
-abbrev pub text_numbers_of : Men → Colour → List ℕ
-text_numbers_of men side = with_squares men side [] text_squares
+unfoldable pub text_numbers_of : Men → Colour → List ℕ
+text_numbers_of men side = fold (with_square men side) [] text_squares
 
 abbrev pub text_numbers : Men → Numbers
 text_numbers men = record { white = text_numbers_of men White; black = text_numbers_of men Black }
@@ -94,17 +83,17 @@ abbrev pub capture_square : Move → Effect → ℕ
 capture_square m Passing = passed_square m
 capture_square m _ = m.to
 
+-- The squares of a colour after a move of this side: the mover's, or those of whom it captures.
+abbrev pub squares_after : Colour → Colour → Move → Effect → List ℕ → List ℕ
+squares_after colour side m effect squares =
+    if same_colour colour side then movers_after side m effect squares else without squares (capture_square m effect)
+
 -- The numbers after a move.
 abbrev pub numbers_by : Colour → Move → Effect → Numbers → Numbers
-numbers_by White m effect numbers =
+numbers_by side m effect numbers =
     record {
-      white = movers_after White m effect numbers.white;
-      black = without numbers.black (capture_square m effect);
-    }
-numbers_by Black m effect numbers =
-    record {
-      white = without numbers.white (capture_square m effect);
-      black = movers_after Black m effect numbers.black;
+      white = squares_after White side m effect numbers.white;
+      black = squares_after Black side m effect numbers.black;
     }
 
 abbrev pub numbers_after : Setup → Move → Numbers → Numbers

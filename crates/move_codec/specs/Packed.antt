@@ -1,7 +1,7 @@
 -- Packed moves (this project's own): a byte with the man's number in the high nibble and a value in the low one, and for
 -- a queen's diagonal move a second byte.
 use Rattle.std.specs.Prelude.{◌≡◌, ℕ, ◌+◌, ◌-◌, ◌*◌, ◌/◌, ◌%◌, ◌≤◌, ◌==◌, ◌&&◌, ◌||◌, not, nat_lt, nat_le, if◌then◌else◌, Bool, List, [], ◌∷◌, Option, Some, None, option_and_then, Result, Ok, Err, slice_get}
-use Rattle.std.specs.List.{position_or_len}
+use Rattle.std.specs.List.{find, position_or_len}
 use Rattle.cell_core.specs.declared.man.Colour.{Colour}
 use Rattle.cell_core.specs.declared.man.Colour.TheVariants.{White, Black}
 use Rattle.cell_core.specs.declared.man.Kind.{Kind}
@@ -66,15 +66,17 @@ ahead Black from difference = at_difference from (64 - difference)
 abbrev pub pawn_square : Colour → ℕ → ℕ → Option ℕ
 pawn_square side from value = if value == 15 then ahead side from 16 else ahead side from (7 + value % 3)
 
+-- What a promotion adds to a pawn's value.
+abbrev pub promotion_value : Option Kind → ℕ
+promotion_value (Some Queen) = 3
+promotion_value (Some Rook) = 6
+promotion_value (Some Bishop) = 9
+promotion_value (Some Knight) = 12
+promotion_value _ = 0
+
 -- The man that a pawn becomes: 3 to 5 a queen, 6 to 8 a rook, 9 to 11 a bishop, 12 to 14 a knight.
 abbrev pub promotion : ℕ → Option Kind
-promotion value =
-    if nat_lt value 3 then None
-    else if nat_lt value 6 then Some Queen
-    else if nat_lt value 9 then Some Rook
-    else if nat_lt value 12 then Some Bishop
-    else if nat_lt value 15 then Some Knight
-    else None
+promotion value = find (λ kind. 3 * (value / 3) == promotion_value (Some kind)) (Queen ∷ Rook ∷ Bishop ∷ Knight ∷ [])
 
 -- The second byte of a queen's diagonal move: 64 + the target, which is another square of one of its diagonals.
 abbrev pub gap : ℕ → ℕ → ℕ
@@ -158,14 +160,6 @@ line_value m = if rank_of m.to == rank_of m.from then file_of m.to else 8 + rank
 -- Along a diagonal: the target's file where rank less file stays, else 8 + the target's file.
 abbrev pub diagonal_value : Move → ℕ
 diagonal_value m = if rank_of m.to + file_of m.from == rank_of m.from + file_of m.to then file_of m.to else 8 + file_of m.to
-
--- What a promotion adds to a pawn's value.
-abbrev pub promotion_value : Option Kind → ℕ
-promotion_value (Some Queen) = 3
-promotion_value (Some Rook) = 6
-promotion_value (Some Bishop) = 9
-promotion_value (Some Knight) = 12
-promotion_value _ = 0
 
 abbrev pub pawn_value : Move → ℕ
 pawn_value m = if gap m.from m.to == 16 then 15 else gap m.from m.to - 7 + promotion_value m.promo

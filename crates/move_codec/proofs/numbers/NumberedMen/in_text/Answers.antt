@@ -1,9 +1,9 @@
-use Rattle.move_codec.proofs.Words.{refl, ap, ◌∙◌, arith, with_square}
-use Rattle.move_codec.proofs.Text.{InText-room, InText-next, InText-end}
+use Rattle.move_codec.proofs.Words.{ap, ◌∙◌, arith, with_square}
+use Rattle.move_codec.proofs.Text.{InText-room, InText-next, InText-end, text_is}
 use Rattle.move_codec.proofs.numbers.NumberedMen.in_text.Goals as goal
 
 pub loop-place-init : goal.loop-place-init
-loop-place-init c = rw c.new.ensures refl
+loop-place-init c = rw c.new.ensures (text_is c.args.board.now c.args.side)
 
 pub add-requires : goal.add-requires
 add-requires c =
