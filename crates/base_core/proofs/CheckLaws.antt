@@ -1,9 +1,10 @@
 -- What an entry has that passed its checks.
 use Rattle.std.proofs.Common.{◌≡◌, ◌≤◌, ◌+◌, ℕ, List, Option, Some, None, Result, Ok, Err, refl, sym, subst}
+use Rattle.std.specs.Option.{option_map_or}
 use Rattle.std.proofs.lemmas.Bool.{leb-false, ltb-false}
 use Rattle.index_entry.specs.declared.entry.Entry.{Entry}
 use Rattle.index_entry.specs.declared.fault.EntryFault.{EntryFault}
-use Rattle.index_entry.specs.Entry.{entry_read, entry_in, first_of, fault_in}
+use Rattle.index_entry.specs.Entry.{entry_read, entry_in, fault_in}
 use Rattle.name_base.specs.NameLists.{NameLists}
 use Rattle.base_core.specs.declared.fault.BaseFault.TheVariants.{EntryField, Id, Place}
 use Rattle.base_core.specs.declared.fault.IdField.{IdField}
@@ -66,7 +67,7 @@ ends_within end e none =
     ltb-false _ _ b.0
 
 -- An entry that is read is what the bytes say.
-first_is : (found : Option EntryFault) (x e : Entry) → first_of found x ≡ Ok e → x ≡ e
+first_is : (found : Option EntryFault) (x e : Entry) → option_map_or Err found (Ok x) ≡ Ok e → x ≡ e
 first_is None x e h = same_ok _ x e refl h
 first_is (Some fault) x e h = absurd (ok_err _ e fault h refl)
 

@@ -7,7 +7,8 @@ use Rattle.std.proofs.lemmas.Bool.{cases_lt}
 use Rattle.std.specs.Int.{bit_at}
 use Rattle.byteorder.specs.Endian.{big_from}
 use Rattle.byteorder.specs.Numbers.{big_from-lt}
-use Rattle.index_entry.specs.Bits.{bit_in, field, run}
+use Rattle.std.specs.List.{range_with_len}
+use Rattle.index_entry.specs.Bits.{bit_in, field}
 
 -- A list of bytes.
 abbrev pub IsBytes : List ℕ → Type 0
@@ -23,9 +24,9 @@ pow_256 (suc m) =
     let here : 256 ^ suc m ≡ 256 ^ 1 * 256 ^ m = ap (λ n. 256 ^ n) (omega arith) ∙ pow-add 256 1 m in
     here ∙ ap (λ n. 256 * n) (pow_256 m) ∙ sym split
 
-pub length-run : (p n : ℕ) → length (run p n) ≡ n
+pub length-run : (p n : ℕ) → length (range_with_len p n) ≡ n
 length-run p zero = refl
-length-run p (suc n) = ap suc (length-run (suc p) n)
+length-run p (suc n) = ap suc (length-run (p + 1) n)
 
 first_of_byte : (bytes : List ℕ) (k p q m : ℕ) → 8 * k ≤ p → p < 8 * suc k → p + suc q ≡ 8 * (k + suc m) → bit_in bytes p ≡ bit_at (get_or bytes k 0) (q - 8 * m)
 first_of_byte bytes k p q m low lt e =
@@ -46,16 +47,16 @@ bit_of_number bytes k (suc m) p q h low e =
     whole ∙ ap (λ n. bit_at (get_or bytes k 0 * n + big_from (suc k) m bytes) q) (sym (pow_256 m))
 
 -- The bits of a run are those of the number, without the lowest.
-pub field-run : (bytes : List ℕ) (k m p n lo : ℕ) → IsBytes bytes → 8 * k ≤ p → p + n + lo ≡ 8 * (k + m) → field bytes (run p n) ≡ big_from k m bytes / 2 ^ lo % 2 ^ n
+pub field-run : (bytes : List ℕ) (k m p n lo : ℕ) → IsBytes bytes → 8 * k ≤ p → p + n + lo ≡ 8 * (k + m) → field bytes (range_with_len p n) ≡ big_from k m bytes / 2 ^ lo % 2 ^ n
 unfolding field
 field-run bytes k m p zero lo h low e = omega arith
 field-run bytes k m p (suc n) lo h low e =
-    let rest : field bytes (run (suc p) n) ≡ big_from k m bytes / 2 ^ lo % 2 ^ n = field-run bytes k m (suc p) n lo h (omega arith) (omega arith) in
+    let rest : field bytes (range_with_len (p + 1) n) ≡ big_from k m bytes / 2 ^ lo % 2 ^ n = field-run bytes k m (p + 1) n lo h (omega arith) (omega arith) in
     let bit : bit_in bytes p ≡ bit_at (big_from k m bytes) (lo + n) = bit_of_number bytes k m p (lo + n) h low (omega arith) in
     let split : big_from k m bytes / 2 ^ lo % 2 ^ (1 + n) ≡ (big_from k m bytes / 2 ^ lo / 2 ^ n % 2 ^ 1) * 2 ^ n + big_from k m bytes / 2 ^ lo % 2 ^ n =
     mod-pow-add (big_from k m bytes / 2 ^ lo) 1 n in
-    let sum : bit_in bytes p * 2 ^ length (run (suc p) n) + field bytes (run (suc p) n) ≡ (big_from k m bytes / 2 ^ (lo + n) % 2) * 2 ^ n + big_from k m bytes / 2 ^ lo % 2 ^ n =
-    rw (length-run (suc p) n, bit, rest) refl in
+    let sum : bit_in bytes p * 2 ^ length (range_with_len (p + 1) n) + field bytes (range_with_len (p + 1) n) ≡ (big_from k m bytes / 2 ^ (lo + n) % 2) * 2 ^ n + big_from k m bytes / 2 ^ lo % 2 ^ n =
+    rw (length-run (p + 1) n, bit, rest) refl in
     sum ∙ rw (shr-shr (big_from k m bytes) lo n) at (sym split) ∙ ap (λ i. big_from k m bytes / 2 ^ lo % 2 ^ i) (omega arith)
 
 -- Places side by side.

@@ -4,7 +4,7 @@ use Rattle.std.specs.List.{range_with_len, AllByRecursion}
 use Rattle.std.proofs.lemmas.Bool.{lt-ltb, eqb-true, cases_eq, cases_lt, cases_Bool, or_parts, cond-true, cond-false, or_left, both_ways, agree_below, agree_below_at}
 use Rattle.std.proofs.lemmas.Nat.Bits.{bit_at-lt}
 use Rattle.index_entry.specs.declared.entry.Entry.{Entry}
-use Rattle.index_entry.specs.Bits.{bit_in, field, run, bits}
+use Rattle.index_entry.specs.Bits.{bit_in, field, bits}
 use Rattle.index_entry.proofs.BitLemmas.{field-append}
 use Rattle.game_tree.specs.declared.head.Rating.{Rating}
 use Rattle.index_entry.specs.Places as places
@@ -76,11 +76,11 @@ all_from : (P : ℕ → Type 0) (ps : List ℕ) → ((p : ℕ) → is_among p ps
 all_from P [] h = tt
 all_from P (p ∷ ps) h = (h p (or_left (eqb p p) (is_among p ps) (eq-eqb p p refl)), all_from P ps (λ q is. h q (or_true (eqb q p) (is_among q ps) is)))
 
-run_member : (p q n : ℕ) → q ≤ p → p < q + n → is_among p (run q n) ≡ true
+run_member : (p q n : ℕ) → q ≤ p → p < q + n → is_among p (range_with_len q n) ≡ true
 run_member p q zero low high = absurd (omega arith)
 run_member p q (suc n) low high = elim (cases_eq p q) [
-  | inl e ↦ or_left (eqb p q) (is_among p (run (suc q) n)) (eq-eqb p q e)
-  | inr ne ↦ or_true (eqb p q) (is_among p (run (suc q) n)) (run_member p (suc q) n (omega arith) (omega arith))
+  | inl e ↦ or_left (eqb p q) (is_among p (range_with_len (q + 1) n)) (eq-eqb p q e)
+  | inr ne ↦ or_true (eqb p q) (is_among p (range_with_len (q + 1) n)) (run_member p (q + 1) n (omega arith) (omega arith))
 ]
 
 home_member : (p i n j : ℕ) → i ≤ j → j < i + n → 312 + 4 * j ≤ p → p < 316 + 4 * j → is_among p (home_from i n) ≡ true
@@ -88,8 +88,8 @@ unfolding places.home_value
 home_member p i zero j low high above below = absurd (omega arith)
 home_member p i (suc n) j low high above below =
     among-append p (places.home_value i) (home_from (suc i) n) ∙ (elim (cases_eq i j) [
-      | inl e ↦ or_left (is_among p (run (312 + 4 * i) 4)) (is_among p (home_from (suc i) n)) (run_member p (312 + 4 * i) 4 (omega arith) (omega arith))
-      | inr ne ↦ or_true (is_among p (run (312 + 4 * i) 4)) (is_among p (home_from (suc i) n)) (home_member p (suc i) n j (omega arith) (omega arith) above below)
+      | inl e ↦ or_left (is_among p (range_with_len (312 + 4 * i) 4)) (is_among p (home_from (suc i) n)) (run_member p (312 + 4 * i) 4 (omega arith) (omega arith))
+      | inr ne ↦ or_true (is_among p (range_with_len (312 + 4 * i) 4)) (is_among p (home_from (suc i) n)) (home_member p (suc i) n j (omega arith) (omega arith) above below)
     ])
 
 -- ---- the places that say nothing

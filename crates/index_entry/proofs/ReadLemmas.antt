@@ -1,16 +1,18 @@
 -- What the places say is what the functions read.
-use Rattle.std.proofs.Common.{◌≡◌, ◌<◌, ◌+◌, ◌*◌, ◌/◌, ◌%◌, ℕ, Bool, true, false, cond, eqb, ltb, ◌||◌, List, [], ◌∷◌, map, get_or, Some, None, Ok, Err, refl, sym, ap, ◌∙◌, arith}
+use Rattle.std.proofs.Common.{◌≡◌, ◌<◌, ◌+◌, ◌*◌, ◌/◌, ◌%◌, ℕ, zero, suc, Bool, true, false, cond, eqb, ltb, ◌||◌, List, [], ◌∷◌, map, get_or, Some, None, Ok, Err, refl, sym, ap, ◌∙◌, arith}
 use Rattle.std.specs.List.{range_with_len}
 use Rattle.std.proofs.lemmas.List.FromFn.{get_or-map-range_with_len}
+use Rattle.std.specs.Option.{option_map_or}
 use Rattle.byteorder.specs.Endian.{big_from}
 use Rattle.byteorder.specs.Numbers.{big_from-lt}
 use Rattle.game_tree.specs.Date.{date_of}
+use Rattle.game_tree.specs.declared.head.Outcome.TheVariants.{Unknown}
 use Rattle.index_entry.specs.declared.entry.Entry.{Entry}
 use Rattle.index_entry.specs.declared.fault.EntryFault.TheVariants as faults
-use Rattle.index_entry.specs.Bits.{field, run}
+use Rattle.index_entry.specs.Bits.{field}
 use Rattle.index_entry.specs.Places as places
 use Rattle.index_entry.proofs.FieldPlaces as spots
-use Rattle.index_entry.specs.Entry.{outcome_of, date_in, event_date_in, event_date_of, rating_of, is_bad_rating, home_in, entry_in, fault_in, first_of, entry_read}
+use Rattle.index_entry.specs.Entry.{outcome_of, date_in, event_date_in, event_date_of, rating_of, is_bad_rating, home_in, entry_in, fault_in, entry_read}
 use Rattle.index_entry.specs.Reading.{◌>>=◌, outcome_at, eco_at, event_at, dates_at, rating_at, material_at, home_at, fields_at, entry_at}
 use Rattle.index_entry.proofs.BitLemmas.{IsBytes, field-run}
 use Rattle.index_entry.proofs.FieldLemmas as fields
@@ -42,6 +44,14 @@ vars_read_is b h = omega (arith, fields.vars-is b h, h 22)
 
 pub outcome_read_is : (b : List ℕ) → IsBytes b → field b places.outcome ≡ get_or b 21 0 / 16
 outcome_read_is b h = omega (arith, fields.outcome-is b h, h 21)
+
+-- Any other code is that of an unknown result.
+pub outcome_other : (n : ℕ) → (n ≡ 1 → ⊥) → (n ≡ 2 → ⊥) → (n ≡ 3 → ⊥) → Unknown ≡ outcome_of n
+outcome_other zero one two three = refl
+outcome_other (suc zero) one two three = absurd (one refl)
+outcome_other (suc (suc zero)) one two three = absurd (two refl)
+outcome_other (suc (suc (suc zero))) one two three = absurd (three refl)
+outcome_other (suc (suc (suc (suc n)))) one two three = refl
 
 pub eco_read_is : (b : List ℕ) → IsBytes b → field b places.eco ≡ big_from 23 2 b
 eco_read_is b h = omega (arith, fields.eco-is b h, h 23, h 24)
@@ -110,16 +120,16 @@ home_value_read_is b h i less = sym (get_or-map-range_with_len (home_in b) 0 16 
 pub material_read_is : (b : List ℕ) → IsBytes b → map (field b) spots.material ≡ material_at (get_or b 34 0) (get_or b 35 0) (get_or b 36 0)
 unfolding material_at
 material_read_is b h =
-    let m0 : field b (run 272 2) ≡ get_or b 34 0 / 64 = omega (arith, field-run b 34 1 272 2 6 h (omega arith) refl, h 34) in
-    let m1 : field b (run 274 2) ≡ get_or b 34 0 / 16 % 4 = omega (arith, field-run b 34 1 274 2 4 h (omega arith) refl, h 34) in
-    let m2 : field b (run 276 2) ≡ get_or b 34 0 / 4 % 4 = omega (arith, field-run b 34 1 276 2 2 h (omega arith) refl, h 34) in
-    let m3 : field b (run 278 2) ≡ get_or b 34 0 % 4 = omega (arith, field-run b 34 1 278 2 0 h (omega arith) refl, h 34) in
-    let m4 : field b (run 280 4) ≡ get_or b 35 0 / 16 = omega (arith, field-run b 35 1 280 4 4 h (omega arith) refl, h 35) in
-    let m5 : field b (run 284 2) ≡ get_or b 35 0 / 4 % 4 = omega (arith, field-run b 35 1 284 2 2 h (omega arith) refl, h 35) in
-    let m6 : field b (run 286 2) ≡ get_or b 35 0 % 4 = omega (arith, field-run b 35 1 286 2 0 h (omega arith) refl, h 35) in
-    let m7 : field b (run 288 2) ≡ get_or b 36 0 / 64 = omega (arith, field-run b 36 1 288 2 6 h (omega arith) refl, h 36) in
-    let m8 : field b (run 290 2) ≡ get_or b 36 0 / 16 % 4 = omega (arith, field-run b 36 1 290 2 4 h (omega arith) refl, h 36) in
-    let m9 : field b (run 292 4) ≡ get_or b 36 0 % 16 = omega (arith, field-run b 36 1 292 4 0 h (omega arith) refl, h 36) in
+    let m0 : field b (range_with_len 272 2) ≡ get_or b 34 0 / 64 = omega (arith, field-run b 34 1 272 2 6 h (omega arith) refl, h 34) in
+    let m1 : field b (range_with_len 274 2) ≡ get_or b 34 0 / 16 % 4 = omega (arith, field-run b 34 1 274 2 4 h (omega arith) refl, h 34) in
+    let m2 : field b (range_with_len 276 2) ≡ get_or b 34 0 / 4 % 4 = omega (arith, field-run b 34 1 276 2 2 h (omega arith) refl, h 34) in
+    let m3 : field b (range_with_len 278 2) ≡ get_or b 34 0 % 4 = omega (arith, field-run b 34 1 278 2 0 h (omega arith) refl, h 34) in
+    let m4 : field b (range_with_len 280 4) ≡ get_or b 35 0 / 16 = omega (arith, field-run b 35 1 280 4 4 h (omega arith) refl, h 35) in
+    let m5 : field b (range_with_len 284 2) ≡ get_or b 35 0 / 4 % 4 = omega (arith, field-run b 35 1 284 2 2 h (omega arith) refl, h 35) in
+    let m6 : field b (range_with_len 286 2) ≡ get_or b 35 0 % 4 = omega (arith, field-run b 35 1 286 2 0 h (omega arith) refl, h 35) in
+    let m7 : field b (range_with_len 288 2) ≡ get_or b 36 0 / 64 = omega (arith, field-run b 36 1 288 2 6 h (omega arith) refl, h 36) in
+    let m8 : field b (range_with_len 290 2) ≡ get_or b 36 0 / 16 % 4 = omega (arith, field-run b 36 1 290 2 4 h (omega arith) refl, h 36) in
+    let m9 : field b (range_with_len 292 4) ≡ get_or b 36 0 % 16 = omega (arith, field-run b 36 1 292 4 0 h (omega arith) refl, h 36) in
     λ i. m0 i ∷ m1 i ∷ m2 i ∷ m3 i ∷ m4 i ∷ m5 i ∷ m6 i ∷ m7 i ∷ m8 i ∷ m9 i ∷ []
 
 flag_is : (m n : ℕ) → m ≡ n → eqb m 1 ≡ eqb n 1
@@ -160,7 +170,7 @@ fields_read_is b h =
     }
 
 steps : {O E D W K : Type 0} (t1 t2 t3 t4 t5 : Bool) (o : O) (e : E) (d : D) (w : W) (k : K) (f : O → E → D → W → K → Entry)
-    → first_of (cond t1 (Some faults.Result) (cond t2 (Some faults.Eco) (cond t3 (Some faults.Date) (cond (t4 || t5) (Some faults.Rating) None)))) (f o e d w k)
+    → option_map_or Err (cond t1 (Some faults.Result) (cond t2 (Some faults.Eco) (cond t3 (Some faults.Date) (cond (t4 || t5) (Some faults.Rating) None)))) (Ok (f o e d w k))
     ≡ (cond t1 (Err faults.Result) (Ok o) >>= λ o. cond t2 (Err faults.Eco) (Ok e) >>= λ e. cond t3 (Err faults.Date) (Ok d)
     >>= λ d. cond t4 (Err faults.Rating) (Ok w) >>= λ w. cond t5 (Err faults.Rating) (Ok k) >>= λ k. Ok (f o e d w k))
 steps true t2 t3 t4 t5 o e d w k f = refl
@@ -173,20 +183,20 @@ steps false false false false false o e d w k f = refl
 pub read_is : (b : List ℕ) → IsBytes b → entry_read b ≡ entry_at b
 unfolding entry_read entry_at fault_in outcome_at eco_at dates_at rating_at
 read_is b h =
-    let sought : entry_read b ≡ first_of (
+    let sought : entry_read b ≡ option_map_or Err (
     cond (ltb 3 (get_or b 21 0 / 16)) (Some faults.Result)
     (cond (ltb 65500 (big_from 23 2 b)) (Some faults.Eco)
     (cond (ltb 12 (date_of (big_from 25 4 b % 1048576)).month || ltb 12 (event_at (date_of (big_from 25 4 b % 1048576)) (big_from 25 4 b)).month) (Some faults.Date)
     (cond (is_bad_rating (big_from 29 2 b / 4096) (big_from 29 2 b % 4096) || is_bad_rating (big_from 31 2 b / 4096) (big_from 31 2 b % 4096)) (Some faults.Rating) None))))
-    (fields_at b (outcome_of (get_or b 21 0 / 16)) (big_from 23 2 b)
+    (Ok (fields_at b (outcome_of (get_or b 21 0 / 16)) (big_from 23 2 b)
     (date_of (big_from 25 4 b % 1048576), event_at (date_of (big_from 25 4 b % 1048576)) (big_from 25 4 b))
-    (rating_of (big_from 29 2 b / 4096) (big_from 29 2 b % 4096)) (rating_of (big_from 31 2 b / 4096) (big_from 31 2 b % 4096))) =
-    λ i. first_of (
+    (rating_of (big_from 29 2 b / 4096) (big_from 29 2 b % 4096)) (rating_of (big_from 31 2 b / 4096) (big_from 31 2 b % 4096)))) =
+    λ i. option_map_or Err (
     cond (ltb 3 (outcome_read_is b h i)) (Some faults.Result)
     (cond (ltb 65500 (eco_read_is b h i)) (Some faults.Eco)
     (cond (ltb 12 (date_read_is b h i).month || ltb 12 (event_date_read_is b h i).month) (Some faults.Date)
     (cond (is_bad_rating (white_kind_read_is b h i) (white_value_read_is b h i) || is_bad_rating (black_kind_read_is b h i) (black_value_read_is b h i)) (Some faults.Rating) None))))
-    (fields_read_is b h i) in
+    (Ok (fields_read_is b h i)) in
     sought ∙ steps (ltb 3 (get_or b 21 0 / 16)) (ltb 65500 (big_from 23 2 b))
     (ltb 12 (date_of (big_from 25 4 b % 1048576)).month || ltb 12 (event_at (date_of (big_from 25 4 b % 1048576)) (big_from 25 4 b)).month)
     (is_bad_rating (big_from 29 2 b / 4096) (big_from 29 2 b % 4096)) (is_bad_rating (big_from 31 2 b / 4096) (big_from 31 2 b % 4096))

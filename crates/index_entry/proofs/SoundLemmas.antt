@@ -7,6 +7,7 @@ use Rattle.std.proofs.lemmas.List.{get_or_past}
 use Rattle.std.proofs.lemmas.List.FromFn.{get_or-map-range_with_len}
 use Rattle.std.proofs.lemmas.Nat.{pow-add}
 use Rattle.std.proofs.lemmas.Nat.Bits.{bit_at-lt}
+use Rattle.std.specs.Option.{option_map_or}
 use Rattle.game_tree.specs.Date.{IsDate, unknown_date, is_unknown, is_near, keeps_rule}
 use Rattle.game_tree.specs.Head.{IsRating}
 use Rattle.game_tree.specs.declared.date.Date.{Date}
@@ -16,7 +17,7 @@ use Rattle.index_entry.specs.declared.fault.EntryFault.TheVariants as faults
 use Rattle.index_entry.specs.Bits.{bit_in, field, bits}
 use Rattle.index_entry.specs.Places as places
 use Rattle.index_entry.proofs.FieldPlaces as spots
-use Rattle.index_entry.specs.Entry.{date_in, event_date_in, has_event_date, event_date_of, rating_of, is_bad_rating, home_in, entry_in, fault_in, first_of, entry_read, AreHomeValues, AreCounts, IsEntry}
+use Rattle.index_entry.specs.Entry.{date_in, event_date_in, has_event_date, event_date_of, rating_of, is_bad_rating, home_in, entry_in, fault_in, entry_read, AreHomeValues, AreCounts, IsEntry}
 
 power_step : (bit rest half whole : ℕ) → bit < 2 → rest < half → whole ≡ 2 ^ 1 * half → bit * half + rest < whole
 power_step zero rest half whole small lt e = omega arith
@@ -40,7 +41,8 @@ pub record Passed (b : List ℕ) : Type 0 where
   pub white : is_bad_rating (field b places.white_kind) (field b places.white_value) ≡ false
   pub black : is_bad_rating (field b places.black_kind) (field b places.black_value) ≡ false
 
-guard : (t : Bool) (f : EntryFault) (rest : Option EntryFault) (entry e : Entry) → first_of (cond t (Some f) rest) entry ≡ Ok e → (t ≡ false) × (first_of rest entry ≡ Ok e)
+guard : (t : Bool) (f : EntryFault) (rest : Option EntryFault) (entry e : Entry) → option_map_or Err (cond t (Some f) rest) (Ok entry) ≡ Ok e
+    → (t ≡ false) × (option_map_or Err rest (Ok entry) ≡ Ok e)
 guard true f rest entry e is = absurd cc
 guard false f rest entry e is = (refl, is)
 

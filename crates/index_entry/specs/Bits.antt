@@ -1,6 +1,7 @@
 -- The bits of an entry. Its 47 bytes are 376 places in their order, in each byte from its highest bit to its lowest (this project's own words).
-use Rattle.std.specs.Prelude.{ℕ, zero, suc, ◌+◌, ◌-◌, ◌*◌, ◌/◌, ◌%◌, ◌^◌, List, [], ◌∷◌, length, slice_index}
+use Rattle.std.specs.Prelude.{ℕ, ◌+◌, ◌-◌, ◌*◌, ◌/◌, ◌%◌, ◌^◌, List, [], ◌∷◌, length, slice_index}
 use Rattle.std.specs.Int.{bit_at}
+use Rattle.std.specs.List.{range_with_len}
 
 -- The bit at a place: place p is in byte p div 8, and is there bit 7 - p mod 8, where bit 0 is the lowest.
 abbrev pub bit_in : List ℕ → ℕ → ℕ
@@ -11,11 +12,6 @@ unfoldable pub field : List ℕ → List ℕ → ℕ
 field bytes [] = 0
 field bytes (place ∷ places) = bit_in bytes place * 2 ^ length places + field bytes places
 
--- So many places from one on.
-abbrev pub run : ℕ → ℕ → List ℕ
-run place zero = []
-run place (suc count) = place ∷ run (suc place) count
-
 -- So many bits of what begins at a byte, after those that are skipped there, from the highest on.
 abbrev pub bits : ℕ → ℕ → ℕ → List ℕ
-bits byte skipped count = run (8 * byte + skipped) count
+bits byte skipped count = range_with_len (8 * byte + skipped) count

@@ -1,6 +1,7 @@
 -- What the 47 bytes of an entry say of a game, and which bytes say it (Scid's format si4, version 400; the codes this project's own).
-use Rattle.std.specs.Prelude.{◌≡◌, ◌≤◌, ◌<◌, ◌^◌, ◌+◌, ◌-◌, ℕ, zero, suc, Bool, ◌&&◌, ◌||◌, nat_eq, nat_lt, IsTrue, if◌then◌else◌, List, [], ◌∷◌, ◌++◌, length, map, slice_index, Option, Some, None, Result, Ok, Err}
+use Rattle.std.specs.Prelude.{◌≡◌, ◌≤◌, ◌<◌, ◌^◌, ◌+◌, ◌-◌, ℕ, zero, suc, Bool, ◌&&◌, ◌||◌, nat_eq, nat_lt, IsTrue, if◌then◌else◌, List, [], ◌∷◌, ◌++◌, length, map, slice_index, slice_index_or, Option, Some, None, Result, Ok, Err}
 use Rattle.std.specs.List.{list_any, range_with_len}
+use Rattle.std.specs.Option.{option_map_or}
 use Rattle.game_tree.specs.Date.{IsDate, unknown_date, date_of, keeps_rule}
 use Rattle.game_tree.specs.Head.{IsRating}
 use Rattle.game_tree.specs.declared.date.Date.{Date}
@@ -15,11 +16,7 @@ use Rattle.index_entry.specs.Places as places
 
 -- The result of a code: 0 unknown, 1 White, 2 Black, 3 draw.
 abbrev pub outcome_of : ℕ → Outcome
-outcome_of code =
-    if nat_eq code 1 then outcomes.White
-    else if nat_eq code 2 then outcomes.Black
-    else if nat_eq code 3 then outcomes.Draw
-    else outcomes.Unknown
+outcome_of code = slice_index_or (outcomes.Unknown ∷ outcomes.White ∷ outcomes.Black ∷ outcomes.Draw ∷ []) code outcomes.Unknown
 
 -- 25 to 28: the dates. The low 20 bits are the number of the game's date.
 abbrev pub date_in : List ℕ → Date
@@ -100,12 +97,8 @@ fault_in bytes =
     else None
 
 -- The first fault, or else what the bytes say.
-abbrev pub first_of : Option EntryFault → Entry → Result Entry EntryFault
-first_of None entry = Ok entry
-first_of (Some fault) entry = Err fault
-
 unfoldable pub entry_read : List ℕ → Result Entry EntryFault
-entry_read bytes = first_of (fault_in bytes) (entry_in bytes)
+entry_read bytes = option_map_or Err (fault_in bytes) (Ok (entry_in bytes))
 
 -- The places of so many home values, from one on.
 abbrev pub home_from : ℕ → ℕ → List ℕ

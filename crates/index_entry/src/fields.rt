@@ -70,6 +70,7 @@ pub fn outcome_in(b: &[u8; 47]) -> Outcome
 }
 
 // The result of a code.
+#[tactic(auto, using(crate::proofs::ReadLemmas::outcome_other))]
 fn outcome_of(code: u8) -> Outcome
     ensures outcome { result ≡ outcome_of code }
 {

@@ -1,6 +1,6 @@
 -- A match passes the test of signatures, and can follow each earlier position.
 use Rattle.std.proofs.Common.{◌≡◌, ℕ, suc, ◌+◌, ◌==◌, ◌<◌, ◌≤◌, Bool, true, false, not, ◌&&◌, ◌||◌, cond, nat_le, List, [], Option, None, refl, sym, ap, ◌∙◌, subst, arith, inl, inr}
-use Rattle.std.specs.Prelude.{filter, map, option_map, slice_index}
+use Rattle.std.specs.Prelude.{◌∷◌, count_by, filter, map, nat_lt, option_map, slice_index}
 use Rattle.std.specs.List.{find}
 use Rattle.std.specs.Option.{option_or}
 use Rattle.std.proofs.lemmas.Bool.Decides.{nat_tests}
@@ -80,18 +80,8 @@ code_by : (few : Bool) (n rest : ℕ) → 0 < rest → cond few n rest ≡ 0 →
 code_by true n rest some h = h
 code_by false n rest some h = absurd (omega (arith, some, h))
 
-more_codes : (a b c d e : Bool) → 0 < cond a 10 (cond b 11 (cond c 12 (cond d 13 (cond e 14 15))))
-more_codes true b c d e = omega arith
-more_codes false true c d e = omega arith
-more_codes false false true d e = omega arith
-more_codes false false false true e = omega arith
-more_codes false false false false true = omega arith
-more_codes false false false false false = omega arith
-
 code_none : (n : ℕ) → count_code n ≡ 0 → n ≡ 0
-code_none n h =
-    code_by (nat_le n 10) n (cond (nat_le n 12) 10 (cond (nat_le n 17) 11 (cond (nat_le n 24) 12 (cond (nat_le n 34) 13 (cond (nat_le n 44) 14 15)))))
-    (more_codes (nat_le n 12) (nat_le n 17) (nat_le n 24) (nat_le n 34) (nat_le n 44)) h
+code_none n h = code_by (nat_le n 10) n (10 + count_by (λ most. nat_lt most n) (12 ∷ 17 ∷ 24 ∷ 34 ∷ 44 ∷ [])) (omega arith) h
 
 pub no_variations : (game : GameTree) (sig : Sig) (query : PosQuery) → IsSig game sig → passes sig query ≡ false → query.vars ≡ true → variations_of game ≡ 0
 unfolding passes
