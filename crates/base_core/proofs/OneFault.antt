@@ -1,5 +1,5 @@
 -- Three files have one first fault, and none where each entry passes.
-use Rattle.std.proofs.Common.{◌≡◌, ◌<◌, ℕ, Bool, true, false, List, None, Ok, [], if◌then◌else◌, MatchBool, IsTrue, refl, sym, ap, ◌∙◌, subst, inl, inr}
+use Rattle.std.proofs.Common.{◌≡◌, ◌<◌, ℕ, Bool, List, None, Ok, IsTrue, sym, ap, ◌∙◌, subst, inl, inr}
 use Rattle.std.proofs.lemmas.Bool.{cases_order}
 use Rattle.std.proofs.lemmas.Option.{same_Some, none-some}
 use Rattle.base_files.specs.Extents.{record_in}
@@ -10,7 +10,7 @@ use Rattle.game_codec.proofs.DecodeLaws.{record-one, fault-one, record-unbroken}
 use Rattle.index_entry.specs.Index.{entry_bytes}
 use Rattle.index_entry.specs.declared.entry.Entry.{Entry}
 use Rattle.name_base.specs.NameLists.{NameLists}
-use Rattle.sig_index.specs.Signature.{IsSig, home_list, left_of}
+use Rattle.sig_index.specs.Signature.{IsSig}
 use Rattle.sig_index.specs.declared.signature.Sig.{Sig}
 use Rattle.base_core.specs.declared.fault.BaseFault.{BaseFault}
 use Rattle.base_core.specs.declared.fault.BaseFault.TheVariants.{Packed, Derived}
@@ -18,22 +18,10 @@ use Rattle.base_core.specs.declared.fault.DerivedField.{DerivedField}
 use Rattle.base_core.specs.Entries.{extent_of}
 use Rattle.base_core.specs.FirstFault.{Whole, whole_read, derived_fault, IsNotTaken, Signs, Passes, Fails, EntryFails, FirstFault}
 use Rattle.base_core.proofs.Results.{same_ok, same_err, ok_err}
-use Rattle.base_core.proofs.SigLaws.{sig-by}
 
 -- A game has one signature.
-own_start-one : (a b : Bool) (P : Type 0) → MatchBool a (P → ⊥) P → MatchBool b (P → ⊥) P → a ≡ b
-own_start-one true true P x y = refl
-own_start-one false false P x y = refl
-own_start-one true false P x y = absurd (x y)
-own_start-one false true P x y = absurd (y x)
-
 pub sig-one : (game : GameTree) (a b : Sig) → IsSig game a → IsSig game b → a ≡ b
-sig-one game a b x y =
-    let own : a.own_start ≡ b.own_start = own_start-one a.own_start b.own_start _ x.own_start y.own_start in
-    let H : Bool → Type 0 = λ o. a.home ≡ home_list (if o then [] else left_of game) in
-    let home : a.home ≡ b.home = subst H own x.home ∙ sym y.home in
-    sig-by a b (x.material ∙ sym y.material) home (x.plies ∙ sym y.plies) (x.promo ∙ sym y.promo) (x.under ∙ sym y.under) own
-    (x.vars ∙ sym y.vars) (x.comments ∙ sym y.comments) (x.nags ∙ sym y.nags)
+sig-one game a b x y = x ∙ sym y
 
 -- ---- a record.
 

@@ -13,6 +13,7 @@ use Rattle.sig_index.specs.Signature.{IsSig}
 use Rattle.sig_index.specs.Having.{can_have}
 use Rattle.sig_index.specs.Skipping.{can_stand}
 use Rattle.sig_index.proofs.HavingLemmas as having
+use Rattle.sig_index.proofs.SigOf.{parts}
 use Rattle.sig_index.proofs.SkippingLemmas.{skipping_sound}
 use Rattle.mat_search.specs.Matching.{counts_at, exchanged, in_range, is_streak, matches_at}
 use Rattle.mat_search.specs.Passing.{can_be_in, can_match, is_long, passes}
@@ -69,7 +70,7 @@ passed : (query : MatQuery) (game : GameTree) (sig : Sig) (ply : ℕ) → query.
     → can_match sig query ≡ true → passes sig query ≡ true
 unfolding passes
 passed query game sig ply from within is match =
-    and_from (is_long sig query) (can_match sig query) (long query.ply_lo query.streak ply (plies_of game) sig.plies from within is.plies) match
+    and_from (is_long sig query) (can_match sig query) (long query.ply_lo query.streak ply (plies_of game) sig.plies from within (parts game sig is).plies) match
 
 match_passes : (query : MatQuery) (game : GameTree) (sig : Sig) (ply : ℕ) → 1 ≤ query.streak → Sound game.start → IsLegalGame game → IsSig game sig
     → matches_at query game ply ≡ true → passes sig query ≡ true

@@ -27,6 +27,7 @@ use Rattle.sig_index.proofs.AllowLemmas.{same_set}
 use Rattle.sig_index.proofs.ComingLemmas.{comes}
 use Rattle.sig_index.proofs.PrefixLemmas.{home_sound, stood_before}
 use Rattle.sig_index.proofs.Ranges.{all_from, find_none}
+use Rattle.sig_index.proofs.SigOf.{parts}
 use Rattle.sig_index.proofs.SkippingLemmas.{skipping_sound}
 use Rattle.pos_search.specs.Matching.{first_aside, first_if_aside, first_of, first_on_main, is_sought, matches_at}
 use Rattle.pos_search.specs.Passing.{fixes_pawns, just, passes, passes_main}
@@ -88,7 +89,7 @@ unfolding passes
 no_variations game sig query is not looks =
     let none : (sig.vars == 0) ≡ true = vars_false query.vars (sig.vars == 0) (passes_main sig query) not looks in
     let zero_code : sig.vars ≡ 0 = grind (arith, nat_tests) in
-    code_none (variations_of game) (sym is.vars ∙ zero_code)
+    code_none (variations_of game) (sym (parts game sig is).vars ∙ zero_code)
 
 main_alone : (p : Setup) (ply : ℕ) (line : Line) → line_variations line ≡ 0 → filter (λ (v : Visit). not v.main) (line_visits true p ply line) ≡ []
 main_alone p ply ends none = refl

@@ -16,6 +16,7 @@ use Rattle.head_search.specs.Matching.{first_of, head_matches, firsts_of}
 use Rattle.index_entry.specs.declared.entry.Entry.{Entry}
 use Rattle.name_base.specs.NameLists.{NameLists}
 use Rattle.sig_index.specs.declared.head_query.HeadQuery.{HeadQuery}
+use Rattle.sig_index.proofs.SigOf.{parts}
 use Rattle.filter_seat.specs.declared.saved.SavedFilter.{SavedFilter}
 use Rattle.search_commands.specs.Searching.{first_by_head, search_header_work}
 use Rattle.shell_state.proofs.Quietly.{filter_is, held_by, Plies, fits_by, saved_is, seats_are}
@@ -36,7 +37,7 @@ firsts-each query names told [] [] same each = refl
 firsts-each query names told [] (held ∷ games) same each = absurd (omega (arith, same))
 firsts-each query names told (e ∷ entries) [] same each = absurd (omega (arith, same))
 firsts-each query names told (e ∷ entries) (held ∷ games) same each =
-    let plies : e.plies ≡ min (plies_of held.game) 1023 = (each 0 e held refl refl).signed.plies in
+    let plies : e.plies ≡ min (plies_of held.game) 1023 = (parts held.game (sig_in e) (each 0 e held refl refl).signed).plies in
     ap₂ (λ (p : Option ℕ) (rest : List (Option ℕ)). p ∷ rest)
     (untagged query held.head e.plies ∙ ap (λ (n : ℕ). first_of query held.head n) plies)
     (firsts-each query names told entries games (omega (arith, same)) (λ i d other left right. each (suc i) d other left right))

@@ -14,7 +14,6 @@ use Rattle.game_tree.specs.declared.head.Head.{Head}
 use Rattle.index_entry.specs.declared.entry.Entry.{Entry}
 use Rattle.name_base.specs.NameLists.{NameLists}
 use Rattle.pos_index.specs.Hits.{Index, Place, rows_told}
-use Rattle.sig_index.proofs.SigOf.{sig_of-one}
 use Rattle.sig_index.specs.Signature.{sig_of}
 use Rattle.sig_index.specs.declared.signature.Sig.{Sig}
 use Rattle.base_files.specs.declared.extent.Extent.{Extent}
@@ -37,7 +36,7 @@ one_look : (names : NameLists) (told : List ℕ) (depth : Option ℕ) (e : Entry
 one_look names told depth e held here head =
     let places : List Place = indexed_places depth held.game in
     ap (λ (n : ℕ). record { len = n; sig = sig_in e; head = head_of names e []; places = places }) (sym here.says.len)
-    ∙ ap (λ (s : Sig). record { len = held.len; sig = s; head = head_of names e []; places = places }) (sig_of-one held.game (sig_in e) here.signed)
+    ∙ ap (λ (s : Sig). record { len = held.len; sig = s; head = head_of names e []; places = places }) here.signed
     ∙ ap (λ (h : Head). record { len = held.len; sig = sig_of held.game; head = h; places = places }) head
 
 next_look : (names : NameLists) (depth : Option ℕ) (e : Entry) (held : Held) (es : List Entry) (all : List Held)

@@ -20,7 +20,10 @@ use Rattle.chess_laws.specs.Position.{Sound}
 use Rattle.chess_laws.specs.declared.setup.Setup.{Setup}
 use Rattle.game_tree.specs.Game.{GameTree}
 use Rattle.index_entry.specs.Entry.{AreCounts, AreHomeValues}
-use Rattle.sig_index.specs.Signature.{all_homes, home_list, leaving, left_of, material_of, positions_of}
+use Rattle.std.specs.Prelude.{map}
+use Rattle.std.specs.List.{range_with_len}
+use Rattle.game_tree.specs.Replay.{plies_of, position_at}
+use Rattle.sig_index.specs.Signature.{all_homes, home_list, leaving, left_of, material_of}
 use Rattle.sig_index.specs.declared.signature.HomeList.{HomeList}
 use Rattle.sig_index.proofs.LeavingLemmas.{All-filter, all_small}
 
@@ -154,7 +157,7 @@ pub no_homes : All (λ v. v < 16) []
 no_homes = All-nil (λ v. v < 16)
 
 pub few_left : (game : GameTree) → length (left_of game) ≤ 16
-few_left game = leaving_few all_homes (positions_of game)
+few_left game = leaving_few all_homes (map (position_at game) (range_with_len 1 (plies_of game)))
 
 pub small_left : (game : GameTree) → All (λ v. v < 16) (left_of game)
-small_left game = leaving_small all_homes (positions_of game) all_small
+small_left game = leaving_small all_homes (map (position_at game) (range_with_len 1 (plies_of game))) all_small

@@ -15,12 +15,13 @@ use Rattle.game_tree.specs.Legal.{IsLegalGame}
 use Rattle.game_tree.specs.Replay.{position_at}
 use Rattle.sig_index.specs.declared.mat_query.MatRange.{MatRange}
 use Rattle.sig_index.specs.declared.signature.Sig.{Sig}
-use Rattle.sig_index.specs.Coming.{AreAtLeast, lack}
-use Rattle.sig_index.specs.Having.{can_have, colour_can_have, lacks, lesser_lacks, start_counts}
+use Rattle.sig_index.specs.Coming.{AreAtLeast, lack, over_lesser, over_pieces}
+use Rattle.sig_index.specs.Having.{can_have, colour_can_have, start_counts}
 use Rattle.sig_index.specs.Signature.{IsSig}
 use Rattle.sig_index.proofs.ComingLemmas.{lacked}
 use Rattle.sig_index.proofs.Paying.{Pays, all_rose, lesser_rose, rose}
 use Rattle.sig_index.proofs.SkippingLemmas.{below_zero, game-pays, or_zero, sum2, sum3}
+use Rattle.sig_index.proofs.SigOf.{parts}
 
 pub initial : counts_of start_setup.board ≡ start_counts
 initial = refl
@@ -46,16 +47,16 @@ holds promo under all lesser pawns paid none queens =
 colour-has : (sig : Sig) (range : MatRange) (queens : ℕ) (new : Men) (c : Colour) → Rose range queens new c → Pays sig.promo sig.under start_setup.board new
     → colour_can_have sig range queens ≡ true
 colour-has sig range queens new c up pays =
-    let lesser : lesser_lacks range queens ≤ lesser_rose start_setup.board new c =
+    let lesser : over_lesser (lack range start_counts) queens ≤ lesser_rose start_setup.board new c =
     sum3 (lack range start_counts (queens + 1)) (lack range start_counts (queens + 2)) (lack range start_counts (queens + 3))
     (rose start_setup.board new c Rook) (rose start_setup.board new c Bishop) (rose start_setup.board new c Knight) up.rook up.bishop up.knight in
-    let all : lacks range queens ≤ all_rose start_setup.board new c =
-    sum2 (lack range start_counts queens) (lesser_lacks range queens) (rose start_setup.board new c Queen) (lesser_rose start_setup.board new c) up.queen lesser in
-    holds sig.promo sig.under (lacks range queens) (lesser_lacks range queens) (slice_index range.lo (queens + 4))
-    (paid_within (lacks range queens) (all_rose start_setup.board new c) (slice_index range.lo (queens + 4)) (count_of new c Pawn)
+    let all : over_pieces (lack range start_counts) queens ≤ all_rose start_setup.board new c =
+    sum2 (lack range start_counts queens) (over_lesser (lack range start_counts) queens) (rose start_setup.board new c Queen) (lesser_rose start_setup.board new c) up.queen lesser in
+    holds sig.promo sig.under (over_pieces (lack range start_counts) queens) (over_lesser (lack range start_counts) queens) (slice_index range.lo (queens + 4))
+    (paid_within (over_pieces (lack range start_counts) queens) (all_rose start_setup.board new c) (slice_index range.lo (queens + 4)) (count_of new c Pawn)
     (count_of start_setup.board c Pawn) all up.final (pays.paid c) up.pawns)
-    (λ none. below_zero (lacks range queens) (all_rose start_setup.board new c) all (pays.unpromoted none c))
-    (λ none. below_zero (lesser_lacks range queens) (lesser_rose start_setup.board new c) lesser (pays.queens_alone none c))
+    (λ none. below_zero (over_pieces (lack range start_counts) queens) (all_rose start_setup.board new c) all (pays.unpromoted none c))
+    (λ none. below_zero (over_lesser (lack range start_counts) queens) (lesser_rose start_setup.board new c) lesser (pays.queens_alone none c))
 
 white-rose : (range : MatRange) (new : Men) → AreAtLeast (counts_of new) range → Rose range 0 new White
 white-rose range new lo =
@@ -83,8 +84,9 @@ black-rose range new lo =
 from-start : (game : GameTree) (sig : Sig) (range : MatRange) (k : ℕ) → Sound game.start → IsLegalGame game → IsSig game sig → game.start ≡ start_setup
     → AreAtLeast (counts_of (position_at game k).board) range → (colour_can_have sig range 0 && colour_can_have sig range 5) ≡ true
 from-start game sig range k sound legal is start least =
+    let has = parts game sig is in
     let new = (position_at game k).board in
-    let paid : Pays sig.promo sig.under (position_at game 0).board new = rw (is.promo, is.under) (game-pays game 0 k sound legal (omega arith)) in
+    let paid : Pays sig.promo sig.under (position_at game 0).board new = rw (has.promo, has.under) (game-pays game 0 k sound legal (omega arith)) in
     let pays : Pays sig.promo sig.under start_setup.board new = subst (λ (p : Setup). Pays sig.promo sig.under p.board new) start paid in
     and_from (colour_can_have sig range 0) (colour_can_have sig range 5)
     (colour-has sig range 0 new White (white-rose range new least) pays) (colour-has sig range 5 new Black (black-rose range new least) pays)
@@ -97,5 +99,5 @@ skipping_sound game sig range k sound legal is least = elim (cases_Bool sig.own_
   | inl own ↦ or_left sig.own_start (colour_can_have sig range 0 && colour_can_have sig range 5) own
   | inr none ↦ or_right sig.own_start (colour_can_have sig range 0 && colour_can_have sig range 5)
       (from-start game sig range k sound legal is
-      (subst (λ b. MatchBool b (game.start ≡ start_setup → ⊥) (game.start ≡ start_setup)) none is.own_start) least)
+      (subst (λ b. MatchBool b (game.start ≡ start_setup → ⊥) (game.start ≡ start_setup)) none (parts game sig is).own_start) least)
 ]

@@ -1,37 +1,15 @@
 -- Records that are held do not change, since bytes are the record of one game, and a game has one signature.
-use Rattle.std.proofs.Common.{◌≡◌, ℕ, suc, zero, Bool, true, false, List, [], ◌∷◌, length, take, Option, None, Some, refl, sym, ap, ◌∙◌, subst, arith}
-use Rattle.std.specs.Prelude.{if◌then◌else◌, slice_get}
-use Rattle.std.specs.Bool.{MatchBool}
+use Rattle.std.proofs.Common.{◌≡◌, ℕ, suc, zero, List, [], ◌∷◌, length, take, Option, None, Some, refl, sym, ap, subst, arith}
+use Rattle.std.specs.Prelude.{slice_get}
 use Rattle.base_files.specs.declared.extent.Extent.{Extent}
-use Rattle.chess_laws.specs.Position.{start_setup}
 use Rattle.game_codec.specs.Record.{IsRecord}
 use Rattle.game_codec.proofs.DecodeLaws.{record-one}
 use Rattle.game_tree.specs.Game.{GameTree}
 use Rattle.game_tree.specs.declared.head.Tag.{Tag}
 use Rattle.sig_index.specs.Games.{HasChanged, Holds, Shows, extent_in}
-use Rattle.sig_index.specs.Signature.{IsSig, home_list, left_of}
+use Rattle.sig_index.specs.Signature.{IsSig}
 use Rattle.sig_index.specs.declared.signature.Sig.{Sig}
-
-own_one : (r s : Bool) (P : Type 0) → MatchBool r (P → ⊥) P → MatchBool s (P → ⊥) P → r ≡ s
-own_one true true P p q = refl
-own_one true false P p q = absurd (p q)
-own_one false true P p q = absurd (q p)
-own_one false false P p q = refl
-
-pub signature_one : (game : GameTree) (a b : Sig) → IsSig game a → IsSig game b → a ≡ b
-signature_one game a b p q =
-    let own : a.own_start ≡ b.own_start = own_one a.own_start b.own_start (game.start ≡ start_setup) p.own_start q.own_start in
-    λ i. record {
-      material = (p.material ∙ sym q.material) i;
-      home = (p.home ∙ ap (λ (o : Bool). home_list (if o then [] else left_of game)) own ∙ sym q.home) i;
-      plies = (p.plies ∙ sym q.plies) i;
-      promo = (p.promo ∙ sym q.promo) i;
-      under = (p.under ∙ sym q.under) i;
-      own_start = own i;
-      vars = (p.vars ∙ sym q.vars) i;
-      comments = (p.comments ∙ sym q.comments) i;
-      nags = (p.nags ∙ sym q.nags) i;
-    }
+use Rattle.sig_index.proofs.SigOf.{signature_one}
 
 there : {X Y : Type 0} (xs : List X) (ys : List Y) (i : ℕ) (x : X) → length ys ≡ length xs → slice_get xs i ≡ Some x → (y : Y) × (slice_get ys i ≡ Some y)
 there [] ys i x same h = absurd cc

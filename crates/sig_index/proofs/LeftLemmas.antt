@@ -7,7 +7,9 @@ use Rattle.std.proofs.lemmas.List.Sums.{sum_by-append, sum_by-cons}
 use Rattle.chess_laws.specs.Counts.{is_home}
 use Rattle.chess_laws.specs.declared.setup.Setup.{Setup}
 use Rattle.game_tree.specs.Game.{GameTree}
-use Rattle.sig_index.specs.Signature.{all_homes, leaving, left_of, positions_of}
+use Rattle.std.specs.Prelude.{map}
+use Rattle.game_tree.specs.Replay.{plies_of, position_at}
+use Rattle.sig_index.specs.Signature.{all_homes, leaving, left_of}
 
 abbrev is_it : ℕ → ℕ → ℕ
 is_it v x = cond (eqb v x) 1 0
@@ -60,4 +62,4 @@ in_range v a (suc n) =
     )
 
 pub left_once : (game : GameTree) (v : ℕ) → count_by (eqb v) (left_of game) ≤ 1
-left_once game v = omega (arith, leaving_once v all_homes (positions_of game), (in_range v 0 16).1)
+left_once game v = omega (arith, leaving_once v all_homes (map (position_at game) (range_with_len 1 (plies_of game))), (in_range v 0 16).1)

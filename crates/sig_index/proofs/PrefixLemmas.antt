@@ -25,6 +25,7 @@ use Rattle.sig_index.proofs.HomeLemmas.{was_home}
 use Rattle.sig_index.proofs.Paying.{stepped-Sound}
 use Rattle.sig_index.proofs.Ranges.{all_each, any_passed}
 use Rattle.sig_index.proofs.StepLemmas.{left_by_moves}
+use Rattle.sig_index.proofs.SigOf.{parts}
 
 -- ---- the moves of a main line by their numbers
 
@@ -164,4 +165,5 @@ by_start false game l k sound legal within start is =
 pub home_sound : (game : GameTree) (sig : Sig) (k : ℕ) → Sound game.start → IsLegalGame game → IsSig game sig → k ≤ plies_of game
     → home_allows sig (home_set (position_at game k).board) ≡ true
 unfolding home_allows
-home_sound game sig k sound legal is within = by_start sig.own_start game sig.home k sound legal within is.own_start is.home
+home_sound game sig k sound legal is within =
+    by_start sig.own_start game sig.home k sound legal within (parts game sig is).own_start (parts game sig is).home

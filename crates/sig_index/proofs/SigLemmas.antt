@@ -2,7 +2,7 @@
 use Rattle.std.proofs.Common.{◌≡◌, ℕ, ◌≤◌, Bool, true, false, not, refl, sym, ap, ◌∙◌, arith, inl, inr}
 use Rattle.std.specs.Prelude.{IsTrue, ◌↔◌}
 use Rattle.std.specs.Bool.{MatchBool}
-use Rattle.std.proofs.lemmas.Bool.{cases_lt, lt-leb}
+use Rattle.std.proofs.lemmas.Bool.{cases_lt, lt-leb, lt-ltb}
 use Rattle.chess_laws.specs.declared.setup.Setup.{Setup}
 use Rattle.game_tree.specs.Counts.{in_64_bits}
 use Rattle.index_entry.specs.Counts.{count_code}
@@ -16,7 +16,7 @@ own_is true a b s t both ea eb = sym ea ∙ both.0 refl ∙ eb
 own_is false a b s t both ea eb = λ e. no (both.1 (ea ∙ e ∙ sym eb))
 
 many : (n : ℕ) → 45 ≤ n → count_code n ≡ 15
-many n le = rw (lt-leb n 10 (omega arith), lt-leb n 12 (omega arith), lt-leb n 17 (omega arith), lt-leb n 24 (omega arith), lt-leb n 34 (omega arith), lt-leb n 44 (omega arith)) refl
+many n le = rw (lt-leb n 10 (omega arith), lt-ltb 12 n (omega arith), lt-ltb 17 n (omega arith), lt-ltb 24 n (omega arith), lt-ltb 34 n (omega arith), lt-ltb 44 n (omega arith)) refl
 
 -- a count of 64 bits has the code of the count
 pub code_is : (n m : ℕ) → m ≡ in_64_bits n → count_code m ≡ count_code n

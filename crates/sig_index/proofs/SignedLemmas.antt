@@ -22,6 +22,7 @@ use Rattle.sig_index.specs.Signature.{IsSig, IsSigBounded, all_homes, home_list,
 use Rattle.sig_index.specs.declared.signature.Sig.{Sig}
 use Rattle.sig_index.proofs.BoundLemmas.{few_homes, few_left, no_homes, small_homes, small_left}
 use Rattle.sig_index.proofs.LeavingLemmas.{All-filter, all_small, along, along_is, start-home}
+use Rattle.sig_index.proofs.SigOf.{parts, whole}
 
 -- What leaves along the main line: nothing where the start is an own one.
 abbrev pub left_from : Bool → GameTree → List ℕ
@@ -123,7 +124,7 @@ pub sig-is : (game : GameTree) (s : Sig) (final : Setup) (ply : ℕ) (t : Totals
     → AreTotals game t → IsSig game s
 sig-is game s final ply t own material at within all home plies promo under vars comments nags totals =
     let same : ply ≡ plies_of game = omega (arith, within, all) in
-    record {
+    whole game s (record {
       material = material ∙ ap (λ (p : Setup). material_of p.board) (at ∙ ap (position_at game) same);
       own_start = own;
       home = home;
@@ -133,15 +134,17 @@ sig-is game s final ply t own material at within all home plies promo under vars
       vars = vars ∙ ap count_code totals.variations;
       comments = comments ∙ ap count_code totals.comments;
       nags = nags ∙ ap count_code totals.nags;
-    }
+    })
 
 pub sig-bounded : (game : GameTree) (s : Sig) → IsSig game s → AreCounts s.material → s.vars < 16 → s.comments < 16 → s.nags < 16 → IsSigBounded s
-sig-bounded game s is counts vars comments nags = record {
-  material = counts;
-  home_count = few_homes s.home (left_from s.own_start game) is.home (few-either s.own_start game);
-  home = small_homes s.home (left_from s.own_start game) is.home (few-either s.own_start game) (small-either s.own_start game);
-  plies = omega (arith, is.plies);
-  vars = vars;
-  comments = comments;
-  nags = nags;
-}
+sig-bounded game s is counts vars comments nags =
+    let has = parts game s is in
+    record {
+      material = counts;
+      home_count = few_homes s.home (left_from s.own_start game) has.home (few-either s.own_start game);
+      home = small_homes s.home (left_from s.own_start game) has.home (few-either s.own_start game) (small-either s.own_start game);
+      plies = omega (arith, has.plies);
+      vars = vars;
+      comments = comments;
+      nags = nags;
+    }

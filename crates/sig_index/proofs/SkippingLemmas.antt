@@ -15,8 +15,10 @@ use Rattle.game_tree.specs.Replay.{plies_of, position_at}
 use Rattle.sig_index.specs.declared.mat_query.MatRange.{MatRange}
 use Rattle.sig_index.specs.declared.signature.Sig.{Sig}
 use Rattle.sig_index.specs.Signature.{IsSig, material_of}
-use Rattle.sig_index.specs.Skipping.{AreAtMost, can_stand, colour_can_stand, lesser_rises, rise, rises}
+use Rattle.sig_index.specs.Skipping.{AreAtMost, can_stand, colour_can_stand, rise}
+use Rattle.sig_index.specs.Coming.{over_lesser, over_pieces}
 use Rattle.sig_index.proofs.Paying.{Pays, all_rose, lesser_rose, line-pays, rose}
+use Rattle.sig_index.proofs.SigOf.{parts}
 
 -- From one ply of a game to a later one.
 pub game-pays : (game : GameTree) (i j : ℕ) → Sound game.start → IsLegalGame game → i ≤ j
@@ -67,16 +69,16 @@ paid_within x y w f p h a b c d = omega arith
 colour-stands : (sig : Sig) (range : MatRange) (queens : ℕ) (old new : Men) (c : Colour) → Cut sig range queens old new c → Pays sig.promo sig.under old new
     → colour_can_stand sig range queens ≡ true
 colour-stands sig range queens old new c cut pays =
-    let lesser : lesser_rises sig range queens ≤ lesser_rose old new c =
+    let lesser : over_lesser (rise sig range) queens ≤ lesser_rose old new c =
     sum3 (rise sig range (queens + 1)) (rise sig range (queens + 2)) (rise sig range (queens + 3)) (rose old new c Rook) (rose old new c Bishop) (rose old new c Knight)
     cut.rook cut.bishop cut.knight in
-    let all : rises sig range queens ≤ all_rose old new c =
-    sum2 (rise sig range queens) (lesser_rises sig range queens) (rose old new c Queen) (lesser_rose old new c) cut.queen lesser in
-    holds sig.promo sig.under (rises sig range queens) (lesser_rises sig range queens) (slice_index sig.material (queens + 4)) (slice_index range.hi (queens + 4))
-    (paid_within (rises sig range queens) (all_rose old new c) (slice_index sig.material (queens + 4)) (count_of new c Pawn) (count_of old c Pawn)
+    let all : over_pieces (rise sig range) queens ≤ all_rose old new c =
+    sum2 (rise sig range queens) (over_lesser (rise sig range) queens) (rose old new c Queen) (lesser_rose old new c) cut.queen lesser in
+    holds sig.promo sig.under (over_pieces (rise sig range) queens) (over_lesser (rise sig range) queens) (slice_index sig.material (queens + 4)) (slice_index range.hi (queens + 4))
+    (paid_within (over_pieces (rise sig range) queens) (all_rose old new c) (slice_index sig.material (queens + 4)) (count_of new c Pawn) (count_of old c Pawn)
     (slice_index range.hi (queens + 4)) all (pays.paid c) cut.final cut.pawns)
-    (λ none. below_zero (rises sig range queens) (all_rose old new c) all (pays.unpromoted none c))
-    (λ none. below_zero (lesser_rises sig range queens) (lesser_rose old new c) lesser (pays.queens_alone none c))
+    (λ none. below_zero (over_pieces (rise sig range) queens) (all_rose old new c) all (pays.unpromoted none c))
+    (λ none. below_zero (over_lesser (rise sig range) queens) (lesser_rose old new c) lesser (pays.queens_alone none c))
 
 -- ---- a game
 
@@ -114,9 +116,10 @@ both_stand a b h i = rw (h, i) refl
 pub skipping_sound : (game : GameTree) (sig : Sig) (range : MatRange) (k : ℕ) → Sound game.start → IsLegalGame game → IsSig game sig → k ≤ plies_of game
     → AreAtMost (counts_of (position_at game k).board) range → can_stand sig range ≡ true
 skipping_sound game sig range k sound legal is within most =
+    let has = parts game sig is in
     let old = (position_at game k).board in
     let new = (position_at game (plies_of game)).board in
-    let pays : Pays sig.promo sig.under old new = rw (is.promo, is.under) (game-pays game k (plies_of game) sound legal within) in
+    let pays : Pays sig.promo sig.under old new = rw (has.promo, has.under) (game-pays game k (plies_of game) sound legal within) in
     both_stand (colour_can_stand sig range 0) (colour_can_stand sig range 5)
-    (colour-stands sig range 0 old new White (white-cut sig range old new is.material most) pays)
-    (colour-stands sig range 5 old new Black (black-cut sig range old new is.material most) pays)
+    (colour-stands sig range 0 old new White (white-cut sig range old new has.material most) pays)
+    (colour-stands sig range 5 old new Black (black-cut sig range old new has.material most) pays)

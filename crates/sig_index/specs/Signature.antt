@@ -2,13 +2,11 @@
 -- promotions, which Scid's format keeps).
 use Rattle.std.specs.Prelude.{◌≡◌, ◌-◌, ◌<◌, ◌≤◌, ℕ, min, not, if◌then◌else◌, List, [], ◌∷◌, ◌++◌, length, map, replicate}
 use Rattle.std.specs.List.{filter, range_with_len}
-use Rattle.std.specs.Bool.{MatchBool}
-use Rattle.cell_core.specs.declared.man.Colour.TheVariants.{White, Black}
-use Rattle.cell_core.specs.declared.man.Kind.TheVariants.{Queen, Rook, Bishop, Knight, Pawn}
+use Rattle.cell_core.specs.declared.man.Kind.TheVariants.{Pawn}
 use Rattle.cell_core.specs.Board.{Men}
-use Rattle.chess_laws.specs.Counts.{count_of, is_home}
+use Rattle.cell_core.specs.Man.{same_kind}
+use Rattle.chess_laws.specs.Counts.{count_of, is_home, of_each}
 use Rattle.chess_laws.specs.declared.setup.Setup.{Setup}
-use Rattle.chess_laws.specs.Position.{start_setup}
 use Rattle.game_tree.specs.Game.{GameTree, has_own_start}
 use Rattle.game_tree.specs.Replay.{plies_of, position_at}
 use Rattle.game_tree.specs.Promotions.{has_promotion, has_underpromotion}
@@ -19,15 +17,9 @@ use Rattle.index_entry.specs.declared.entry.Entry.{Entry}
 use Rattle.sig_index.specs.declared.signature.Sig.{Sig}
 use Rattle.sig_index.specs.declared.signature.HomeList.{HomeList}
 
--- The men of a board: queens, rooks, bishops, knights and pawns, White's and then Black's. More than three of a kind count as three, but
--- for pawns.
+-- The men of a board, in the order of the ten counts. More than three of a kind count as three, but for pawns.
 abbrev pub material_of : Men → List ℕ
-material_of men =
-    min (count_of men White Queen) 3 ∷ min (count_of men White Rook) 3 ∷ min (count_of men White Bishop) 3 ∷ min (count_of men White Knight) 3
-    ∷ count_of men White Pawn
-    ∷ min (count_of men Black Queen) 3 ∷ min (count_of men Black Rook) 3 ∷ min (count_of men Black Bishop) 3 ∷ min (count_of men Black Knight) 3
-    ∷ count_of men Black Pawn
-    ∷ []
+material_of men = of_each (λ c kind. if same_kind kind Pawn then count_of men c kind else min (count_of men c kind) 3)
 
 -- The home values of all pawns.
 abbrev pub all_homes : List ℕ
@@ -40,13 +32,10 @@ leaving homes [] = []
 leaving homes (p ∷ positions) =
     filter (λ value. not (is_home p.board value)) homes ++ leaving (filter (λ value. is_home p.board value) homes) positions
 
--- The positions after each move of the main line.
-abbrev pub positions_of : GameTree → List Setup
-positions_of game = map (position_at game) (range_with_len 1 (plies_of game))
-
--- The home values of the pawns that left their own squares along the main line, by moving or by being captured, in their order.
+-- The home values of the pawns that left their own squares along the main line, by moving or by being captured, in their order: by the
+-- positions after each of its moves.
 abbrev pub left_of : GameTree → List ℕ
-left_of game = leaving all_homes (positions_of game)
+left_of game = leaving all_homes (map (position_at game) (range_with_len 1 (plies_of game)))
 
 -- Home values as a list of sixteen that has zeros behind them.
 abbrev pub home_list : List ℕ → HomeList
@@ -54,18 +43,6 @@ home_list values = record { count = length values; values = values ++ replicate 
 
 -- The signature of a game: of the last position of its main line, of that line, and of all its lines. An own start is a start other than
 -- the initial position (FIDE Laws, Article 2.3), and has no home values. More than 1,023 plies count as 1,023.
-pub record IsSig (game : GameTree) (s : Sig) : Type 0 where
-  pub material : s.material ≡ material_of (position_at game (plies_of game)).board
-  pub own_start : MatchBool s.own_start (game.start ≡ start_setup → ⊥) (game.start ≡ start_setup)
-  pub home : s.home ≡ home_list (if s.own_start then [] else left_of game)
-  pub plies : s.plies ≡ min (plies_of game) 1023
-  pub promo : s.promo ≡ has_promotion game
-  pub under : s.under ≡ has_underpromotion game
-  pub vars : s.vars ≡ count_code (variations_of game)
-  pub comments : s.comments ≡ count_code (comments_of game)
-  pub nags : s.nags ≡ count_code (nags_of game)
-
--- The signature of a game, as a function.
 unfoldable pub sig_of : GameTree → Sig
 sig_of game = record {
   material = material_of (position_at game (plies_of game)).board;
@@ -78,6 +55,10 @@ sig_of game = record {
   comments = count_code (comments_of game);
   nags = count_code (nags_of game);
 }
+
+-- It is the game's signature.
+abbrev pub IsSig : GameTree → Sig → Type 0
+IsSig game s = s ≡ sig_of game
 
 -- The bounds of a signature, which are those of the fields of an entry: at most 16 home values, each below 16.
 pub record IsSigBounded (sig : Sig) : Type 0 where

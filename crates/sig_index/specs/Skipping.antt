@@ -2,6 +2,7 @@
 use Rattle.std.specs.Prelude.{ℕ, ◌+◌, ◌-◌, ◌<◌, ◌≤◌, ◌==◌, ◌&&◌, ◌||◌, nat_le, Bool, List, slice_index}
 use Rattle.sig_index.specs.declared.mat_query.MatRange.{MatRange}
 use Rattle.sig_index.specs.declared.signature.Sig.{Sig}
+use Rattle.sig_index.specs.Coming.{over_lesser, over_pieces}
 
 -- Each of the ten counts is at most the greatest that the range allows.
 abbrev pub AreAtMost : List ℕ → MatRange → Type 0
@@ -11,21 +12,14 @@ AreAtMost counts range = (place : ℕ) → place < 10 → slice_index counts pla
 abbrev pub rise : Sig → MatRange → ℕ → ℕ
 rise sig range place = slice_index sig.material place - slice_index range.hi place
 
--- The rises of one colour's rooks, bishops and knights, and with them its queens'. The queens stand at this place among the ten.
-abbrev pub lesser_rises : Sig → MatRange → ℕ → ℕ
-lesser_rises sig range queens = rise sig range (queens + 1) + rise sig range (queens + 2) + rise sig range (queens + 3)
-
-abbrev pub rises : Sig → MatRange → ℕ → ℕ
-rises sig range queens = rise sig range queens + lesser_rises sig range queens
-
 -- One colour's counts can have been at most those of the range: no more pawns are left than it allows, each rise is one of the other
 -- pawns that it allows, promoted, and there were promotions where there is a rise.
 abbrev pub colour_can_stand : Sig → MatRange → ℕ → Bool
 colour_can_stand sig range queens =
     nat_le (slice_index sig.material (queens + 4)) (slice_index range.hi (queens + 4))
-    && nat_le (rises sig range queens) (slice_index range.hi (queens + 4) - slice_index sig.material (queens + 4))
-    && (sig.promo || (rises sig range queens == 0))
-    && (sig.under || (lesser_rises sig range queens == 0))
+    && nat_le (over_pieces (rise sig range) queens) (slice_index range.hi (queens + 4) - slice_index sig.material (queens + 4))
+    && (sig.promo || (over_pieces (rise sig range) queens == 0))
+    && (sig.under || (over_lesser (rise sig range) queens == 0))
 
 -- The counts of a game with this signature can have been at most those of the range at some ply: White's and Black's.
 abbrev pub can_stand : Sig → MatRange → Bool

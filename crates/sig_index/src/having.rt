@@ -8,8 +8,8 @@ ghost use Rattle.game_tree.specs.Replay.{position_at};
 ghost use Rattle.sig_index.specs.Signature.{IsSig};
 ghost use Rattle.sig_index.specs.declared.mat_query.MatRange.{MatRange as Range};
 ghost use Rattle.sig_index.specs.declared.signature.Sig.{Sig as Signature};
-ghost use Rattle.sig_index.specs.Coming.{AreAtLeast};
-ghost use Rattle.sig_index.specs.Having.{can_have, colour_can_have, lesser_lacks, start_counts};
+ghost use Rattle.sig_index.specs.Coming.{AreAtLeast, lack, over_lesser};
+ghost use Rattle.sig_index.specs.Having.{can_have, colour_can_have, start_counts};
 
 use crate::brief::Brief;
 use crate::coming::lack;
@@ -50,7 +50,7 @@ fn colour_can_have(s: &Brief<'_>, r: &MatRange, queens: usize) -> bool
 // How many of one colour's rooks, bishops and knights are missing at the start to the least that the range allows.
 fn lesser_lacks(r: &MatRange, queens: usize) -> u32
     requires { queens ≤ 5 }
-    ensures lacks { result ≡ lesser_lacks r.now queens }
+    ensures lacks { result ≡ over_lesser (lack r.now start_counts) queens }
     ensures few { result ≤ 765 }
 {
     lack(r, &START_COUNTS, queens + 1)

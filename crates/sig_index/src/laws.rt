@@ -1,5 +1,6 @@
 //! Laws of signatures, and of games whose records are held.
 ghost use Rattle.std.specs.Prelude.{◌≡◌, ◌≤◌, ℕ, nat_eq, count_by, List, Option, Some};
+ghost use Rattle.std.specs.Bool.{MatchBool};
 ghost use Rattle.base_files.specs.declared.extent.Extent.{Extent};
 ghost use Rattle.chess_laws.specs.Position.{Sound, start_setup};
 ghost use Rattle.game_tree.specs.Game.{GameTree};
@@ -8,7 +9,7 @@ ghost use Rattle.game_tree.specs.Replay.{plies_of};
 ghost use Rattle.sig_index.specs.declared.signature.Sig.{Sig};
 ghost use Rattle.sig_index.specs.Games.{HasChanged, Holds};
 ghost use Rattle.sig_index.specs.Left.{left_from};
-ghost use Rattle.sig_index.specs.Signature.{IsSig, left_of, sig_of};
+ghost use Rattle.sig_index.specs.Signature.{IsSig, left_of};
 
 /// A law: no pawn leaves its own square twice; and the home values that left, in a legal game from the initial position, are for each
 /// move of the main line in turn those of the pawns that stood at home before it and do not after it.
@@ -24,8 +25,7 @@ pub fn held_records_stay()
         (found : Option Sig) → Holds games extents sigs list → HasChanged sigs extents (Some games) buffer game kept found → ⊥ }
 {}
 
-/// A law: the signature of a game is the one that is computed.
-pub fn games_have_a_signature()
-    ensures signed { (game : GameTree) → IsSig game (sig_of game) }
-    ensures alone { (game : GameTree) (sig : Sig) → IsSig game sig → sig ≡ sig_of game }
+/// A law: a signature has the mark of an own start exactly where the game begins at another position than the initial one.
+pub fn own_starts_are_marked()
+    ensures marked { (game : GameTree) (sig : Sig) → IsSig game sig → MatchBool sig.own_start (game.start ≡ start_setup → ⊥) (game.start ≡ start_setup) }
 {}

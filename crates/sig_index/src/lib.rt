@@ -22,7 +22,7 @@ pub use games::{FetchError, Games, HeadName};
 pub use having::{can_have, start_men_skipping_is_sound};
 pub use head_query::HeadQuery;
 pub use homes::{home_allows, home_pawn_skipping_is_sound};
-pub use laws::{games_have_a_signature, held_records_stay, pawns_leave_once};
+pub use laws::{held_records_stay, own_starts_are_marked, pawns_leave_once};
 pub use mat_query::{MatQuery, MatRange};
 pub use mem_games::MemGames;
 pub use pos_query::{Mode, PosQuery};

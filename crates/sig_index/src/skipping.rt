@@ -8,7 +8,8 @@ ghost use Rattle.game_tree.specs.Replay.{plies_of, position_at};
 ghost use Rattle.sig_index.specs.Signature.{IsSig};
 ghost use Rattle.sig_index.specs.declared.mat_query.MatRange.{MatRange as Range};
 ghost use Rattle.sig_index.specs.declared.signature.Sig.{Sig as Signature};
-ghost use Rattle.sig_index.specs.Skipping.{AreAtMost, can_stand, colour_can_stand, lesser_rises, rise};
+ghost use Rattle.sig_index.specs.Skipping.{AreAtMost, can_stand, colour_can_stand, rise};
+ghost use Rattle.sig_index.specs.Coming.{over_lesser};
 
 use crate::brief::Brief;
 use crate::mat_query::MatRange;
@@ -48,7 +49,7 @@ fn colour_can_stand(s: &Brief<'_>, material: &[u8; 10], r: &MatRange, queens: us
 // The rises of one colour's rooks, bishops and knights.
 fn lesser_rises(material: &[u8; 10], r: &MatRange, queens: usize) -> u32
     requires { queens ≤ 5 }
-    ensures rises { (sig : Signature) → material.now ≡ sig.material → result ≡ lesser_rises sig r.now queens }
+    ensures rises { (sig : Signature) → material.now ≡ sig.material → result ≡ over_lesser (rise sig r.now) queens }
     ensures few { result ≤ 765 }
 {
     rise(material, r, queens + 1) + rise(material, r, queens + 2) + rise(material, r, queens + 3)

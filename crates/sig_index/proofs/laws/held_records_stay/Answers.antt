@@ -1,4 +1,5 @@
-use Rattle.sig_index.proofs.HeldLemmas.{held_stays, signature_one}
+use Rattle.sig_index.proofs.HeldLemmas.{held_stays}
+use Rattle.sig_index.proofs.SigOf.{signature_one}
 use Rattle.sig_index.proofs.laws.held_records_stay.Goals as goal
 
 pub returns : goal.returns

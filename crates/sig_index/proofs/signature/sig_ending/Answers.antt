@@ -10,13 +10,14 @@ use Rattle.game_tree.proofs.TreeLemmas.{length-moves_of}
 use Rattle.sig_index.specs.Signature.{material_of, left_of, home_list}
 use Rattle.sig_index.proofs.BoundLemmas.{few_homes, few_left, no_homes, small_homes, small_left}
 use Rattle.sig_index.proofs.SigLemmas.{own_is, code_is}
+use Rattle.sig_index.proofs.SigOf.{whole}
 use Rattle.sig_index.proofs.signature.sig_ending.Goals as goal
 use Rattle.sig_index.proofs.signature.sig_ending.Goals.{then-own_start, else-own_start}
 
 pub returns : goal.returns
 returns c =
     record {
-      signature = record {
+      signature = whole _ _ (record {
         material = c.material_of.ensures.material ∙ ap (λ (p : Setup). material_of p.board) c.requires.last;
         own_start = own_is c.is_initial-own_start.result c.setup.result.now c.setup-2.result.now c.args.g.now.start _ c.is_initial-own_start.ensures
             (c.setup.ensures.setup ∙ ap (λ (g : GameTree). g.start) c.g.view_is) (c.setup-2.ensures.setup ∙ c.start.ensures.start);
@@ -31,7 +32,7 @@ returns c =
         vars = c.count_code.ensures.code ∙ code_is (variations_of c.args.g.now) c.counts-counts.result.variations c.counts-counts.ensures.variations;
         comments = c.count_code-2.ensures.code ∙ code_is (comments_of c.args.g.now) c.counts-counts.result.comments c.counts-counts.ensures.comments;
         nags = c.count_code-3.ensures.code ∙ code_is (nags_of c.args.g.now) c.counts-counts.result.nags c.counts-counts.ensures.nags;
-      };
+      });
       bounded = record {
         material = c.material_of.ensures.bounded;
         home_count = elim c.if-own_start.branch [
