@@ -1,10 +1,10 @@
 -- A tree is built with the items of a line and the texts of its comments at once.
-use Rattle.std.proofs.Common.{◌≡◌, ◌≤◌, ◌+◌, ◌-◌, ℕ, List, [], ◌∷◌, ◌++◌, Option, Some, None, length, drop, refl, sym, ap, ◌∙◌, subst, append_assoc, append-nil, length-append, length-drop, IsTrue, arith}
+use Rattle.std.proofs.Common.{option_map, ◌≡◌, ◌≤◌, ◌+◌, ◌-◌, ℕ, List, [], ◌∷◌, ◌++◌, Option, Some, None, length, drop, refl, sym, ap, ◌∙◌, subst, append_assoc, append-nil, length-append, length-drop, IsTrue, arith}
 use Rattle.std.specs.Prelude.{IsSome}
 use Rattle.std.proofs.lemmas.List.{drop_at}
 use Rattle.std.proofs.lemmas.List.Elements.{All-append, All-nil, All-push}
 use Rattle.cell_core.specs.Text.{IsZeroFree}
-use Rattle.game_tree.specs.Building.{Building, Gives, Open as Line, added, built, closed as shut, opening, variation_of as variation_read, with_comment_on, with_nag_on, with_variation, with_variation_on}
+use Rattle.game_tree.specs.Building.{Building, Gives, Open as Line, added, built, closed as shut, opening, variation_of as variation_read, with_comment_on, more_nags, with_variation, more_variations}
 use Rattle.game_tree.specs.Item.{Item}
 use Rattle.game_tree.specs.Item as item
 use Rattle.game_tree.specs.Movetext.{Movetext, as_comment, items_of, meaning}
@@ -114,7 +114,7 @@ HasBuilt-none start bytes texts b moved = record {
   moved = moved;
 }
 
-some-nag : (n : ℕ) (last : Option Played) → IsSome last → IsSome (with_nag_on n last)
+some-nag : (n : ℕ) (last : Option Played) → IsSome last → IsSome (option_map (more_nags n) last)
 some-nag n None is = is
 some-nag n (Some p) is = refl
 
@@ -122,7 +122,7 @@ some-comment : (t lead : Option (List ℕ)) (done : List Played) (last : Option 
 some-comment t lead done None is = is
 some-comment t lead done (Some p) is = refl
 
-some-variation : (v : Variation) (last : Option Played) → IsSome last → IsSome (with_variation_on v last)
+some-variation : (v : Variation) (last : Option Played) → IsSome last → IsSome (option_map (more_variations v) last)
 some-variation v None is = is
 some-variation v (Some p) is = refl
 

@@ -1,9 +1,9 @@
 -- The tags of a record have one reading.
-use Rattle.std.proofs.Common.{◌≡◌, ℕ, true, inl, inr, List, [], ◌∷◌, ◌++◌, Option, Result, Err, All, refl, sym, subst, ap, ◌∙◌, append_assoc}
+use Rattle.std.proofs.Common.{not, ◌≡◌, ℕ, true, inl, inr, List, [], ◌∷◌, ◌++◌, Option, Result, Err, All, refl, sym, subst, ap, ◌∙◌, append_assoc}
 use Rattle.std.proofs.lemmas.Bool.{cases_Bool, not-true, not_from_false}
 use Rattle.std.proofs.lemmas.List.Elements.{All-nil, All-cons, All-head, All-tail}
 use Rattle.game_tree.specs.Head.{IsTag}
-use Rattle.game_tree.specs.TagName.{is_free, free_of, is_reserved}
+use Rattle.game_tree.specs.TagName.{free_of, is_reserved}
 use Rattle.game_tree.specs.declared.head.Tag.{Tag}
 use Rattle.game_codec.specs.TagSpelling.{counted, BeginsTag, BeginsTags}
 use Rattle.game_codec.specs.TagReading.{tag_at, BreaksTags}
@@ -70,7 +70,7 @@ pub BeginsTags-IsTag : (bytes : List ℕ) (a : List Tag) (r : List ℕ) → Begi
 BeginsTags-IsTag bytes [] r h = All-nil IsTag
 BeginsTags-IsTag bytes (tag ∷ tags) r (later, first, more) =
     let others = BeginsTags-IsTag later tags r more in
-    elim (cases_Bool (is_free tag)) [
+    elim (cases_Bool (not (is_reserved tag.name))) [
       | inl free ↦
           rw free (All-cons IsTag tag (free_of tags)
           (record {
@@ -96,5 +96,5 @@ tags_text-begins (tag ∷ tags) rest h =
 pub free_of-IsTag : (tags : List Tag) → All IsTag tags → free_of tags ≡ tags
 free_of-IsTag [] h = refl
 free_of-IsTag (tag ∷ tags) h =
-    let free : is_free tag ≡ true = not_from_false (is_reserved tag.name) (All-head IsTag tag tags h).free in
+    let free : not (is_reserved tag.name) ≡ true = not_from_false (is_reserved tag.name) (All-head IsTag tag tags h).free in
     rw free (ap (λ (ts : List Tag). tag ∷ ts) (free_of-IsTag tags (All-tail IsTag tag tags h)))

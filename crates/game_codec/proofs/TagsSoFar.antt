@@ -1,9 +1,9 @@
 -- What the loop that reads tags has read.
-use Rattle.std.proofs.Common.{◌≡◌, ℕ, ◌+◌, ◌-◌, List, [], ◌∷◌, ◌++◌, Err, length, drop, refl, sym, ap, ◌∙◌, arith, append_assoc, length-append}
+use Rattle.std.proofs.Common.{not, ◌≡◌, ℕ, ◌+◌, ◌-◌, List, [], ◌∷◌, ◌++◌, Err, length, drop, refl, sym, ap, ◌∙◌, arith, append_assoc, length-append}
 use Rattle.std.proofs.lemmas.List.{append-nil, drop_at}
 use Rattle.std.proofs.lemmas.List.Elements.{filter-append}
 use Rattle.game_tree.specs.declared.head.Tag.{Tag}
-use Rattle.game_tree.specs.TagName.{is_free, free_of}
+use Rattle.game_tree.specs.TagName.{free_of, is_reserved}
 use Rattle.game_codec.specs.TagSpelling.{BeginsTag, BeginsTags}
 use Rattle.game_codec.specs.TagReading.{tag_at, BreaksTags}
 use Rattle.game_codec.specs.Breach.{Tells}
@@ -38,7 +38,7 @@ read_more bytes rest later free tag h next = record {
   all = h.all ++ tag ∷ [];
   front = h.front ++ next.0;
   spelled = h.spelled ∙ ap (λ (b : List ℕ). h.front ++ b) next.2 ∙ sym (append_assoc h.front next.0 later);
-  free_are = rw (filter-append is_free h.all (tag ∷ []), ← h.free_are) refl;
+  free_are = rw (filter-append (λ (tag : Tag). not (is_reserved tag.name)) h.all (tag ∷ []), ← h.free_are) refl;
   begins = λ more end from. rw (append_assoc h.all (tag ∷ []) more) (h.begins (tag ∷ more) end (later, next, from));
   breaks = λ more end what from.
       rw (append_assoc h.all (tag ∷ []) more) (h.breaks (tag ∷ more) end what (later, next, from));

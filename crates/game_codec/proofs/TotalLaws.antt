@@ -1,10 +1,11 @@
 -- What was met in a line is what the tree of its movetext has.
 use Rattle.std.proofs.Common.{◌≡◌, ℕ, suc, ◌+◌, ◌≤◌, ◌||◌, Bool, true, false, IsTrue, List, [], ◌∷◌, ◌++◌, None, length, refl, sym, ap, ap₂, ◌∙◌, append-nil, append_assoc, length-append, arith}
+use Rattle.std.specs.Option.{option_len}
 use Rattle.cell_core.specs.declared.step.Move.{Move}
-use Rattle.game_tree.specs.Counts.{branches_comments, branches_nags, branches_variations, line_comments, line_nags, line_variations, one_comment}
 use Rattle.game_tree.specs.Movetext.{Movetext, end, move, nag, comment, variation, as_comment, joined, meaning}
 use Rattle.game_tree.specs.Promotions.{branches_any, is_promotion, is_underpromotion, line_any}
 use Rattle.game_tree.specs.Tree.{Branches, none}
+use Rattle.game_tree.proofs.CountLemmas.{comments_among, nags_among, variations_among, comments_in as comments_of_line, nags_in as nags_of_line, variations_in as variations_of_line}
 use Rattle.move_codec.specs.Numbers.{Numbered}
 use Rattle.game_codec.specs.Checking.{full_among}
 use Rattle.game_codec.specs.Moves.{SpellsMoves}
@@ -114,9 +115,9 @@ full-append ((c ∷ cs) ∷ a) b = omega (arith, full-append a b)
 -- What is said of the move before a place and what follows it have what is met there. Nothing hangs on a line that has no move, and
 -- there is one comment at most.
 record Agrees (p : Place) (s : Movetext) : Type 0 where
-  variations : branches_variations (meaning s).variations + line_variations (meaning s).line ≡ variations_in s
-  nags : length (meaning s).nags + branches_nags (meaning s).variations + line_nags (meaning s).line ≡ nags_in s
-  comments : one_comment (meaning s).comment + branches_comments (meaning s).variations + line_comments (meaning s).line ≡ full_among (texts_of s)
+  variations : variations_among (meaning s).variations + variations_of_line (meaning s).line ≡ variations_in s
+  nags : length (meaning s).nags + nags_among (meaning s).variations + nags_of_line (meaning s).line ≡ nags_in s
+  comments : option_len (meaning s).comment + comments_among (meaning s).variations + comments_of_line (meaning s).line ≡ full_among (texts_of s)
   any : (test : Move → Bool) → (branches_any test (meaning s).variations || line_any test (meaning s).line) ≡ any_in test s
   bare : p.has_move ≡ false → ((meaning s).variations ≡ none) × ((meaning s).nags ≡ [])
   alone : IsTrue p.has_comment → (meaning s).comment ≡ None
@@ -127,7 +128,7 @@ no e = absurd cc
 both : (b : Bool) → b ≡ false → IsTrue b → ⊥
 both b off on = no (sym off ∙ on)
 
-one-more : (text : List ℕ) (texts : List (List ℕ)) → one_comment (as_comment text) + full_among texts ≡ full_among (text ∷ texts)
+one-more : (text : List ℕ) (texts : List (List ℕ)) → option_len (as_comment text) + full_among texts ≡ full_among (text ∷ texts)
 one-more [] texts = omega arith
 one-more (c ∷ cs) texts = omega arith
 
@@ -168,11 +169,11 @@ Spells-agrees p (comment text s) bytes rest spells =
     let on = Spells-agrees (after_comment p) s spells.0 rest spells.2 in
     let here : joined (as_comment text) (meaning s).comment ≡ as_comment text =
     ap (joined (as_comment text)) (on.alone refl) ∙ joined-alone text in
-    let behind : one_comment (meaning s).comment ≡ 0 = ap one_comment (on.alone refl) in
+    let behind : option_len (meaning s).comment ≡ 0 = ap option_len (on.alone refl) in
     record {
       variations = on.variations;
       nags = on.nags;
-      comments = omega (arith, ap one_comment here, behind, on.comments, one-more text (texts_of s));
+      comments = omega (arith, ap option_len here, behind, on.comments, one-more text (texts_of s));
       any = on.any;
       bare = on.bare;
       alone = λ has. absurd (both p.has_comment spells.1.0 has);
@@ -182,9 +183,9 @@ Spells-agrees p (variation inner s) bytes rest spells =
     let on = Spells-agrees p s spells.2.0 rest spells.2.2 in
     let bare = within.bare refl in
     record {
-      variations = omega (arith, on.variations, within.variations, ap branches_variations bare.0);
-      nags = omega (arith, on.nags, within.nags, ap branches_nags bare.0, ap (λ (ns : List ℕ). length ns) bare.1);
-      comments = omega (arith, on.comments, within.comments, ap branches_comments bare.0, full-append (texts_of inner) (texts_of s));
+      variations = omega (arith, on.variations, within.variations, ap variations_among bare.0);
+      nags = omega (arith, on.nags, within.nags, ap nags_among bare.0, ap (λ (ns : List ℕ). length ns) bare.1);
+      comments = omega (arith, on.comments, within.comments, ap comments_among bare.0, full-append (texts_of inner) (texts_of s));
       any = λ test.
           or-assoc (line_any test (meaning inner).line) (branches_any test (meaning s).variations) (line_any test (meaning s).line)
           ∙ ap₂ (λ (a b : Bool). a || b)
@@ -202,9 +203,9 @@ totals start s bytes rest t all spells is variations comments nags promo under =
     let bare = on.bare refl in
     let met = λ (test : Move → Bool). ap (λ (v : Branches). branches_any test v || line_any test (meaning s).line) (sym bare.0) ∙ on.any test in
     record {
-      variations = omega (arith, variations, ap (λ (x : Tally). x.variations) is, said-variations no_tally s, on.variations, ap branches_variations bare.0);
-      comments = omega (arith, comments, on.comments, ap branches_comments bare.0);
-      nags = omega (arith, nags, ap (λ (x : Tally). x.nags) is, said-nags no_tally s, on.nags, ap branches_nags bare.0, ap (λ (ns : List ℕ). length ns) bare.1);
+      variations = omega (arith, variations, ap (λ (x : Tally). x.variations) is, said-variations no_tally s, on.variations, ap variations_among bare.0);
+      comments = omega (arith, comments, on.comments, ap comments_among bare.0);
+      nags = omega (arith, nags, ap (λ (x : Tally). x.nags) is, said-nags no_tally s, on.nags, ap nags_among bare.0, ap (λ (ns : List ℕ). length ns) bare.1);
       promo = promo ∙ ap (λ (x : Tally). x.promo) is ∙ said-promo no_tally s ∙ sym (met is_promotion);
       under = under ∙ ap (λ (x : Tally). x.under) is ∙ said-under no_tally s ∙ sym (met is_underpromotion);
     }

@@ -17,7 +17,7 @@ use Rattle.game_tree.specs.TagName.{is_refused, is_reserved, is_tag_byte, is_tag
 use Rattle.game_tree.specs.Head.{IsBounded, IsName, is_name, IsRating, IsTag}
 use Rattle.game_tree.specs.Settle.{event_date_name, event_date_tag, first_near_date, taken_up, with_dates, settled, IsSettled}
 use Rattle.game_tree.specs.TagList.{is_named, tags_without, put_tag, with_tag}
-use Rattle.game_tree.specs.TagEdit.{valued, eco_value, rating_with, rating_edit, rating_or_extra, named_edit, IsEdit, edit_of, with_event_date, changed, edited}
+use Rattle.game_tree.specs.TagEdit.{valued, eco_value, rating_with, rating_edit, rating_or_extra, named_edit, IsEdit, edit_of, changed, edited}
 use Rattle.game_tree.specs.declared.date.Date.{Date}
 use Rattle.game_tree.specs.declared.head.Tag.{Tag}
 use Rattle.game_tree.specs.declared.head.Head.{Head}
@@ -110,25 +110,25 @@ pub ruleset settling_apart =
 -- ---- an event date takes the place of all tags EventDate
 
 -- Without one, what is left is settled.
-pub unknown-alone : (head : Head) (date : Date) → is_unknown date ≡ true → settled (with_event_date head date) ≡ with_event_date head date
+pub unknown-alone : (head : Head) (date : Date) → is_unknown date ≡ true → settled (changed head (edit.EventDate date)) ≡ changed head (edit.EventDate date)
 unknown-alone head date unknown =
     let far : is_near date head.date ≡ false = unknown_far date head.date unknown in
-    settled-unknown (with_event_date head date) far unknown ∙ ap (taken_up (with_event_date head date)) (first_near-others head.date head.tags)
+    settled-unknown (changed head (edit.EventDate date)) far unknown ∙ ap (taken_up (changed head (edit.EventDate date))) (first_near-others head.date head.tags)
   where
     unknown_far : (date game : Date) → is_unknown date ≡ true → is_near date game ≡ false
     unknown_far date game unknown =
         let year = eqb-true date.year 0 (and_parts (eqb date.year 0) (eqb date.month 0) (and_parts (eqb date.year 0 && eqb date.month 0) (eqb date.day 0) unknown).0).0 in
         rw year refl
 
-pub known-alone : (head : Head) (date : Date) → is_unknown date ≡ false → settled (with_event_date head date) ≡ settled (with_dates head head.date date)
+pub known-alone : (head : Head) (date : Date) → is_unknown date ≡ false → settled (changed head (edit.EventDate date)) ≡ settled (with_dates head head.date date)
 known-alone head date known =
     elim (cases_Bool (is_near date head.date)) [
       | inl near ↦
-          settled-near (with_event_date head date) near
+          settled-near (changed head (edit.EventDate date)) near
           ∙ ap (λ (tags : List Tag). record head { event_date = date; tags = tags }) (others_again head.tags)
           ∙ sym (settled-near (with_dates head head.date date) near)
       | inr far ↦
-          settled-far (with_event_date head date) far known
+          settled-far (changed head (edit.EventDate date)) far known
           ∙ ap (λ (tags : List Tag). record head { event_date = unknown_date; tags = tags ++ event_date_tag date ∷ [] }) (others_again head.tags)
           ∙ sym (settled-far (with_dates head head.date date) far known)
     ]

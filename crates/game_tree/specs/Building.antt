@@ -1,6 +1,6 @@
 -- A tree while its items are read one by one: the lines that are open, each with its last move apart, since what follows
 -- may still belong to it (this project's own).
-use Rattle.std.specs.Prelude.{◌≡◌, ◌≢◌, ℕ, IsSome, List, [], ◌∷◌, ◌++◌, Option, Some, None, refl}
+use Rattle.std.specs.Prelude.{◌≡◌, ◌≢◌, ℕ, IsSome, List, [], ◌∷◌, ◌++◌, Option, Some, None, option_map, refl}
 use Rattle.std.specs.Coded.{Coded, code_by, coded×, coded_ℕ, coded_list, coded_option}
 use Rattle.cell_core.specs.declared.step.Move.{Move}
 use Rattle.game_tree.specs.Tree.{Line, Branches, none, more, Played, Variation, line_of}
@@ -45,25 +45,21 @@ with_move p o = record { lead = o.lead; done = and_last o.done o.last; last = So
 
 -- A move with one more NAG, with more of its comment, and with one more variation behind the others.
 abbrev pub more_nags : ℕ → Played → Played
-more_nags n p = record { mv = p.mv; nags = p.nags ++ n ∷ []; comment = p.comment; variations = p.variations }
+more_nags n p = record p { nags = p.nags ++ n ∷ [] }
 
 abbrev pub more_comment : Option (List ℕ) → Played → Played
-more_comment t p = record { mv = p.mv; nags = p.nags; comment = joined p.comment t; variations = p.variations }
+more_comment t p = record p { comment = joined p.comment t }
 
 abbrev pub with_branch : Branches → Variation → Branches
 with_branch none v = more v.lead v.line none
 with_branch (more lead line others) v = more lead line (with_branch others v)
 
 abbrev pub more_variations : Variation → Played → Played
-more_variations v p = record { mv = p.mv; nags = p.nags; comment = p.comment; variations = with_branch p.variations v }
+more_variations v p = record p { variations = with_branch p.variations v }
 
 -- A NAG belongs to the last move.
-abbrev pub with_nag_on : ℕ → Option Played → Option Played
-with_nag_on n None = None
-with_nag_on n (Some p) = Some (more_nags n p)
-
 abbrev pub with_nag : ℕ → Open → Open
-with_nag n o = record { lead = o.lead; done = o.done; last = with_nag_on n o.last }
+with_nag n o = record o { last = option_map (more_nags n) o.last }
 
 -- A comment belongs to the last move, or to the line where there is none yet.
 abbrev pub with_comment_on : Option (List ℕ) → Option (List ℕ) → List Played → Option Played → Open
@@ -74,12 +70,8 @@ abbrev pub with_comment : List ℕ → Open → Open
 with_comment t o = with_comment_on (as_comment t) o.lead o.done o.last
 
 -- A variation belongs to the last move.
-abbrev pub with_variation_on : Variation → Option Played → Option Played
-with_variation_on v None = None
-with_variation_on v (Some p) = Some (more_variations v p)
-
 abbrev pub with_variation : Variation → Open → Open
-with_variation v o = record { lead = o.lead; done = o.done; last = with_variation_on v o.last }
+with_variation v o = record o { last = option_map (more_variations v) o.last }
 
 -- The variation that an open line is.
 abbrev pub variation_of : Open → Variation

@@ -1,5 +1,5 @@
 -- Dates of games and events and their texts (PGN standard, 8.1.1.3: year, month and day, question marks where unknown).
-use Rattle.std.specs.Prelude.{ℕ, ◌+◌, ◌*◌, ◌/◌, ◌%◌, ◌≤◌, Bool, ◌&&◌, ◌||◌, ◌==◌, nat_le, if◌then◌else◌, List, [], ◌∷◌, length, slice_index, slice_range, Option, Some, None, codes}
+use Rattle.std.specs.Prelude.{ℕ, ◌+◌, ◌*◌, ◌/◌, ◌%◌, ◌≤◌, Bool, ◌&&◌, ◌||◌, ◌==◌, nat_le, if◌then◌else◌, List, [], ◌∷◌, ◌++◌, map, length, slice_index, slice_range, Option, Some, None, codes}
 use Rattle.std.specs.List.{list_all}
 use Rattle.game_tree.specs.Decimal.{decimal_read}
 use Rattle.game_tree.specs.declared.date.Date.{Date}
@@ -24,17 +24,8 @@ shown whole number = if whole == 0 then 63 else 48 + number % 10
 -- The text of a date, as `1994.05.??`.
 unfoldable pub date_text : Date → List ℕ
 date_text d =
-    shown d.year (d.year / 1000)
-    ∷ shown d.year (d.year / 100)
-    ∷ shown d.year (d.year / 10)
-    ∷ shown d.year d.year
-    ∷ 46
-    ∷ shown d.month (d.month / 10)
-    ∷ shown d.month d.month
-    ∷ 46
-    ∷ shown d.day (d.day / 10)
-    ∷ shown d.day d.day
-    ∷ []
+    map (shown d.year) (d.year / 1000 ∷ d.year / 100 ∷ d.year / 10 ∷ d.year ∷ [])
+    ++ 46 ∷ (map (shown d.month) (d.month / 10 ∷ d.month ∷ []) ++ 46 ∷ map (shown d.day) (d.day / 10 ∷ d.day ∷ []))
 
 -- A part of a date's text that is at most a limit: question marks mean unknown, which is 0, and digits their number.
 unfoldable pub part : ℕ → List ℕ → Option ℕ

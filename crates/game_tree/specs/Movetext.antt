@@ -41,24 +41,15 @@ pub record Said : Type 0 where
   pub variations : Branches
   pub line : Line
 
+-- Nothing is said, and this line follows.
+abbrev pub unmarked : Line → Said
+unmarked line = record { nags = []; comment = None; variations = none; line = line }
+
 -- What a movetext means. The marks after a move may stand in any order; comments at one place are joined.
 abbrev pub meaning : Movetext → Said
-meaning end = record { nags = []; comment = None; variations = none; line = ends }
-meaning (move m s) =
-    record {
-      nags = [];
-      comment = None;
-      variations = none;
-      line = goes m (meaning s).nags (meaning s).comment (meaning s).variations (meaning s).line;
-    }
-meaning (nag n s) =
-    record { nags = n ∷ (meaning s).nags; comment = (meaning s).comment; variations = (meaning s).variations; line = (meaning s).line }
-meaning (comment t s) =
-    record { nags = (meaning s).nags; comment = joined (as_comment t) (meaning s).comment; variations = (meaning s).variations; line = (meaning s).line }
+meaning end = unmarked ends
+meaning (move m s) = unmarked (goes m (meaning s).nags (meaning s).comment (meaning s).variations (meaning s).line)
+meaning (nag n s) = record (meaning s) { nags = n ∷ (meaning s).nags }
+meaning (comment t s) = record (meaning s) { comment = joined (as_comment t) (meaning s).comment }
 meaning (variation inner s) =
-    record {
-      nags = (meaning s).nags;
-      comment = (meaning s).comment;
-      variations = more (meaning inner).comment (meaning inner).line (meaning s).variations;
-      line = (meaning s).line;
-    }
+    record (meaning s) { variations = more (meaning inner).comment (meaning inner).line (meaning s).variations }

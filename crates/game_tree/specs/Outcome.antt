@@ -1,5 +1,6 @@
 -- The texts of results (PGN standard, 8.1.1.7).
-use Rattle.std.specs.Prelude.{ℕ, if◌then◌else◌, List, Option, Some, None, codes}
+use Rattle.std.specs.Prelude.{ℕ, List, [], ◌∷◌, Option, codes}
+use Rattle.std.specs.List.{find}
 use Rattle.std.specs.Str.{bytes_eq}
 use Rattle.game_tree.specs.declared.head.Outcome.{Outcome}
 use Rattle.game_tree.specs.declared.head.Outcome.TheVariants.{White, Black, Draw, Unknown}
@@ -20,9 +21,4 @@ outcome_text Unknown = codes "*"
 
 -- The result that a text is: exactly one of the four.
 abbrev pub outcome_read : List ℕ → Option Outcome
-outcome_read text =
-    if bytes_eq text (codes "1-0") then Some White
-    else if bytes_eq text (codes "0-1") then Some Black
-    else if bytes_eq text (codes "1/2-1/2") then Some Draw
-    else if bytes_eq text (codes "*") then Some Unknown
-    else None
+outcome_read text = find (λ outcome. bytes_eq text (outcome_text outcome)) (White ∷ Black ∷ Draw ∷ Unknown ∷ [])

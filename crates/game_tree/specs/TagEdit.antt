@@ -1,6 +1,6 @@
 -- Edits of a head by the name and the value of a tag (this project's own; the names are those of the PGN standard, 8.1.1
 -- and 9).
-use Rattle.std.specs.Prelude.{ℕ, ◌≤◌, ◌==◌, ◌||◌, not, if◌then◌else◌, List, length, Option, Some, None, Result, Ok, Err, codes}
+use Rattle.std.specs.Prelude.{ℕ, ◌≤◌, ◌==◌, ◌||◌, not, if◌then◌else◌, List, length, Option, Some, None, option_map, ok_or, Result, Ok, Err, codes}
 use Rattle.std.specs.Str.{bytes_eq}
 use Rattle.cell_core.specs.declared.man.Colour.{Colour}
 use Rattle.cell_core.specs.declared.man.Colour.TheVariants.{White, Black}
@@ -15,7 +15,6 @@ use Rattle.game_tree.specs.TagName.{is_refused, is_tag_name, rating_of}
 use Rattle.game_tree.specs.declared.date.Date.{Date}
 use Rattle.game_tree.specs.declared.head.Head.{Head}
 use Rattle.game_tree.specs.declared.head.Rating.{Rating}
-use Rattle.game_tree.specs.declared.head.Tag.{Tag}
 use Rattle.game_tree.specs.declared.tag_edit.TagEdit.{TagEdit}
 use Rattle.game_tree.specs.declared.tag_edit.TagEdit.TheVariants as edit
 use Rattle.game_tree.specs.declared.tag_edit.TagEditError.{TagEditError}
@@ -23,8 +22,7 @@ use Rattle.game_tree.specs.declared.tag_edit.TagEditError.TheVariants as fault
 
 -- The edit with a value that was read, or the fault where there is none.
 abbrev pub valued : {A : Type 0} → (A → TagEdit) → Option A → Result TagEdit TagEditError
-valued make None = Err fault.Value
-valued make (Some value) = Ok (make value)
+valued make value = ok_or (option_map make value) fault.Value
 
 -- The number of an opening code; an empty text takes the code away.
 abbrev pub eco_value : List ℕ → Option ℕ
@@ -80,15 +78,7 @@ IsEdit (edit.Eco number) = number ≤ 65500
 IsEdit (edit.EventDate date) = IsDate date
 IsEdit (edit.Extra tag) = IsTag tag
 
--- The head with this event date in place of its own and of all tags EventDate.
-abbrev pub with_event_date : Head → Date → Head
-with_event_date head date = record head { event_date = date; tags = tags_without event_date_name head.tags }
-
--- The head with an extra tag set.
-abbrev pub with_extra : Head → Tag → Head
-with_extra head tag = record head { tags = with_tag tag head.tags }
-
--- The head with the part set that the edit names.
+-- The head with the part set that the edit names; an event date takes the place of all tags EventDate too.
 abbrev pub changed : Head → TagEdit → Head
 changed head (edit.Event text) = record head { event = text }
 changed head (edit.Site text) = record head { site = text }
@@ -100,8 +90,8 @@ changed head (edit.Result outcome) = record head { result = outcome }
 changed head (edit.WhiteRating rating) = record head { white_rating = rating }
 changed head (edit.BlackRating rating) = record head { black_rating = rating }
 changed head (edit.Eco number) = record head { eco = number }
-changed head (edit.EventDate date) = with_event_date head date
-changed head (edit.Extra tag) = with_extra head tag
+changed head (edit.EventDate date) = record head { event_date = date; tags = tags_without event_date_name head.tags }
+changed head (edit.Extra tag) = record head { tags = with_tag tag head.tags }
 
 -- The head after an edit: it is settled.
 abbrev pub edited : Head → TagEdit → Head

@@ -27,13 +27,10 @@ abbrev pub rating_names : List (List ℕ)
 rating_names =
     codes "Elo" ∷ codes "Rating" ∷ codes "Rapid" ∷ codes "ICCF" ∷ codes "USCF" ∷ codes "DWZ" ∷ codes "ECF" ∷ []
 
-abbrev pub side_name : Colour → List ℕ
-side_name White = codes "White"
-side_name Black = codes "Black"
-
 -- The names of a side's ratings: that of the side and that of the kind.
 abbrev pub rating_tags : Colour → List (List ℕ)
-rating_tags side = map (λ kind. side_name side ++ kind) rating_names
+rating_tags White = map (λ kind. codes "White" ++ kind) rating_names
+rating_tags Black = map (λ kind. codes "Black" ++ kind) rating_names
 
 -- The name of the tag of a side's rating of this kind.
 unfoldable pub rating_tag : Colour → ℕ → List ℕ
@@ -71,8 +68,5 @@ abbrev pub is_tag_name : List ℕ → Bool
 is_tag_name name = nat_le 1 (length name) && nat_le (length name) 240 && list_all is_tag_byte name
 
 -- The tags without those of reserved names, which a game has by other means.
-abbrev pub is_free : Tag → Bool
-is_free tag = not (is_reserved tag.name)
-
 abbrev pub free_of : List Tag → List Tag
-free_of tags = filter is_free tags
+free_of tags = filter (λ tag. not (is_reserved tag.name)) tags

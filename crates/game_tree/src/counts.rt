@@ -1,8 +1,9 @@
 //! How many variations, comments and NAGs a game has, in all its lines.
 ghost use Rattle.std.specs.Prelude.{◌≡◌, ◌+◌, length};
+ghost use Rattle.std.specs.Option.{option_len};
 ghost use Rattle.game_tree.specs.Tree.{line_of, branches_of};
-ghost use Rattle.game_tree.specs.Counts.{line_variations, branches_variations, one_comment, line_comments, branches_comments, line_nags, branches_nags, variations_of, comments_of, nags_of, in_64_bits};
-ghost use Rattle.game_tree.specs.Counting.{Came, Fit};
+ghost use Rattle.game_tree.specs.Counts.{variations_of, comments_of, nags_of, in_64_bits};
+ghost use Rattle.game_tree.specs.Counting.{Came, Fit, line_variations, branches_variations, line_comments, branches_comments, line_nags, branches_nags};
 
 use super::game::Game;
 use super::node::{Branch, Node};
@@ -65,7 +66,7 @@ fn count_branches(counts: &mut Counts, branches: &[Branch])
 
 // 1 for a comment, and 0 for none.
 fn one_comment(comment: &Option<Text>) -> u64
-    ensures { result ≡ one_comment comment.now }
+    ensures { result ≡ option_len comment.now }
 {
     match comment {
         None => 0,

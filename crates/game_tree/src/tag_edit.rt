@@ -4,7 +4,8 @@ ghost use Rattle.cell_core.specs.Text.{IsZeroFree};
 ghost use Rattle.game_tree.specs.Head.{IsBounded};
 ghost use Rattle.game_tree.specs.Settle.{IsSettled, settled};
 ghost use Rattle.game_tree.specs.TagName.{rating_of};
-ghost use Rattle.game_tree.specs.TagEdit.{valued, eco_value, rating_with, rating_edit, rating_or_extra, named_edit, edit_of, IsEdit, with_event_date, with_extra, changed, edited};
+ghost use Rattle.game_tree.specs.TagEdit.{valued, eco_value, rating_with, rating_edit, rating_or_extra, named_edit, edit_of, IsEdit, edited};
+ghost use Rattle.game_tree.specs.declared.tag_edit.TagEdit.TheVariants as edit;
 ghost use Rattle.game_tree.specs.declared.tag_edit.TagEditError.TheVariants as fault;
 
 use super::bounds::is_name;
@@ -227,7 +228,7 @@ fn settle_and_copy(alloc: Global, head: &mut Head, text: &Text) -> Result<Text, 
 // Gives the head this event date in place of its own and of all tags EventDate, and settles it.
 #[tactic(auto, using(crate::proofs::TagEditLemmas::event_date_alone))]
 fn set_event_date(alloc: Global, head: &mut Head, date: Date) -> Result<(), AllocError>
-    ensures ok { OnOk result (head.new ≡ settled (with_event_date head.old date)) }
+    ensures ok { OnOk result (head.new ≡ edited head.old (edit.EventDate date)) }
     ensures err { OnErr result (head.new ≡ head.old) }
 {
     if date.is_unknown() {
@@ -241,7 +242,7 @@ fn set_event_date(alloc: Global, head: &mut Head, date: Date) -> Result<(), Allo
 // Sets an extra tag and settles the head.
 #[tactic(auto, unfolding(crate::specs::Settle::settled))]
 fn set_tag(alloc: Global, head: &mut Head, tag: &Tag) -> Result<(), AllocError>
-    ensures ok { OnOk result (head.new ≡ settled (with_extra head.old tag.now)) }
+    ensures ok { OnOk result (head.new ≡ edited head.old (edit.Extra tag.now)) }
     ensures err { OnErr result (head.new ≡ head.old) }
 {
     let tag = tag.copied(alloc)?;

@@ -25,7 +25,7 @@ use Rattle.game_tree.specs.Outcome.{outcome_text, outcome_read}
 use Rattle.std.specs.Option.{option_or, unwrap_or}
 use Rattle.game_tree.specs.Settle.{event_date_tag, near_only, near_date, first_near_date, taken_up, settled, IsSettled}
 use Rattle.game_tree.specs.TagList.{is_named}
-use Rattle.game_tree.specs.TagName.{rating_tag, rating_of, is_reserved, is_free, free_of}
+use Rattle.game_tree.specs.TagName.{rating_tag, rating_of, is_reserved, free_of}
 use Rattle.game_tree.proofs.DateLemmas.{date_read-date_text}
 use Rattle.game_tree.proofs.DecimalLemmas.{decimal_read-decimal}
 use Rattle.game_tree.proofs.EcoLemmas.{eco_read-eco_text}
@@ -262,7 +262,7 @@ flags_again head game is =
 -- ---- other tags
 
 free_then : (xs ys : List Tag) → free_of (xs ++ ys) ≡ free_of xs ++ free_of ys
-free_then xs ys = filter-append is_free xs ys
+free_then xs ys = filter-append (λ (tag : Tag). not (is_reserved tag.name)) xs ys
 
 free_past : (xs ys : List Tag) → free_of xs ≡ [] → free_of (xs ++ ys) ≡ free_of ys
 free_past xs ys none = free_then xs ys ∙ ap (λ l. l ++ free_of ys) none

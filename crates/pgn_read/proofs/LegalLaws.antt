@@ -1,5 +1,5 @@
 -- What was read of a game stays legal.
-use Rattle.std.proofs.Common.{◌≡◌, ◌≤◌, ◌<◌, ◌+◌, ◌&&◌, ◌||◌, ℕ, Bool, true, false, cond, nat_le, nat_lt, codes, List, [], ◌∷◌, ◌++◌, length, filter, Option, Some, None, Result, Ok, Err, refl, sym, ap, subst, arith}
+use Rattle.std.proofs.Common.{option_map, ◌≡◌, ◌≤◌, ◌<◌, ◌+◌, ◌&&◌, ◌||◌, ℕ, Bool, true, false, cond, nat_le, nat_lt, codes, List, [], ◌∷◌, ◌++◌, length, filter, Option, Some, None, Result, Ok, Err, refl, sym, ap, subst, arith}
 use Rattle.std.specs.List.{AllByRecursion}
 use Rattle.std.proofs.lemmas.Bool.{and_parts, leb-false}
 use Rattle.cell_core.specs.declared.step.Move.{Move}
@@ -18,7 +18,7 @@ use Rattle.game_tree.specs.Settle.{IsSettled}
 use Rattle.game_tree.specs.Item as item
 use Rattle.game_tree.specs.Tree.{Branches, none, more, Played, Variation, line_of, depth_of, depth_within}
 use Rattle.game_tree.specs.Movetext.{as_comment, joined}
-use Rattle.game_tree.specs.Building.{Open, closed, and_last, added, bare, with_move, with_nag_on, with_nag, with_comment_on, with_comment, with_branch, with_variation_on, with_variation, variation_of, more_comment}
+use Rattle.game_tree.specs.Building.{Open, closed, and_last, added, bare, with_move, more_nags, with_nag, with_comment_on, with_comment, with_branch, more_variations, with_variation, variation_of, more_comment}
 use Rattle.game_tree.specs.Legal.{IsComment, IsLegalLine, AreLegalBranches, deepest, IsLegalGame}
 use Rattle.game_tree.specs.TagList.{is_named}
 use Rattle.game_tree.specs.TagName.{is_among, roster_names}
@@ -117,7 +117,7 @@ commented_line : (level : ℕ) (p : Setup) (line : Open) (turn : Turn) (text : L
 commented_line level p line turn text is = commented_on level p text line.lead line.done line.last turn is.lead is.level_within is.moves
 
 noted : (level : ℕ) (p : Setup) (n : ℕ) (done : List Played) (last : Option Played) (turn : Turn) → ComesTo level p done last turn
-    → ComesTo level p done (with_nag_on n last) turn
+    → ComesTo level p done (option_map (more_nags n) last) turn
 noted level p n done None turn is = is
 noted level p n done (Some x) turn is =
     (is.0, (record { step = is.1.0.step; comment = is.1.0.comment; variations = is.1.0.variations; depth = is.1.0.depth }, is.1.1))
@@ -152,7 +152,7 @@ variation_legal level inner p line turn one is =
     }
 
 varied : (level : ℕ) (p : Setup) (v : Variation) (done : List Played) (last : Option Played) (turn : Turn) → IsVariation level turn.before v
-    → ComesTo level p done last turn → ComesTo level p done (with_variation_on v last) turn
+    → ComesTo level p done last turn → ComesTo level p done (option_map (more_variations v) last) turn
 varied level p v done None turn one is = is
 varied level p v done (Some x) turn one is = (
   is.0,

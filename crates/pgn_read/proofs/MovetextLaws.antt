@@ -1,5 +1,5 @@
 -- The tokens of a movetext are read one by one as its items, in its variations too.
-use Rattle.std.proofs.Common.{◌≡◌, ◌≤◌, ◌<◌, ◌+◌, ◌==◌, ◌&&◌, nat_le, ℕ, suc, Bool, true, false, not, cond, List, [], ◌∷◌, ◌++◌, map, length, Option, Some, None, is_some, Ok, refl, sym, ap, ◌∙◌, subst, arith, append_assoc, length-append}
+use Rattle.std.proofs.Common.{option_map, ◌≡◌, ◌≤◌, ◌<◌, ◌+◌, ◌==◌, ◌&&◌, nat_le, ℕ, suc, Bool, true, false, not, cond, List, [], ◌∷◌, ◌++◌, map, length, Option, Some, None, is_some, Ok, refl, sym, ap, ◌∙◌, subst, arith, append_assoc, length-append}
 use Rattle.std.proofs.lemmas.Bool.{and_parts, and_right}
 use Rattle.cell_core.specs.declared.man.Colour.{Colour}
 use Rattle.cell_core.specs.declared.man.Colour.TheVariants.{White, Black}
@@ -8,7 +8,7 @@ use Rattle.chess_laws.specs.declared.setup.Setup.{Setup}
 use Rattle.chess_laws.specs.Position.{Sound}
 use Rattle.chess_laws.specs.Step.{Legal, stepped}
 use Rattle.chess_text.specs.SanText.{san_text}
-use Rattle.game_tree.specs.Building.{Open, Building, with_nag_on, with_comment, with_comment_on, with_variation_on, variation_of, closed, added, built}
+use Rattle.game_tree.specs.Building.{Open, Building, more_nags, with_comment, with_comment_on, more_variations, variation_of, closed, added, built}
 use Rattle.game_tree.specs.Item.{Item}
 use Rattle.game_tree.specs.Item as item
 use Rattle.game_tree.specs.Legal.{deepest}
@@ -139,7 +139,7 @@ outer_kept (variation inner s) b =
     ∙ outer_kept s (added item.closes inside)
     ∙ closed_outer inside.current b.current b.outer inside.outer (outer_kept inner (added item.opens b))
 
-pub nag_kept : (n : ℕ) (o : Option Played) → is_some (with_nag_on n o) ≡ is_some o
+pub nag_kept : (n : ℕ) (o : Option Played) → is_some (option_map (more_nags n) o) ≡ is_some o
 nag_kept n None = refl
 nag_kept n (Some x) = refl
 
@@ -147,7 +147,7 @@ pub comment_kept : (t lead : Option (List ℕ)) (done : List Played) (last : Opt
 comment_kept t lead done None = refl
 comment_kept t lead done (Some x) = refl
 
-variation_kept : (v : Variation) (o : Option Played) → is_some (with_variation_on v o) ≡ is_some o
+variation_kept : (v : Variation) (o : Option Played) → is_some (option_map (more_variations v) o) ≡ is_some o
 variation_kept v None = refl
 variation_kept v (Some x) = refl
 

@@ -10,7 +10,8 @@ use Rattle.chess_laws.specs.Position.{Sound}
 use Rattle.chess_laws.specs.Step.{stepped}
 use Rattle.chess_laws.specs.declared.setup.Setup.{Setup}
 use Rattle.game_codec.specs.Visits.{Visit, line_visits, place_of_visit, places}
-use Rattle.game_tree.specs.Counts.{line_variations, variations_of}
+use Rattle.game_tree.specs.Counts.{variations_of}
+use Rattle.game_tree.proofs.CountLemmas.{variations_in}
 use Rattle.game_tree.specs.Game.{GameTree}
 use Rattle.game_tree.specs.Legal.{IsLegalGame}
 use Rattle.game_tree.specs.Replay.{plies_of, position_at}
@@ -91,7 +92,7 @@ no_variations game sig query is not looks =
     let zero_code : sig.vars ≡ 0 = grind (arith, nat_tests) in
     code_none (variations_of game) (sym (parts game sig is).vars ∙ zero_code)
 
-main_alone : (p : Setup) (ply : ℕ) (line : Line) → line_variations line ≡ 0 → filter (λ (v : Visit). not v.main) (line_visits true p ply line) ≡ []
+main_alone : (p : Setup) (ply : ℕ) (line : Line) → variations_in line ≡ 0 → filter (λ (v : Visit). not v.main) (line_visits true p ply line) ≡ []
 main_alone p ply ends none = refl
 main_alone p ply (goes mv nags comment bare line) none = main_alone (stepped p mv) (suc ply) line (omega (arith, none))
 main_alone p ply (goes mv nags comment (more lead inner others) line) none = absurd (omega (arith, none))

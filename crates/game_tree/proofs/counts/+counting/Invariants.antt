@@ -1,6 +1,6 @@
 use Rattle.std.proofs.Common.{drop}
 use Rattle.game_tree.specs.Tree.{line_of, branches_of}
-use Rattle.game_tree.specs.Counts.{line_variations, line_comments, line_nags, branches_variations, branches_comments, branches_nags}
+use Rattle.game_tree.specs.Counting.{line_variations, line_comments, line_nags, branches_variations, branches_comments, branches_nags}
 use Rattle.game_tree.proofs.CountLemmas.{Left}
 use Rattle.game_tree.proofs.counts.+counting.Given as goal
 
