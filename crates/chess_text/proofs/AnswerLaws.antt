@@ -1,6 +1,6 @@
 -- The computed answers to the texts of moves and positions are the right ones.
 use Rattle.std.proofs.Common.{◌≡◌, ◌⊎◌, inl, inr, ◌≤◌, ◌<◌, ◌+◌, ◌*◌, length-append, ◌==◌, ◌&&◌, ◌||◌, nat_le, ℕ, zero, suc, Bool, true, false, not, cond, List, [], ◌∷◌, map, filter, Option, Some, None, Result, Ok, Err, IfOk, IfErr, IfSome, MatchResult, refl, sym, ap, ◌∙◌, subst, arith, length, count_by}
-use Rattle.std.specs.Prelude.{IsTrue}
+use Rattle.std.specs.Prelude.{IsTrue, if◌then◌else◌}
 use Rattle.std.specs.Bool.{Decides}
 use Rattle.std.proofs.lemmas.Bool.{cases_Bool, and_parts, and_from, not-true, true≢false, leb-true, le-leb, cases_lt}
 use Rattle.std.proofs.lemmas.List.{get_or_past}
@@ -23,11 +23,12 @@ use Rattle.chess_laws.specs.declared.fault.PlaceFault.TheVariants as place
 use Rattle.chess_laws.specs.Geometry.{file_of, rank_of}
 use Rattle.chess_laws.specs.LegalNow.{some_below, in_check_now}
 use Rattle.chess_laws.specs.Position.{Sound, Breaks, HasKings, HasPawnsInside, HasFewMen, HasFitEnPassant, king_square, en_passant_rank, has_bit, bits_of, is_at_home, rights_of}
-use Rattle.chess_laws.specs.Castling.{StandAtHome, has_right, king_home, rook_home}
+use Rattle.chess_laws.specs.Castling.{king_target, StandAtHome, has_right, king_home, rook_home}
 use Rattle.chess_laws.specs.Step.{effect_of}
 use Rattle.chess_laws.proofs.Deciding.{legal-Decides, in_check-Decides}
 use Rattle.chess_laws.proofs.Kings.{king-only, is_man-Some, is_man-true}
 use Rattle.chess_text.specs.declared.fault.FenFault.{FenFault}
+use Rattle.chess_text.specs.declared.fault.FenFault.TheVariants as fen
 use Rattle.chess_text.specs.declared.fault.SanFault.{SanFault}
 use Rattle.chess_text.specs.declared.shape.Going.{Going}
 use Rattle.chess_text.specs.declared.shape.Shape.{Shape}
@@ -35,14 +36,14 @@ use Rattle.chess_text.specs.declared.shape.Shape.TheVariants.{Castle, Null, Goes
 use Rattle.chess_text.specs.Fault.{fault_of}
 use Rattle.chess_text.specs.Placement.{RanksText, PlacementText}
 use Rattle.chess_text.specs.Fen.{placement_field, kept, FenReads, FenFaultOf}
-use Rattle.chess_text.specs.FieldReading.{setup_named}
+use Rattle.chess_text.specs.FieldReading.{◌>>=◌, setup_named}
 use Rattle.chess_text.specs.SanReading.{shape_named}
 use Rattle.chess_text.specs.SanReads.{has_own_form, Fits, SanReads, SanFaultOf}
 use Rattle.chess_text.specs.SanSearch.{AreTwo, AnswersShape, FitsFrom, FoundBelow}
 use Rattle.chess_text.proofs.FenLaws.{fen_text_found, fen_text_only, fen_fault_only}
 use Rattle.chess_text.proofs.SearchLaws.{same-move, found-none, found-some, found-two, found-all, castle-one, null-one, answers-text, shapeless}
-use Rattle.chess_text.specs.SanAnswer.{goes, castling, is_castling, is_null, is_as_said, below, from_square, fits_now, only_of, shape_answer, san_answer}
-use Rattle.chess_text.specs.FenAnswer.{has_kings, has_pawn_outside, has_few_men, is_fit, first_broken, placed_unless, placed, fen_answer}
+use Rattle.chess_text.specs.SanAnswer.{goes, is_castling, is_null, is_as_said, below, from_square, fits_now, only_of, shape_answer, san_answer}
+use Rattle.chess_text.specs.FenAnswer.{has_kings, has_pawn_outside, has_few_men, is_fit, placed, fen_answer}
 
 -- ---- one square
 
@@ -137,6 +138,9 @@ listed_answers p g (m ∷ []) sound h = found-all p g 64 (Some m) sound (omega a
 listed_answers p g (m ∷ k ∷ moves) sound h = h
 
 -- ---- castling and the null move
+
+abbrev castling : Setup → Wing → Move
+castling p wing = goes (king_square p.board p.side) (king_target p.side wing)
 
 castling_is : (wing : Wing) (e : Effect) → is_castling wing e ≡ true → e ≡ effect.Castle wing
 castling_is KingSide (effect.Castle KingSide) is = refl
@@ -350,6 +354,41 @@ not_twice : (b : Bool) → not (not b) ≡ b
 not_twice true = refl
 not_twice false = refl
 
+-- The first rule that a setup breaks, and the answer by it.
+abbrev first_broken : Setup → Option PlaceFault
+first_broken p =
+    if not (has_kings p.board) then Some place.Kings
+    else if has_pawn_outside p.board White || has_pawn_outside p.board Black then Some place.Pawns
+    else if not (has_few_men p.board) then Some place.TooMany
+    else if in_check_now p.board (other p.side) then Some place.InCheck
+    else if not (is_fit p.side p.en_passant) then Some place.EnPassant
+    else None
+
+abbrev placed_unless : Setup → Option PlaceFault → Result Setup FenFault
+placed_unless p None = Ok p
+placed_unless p (Some broken) = Err (fault_of broken)
+
+abbrev placed_fields : Result Setup FenFault → Result Setup FenFault
+placed_fields (Ok says) = placed_unless (kept says) (first_broken (kept says))
+placed_fields (Err fault) = Err fault
+
+by_tests : (kings outside few check fit : Bool) (p : Setup)
+    → (if not kings then Err fen.Kings else if outside then Err fen.Pawns else if not few then Err fen.TooMany else if check then Err fen.InCheck else if not fit then Err (fen.Field 4) else Ok p)
+    ≡ placed_unless p (if not kings then Some place.Kings else if outside then Some place.Pawns else if not few then Some place.TooMany else if check then Some place.InCheck else if not fit then Some place.EnPassant else None)
+by_tests false outside few check fit p = refl
+by_tests true true few check fit p = refl
+by_tests true false false check fit p = refl
+by_tests true false true true fit p = refl
+by_tests true false true false false p = refl
+by_tests true false true false true p = refl
+
+by_fields : (fields : Result Setup FenFault) → (fields >>= (λ says. placed (kept says))) ≡ placed_fields fields
+by_fields (Ok says) =
+    let p = kept says in
+    by_tests (has_kings p.board) (has_pawn_outside p.board White || has_pawn_outside p.board Black) (has_few_men p.board)
+    (in_check_now p.board (other p.side)) (is_fit p.side p.en_passant) p
+by_fields (Err fault) = refl
+
 chained : (p : Setup) → first_broken p ≡ chain (has_kings p.board) (not (has_pawn_outside p.board White || has_pawn_outside p.board Black))
     (has_few_men p.board) (in_check_now p.board (other p.side)) (is_fit p.side p.en_passant)
 unfolding chain
@@ -380,18 +419,21 @@ breaks_first p place.EnPassant h =
 -- The fault of a text, by what its fields say.
 fault_from : (fields : Result Setup FenFault) (fault : FenFault)
     → MatchResult fields (λ says. (broken : PlaceFault) × (fault ≡ fault_of broken) × Breaks (kept says) broken) (λ first. first ≡ fault)
-    → placed fields ≡ Err fault
+    → placed_fields fields ≡ Err fault
 fault_from (Ok says) fault (broken, is, breaks) =
     ap (placed_unless (kept says)) (breaks_first (kept says) broken breaks) ∙ ap Err (sym is)
 fault_from (Err first) fault is = ap Err is
 
-pub fen_is : (text : List ℕ) (given : Result Setup FenFault) → IfOk given (FenReads text) → IfErr given (FenFaultOf text) → given ≡ fen_answer text
-unfolding fen_answer
-fen_is text (Ok p) reads faulty =
+fields_are : (text : List ℕ) (given : Result Setup FenFault) → IfOk given (FenReads text) → IfErr given (FenFaultOf text) → given ≡ placed_fields (setup_named text)
+fields_are text (Ok p) reads faulty =
     let fields = fen_text_only text reads.says reads.fields in
     let sound : Sound (kept reads.says) = subst Sound reads.position reads.sound in
-    sym (ap placed fields ∙ ap (placed_unless (kept reads.says)) (sound_unbroken (kept reads.says) sound) ∙ ap Ok (sym reads.position))
-fen_is text (Err fault) reads faulty = sym (fault_from (setup_named text) fault (fen_fault_only text fault faulty))
+    sym (ap placed_fields fields ∙ ap (placed_unless (kept reads.says)) (sound_unbroken (kept reads.says) sound) ∙ ap Ok (sym reads.position))
+fields_are text (Err fault) reads faulty = sym (fault_from (setup_named text) fault (fen_fault_only text fault faulty))
+
+pub fen_is : (text : List ℕ) (given : Result Setup FenFault) → IfOk given (FenReads text) → IfErr given (FenFaultOf text) → given ≡ fen_answer text
+unfolding fen_answer
+fen_is text given reads faulty = fields_are text given reads faulty ∙ sym (by_fields (setup_named text))
 
 -- ---- what the answer to the text of a position says
 
@@ -447,7 +489,7 @@ unless_sound : (says p : Setup) (broken : Option PlaceFault) → length says.boa
 unless_sound says p None long none is = let same : kept says ≡ p = cc in subst Sound same (unbroken_sound says long none)
 unless_sound says p (Some broken) long some is = absurd (cc)
 
-placed_sound : (fields : Result Setup FenFault) (p : Setup) → IfOk fields (λ says. length says.board ≡ 64) → placed fields ≡ Ok p → Sound p
+placed_sound : (fields : Result Setup FenFault) (p : Setup) → IfOk fields (λ says. length says.board ≡ 64) → placed_fields fields ≡ Ok p → Sound p
 placed_sound (Ok says) p long is = unless_sound says p (first_broken (kept says)) long refl is
 placed_sound (Err fault) p long is = absurd (cc)
 
@@ -460,7 +502,7 @@ says_long text (Err fault) is = tt
 -- The position that a text says keeps the rules.
 pub answer_sound : (text : List ℕ) (p : Setup) → fen_answer text ≡ Ok p → Sound p
 unfolding fen_answer
-answer_sound text p is = placed_sound (setup_named text) p (says_long text (setup_named text) refl) is
+answer_sound text p is = placed_sound (setup_named text) p (says_long text (setup_named text) refl) (sym (by_fields (setup_named text)) ∙ is)
 
 -- A text that reads as a position says it.
 pub reads_answer : (text : List ℕ) (p : Setup) → FenReads text p → fen_answer text ≡ Ok p

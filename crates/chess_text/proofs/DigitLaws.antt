@@ -8,8 +8,8 @@ use Rattle.cell_core.specs.Board.{Men}
 use Rattle.chess_laws.specs.declared.setup.Rights.{Rights}
 use Rattle.chess_laws.specs.declared.setup.Setup.{Setup}
 use Rattle.chess_text.specs.Letters.{letter_of}
-use Rattle.chess_text.specs.Fields.{side_text}
-use Rattle.chess_text.specs.Written.{run_text, row_text, ranks_text, letter_where, or_dash, rights_text, en_passant_text, fen_text, NotBothDigits, HasDigitsApart}
+use Rattle.chess_text.specs.Fields.{or_word, side_text}
+use Rattle.chess_text.specs.Written.{run_text, row_text, ranks_text, letter_where, rights_text, en_passant_text, fen_text, NotBothDigits, HasDigitsApart}
 use Rattle.chess_text.proofs.PlacementLaws.{letter_above}
 
 -- a text that begins with no digit, and has its digits apart
@@ -76,7 +76,7 @@ unfolding NoDigit
 where_no_digit true letter above = (letter_other letter above, tt)
 where_no_digit false letter above = tt
 
-dash_no_digit : (text : List ℕ) → NoDigit text → NoDigit (or_dash text)
+dash_no_digit : (text : List ℕ) → NoDigit text → NoDigit (or_word text (45 ∷ []))
 unfolding NoDigit
 dash_no_digit [] none = ((λ digit. omega (arith, digit.0)), tt)
 dash_no_digit (byte ∷ text) none = none

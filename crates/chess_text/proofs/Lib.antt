@@ -4,6 +4,7 @@ pub mod WordLaws
 pub mod FenLaws
 pub mod WritingLaws
 pub mod DigitLaws
+pub mod PartLaws
 pub mod ShapeLaws
 pub mod SearchLaws
 pub mod OnesLaws

@@ -1,5 +1,5 @@
 -- Filling a board byte by byte gives exactly what the grammar of a placement says.
-use Rattle.std.proofs.Common.{◌≡◌, ℕ, zero, suc, ◌+◌, ◌-◌, ◌*◌, ◌<◌, ◌≤◌, ◌⊎◌, inl, inr, Bool, true, false, cond, ◌==◌, nat_lt, nat_le, ◌&&◌, List, [], ◌∷◌, ◌++◌, Option, Some, None, option_and_then, length, replicate, set, refl, sym, ◌∙◌, ap, arith, append_assoc, length-append}
+use Rattle.std.proofs.Common.{◌≡◌, ℕ, zero, suc, ◌+◌, ◌-◌, ◌*◌, ◌<◌, ◌≤◌, ◌⊎◌, inl, inr, Bool, true, false, cond, ◌==◌, nat_lt, nat_le, ◌&&◌, List, [], ◌∷◌, ◌++◌, Option, Some, None, option_and_then, option_map, length, replicate, set, refl, sym, ◌∙◌, ap, arith, append_assoc, length-append}
 use Rattle.std.proofs.Common.{lit<}
 use Rattle.std.proofs.lemmas.Bool.{eqb-true, eq-eqb, ltb-true, ltb-false, leb-true, lt-ltb, le-leb, and_parts}
 use Rattle.std.proofs.lemmas.Bool.Decides.{nat_tests}
@@ -11,8 +11,9 @@ use Rattle.cell_core.specs.declared.man.Kind.{Kind}
 use Rattle.cell_core.specs.declared.man.Kind.TheVariants.{King, Queen, Rook, Bishop, Knight, Pawn}
 use Rattle.cell_core.specs.declared.man.Man.{Man}
 use Rattle.cell_core.specs.Board.{Men}
+use Rattle.cell_core.specs.Man.{man}
 use Rattle.chess_text.specs.Letters.{capital_of, letter_in, letter_of}
-use Rattle.chess_text.specs.LetterReading.{kind_named, man_in, man_named}
+use Rattle.chess_text.specs.LetterReading.{kind_named, man_named}
 use Rattle.chess_text.specs.Placement.{Stands, RankText, RanksText, PlacementText}
 use Rattle.chess_text.specs.Filling.{board_named, Place, after, after_man, after_empty, after_slash, after_letter, filled}
 
@@ -61,11 +62,11 @@ capital_of_named letter kind =
     (named_more letter 82 Rook kind _ refl (named_more letter 66 Bishop kind _ refl
     (named_more letter 78 Knight kind _ refl (named_more letter 80 Pawn kind None refl (λ h. cc))))))
 
-man_in_some : (colour : Colour) (o : Option Kind) (man : Man) → man_in colour o ≡ Some man
-    → (man.colour ≡ colour) × (o ≡ Some man.kind)
-man_in_some colour None man h = cc
-man_in_some colour (Some kind) man h =
-    let e : record { colour = colour; kind = kind } ≡ man = same_Some _ _ h in
+man_in_some : (colour : Colour) (o : Option Kind) (m : Man) → option_map (man colour) o ≡ Some m
+    → (m.colour ≡ colour) × (o ≡ Some m.kind)
+man_in_some colour None m h = cc
+man_in_some colour (Some kind) m h =
+    let e : record { colour = colour; kind = kind } ≡ m = same_Some _ _ h in
     (sym (ap (λ (m : Man). m.colour) e), ap (λ (m : Man). Some m.kind) e)
 
 -- the man that a letter names has it as its letter

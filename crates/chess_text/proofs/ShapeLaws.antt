@@ -15,7 +15,9 @@ use Rattle.chess_text.specs.declared.shape.Shape.TheVariants.{Castle, Null, Goes
 use Rattle.chess_text.specs.Letters.{capital_of}
 use Rattle.chess_text.specs.Squares.{file_text, rank_text, square_text}
 use Rattle.chess_text.specs.SanShape.{man_text, castling_text, castling_digits, null_text, part, IsCaptureSign, IsPromotion, IsMoveText, AreSigns, HasShape}
-use Rattle.chess_text.specs.SanReading.{promotion_named, piece_named, file_named, rank_named, is_capture_sign, is_sign, front, behind, begins, passed, square_from, square_front, behind_square, promotion_front, behind_promotion, aimed, ended, from_capture, from_rank, from_file, from_kind, going_named, is_form, form_named, shape_from, shape_named}
+use Rattle.chess_text.specs.SanReading.{promotion_named, piece_named, file_named, rank_named, is_sign, aimed, is_form, form_named, shape_named}
+use Rattle.chess_text.specs.SanParts.{is_capture_sign, front, behind, begins, passed, square_from, square_front, behind_square, promotion_front, behind_promotion, ended, from_capture, from_rank, from_file, from_kind, going_parts, shape_from, shape_parts}
+use Rattle.chess_text.proofs.PartLaws.{shape_is}
 
 -- ---- what the bytes of files and ranks name
 
@@ -219,9 +221,9 @@ no-piece (Some f) rank capture t text takes on_file on_rank = no-front piece_nam
 
 read_kind : (k : Kind) (file rank : Option ℕ) (capture promotion signs : List ℕ) (t : ℕ) (promo : Option Kind)
     → Parts capture promotion signs t promo → IfSome file (λ f. f < 8) → IfSome rank (λ r. r < 8)
-    → going_named (man_text k ++ (part file_text file ++ (part rank_text rank ++ (capture ++ (square_text t ++ (promotion ++ signs))))))
+    → going_parts (man_text k ++ (part file_text file ++ (part rank_text rank ++ (capture ++ (square_text t ++ (promotion ++ signs))))))
     ≡ Some (record { kind = k; file = file; rank = rank; target = t; promo = promo })
-unfolding going_named piece_named promotion_named
+unfolding going_parts piece_named promotion_named
 read_kind Pawn file rank capture promotion signs t promo h on_file on_rank =
     let n : NoFront piece_named (part file_text file ++ (part rank_text rank ++ (capture ++ (square_text t ++ (promotion ++ signs)))))
     = no-piece file rank capture t (promotion ++ signs) h.captures on_file on_rank in
@@ -244,15 +246,15 @@ reassoc : (a b c d e f s : List ℕ)
 reassoc a b c d e f s = simp append_assoc refl
 
 castle-only : (wing : Wing) (text signs : List ℕ) → (text ≡ castling_text wing ++ signs) ⊎ (text ≡ castling_digits wing ++ signs)
-    → AreSigns signs → shape_named text ≡ Some (Castle wing)
-unfolding shape_named going_named form_named piece_named promotion_named file_named rank_named square_front behind_square promotion_front behind_promotion
+    → AreSigns signs → shape_parts text ≡ Some (Castle wing)
+unfolding shape_parts going_parts form_named piece_named promotion_named file_named rank_named square_front behind_square promotion_front behind_promotion
 castle-only KingSide text signs (inl e) s = rw (e, signs-listed signs s) refl
 castle-only KingSide text signs (inr e) s = rw (e, signs-listed signs s) refl
 castle-only QueenSide text signs (inl e) s = rw (e, signs-listed signs s) refl
 castle-only QueenSide text signs (inr e) s = rw (e, signs-listed signs s) refl
 
-null-only : (text signs : List ℕ) → text ≡ null_text ++ signs → AreSigns signs → shape_named text ≡ Some Null
-unfolding shape_named going_named form_named piece_named promotion_named file_named rank_named square_front behind_square promotion_front behind_promotion
+null-only : (text signs : List ℕ) → text ≡ null_text ++ signs → AreSigns signs → shape_parts text ≡ Some Null
+unfolding shape_parts going_parts form_named piece_named promotion_named file_named rank_named square_front behind_square promotion_front behind_promotion
 null-only text signs e s = rw (e, signs-listed signs s) refl
 
 either : (wing : Wing) (text front signs : List ℕ) → text ≡ front ++ signs → IsMoveText front (Castle wing)
@@ -260,9 +262,9 @@ either : (wing : Wing) (text front signs : List ℕ) → text ≡ front ++ signs
 either wing text front signs e (inl w) = inl (rw w at e)
 either wing text front signs e (inr w) = inr (rw w at e)
 
-pub shape-only : (text : List ℕ) (shape : Shape) → HasShape text shape → shape_named text ≡ Some shape
-unfolding shape_named
-shape-only text (Goes g) h =
+parts-only : (text : List ℕ) (shape : Shape) → HasShape text shape → shape_parts text ≡ Some shape
+unfolding shape_parts
+parts-only text (Goes g) h =
     let w = h.is_text in
     let e : IsEnd w.promotion h.signs g.promo = end w.promotion h.signs g.promo w.promotes h.are_signs in
     let parts : Parts w.capture w.promotion h.signs g.target g.promo
@@ -270,8 +272,8 @@ shape-only text (Goes g) h =
     rw (h.spelled, w.spelled, reassoc (man_text g.kind) (part file_text g.file) (part rank_text g.rank) w.capture (square_text g.target) w.promotion h.signs)
     (ap (λ (o : Option Going). shape_from o (man_text g.kind ++ (part file_text g.file ++ (part rank_text g.rank ++ (w.capture ++ (square_text g.target ++ (w.promotion ++ h.signs)))))))
     (read_kind g.kind g.file g.rank w.capture w.promotion h.signs g.target g.promo parts w.file w.rank))
-shape-only text (Castle wing) h = castle-only wing text h.signs (either wing text h.front h.signs h.spelled h.is_text) h.are_signs
-shape-only text Null h = null-only text h.signs (rw h.is_text at h.spelled) h.are_signs
+parts-only text (Castle wing) h = castle-only wing text h.signs (either wing text h.front h.signs h.spelled h.is_text) h.are_signs
+parts-only text Null h = null-only text h.signs (rw h.is_text at h.spelled) h.are_signs
 
 -- ---- what is read has the shape
 
@@ -537,8 +539,8 @@ cut-shape text k (Some f) (Some r) false None promo signs c are g h =
       are_signs = are;
     })
 
-going-shape : (text : List ℕ) (g : Going) → going_named text ≡ Some g → HasShape text (Goes g)
-unfolding going_named
+going-shape : (text : List ℕ) (g : Going) → going_parts text ≡ Some g → HasShape text (Goes g)
+unfolding going_parts
 going-shape text g h =
     let t₁ : List ℕ = behind piece_named text in
     let t₂ : List ℕ = behind file_named t₁ in
@@ -602,13 +604,19 @@ form-shape text shape h =
     record { front = null_text; signs = s.0; spelled = s.1; is_text = refl; are_signs = s.2 })) (λ h.
     none-Some shape (P shape) h)))))
 
-shape-at : (text : List ℕ) (shape : Shape) (o : Option Going) → going_named text ≡ o → shape_from o text ≡ Some shape → HasShape text shape
+shape-at : (text : List ℕ) (shape : Shape) (o : Option Going) → going_parts text ≡ o → shape_from o text ≡ Some shape → HasShape text shape
 shape-at text shape None e h = form-shape text shape h
 shape-at text shape (Some g) e h = subst (λ (s : Shape). HasShape text s) (cc) (going-shape text g e)
 
+parts-found : (text : List ℕ) (shape : Shape) → shape_parts text ≡ Some shape → HasShape text shape
+unfolding shape_parts
+parts-found text shape h = shape-at text shape (going_parts text) refl h
+
+pub shape-only : (text : List ℕ) (shape : Shape) → HasShape text shape → shape_named text ≡ Some shape
+shape-only text shape h = shape_is text ∙ parts-only text shape h
+
 pub shape-found : (text : List ℕ) (shape : Shape) → shape_named text ≡ Some shape → HasShape text shape
-unfolding shape_named
-shape-found text shape h = shape-at text shape (going_named text) refl h
+shape-found text shape h = parts-found text shape (sym (shape_is text) ∙ h)
 
 -- a text has at most one shape
 pub one-shape : (text : List ℕ) (a b : Shape) → HasShape text a → HasShape text b → a ≡ b

@@ -1,5 +1,5 @@
 -- What is computed is the text of the move.
-use Rattle.std.proofs.Common.{◌≡◌, ◌↔◌, ℕ, zero, suc, ◌<◌, ◌==◌, ◌&&◌, ◌||◌, not, inl, inr, Bool, true, false, IsTrue, [], if◌then◌else◌, Option, Some, None, codes, refl, arith}
+use Rattle.std.proofs.Common.{◌≡◌, ◌↔◌, ℕ, zero, suc, ◌<◌, ◌==◌, ◌&&◌, ◌||◌, not, inl, inr, Bool, true, false, IsTrue, List, [], if◌then◌else◌, Option, Some, None, codes, refl, subst, arith}
 use Rattle.std.specs.Bool.{Decides}
 use Rattle.std.proofs.lemmas.Bool.Decides.{Decides-and, Decides-eqb}
 use Rattle.std.proofs.lemmas.Bool.{false≢true, cases_lt, and_parts, and_from, or_cases, ne_eqb, eqb-false, not-true}
@@ -23,6 +23,7 @@ use Rattle.chess_laws.proofs.Following.{case-on_board}
 use Rattle.chess_laws.proofs.Kings.{is_man-Some, is_man-true}
 use Rattle.chess_laws.proofs.MovedKings.{legal-allowed, Sound-after}
 use Rattle.chess_text.specs.San.{IsRival, OriginText, KindText, GoingText, HasMove, SignText, SanBy, San}
+use Rattle.chess_text.specs.Squares.{file_text, rank_text, square_text}
 use Rattle.chess_text.specs.SanText.{is_rival_now, origin_now, kind_now, going_now, some_promotion, has_move_now, sign_now, san_now, san_text}
 use Rattle.chess_text.proofs.RivalLaws.{origin-from, within}
 use Rattle.chess_text.proofs.WrittenSan.{MayName, case-named}
@@ -80,6 +81,18 @@ some-Decides test P each inside = (
   λ some. some-from 64 some.0 test (inside some.0 some.1) ((each some.0).1 some.1),
 )
 
+-- The tests of an origin one in another.
+abbrev origin_nested : Bool → Bool → Bool → ℕ → List ℕ
+origin_nested any files ranks s =
+    if any then (if files then (if ranks then square_text s else rank_text (rank_of s)) else file_text (file_of s)) else []
+
+nested : (any files ranks : Bool) (s : ℕ) → origin_nested any files ranks s
+    ≡ (if not any then [] else if not files then file_text (file_of s) else if not ranks then rank_text (rank_of s) else square_text s)
+nested true true true s = refl
+nested true true false s = refl
+nested true false ranks s = refl
+nested false files ranks s = refl
+
 origin-computed : (p : Setup) (k : Kind) (m : Move) → Sound p → OriginText p k m (origin_now p k m)
 unfolding origin_now
 origin-computed p k m sound =
@@ -90,9 +103,12 @@ origin-computed p k m sound =
     let ranks = some-Decides (λ s. is_rival_now p k m s && (rank_of s == rank_of m.from)) (λ s. IsRival p k m s × (rank_of s ≡ rank_of m.from))
     (λ s. Decides-and (is_rival_now p k m s) (rank_of s == rank_of m.from) (rival-Decides p k m s) (Decides-eqb (rank_of s) (rank_of m.from)))
     (λ s both. within p k m s sound both.0) in
-    origin-from p k m _ _ _ any
+    subst (OriginText p k m)
+    (nested (some_below (is_rival_now p k m) 64) (some_below (λ s. is_rival_now p k m s && (file_of s == file_of m.from)) 64)
+    (some_below (λ s. is_rival_now p k m s && (rank_of s == rank_of m.from)) 64) m.from)
+    (origin-from p k m _ _ _ any
     (λ e. let some = files.0 e in (some.0, some.1.0, some.1.1), λ some. files.1 (some.0, (some.1, some.2)))
-    (λ e. let some = ranks.0 e in (some.0, some.1.0, some.1.1), λ some. ranks.1 (some.0, (some.1, some.2)))
+    (λ e. let some = ranks.0 e in (some.0, some.1.0, some.1.1), λ some. ranks.1 (some.0, (some.1, some.2))))
 
 -- ---- the sign
 

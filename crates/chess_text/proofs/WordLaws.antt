@@ -1,10 +1,12 @@
 -- Each text is words with spaces between, and the words that are read one after another are these.
-use Rattle.std.proofs.Common.{◌≡◌, ◌≢◌, ℕ, zero, suc, inl, inr, ◌==◌, nat_le, List, [], ◌∷◌, ◌++◌, get_or, drop, replicate, length, refl, sym, ◌∙◌, ap, subst, arith}
-use Rattle.std.specs.List.{AllByRecursion}
+use Rattle.std.proofs.Common.{◌≡◌, ◌≢◌, ℕ, zero, suc, inl, inr, ◌==◌, ◌+◌, not, nat_le, List, [], ◌∷◌, ◌++◌, get_or, drop, replicate, length, refl, sym, ◌∙◌, ap, subst, arith}
+use Rattle.std.specs.List.{AllByRecursion, prefix_len, take_while}
+use Rattle.std.proofs.lemmas.List.Sums.{take_while-cons}
 use Rattle.std.proofs.lemmas.Bool.{eqb-true, eqb-false, ne_eqb, lt-leb, le-leb, cases_Bool}
 use Rattle.std.proofs.lemmas.Bool.Decides.{nat_tests}
-use Rattle.chess_text.specs.Fields.{IsWord, EndsWord, Spaced}
-use Rattle.chess_text.specs.FieldReading.{skipped, front_word, behind_word, word_of, rest_of, or_word}
+use Rattle.chess_text.specs.Fields.{or_word, IsWord, EndsWord, Spaced}
+use Rattle.chess_text.specs.FieldReading.{skipped, word_of, rest_of}
+use Rattle.chess_text.specs.WordReading.{passed_spaces, front_word, behind_word}
 
 -- ---- each text is words
 
@@ -54,15 +56,59 @@ words_of (byte ∷ text) =
 
 -- ---- reading the first word
 
-skipped_spaces : (n : ℕ) (text : List ℕ) → skipped (replicate n 32 ++ text) ≡ skipped text
+one_plus : (n : ℕ) → 1 + n ≡ suc n
+one_plus n = omega arith
+
+spaces_is : (text : List ℕ) → skipped text ≡ passed_spaces text
+spaces_is [] = refl
+spaces_is (byte ∷ text) =
+    elim (cases_Bool (byte == 32)) [
+      | inl space ↦
+          let old : passed_spaces (byte ∷ text) ≡ passed_spaces text = rw space refl in
+          let new : skipped (byte ∷ text) ≡ drop (1 + prefix_len (λ (byte : ℕ). byte == 32) text) (byte ∷ text) = rw space refl in
+          new ∙ ap (λ (n : ℕ). drop n (byte ∷ text)) (one_plus (prefix_len (λ (byte : ℕ). byte == 32) text)) ∙ spaces_is text ∙ sym old
+      | inr other ↦ rw other refl
+    ]
+
+front_is : (text : List ℕ) → take_while (λ (byte : ℕ). not (byte == 32)) text ≡ front_word text
+front_is [] = refl
+front_is (byte ∷ text) =
+    elim (cases_Bool (byte == 32)) [
+      | inl space ↦ rw space refl
+      | inr other ↦
+          let new : take_while (λ (byte : ℕ). not (byte == 32)) (byte ∷ text) ≡ byte ∷ take_while (λ (byte : ℕ). not (byte == 32)) text
+          = take_while-cons (λ (byte : ℕ). not (byte == 32)) byte text ∙ rw other refl in
+          let old : front_word (byte ∷ text) ≡ byte ∷ front_word text = rw other refl in
+          new ∙ ap (λ (bytes : List ℕ). byte ∷ bytes) (front_is text) ∙ sym old
+    ]
+
+behind_is : (text : List ℕ) → drop (length (front_word text)) text ≡ behind_word text
+behind_is [] = refl
+behind_is (byte ∷ text) =
+    elim (cases_Bool (byte == 32)) [
+      | inl space ↦ rw space refl
+      | inr other ↦ rw other (behind_is text)
+    ]
+
+pub word_is : (text : List ℕ) → word_of text ≡ front_word (passed_spaces text)
+unfolding word_of
+word_is text = ap (λ (bytes : List ℕ). take_while (λ (byte : ℕ). not (byte == 32)) bytes) (spaces_is text) ∙ front_is (passed_spaces text)
+
+pub rest_is : (text : List ℕ) → rest_of text ≡ behind_word (passed_spaces text)
+unfolding rest_of
+rest_is text =
+    ap (λ (bytes : List ℕ). drop (length bytes) (skipped text)) (word_is text)
+    ∙ ap (λ (bytes : List ℕ). drop (length (front_word (passed_spaces text))) bytes) (spaces_is text) ∙ behind_is (passed_spaces text)
+
+skipped_spaces : (n : ℕ) (text : List ℕ) → passed_spaces (replicate n 32 ++ text) ≡ passed_spaces text
 skipped_spaces zero text = refl
 skipped_spaces (suc n) text = skipped_spaces n text
 
-skipped_all : (n : ℕ) → skipped (replicate n 32) ≡ []
+skipped_all : (n : ℕ) → passed_spaces (replicate n 32) ≡ []
 skipped_all zero = refl
 skipped_all (suc n) = skipped_all n
 
-skipped_word : (word rest : List ℕ) → IsWord word → skipped (word ++ rest) ≡ word ++ rest
+skipped_word : (word rest : List ℕ) → IsWord word → passed_spaces (word ++ rest) ≡ word ++ rest
 skipped_word [] rest is_word = absurd (omega (arith, is_word.0))
 skipped_word (byte ∷ word) rest is_word = rw (ne_eqb byte 32 is_word.1.0) refl
 
@@ -87,17 +133,15 @@ behind_whole (byte ∷ word) rest no_space ends = rw (ne_eqb byte 32 no_space.0)
 
 -- the word that is read is the first one, and the others are in the rest
 pub word_of-spaced : (words : List (List ℕ)) (text : List ℕ) → Spaced words text → word_of text ≡ get_or words 0 []
-unfolding word_of
-word_of-spaced [] text (n, e) = rw (e, skipped_all n) refl
+word_of-spaced [] text (n, e) = word_is text ∙ rw (e, skipped_all n) refl
 word_of-spaced (word ∷ words) text (n, rest, e, is_word, ends, more) =
-    rw (e, skipped_spaces n (word ++ rest), skipped_word word rest is_word) (front_whole word rest is_word.1 ends)
+    word_is text ∙ rw (e, skipped_spaces n (word ++ rest), skipped_word word rest is_word) (front_whole word rest is_word.1 ends)
 
 pub spaced-rest_of : (words : List (List ℕ)) (text : List ℕ) → Spaced words text → Spaced (drop 1 words) (rest_of text)
-unfolding rest_of
-spaced-rest_of [] text (n, e) = (0, rw (e, skipped_all n) refl)
+spaced-rest_of [] text (n, e) = (0, rest_is text ∙ rw (e, skipped_all n) refl)
 spaced-rest_of (word ∷ words) text (n, rest, e, is_word, ends, more) =
-    let same : behind_word (skipped text) ≡ rest
-    = rw (e, skipped_spaces n (word ++ rest), skipped_word word rest is_word) (behind_whole word rest is_word.1 ends) in
+    let same : rest_of text ≡ rest
+    = rest_is text ∙ rw (e, skipped_spaces n (word ++ rest), skipped_word word rest is_word) (behind_whole word rest is_word.1 ends) in
     rw same more
 
 -- ---- the words by their numbers

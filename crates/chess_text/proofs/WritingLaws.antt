@@ -18,9 +18,9 @@ use Rattle.chess_laws.specs.Castling.{StandAtHome}
 use Rattle.chess_laws.specs.Position.{Sound, HasFitRights, HasFitEnPassant, has_bit, bits_of, is_at_home, rights_of}
 use Rattle.chess_text.specs.Letters.{letter_of}
 use Rattle.chess_text.specs.Placement.{Stands, RankText, RanksText, PlacementText}
-use Rattle.chess_text.specs.Fields.{IsWord, Spaced, side_text, RightsText, EnPassantText}
+use Rattle.chess_text.specs.Fields.{or_word, IsWord, Spaced, side_text, RightsText, EnPassantText}
 use Rattle.chess_text.specs.Fen.{FenText, FenReads, kept}
-use Rattle.chess_text.specs.Written.{run_text, row_text, ranks_text, placement_text, letter_where, or_dash, rights_text, en_passant_text, fen_text}
+use Rattle.chess_text.specs.Written.{run_text, row_text, ranks_text, placement_text, letter_where, rights_text, en_passant_text, fen_text}
 use Rattle.chess_text.proofs.PlacementLaws.{letter_above}
 use Rattle.chess_text.proofs.FieldLaws.{same_rights}
 use Rattle.chess_text.proofs.WordLaws.{spaced_space}
@@ -137,7 +137,7 @@ unfolding Shown
 shown_where true letter above = (above, tt)
 shown_where false letter above = tt
 
-shown_dash : (text : List ℕ) → Shown text → Shown (or_dash text)
+shown_dash : (text : List ℕ) → Shown text → Shown (or_word text (45 ∷ []))
 unfolding Shown
 shown_dash [] shown = (lit< tt, tt)
 shown_dash (byte ∷ text) shown = shown
@@ -180,7 +180,7 @@ side_word : (side : Colour) → IsWord (side_text side)
 side_word White = (lit< tt, no_space _ (shown_side White))
 side_word Black = (lit< tt, no_space _ (shown_side Black))
 
-dash_long : (text : List ℕ) → 0 < length (or_dash text)
+dash_long : (text : List ℕ) → 0 < length (or_word text (45 ∷ []))
 dash_long [] = lit< tt
 dash_long (byte ∷ text) = omega arith
 

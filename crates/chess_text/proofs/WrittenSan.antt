@@ -23,7 +23,7 @@ use Rattle.chess_text.specs.Squares.{file_text, rank_text, square_text}
 use Rattle.chess_text.specs.SanShape.{man_text, null_text, part, IsCaptureSign, IsPromotion, AreSigns}
 use Rattle.chess_text.specs.SanReads.{has_own_form, Fits, SanReads}
 use Rattle.chess_laws.specs.Step.{is_capture}
-use Rattle.chess_text.specs.San.{IsRival, OriginText, capture_text, promotion_text, pawn_capture_text, pawn_text, PieceText, KindText, GoingText, SignText, IsSigned, SanBy, San}
+use Rattle.chess_text.specs.San.{IsRival, OriginText, capture_text, promotion_text, pawn_text, PieceText, KindText, GoingText, SignText, IsSigned, SanBy, San}
 use Rattle.chess_text.proofs.SearchLaws.{same-move, same-from, castle-one, null-one}
 use Rattle.chess_text.proofs.PawnLaws.{one-square, one-pawn}
 
@@ -206,7 +206,7 @@ pawn-reads p m signs sound legal stands plain are =
     record {
       shape = Goes g;
       spelled = record {
-        front = pawn_capture_text p m ++ (square_text m.to ++ promotion_text m.promo);
+        front = (if is_capture p m then file_text (file_of m.from) ++ codes "x" else []) ++ (square_text m.to ++ promotion_text m.promo);
         signs = signs;
         spelled = refl;
         is_text = record {

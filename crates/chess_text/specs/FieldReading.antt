@@ -1,6 +1,6 @@
 -- What the readers of the fields answer: functions on lists, which the grammar of the fields is proved to agree with.
-use Rattle.std.specs.Prelude.{◌≡◌, ℕ, ◌+◌, ◌-◌, ◌*◌, ◌==◌, ◌&&◌, not, nat_lt, nat_le, Bool, true, cond, List, [], ◌∷◌, Option, Some, None, option_and_then, ok_or, Result, Ok, Err, MatchResult, length}
-use Rattle.std.specs.List.{list_all}
+use Rattle.std.specs.Prelude.{◌≡◌, ℕ, ◌+◌, ◌-◌, ◌*◌, ◌==◌, ◌&&◌, not, nat_lt, nat_le, Bool, true, cond, List, [], ◌∷◌, Option, Some, None, option_and_then, ok_or, Result, Ok, Err, MatchResult, drop, length}
+use Rattle.std.specs.List.{list_all, prefix_len, take_while}
 use Rattle.std.specs.Char.{is_ascii_digit}
 use Rattle.cell_core.specs.declared.man.Colour.{Colour}
 use Rattle.cell_core.specs.declared.man.Colour.TheVariants.{White, Black}
@@ -12,36 +12,22 @@ use Rattle.chess_laws.specs.Position.{en_passant_rank, Sound, Breaks}
 use Rattle.chess_text.specs.declared.fault.FenFault.{FenFault}
 use Rattle.chess_text.specs.declared.fault.FenFault.TheVariants.{Field}
 use Rattle.chess_text.specs.Filling.{board_named}
-use Rattle.chess_text.specs.Fields.{no_rights}
+use Rattle.chess_text.specs.Fields.{or_word, no_rights}
 use Rattle.chess_text.specs.Fault.{fault_of}
 use Rattle.chess_text.specs.Fen.{kept}
 
 -- The text without the spaces at its beginning.
 abbrev pub skipped : List ℕ → List ℕ
-skipped [] = []
-skipped (byte ∷ text) = cond (byte == 32) (skipped text) (byte ∷ text)
-
--- The bytes up to the first space, and those from it on.
-abbrev pub front_word : List ℕ → List ℕ
-front_word [] = []
-front_word (byte ∷ text) = cond (byte == 32) [] (byte ∷ front_word text)
-
-abbrev pub behind_word : List ℕ → List ℕ
-behind_word [] = []
-behind_word (byte ∷ text) = cond (byte == 32) (byte ∷ text) (behind_word text)
+skipped text = drop (prefix_len (λ byte. byte == 32) text) text
 
 -- The first word, empty where there is none, and what stands behind it.
 unfoldable pub word_of : List ℕ → List ℕ
-word_of text = front_word (skipped text)
+word_of text = take_while (λ byte. not (byte == 32)) (skipped text)
 
 unfoldable pub rest_of : List ℕ → List ℕ
-rest_of text = behind_word (skipped text)
+rest_of text = drop (length (word_of text)) (skipped text)
 
--- A word, or the default for an empty one.
-abbrev pub or_word : List ℕ → List ℕ → List ℕ
-or_word [] default = default
-or_word (byte ∷ word) default = byte ∷ word
-
+-- The side to move that a field names.
 abbrev pub side_named : List ℕ → Option Colour
 side_named (byte ∷ []) = cond (byte == 119) (Some White) (cond (byte == 98) (Some Black) None)
 side_named _ = None
@@ -78,7 +64,7 @@ is_counter word = nat_lt 0 (length word) && list_all is_ascii_digit word
 
 -- The first fault, or what comes after it.
 infixl 10 ◌>>=◌
-abbrev pub ◌>>=◌ : {A B : Type 0} → Result A FenFault → (A → Result B FenFault) → Result B FenFault
+abbrev pub ◌>>=◌ : {A B E : Type 0} → Result A E → (A → Result B E) → Result B E
 (Ok x) >>= next = next x
 (Err fault) >>= next = Err fault
 

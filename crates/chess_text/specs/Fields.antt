@@ -26,6 +26,11 @@ Spaced (word ∷ words) text =
     (spaces : ℕ) × (rest : List ℕ) × (text ≡ replicate spaces 32 ++ (word ++ rest))
     × IsWord word × EndsWord rest × Spaced words rest
 
+-- A word, or the default for an empty one.
+abbrev pub or_word : List ℕ → List ℕ → List ℕ
+or_word [] default = default
+or_word (byte ∷ word) default = byte ∷ word
+
 -- The side to move, the second field: w or b (PGN standard, 16.1.3.2).
 abbrev pub side_text : Colour → List ℕ
 side_text White = 119 ∷ []

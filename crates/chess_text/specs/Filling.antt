@@ -12,26 +12,18 @@ pub record Place : Type 0 where
 
 -- After n empty squares, where they fit into the rank.
 unfoldable pub after_empty : ℕ → Place → Option Place
-after_empty n place =
-    cond (nat_le (place.file + n) 8) (Some (record { rank = place.rank; file = place.file + n; board = place.board })) None
+after_empty n place = cond (nat_le (place.file + n) 8) (Some (record place { file = place.file + n })) None
 
 -- After a man, where the rank has a square for it.
 unfoldable pub after_man : Man → Place → Option Place
 after_man man place =
     cond (nat_lt place.file 8)
-    (Some (record {
-      rank = place.rank;
-      file = place.file + 1;
-      board = slice_set place.board (8 * place.rank + place.file) (Some man);
-    }))
+    (Some (record place { file = place.file + 1; board = slice_set place.board (8 * place.rank + place.file) (Some man) }))
     None
 
 -- After the end of a rank, where the rank is full and there is a rank below.
 unfoldable pub after_slash : Place → Option Place
-after_slash place =
-    cond (place.file == 8 && nat_lt 0 place.rank)
-    (Some (record { rank = place.rank - 1; file = 0; board = place.board }))
-    None
+after_slash place = cond (place.file == 8 && nat_lt 0 place.rank) (Some (record place { rank = place.rank - 1; file = 0 })) None
 
 -- After a byte that may be a man's letter.
 abbrev pub after_letter : Option Man → ℕ → Place → Option Place

@@ -6,12 +6,14 @@ pub mod Filling
 pub mod Fields
 pub mod Fault
 pub mod Fen
+pub mod WordReading
 pub mod FieldReading
 pub mod Written
 pub mod SanShape
 pub mod SanReads
 pub mod Ones
 pub mod SanReading
+pub mod SanParts
 pub mod SanSearch
 pub mod San
 pub mod SanWriting

@@ -1,5 +1,6 @@
 -- The text of a legal move in Standard Algebraic Notation (PGN standard, 8.2.3).
 use Rattle.std.specs.Prelude.{◌≡◌, ℕ, ◌⊎◌, if◌then◌else◌, List, [], ◌∷◌, ◌++◌, Option, Some, None, codes}
+use Rattle.std.specs.Option.{option_map_or}
 use Rattle.cell_core.specs.declared.man.Kind.{Kind}
 use Rattle.cell_core.specs.declared.man.Kind.TheVariants.{King, Queen, Rook, Bishop, Knight, Pawn}
 use Rattle.cell_core.specs.declared.man.Man.{Man}
@@ -48,15 +49,11 @@ capture_text p m = if is_capture p m then codes "x" else []
 
 -- A promotion: the sign = and the letter (PGN standard, 8.2.3.3).
 abbrev pub promotion_text : Option Kind → List ℕ
-promotion_text None = []
-promotion_text (Some kind) = codes "=" ++ capital_of kind ∷ []
+promotion_text promo = option_map_or (λ kind. codes "=" ++ capital_of kind ∷ []) promo []
 
 -- A pawn's move: where it captures, its file always (PGN standard, 8.2.3.3).
-abbrev pub pawn_capture_text : Setup → Move → List ℕ
-pawn_capture_text p m = if is_capture p m then file_text (file_of m.from) ++ codes "x" else []
-
 unfoldable pub pawn_text : Setup → Move → List ℕ
-pawn_text p m = pawn_capture_text p m ++ (square_text m.to ++ promotion_text m.promo)
+pawn_text p m = (if is_capture p m then file_text (file_of m.from) ++ codes "x" else []) ++ (square_text m.to ++ promotion_text m.promo)
 
 -- The move of any other man: its letter, its origin as far as needed, the sign of a capture, the target (PGN standard,
 -- 8.2.3.3).

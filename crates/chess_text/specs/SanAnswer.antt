@@ -1,6 +1,7 @@
 -- The answer to the text of a move, as it is computed: the one legal move of its shape, or why there is none (PGN standard,
 -- 8.2.3).
-use Rattle.std.specs.Prelude.{ℕ, zero, suc, ◌==◌, ◌&&◌, not, Bool, true, false, List, [], ◌∷◌, filter, map, Option, Some, None, Result, Ok, Err}
+use Rattle.std.specs.Prelude.{ℕ, zero, suc, ◌==◌, ◌&&◌, not, Bool, true, false, List, [], ◌∷◌, filter, map, Option, None, Result, Ok, Err}
+use Rattle.std.specs.Option.{option_map_or}
 use Rattle.cell_core.specs.declared.step.Move.{Move}
 use Rattle.cell_core.specs.Board.{man_at}
 use Rattle.cell_core.specs.Man.{is_man}
@@ -25,10 +26,7 @@ use Rattle.chess_text.specs.SanReads.{has_own_form}
 abbrev pub goes : ℕ → ℕ → Move
 goes from to = record { from = from; to = to; promo = None }
 
--- Castling on the wing, and whether a move is that.
-abbrev pub castling : Setup → Wing → Move
-castling p wing = goes (king_square p.board p.side) (king_target p.side wing)
-
+-- Whether a move is castling on the wing, and whether it is the null move.
 abbrev pub is_castling : Wing → Effect → Bool
 is_castling KingSide (effect.Castle KingSide) = true
 is_castling QueenSide (effect.Castle QueenSide) = true
@@ -40,8 +38,7 @@ is_null _ = false
 
 -- Whether a file or a rank is the one that is said, if one is.
 abbrev pub is_as_said : Option ℕ → ℕ → Bool
-is_as_said None line = true
-is_as_said (Some wanted) line = line == wanted
+is_as_said said line = option_map_or (λ wanted. line == wanted) said true
 
 -- The moves that the text may mean: that of the king, or one from each square.
 abbrev pub below : ℕ → List ℕ
@@ -52,7 +49,7 @@ abbrev pub from_square : Going → ℕ → Move
 from_square g square = record { from = square; to = g.target; promo = g.promo }
 
 abbrev pub candidates : Setup → Shape → List Move
-candidates p (Castle wing) = castling p wing ∷ []
+candidates p (Castle wing) = goes (king_square p.board p.side) (king_target p.side wing) ∷ []
 candidates p Null = goes (king_square p.board p.side) (king_square p.board p.side) ∷ []
 candidates p (Goes g) = map (from_square g) (below 64)
 
@@ -74,8 +71,7 @@ only_of (m ∷ []) = Ok m
 only_of (m ∷ n ∷ moves) = Err fault.Two
 
 abbrev pub shape_answer : Setup → Option Shape → Result Move SanFault
-shape_answer p None = Err fault.Shape
-shape_answer p (Some shape) = only_of (filter (fits_now p shape) (candidates p shape))
+shape_answer p shape = option_map_or (λ shape. only_of (filter (fits_now p shape) (candidates p shape))) shape (Err fault.Shape)
 
 -- The answer to the text.
 unfoldable pub san_answer : Setup → List ℕ → Result Move SanFault

@@ -1,6 +1,7 @@
--- What the reader of a move's text answers part by part.
-use Rattle.std.specs.Prelude.{ℕ, ◌-◌, ◌==◌, ◌&&◌, ◌||◌, nat_le, nat_lt, Bool, false, cond, List, [], ◌∷◌, Option, Some, None, is_some, unwrap_or, drop}
-use Rattle.std.specs.List.{list_all}
+-- Which shape a move's text has, as it is computed: its parts are read from the left (PGN standard, 8.2.3).
+use Rattle.std.specs.Prelude.{ℕ, ◌-◌, ◌==◌, ◌&&◌, ◌||◌, nat_le, nat_lt, Bool, false, cond, List, [], ◌∷◌, Option, Some, None, is_some, option_map, option_and_then, unwrap_or}
+use Rattle.std.specs.List.{find, list_all}
+use Rattle.std.specs.Option.{option_map_or, option_or}
 use Rattle.cell_core.specs.declared.man.Kind.{Kind}
 use Rattle.cell_core.specs.declared.man.Kind.TheVariants.{King, Queen, Rook, Bishop, Knight, Pawn}
 use Rattle.chess_laws.specs.declared.setup.Wing.TheVariants.{KingSide, QueenSide}
@@ -8,15 +9,12 @@ use Rattle.chess_laws.specs.Geometry.{square}
 use Rattle.chess_text.specs.declared.shape.Going.{Going}
 use Rattle.chess_text.specs.declared.shape.Shape.{Shape}
 use Rattle.chess_text.specs.declared.shape.Shape.TheVariants.{Castle, Null, Goes}
+use Rattle.chess_text.specs.Letters.{capital_of}
 use Rattle.chess_text.specs.SanShape.{castling_text, castling_digits, null_text}
 
 -- The kind that a letter names where it is what a pawn may become, and where it is any kind but a pawn.
 unfoldable pub promotion_named : ℕ → Option Kind
-promotion_named letter =
-    cond (letter == 81) (Some Queen)
-    (cond (letter == 82) (Some Rook)
-    (cond (letter == 66) (Some Bishop)
-    (cond (letter == 78) (Some Knight) None)))
+promotion_named letter = find (λ kind. letter == capital_of kind) (Queen ∷ Rook ∷ Bishop ∷ Knight ∷ [])
 
 unfoldable pub piece_named : ℕ → Option Kind
 piece_named letter = cond (letter == 75) (Some King) (promotion_named letter)
@@ -28,49 +26,32 @@ file_named byte = cond (nat_le 97 byte && nat_lt byte 105) (Some (byte - 97)) No
 unfoldable pub rank_named : ℕ → Option ℕ
 rank_named byte = cond (nat_le 49 byte && nat_lt byte 57) (Some (byte - 49)) None
 
--- Whether the byte is a sign of a capture, and whether it is a sign of check or mate.
-abbrev pub is_capture_sign : ℕ → Bool
-is_capture_sign byte = (byte == 120) || (byte == 58)
+-- The sign of a capture, x or a colon.
+abbrev pub capture_named : ℕ → Option ℕ
+capture_named byte = cond (byte == 120 || byte == 58) (Some byte) None
 
+-- The signs of check and mate.
 abbrev pub is_sign : ℕ → Bool
 is_sign byte = (byte == 43) || (byte == 35)
 
--- What the first byte names, if anything, and what stands behind it then.
-abbrev pub front : {A : Type 0} → (ℕ → Option A) → List ℕ → Option A
-front named [] = None
-front named (byte ∷ text) = named byte
+-- What the first byte of a text names, with the text behind it.
+abbrev pub one : {A : Type 0} → (ℕ → Option A) → List ℕ → Option (A × List ℕ)
+one named [] = None
+one named (byte ∷ text) = option_map (λ x. (x, text)) (named byte)
 
-abbrev pub behind : {A : Type 0} → (ℕ → Option A) → List ℕ → List ℕ
-behind named [] = []
-behind named (byte ∷ text) = cond (is_some (named byte)) text (byte ∷ text)
+-- What may be said or left out: it goes on with what is read, if something is, and the text behind it.
+unfoldable pub optional : {A B : Type 0} → (List ℕ → Option (A × List ℕ)) → List ℕ → (Option A → List ℕ → B) → B
+optional read text next = option_map_or (λ found. next (Some found.0) found.1) (read text) (next None text)
 
--- Whether the text begins with such a byte, and what stands behind it then.
-abbrev pub begins : (ℕ → Bool) → List ℕ → Bool
-begins is_it [] = false
-begins is_it (byte ∷ text) = is_it byte
+-- A square by its file and its rank.
+unfoldable pub square_read : List ℕ → Option (ℕ × List ℕ)
+square_read text =
+    option_and_then (λ file. option_map (λ rank. (square file.0 rank.0, rank.1)) (one rank_named file.1)) (one file_named text)
 
-abbrev pub passed : (ℕ → Bool) → List ℕ → List ℕ
-passed is_it [] = []
-passed is_it (byte ∷ text) = cond (is_it byte) text (byte ∷ text)
-
--- The square that the first two bytes name, if they do, and what stands behind it then.
-abbrev pub square_from : Option ℕ → Option ℕ → Option ℕ
-square_from (Some file) (Some rank) = Some (square file rank)
-square_from _ _ = None
-
-unfoldable pub square_front : List ℕ → Option ℕ
-square_front text = square_from (front file_named text) (front rank_named (drop 1 text))
-
-unfoldable pub behind_square : List ℕ → List ℕ
-behind_square text = cond (is_some (square_front text)) (drop 2 text) text
-
--- The promotion that the text begins with, if it does, with its sign = or without, and what stands behind it then.
-unfoldable pub promotion_front : List ℕ → Option Kind
-promotion_front text = front promotion_named (passed (λ byte. byte == 61) text)
-
-unfoldable pub behind_promotion : List ℕ → List ℕ
-behind_promotion text =
-    cond (is_some (promotion_front text)) (behind promotion_named (passed (λ byte. byte == 61) text)) text
+-- A promotion by its letter, behind the sign = or without it.
+unfoldable pub promotion_read : List ℕ → Option (Kind × List ℕ)
+promotion_read text =
+    optional (one (λ byte. cond (byte == 61) (Some byte) None)) text (λ equals behind. one promotion_named behind)
 
 -- The man that goes: where no square follows its file and rank and no sign of a capture, they are the target.
 abbrev pub aimed : Kind → Option ℕ → Option ℕ → Bool → Option ℕ → Option Kind → Option Going
@@ -80,30 +61,17 @@ aimed k (Some file) (Some rank) false None promo =
     Some (record { kind = k; file = None; rank = None; target = square file rank; promo = promo })
 aimed k _ _ _ None promo = None
 
--- The same, where only signs follow.
-abbrev pub ended : Option Going → List ℕ → Option Going
-ended going text = cond (list_all is_sign text) going None
-
--- The man that goes, from each part of the text on.
-abbrev pub from_square : Kind → Option ℕ → Option ℕ → Bool → Option ℕ → List ℕ → Option Going
-from_square kind file rank takes target text =
-    ended (aimed kind file rank takes target (promotion_front text)) (behind_promotion text)
-
-abbrev pub from_capture : Kind → Option ℕ → Option ℕ → Bool → List ℕ → Option Going
-from_capture kind file rank takes text = from_square kind file rank takes (square_front text) (behind_square text)
-
-abbrev pub from_rank : Kind → Option ℕ → Option ℕ → List ℕ → Option Going
-from_rank kind file rank text = from_capture kind file rank (begins is_capture_sign text) (passed is_capture_sign text)
-
-abbrev pub from_file : Kind → Option ℕ → List ℕ → Option Going
-from_file kind file text = from_rank kind file (front rank_named text) (behind rank_named text)
-
-abbrev pub from_kind : Kind → List ℕ → Option Going
-from_kind kind text = from_file kind (front file_named text) (behind file_named text)
-
--- The kind of the man that moves is a pawn where no letter says another.
+-- The man that goes: its letter, where a pawn has none, its file, its rank, the sign of a capture, the target and a promotion, each as far
+-- as it is said. Only signs of check and mate follow.
 unfoldable pub going_named : List ℕ → Option Going
-going_named text = from_kind (unwrap_or (front piece_named text) Pawn) (behind piece_named text)
+going_named text =
+    optional (one piece_named) text (λ piece text.
+    optional (one file_named) text (λ file text.
+    optional (one rank_named) text (λ rank text.
+    optional (one capture_named) text (λ capture text.
+    optional square_read text (λ target text.
+    optional promotion_read text (λ promo text.
+    cond (list_all is_sign text) (aimed (unwrap_or piece Pawn) file rank (is_some capture) target promo) None))))))
 
 -- Whether the text is this form, and then only signs.
 abbrev pub is_form : List ℕ → List ℕ → Bool
@@ -120,10 +88,6 @@ form_named text =
     (cond (is_form (castling_digits QueenSide) text) (Some (Castle QueenSide))
     (cond (is_form null_text text) (Some Null) None))))
 
-abbrev pub shape_from : Option Going → List ℕ → Option Shape
-shape_from None text = form_named text
-shape_from (Some going) text = Some (Goes going)
-
 -- The shape of a text, if it has one.
 unfoldable pub shape_named : List ℕ → Option Shape
-shape_named text = shape_from (going_named text) text
+shape_named text = option_or (option_map Goes (going_named text)) (form_named text)

@@ -17,11 +17,9 @@ use Rattle.chess_text.specs.SanShape.{HasShape}
 
 -- Castling and the null move are read only by forms of their own (this project's own).
 abbrev pub has_own_form : Effect → Bool
-has_own_form effect.Plain = false
-has_own_form effect.Double = false
-has_own_form effect.Passing = false
 has_own_form (effect.Castle wing) = true
 has_own_form effect.Null = true
+has_own_form _ = false
 
 -- The man that goes is of this kind, comes from this file and rank as far as they are said, goes to this target and is
 -- promoted to this, or not at all.

@@ -1,5 +1,6 @@
 -- The text of a legal move as it is computed: the one text that San.antt allows (PGN standard, 8.2.3).
 use Rattle.std.specs.Prelude.{ℕ, ◌==◌, ◌&&◌, ◌||◌, not, Bool, if◌then◌else◌, List, [], ◌∷◌, ◌++◌, Option, Some, None, codes}
+use Rattle.std.specs.Option.{option_map_or}
 use Rattle.cell_core.specs.declared.man.Kind.{Kind}
 use Rattle.cell_core.specs.declared.man.Kind.TheVariants.{Queen, Rook, Bishop, Knight, Pawn}
 use Rattle.cell_core.specs.declared.man.Man.{Man}
@@ -25,13 +26,10 @@ is_rival_now p k m s =
 -- As much of the origin as tells the man from these.
 unfoldable pub origin_now : Setup → Kind → Move → List ℕ
 origin_now p k m =
-    if some_below (is_rival_now p k m) 64
-    then (if some_below (λ s. is_rival_now p k m s && (file_of s == file_of m.from)) 64
-    then (if some_below (λ s. is_rival_now p k m s && (rank_of s == rank_of m.from)) 64
-    then square_text m.from
-    else rank_text (rank_of m.from))
-    else file_text (file_of m.from))
-    else []
+    if not (some_below (is_rival_now p k m) 64) then []
+    else if not (some_below (λ s. is_rival_now p k m s && (file_of s == file_of m.from)) 64) then file_text (file_of m.from)
+    else if not (some_below (λ s. is_rival_now p k m s && (rank_of s == rank_of m.from)) 64) then rank_text (rank_of m.from)
+    else square_text m.from
 
 -- The text of a man of this kind that goes, without a sign.
 abbrev pub kind_now : Setup → Kind → Move → List ℕ
@@ -39,8 +37,7 @@ kind_now p Pawn m = pawn_text p m
 kind_now p k m = capital_of k ∷ (origin_now p k m ++ (capture_text p m ++ square_text m.to))
 
 abbrev pub going_now : Option Man → Setup → Move → List ℕ
-going_now None p m = []
-going_now (Some man) p m = kind_now p man.kind m
+going_now standing p m = option_map_or (λ man. kind_now p man.kind m) standing []
 
 -- What a move may be promoted to, and nothing.
 abbrev pub some_promotion : (Option Kind → Bool) → Bool

@@ -1,11 +1,12 @@
 -- The written form of Forsyth-Edwards Notation: one text for each position (PGN standard, 16.1).
 use Rattle.std.specs.Prelude.{ℕ, zero, suc, ◌+◌, ◌*◌, List, [], ◌∷◌, ◌++◌, Option, Some, None, take, drop, cond, Bool}
+use Rattle.std.specs.Option.{option_map_or}
 use Rattle.std.specs.Char.{IsAsciiDigit}
 use Rattle.cell_core.specs.Board.{Men}
 use Rattle.chess_laws.specs.declared.setup.Rights.{Rights}
 use Rattle.chess_laws.specs.declared.setup.Setup.{Setup}
 use Rattle.chess_text.specs.Letters.{letter_of}
-use Rattle.chess_text.specs.Fields.{side_text}
+use Rattle.chess_text.specs.Fields.{or_word, side_text}
 use Rattle.chess_text.specs.Squares.{square_text}
 
 -- A run of so many empty squares as one digit, and nothing for none.
@@ -32,21 +33,15 @@ placement_text board = ranks_text 7 board
 abbrev pub letter_where : Bool → ℕ → List ℕ
 letter_where right letter = cond right (letter ∷ []) []
 
--- A dash for an empty text.
-abbrev pub or_dash : List ℕ → List ℕ
-or_dash [] = 45 ∷ []
-or_dash (byte ∷ text) = byte ∷ text
-
 -- The castling rights in the order K, Q, k, q, or a dash for none (PGN standard, 16.1.3.3).
 unfoldable pub rights_text : Rights → List ℕ
 rights_text rights =
-    or_dash (letter_where rights.white_king_side 75 ++ (letter_where rights.white_queen_side 81
-    ++ (letter_where rights.black_king_side 107 ++ letter_where rights.black_queen_side 113)))
+    or_word (letter_where rights.white_king_side 75 ++ (letter_where rights.white_queen_side 81
+    ++ (letter_where rights.black_king_side 107 ++ letter_where rights.black_queen_side 113))) (45 ∷ [])
 
 -- The en passant square, or a dash for none (PGN standard, 16.1.3.4).
 abbrev pub en_passant_text : Option ℕ → List ℕ
-en_passant_text None = 45 ∷ []
-en_passant_text (Some s) = square_text s
+en_passant_text square = option_map_or square_text square (45 ∷ [])
 
 -- All six fields with one space between two of them; the counters are 0 and 1.
 unfoldable pub fen_text : Setup → List ℕ

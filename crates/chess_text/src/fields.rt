@@ -2,13 +2,15 @@
 ghost use Rattle.std.specs.Prelude.{◌≡◌};
 ghost use Rattle.std.specs.List.{list_all};
 ghost use Rattle.std.specs.Char.{is_ascii_digit};
-ghost use Rattle.chess_text.specs.FieldReading.{word_of, rest_of, or_word, skipped, front_word, behind_word, side_named, with_right, rights_named, en_passant_named, is_counter};
+ghost use Rattle.chess_text.specs.Fields.{or_word};
+ghost use Rattle.chess_text.specs.WordReading.{passed_spaces, front_word, behind_word};
+ghost use Rattle.chess_text.specs.FieldReading.{word_of, rest_of, side_named, with_right, rights_named, en_passant_named, is_counter};
 
 use cell_core::{Colour, Square};
 use chess_laws::{Rights, en_passant_rank};
 
 // The first word of the text, empty where there is none, and what stands behind it.
-#[tactic(auto, unfolding(crate::specs::FieldReading::word_of, crate::specs::FieldReading::rest_of))]
+#[tactic(auto, using(crate::proofs::WordLaws::word_is, crate::proofs::WordLaws::rest_is))]
 pub fn next_word(text: &[u8]) -> (&[u8], &[u8])
     ensures word { result.0.now ≡ word_of text.now }
     ensures rest { result.1.now ≡ rest_of text.now }
@@ -18,7 +20,7 @@ pub fn next_word(text: &[u8]) -> (&[u8], &[u8])
 
 // The text from its first byte on that is no space.
 fn skip_spaces(text: &[u8]) -> &[u8]
-    ensures { result.now ≡ skipped text.now }
+    ensures { result.now ≡ passed_spaces text.now }
 {
     let mut rest = text;
     while let [b' ', tail @ ..] = rest {

@@ -2,7 +2,8 @@
 ghost use Rattle.std.specs.Prelude.{◌≡◌, ◌==◌, IfSome, ◌<◌, unwrap_or};
 ghost use Rattle.std.specs.List.{list_all};
 ghost use Rattle.cell_core.specs.declared.man.Kind.TheVariants.{Pawn};
-ghost use Rattle.chess_text.specs.SanReading.{promotion_named, piece_named, file_named, rank_named, is_capture_sign, is_sign, front, behind, begins, passed, square_front, behind_square, promotion_front, behind_promotion};
+ghost use Rattle.chess_text.specs.SanReading.{promotion_named, piece_named, file_named, rank_named, is_sign};
+ghost use Rattle.chess_text.specs.SanParts.{is_capture_sign, front, behind, begins, passed, square_front, behind_square, promotion_front, behind_promotion};
 
 use cell_core::{Kind, Square};
 
@@ -113,7 +114,7 @@ pub fn take_capture(text: &[u8]) -> (bool, &[u8])
 }
 
 // The square that the text begins with, and what stands behind it.
-#[tactic(auto, unfolding(crate::specs::SanReading::square_front, crate::specs::SanReading::behind_square))]
+#[tactic(auto, unfolding(crate::specs::SanParts::square_front, crate::specs::SanParts::behind_square))]
 pub fn take_square(text: &[u8]) -> (Option<Square>, &[u8])
     ensures square { result.0 ≡ square_front text.now }
     ensures rest { result.1.now ≡ behind_square text.now }
@@ -139,7 +140,7 @@ fn pass_equals(text: &[u8]) -> &[u8]
 }
 
 // The promotion that the text begins with, and what stands behind it.
-#[tactic(auto, unfolding(crate::specs::SanReading::promotion_front, crate::specs::SanReading::behind_promotion))]
+#[tactic(auto, unfolding(crate::specs::SanParts::promotion_front, crate::specs::SanParts::behind_promotion))]
 pub fn take_promotion(text: &[u8]) -> (Option<Kind>, &[u8])
     ensures promo { result.0 ≡ promotion_front text.now }
     ensures rest { result.1.now ≡ behind_promotion text.now }

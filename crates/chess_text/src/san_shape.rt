@@ -1,6 +1,7 @@
 //! The shape of a move's text.
 ghost use Rattle.std.specs.Prelude.{◌≡◌, ◌==◌, IfSome, ◌<◌};
-ghost use Rattle.chess_text.specs.SanReading.{aimed, going_named, is_form, begins, passed, form_named, shape_named};
+ghost use Rattle.chess_text.specs.SanReading.{aimed, is_form, form_named, shape_named};
+ghost use Rattle.chess_text.specs.SanParts.{begins, going_parts};
 
 use super::san_parts::{
     are_signs, take_capture, take_file, take_kind, take_promotion, take_rank, take_square,
@@ -10,7 +11,7 @@ use cell_core::{Kind, Square};
 use chess_laws::Wing;
 
 // The shape of the text, if it has one.
-#[tactic(auto, unfolding(crate::specs::SanReading::shape_named))]
+#[tactic(auto, using(crate::proofs::PartLaws::shape_of_going, crate::proofs::PartLaws::shape_of_form))]
 pub fn shape_of(text: &[u8]) -> Option<Shape>
     ensures exact { result ≡ shape_named text.now }
 {
@@ -21,9 +22,9 @@ pub fn shape_of(text: &[u8]) -> Option<Shape>
 }
 
 // The man that goes to a square, if the text says one.
-#[tactic(auto, unfolding(crate::specs::SanReading::going_named))]
+#[tactic(auto, unfolding(crate::specs::SanParts::going_parts))]
 fn going_of(text: &[u8]) -> Option<Going>
-    ensures exact { result ≡ going_named text.now }
+    ensures exact { result ≡ going_parts text.now }
 {
     let (kind, text) = take_kind(text);
     let (file, text) = take_file(text);

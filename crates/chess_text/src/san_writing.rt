@@ -1,18 +1,18 @@
 //! Moves written in Standard Algebraic Notation.
-ghost use Rattle.std.specs.Prelude.{◌≡◌, ◌↔◌, ℕ, ◌<◌, ◌≤◌, ◌+◌, ◌++◌, ◌∷◌, ◌||◌, ◌==◌, length, IsTrue, IfSome, Some};
+ghost use Rattle.std.specs.Prelude.{◌≡◌, ◌↔◌, ℕ, ◌<◌, ◌≤◌, ◌+◌, ◌++◌, ◌∷◌, ◌||◌, ◌==◌, if◌then◌else◌, [], codes, length, IsTrue, IfSome, Some};
 ghost use Rattle.std.specs.Bool.{OnTrue};
 ghost use Rattle.std.specs.Option.{option_to_list};
 ghost use Rattle.cell_core.specs.Board.{man_at};
 ghost use Rattle.cell_core.specs.Man.{man};
 ghost use Rattle.chess_laws.specs.Geometry.{file_of, rank_of};
 ghost use Rattle.chess_laws.specs.Position.{Sound};
-ghost use Rattle.chess_laws.specs.Step.{Legal, Step, stepped};
+ghost use Rattle.chess_laws.specs.Step.{Legal, Step, is_capture, stepped};
 ghost use Rattle.chess_text.specs.Letters.{capital_of};
 ghost use Rattle.chess_text.specs.Ones.{Drops};
-ghost use Rattle.chess_text.specs.Squares.{square_text};
+ghost use Rattle.chess_text.specs.Squares.{file_text, square_text};
 ghost use Rattle.chess_text.specs.SanShape.{castling_text, null_text};
 ghost use Rattle.chess_text.specs.SanReads.{SanReads};
-ghost use Rattle.chess_text.specs.San.{San, GoingText, HasMove, IsRival, PieceText, SignText, capture_text, pawn_capture_text, pawn_text, promotion_text};
+ghost use Rattle.chess_text.specs.San.{San, GoingText, HasMove, IsRival, PieceText, SignText, capture_text, pawn_text, promotion_text};
 ghost use Rattle.chess_text.specs.SanText.{san_text};
 ghost use Rattle.chess_text.specs.SanWriting.{AreRivals, FrontText, RivalsBut, SignBehind, origin_by};
 
@@ -218,7 +218,7 @@ fn pawn_text(p: &Position, m: &Move) -> ArrayVec<u8, 8>
 // Adds the file of a pawn that captures, and the sign of the capture.
 fn push_pawn_capture(text: &mut ArrayVec<u8, 8>, p: &Position, m: &Move)
     requires room { length text.old.items ≤ 6 }
-    ensures text { text.new.items ≡ text.old.items ++ pawn_capture_text p.now m.now }
+    ensures text { text.new.items ≡ text.old.items ++ (if is_capture p.now m.now then file_text (file_of m.now.from) ++ codes "x" else []) }
     ensures short { length text.new.items ≤ length text.old.items + 2 }
 {
     if p.is_capture(m) {

@@ -75,10 +75,9 @@ square_moves s board = and_from _ _ (file_moves s) (rank_text_moves s board)
 origin_moves : (p : Setup) (k : Kind) (m : Move) → m.from < 64 → list_all is_move_byte (origin_now p k m) ≡ true
 unfolding origin_now
 origin_moves p k m board =
-    moves_if (some_below (is_rival_now p k m) 64) _ []
-    (moves_if (some_below (λ s. is_rival_now p k m s && (file_of s == file_of m.from)) 64) _ _
-    (moves_if (some_below (λ s. is_rival_now p k m s && (rank_of s == rank_of m.from)) 64) _ _ (square_moves m.from board) (rank_text_moves m.from board))
-    (file_text_moves m.from)) refl
+    moves_if (not (some_below (is_rival_now p k m) 64)) [] _ refl
+    (moves_if (not (some_below (λ s. is_rival_now p k m s && (file_of s == file_of m.from)) 64)) _ _ (file_text_moves m.from)
+    (moves_if (not (some_below (λ s. is_rival_now p k m s && (rank_of s == rank_of m.from)) 64)) _ _ (rank_text_moves m.from board) (square_moves m.from board)))
 
 capture_moves : (p : Setup) (m : Move) → list_all is_move_byte (capture_text p m) ≡ true
 capture_moves p m = moves_if (is_capture p m) (codes "x") [] refl refl

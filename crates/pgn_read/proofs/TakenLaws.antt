@@ -14,9 +14,9 @@ use Rattle.chess_laws.specs.declared.setup.Rights.{Rights}
 use Rattle.chess_laws.specs.declared.setup.Setup.{Setup}
 use Rattle.chess_laws.specs.Position.{Sound, start_setup, is_start}
 use Rattle.chess_laws.proofs.Initial.{is_start-Decides}
-use Rattle.chess_text.specs.Fields.{side_text}
+use Rattle.chess_text.specs.Fields.{or_word, side_text}
 use Rattle.chess_text.specs.Letters.{letter_of}
-use Rattle.chess_text.specs.Written.{run_text, row_text, ranks_text, placement_text, letter_where, or_dash, rights_text, en_passant_text, fen_text}
+use Rattle.chess_text.specs.Written.{run_text, row_text, ranks_text, placement_text, letter_where, rights_text, en_passant_text, fen_text}
 use Rattle.chess_text.proofs.WritingLaws.{written_reads, written_zero_free}
 use Rattle.game_tree.specs.declared.date.Date.{Date}
 use Rattle.game_tree.specs.declared.head.Head.{Head}
@@ -187,7 +187,7 @@ ranks_short (suc n) board =
       length-append (row_text 0 (take 8 (drop (8 * suc n) board))) (47 ∷ ranks_text n board),
     )
 
-dash_short : (text : List ℕ) → length (or_dash text) ≤ length text + 1
+dash_short : (text : List ℕ) → length (or_word text (45 ∷ [])) ≤ length text + 1
 dash_short [] = omega arith
 dash_short (b ∷ text) = omega arith
 

@@ -1,5 +1,5 @@
 use Rattle.std.proofs.Common.{◌≡◌, ◌++◌, ℕ, List, take, drop}
-use Rattle.chess_text.specs.FieldReading.{front_word, behind_word}
+use Rattle.chess_text.specs.WordReading.{front_word, behind_word}
 use Rattle.chess_text.proofs.fields.split_word.Given as goal
 
 -- the bytes so far are in the word, and the rest of it is in what is left
