@@ -8,7 +8,7 @@ use Rattle.game_tree.specs.Settle.{settled}
 use Rattle.game_tree.specs.declared.head.Head.{Head}
 use Rattle.game_tree.specs.declared.head.Tag.{Tag}
 use Rattle.game_codec.specs.Record.{IsRecord}
-use Rattle.game_codec.proofs.DecodeLaws.{record-one}
+use Rattle.game_codec.proofs.RecordAnswerLaws.{record-one}
 use Rattle.index_entry.specs.declared.entry.Entry.{Entry}
 use Rattle.sig_index.specs.Signature.{IsSig}
 use Rattle.sig_index.specs.declared.signature.Sig.{Sig}

@@ -6,7 +6,7 @@ use Rattle.game_tree.specs.Game.{GameTree}
 use Rattle.game_tree.specs.Settle.{settled}
 use Rattle.game_tree.specs.declared.head.Head.{Head}
 use Rattle.game_tree.specs.declared.head.Tag.{Tag}
-use Rattle.game_codec.proofs.DecodeLaws.{record-one}
+use Rattle.game_codec.proofs.RecordAnswerLaws.{record-one}
 use Rattle.index_entry.specs.Index.{entry_bytes}
 use Rattle.index_entry.specs.declared.entry.Entry.{Entry}
 use Rattle.index_entry.specs.declared.index.IndexHead.{IndexHead}

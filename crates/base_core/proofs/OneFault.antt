@@ -6,7 +6,7 @@ use Rattle.base_files.specs.Extents.{record_in}
 use Rattle.game_tree.specs.Game.{GameTree}
 use Rattle.game_codec.specs.Fault.{IsRecordFault}
 use Rattle.game_codec.specs.declared.fault.RecordFault.{RecordFault}
-use Rattle.game_codec.proofs.DecodeLaws.{record-one, fault-one, record-unbroken}
+use Rattle.game_codec.proofs.RecordAnswerLaws.{record-one, fault-one, record-unbroken}
 use Rattle.index_entry.specs.Index.{entry_bytes}
 use Rattle.index_entry.specs.declared.entry.Entry.{Entry}
 use Rattle.name_base.specs.NameLists.{NameLists}

@@ -24,7 +24,7 @@ use Rattle.base_core.specs.Reading.{AreRead, IsRead, IsReadSo, IsSigned, IsTaken
 use Rattle.game_codec.specs.Fault.{IfBad as IfBadRecord}
 use Rattle.game_codec.specs.declared.fault.DecodeError.{DecodeError}
 use Rattle.game_codec.specs.declared.fault.DecodeError.TheVariants as decode
-use Rattle.game_codec.proofs.DecodeLaws.{record-unbroken}
+use Rattle.game_codec.proofs.RecordAnswerLaws.{record-unbroken}
 use Rattle.base_core.specs.Errors.{unread_error}
 use Rattle.base_core.specs.GameAt.{TellsChange}
 use Rattle.base_files.specs.Counters.{LAST, raised}

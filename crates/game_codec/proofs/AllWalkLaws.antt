@@ -7,7 +7,7 @@ use Rattle.game_tree.specs.Movetext.{meaning}
 use Rattle.game_tree.specs.Tree.{Branches}
 use Rattle.game_tree.specs.declared.head.Tag.{Tag}
 use Rattle.game_codec.specs.Place.{beginning}
-use Rattle.game_codec.specs.Record.{IsRecord, IsSomeRecord}
+use Rattle.game_codec.specs.Record.{IsRecord, IsSomeRecord, IsSpelled}
 use Rattle.game_codec.specs.Visits.{Visit, all_visits, branch_visits, line_visits}
 use Rattle.game_codec.specs.Open.{AllFit, AreLeft, HasGone, HasLeft, IsAllWalk, IsBounded, all_lines, left_of, visit_now}
 use Rattle.game_codec.specs.declared.breach.Breach.{Breach}
@@ -16,7 +16,7 @@ use Rattle.game_codec.specs.declared.all_walk.Lines.{Lines}
 use Rattle.game_codec.proofs.OpenLaws.{no_hanging}
 
 -- At the start of a record all moves of its game are left.
-start_line : (bytes : List ℕ) (tags : List Tag) (game : GameTree) (r : IsRecord bytes tags game) (o : OpenLine) → o.here ≡ r.start → o.before ≡ r.start → o.ply ≡ 0
+start_line : (bytes : List ℕ) (tags : List Tag) (game : GameTree) (r : IsSpelled bytes tags game) (o : OpenLine) → o.here ≡ r.start → o.before ≡ r.start → o.ply ≡ 0
     → AreLeft (o ∷ []) r.behind_start (all_visits game)
 start_line bytes tags game r o here before ply =
     let said = meaning r.movetext in
@@ -49,7 +49,7 @@ start_line bytes tags game r o here before ply =
       ),
     )
 
-pub start_left : (bytes : List ℕ) (tags : List Tag) (game : GameTree) (r : IsRecord bytes tags game) (lines : Lines) → r.start ≡ lines.line.here → lines.line.before ≡ lines.line.here
+pub start_left : (bytes : List ℕ) (tags : List Tag) (game : GameTree) (r : IsSpelled bytes tags game) (lines : Lines) → r.start ≡ lines.line.here → lines.line.before ≡ lines.line.here
     → lines.line.ply ≡ 0 → lines.outer.items ≡ [] → r.behind_start ≡ lines.ahead.now → HasLeft lines (drop 0 (all_visits game))
 start_left bytes tags game r lines start before ply alone ahead =
     let one : all_lines lines ≡ lines.line ∷ [] = ap (λ (l : List OpenLine). lines.line ∷ reverse l) alone in

@@ -12,16 +12,17 @@ use Rattle.game_codec.specs.Checking.{AreSomeTexts, full_among}
 use Rattle.game_codec.specs.Fault.{Breaks}
 use Rattle.game_codec.specs.Moves.{SpellsMoves, Upto, BreaksMoves}
 use Rattle.game_codec.specs.Place.{Place, beginning}
-use Rattle.game_codec.specs.Record.{IsSomeRecord, game_of}
+use Rattle.game_codec.specs.Record.{IsSomeRecord}
+use Rattle.game_codec.specs.RecordAnswer.{game_of}
 use Rattle.game_codec.specs.Scanning.{tokens_then}
 use Rattle.game_codec.specs.Start.{BeginsStart, BreaksStart}
-use Rattle.game_codec.specs.TagReading.{BreaksTags}
-use Rattle.game_codec.specs.TagSpelling.{BeginsTags}
+use Rattle.game_codec.specs.TagReading.{BreaksTags, BeginsTags}
 use Rattle.game_codec.specs.Tallying.{no_tally, tallied}
 use Rattle.game_codec.specs.Texts.{AreTexts, BreaksTexts, ended, texts_of}
 use Rattle.game_codec.specs.declared.breach.Breach.{Breach}
 use Rattle.game_codec.specs.declared.fault.RecordWhat.TheVariants.{Short, Extra}
 use Rattle.game_codec.specs.declared.tally.Tally.{Tally}
+use Rattle.game_codec.proofs.RecordAnswerLaws.{from_spelled}
 use Rattle.game_codec.proofs.DealLaws.{ended-push}
 use Rattle.game_codec.proofs.TallyLaws.{LineTallied}
 use Rattle.game_codec.proofs.TotalLaws.{dealt_all, full-append, said, said-comments, said-is}
@@ -54,7 +55,7 @@ module _ (bytes behind_tags behind_start behind_moves : List ℕ) (all : List Ta
         free_of all,
         (
           game,
-          record {
+          from_spelled bytes (free_of all) game (record {
             all_tags = all;
             start = start;
             movetext = movetext;
@@ -67,7 +68,7 @@ module _ (bytes behind_tags behind_start behind_moves : List ℕ) (all : List Ta
             then_texts = subst (AreTexts behind_moves) (sym found.1) texts.1.0;
             tags_are = refl;
             game_is = refl;
-          },
+          }),
         ),
       )
 

@@ -11,11 +11,11 @@ use Rattle.game_tree.specs.declared.date.Date.{Date}
 use Rattle.game_tree.specs.declared.head.Tag.{Tag}
 use Rattle.game_codec.specs.Record.{IsRecord}
 use Rattle.game_codec.specs.TagDates.{IsTagDate}
-use Rattle.game_codec.specs.TagReading.{tag_at}
-use Rattle.game_codec.specs.TagSpelling.{BeginsTag, BeginsTags}
+use Rattle.game_codec.specs.TagReading.{tag_at, BeginsTag, BeginsTags}
 use Rattle.game_codec.specs.declared.fault.RecordWhat.{RecordWhat}
+use Rattle.game_codec.proofs.RecordAnswerLaws.{to_spelled}
 use Rattle.game_codec.proofs.TagLaws.{BeginsTags-one, BeginsTags-unbroken}
-use Rattle.game_codec.proofs.TagReadingLaws.{BeginsTag-one, end-tag_at, tag_at-BeginsTag, tag_at-end}
+use Rattle.game_codec.proofs.TagReadingLaws.{BeginsTag-one, end-tag_at, tag_at-end}
 
 -- No tag EventDate has a reserved name.
 event_date_free : is_reserved (codes "EventDate") ≡ false
@@ -67,7 +67,6 @@ record StartsWith (tag : Tag) (later : List ℕ) (tags : List Tag) (behind : Lis
 starts : (bytes : List ℕ) (tag : Tag) (later : List ℕ) (tags : List Tag) (behind : List ℕ) → BeginsTag bytes tag later → BeginsTags bytes tags behind
     → StartsWith tag later tags behind
 starts bytes tag later [] behind begins ends =
-    let one = tag_at-BeginsTag bytes tag later begins in
     let none = ap tag_at ends ∙ tag_at-end behind in
     absurd (cc)
 starts bytes tag later (first ∷ others) behind begins all =
@@ -102,7 +101,8 @@ dates_more game bytes rest later used date is none later_is from = λ tags behin
 
 pub dates_found : (game : Date) (bytes rest : List ℕ) (used : ℕ) (date : Option Date) → IsTagDate game rest date used → is_some date ≡ true
     → DatesFrom game bytes rest → (tags : List Tag) (tree : GameTree) → IsRecord bytes tags tree → date ≡ first_near_date game tags
-dates_found game bytes rest used date is some from tags tree r =
+dates_found game bytes rest used date is some from tags tree read =
+    let r = to_spelled bytes tags tree read in
     let on = from r.all_tags r.behind_tags r.tags_first in
     let split = starts rest is.tag (drop used rest) on.0 r.behind_tags is.begins on.1.0 in
     sym (some_first date (first_near_date game split.others) some)
@@ -114,7 +114,8 @@ dates_found game bytes rest used date is some from tags tree r =
 
 pub dates_none : (game : Date) (bytes rest : List ℕ) → ((tags : List Tag) (behind : List ℕ) → BeginsTags rest tags behind → tags ≡ [])
     → DatesFrom game bytes rest → (tags : List Tag) (tree : GameTree) → IsRecord bytes tags tree → None ≡ first_near_date game tags
-dates_none game bytes rest none from tags tree r =
+dates_none game bytes rest none from tags tree read =
+    let r = to_spelled bytes tags tree read in
     let on = from r.all_tags r.behind_tags r.tags_first in
     sym (ap (first_near_date game) (none on.0 r.behind_tags on.1.0))
     ∙ sym on.1.1

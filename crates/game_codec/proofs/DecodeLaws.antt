@@ -1,4 +1,4 @@
--- A record has one reading, and it is the one that the code makes.
+-- What a record says in words has one reading, and it is the one that the code makes.
 use Rattle.std.proofs.Common.{◌≡◌, ℕ, List, Ok, Err, length, refl, sym, ap, ◌∙◌, subst, inl, inr}
 use Rattle.game_tree.specs.Game.{GameTree}
 use Rattle.game_tree.specs.Movetext.{Movetext, items_of, meaning}
@@ -7,11 +7,12 @@ use Rattle.game_tree.proofs.MovetextLemmas.{built-items_of}
 use Rattle.game_tree.specs.declared.head.Tag.{Tag}
 use Rattle.move_codec.specs.Numbers.{Numbered}
 use Rattle.game_tree.specs.TagName.{free_of}
-use Rattle.game_codec.specs.TagSpelling.{BeginsTags}
+use Rattle.game_codec.specs.TagReading.{BeginsTags}
 use Rattle.game_codec.specs.Start.{BeginsStart, BreaksStart}
 use Rattle.game_codec.specs.Texts.{AreTexts, BreaksTexts, texts_of}
-use Rattle.game_codec.specs.Record.{IsRecord, game_of}
-use Rattle.game_codec.specs.Fault.{BreaksInTags, BreaksInStart, BreaksInMoves, BreaksInTexts, Breaks, place_of, IsRecordFault}
+use Rattle.game_codec.specs.Record.{IsSpelled}
+use Rattle.game_codec.specs.Fault.{BreaksInTags, BreaksInStart, BreaksInMoves, BreaksInTexts, Breaks, IsBroken}
+use Rattle.game_codec.specs.RecordAnswer.{place_of, game_of}
 use Rattle.game_codec.specs.declared.fault.RecordFault.{RecordFault}
 use Rattle.game_codec.specs.Scanning.{Scans, Stop, nest_of, comments_in, dealt}
 use Rattle.game_codec.specs.Flat.{IsFlat, IsRead, IsFlatInMoves, IsFlatInTexts, FlatBreaks}
@@ -26,7 +27,7 @@ use Rattle.game_codec.proofs.MovetextLaws.{movetext-scans, scans-movetext, break
 
 -- What the code reads is in the record, and what is in the record is read so
 
-pub read-record : (bytes : List ℕ) (tags : List Tag) (game : GameTree) → IsRead bytes tags game → IsRecord bytes tags game
+pub read-record : (bytes : List ℕ) (tags : List Tag) (game : GameTree) → IsRead bytes tags game → IsSpelled bytes tags game
 read-record bytes tags game read =
     let movetext = scans-movetext read.start read.tokens read.flat.behind_start read.flat.behind_moves read.flat.then_items read.texts in
     let texts : texts_of movetext.0 ≡ read.texts = movetext.1.1.1.1 read.flat.count in
@@ -51,7 +52,7 @@ record IsFlattened (bytes : List ℕ) (all_tags : List Tag) (start : Numbered) (
   pub flat : IsFlat bytes all_tags start tokens (texts_of s)
   pub items : dealt tokens (texts_of s) ≡ items_of s
 
-flattened : (bytes : List ℕ) (tags : List Tag) (game : GameTree) (r : IsRecord bytes tags game) → IsFlattened bytes r.all_tags r.start r.movetext
+flattened : (bytes : List ℕ) (tags : List Tag) (game : GameTree) (r : IsSpelled bytes tags game) → IsFlattened bytes r.all_tags r.start r.movetext
 flattened bytes tags game r =
     let scanned = movetext-scans r.start r.movetext r.behind_start r.behind_moves r.then_moves in record {
       tokens = scanned.0;
@@ -133,7 +134,7 @@ flat-one bytes a b start start' tokens tokens' texts texts' f g =
       texts_same = AreTexts-one f.behind_moves texts texts' f.then_texts (subst (λ (l : List ℕ). AreTexts l texts') (sym same.1) g.then_texts);
     }
 
-pub read-only : (bytes : List ℕ) (tags tags' : List Tag) (game game' : GameTree) → IsRead bytes tags game → IsRecord bytes tags' game' → (tags ≡ tags') × (game ≡ game')
+pub read-only : (bytes : List ℕ) (tags tags' : List Tag) (game game' : GameTree) → IsRead bytes tags game → IsSpelled bytes tags' game' → (tags ≡ tags') × (game ≡ game')
 read-only bytes tags tags' game game' read r =
     let other = flattened bytes tags' game' r in
     let same = flat-one bytes read.all_tags r.all_tags read.start r.start read.tokens other.tokens read.texts (texts_of r.movetext) read.flat other.flat in
@@ -182,7 +183,7 @@ pub read-unbroken : (bytes : List ℕ) (tags : List Tag) (game : GameTree) (rest
 read-unbroken bytes tags game rest what read broken =
     unbroken bytes read.all_tags read.start read.tokens read.texts read.flat rest what (flat_break bytes rest what broken)
 
-pub break-only : (bytes : List ℕ) (tags : List Tag) (game : GameTree) (rest : List ℕ) (what : RecordWhat) → FlatBreaks bytes rest what → IsRecord bytes tags game → ⊥
+pub break-only : (bytes : List ℕ) (tags : List Tag) (game : GameTree) (rest : List ℕ) (what : RecordWhat) → FlatBreaks bytes rest what → IsSpelled bytes tags game → ⊥
 break-only bytes tags game rest what broken r =
     let other = flattened bytes tags game r in
     unbroken bytes r.all_tags r.start other.tokens (texts_of r.movetext) other.flat rest what broken
@@ -298,8 +299,8 @@ module _ (bytes rest rest' : List ℕ) (what what' : RecordWhat) where
       ]
 
 -- Bytes that are a record have no fault.
-pub record-unbroken : (bytes : List ℕ) (tags : List Tag) (game : GameTree) (fault : RecordFault) → IsRecord bytes tags game → IsRecordFault bytes fault → ⊥
-record-unbroken bytes tags game fault r broken =
+pub spelled-unbroken : (bytes : List ℕ) (tags : List Tag) (game : GameTree) (fault : RecordFault) → IsSpelled bytes tags game → IsBroken bytes fault → ⊥
+spelled-unbroken bytes tags game fault r broken =
     break-only bytes tags game broken.rest fault.what (flat_break bytes broken.rest fault.what broken.breaks) r
 
 -- Bytes are a record of one game and one list of tags
@@ -311,7 +312,7 @@ same_meaning s t same =
     let other = built-items_of t (built (items_of s) opening) (ap (λ items. built items opening) same) in
     (sym one.lead ∙ other.lead, sym one.line ∙ other.line)
 
-record-read : (bytes : List ℕ) (tags : List Tag) (game : GameTree) → IsRecord bytes tags game → IsRead bytes tags game
+record-read : (bytes : List ℕ) (tags : List Tag) (game : GameTree) → IsSpelled bytes tags game → IsRead bytes tags game
 record-read bytes tags game r =
     let flat = flattened bytes tags game r in record {
       all_tags = r.all_tags;
@@ -326,12 +327,12 @@ record-read bytes tags game r =
           (ap (λ (g : GameTree). g.lead) r.game_is ∙ same.0, ap (λ (g : GameTree). g.line) r.game_is ∙ same.1);
     }
 
-pub record-one : (bytes : List ℕ) (tags others : List Tag) (game other : GameTree) → IsRecord bytes tags game → IsRecord bytes others other → (tags ≡ others) × (game ≡ other)
-record-one bytes tags others game other r = read-only bytes tags others game other (record-read bytes tags game r)
+pub spelled-one : (bytes : List ℕ) (tags others : List Tag) (game other : GameTree) → IsSpelled bytes tags game → IsSpelled bytes others other → (tags ≡ others) × (game ≡ other)
+spelled-one bytes tags others game other r = read-only bytes tags others game other (record-read bytes tags game r)
 
 -- And have one first fault.
-pub fault-one : (bytes : List ℕ) (fault other : RecordFault) → IsRecordFault bytes fault → IsRecordFault bytes other → fault ≡ other
-fault-one bytes fault other f g =
+pub broken-one : (bytes : List ℕ) (fault other : RecordFault) → IsBroken bytes fault → IsBroken bytes other → fault ≡ other
+broken-one bytes fault other f g =
     let same = break-one bytes f.rest g.rest fault.what other.what (flat_break bytes f.rest fault.what f.breaks) g.breaks in
     let at : fault.place ≡ other.place = f.place ∙ same.place (length bytes) ∙ sym g.place in
     λ i. record { place = at i; what = same.same i }

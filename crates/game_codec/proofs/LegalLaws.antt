@@ -8,7 +8,7 @@ use Rattle.move_codec.specs.Numbers.{Numbered}
 use Rattle.game_codec.proofs.DecodedLaws.{to_decodes}
 use Rattle.game_codec.specs.Place.{Place, beginning, after_move, after_comment, variation_of}
 use Rattle.game_codec.specs.Moves.{SpellsMoves}
-use Rattle.game_codec.specs.Record.{game_of}
+use Rattle.game_codec.specs.RecordAnswer.{game_of}
 
 joined-IsComment : (text : List ℕ) (later : Option (List ℕ)) → IsComment later → IsComment (joined (as_comment text) later)
 joined-IsComment [] later is = is

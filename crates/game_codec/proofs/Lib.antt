@@ -18,6 +18,7 @@ pub mod ShortLaws
 pub mod WrittenLaws
 pub mod WritingLaws
 pub mod DecodeLaws
+pub mod RecordAnswerLaws
 pub mod ReadLaws
 pub mod AnswerLaws
 pub mod WalkLaws

@@ -5,7 +5,7 @@ use Rattle.chess_laws.specs.declared.setup.Setup.{Setup}
 use Rattle.move_codec.specs.declared.fault.MoveFault.{MoveFault}
 use Rattle.move_codec.specs.Numbers.{Numbered}
 use Rattle.move_codec.specs.Packed.{Decodes}
-use Rattle.game_codec.specs.Fault.{place_of}
+use Rattle.game_codec.specs.RecordAnswer.{place_of}
 use Rattle.game_codec.specs.Walk.{IsMet, Meets}
 use Rattle.game_codec.specs.Walking.{MetIn}
 use Rattle.game_codec.specs.declared.breach.Breach.{Breach}

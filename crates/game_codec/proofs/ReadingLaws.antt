@@ -18,9 +18,10 @@ use Rattle.game_codec.specs.Nests.{IsKept, IsPast, token_of}
 use Rattle.game_codec.proofs.DecodedLaws.{to_decodes}
 use Rattle.game_codec.specs.Place.{Place, Takes, FaultAt, after_move, beginning, ending, variation_of}
 use Rattle.game_codec.specs.Reading.{BreaksLine, Does, Ends, HasRead, IsReading, Passes, Plays, Reads}
-use Rattle.game_codec.specs.Record.{IsRecord, game_of}
+use Rattle.game_codec.specs.Record.{IsRecord}
+use Rattle.game_codec.specs.RecordAnswer.{game_of}
 use Rattle.game_codec.specs.Start.{BeginsStart}
-use Rattle.game_codec.specs.TagSpelling.{BeginsTags}
+use Rattle.game_codec.specs.TagReading.{BeginsTags}
 use Rattle.game_codec.specs.Tallying.{HasTallied, added, no_tally, size_of, tallied}
 use Rattle.game_codec.specs.Texts.{AreTexts, BreaksTexts, texts_of}
 use Rattle.game_codec.specs.Token.{Token, Play, Nag, Comment, Open, End}
@@ -36,6 +37,7 @@ use Rattle.game_codec.specs.declared.totals.Totals.{Totals}
 use Rattle.game_codec.proofs.CheckLaws.{Checked, moves_broken, texts_broken}
 use Rattle.game_codec.proofs.LineLaws.{HasFollowed-kept}
 use Rattle.game_codec.proofs.MovetextLaws.{ending-main}
+use Rattle.game_codec.proofs.RecordAnswerLaws.{from_spelled}
 use Rattle.game_codec.proofs.TallyLaws.{HasTallied-breaks, HasTallied-none, LineTallied}
 use Rattle.game_codec.proofs.TallyLaws as tally
 use Rattle.game_codec.proofs.TotalLaws.{dealt_all, said, said-comments, said-is, totals}
@@ -322,7 +324,7 @@ module _ (p q : At) (bytes : List ℕ) (reads : Reads p q) (has : HasRead bytes 
         (
           game_of has.start.position (meaning movetext),
           (
-            record {
+            from_spelled bytes (free_of has.tags) (game_of has.start.position (meaning movetext)) (record {
               all_tags = has.tags;
               start = has.start;
               movetext = movetext;
@@ -335,7 +337,7 @@ module _ (p q : At) (bytes : List ℕ) (reads : Reads p q) (has : HasRead bytes 
               then_texts = subst (AreTexts (drop 1 q.rest.now)) (sym found.1) texts.1.0;
               tags_are = refl;
               game_is = refl;
-            },
+            }),
             totals has.start movetext has.behind_start (drop 1 q.rest.now) q.tally t spells (w.told ∙ sym (found.0.same no_tally)) variations full nagged promo under,
           ),
         ),

@@ -1,6 +1,6 @@
 -- Two faults of the same bytes that are told alike.
 use Rattle.std.proofs.Common.{◌≡◌, ℕ, List}
-use Rattle.game_codec.specs.Fault.{place_of}
+use Rattle.game_codec.specs.RecordAnswer.{place_of}
 use Rattle.game_codec.specs.declared.fault.RecordWhat.{RecordWhat}
 
 -- They say the same, and of the same place of a record.

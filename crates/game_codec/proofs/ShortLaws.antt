@@ -7,16 +7,17 @@ use Rattle.game_tree.specs.Replay.{plies_of}
 use Rattle.game_tree.specs.declared.head.Tag.{Tag}
 use Rattle.move_codec.specs.Numbers.{Numbered}
 use Rattle.move_codec.proofs.Apart.{Decodes-used}
-use Rattle.game_codec.specs.TagSpelling.{BeginsTags}
+use Rattle.game_codec.specs.TagReading.{BeginsTags}
 use Rattle.game_codec.specs.Start.{BeginsStart}
 use Rattle.game_codec.specs.Place.{Place, Takes, ending, beginning, after_move, after_comment, variation_of}
 use Rattle.game_codec.specs.Moves.{SpellsMoves}
 use Rattle.game_codec.proofs.DecodedLaws.{to_decodes}
-use Rattle.game_codec.specs.Record.{IsRecord}
+use Rattle.game_codec.proofs.TagReadingLaws.{tag_at-shorter}
+use Rattle.game_codec.specs.Record.{IsSpelled}
 use Rattle.game_codec.specs.Token.{Token, Play, Nag, Comment, Open, Close, End}
 
 -- An item takes a byte at least.
-Takes-longer : (p : Place) (bytes : List ℕ) (token : Token) (later : List ℕ) → Takes p bytes token later → length later < length bytes
+pub Takes-longer : (p : Place) (bytes : List ℕ) (token : Token) (later : List ℕ) → Takes p bytes token later → length later < length bytes
 Takes-longer p bytes (Play m) later takes =
     let used = Decodes-used p.here bytes m takes.1.0 (to_decodes p.here bytes (Ok (m, takes.1.0)) takes.1.1) in
     let left = ap (λ (l : List ℕ). length l) takes.1.2 in
@@ -47,8 +48,7 @@ Spells-longer p (variation inner s) bytes rest spells =
 Tags-longer : (bytes : List ℕ) (tags : List Tag) (rest : List ℕ) → BeginsTags bytes tags rest → length rest ≤ length bytes
 Tags-longer bytes [] rest begins = let e = ap (λ (l : List ℕ). length l) begins in omega (arith, e)
 Tags-longer bytes (tag ∷ tags) rest begins =
-    let e = ap (λ (l : List ℕ). length l) begins.1.2 in
-    omega (arith, e, length-append begins.1.0 begins.0, Tags-longer begins.0 tags rest begins.2)
+    omega (arith, tag_at-shorter bytes tag begins.0 begins.1, Tags-longer begins.0 tags rest begins.2)
 
 Start-longer : (bytes : List ℕ) (start : Numbered) (rest : List ℕ) → BeginsStart bytes start rest → length rest ≤ length bytes
 Start-longer bytes start rest begins =
@@ -57,7 +57,7 @@ Start-longer bytes start rest begins =
       | inr own ↦ let e = ap (λ (l : List ℕ). length l) own.spelled in omega (arith, e, length-append own.text (0 ∷ rest))
     ]
 
-pub record-short : (bytes : List ℕ) (tags : List Tag) (game : GameTree) → IsRecord bytes tags game → plies_of game ≤ length bytes
+pub record-short : (bytes : List ℕ) (tags : List Tag) (game : GameTree) → IsSpelled bytes tags game → plies_of game ≤ length bytes
 record-short bytes tags game r =
     let e = ap (λ (g : GameTree). plies_of g) r.game_is in
     omega (

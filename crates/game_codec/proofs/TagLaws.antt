@@ -1,21 +1,21 @@
 -- The tags of a record have one reading.
-use Rattle.std.proofs.Common.{not, ◌≡◌, ℕ, true, inl, inr, List, [], ◌∷◌, ◌++◌, Option, Result, Err, All, refl, sym, subst, ap, ◌∙◌, append_assoc}
+use Rattle.std.proofs.Common.{not, ◌≡◌, ◌<◌, ℕ, true, inl, inr, List, [], ◌∷◌, ◌++◌, Option, Result, Err, All, refl, sym, subst, ap, ◌∙◌, append_assoc}
 use Rattle.std.proofs.lemmas.Bool.{cases_Bool, not-true, not_from_false}
 use Rattle.std.proofs.lemmas.List.Elements.{All-nil, All-cons, All-head, All-tail}
 use Rattle.game_tree.specs.Head.{IsTag}
 use Rattle.game_tree.specs.TagName.{free_of, is_reserved}
 use Rattle.game_tree.specs.declared.head.Tag.{Tag}
-use Rattle.game_codec.specs.TagSpelling.{counted, BeginsTag, BeginsTags}
-use Rattle.game_codec.specs.TagReading.{tag_at, BreaksTags}
+use Rattle.game_codec.specs.TagSpelling.{counted}
+use Rattle.game_codec.specs.TagReading.{tag_at, BreaksTags, BeginsTag, BeginsTags}
 use Rattle.game_codec.specs.Written.{tags_text}
 use Rattle.game_codec.specs.declared.fault.RecordWhat.{RecordWhat}
-use Rattle.game_codec.proofs.TagReadingLaws.{tag_at-BeginsTag, BeginsTag-one, BeginsTag-name, BeginsTag-value, tag_at-end}
+use Rattle.game_codec.proofs.TagReadingLaws.{all_right, tag_at-SpellsTag, BeginsTag-one, SpellsTag-name, SpellsTag-tag_at, SpellsTag-value, tag_at-end}
 
 -- The end, a tag and a fault exclude one another
 
 end-not_tag : (bytes : List ℕ) (r : List ℕ) (tag : Tag) (later : List ℕ) → bytes ≡ 0 ∷ r → BeginsTag bytes tag later → ⊥
 end-not_tag bytes r tag later e h =
-    let read = rw e at (tag_at-BeginsTag bytes tag later h) in
+    let read = rw e at h in
     let end = tag_at-end r in
     cc
 
@@ -27,7 +27,7 @@ end-not_fault bytes r w e h =
 
 tag-not_fault : (bytes : List ℕ) (tag : Tag) (later : List ℕ) (w : RecordWhat) → BeginsTag bytes tag later
     → tag_at bytes ≡ Err w → ⊥
-tag-not_fault bytes tag later w h fault = let read = tag_at-BeginsTag bytes tag later h in cc
+tag-not_fault bytes tag later w h fault = cc
 
 same_fault : (w v : RecordWhat) → ◌≡◌ {A = Result (Option (Tag × List ℕ)) RecordWhat} (Err w) (Err v) → w ≡ v
 same_fault w v e = cc
@@ -66,17 +66,18 @@ BreaksTags-one bytes (t ∷ a) (u ∷ b) r s w v (later, tag, more) (later', tag
 
 -- Tags within their bounds
 
-pub BeginsTags-IsTag : (bytes : List ℕ) (a : List Tag) (r : List ℕ) → BeginsTags bytes a r → All IsTag (free_of a)
-BeginsTags-IsTag bytes [] r h = All-nil IsTag
-BeginsTags-IsTag bytes (tag ∷ tags) r (later, first, more) =
-    let others = BeginsTags-IsTag later tags r more in
+pub BeginsTags-IsTag : (bytes : List ℕ) (a : List Tag) (r : List ℕ) → All (λ b. b < 256) bytes → BeginsTags bytes a r → All IsTag (free_of a)
+BeginsTags-IsTag bytes [] r small h = All-nil IsTag
+BeginsTags-IsTag bytes (tag ∷ tags) r small (later, first, more) =
+    let spells = SpellsTag-tag_at bytes tag later small first in
+    let others = BeginsTags-IsTag later tags r (all_right (λ b. b < 256) spells.0 later (rw spells.2 at small)) more in
     elim (cases_Bool (not (is_reserved tag.name))) [
       | inl free ↦
           rw free (All-cons IsTag tag (free_of tags)
           (record {
-            name = BeginsTag-name bytes tag later first;
+            name = SpellsTag-name bytes tag later spells;
             free = not-true (is_reserved tag.name) free;
-            value = BeginsTag-value bytes tag later first;
+            value = SpellsTag-value bytes tag later spells;
           })
           others)
       | inr reserved ↦ rw reserved others
@@ -87,9 +88,11 @@ pub tags_text-begins : (tags : List Tag) (rest : List ℕ) → All IsTag tags
 tags_text-begins [] rest h = refl
 tags_text-begins (tag ∷ tags) rest h =
     let is_tag = All-head IsTag tag tags h in
-    let spelled : List ℕ = counted tag.name ++ counted tag.value in (
-      tags_text tags ++ 0 ∷ rest,
-      (spelled, inl (record { name = is_tag.name; value = is_tag.value; spelled = refl }), simp append_assoc),
+    let spelled : List ℕ = counted tag.name ++ counted tag.value in
+    let later : List ℕ = tags_text tags ++ 0 ∷ rest in (
+      later,
+      tag_at-SpellsTag (tags_text (tag ∷ tags) ++ 0 ∷ rest) tag later
+          (spelled, inl (record { name = is_tag.name; value = is_tag.value; spelled = refl }), simp append_assoc),
       tags_text-begins tags rest (All-tail IsTag tag tags h),
     )
 

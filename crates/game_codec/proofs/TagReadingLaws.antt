@@ -1,18 +1,18 @@
--- The bytes begin with a tag exactly where they are read as it.
-use Rattle.std.proofs.Common.{◌≡◌, ◌≢◌, ℕ, ◌+◌, ◌-◌, ◌*◌, ◌/◌, ◌%◌, ◌<◌, ◌≤◌, inl, inr, Bool, true, false, ◌&&◌, ◌==◌, nat_le, nat_lt, List, [], ◌∷◌, ◌++◌, Option, Some, None, Result, Ok, Err, length, slice_index_or, get_or, take, drop, refl, sym, ap, subst, ◌∙◌, arith, codes, append_assoc, All, length-append, lit≤}
+-- Where the bytes spell a tag they are read as it, and bytes that are read as a tag spell it.
+use Rattle.std.proofs.Common.{◌≡◌, ◌≢◌, ℕ, ◌+◌, ◌-◌, ◌*◌, ◌/◌, ◌%◌, ◌<◌, ◌≤◌, inl, inr, Bool, true, false, ◌&&◌, ◌==◌, nat_le, nat_lt, List, [], ◌∷◌, ◌++◌, Option, Some, None, Result, Ok, Err, length, slice_index_or, take, drop, refl, sym, ap, subst, ◌∙◌, arith, codes, append_assoc, All, length-append, lit≤}
 use Rattle.std.specs.List.{list_all, slice_get}
 use Rattle.std.proofs.Math.Nat.{div-div-eq-div-mul}
 use Rattle.std.proofs.lemmas.Bool.{cases_Bool, cond_both, eqb-true, eqb-false, ne_eqb, leb-true, leb-false, le-leb, lt-leb, ltb-false, le-ltb, not-true, and_from, and_parts, not_from_false}
 use Rattle.std.proofs.lemmas.List.{take_at, drop_at, take-append-drop, length-take-le, drop-drop, length-drop}
-use Rattle.std.proofs.lemmas.List.Elements.{All-head, All-tail, All-nil, All-cons, All-from_recursion, All-from_get_or}
+use Rattle.std.proofs.lemmas.List.Elements.{All-head, All-tail, All-nil, All-cons, All-from_recursion}
 use Rattle.std.proofs.lemmas.Option.{slice_get_within, slice_get-get_or, get_or_from_slice_get}
 use Rattle.game_tree.specs.Date.{IsDate, date_number, date_of, date_text, shown}
 use Rattle.game_tree.specs.Head.{IsName}
 use Rattle.game_tree.specs.TagName.{is_tag_byte, IsTagByte, IsTagName}
 use Rattle.game_tree.specs.declared.date.Date.{Date}
 use Rattle.game_tree.specs.declared.head.Tag.{Tag}
-use Rattle.game_codec.specs.TagSpelling.{coded_names, counted, BeginsTag}
-use Rattle.game_codec.specs.TagReading.{Part, part_at, is_value_byte, value_at, with_value, with_name, dated, date_at, tag_at}
+use Rattle.game_codec.specs.TagSpelling.{coded_names, counted, SpellsTag}
+use Rattle.game_codec.specs.TagReading.{BeginsTag, Part, part_at, is_value_byte, value_at, with_value, with_name, dated, date_at, tag_at}
 use Rattle.game_codec.specs.declared.fault.RecordWhat.{RecordWhat}
 use Rattle.game_codec.specs.declared.fault.RecordWhat.TheVariants.{TagName, TagValue}
 
@@ -38,7 +38,7 @@ value_byte b h = not_from_false _ (ne_eqb b 0 h)
 value_byte_tells : (b : ℕ) → is_value_byte b ≡ true → b ≢ 0
 value_byte_tells b h = eqb-false b 0 (not-true _ h)
 
-all_right : (P : ℕ → Type 0) (xs ys : List ℕ) → All P (xs ++ ys) → All P ys
+pub all_right : (P : ℕ → Type 0) (xs ys : List ℕ) → All P (xs ++ ys) → All P ys
 all_right P [] ys h = h
 all_right P (x ∷ xs) ys h = all_right P xs ys (All-tail P x (xs ++ ys) h)
 
@@ -168,13 +168,13 @@ same_tag : (a b : Tag) → a.name ≡ b.name → a.value ≡ b.value → a ≡ b
 same_tag a b name value =
     ap (λ (n : List ℕ). record a { name = n }) name ∙ ap (λ (v : List ℕ). record b { value = v }) value
 
-pub tag_at-BeginsTag : (bytes : List ℕ) (tag : Tag) (later : List ℕ) → BeginsTag bytes tag later
+pub tag_at-SpellsTag : (bytes : List ℕ) (tag : Tag) (later : List ℕ) → SpellsTag bytes tag later
     → tag_at bytes ≡ Ok (Some (tag, later))
-tag_at-BeginsTag bytes tag later (spelled, inl h, e) =
+tag_at-SpellsTag bytes tag later (spelled, inl h, e) =
     rw (e, h.spelled) (spelled_out-reads tag later h.name h.value)
-tag_at-BeginsTag bytes tag later (spelled, inr (inl h), e) =
+tag_at-SpellsTag bytes tag later (spelled, inr (inl h), e) =
     rw (e, h.spelled) (coded-reads tag h.number later h.name h.value)
-tag_at-BeginsTag bytes tag later (spelled, inr (inr h), e) =
+tag_at-SpellsTag bytes tag later (spelled, inr (inr h), e) =
     let same = same_tag (record { name = codes "EventDate"; value = date_text h.date }) tag (sym h.name) (sym h.value) in
     rw (e, h.spelled) (dated-reads h.date later h.kept ∙ ap (λ (t : Tag). Ok (Some (t, later))) same)
 
@@ -197,7 +197,7 @@ with_value_was name (Ok part) tag later h =
 
 spelled_out-from : (n : ℕ) (bytes behind : List ℕ) (tag : Tag) (later : List ℕ) → 0 < n → n ≤ 240
     → WasPart is_tag_byte n bytes (tag.name, behind) → IsName tag.value × (behind ≡ counted tag.value ++ later)
-    → BeginsTag (n ∷ bytes) tag later
+    → SpellsTag (n ∷ bytes) tag later
 spelled_out-from n bytes behind tag later some few w value =
     let size = w.size in
     let e : bytes ≡ (tag.name ++ counted tag.value) ++ later
@@ -216,7 +216,7 @@ spelled_out-from n bytes behind tag later some few w value =
     )
 
 spelled_out-was : (n : ℕ) (bytes : List ℕ) (tag : Tag) (later : List ℕ) → 0 < n → n ≤ 240 → All (λ b. b < 256) bytes
-    → with_name (part_at is_tag_byte TagName n bytes) ≡ Ok (Some (tag, later)) → BeginsTag (n ∷ bytes) tag later
+    → with_name (part_at is_tag_byte TagName n bytes) ≡ Ok (Some (tag, later)) → SpellsTag (n ∷ bytes) tag later
 spelled_out-was n bytes tag later some few small h =
     let (part, name_read, value_read) = with_name_was (part_at is_tag_byte TagName n bytes) tag later h in
     let w = part_was is_tag_byte TagName n bytes part name_read in
@@ -229,7 +229,7 @@ spelled_out-was n bytes tag later some few small h =
 coded-was : (code : ℕ) (bytes : List ℕ) (tag : Tag) (later : List ℕ) → 240 < code → code ≤ 250
     → All (λ b. b < 256) bytes
     → with_value (slice_index_or coded_names (code - 241) []) (value_at bytes) ≡ Ok (Some (tag, later))
-    → BeginsTag (code ∷ bytes) tag later
+    → SpellsTag (code ∷ bytes) tag later
 coded-was code bytes tag later above below small h =
     let v = with_value_was (slice_index_or coded_names (code - 241) []) (value_at bytes) tag later h in
     let value = value_was bytes (tag.value, later) small v.0 in
@@ -252,7 +252,7 @@ number_bytes : (a b c : ℕ) → a < 256 → b < 256 → c < 256
 number_bytes a b c h i j = (omega arith, omega arith, omega arith)
 
 dated-was : (a b c : ℕ) (rest : List ℕ) (tag : Tag) (later : List ℕ) → a < 256 → b < 256 → c < 256
-    → dated (65536 * a + 256 * b + c) rest ≡ Ok (Some (tag, later)) → BeginsTag (255 ∷ a ∷ b ∷ c ∷ rest) tag later
+    → dated (65536 * a + 256 * b + c) rest ≡ Ok (Some (tag, later)) → SpellsTag (255 ∷ a ∷ b ∷ c ∷ rest) tag later
 dated-was a b c rest tag later small_a small_b small_c h =
     let n : ℕ = 65536 * a + 256 * b + c in
     elim (cases_Bool (nat_le (n / 512) 2047 && nat_le (n / 32 % 16) 12)) [
@@ -275,7 +275,7 @@ dated-was a b c rest tag later small_a small_b small_c h =
     ]
 
 date_at-was : (bytes : List ℕ) (tag : Tag) (later : List ℕ) → All (λ b. b < 256) bytes
-    → date_at bytes ≡ Ok (Some (tag, later)) → BeginsTag (255 ∷ bytes) tag later
+    → date_at bytes ≡ Ok (Some (tag, later)) → SpellsTag (255 ∷ bytes) tag later
 unfolding date_at
 date_at-was [] tag later small h = absurd (cc)
 date_at-was (a ∷ []) tag later small h = absurd (cc)
@@ -283,11 +283,11 @@ date_at-was (a ∷ b ∷ []) tag later small h = absurd (cc)
 date_at-was (a ∷ b ∷ c ∷ rest) tag later small h =
     dated-was a b c rest tag later (small 0 0 (omega arith)) (small 1 0 (omega arith)) (small 2 0 (omega arith)) h
 
-pub BeginsTag-tag_at : (bytes : List ℕ) (tag : Tag) (later : List ℕ) → All (λ b. b < 256) bytes
-    → tag_at bytes ≡ Ok (Some (tag, later)) → BeginsTag bytes tag later
+pub SpellsTag-tag_at : (bytes : List ℕ) (tag : Tag) (later : List ℕ) → All (λ b. b < 256) bytes
+    → tag_at bytes ≡ Ok (Some (tag, later)) → SpellsTag bytes tag later
 unfolding tag_at
-BeginsTag-tag_at [] tag later small h = absurd (cc)
-BeginsTag-tag_at (code ∷ bytes) tag later small h =
+SpellsTag-tag_at [] tag later small h = absurd (cc)
+SpellsTag-tag_at (code ∷ bytes) tag later small h =
     let below : code < 256 = All-head (λ b. b < 256) code bytes small in
     let behind : All (λ b. b < 256) bytes = All-tail (λ b. b < 256) code bytes small in
     elim (cases_Bool (code == 0)) [
@@ -317,9 +317,75 @@ BeginsTag-tag_at (code ∷ bytes) tag later small h =
 pub BeginsTag-one : (bytes : List ℕ) (tag tag' : Tag) (later later' : List ℕ) → BeginsTag bytes tag later
     → BeginsTag bytes tag' later' → (tag ≡ tag') × (later ≡ later')
 BeginsTag-one bytes tag tag' later later' h k =
-    let e = same_read (tag, later) (tag', later')
-    (sym (tag_at-BeginsTag bytes tag later h) ∙ tag_at-BeginsTag bytes tag' later' k) in
+    let e = same_read (tag, later) (tag', later') (sym h ∙ k) in
     (ap (λ (q : Tag × List ℕ). q.0) e, ap (λ (q : Tag × List ℕ). q.1) e)
+
+-- What a tag takes of the bytes, a byte at least
+
+abbrev IsBehind : List ℕ → List ℕ → Type 0
+IsBehind bytes later = (front : List ℕ) × (bytes ≡ front ++ later)
+
+value_behind : (bytes : List ℕ) (part : Part) → value_at bytes ≡ Ok part → IsBehind bytes part.1
+unfolding value_at
+value_behind [] part h = absurd (cc)
+value_behind (n ∷ bytes) part h =
+    (n ∷ part.0, ap (λ (b : List ℕ). n ∷ b) (part_was is_value_byte TagValue n bytes part h).spelled)
+
+named_behind : (name bytes : List ℕ) (tag : Tag) (later : List ℕ) → with_value name (value_at bytes) ≡ Ok (Some (tag, later)) → IsBehind bytes later
+named_behind name bytes tag later h = value_behind bytes (tag.value, later) (with_value_was name (value_at bytes) tag later h).0
+
+date_behind : (bytes : List ℕ) (tag : Tag) (later : List ℕ) → date_at bytes ≡ Ok (Some (tag, later)) → IsBehind bytes later
+unfolding date_at
+date_behind [] tag later h = absurd (cc)
+date_behind (a ∷ []) tag later h = absurd (cc)
+date_behind (a ∷ b ∷ []) tag later h = absurd (cc)
+date_behind (a ∷ b ∷ c ∷ rest) tag later h =
+    let n : ℕ = 65536 * a + 256 * b + c in
+    elim (cases_Bool (nat_le (n / 512) 2047 && nat_le (n / 32 % 16) 12)) [
+      | inl kept ↦
+          let read = same_read (record { name = codes "EventDate"; value = date_text (date_of n) }, rest) (tag, later) (rw kept at h) in
+          (a ∷ b ∷ c ∷ [], ap (λ (q : Tag × List ℕ). a ∷ b ∷ c ∷ q.1) read)
+      | inr over ↦ let e = rw over at h in absurd (cc)
+    ]
+
+after_name : (bytes name rest front later : List ℕ) → bytes ≡ name ++ rest → rest ≡ front ++ later → bytes ≡ (name ++ front) ++ later
+after_name bytes name rest front later first then = first ∙ ap (λ (b : List ℕ). name ++ b) then ∙ sym (append_assoc name front later)
+
+pub tag_at-behind : (bytes : List ℕ) (tag : Tag) (later : List ℕ) → tag_at bytes ≡ Ok (Some (tag, later))
+    → (first : ℕ) × ((front : List ℕ) × (bytes ≡ first ∷ front ++ later))
+unfolding tag_at
+tag_at-behind [] tag later h = absurd (cc)
+tag_at-behind (code ∷ bytes) tag later h =
+    elim (cases_Bool (code == 0)) [
+      | inl none ↦ let e = rw none at h in absurd (cc)
+      | inr some ↦
+          elim (cases_Bool (nat_le code 240)) [
+            | inl named ↦
+                let (part, name_read, value_read) = with_name_was (part_at is_tag_byte TagName code bytes) tag later (rw (some, named) at h) in
+                let spelled = (part_was is_tag_byte TagName code bytes part name_read).spelled in
+                let value = named_behind part.0 part.1 tag later value_read in
+                behind (part.0 ++ value.0) (after_name bytes part.0 part.1 value.0 later spelled value.1)
+            | inr longer ↦
+                elim (cases_Bool (nat_le code 250)) [
+                  | inl coded ↦
+                      let value = named_behind (slice_index_or coded_names (code - 241) []) bytes tag later (rw (some, longer, coded) at h) in
+                      behind value.0 value.1
+                  | inr higher ↦
+                      elim (cases_Bool (nat_le code 254)) [
+                        | inl bad ↦ let e = rw (some, longer, higher, bad) at h in absurd (cc)
+                        | inr date ↦ let value = date_behind bytes tag later (rw (some, longer, higher, date) at h) in behind value.0 value.1
+                      ]
+                ]
+          ]
+    ]
+  where
+    behind : (front : List ℕ) → bytes ≡ front ++ later → (first : ℕ) × ((front : List ℕ) × (code ∷ bytes ≡ first ∷ front ++ later))
+    behind front is = (code, (front, ap (λ (b : List ℕ). code ∷ b) is))
+
+pub tag_at-shorter : (bytes : List ℕ) (tag : Tag) (later : List ℕ) → tag_at bytes ≡ Ok (Some (tag, later)) → length later < length bytes
+tag_at-shorter bytes tag later h =
+    let (first, (front, is)) = tag_at-behind bytes tag later h in
+    omega (arith, ap (λ (b : List ℕ). length b) is, length-append front later)
 
 -- What a tag that was read may be
 
@@ -362,17 +428,17 @@ date_text_name d =
           (some _ _, (some _ _, (some _ _, (some _ _, (dot, (some _ _, (some _ _, (dot, (some _ _, (some _ _, tt))))))))));
     }
 
-pub BeginsTag-name : (bytes : List ℕ) (tag : Tag) (later : List ℕ) → BeginsTag bytes tag later → IsTagName tag.name
-BeginsTag-name bytes tag later (spelled, inl h, e) = h.name
-BeginsTag-name bytes tag later (spelled, inr (inl h), e) =
+pub SpellsTag-name : (bytes : List ℕ) (tag : Tag) (later : List ℕ) → SpellsTag bytes tag later → IsTagName tag.name
+SpellsTag-name bytes tag later (spelled, inl h, e) = h.name
+SpellsTag-name bytes tag later (spelled, inr (inl h), e) =
     let below = slice_get_within coded_names h.number tag.name h.name in
     subst IsTagName (get_or_from_slice_get coded_names h.number tag.name [] h.name) (coded_tag_names h.number [] below)
-BeginsTag-name bytes tag later (spelled, inr (inr h), e) = rw h.name event_date_name
+SpellsTag-name bytes tag later (spelled, inr (inr h), e) = rw h.name event_date_name
 
-pub BeginsTag-value : (bytes : List ℕ) (tag : Tag) (later : List ℕ) → BeginsTag bytes tag later → IsName tag.value
-BeginsTag-value bytes tag later (spelled, inl h, e) = h.value
-BeginsTag-value bytes tag later (spelled, inr (inl h), e) = h.value
-BeginsTag-value bytes tag later (spelled, inr (inr h), e) = rw h.value (date_text_name h.date)
+pub SpellsTag-value : (bytes : List ℕ) (tag : Tag) (later : List ℕ) → SpellsTag bytes tag later → IsName tag.value
+SpellsTag-value bytes tag later (spelled, inl h, e) = h.value
+SpellsTag-value bytes tag later (spelled, inr (inl h), e) = h.value
+SpellsTag-value bytes tag later (spelled, inr (inr h), e) = rw h.value (date_text_name h.date)
 
 -- The zero byte that ends the tags
 
@@ -425,10 +491,9 @@ end-tag_at (code ∷ bytes) h =
 
 -- One step of reading
 
-pub next_tag-is : (bytes : List ℕ) (tag read : Tag) (used : ℕ) → ((i : ℕ) → get_or bytes i 0 < 256) → tag ≡ read
+pub next_tag-is : (bytes : List ℕ) (tag read : Tag) (used : ℕ) → tag ≡ read
     → tag_at bytes ≡ Ok (Some (read, drop used (drop 1 bytes))) → used ≤ length (drop 1 bytes) → 0 < length bytes
     → BeginsTag bytes tag (drop (1 + used) bytes) × (0 < 1 + used) × (1 + used ≤ length bytes)
-next_tag-is bytes tag read used small same h fits some =
-    let small' : All (λ b. b < 256) bytes = All-from_get_or (λ b. b < 256) bytes 0 (λ i _. small i) in
+next_tag-is bytes tag read used same h fits some =
     let e : tag_at bytes ≡ Ok (Some (tag, drop (1 + used) bytes)) = rw (same, ← drop-drop used 1 bytes) h in
-    (BeginsTag-tag_at bytes tag (drop (1 + used) bytes) small' e, omega arith, omega (arith, length-drop {A = ℕ}))
+    (e, omega arith, omega (arith, length-drop {A = ℕ}))

@@ -4,11 +4,11 @@ use Rattle.std.proofs.lemmas.List.{append-nil, drop_at}
 use Rattle.std.proofs.lemmas.List.Elements.{filter-append}
 use Rattle.game_tree.specs.declared.head.Tag.{Tag}
 use Rattle.game_tree.specs.TagName.{free_of, is_reserved}
-use Rattle.game_codec.specs.TagSpelling.{BeginsTag, BeginsTags}
-use Rattle.game_codec.specs.TagReading.{tag_at, BreaksTags}
+use Rattle.game_codec.specs.TagReading.{tag_at, BreaksTags, BeginsTag, BeginsTags}
 use Rattle.game_codec.specs.Breach.{Tells}
 use Rattle.game_codec.specs.declared.breach.Breach.{Breach}
 use Rattle.game_codec.specs.declared.fault.RecordWhat.{RecordWhat}
+use Rattle.game_codec.proofs.TagReadingLaws.{tag_at-behind}
 
 -- Behind some tags of the bytes this is left, and those of them without a reserved name are these: whatever is read from
 -- here on, tags or a fault, is read of all the bytes behind them.
@@ -34,10 +34,10 @@ read_none bytes = record {
 
 pub read_more : (bytes rest later : List ℕ) (free : List Tag) (tag : Tag) → ReadSoFar bytes rest free
     → BeginsTag rest tag later → ReadSoFar bytes later (free ++ free_of (tag ∷ []))
-read_more bytes rest later free tag h next = record {
+read_more bytes rest later free tag h next = let (first, (front, is)) = tag_at-behind rest tag later next in record {
   all = h.all ++ tag ∷ [];
-  front = h.front ++ next.0;
-  spelled = h.spelled ∙ ap (λ (b : List ℕ). h.front ++ b) next.2 ∙ sym (append_assoc h.front next.0 later);
+  front = h.front ++ first ∷ front;
+  spelled = h.spelled ∙ ap (λ (b : List ℕ). h.front ++ b) is ∙ sym (append_assoc h.front (first ∷ front) later);
   free_are = rw (filter-append (λ (tag : Tag). not (is_reserved tag.name)) h.all (tag ∷ []), ← h.free_are) refl;
   begins = λ more end from. rw (append_assoc h.all (tag ∷ []) more) (h.begins (tag ∷ more) end (later, next, from));
   breaks = λ more end what from.

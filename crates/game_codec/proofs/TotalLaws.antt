@@ -10,7 +10,7 @@ use Rattle.move_codec.specs.Numbers.{Numbered}
 use Rattle.game_codec.specs.Checking.{full_among}
 use Rattle.game_codec.specs.Moves.{SpellsMoves}
 use Rattle.game_codec.specs.Place.{Place, after_comment, after_move, beginning, variation_of}
-use Rattle.game_codec.specs.Record.{game_of}
+use Rattle.game_codec.specs.RecordAnswer.{game_of}
 use Rattle.game_codec.specs.Scanning.{tokens_then}
 use Rattle.game_codec.specs.Tallying.{added, no_tally, tallied}
 use Rattle.game_codec.specs.Texts.{texts_of}

@@ -14,14 +14,14 @@ use Rattle.move_codec.specs.Numbers.{Numbered}
 use Rattle.move_codec.specs.Packed.{Decodes}
 use Rattle.move_codec.proofs.Apart.{Decodes-one}
 use Rattle.move_codec.proofs.Decoding.{same_ok}
-use Rattle.game_codec.specs.TagSpelling.{BeginsTags}
-use Rattle.game_codec.specs.TagReading.{BreaksTags}
+use Rattle.game_codec.specs.TagReading.{BreaksTags, BeginsTags}
 use Rattle.game_codec.specs.Start.{BeginsStart, BreaksStart}
 use Rattle.game_codec.specs.Place.{IsMoveDue, beginning, numbered_after}
 use Rattle.game_codec.specs.Moves.{SpellsMoves}
-use Rattle.game_codec.specs.Record.{IsRecord, IsSomeRecord}
+use Rattle.game_codec.specs.Record.{IsRecord, IsSomeRecord, IsSpelled}
 use Rattle.game_codec.specs.Walking.{GoesOn, IsBehind}
 use Rattle.game_codec.specs.declared.fault.RecordWhat.{RecordWhat}
+use Rattle.game_codec.proofs.RecordAnswerLaws.{to_spelled}
 use Rattle.game_codec.proofs.TagLaws.{BeginsTags-one, BeginsTags-unbroken}
 use Rattle.game_codec.proofs.StartLaws.{BeginsStart-one, BeginsStart-unbroken}
 use Rattle.game_codec.proofs.WalkLaws.{front_move}
@@ -95,7 +95,8 @@ module _ (game : GameTree) (here : Numbered) (ply : ℕ) (bytes : List ℕ) (is 
 pub begun : (bytes : List ℕ) (all : List Tag) (start : Numbered) (used used' : ℕ) → BeginsTags bytes all (drop used bytes)
     → BeginsStart (drop used bytes) start (drop used' (drop used bytes)) → (tags : List Tag) (game : GameTree) → IsRecord bytes tags game
     → IsBehind game start 0 (drop (used + used') bytes)
-begun bytes all start used used' first then tags game r =
+begun bytes all start used used' first then tags game read =
+    let r = to_spelled bytes tags game read in
     let same = BeginsTags-one bytes r.all_tags all r.behind_tags (drop used bytes) r.tags_first first in
     let begins : BeginsStart (drop used bytes) r.start r.behind_start =
     subst (λ (l : List ℕ). BeginsStart l r.start r.behind_start) same.1 r.then_start in
@@ -117,7 +118,7 @@ begun bytes all start used used' first then tags game r =
 
 -- The start of a record is the one that is read.
 pub starts_so : (bytes : List ℕ) (all : List Tag) (start : Numbered) (used used' : ℕ) → BeginsTags bytes all (drop used bytes)
-    → BeginsStart (drop used bytes) start (drop used' (drop used bytes)) → (tags : List Tag) (game : GameTree) (r : IsRecord bytes tags game)
+    → BeginsStart (drop used bytes) start (drop used' (drop used bytes)) → (tags : List Tag) (game : GameTree) (r : IsSpelled bytes tags game)
     → (r.start ≡ start) × (r.behind_start ≡ drop (used + used') bytes)
 starts_so bytes all start used used' first then tags game r =
     let same = BeginsTags-one bytes r.all_tags all r.behind_tags (drop used bytes) r.tags_first first in
@@ -129,13 +130,13 @@ starts_so bytes all start used used' first then tags game r =
 -- Bytes whose tags or whose start has a fault are no record.
 pub no_tags : (bytes rest : List ℕ) (what : RecordWhat) → ((all : List Tag) × BreaksTags bytes all rest what) → IsSomeRecord bytes → ⊥
 no_tags bytes rest what breaks some =
-    let r = some.1.1 in
+    let r = to_spelled bytes some.0 some.1.0 some.1.1 in
     BeginsTags-unbroken bytes r.all_tags breaks.0 r.behind_tags rest what r.tags_first breaks.1
 
 pub no_start : (bytes : List ℕ) (all : List Tag) (used : ℕ) (rest : List ℕ) (what : RecordWhat) → BeginsTags bytes all (drop used bytes)
     → BreaksStart (drop used bytes) rest what → IsSomeRecord bytes → ⊥
 no_start bytes all used rest what first breaks some =
-    let r = some.1.1 in
+    let r = to_spelled bytes some.0 some.1.0 some.1.1 in
     let same = BeginsTags-one bytes r.all_tags all r.behind_tags (drop used bytes) r.tags_first first in
     let begins : BeginsStart (drop used bytes) r.start r.behind_start =
     subst (λ (l : List ℕ). BeginsStart l r.start r.behind_start) same.1 r.then_start in

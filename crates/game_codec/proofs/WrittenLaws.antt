@@ -31,11 +31,13 @@ use Rattle.game_codec.proofs.DecodedLaws.{from_decodes}
 use Rattle.game_codec.specs.Place.{Place, Takes, ending, numbered_after, beginning, after_move, after_comment, variation_of}
 use Rattle.game_codec.specs.Token.{Play}
 use Rattle.game_codec.specs.Moves.{SpellsMoves}
-use Rattle.game_codec.specs.Written.{body_text, moves_text, numbered_start, own_start, promotion_flags, start_text, tags_text, written_record}
-use Rattle.game_codec.specs.Record.{IsRecord, game_of}
-use Rattle.game_codec.specs.Start.{BeginsStart}
-use Rattle.game_codec.specs.TagSpelling.{BeginsTags}
+use Rattle.game_codec.specs.Written.{body_text, moves_text, numbered_start, promotion_flags, start_text, tags_text, written_record}
+use Rattle.game_codec.specs.Record.{IsRecord}
+use Rattle.game_codec.specs.RecordAnswer.{game_of}
+use Rattle.game_codec.specs.Start.{BeginsStart, own_start}
+use Rattle.game_codec.specs.TagReading.{BeginsTags}
 use Rattle.game_codec.specs.Texts.{ended, texts_of}
+use Rattle.game_codec.proofs.RecordAnswerLaws.{from_spelled}
 use Rattle.game_codec.proofs.TagLaws.{tags_text-begins, free_of-IsTag}
 use Rattle.game_codec.proofs.StartLaws.{standard-begins, own-begins}
 use Rattle.move_codec.proofs.Standard.{AreNumbers-standard}
@@ -196,7 +198,7 @@ set_flag false false = refl
 record-of : (bytes : List ℕ) (tags : List Tag) (g : GameTree) (behind : List ℕ) (n : Numbered) → Stands n → n.position ≡ g.start
     → IsLegalGame g → IsGame g → All IsTag tags → bytes ≡ tags_text tags ++ 0 ∷ behind
     → BeginsStart behind n (body_text n (movetext_of_game g)) → IsRecord bytes tags g
-record-of bytes tags g behind n stands same legal has are is begins = record {
+record-of bytes tags g behind n stands same legal has are is begins = from_spelled bytes tags g (record {
   all_tags = tags;
   start = n;
   movetext = movetext_of_game g;
@@ -211,7 +213,7 @@ record-of bytes tags g behind n stands same legal has are is begins = record {
   game_is =
       let said = meaning-written g.lead g.line legal.lead (HasComments-legal g.start g.line legal.line) in
       sym (λ i. game_of (same i) (said i));
-}
+})
 
 stands-start : (initial : Bool) (p : Setup) → Decides initial (p ≡ start_setup) → Sound p → Stands (numbered_start initial p)
 stands-start true p is sound = record { sound = subst Sound (is.0 refl) sound; numbers = AreNumbers-standard }

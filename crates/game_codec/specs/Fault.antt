@@ -1,11 +1,10 @@
 -- The first fault of bytes that are no record (this project's own): all that stands before it is as in a record.
-use Rattle.std.specs.Prelude.{◌≡◌, ℕ, ◌-◌, ◌⊎◌, List, length}
+use Rattle.std.specs.Prelude.{◌≡◌, ℕ, ◌⊎◌, List, Err, length}
 use Rattle.game_tree.specs.Movetext.{Movetext}
 use Rattle.game_tree.specs.declared.head.Tag.{Tag}
 use Rattle.move_codec.specs.Numbers.{Numbered}
-use Rattle.move_codec.specs.declared.fault.MoveFault.TheVariants as move
-use Rattle.game_codec.specs.TagSpelling.{BeginsTags}
-use Rattle.game_codec.specs.TagReading.{BreaksTags}
+use Rattle.game_codec.specs.RecordAnswer.{place_of, record_answer}
+use Rattle.game_codec.specs.TagReading.{BeginsTags, BreaksTags}
 use Rattle.game_codec.specs.Start.{BeginsStart, BreaksStart}
 use Rattle.game_codec.specs.Place.{beginning}
 use Rattle.game_codec.specs.Moves.{SpellsMoves, Upto, BreaksMoves}
@@ -14,7 +13,10 @@ use Rattle.game_codec.specs.declared.fault.DecodeError.{DecodeError}
 use Rattle.game_codec.specs.declared.fault.DecodeError.TheVariants as error
 use Rattle.game_codec.specs.declared.fault.RecordFault.{RecordFault}
 use Rattle.game_codec.specs.declared.fault.RecordWhat.{RecordWhat}
-use Rattle.game_codec.specs.declared.fault.RecordWhat.TheVariants as what
+
+-- This is the first fault of the bytes.
+pub record IsRecordFault (bytes : List ℕ) (fault : RecordFault) : Type 0 where
+  pub answer : record_answer bytes ≡ Err fault
 
 -- The fault stands in the tags.
 pub record BreaksInTags (bytes rest : List ℕ) (what : RecordWhat) : Type 0 where
@@ -57,15 +59,8 @@ abbrev pub Breaks : List ℕ → List ℕ → RecordWhat → Type 0
 Breaks bytes rest what =
     BreaksInTags bytes rest what ⊎ (BreaksInStart bytes rest what ⊎ (BreaksInMoves bytes rest what ⊎ BreaksInTexts bytes rest what))
 
--- The place of a fault by the record's length and the bytes from the faulty item on: the item's first byte, and the
--- record's length where it ends early.
-abbrev pub place_of : ℕ → List ℕ → RecordWhat → ℕ
-place_of len rest what.Short = len
-place_of len rest (what.Move move.Short) = len
-place_of len rest _ = len - length rest
-
--- This is the first fault of the bytes.
-pub record IsRecordFault (bytes : List ℕ) (fault : RecordFault) : Type 0 where
+-- The same in words: the bytes break off there, and the place is that of the fault.
+pub record IsBroken (bytes : List ℕ) (fault : RecordFault) : Type 0 where
   pub rest : List ℕ
   pub breaks : Breaks bytes rest fault.what
   pub place : fault.place ≡ place_of (length bytes) rest fault.what

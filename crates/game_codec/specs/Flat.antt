@@ -6,7 +6,7 @@ use Rattle.game_tree.specs.Movetext.{Movetext, items_of, meaning}
 use Rattle.game_tree.specs.declared.head.Tag.{Tag}
 use Rattle.move_codec.specs.Numbers.{Numbered}
 use Rattle.game_tree.specs.TagName.{free_of}
-use Rattle.game_codec.specs.TagSpelling.{BeginsTags}
+use Rattle.game_codec.specs.TagReading.{BeginsTags}
 use Rattle.game_codec.specs.Start.{BeginsStart}
 use Rattle.game_codec.specs.Texts.{AreTexts, BreaksTexts}
 use Rattle.game_codec.specs.Fault.{BreaksInTags, BreaksInStart}

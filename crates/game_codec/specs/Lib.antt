@@ -2,10 +2,12 @@ pub mod TagSpelling
 pub mod TagReading
 pub mod TagParts
 pub mod Start
+pub mod Steps
 pub mod Token
 pub mod Place
 pub mod Moves
 pub mod Texts
+pub mod RecordAnswer
 pub mod Record
 pub mod Fault
 pub mod Written

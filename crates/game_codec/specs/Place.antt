@@ -2,12 +2,13 @@
 -- marks. 11 is a NAG of the last move and has one more byte, 12 a comment of the last move or of the line's
 -- beginning, 13 begins a variation of the last move, 14 ends it, and 15 ends the game. The marks after a move stand in any
 -- order; those behind a variation still belong to the move that it hangs on.
-use Rattle.std.specs.Prelude.{◌≡◌, ℕ, zero, suc, ◌+◌, ◌<◌, ◌≤◌, ◌⊎◌, Bool, true, false, IsTrue, List, [], ◌∷◌, Ok, Err, drop}
+use Rattle.std.specs.Prelude.{◌≡◌, ℕ, zero, suc, ◌+◌, ◌<◌, ◌≤◌, ◌==◌, ◌⊎◌, Bool, true, false, not, nat_lt, if◌then◌else◌, IsTrue, List, [], ◌∷◌, Result, Ok, Err, drop}
 use Rattle.cell_core.specs.declared.step.Move.{Move}
 use Rattle.chess_laws.specs.Step.{stepped}
 use Rattle.game_tree.specs.Legal.{deepest}
 use Rattle.move_codec.specs.Numbers.{Numbered, numbers_after}
 use Rattle.move_codec.specs.Packed.{decoded, is_mark}
+use Rattle.game_codec.specs.Steps.{◌>>=◌, blamed}
 use Rattle.game_codec.specs.Token.{Token, Play, Nag, Comment, Open, Close, End}
 use Rattle.game_codec.specs.declared.fault.RecordWhat.{RecordWhat}
 use Rattle.game_codec.specs.declared.fault.RecordWhat.TheVariants as what
@@ -39,6 +40,25 @@ after_comment p = record { depth = p.depth; before = p.before; here = p.here; ha
 
 abbrev pub variation_of : Place → Place
 variation_of p = beginning (p.depth + 1) p.before
+
+-- A NAG behind its mark.
+abbrev pub nag_at : List ℕ → Result (Token × List ℕ) RecordWhat
+nag_at [] = Err what.Short
+nag_at (n ∷ later) = Ok (Nag n, later)
+
+-- The item at a place and the bytes behind it, or what is wrong: a move, or a mark. A NAG and a variation stand behind a move, one comment at a
+-- place, and the end of the game in the main line alone.
+unfoldable pub token_at : Place → List ℕ → Result (Token × List ℕ) RecordWhat
+token_at p [] = Err what.Short
+token_at p (byte ∷ later) =
+    if not (is_mark byte) then (blamed what.Move (decoded p.here (byte ∷ later)) >>= λ d. Ok (Play d.0, drop d.1 (byte ∷ later)))
+    else if byte == 12 then if p.has_comment then Err what.TwoComments else Ok (Comment, later)
+    else if byte == 14 then if p.depth == 0 then Err what.Mark else Ok (Close, later)
+    else if byte == 15 then if p.depth == 0 then Ok (End, later) else Err what.Mark
+    else if not p.has_move then Err what.Mark
+    else if byte == 11 then nag_at later
+    else if nat_lt p.depth deepest then Ok (Open, later)
+    else Err what.Depth
 
 -- The first byte is no mark, so that a move is due.
 abbrev pub IsMoveDue : List ℕ → Type 0

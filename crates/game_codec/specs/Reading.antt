@@ -11,7 +11,7 @@ use Rattle.game_codec.specs.Fault.{Breaks}
 use Rattle.game_codec.specs.Place.{Place, Takes, beginning}
 use Rattle.game_codec.specs.Record.{IsRecord}
 use Rattle.game_codec.specs.Start.{BeginsStart}
-use Rattle.game_codec.specs.TagSpelling.{BeginsTags}
+use Rattle.game_codec.specs.TagReading.{BeginsTags}
 use Rattle.game_codec.specs.Tallying.{HasTallied, no_tally, size_of}
 use Rattle.game_codec.specs.Token.{End}
 use Rattle.game_codec.specs.Totals.{AreTotals}

@@ -1,24 +1,28 @@
 -- Which bytes are a record, and what they say (this project's own, after Scid's format): extra tags and a zero byte, the
 -- start, the moves, and the texts of the comments in the order of their marks.
-use Rattle.std.specs.Prelude.{◌≡◌, ℕ, List}
+use Rattle.std.specs.Prelude.{◌≡◌, ℕ, List, Ok}
 use Rattle.game_tree.specs.Game.{GameTree}
-use Rattle.game_tree.specs.Movetext.{Movetext, Said, meaning}
+use Rattle.game_tree.specs.Movetext.{Movetext, meaning}
 use Rattle.game_tree.specs.declared.head.Tag.{Tag}
-use Rattle.chess_laws.specs.declared.setup.Setup.{Setup}
 use Rattle.move_codec.specs.Numbers.{Numbered}
 use Rattle.game_tree.specs.TagName.{free_of}
-use Rattle.game_codec.specs.TagSpelling.{BeginsTags}
+use Rattle.game_codec.specs.RecordAnswer.{game_of, record_answer}
+use Rattle.game_codec.specs.TagReading.{BeginsTags}
 use Rattle.game_codec.specs.Start.{BeginsStart}
 use Rattle.game_codec.specs.Place.{beginning}
 use Rattle.game_codec.specs.Moves.{SpellsMoves}
 use Rattle.game_codec.specs.Texts.{AreTexts, texts_of}
 
--- The game that begins at this position and of which this is said.
-abbrev pub game_of : Setup → Said → GameTree
-game_of start said = record { start = start; lead = said.comment; line = said.line }
-
 -- The bytes are a record of this game and these extra tags.
 pub record IsRecord (bytes : List ℕ) (tags : List Tag) (game : GameTree) : Type 0 where
+  pub answer : record_answer bytes ≡ Ok (tags, game)
+
+-- The bytes are a record.
+abbrev pub IsSomeRecord : List ℕ → Type 0
+IsSomeRecord bytes = (tags : List Tag) × ((game : GameTree) × IsRecord bytes tags game)
+
+-- The same in words: the parts stand one behind the other.
+pub record IsSpelled (bytes : List ℕ) (tags : List Tag) (game : GameTree) : Type 0 where
   pub all_tags : List Tag
   pub start : Numbered
   pub movetext : Movetext
@@ -31,7 +35,3 @@ pub record IsRecord (bytes : List ℕ) (tags : List Tag) (game : GameTree) : Typ
   pub then_texts : AreTexts behind_moves (texts_of movetext)
   pub tags_are : tags ≡ free_of all_tags
   pub game_is : game ≡ game_of start.position (meaning movetext)
-
--- The bytes are a record.
-abbrev pub IsSomeRecord : List ℕ → Type 0
-IsSomeRecord bytes = (tags : List Tag) × ((game : GameTree) × IsRecord bytes tags game)

@@ -3,6 +3,7 @@
 use Rattle.std.specs.Prelude.{◌≡◌, ℕ, ◌%◌, ◌⊎◌, List, [], ◌∷◌, ◌++◌, Ok, Err}
 use Rattle.cell_core.specs.Text.{IsZeroFree}
 use Rattle.chess_laws.specs.Position.{start_setup}
+use Rattle.chess_laws.specs.declared.setup.Setup.{Setup}
 use Rattle.chess_text.specs.FenAnswer.{fen_answer}
 use Rattle.chess_text.specs.declared.fault.FenFault.{FenFault}
 use Rattle.move_codec.specs.Numbers.{Numbered, standard_numbers, text_numbers}
@@ -12,6 +13,10 @@ use Rattle.game_codec.specs.declared.fault.RecordWhat.TheVariants as what
 -- The initial position with the numbers of the standard start (FIDE Laws, Article 2.3).
 abbrev pub standard_start : Numbered
 standard_start = record { position = start_setup; numbers = standard_numbers }
+
+-- A start of its own with the numbers that its men have in the record.
+abbrev pub own_start : Setup → Numbered
+own_start p = record { position = p; numbers = text_numbers p.board }
 
 -- The bytes begin with flags that say the standard start.
 pub record IsStandardStart (bytes : List ℕ) (start : Numbered) (rest : List ℕ) : Type 0 where

@@ -3,7 +3,7 @@ use Rattle.std.specs.Prelude.{◌≡◌, ℕ, ◌<◌, ◌≤◌, List, Option, 
 use Rattle.game_tree.specs.Settle.{near_date}
 use Rattle.game_tree.specs.declared.date.Date.{Date}
 use Rattle.game_tree.specs.declared.head.Tag.{Tag}
-use Rattle.game_codec.specs.TagSpelling.{BeginsTag}
+use Rattle.game_codec.specs.TagReading.{BeginsTag}
 
 -- The bytes begin with a tag of so many bytes, which gives this date within the rule.
 pub record IsTagDate (game : Date) (bytes : List ℕ) (date : Option Date) (used : ℕ) : Type 0 where

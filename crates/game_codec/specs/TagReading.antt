@@ -5,7 +5,7 @@ use Rattle.std.specs.List.{list_all}
 use Rattle.game_tree.specs.Date.{date_of, date_text}
 use Rattle.game_tree.specs.TagName.{is_tag_byte}
 use Rattle.game_tree.specs.declared.head.Tag.{Tag}
-use Rattle.game_codec.specs.TagSpelling.{coded_names, BeginsTag}
+use Rattle.game_codec.specs.TagSpelling.{coded_names}
 use Rattle.game_codec.specs.declared.fault.RecordWhat.{RecordWhat}
 use Rattle.game_codec.specs.declared.fault.RecordWhat.TheVariants.{TagCode, TagName, TagValue, Short}
 
@@ -58,7 +58,16 @@ tag_at (code ∷ bytes) =
     else if nat_le code 254 then Err TagCode
     else date_at bytes
 
--- The bytes begin with spellings of these tags, and what follows from there on is no tag but has this fault.
+-- The bytes begin with the tag, and these bytes follow it.
+abbrev pub BeginsTag : List ℕ → Tag → List ℕ → Type 0
+BeginsTag bytes tag later = tag_at bytes ≡ Ok (Some (tag, later))
+
+-- The bytes begin with the tags in their order and the zero byte behind them, and these bytes follow.
+abbrev pub BeginsTags : List ℕ → List Tag → List ℕ → Type 0
+BeginsTags bytes [] rest = bytes ≡ 0 ∷ rest
+BeginsTags bytes (tag ∷ tags) rest = (later : List ℕ) × BeginsTag bytes tag later × BeginsTags later tags rest
+
+-- The bytes begin with these tags, and what follows from there on is no tag but has this fault.
 abbrev pub BreaksTags : List ℕ → List Tag → List ℕ → RecordWhat → Type 0
 BreaksTags bytes [] rest what = (rest ≡ bytes) × (tag_at bytes ≡ Err what)
 BreaksTags bytes (tag ∷ tags) rest what = (later : List ℕ) × BeginsTag bytes tag later × BreaksTags later tags rest what

@@ -39,11 +39,6 @@ pub record IsDated (bytes : List ℕ) (tag : Tag) : Type 0 where
   pub spelled : bytes ≡ 255 ∷ date_number date / 65536 ∷ date_number date / 256 % 256 ∷ date_number date % 256 ∷ []
 
 -- The bytes begin with a spelling of the tag, and these bytes follow it.
-abbrev pub BeginsTag : List ℕ → Tag → List ℕ → Type 0
-BeginsTag bytes tag later =
+abbrev pub SpellsTag : List ℕ → Tag → List ℕ → Type 0
+SpellsTag bytes tag later =
     (spelled : List ℕ) × (IsSpelledOut spelled tag ⊎ (IsCoded spelled tag ⊎ IsDated spelled tag)) × (bytes ≡ spelled ++ later)
-
--- The bytes begin with spellings of the tags in their order and the zero byte behind them, and these bytes follow.
-abbrev pub BeginsTags : List ℕ → List Tag → List ℕ → Type 0
-BeginsTags bytes [] rest = bytes ≡ 0 ∷ rest
-BeginsTags bytes (tag ∷ tags) rest = (later : List ℕ) × BeginsTag bytes tag later × BeginsTags later tags rest

@@ -3,7 +3,7 @@ use Rattle.std.specs.Prelude.{◌≡◌, ◌≤◌, ◌⊎◌, ℕ, List, [], �
 use Rattle.chess_laws.specs.declared.setup.Setup.{Setup}
 use Rattle.move_codec.specs.Numbers.{Numbered}
 use Rattle.move_codec.specs.Packed.{Decodes}
-use Rattle.game_codec.specs.Fault.{place_of}
+use Rattle.game_codec.specs.RecordAnswer.{place_of}
 use Rattle.game_codec.specs.declared.fault.RecordFault.{RecordFault}
 use Rattle.game_codec.specs.declared.fault.RecordWhat.{RecordWhat}
 use Rattle.game_codec.specs.declared.fault.RecordWhat.TheVariants as what

@@ -9,10 +9,10 @@ use Rattle.game_tree.specs.Movetext.{Movetext, end, move, nag, comment, variatio
 use Rattle.game_tree.specs.Promotions.{has_promotion, has_underpromotion}
 use Rattle.game_tree.specs.Written.{movetext_of_game}
 use Rattle.game_tree.specs.declared.head.Tag.{Tag}
-use Rattle.move_codec.specs.Numbers.{Numbered, text_numbers}
+use Rattle.move_codec.specs.Numbers.{Numbered}
 use Rattle.move_codec.specs.Packed.{encoding}
 use Rattle.game_codec.specs.TagSpelling.{counted}
-use Rattle.game_codec.specs.Start.{standard_start}
+use Rattle.game_codec.specs.Start.{own_start, standard_start}
 use Rattle.game_codec.specs.Place.{numbered_after}
 use Rattle.game_codec.specs.Texts.{texts_of, ended}
 use Rattle.game_codec.specs.declared.fault.EncodeError.{EncodeError}
@@ -38,10 +38,6 @@ moves_text before here (variation inner s) = 13 ∷ moves_text before before inn
 -- The moves from a start, the end of the game, and the texts of the comments.
 abbrev pub body_text : Numbered → Movetext → List ℕ
 body_text start s = moves_text start start s ++ 15 ∷ ended (texts_of s)
-
--- A start of its own with the numbers that its men have in the record.
-abbrev pub own_start : Setup → Numbered
-own_start p = record { position = p; numbers = text_numbers p.board }
 
 -- The start with the numbers of its men, by whether it is the initial position.
 abbrev pub numbered_start : Bool → Setup → Numbered

@@ -6,7 +6,7 @@ ghost use Rattle.game_tree.specs.Settle.{first_near_date, near_date};
 ghost use Rattle.game_tree.specs.declared.head.Tag.{Tag as TagValue};
 ghost use Rattle.game_codec.specs.Record.{IsRecord};
 ghost use Rattle.game_codec.specs.TagDates.{IsTagDate};
-ghost use Rattle.game_codec.specs.TagSpelling.{BeginsTags};
+ghost use Rattle.game_codec.specs.TagReading.{BeginsTags};
 
 use super::tags::{Parts, next_parts};
 use game_tree::Date;

@@ -6,8 +6,8 @@ ghost use Rattle.cell_core.specs.Text.{IsZeroFree};
 ghost use Rattle.game_tree.specs.TagName.{free_of, is_tag_byte};
 ghost use Rattle.game_tree.specs.declared.head.Tag.{Tag as TagValue};
 ghost use Rattle.game_codec.specs.Breach.{Tells};
-ghost use Rattle.game_codec.specs.TagSpelling.{BeginsTag, BeginsTags, coded_names};
-ghost use Rattle.game_codec.specs.TagReading.{BreaksTags, part_at, value_at, with_name, with_value, date_at, tag_at, is_value_byte};
+ghost use Rattle.game_codec.specs.TagSpelling.{coded_names};
+ghost use Rattle.game_codec.specs.TagReading.{BreaksTags, part_at, value_at, with_name, with_value, date_at, tag_at, is_value_byte, BeginsTag, BeginsTags};
 ghost use Rattle.game_codec.specs.TagParts.{IsNext, IsParts, tag_of};
 ghost use Rattle.game_codec.specs.declared.fault.RecordWhat.TheVariants as fault;
 

@@ -6,10 +6,11 @@ ghost use Rattle.game_tree.specs.Game.{GameTree};
 ghost use Rattle.game_tree.specs.Replay.{next_at, plies_of, position_at};
 ghost use Rattle.game_tree.specs.declared.head.Tag.{Tag as TagValue};
 ghost use Rattle.game_codec.specs.Breach.{Tells};
-ghost use Rattle.game_codec.specs.Fault.{Breaks, IsRecordFault, place_of};
-ghost use Rattle.game_codec.specs.Record.{IsRecord, IsSomeRecord};
+ghost use Rattle.game_codec.specs.Fault.{Breaks, IsRecordFault};
+ghost use Rattle.game_codec.specs.RecordAnswer.{place_of};
+ghost use Rattle.game_codec.specs.Record.{IsRecord, IsSomeRecord, IsSpelled};
 ghost use Rattle.game_codec.specs.Start.{BeginsStart};
-ghost use Rattle.game_codec.specs.TagSpelling.{BeginsTags};
+ghost use Rattle.game_codec.specs.TagReading.{BeginsTags};
 ghost use Rattle.game_codec.specs.Walk.{IsMet};
 ghost use Rattle.game_codec.specs.Walking.{GoesOn, IsBehind, MetIn};
 
@@ -116,7 +117,7 @@ impl<'a> Walk<'a> {
 // The start of a record, and how many bytes stand before its moves.
 pub(crate) fn begin(bytes: &[u8]) -> Result<StartRead, Breach>
     ensures begun { IfOk result (λ read. (tags : List TagValue) (game : GameTree) → IsRecord bytes.now tags game → IsBehind game read.start 0 (drop read.used bytes.now)) }
-    ensures starts { IfOk result (λ read. (tags : List TagValue) (game : GameTree) (r : IsRecord bytes.now tags game) → (r.start ≡ read.start) × (r.behind_start ≡ drop read.used bytes.now)) }
+    ensures starts { IfOk result (λ read. (tags : List TagValue) (game : GameTree) (r : IsSpelled bytes.now tags game) → (r.start ≡ read.start) × (r.behind_start ≡ drop read.used bytes.now)) }
     ensures used { IfOk result (λ read. read.used ≤ length bytes.now) }
     ensures spelled { IfOk result (λ read. (tags : List TagValue) × ((behind : List ℕ) × (BeginsTags bytes.now tags behind × BeginsStart behind read.start (drop read.used bytes.now)))) }
     ensures fault { IfErr result (λ _. IsSomeRecord bytes.now → ⊥) }

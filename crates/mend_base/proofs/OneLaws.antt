@@ -1,7 +1,7 @@
 -- A game has one place.
 use Rattle.std.proofs.Common.{◌≡◌, ◌≤◌, ◌<◌, ◌+◌, ◌*◌, ℕ, false, List, Option, Ok, Err, sym, ap, ◌∙◌, subst, inl, inr, arith, true≢false}
 use Rattle.base_files.specs.Extents.{record_in}
-use Rattle.game_codec.proofs.DecodeLaws.{record-unbroken}
+use Rattle.game_codec.proofs.RecordAnswerLaws.{record-unbroken}
 use Rattle.index_entry.specs.Index.{entry_bytes}
 use Rattle.index_entry.specs.declared.entry.Entry.{Entry}
 use Rattle.name_base.specs.NameLists.{NameLists}

@@ -12,7 +12,7 @@ use Rattle.base_core.specs.Represents.{Kept, Represents, extents_of, sigs_of}
 use Rattle.base_files.specs.Extents.{record_in}
 use Rattle.base_files.specs.Seen.{Seen}
 use Rattle.base_files.specs.declared.extent.Extent.{Extent}
-use Rattle.game_codec.proofs.DecodeLaws.{record-one}
+use Rattle.game_codec.proofs.RecordAnswerLaws.{record-one}
 use Rattle.game_codec.specs.Record.{IsRecord}
 use Rattle.game_tree.specs.Game.{GameTree}
 use Rattle.pos_index.specs.Hits.{Index, IndexesAll}

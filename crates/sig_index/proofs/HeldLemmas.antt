@@ -3,7 +3,7 @@ use Rattle.std.proofs.Common.{◌≡◌, ℕ, suc, zero, List, [], ◌∷◌, le
 use Rattle.std.specs.Prelude.{slice_get}
 use Rattle.base_files.specs.declared.extent.Extent.{Extent}
 use Rattle.game_codec.specs.Record.{IsRecord}
-use Rattle.game_codec.proofs.DecodeLaws.{record-one}
+use Rattle.game_codec.proofs.RecordAnswerLaws.{record-one}
 use Rattle.game_tree.specs.Game.{GameTree}
 use Rattle.game_tree.specs.declared.head.Tag.{Tag}
 use Rattle.sig_index.specs.Games.{HasChanged, Holds, Shows, extent_in}

@@ -1,7 +1,7 @@
 use Rattle.std.proofs.Common.{refl, sym, subst, ap, ◌∙◌, ◌≡◌, is_some}
 use Rattle.sig_index.specs.Signature.{IsSig}
 use Rattle.sig_index.specs.declared.signature.Sig.{Sig}
-use Rattle.game_codec.proofs.DecodeLaws.{record-unbroken}
+use Rattle.game_codec.proofs.RecordAnswerLaws.{record-unbroken}
 use Rattle.base_core.proofs.SigLaws.{other-sig, none-differs}
 use Rattle.base_core.proofs.game.check_unchanged.Goals as goal
 

@@ -5,7 +5,7 @@ use Rattle.game_codec.specs.Fault.{Breaks}
 use Rattle.game_codec.specs.Moves.{BreaksMoves, Upto}
 use Rattle.game_codec.specs.Place.{Place}
 use Rattle.game_codec.specs.Start.{BeginsStart}
-use Rattle.game_codec.specs.TagSpelling.{BeginsTags}
+use Rattle.game_codec.specs.TagReading.{BeginsTags}
 use Rattle.game_codec.proofs.CheckLaws.{line_is, moves_broken, some_record, start_broken, texts_broken}
 use Rattle.game_codec.proofs.checking.check.Goals as goal
 

@@ -1,6 +1,6 @@
 use Rattle.std.proofs.Common.{ap, inl}
 use Rattle.game_codec.specs.declared.fault.DecodeError.TheVariants.{Bad}
-use Rattle.game_codec.proofs.DecodeLaws.{fault-one, record-unbroken}
+use Rattle.game_codec.proofs.RecordAnswerLaws.{fault-one, record-unbroken}
 use Rattle.game_codec.proofs.decoding.why_unread.Goals as goal
 
 pub returns-in-Some-clause-only : goal.returns-in-Some-clause-only

@@ -2,7 +2,7 @@ use Rattle.std.proofs.Common.{ℕ, List, drop, rules, sym, subst}
 use Rattle.std.proofs.lemmas.List.{drop-drop}
 use Rattle.game_codec.specs.Breach.{Tells}
 use Rattle.game_codec.specs.Fault.{Breaks}
-use Rattle.game_codec.specs.TagSpelling.{BeginsTags}
+use Rattle.game_codec.specs.TagReading.{BeginsTags}
 use Rattle.game_codec.proofs.CheckLaws.{start_broken, tags_broken}
 use Rattle.game_codec.specs.Start.{BeginsStart, BreaksStart}
 use Rattle.game_codec.proofs.PassLaws.{if_err}

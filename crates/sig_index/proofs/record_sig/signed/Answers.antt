@@ -3,7 +3,7 @@ use Rattle.std.proofs.Common.{◌≤◌, ℕ, List, ap, ◌∙◌, refl, sym, su
 use Rattle.std.specs.Prelude.{min}
 use Rattle.game_codec.specs.Fault.{IsRecordFault}
 use Rattle.game_codec.specs.Record.{IsRecord}
-use Rattle.game_codec.proofs.DecodeLaws.{record-one, record-unbroken}
+use Rattle.game_codec.proofs.RecordAnswerLaws.{record-one, record-unbroken}
 use Rattle.game_tree.specs.Replay.{plies_of, position_at}
 use Rattle.sig_index.proofs.SigLemmas.{own_is}
 use Rattle.sig_index.proofs.SignedLemmas.{sig-bounded, sig-is}
