@@ -7,6 +7,7 @@ use Rattle.cell_core.specs.Text.{IsZeroFree}
 use Rattle.cell_core.specs.declared.step.Move.{Move}
 use Rattle.chess_laws.specs.declared.setup.Setup.{Setup}
 use Rattle.chess_text.specs.FenAnswer.{fen_answer}
+use Rattle.chess_text.specs.FieldReading.{◌>>=◌}
 use Rattle.chess_text.specs.declared.fault.FenFault.{FenFault}
 use Rattle.game_tree.specs.Game.{GameTree}
 use Rattle.game_tree.specs.Movetext.{Movetext, end, move, nag, comment, variation}
@@ -21,7 +22,7 @@ use Rattle.game_codec.specs.Place.{Place, Takes, FaultAt, after_comment, after_m
 use Rattle.game_codec.specs.Record.{IsRecord, IsSpelled}
 use Rattle.game_codec.specs.RecordAnswer.{Broken, game_at, moves_at, place_of, record_answer, start_at, tags_at, text_at, texts_at, with_texts}
 use Rattle.game_codec.specs.Start.{BeginsStart, BreaksStart}
-use Rattle.game_codec.specs.Steps.{◌>>=◌, blamed}
+use Rattle.game_codec.specs.Steps.{blamed}
 use Rattle.game_codec.specs.TagReading.{BeginsTags, BreaksTags, tag_at}
 use Rattle.game_codec.specs.Texts.{AreTexts, BreaksTexts, TextFault, ended, texts_of}
 use Rattle.game_codec.specs.Token.{Token, Play, Nag, Comment, Open, Close, End}

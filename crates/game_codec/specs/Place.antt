@@ -5,10 +5,11 @@
 use Rattle.std.specs.Prelude.{◌≡◌, ℕ, zero, suc, ◌+◌, ◌<◌, ◌≤◌, ◌==◌, ◌⊎◌, Bool, true, false, not, nat_lt, if◌then◌else◌, IsTrue, List, [], ◌∷◌, Result, Ok, Err, drop}
 use Rattle.cell_core.specs.declared.step.Move.{Move}
 use Rattle.chess_laws.specs.Step.{stepped}
+use Rattle.chess_text.specs.FieldReading.{◌>>=◌}
 use Rattle.game_tree.specs.Legal.{deepest}
 use Rattle.move_codec.specs.Numbers.{Numbered, numbers_after}
 use Rattle.move_codec.specs.Packed.{decoded, is_mark}
-use Rattle.game_codec.specs.Steps.{◌>>=◌, blamed}
+use Rattle.game_codec.specs.Steps.{blamed}
 use Rattle.game_codec.specs.Token.{Token, Play, Nag, Comment, Open, Close, End}
 use Rattle.game_codec.specs.declared.fault.RecordWhat.{RecordWhat}
 use Rattle.game_codec.specs.declared.fault.RecordWhat.TheVariants as what

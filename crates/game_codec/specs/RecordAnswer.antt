@@ -3,6 +3,7 @@
 use Rattle.std.specs.Prelude.{ℕ, zero, suc, ◌-◌, ◌%◌, ◌==◌, if◌then◌else◌, List, [], ◌∷◌, Some, None, Result, Ok, Err, length, drop, slice_index_or}
 use Rattle.chess_laws.specs.declared.setup.Setup.{Setup}
 use Rattle.chess_text.specs.FenAnswer.{fen_answer}
+use Rattle.chess_text.specs.FieldReading.{◌>>=◌}
 use Rattle.game_tree.specs.Game.{GameTree}
 use Rattle.game_tree.specs.Movetext.{Movetext, end, move, nag, comment, variation, Said, meaning}
 use Rattle.game_tree.specs.TagName.{free_of}
@@ -11,7 +12,7 @@ use Rattle.move_codec.specs.Numbers.{Numbered}
 use Rattle.move_codec.specs.declared.fault.MoveFault.TheVariants as of_move
 use Rattle.game_codec.specs.Place.{Place, beginning, after_move, after_comment, variation_of, token_at}
 use Rattle.game_codec.specs.Start.{own_start, standard_start}
-use Rattle.game_codec.specs.Steps.{◌>>=◌, blamed}
+use Rattle.game_codec.specs.Steps.{blamed}
 use Rattle.game_codec.specs.TagReading.{tag_at}
 use Rattle.game_codec.specs.Texts.{texts_of}
 use Rattle.game_codec.specs.Token.{Play, Nag, Comment, Open, Close, End}

@@ -1,11 +1,5 @@
--- Steps of a reading one after the other, of which the first fault counts.
+-- The faults of a reading.
 use Rattle.std.specs.Prelude.{Result, Ok, Err}
-
-infixl 10 ◌>>=◌
--- The second step, unless the first has a fault.
-abbrev pub ◌>>=◌ : {A B E : Type 0} → Result A E → (A → Result B E) → Result B E
-(Ok x) >>= f = f x
-(Err e) >>= f = Err e
 
 -- What was read, or the fault told in another way.
 abbrev pub blamed : {A E F : Type 0} → (E → F) → Result A E → Result A F
