@@ -7,6 +7,7 @@ pub mod HitKeys
 mod Dropping
 pub mod OneRow
 mod Totals
+mod TextLaws
 mod SameBoard
 mod NeededLaws
 mod SharedSigns

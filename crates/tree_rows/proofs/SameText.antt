@@ -1,6 +1,6 @@
 -- Rows that are the same for each key have the same text, in whatever order they stand.
 use Rattle.std.proofs.Common.{◌≡◌, ℕ, ◌<◌, ◌==◌, ◌&&◌, ◌||◌, not, nat_lt, Bool, true, false, cond, List, [], ◌∷◌, ◌++◌, Option, Some, None, Ordering, codes, refl, sym, ap, ◌∙◌, subst, arith}
-use Rattle.std.specs.List.{AllByRecursion, fold, sum_by}
+use Rattle.std.specs.List.{AllByRecursion, flat_map, fold, sum_by}
 use Rattle.std.specs.declared.cmp.Ordering.TheVariants.{Less, Equal, Greater}
 use Rattle.std.specs.Ordering.{is_eq, is_lt}
 use Rattle.std.proofs.lemmas.Bool.{and_parts, eqb-true, false≢true, ltb-false, ltb-true, lt-ltb}
@@ -12,7 +12,7 @@ use Rattle.tree_rows.specs.declared.hit.GameHit.{GameHit}
 use Rattle.tree_rows.specs.declared.row.Row.{Row}
 use Rattle.tree_rows.specs.Keys.{key_cmp, same_key}
 use Rattle.tree_rows.specs.Rows.{KeysDiffer, row_at, rows_of}
-use Rattle.tree_rows.specs.TreeText.{in_order, line_of, row_before, row_lines, total_of, tree_text, with_row}
+use Rattle.tree_rows.specs.TreeText.{in_order, line_of, row_before, row_line, total_of, tree_text, with_row}
 use Rattle.tree_rows.proofs.KeyLaws.{is-less, key_total, one-key, told-apart}
 use Rattle.tree_rows.proofs.OneRow.{keys-differ}
 
@@ -286,4 +286,4 @@ pub same-text : (men : Men) (side : Colour) (rows : List Row) (hits : List GameH
 unfolding tree_text in_order
 same-text men side rows hits differ same =
     let is = shuffled rows (rows_of hits) differ (keys-differ hits) same in
-    λ i. row_lines men side (order-shuffled rows (rows_of hits) [] is i) ++ line_of (codes "total") (total-shuffled rows (rows_of hits) is i)
+    λ i. flat_map (row_line men side) (order-shuffled rows (rows_of hits) [] is i) ++ line_of (codes "total") (total-shuffled rows (rows_of hits) is i)

@@ -1,5 +1,6 @@
 -- The text of a move in a tree (this project's own, over PGN standard, 8.2.3).
 use Rattle.std.specs.Prelude.{◌≡◌, ℕ, List, Option, Some, None, codes}
+use Rattle.std.specs.Option.{option_map_or}
 use Rattle.cell_core.specs.declared.man.Colour.{Colour}
 use Rattle.cell_core.specs.declared.man.Colour.TheVariants.{White, Black}
 use Rattle.cell_core.specs.declared.step.Move.{Move}
@@ -36,8 +37,7 @@ needed men side m =
 
 -- The text of a row's key: the move in Standard Algebraic Notation in that position.
 abbrev pub key_text : Men → Colour → Option Move → List ℕ
-key_text men side (Some m) = san_text (needed men side m) m
-key_text men side None = codes "end"
+key_text men side key = option_map_or (λ m. san_text (needed men side m) m) key (codes "end")
 
 -- The move is legal from some position of this board and side to move.
 pub record IsFrom (men : Men) (side : Colour) (m : Move) : Type 0 where

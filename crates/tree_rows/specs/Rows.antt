@@ -5,6 +5,7 @@ use Rattle.std.specs.Ordering.{match_ordering}
 use Rattle.cell_core.specs.declared.step.Move.{Move}
 use Rattle.game_tree.specs.declared.head.Outcome.{Outcome}
 use Rattle.game_tree.specs.declared.head.Outcome.TheVariants.{Unknown, White, Black, Draw}
+use Rattle.game_tree.specs.Outcome.{outcome_number}
 use Rattle.tree_rows.specs.declared.hit.GameHit.{GameHit}
 use Rattle.tree_rows.specs.declared.row.Row.{Row}
 use Rattle.tree_rows.specs.Keys.{key_cmp, same_key}
@@ -15,11 +16,7 @@ sum_at key number hits = sum_by (λ hit. if same_key key hit.next then number hi
 
 -- 1 where a game ended so, and 0 elsewhere.
 abbrev pub ended : Outcome → Outcome → ℕ
-ended White White = 1
-ended Draw Draw = 1
-ended Black Black = 1
-ended Unknown Unknown = 1
-ended outcome result = 0
+ended outcome result = if outcome_number outcome == outcome_number result then 1 else 0
 
 -- 1 for a rating or a year that is known, and 0 for 0.
 abbrev pub known : ℕ → ℕ

@@ -1,8 +1,8 @@
 //! The text of a tree.
-ghost use Rattle.std.specs.Prelude.{◌≡◌, ◌++◌, All, OnOk, OnErr, replicate};
+ghost use Rattle.std.specs.Prelude.{◌≡◌, ◌++◌, All, OnOk, OnErr, flat_map, replicate};
 ghost use Rattle.std.specs.Fmt.{decimal};
 ghost use Rattle.tree_rows.specs.MoveText.{IsKey};
-ghost use Rattle.tree_rows.specs.TreeText.{averages_text, counts_text, left_in, line_of, quotient, right_in, row_line, row_lines, tree_text};
+ghost use Rattle.tree_rows.specs.TreeText.{averages_text, counts_text, line_of, quotient, right_in, row_line, tree_text};
 ghost use Rattle.tree_rows.specs.Keeping.{AreSmall};
 
 use crate::move_text::move_text;
@@ -45,7 +45,7 @@ fn push_rows(
     side: Colour,
 ) -> Result<(), AllocError>
     requires keys { All (λ row. IsKey board.now side row.key) rows.now }
-    ensures lines { OnOk result (into.new.items ≡ into.old.items ++ row_lines board.now side rows.now) }
+    ensures lines { OnOk result (into.new.items ≡ into.old.items ++ flat_map (row_line board.now side) rows.now) }
 {
     for row in rows {
         push_row(into, row, board, side)?;
@@ -80,7 +80,7 @@ fn push_line(into: &mut Vec<u8>, name: &[u8], numbers: &Numbers) -> Result<(), A
 }
 
 // Adds how many games there are, and how many with each result.
-#[tactic(auto, using(std::proofs::Common::append_assoc), unfolding(crate::specs::TreeText::counts_text))]
+#[tactic(auto, using(crate::proofs::TextLaws::text_rules), unfolding(crate::specs::TreeText::counts_text))]
 fn push_counts(into: &mut Vec<u8>, numbers: &Numbers) -> Result<(), AllocError>
     ensures counts { OnOk result (into.new.items ≡ into.old.items ++ counts_text numbers.now) }
 {
