@@ -3,6 +3,7 @@ use Rattle.std.proofs.Common.{◌≡◌, ℕ, zero, suc, inl, inr, ◌+◌, ◌-
 use Rattle.std.proofs.lemmas.Bool.{cases_lt, cond_both, le-ltb, lt-ltb}
 use Rattle.std.proofs.lemmas.List.Elements.{All-nil}
 use Rattle.std.proofs.lemmas.Option.{slice_get_within, slice_get_past, slice_get_read, get_or_from_slice_get}
+use Rattle.std.specs.Option.{option_map_or}
 use Rattle.cell_core.specs.declared.step.Move.{Move}
 use Rattle.chess_laws.specs.declared.setup.Setup.{Setup}
 use Rattle.chess_laws.specs.Moves.{HasMoreMoves, ListsMoves}
@@ -17,31 +18,35 @@ use Rattle.game_tree.specs.Kept.{IsGame, IsLine}
 use Rattle.game_tree.specs.Legal.{IsLegalGame, IsLegalLine}
 use Rattle.game_tree.specs.Replay.{plies_of}
 use Rattle.game_tree.specs.Tree.{Played, depth_of, line_of, moves_of}
-use Rattle.demo_games.specs.Demo.{after_draws, demo_game, demo_head, drawn, game_of, goes_on, line_drawn, most_moves, moves_drawn, next_number, picked, result_of}
+use Rattle.demo_games.specs.Demo.{after_draws, demo_game, demo_head, drawn, line_drawn, moves_drawn, next_number, picked, result_of}
 use Rattle.demo_games.specs.Moves.{legal_moves}
 use Rattle.demo_games.proofs.LegalList.{contains-is, lists-moves, more-moves}
 
+-- The game of these moves from the initial position.
+unfoldable pub game_of : List Move → GameTree
+game_of moves = record { start = start_setup; lead = None; line = line_of (map bare moves) }
+
 -- ---- one draw
 
-picked-from : (draw : ℕ) (ms : List Move) → length ms ≤ most_moves → picked draw ms ≡ slice_get ms (draw % length ms)
+picked-from : (draw : ℕ) (ms : List Move) → length ms ≤ 256 → picked draw ms ≡ slice_get ms (draw % length ms)
 unfolding picked
 picked-from draw ms few =
-    let test : nat_lt most_moves (length ms) ≡ false = le-ltb most_moves (length ms) few in
+    let test : nat_lt 256 (length ms) ≡ false = le-ltb 256 (length ms) few in
     rw test refl
 
 -- of the moves that are listed
-pub picks-listed : (draw : ℕ) (p : Setup) (ms : List Move) → Sound p → ListsMoves p ms → (HasMoreMoves p most_moves → ⊥) → picked draw (legal_moves p) ≡ slice_get ms (draw % length ms)
+pub picks-listed : (draw : ℕ) (p : Setup) (ms : List Move) → Sound p → ListsMoves p ms → (HasMoreMoves p 256 → ⊥) → picked draw (legal_moves p) ≡ slice_get ms (draw % length ms)
 picks-listed draw p ms sound lists room =
     ap (picked draw) (sym (lists-moves p ms sound lists))
-    ∙ picked-from draw ms (elim (cases_lt most_moves (length ms)) [
+    ∙ picked-from draw ms (elim (cases_lt 256 (length ms)) [
       | inl many ↦ absurd (room (record { moves = ms; only = lists.only; in_order = lists.in_order; many = many }))
       | inr few ↦ few
     ])
 
-pub picks-no_more : (draw : ℕ) (p : Setup) → Sound p → HasMoreMoves p most_moves → picked draw (legal_moves p) ≡ None
+pub picks-no_more : (draw : ℕ) (p : Setup) → Sound p → HasMoreMoves p 256 → picked draw (legal_moves p) ≡ None
 unfolding picked
 picks-no_more draw p sound more =
-    let test : nat_lt most_moves (length (legal_moves p)) ≡ true = lt-ltb most_moves (length (legal_moves p)) (more-moves p most_moves sound more) in
+    let test : nat_lt 256 (length (legal_moves p)) ≡ true = lt-ltb 256 (length (legal_moves p)) (more-moves p 256 sound more) in
     rw test refl
 
 -- The same with what the code knows there.
@@ -63,7 +68,7 @@ draws_one_of draw place p ms slice m sound lists room same at within is =
 picked-legal : (draw : ℕ) (p : Setup) (m : Move) → picked draw (legal_moves p) ≡ Some m → Legal p m
 unfolding picked
 picked-legal draw p m =
-    cond_both (nat_lt most_moves (length (legal_moves p))) None (slice_get (legal_moves p) (draw % length (legal_moves p))) (λ o. o ≡ Some m → Legal p m)
+    cond_both (nat_lt 256 (length (legal_moves p))) None (slice_get (legal_moves p) (draw % length (legal_moves p))) (λ o. o ≡ Some m → Legal p m)
     (λ _ h. absurd (cc))
     (λ _ h.
     let k : ℕ = draw % length (legal_moves p) in
@@ -76,11 +81,11 @@ more-plies k less = omega arith
 
 goes-on : (k x : ℕ) (p : Setup) (m : Move) → k < 60 → picked (drawn x) (legal_moves p) ≡ Some m → line_drawn (60 - k) x p ≡ m ∷ line_drawn (60 - (k + 1)) (next_number x) (stepped p m)
 goes-on k x p m less h =
-    ap (λ n. line_drawn n x p) (more-plies k less) ∙ ap (λ o. goes_on o (λ mv. line_drawn (60 - (k + 1)) (next_number x) (stepped p mv))) h
+    ap (λ n. line_drawn n x p) (more-plies k less) ∙ ap (λ o. option_map_or (λ mv. mv ∷ line_drawn (60 - (k + 1)) (next_number x) (stepped p mv)) o []) h
 
 ends-here : (k x : ℕ) (p : Setup) → k < 60 → picked (drawn x) (legal_moves p) ≡ None → line_drawn (60 - k) x p ≡ []
 ends-here k x p less h =
-    ap (λ n. line_drawn n x p) (more-plies k less) ∙ ap (λ o. goes_on o (λ mv. line_drawn (60 - (k + 1)) (next_number x) (stepped p mv))) h
+    ap (λ n. line_drawn n x p) (more-plies k less) ∙ ap (λ o. option_map_or (λ mv. mv ∷ line_drawn (60 - (k + 1)) (next_number x) (stepped p mv)) o []) h
 
 -- What is left of the line from here leads to all of it.
 pub record Drawing (k x : ℕ) (p : Setup) (done : List Played) (from : ℕ) : Type 0 where
@@ -135,7 +140,7 @@ whole_left x from p done so_far = left-all 60 x from p done refl so_far
 -- ---- the game
 
 one-legal : (p : Setup) (next : Option Move) (later : Move → List Move) → ((m : Move) → next ≡ Some m → Legal p m)
-    → ((m : Move) → IsLegalLine (stepped p m) (line_of (map bare (later m)))) → IsLegalLine p (line_of (map bare (goes_on next later)))
+    → ((m : Move) → IsLegalLine (stepped p m) (line_of (map bare (later m)))) → IsLegalLine p (line_of (map bare (option_map_or (λ m. m ∷ later m) next [])))
 one-legal p None later legal rest = tt
 one-legal p (Some m) later legal rest = (Legal-stepped p m (legal m refl), (tt, (tt, rest m)))
 
@@ -163,7 +168,7 @@ moves-back : (moves : List Move) → moves_of (line_of (map bare moves)) ≡ mov
 moves-back [] = refl
 moves-back (m ∷ moves) = ap (λ ms. m ∷ ms) (moves-back moves)
 
-one-short : (plies : ℕ) (next : Option Move) (later : Move → List Move) → ((m : Move) → length (later m) ≤ plies) → length (goes_on next later) ≤ suc plies
+one-short : (plies : ℕ) (next : Option Move) (later : Move → List Move) → ((m : Move) → length (later m) ≤ plies) → length (option_map_or (λ m. m ∷ later m) next []) ≤ suc plies
 one-short plies None later short = omega arith
 one-short plies (Some m) later short = omega (arith, short m)
 
@@ -209,6 +214,6 @@ made_short from start items at is = short-by _ _ (made-game from start items at 
 pub made_is : (x number left : ℕ) (head : Head) (start : Setup) (items : List Played) → head ≡ demo_head number (result_of (drawn x % 4)) → start ≡ start_setup
     → items ≡ map bare (moves_drawn (next_number x)) → left ≡ after_draws (length (moves_drawn (next_number x))) (next_number x)
     → demo_game x number ≡ record { head = head; game = record { start = start; lead = None; line = line_of items }; left = left }
-unfolding demo_game
+unfolding demo_game game_of
 made_is x number left head start items named at is behind =
     λ i. record { head = sym named i; game = sym (made-game (next_number x) start items at is) i; left = sym behind i }

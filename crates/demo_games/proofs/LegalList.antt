@@ -13,7 +13,7 @@ use Rattle.chess_laws.specs.Step.{may_become}
 use Rattle.chess_laws.proofs.Deciding.{legal-Decides}
 use Rattle.chess_laws.proofs.Listing.{move-fits, move-from, move-to}
 use Rattle.std.specs.List.{range_with_len}
-use Rattle.demo_games.specs.Moves.{all_moves, is_move, legal_moves, moves_from, moves_to}
+use Rattle.demo_games.specs.Moves.{all_moves, is_move, legal_moves, moves_to}
 
 -- ---- lists of moves in order
 
@@ -52,6 +52,9 @@ rises-blocks f base w each first (suc count) =
 rises-to : (from to : ℕ) → Rises (512 * from + to * 8) (512 * from + (to + 1) * 8) (moves_to from to)
 unfolding Rises
 rises-to from to = (omega arith, (omega arith, (omega arith, (omega arith, (omega arith, omega arith)))))
+
+abbrev moves_from : ℕ → List Move
+moves_from from = flat_map (moves_to from) (range_with_len 0 64)
 
 rises-from : (from : ℕ) → Rises (0 + from * 512) (0 + (from + 1) * 512) (moves_from from)
 rises-from from =
