@@ -1,7 +1,8 @@
 -- The lines of a table that is read end apart.
-use Rattle.std.proofs.Common.{◌≡◌, ℕ, zero, suc, ◌+◌, ◌<◌, Bool, true, false, cond, List, [], ◌∷◌, ◌++◌, length, get_or, Option, None, Some, refl, subst, arith}
-use Rattle.std.specs.Prelude.{AllPairs, Result, Ok, Err, nat_le, option_map}
+use Rattle.std.proofs.Common.{◌≡◌, ℕ, zero, suc, ◌+◌, ◌<◌, ◌==◌, Bool, true, false, cond, List, [], ◌∷◌, ◌++◌, length, get_or, Option, None, Some, refl, subst, arith}
+use Rattle.std.specs.Prelude.{AllPairs, Result, Ok, Err, nat_le, option_map, slice_index}
 use Rattle.std.specs.List.{find}
+use Rattle.std.specs.Str.Lines.{strip_carriage_return}
 use Rattle.std.proofs.lemmas.Bool.{and_from, both_ways}
 use Rattle.std.proofs.lemmas.List.Quantifiers.{all_pairs_push}
 use Rattle.cell_core.specs.declared.man.Colour.{Colour}
@@ -12,7 +13,7 @@ use Rattle.chess_laws.specs.Position.{start_setup}
 use Rattle.chess_laws.specs.declared.setup.Setup.{Setup}
 use Rattle.chess_text.specs.declared.fault.SanFault.{SanFault}
 use Rattle.game_tree.specs.Eco.{eco_read}
-use Rattle.eco_class.specs.Cutting.{is_comment, lines_of, without_return, words_of}
+use Rattle.eco_class.specs.Cutting.{lines_of, words_of}
 use Rattle.eco_class.specs.Table.{EndApart, Opening, ends_at, line_at}
 use Rattle.eco_class.specs.Reading.{and_then, fault_in, joined, opening, played, table_of, with_code, with_line, with_lines, with_place, with_words}
 use Rattle.eco_class.specs.declared.fault.EcoFault.{EcoFault}
@@ -66,11 +67,11 @@ apart_words table next number (first ∷ moves) apart is = apart_code table next
 apart_line : (table next : List Opening) (number : ℕ) (line : List ℕ) → AllPairs EndApart table → with_line table number line ≡ Ok next
     → AllPairs EndApart next
 unfolding with_line
-apart_line table next number line apart is = by (is_comment line) is
+apart_line table next number line apart is = by (slice_index line 0 == 35) is
   where
-    by : (t : Bool) → cond t (Ok table) (with_words table number (words_of (without_return line))) ≡ Ok next → AllPairs EndApart next
+    by : (t : Bool) → cond t (Ok table) (with_words table number (words_of (strip_carriage_return line))) ≡ Ok next → AllPairs EndApart next
     by true same = subst (AllPairs EndApart) (let it : table ≡ next = cc in it) apart
-    by false rest = apart_words table next number (words_of (without_return line)) apart rest
+    by false rest = apart_words table next number (words_of (strip_carriage_return line)) apart rest
 
 apart_lines : (lines : List (List ℕ)) (table whole : List Opening) (number : ℕ) → AllPairs EndApart table → with_lines table number lines ≡ Ok whole
     → AllPairs EndApart whole

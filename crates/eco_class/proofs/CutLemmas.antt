@@ -1,9 +1,9 @@
 -- How a text is cut: the first line and the first word, and what stands behind them.
-use Rattle.std.proofs.Common.{◌≡◌, ℕ, suc, ◌+◌, ◌<◌, ◌≤◌, Bool, true, false, cond, not, List, [], ◌∷◌, length, take, drop, Option, None, Some, refl, sym, ap, ◌∙◌, arith, inl, inr}
-use Rattle.std.specs.Prelude.{filter, nat_lt, position, unwrap_or}
+use Rattle.std.proofs.Common.{◌≡◌, ℕ, suc, ◌+◌, ◌<◌, ◌≤◌, ◌==◌, Bool, true, false, cond, not, List, [], ◌∷◌, length, take, drop, Option, None, Some, refl, sym, ap, ◌∙◌, arith, inl, inr}
+use Rattle.std.specs.Prelude.{filter, nat_lt, position, unwrap_or, is_some, slice_get}
 use Rattle.std.specs.List.{onto_first, position_or_len, slice_split}
 use Rattle.std.proofs.lemmas.Bool.{cases_Bool, ltb-false}
-use Rattle.eco_class.specs.Cutting.{has_bytes, is_blank, is_line_feed, lines_of, without_first, words_of}
+use Rattle.eco_class.specs.Cutting.{is_blank, lines_of, without_first, words_of}
 
 one_more : (n : ℕ) → 1 + n ≡ suc n
 one_more n = omega arith
@@ -20,22 +20,22 @@ first_or_len p (byte ∷ text) = elim (cases_Bool (p byte)) [
 
 -- The first line ends at the first line feed.
 pub lines_cut : (text : List ℕ) → 0 < length text
-    → lines_of text ≡ take (position_or_len is_line_feed text) text ∷ lines_of (without_first (drop (position_or_len is_line_feed text) text))
+    → lines_of text ≡ take (position_or_len (λ byte. byte == 10) text) text ∷ lines_of (without_first (drop (position_or_len (λ byte. byte == 10) text) text))
 lines_cut [] some = absurd (omega (arith, some))
-lines_cut (byte ∷ []) some = elim (cases_Bool (is_line_feed byte)) [
+lines_cut (byte ∷ []) some = elim (cases_Bool (byte == 10)) [
   | inl holds ↦ rw holds refl
   | inr fails ↦ rw fails refl
 ]
-lines_cut (byte ∷ next ∷ text) some = elim (cases_Bool (is_line_feed byte)) [
+lines_cut (byte ∷ next ∷ text) some = elim (cases_Bool (byte == 10)) [
   | inl holds ↦ rw holds refl
-  | inr fails ↦ rw (fails, one_more (position_or_len is_line_feed (next ∷ text))) (ap (onto_first byte) (lines_cut (next ∷ text) (omega arith)))
+  | inr fails ↦ rw (fails, one_more (position_or_len (λ byte. byte == 10) (next ∷ text))) (ap (onto_first byte) (lines_cut (next ∷ text) (omega arith)))
 ]
 
 -- ---- words, which bytes that pass a test stand between
 
 -- The parts that are not empty.
 abbrev words_by : (ℕ → Bool) → List ℕ → List (List ℕ)
-words_by p line = filter has_bytes (slice_split p line)
+words_by p line = filter (λ word. is_some (slice_get word 0)) (slice_split p line)
 
 -- Blanks before the first word are passed.
 words_skip : (p : ℕ → Bool) (line : List ℕ) → words_by p (drop (position_or_len (λ byte. not (p byte)) line) line) ≡ words_by p line
@@ -67,7 +67,7 @@ begins_word p (byte ∷ line) = elim (cases_Bool (p byte)) [
 record IsCut (p : ℕ → Bool) (line : List ℕ) : Type 0 where
   parts : List (List ℕ)
   first : slice_split p line ≡ take (position_or_len p line) line ∷ parts
-  behind : filter has_bytes parts ≡ words_by p (drop (position_or_len p line) line)
+  behind : filter (λ word. is_some (slice_get word 0)) parts ≡ words_by p (drop (position_or_len p line) line)
 
 is_cut : (p : ℕ → Bool) (line : List ℕ) → IsCut p line
 is_cut p [] = record { parts = []; first = refl; behind = refl }
@@ -83,10 +83,10 @@ is_cut p (byte ∷ line) = elim (cases_Bool (p byte)) [
 ]
   where
     cut_here : (p : ℕ → Bool) (byte : ℕ) (line : List ℕ) → p byte ≡ true
-        → filter has_bytes (slice_split p line) ≡ words_by p (drop (position_or_len p (byte ∷ line)) (byte ∷ line))
+        → filter (λ word. is_some (slice_get word 0)) (slice_split p line) ≡ words_by p (drop (position_or_len p (byte ∷ line)) (byte ∷ line))
     cut_here p byte line holds =
         let none : position_or_len p (byte ∷ line) ≡ 0 = rw holds refl in
-        let whole : filter has_bytes (slice_split p line) ≡ words_by p (byte ∷ line) = rw holds refl in
+        let whole : filter (λ word. is_some (slice_get word 0)) (slice_split p line) ≡ words_by p (byte ∷ line) = rw holds refl in
         whole ∙ ap (λ (n : ℕ). words_by p (drop n (byte ∷ line))) (sym none)
 
 -- The first word ends at the first blank, where the line begins with another byte.
@@ -108,7 +108,7 @@ pub no_line : (text : List ℕ) → length text ≡ 0 → lines_of text ≡ []
 no_line [] none = refl
 no_line (byte ∷ text) none = absurd (omega (arith, none))
 
-pub line_is : (text line rest behind : List ℕ) (n : ℕ) → 0 < length text → n ≡ position_or_len is_line_feed text → line ≡ take n text
+pub line_is : (text line rest behind : List ℕ) (n : ℕ) → 0 < length text → n ≡ position_or_len (λ byte. byte == 10) text → line ≡ take n text
     → rest ≡ drop n text → behind ≡ without_first rest → lines_of text ≡ line ∷ lines_of behind
 line_is text line rest behind n some is at left tail = rw (tail, at, left, is) (lines_cut text some)
 

@@ -20,7 +20,7 @@ use Rattle.cell_core.proofs.Same.{same_colour-Decides, same_men-Decides}
 use Rattle.chess_laws.specs.declared.setup.Setup.{Setup}
 use Rattle.sig_index.proofs.LeavingLemmas.{same_tests}
 use Rattle.eco_class.specs.declared.table.Named.{Named}
-use Rattle.eco_class.specs.Table.{Opening, ends_at, line_at, opening_at}
+use Rattle.eco_class.specs.Table.{Opening, ends_at, line_at}
 use Rattle.eco_class.specs.Reading.{joined, opening}
 use Rattle.eco_class.specs.Kept.{GivesBack, IsEntry, IsKept, men_in, opening_of, openings_of}
 
@@ -46,13 +46,13 @@ same_test eq decides key other back back' =
 -- What is kept of a line is found by its key.
 pub found_by : (eq : Packed → Packed → Bool) → ((a b : Packed) → Decides (eq a b) (a ≡ b)) → (f : Named → ℕ) (g : Opening → ℕ)
     → ((e : Packed × Named) → f e.1 ≡ g (opening_of e)) → (least : ℕ) (entries : List (Packed × Named)) (key : Packed) → GivesBack key → All (IsEntry least) entries
-    → option_map f (lookup (eq key) entries) ≡ option_map g (opening_at (openings_of entries) (men_of key.cells) key.side)
+    → option_map f (lookup (eq key) entries) ≡ option_map g (find (ends_at (men_of key.cells) key.side) (openings_of entries))
 found_by eq decides f g same least [] key back all = refl
 found_by eq decides f g same least (entry ∷ entries) key back all =
     rw (same_test eq decides key entry.0 back (All-head (IsEntry least) entry entries all).key)
     (by (found_by eq decides f g same least entries key back (All-tail (IsEntry least) entry entries all)) (ends_at (men_of key.cells) key.side (opening_of entry)))
   where
-    by : option_map f (lookup (eq key) entries) ≡ option_map g (opening_at (openings_of entries) (men_of key.cells) key.side)
+    by : option_map f (lookup (eq key) entries) ≡ option_map g (find (ends_at (men_of key.cells) key.side) (openings_of entries))
         → (t : Bool) → option_map f (cond t (Some entry.1) (lookup (eq key) entries))
         ≡ option_map g (cond t (Some (opening_of entry)) (find (ends_at (men_of key.cells) key.side) (openings_of entries)))
     by rest true = ap Some (same entry)
@@ -121,10 +121,10 @@ packed_decides a b =
 -- What is kept of a line is found by its key.
 pub found : (f : Named → ℕ) (g : Opening → ℕ) → ((e : Packed × Named) → f e.1 ≡ g (opening_of e)) → (least : ℕ) (entries : List (Packed × Named)) (table : List Opening)
     (key : Packed) → GivesBack key → IsKept entries least → openings_of entries ≡ table
-    → option_map f (lookup ((packed.ghosts).eq key) entries) ≡ option_map g (opening_at table (men_of key.cells) key.side)
+    → option_map f (lookup ((packed.ghosts).eq key) entries) ≡ option_map g (find (ends_at (men_of key.cells) key.side) table)
 found f g same least entries table key back kept seen =
     found_by (packed.ghosts).eq packed_decides f g same least entries key back kept.each
-    ∙ ap (λ (lines : List Opening). option_map g (opening_at lines (men_of key.cells) key.side)) seen
+    ∙ ap (λ (lines : List Opening). option_map g (find (ends_at (men_of key.cells) key.side) lines)) seen
 
 -- No line is found, so no entry has the key.
 pub not_found : (least : ℕ) (entries : List (Packed × Named)) (table : List Opening) (key : Packed) → GivesBack key → IsKept entries least

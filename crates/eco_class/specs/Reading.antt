@@ -1,12 +1,14 @@
 -- What table a text is, or its first fault in the order of lines and then of words (this project's own).
-use Rattle.std.specs.Prelude.{ℕ, ◌+◌, nat_le, if◌then◌else◌, List, [], ◌∷◌, ◌++◌, length, Option, Some, None, Result, Ok, Err}
+use Rattle.std.specs.Prelude.{ℕ, ◌+◌, ◌==◌, nat_le, if◌then◌else◌, List, [], ◌∷◌, ◌++◌, length, slice_index, Option, Some, None, Result, Ok, Err}
+use Rattle.std.specs.Option.{option_map_or}
+use Rattle.std.specs.Str.Lines.{strip_carriage_return}
 use Rattle.chess_laws.specs.Position.{start_setup}
 use Rattle.chess_laws.specs.Step.{stepped}
 use Rattle.chess_laws.specs.declared.setup.Setup.{Setup}
 use Rattle.chess_text.specs.SanAnswer.{san_answer}
 use Rattle.chess_text.specs.declared.fault.SanFault.{SanFault}
 use Rattle.game_tree.specs.Eco.{eco_read}
-use Rattle.eco_class.specs.Cutting.{is_comment, lines_of, without_return, words_of}
+use Rattle.eco_class.specs.Cutting.{lines_of, words_of}
 use Rattle.eco_class.specs.Table.{Opening, line_at}
 use Rattle.eco_class.specs.declared.fault.EcoFault.{EcoFault}
 use Rattle.eco_class.specs.declared.fault.EcoWhat.{EcoWhat}
@@ -31,8 +33,7 @@ opening number code p = record { line = number; code = code; board = p.board; si
 
 -- The table with one more line, unless an earlier one, with this number, ends on the same board with the same side to move.
 abbrev pub joined : List Opening → Opening → Option ℕ → Result (List Opening) EcoFault
-joined table opening None = Ok (table ++ opening ∷ [])
-joined table opening (Some earlier) = fault_in opening.line (Twice earlier)
+joined table opening earlier = option_map_or (λ line. fault_in opening.line (Twice line)) earlier (Ok (table ++ opening ∷ []))
 
 abbrev pub with_place : List Opening → ℕ → ℕ → Result Setup SanFault → Result (List Opening) EcoFault
 with_place table number code (Err fault) = fault_in number (San fault)
@@ -49,9 +50,10 @@ abbrev pub with_words : List Opening → ℕ → List (List ℕ) → Result (Lis
 with_words table number [] = Ok table
 with_words table number (first ∷ moves) = with_code table number moves (eco_read first)
 
--- The table with one more line: a comment and a line without words add nothing.
+-- The table with one more line: a comment, which begins with #, and a line without words add nothing. A carriage return at its end is
+-- dropped.
 unfoldable pub with_line : List Opening → ℕ → List ℕ → Result (List Opening) EcoFault
-with_line table number line = if is_comment line then Ok table else with_words table number (words_of (without_return line))
+with_line table number line = if slice_index line 0 == 35 then Ok table else with_words table number (words_of (strip_carriage_return line))
 
 -- The table with these lines, the first of which has this number.
 unfoldable pub with_lines : List Opening → ℕ → List (List ℕ) → Result (List Opening) EcoFault

@@ -17,19 +17,16 @@ pub record Opening : Type 0 where
   pub board : Men
   pub side : Colour
 
--- The first line that ends on this board with this side to move. Castling rights and the en passant square are not compared.
+-- Whether a line ends on this board with this side to move. Castling rights and the en passant square are not compared.
 abbrev pub ends_at : Men → Colour → Opening → Bool
 ends_at board side opening = same_men opening.board board && same_colour opening.side side
 
-abbrev pub opening_at : List Opening → Men → Colour → Option Opening
-opening_at table board side = find (ends_at board side) table
-
--- Its number and its code, if there is one.
+-- The number and the code of the first line that ends there, if there is one.
 abbrev pub line_at : List Opening → Men → Colour → Option ℕ
-line_at table board side = option_map (λ opening. opening.line) (opening_at table board side)
+line_at table board side = option_map (λ opening. opening.line) (find (ends_at board side) table)
 
 abbrev pub code_at : List Opening → Men → Colour → Option ℕ
-code_at table board side = option_map (λ opening. opening.code) (opening_at table board side)
+code_at table board side = option_map (λ opening. opening.code) (find (ends_at board side) table)
 
 abbrev pub code_of : List Opening → Setup → Option ℕ
 code_of table p = code_at table p.board p.side

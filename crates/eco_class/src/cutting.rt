@@ -1,7 +1,8 @@
 //! The lines of a text, and the words of a line.
-ghost use Rattle.std.specs.Prelude.{◌≡◌, ◌<◌, ◌≤◌, ◌∷◌, [], not, length, position, MatchOption};
+ghost use Rattle.std.specs.Prelude.{◌≡◌, ◌<◌, ◌≤◌, ◌==◌, ◌∷◌, [], not, slice_index, length, position, MatchOption};
 ghost use Rattle.std.specs.List.{position_or_len};
-ghost use Rattle.eco_class.specs.Cutting.{is_blank, is_comment, is_line_feed, lines_of, without_first, without_return, words_of};
+ghost use Rattle.std.specs.Str.Lines.{strip_carriage_return};
+ghost use Rattle.eco_class.specs.Cutting.{is_blank, lines_of, without_first, words_of};
 
 // A line of a text or a word of a line, and what stands behind it.
 #[derive(Drop)]
@@ -36,7 +37,7 @@ fn without_first(bytes: &[u8]) -> &[u8]
 
 // How many bytes stand before the first line feed.
 fn line_len(text: &[u8]) -> usize
-    ensures len { result ≡ position_or_len is_line_feed text.now }
+    ensures len { result ≡ position_or_len (λ byte. byte == 10) text.now }
     ensures within { result ≤ length text.now }
 {
     first_line_feed(text).unwrap_or(text.len())
@@ -44,14 +45,14 @@ fn line_len(text: &[u8]) -> usize
 
 // The place of the first line feed.
 fn first_line_feed(text: &[u8]) -> Option<usize>
-    ensures { result ≡ position is_line_feed text.now }
+    ensures { result ≡ position (λ byte. byte == 10) text.now }
 {
     text.iter().position(|byte| *byte == b'\n')
 }
 
 // Whether a line is a comment.
 pub(crate) fn is_comment(line: &[u8]) -> bool
-    ensures { result ≡ is_comment line.now }
+    ensures { result ≡ (slice_index line.now 0 == 35) }
 {
     match line.first() {
         Some(byte) => *byte == b'#',
@@ -61,7 +62,7 @@ pub(crate) fn is_comment(line: &[u8]) -> bool
 
 // The line without a carriage return at its end.
 pub(crate) fn without_return(line: &[u8]) -> &[u8]
-    ensures { result.now ≡ without_return line.now }
+    ensures { result.now ≡ strip_carriage_return line.now }
 {
     let len = line.len();
     if len > 0 && line[len - 1] == b'\r' {
