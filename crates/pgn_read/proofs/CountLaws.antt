@@ -1,13 +1,14 @@
 -- Laws of the number of items: each has a byte, so a text has no more than it has bytes.
-use Rattle.std.proofs.Common.{◌≡◌, ◌≤◌, ◌<◌, ◌-◌, ◌==◌, ◌&&◌, ℕ, zero, suc, Bool, true, false, cond, List, [], ◌∷◌, length, drop, Option, Some, None, refl, sym, ap, ◌∙◌, subst, arith, length-drop}
+use Rattle.std.proofs.Common.{◌≡◌, ◌≤◌, ◌<◌, ◌-◌, ◌==◌, ◌&&◌, ℕ, zero, suc, Bool, true, false, cond, List, [], ◌∷◌, length, drop, Option, Some, None, refl, sym, ap, ◌∙◌, subst, arith, length-drop, ◌||◌, nat_lt}
+use Rattle.std.specs.Option.{option_map_or}
 use Rattle.std.specs.Prelude.{codes}
 use Rattle.pgn_read.specs.declared.item.Item.{Item}
 use Rattle.pgn_read.specs.declared.place.Place.{Place}
 use Rattle.pgn_read.specs.Bytes.{begins}
 use Rattle.pgn_read.specs.Place.{next_place}
 use Rattle.pgn_read.specs.Lexing.{lexed, size}
-use Rattle.pgn_read.specs.Text.{At, behind_mark, here, longest, next_at, passed, skipped}
-use Rattle.pgn_read.specs.Reading.{Effect, Reading, ends_before, ends_behind, goes_on, is_faulty, is_game, is_inside, unread}
+use Rattle.pgn_read.specs.Text.{At, behind_mark, here, longest, passed, skipped, behind_token}
+use Rattle.pgn_read.specs.Reading.{Effect, Reading, ends_before, ends_behind, goes_on, is_faulty, is_inside, unread}
 use Rattle.pgn_read.specs.Items.{AreItems, Next, PgnReads, begins_game, by_effect, effect_at, ended, first_token, item_at, items_at, items_of, next, next_item, resumed, text_start}
 use Rattle.pgn_read.proofs.ItemLaws.{at_short, end_at, gap_short, next_short, not_end, one_list, token_taken}
 use Rattle.pgn_read.proofs.LexingLaws.{token_shorter}
@@ -55,16 +56,16 @@ next_same false r a = omega arith
 effect_short : (r : Reading) (a : At) (later : Reading → Next) (e : Effect) → ((s : Reading) → e ≡ goes_on s → Short (length a.bytes) (later s)) → Short (length a.bytes) (by_effect r a later e)
 effect_short r a later (goes_on s) goes item is = goes s refl item is
 effect_short r a later (ends_behind outcome) goes item is = passed_short (size a.bytes) a
-effect_short r a later ends_before goes item is = next_same (is_game r) r a
+effect_short r a later ends_before goes item is = next_same (r.in_moves || nat_lt 0 (length r.tags)) r a
 effect_short r a later (is_faulty what) goes item is = resumed_short a.place a.room a.bytes
 
 -- The next token stands no further back.
 next_fits_at : (r s : Reading) (place : Place) (room : ℕ) (bytes : List ℕ) → effect_at r (here place room bytes) ≡ goes_on s
-    → length (next_at (here place room bytes)).bytes < length bytes
+    → length (skipped (behind_token (here place room bytes))).bytes < length bytes
 next_fits_at r s place room [] goes = absurd (not_end (is_inside r) s (sym (end_at r place room) ∙ goes))
-next_fits_at r s place room (byte ∷ bytes) goes = let h : length (next_at (here place room (byte ∷ bytes))).bytes ≤ length bytes = next_short place room byte bytes in omega (arith, h)
+next_fits_at r s place room (byte ∷ bytes) goes = let h : length (skipped (behind_token (here place room (byte ∷ bytes)))).bytes ≤ length bytes = next_short place room byte bytes in omega (arith, h)
 
-next_fits : (r s : Reading) (a : At) → effect_at r a ≡ goes_on s → length (next_at a).bytes < length a.bytes
+next_fits : (r s : Reading) (a : At) → effect_at r a ≡ goes_on s → length (skipped (behind_token a)).bytes < length a.bytes
 next_fits r s a goes = next_fits_at r s a.place a.room a.bytes goes
 
 item_short : (n : ℕ) (r : Reading) (a : At) → length a.bytes < n → Short (length a.bytes) (item_at r a)
@@ -72,10 +73,10 @@ item_short zero r a below item is = absurd (omega (arith, below))
 item_short (suc n) r a below item is =
     let P : Next → Type 0 = Short (length a.bytes) in
     subst P (sym (token_taken r a))
-    (effect_short r a (λ s. item_at s (next_at a)) (effect_at r a)
+    (effect_short r a (λ s. item_at s (skipped (behind_token a))) (effect_at r a)
     (λ s goes item' is'.
-    let fits : length (next_at a).bytes < length a.bytes = next_fits r s a goes in
-    let h : length (item_at s (next_at a)).at.bytes ≤ length (next_at a).bytes = item_short n s (next_at a) (omega (arith, fits, below)) item' is' in
+    let fits : length (skipped (behind_token a)).bytes < length a.bytes = next_fits r s a goes in
+    let h : length (item_at s (skipped (behind_token a))).at.bytes ≤ length (skipped (behind_token a)).bytes = item_short n s (skipped (behind_token a)) (omega (arith, fits, below)) item' is' in
     omega (arith, fits, h)))
     item is
 
@@ -94,17 +95,17 @@ item_further : (place : Place) (bytes : List ℕ) (item : Item) → (item_at unr
     → length (item_at unread (here place longest bytes)).at.bytes < length bytes
 item_further place [] item is =
     let none : item_at unread (here place longest []) ≡ next None (here place longest []) =
-    token_taken unread (here place longest []) ∙ ap (by_effect unread (here place longest []) (λ s. item_at s (next_at (here place longest [])))) (end_at unread place longest) in
+    token_taken unread (here place longest []) ∙ ap (by_effect unread (here place longest []) (λ s. item_at s (skipped (behind_token (here place longest []))))) (end_at unread place longest) in
     let e : None ≡ Some item = sym (ap (λ (n : Next). n.item) none) ∙ is in absurd (cc)
 item_further place (byte ∷ bytes) item is =
     let a : At = here place longest (byte ∷ bytes) in
     let P : Next → Type 0 = Short (length bytes) in
     let h : length (item_at unread a).at.bytes ≤ length bytes =
     subst P (sym (token_taken unread a))
-    (first_further place byte bytes (λ s. item_at s (next_at a)) (effect_at unread a)
+    (first_further place byte bytes (λ s. item_at s (skipped (behind_token a))) (effect_at unread a)
     (λ s goes item' is'.
-    let fits : length (next_at a).bytes ≤ length bytes = next_short place longest byte bytes in
-    let h' : length (item_at s (next_at a)).at.bytes ≤ length (next_at a).bytes = item_short (suc (length (next_at a).bytes)) s (next_at a) (omega arith) item' is' in
+    let fits : length (skipped (behind_token a)).bytes ≤ length bytes = next_short place longest byte bytes in
+    let h' : length (item_at s (skipped (behind_token a))).at.bytes ≤ length (skipped (behind_token a)).bytes = item_short (suc (length (skipped (behind_token a)).bytes)) s (skipped (behind_token a)) (omega arith) item' is' in
     omega (arith, fits, h')))
     item is in
     omega (arith, h)
@@ -122,16 +123,10 @@ next_further a item is =
 items_by : (n : ℕ) (a : At) (rest : Option Item) → (next_item a).item ≡ rest → ((item : Item) → (next_item a).item ≡ Some item → AreItems (next_item a).at (items_at n (next_item a).at))
     → AreItems a (items_at (suc n) a)
 items_by n a None is later =
-    let P : Option Item → Type 0 = λ o. AreItems a (elim o [
-      | Some item ↦ item ∷ items_at n (next_item a).at
-      | None ↦ []
-    ]) in
+    let P : Option Item → Type 0 = λ o. AreItems a (option_map_or (λ item. item ∷ items_at n (next_item a).at) o []) in
     subst P (sym is) is
 items_by n a (Some item) is later =
-    let P : Option Item → Type 0 = λ o. AreItems a (elim o [
-      | Some x ↦ x ∷ items_at n (next_item a).at
-      | None ↦ []
-    ]) in
+    let P : Option Item → Type 0 = λ o. AreItems a (option_map_or (λ x. x ∷ items_at n (next_item a).at) o []) in
     subst P (sym is) (is, later item is)
 
 no_items : (a : At) (rest : Option Item) → (next_item a).item ≡ rest → length a.bytes ≤ 0 → (next_item a).item ≡ None

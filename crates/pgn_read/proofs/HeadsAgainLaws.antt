@@ -15,7 +15,7 @@ use Rattle.game_tree.specs.declared.head.Outcome.{Outcome}
 use Rattle.game_tree.specs.declared.head.Outcome.TheVariants as outcome
 use Rattle.game_tree.specs.declared.head.Rating.{Rating}
 use Rattle.game_tree.specs.declared.head.Tag.{Tag}
-use Rattle.game_tree.specs.Date.{IsDate, unknown_date, is_unknown, is_near, keeps_rule, date_text}
+use Rattle.game_tree.specs.Date.{IsDate, unknown_date, is_unknown, is_near, keeps_rule, date_read, date_text}
 use Rattle.game_tree.specs.Decimal.{decimal_read}
 use Rattle.game_tree.specs.Eco.{eco_text, eco_read}
 use Rattle.game_tree.specs.Game.{GameTree, has_own_start}
@@ -32,7 +32,7 @@ use Rattle.game_tree.proofs.EcoLemmas.{eco_read-eco_text}
 use Rattle.game_tree.proofs.SettleLemmas.{settled-near, settled-unknown, unknown-far, settled-keeps_rule}
 use Rattle.game_tree.proofs.TagNameLemmas.{rating_of-rating_tag}
 use Rattle.pgn_write.specs.TagPairs.{pair, roster, rating_pairs, eco_pairs, event_date_pairs, flags_text, flags_pairs, start_pairs, tags_of}
-use Rattle.pgn_read.specs.Heads.{first_told, value_of, date_from, result_from, rated, rating_as, rating_told, no_rating, rating_from, eco_told, eco_from, flags_of, has_letter, marks_of, head_told, head_from}
+use Rattle.pgn_read.specs.Heads.{first_told, value_of, result_from, rated, rating_as, rating_told, rating_from, flags_of, has_letter, marks_of, head_from}
 use Rattle.pgn_read.proofs.NameLaws.{rating_name, free_name, no_flags_name}
 use Rattle.pgn_read.proofs.MarksLaws.{marks_again, deleted_again}
 
@@ -64,9 +64,9 @@ one_none told tag none = ap (λ o. option_or o None) none
 -- ---- ratings
 
 rating_is : (side other : Colour) (kind : ℕ) (value : List ℕ) → kind ≤ 6
-    → rating_told side (pair (rating_tag other kind) value) ≡ rating_as side value (Some (other, kind))
+    → rating_told side (pair (rating_tag other kind) value) ≡ rating_as side value (other, kind)
 unfolding rating_told
-rating_is side other kind value small = ap (rating_as side value) (rating_of-rating_tag other kind small)
+rating_is side other kind value small = ap (option_and_then (rating_as side value)) (rating_of-rating_tag other kind small)
 
 roster_rating : (side : Colour) (head : Head) → first_told (rating_told side) (roster head) ≡ None
 unfolding rating_told rating_of
@@ -84,7 +84,7 @@ white_rating rating is =
 
 free_rating : (side : Colour) (tag : Tag) → is_some (rating_of tag.name) ≡ false → rating_told side tag ≡ None
 unfolding rating_told
-free_rating side tag none = ap (rating_as side tag.value) (none_is (rating_of tag.name) none)
+free_rating side tag none = ap (option_and_then (rating_as side tag.value)) (none_is (rating_of tag.name) none)
   where
     none_is : {A : Type 0} (o : Option A) → is_some o ≡ false → o ≡ None
     none_is None e = refl
@@ -130,13 +130,16 @@ same_side White = refl
 same_side Black = refl
 
 read_rating : (side : Colour) (rating : Rating) → IsRating rating → (rating.value == 0) ≡ false
-    → rating_as side (decimal rating.value) (Some (side, rating.kind)) ≡ Some rating
+    → rating_as side (decimal rating.value) (side, rating.kind) ≡ Some rating
 read_rating side rating is some =
     let value : decimal_read 4095 (decimal rating.value) ≡ Some rating.value =
     decimal_read-decimal 4095 (decimal rating.value) rating.value (omega arith) is.value refl in
-    ap (λ b. cond b (rated rating.kind (decimal_read 4095 (decimal rating.value))) None) (same_side side)
-    ∙ ap (rated rating.kind) value
+    ap (λ b. cond b (option_and_then (rated rating.kind) (decimal_read 4095 (decimal rating.value))) None) (same_side side)
+    ∙ ap (option_and_then (rated rating.kind)) value
     ∙ ap (λ b. cond b None (Some (record { value = rating.value; kind = rating.kind }))) some
+
+abbrev no_rating : Rating
+no_rating = record { value = 0; kind = 0 }
 
 no_rating_is : (rating : Rating) → IsRating rating → (rating.value == 0) ≡ true → no_rating ≡ rating
 no_rating_is rating is zero_value =
@@ -171,6 +174,9 @@ black_again head game is =
 
 -- ---- the opening code
 
+abbrev eco_told : Tag → Option ℕ
+eco_told tag = cond (is_named (codes "ECO") tag) (eco_read tag.value) None
+
 rating_eco : (side : Colour) (rating : Rating) → IsRating rating → first_told eco_told (rating_pairs side rating) ≡ None
 rating_eco side rating is =
     nothing_if eco_told (rating.value == 0) _
@@ -201,7 +207,7 @@ own_eco false eco rest is small none =
     let some : 1 ≤ eco = omega (arith, eqb-false eco 0 is) in
     ap (λ o. unwrap_or (option_or o (first_told eco_told rest)) 0) (eco_read-eco_text eco some small)
 
-eco_again : (head : Head) (game : GameTree) → IsBounded head → eco_from (tags_of head game) ≡ head.eco
+eco_again : (head : Head) (game : GameTree) → IsBounded head → unwrap_or (first_told eco_told (tags_of head game)) 0 ≡ head.eco
 eco_again head game is =
     let rest : List Tag = event_date_pairs head.event_date ++ (flags_pairs (flags_text head.deleted head.marks) ++ (start_pairs game ++ head.tags)) in
     ap (λ o. unwrap_or o 0)
@@ -330,31 +336,32 @@ tags_again head game is =
 
 -- ---- the head before it is settled
 
-result_again : (o : Outcome) (tags : List Tag) → value_of (codes "Result") tags ≡ Some (outcome_text o) → result_from (Some o) tags ≡ o
+result_again : (o : Outcome) (tags : List Tag) → value_of (codes "Result") tags ≡ Some (outcome_text o) → result_from o tags ≡ o
 result_again outcome.White tags is = refl
 result_again outcome.Black tags is = refl
 result_again outcome.Draw tags is = refl
 result_again outcome.Unknown tags is = ap (λ v. unwrap_or (option_and_then outcome_read v) outcome.Unknown) is
 
-date_again : (head : Head) (game : GameTree) → IsBounded head → date_from (tags_of head game) ≡ head.date
+date_again : (head : Head) (game : GameTree) → IsBounded head → unwrap_or (option_and_then date_read (value_of (codes "Date") (tags_of head game))) unknown_date ≡ head.date
 date_again head game is = ap (λ o. unwrap_or o unknown_date) (date_read-date_text head.date is.date)
 
 abbrev unsettled : Head → Head
 unsettled head = record head { event_date = unknown_date; tags = event_date_pairs head.event_date ++ head.tags }
 
-told_again : (head : Head) (game : GameTree) → IsBounded head → head_told (tags_of head game) (Some head.result) ≡ unsettled head
+told_again : (head : Head) (game : GameTree) → IsBounded head → head_from (tags_of head game) (Some head.result) ≡ settled (unsettled head)
+unfolding head_from
 told_again head game is =
-    let date : date_from (tags_of head game) ≡ head.date = date_again head game is in
-    let result : result_from (Some head.result) (tags_of head game) ≡ head.result = result_again head.result (tags_of head game) refl in
+    let date : unwrap_or (option_and_then date_read (value_of (codes "Date") (tags_of head game))) unknown_date ≡ head.date = date_again head game is in
+    let result : result_from head.result (tags_of head game) ≡ head.result = result_again head.result (tags_of head game) refl in
     let white : rating_from White (tags_of head game) ≡ head.white_rating = white_again head game is in
     let black : rating_from Black (tags_of head game) ≡ head.black_rating = black_again head game is in
-    let eco : eco_from (tags_of head game) ≡ head.eco = eco_again head game is in
+    let eco : unwrap_or (first_told eco_told (tags_of head game)) 0 ≡ head.eco = eco_again head game is in
     let marks : marks_of (flags_of (tags_of head game)) mark_letters ≡ head.marks =
     ap (λ l. marks_of l mark_letters) (flags_again head game is) ∙ marks_again head.deleted head.marks is.marks in
     let deleted : has_letter (flags_of (tags_of head game)) 68 ≡ head.deleted =
     ap (λ l. has_letter l 68) (flags_again head game is) ∙ deleted_again head.deleted head.marks in
     let tags : free_of (tags_of head game) ≡ event_date_pairs head.event_date ++ head.tags = tags_again head game is in
-    λ i. record {
+    λ i. settled (record {
       white = head.white;
       black = head.black;
       event = head.event;
@@ -369,7 +376,7 @@ told_again head game is =
       marks = marks i;
       deleted = deleted i;
       tags = tags i;
-    }
+    })
 
 -- ---- settled again
 
@@ -412,6 +419,5 @@ settled_again true head unknown is settled_so =
 settled_again false head known is settled_so = settled_known head is settled_so known
 
 pub head_again : (head : Head) (game : GameTree) → IsBounded head → IsSettled head → head_from (tags_of head game) (Some head.result) ≡ head
-unfolding head_from
 head_again head game is settled_so =
-    ap settled (told_again head game is) ∙ settled_again (is_unknown head.event_date) head refl is settled_so
+    told_again head game is ∙ settled_again (is_unknown head.event_date) head refl is settled_so

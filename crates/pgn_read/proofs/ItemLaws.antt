@@ -16,8 +16,8 @@ use Rattle.pgn_read.specs.Place.{next_place}
 use Rattle.pgn_read.specs.Bytes.{is_white}
 use Rattle.pgn_read.specs.Token.{Token, Lexed}
 use Rattle.pgn_read.specs.Lexing.{lexed, size}
-use Rattle.pgn_read.specs.Text.{At, here, on_remark, behind_gap, longest, skipped, behind_mark, spot_at, behind_token, next_at, spots}
-use Rattle.pgn_read.specs.Reading.{Reading, Effect, goes_on, ends_behind, ends_before, is_faulty, unread, is_inside, effect, is_next_game, is_game, game_of}
+use Rattle.pgn_read.specs.Text.{At, here, on_remark, behind_gap, longest, skipped, behind_mark, behind_token, spots}
+use Rattle.pgn_read.specs.Reading.{Reading, Effect, goes_on, ends_behind, ends_before, is_faulty, unread, is_inside, effect, is_next_game, game_of}
 use Rattle.pgn_read.specs.Heads.{head_from}
 use Rattle.pgn_read.specs.Items.{Next, next, faulty, ended, ended_before, by_effect, effect_at, item_from, item_at, first_token, next_item, AreItems, PgnReads}
 use Rattle.pgn_read.specs.Said.{said_end, EndsWell}
@@ -37,7 +37,7 @@ gap_short inside place room (b ∷ w) =
     at_short (on_remark inside place b || is_white b) (suc (length w)) _ _
     (omega (arith, gap_short (on_remark inside place b && not (b == 10)) (next_place place b) (room - 1) w)) (omega arith)
 
-pub next_short : (place : Place) (room b : ℕ) (w : List ℕ) → length (next_at (here place room (b ∷ w))).bytes ≤ length w
+pub next_short : (place : Place) (room b : ℕ) (w : List ℕ) → length (skipped (behind_token (here place room (b ∷ w)))).bytes ≤ length w
 next_short place room b w =
     let behind = behind_token (here place room (b ∷ w)) in
     omega (arith, gap_short false behind.place behind.room behind.bytes, length-drop (size (b ∷ w)) (b ∷ w), token_shorter b w)
@@ -49,10 +49,10 @@ enough zero n place room w p q = absurd (omega (arith, p))
 enough (suc m) zero place room w p q = absurd (omega (arith, q))
 enough (suc m) (suc n) place room [] p q = refl
 enough (suc m) (suc n) place room (b ∷ w) p q =
-    let next = next_at (here place room (b ∷ w)) in
+    let next = skipped (behind_token (here place room (b ∷ w))) in
     let short : length next.bytes ≤ length w = next_short place room b w in
     let more : nat_lt 0 (suc (length w)) ≡ true = search arith in
-    rw more (ap (λ l. spot_at (here place room (b ∷ w)) ∷ l) (enough m n next.place next.room next.bytes (omega (arith, short, p)) (omega (arith, short, q))))
+    rw more (ap (λ l. here place room (b ∷ w) ∷ l) (enough m n next.place next.room next.bytes (omega (arith, short, p)) (omega (arith, short, q))))
 
 -- ---- what one token does
 
@@ -79,18 +79,18 @@ ends_same r true a f g = refl
 ends_same r false a f g = refl
 
 taken : (r : Reading) (place : Place) (room : ℕ) (w : List ℕ)
-    → item_at r (here place room w) ≡ by_effect r (here place room w) (λ s. item_at s (next_at (here place room w))) (effect_at r (here place room w))
+    → item_at r (here place room w) ≡ by_effect r (here place room w) (λ s. item_at s (skipped (behind_token (here place room w)))) (effect_at r (here place room w))
 unfolding item_from spots
 taken r place room [] = rw (end_at r place room) (ends_same r (is_inside r) (here place room []) _ _)
 taken r place room (b ∷ w) =
     let a = here place room (b ∷ w) in
-    let next = next_at a in
+    let next = skipped (behind_token a) in
     let more : nat_lt 0 (suc (length w)) ≡ true = search arith in
     rw more (later_same r (effect_at r a) a _ _
     (λ s. ap (item_from s)
     (enough (suc (length w)) (suc (length next.bytes)) next.place next.room next.bytes (omega (arith, next_short place room b w)) (omega arith))))
 
-pub token_taken : (r : Reading) (a : At) → item_at r a ≡ by_effect r a (λ s. item_at s (next_at a)) (effect_at r a)
+pub token_taken : (r : Reading) (a : At) → item_at r a ≡ by_effect r a (λ s. item_at s (skipped (behind_token a))) (effect_at r a)
 token_taken r a = taken r a.place a.room a.bytes
 
 -- A token with which reading goes on has a byte.
@@ -201,17 +201,17 @@ told_moved (step.Ends (end.Faulty fault)) u v w k l kept decides told same = kep
 went : (r s : Reading) (t : Option At) → IfSome t (λ a. effect_at r a ≡ goes_on s)
     → option_map (item_at r) t ≡ option_map (item_at s) (option_map skipped (option_map behind_token t))
 went r s None is = refl
-went r s (Some a) is = ap Some (token_taken r a ∙ ap (by_effect r a (λ q. item_at q (next_at a))) is)
+went r s (Some a) is = ap Some (token_taken r a ∙ ap (by_effect r a (λ q. item_at q (skipped (behind_token a)))) is)
 
 -- Reading goes on behind a token and the gap behind it.
 pub goes_further : (r s : Reading) (t u x : Option At) → IfSome t (λ a. effect_at r a ≡ goes_on s) → option_map behind_token t ≡ u
     → option_map skipped u ≡ x → option_map (item_at r) t ≡ option_map (item_at s) x
 goes_further r s t u x is behind gap = went r s t is ∙ ap (λ o. option_map (item_at s) (option_map skipped o)) behind ∙ ap (option_map (item_at s)) gap
 
-ended_told : (r : Reading) (e : End) (t : Option At) (f : At → Next) → ((a : At) → by_effect r a (λ q. item_at q (next_at a)) (said_end e) ≡ f a)
+ended_told : (r : Reading) (e : End) (t : Option At) (f : At → Next) → ((a : At) → by_effect r a (λ q. item_at q (skipped (behind_token a))) (said_end e) ≡ f a)
     → IfSome t (λ a. effect_at r a ≡ said_end e) → option_map (item_at r) t ≡ option_map f t
 ended_told r e None f same is = refl
-ended_told r e (Some a) f same is = ap Some (token_taken r a ∙ ap (by_effect r a (λ q. item_at q (next_at a))) is ∙ same a)
+ended_told r e (Some a) f same is = ap Some (token_taken r a ∙ ap (by_effect r a (λ q. item_at q (skipped (behind_token a)))) is ∙ same a)
 
 map_twice : {A B C : Type 0} (f : B → C) (g : A → B) (t : Option A) → option_map (λ a. f (g a)) t ≡ option_map f (option_map g t)
 map_twice f g None = refl
@@ -292,12 +292,12 @@ pub good_told : (r : Reading) (mark : Option Outcome) (item : Item) (t : Option 
 good_told r mark item None is = refl
 good_told r mark item (Some a) is = ap (λ i. Some (next (Some i) a)) (sym is)
 
-pub before_game : (r : Reading) (item : Item) (t : Option At) → is_game r ≡ true → item ≡ Good (head_from r.tags None) (game_of r)
+pub before_game : (r : Reading) (item : Item) (t : Option At) → (r.in_moves || nat_lt 0 (length r.tags)) ≡ true → item ≡ Good (head_from r.tags None) (game_of r)
     → option_map (ended_before r) t ≡ option_map (next (Some item)) t
 before_game r item None game is = refl
 before_game r item (Some a) game is = rw game (ap (λ i. Some (next (Some i) a)) (sym is))
 
-pub before_none : (r : Reading) (t : Option At) → is_game r ≡ false → option_map (ended_before r) t ≡ option_map (next None) t
+pub before_none : (r : Reading) (t : Option At) → (r.in_moves || nat_lt 0 (length r.tags)) ≡ false → option_map (ended_before r) t ≡ option_map (next None) t
 before_none r None game = refl
 before_none r (Some a) game = rw game refl
 

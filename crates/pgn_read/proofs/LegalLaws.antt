@@ -32,7 +32,7 @@ use Rattle.chess_text.specs.SanAnswer.{only_of, candidates, fits_now, shape_answ
 use Rattle.chess_text.specs.FenAnswer.{fen_answer}
 use Rattle.pgn_read.specs.Token.{Token}
 use Rattle.pgn_read.specs.Token as token
-use Rattle.pgn_read.specs.Reading.{Reading, Effect, has_tag, goes_on, ends_behind, ends_before, is_faulty, unread, turn_at, is_inside, has_move, with_tag, starting, fen_effect, tag_effect, moving, played, move_effect, opened, closed_to, effect, game_of}
+use Rattle.pgn_read.specs.Reading.{Reading, Effect, has_tag, goes_on, ends_behind, ends_before, is_faulty, unread, turn_at, is_inside, has_move, with_tag, starting, tag_effect, moving, played, opened, closed_to, effect, game_of, by_answer}
 use Rattle.pgn_read.specs.Said.{said_step, EndsWell, StepsWell}
 use Rattle.pgn_read.specs.Fit.{IsFitGame}
 use Rattle.pgn_read.specs.Legality.{IsPlayed, Leads, ComesTo, IsLine, AreLines, IsLegal, EndsLegally, StepsLegally}
@@ -264,7 +264,7 @@ closes_keeps r (place ∷ places) same is =
 moving_legal : (r : Reading) → IsLegal r → IsLegal (moving r)
 moving_legal r is = record { lines = is.lines; no_moves = λ e. moving_so e }
 
-move_keeps : (r : Reading) (answer : Result Move SanFault) → ((m : Move) → answer ≡ Ok m → Legal r.turn.now_at m) → IsLegal r → Keeps (move_effect r answer)
+move_keeps : (r : Reading) (answer : Result Move SanFault) → ((m : Move) → answer ≡ Ok m → Legal r.turn.now_at m) → IsLegal r → Keeps (by_answer (λ m. played m r) what.San answer)
 move_keeps r (Err fault) legal is = tt
 move_keeps r (Ok m) legal is = played_legal m r (legal m refl) is
 
@@ -297,7 +297,7 @@ starting_if p r false before is = begun_legal p r before is
 tagged_legal : (name value : List ℕ) (r : Reading) → IsLegal r → IsLegal (with_tag name value r)
 tagged_legal name value r is = record { lines = is.lines; no_moves = is.no_moves }
 
-fen_keeps : (value : List ℕ) (r : Reading) (answer : Result Setup FenFault) → r.in_moves ≡ false → IsLegal r → Keeps (fen_effect value r answer)
+fen_keeps : (value : List ℕ) (r : Reading) (answer : Result Setup FenFault) → r.in_moves ≡ false → IsLegal r → Keeps (by_answer (λ p. with_tag (codes "FEN") value (starting p r)) what.Fen answer)
 fen_keeps value r (Err fault) before is = tt
 fen_keeps value r (Ok p) before is = tagged_legal (codes "FEN") value (starting p r) (starting_if p r (has_tag (codes "FEN") r.tags) before is)
 

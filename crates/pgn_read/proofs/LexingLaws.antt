@@ -1,16 +1,17 @@
 -- A token and a few bytes behind it tell the token, whatever comes then; and each token but the end of the text has a byte.
-use Rattle.std.proofs.Common.{◌≡◌, ◌⊎◌, inl, inr, ◌≤◌, ◌<◌, ◌+◌, ◌==◌, ◌||◌, ℕ, suc, Bool, true, false, not, cond, List, [], ◌∷◌, ◌++◌, length, drop, option_map, codes, refl, sym, ap, subst, arith, length-append, length-drop}
+use Rattle.std.proofs.Common.{◌≡◌, ◌⊎◌, inl, inr, ◌≤◌, ◌<◌, ◌+◌, ◌==◌, ◌||◌, ℕ, suc, Bool, true, false, not, cond, List, [], ◌∷◌, ◌++◌, length, drop, option_map, codes, refl, sym, ap, subst, arith, length-append, length-drop, take, ◌&&◌}
+use Rattle.std.specs.Str.Lines.{strip_carriage_return}
 use Rattle.std.proofs.lemmas.Bool.{eqb-true}
 use Rattle.std.proofs.lemmas.List.{drop-append-le}
 use Rattle.std.specs.Option.{unwrap_or}
 use Rattle.std.specs.Char.{is_ascii_alphabetic, is_ascii_digit}
 use Rattle.game_tree.specs.Decimal.{decimal_read}
 use Rattle.game_tree.specs.TagName.{is_tag_byte}
-use Rattle.pgn_read.specs.Bytes.{is_white, is_move_byte, is_glyph, is_dot, front, behind, begins}
+use Rattle.pgn_read.specs.Bytes.{is_white, is_move_byte, is_glyph, front, behind, begins}
 use Rattle.pgn_read.specs.Token.{Token, Lexed, lexed_as}
 use Rattle.pgn_read.specs.Token as token
-use Rattle.pgn_read.specs.TagText.{escapes, ends_value, raw_value, behind_value, closing, quoting, naming, tag_from}
-use Rattle.pgn_read.specs.Lexing.{comment_of, braced, brace_from, without_return, suffix_of, run_from, number_from, digit_from, by_kind, lexed}
+use Rattle.pgn_read.specs.TagText.{escapes, closing, quoting, naming, tag_from, value_len}
+use Rattle.pgn_read.specs.Lexing.{comment_of, braced, brace_from, suffix_of, run_from, number_from, digit_from, by_kind, lexed}
 
 -- ---- parts are no longer than the whole
 
@@ -22,10 +23,8 @@ behind_short : (test : ℕ → Bool) (w : List ℕ) → length (behind test w) �
 behind_short test [] = omega arith
 behind_short test (b ∷ w) = cond_short (test b) (suc (length w)) (behind test w) (b ∷ w) (omega (arith, behind_short test w)) (omega arith)
 
-value_short : (escaped : Bool) (w : List ℕ) → length (behind_value escaped w) ≤ length w
-value_short escaped [] = omega arith
-value_short escaped (b ∷ w) =
-    cond_short (ends_value escaped b) (suc (length w)) (b ∷ w) (behind_value (escapes escaped b) w) (omega arith) (omega (arith, value_short (escapes escaped b) w))
+value_short : (escaped : Bool) (w : List ℕ) → length (drop (value_len escaped w) w) ≤ length w
+value_short escaped w = omega (arith, length-drop (value_len escaped w) w)
 
 rest_short : (c : Bool) (n : ℕ) (x y : Lexed) → length x.rest ≤ n → length y.rest ≤ n → length (cond c x y).rest ≤ n
 rest_short true n x y p q = p
@@ -50,7 +49,7 @@ quoting_short : (name x : List ℕ) → length (quoting name x).rest ≤ length 
 quoting_short name [] = omega arith
 quoting_short name (b ∷ x) =
     rest_short (b == 34) (suc (length x)) _ _
-    (omega (arith, unquoting_short name (raw_value false x) (behind_value false x), value_short false x)) (omega arith)
+    (omega (arith, unquoting_short name (take (value_len false x) x) (drop (value_len false x) x), value_short false x)) (omega arith)
 
 naming_short : (name x : List ℕ) → length (naming name x).rest ≤ length x
 naming_short [] x = omega arith
@@ -82,16 +81,20 @@ run_splits : (test : ℕ → Bool) (w more : List ℕ) → Splits more (front te
 run_splits test [] more = inr (refl, behind_short test more)
 run_splits test (b ∷ w) more = run_byte more (test b) b w _ _ _ _ (run_splits test w more)
 
-value_byte : (more : List ℕ) (c : Bool) (b : ℕ) (w f g r s : List ℕ) → Splits more f g r s
-    → Splits more (cond c [] (b ∷ f)) (cond c [] (b ∷ g)) (cond c (b ∷ w) r) (cond c (b ∷ (w ++ more)) s)
-value_byte more true b w f g r s splits = inl (refl, refl)
-value_byte more false b w f g r s (inl same) = inl (ap (λ l. b ∷ l) same.0, same.1)
-value_byte more false b w f g r s (inr all) = inr all
+value_byte : (more : List ℕ) (c : Bool) (b n m : ℕ) (w : List ℕ) → Splits more (take n w) (take m (w ++ more)) (drop n w) (drop m (w ++ more))
+    → Splits more (take (cond c 0 (suc n)) (b ∷ w)) (take (cond c 0 (suc m)) (b ∷ (w ++ more)))
+    (drop (cond c 0 (suc n)) (b ∷ w)) (drop (cond c 0 (suc m)) (b ∷ (w ++ more)))
+value_byte more true b n m w splits = inl (refl, refl)
+value_byte more false b n m w (inl same) = inl (ap (λ l. b ∷ l) same.0, same.1)
+value_byte more false b n m w (inr all) = inr all
 
 value_splits : (escaped : Bool) (w more : List ℕ)
-    → Splits more (raw_value escaped w) (raw_value escaped (w ++ more)) (behind_value escaped w) (behind_value escaped (w ++ more))
+    → Splits more (take (value_len escaped w) w) (take (value_len escaped (w ++ more)) (w ++ more))
+    (drop (value_len escaped w) w) (drop (value_len escaped (w ++ more)) (w ++ more))
 value_splits escaped [] more = inr (refl, value_short escaped more)
-value_splits escaped (b ∷ w) more = value_byte more (ends_value escaped b) b w _ _ _ _ (value_splits (escapes escaped b) w more)
+value_splits escaped (b ∷ w) more =
+    value_byte more (not escaped && (b == 34)) b (value_len (escapes escaped b) w) (value_len (escapes escaped b) (w ++ more)) w
+    (value_splits (escapes escaped b) w more)
 
 -- ---- a token in a text and in a longer one
 
@@ -155,7 +158,7 @@ brace_goes x more =
 
 number_goes : (x more : List ℕ) → Goes more (number_from x) (number_from (x ++ more))
 number_goes x more =
-    after_run more (λ f y. lexed_as token.number (behind is_dot y)) (λ f y. run_goes is_dot (λ g. token.number) y more) (λ f y. behind_short is_dot y) _ _ _ _
+    after_run more (λ f y. lexed_as token.number (behind (λ byte. byte == 46) y)) (λ f y. run_goes (λ byte. byte == 46) (λ g. token.number) y more) (λ f y. behind_short (λ byte. byte == 46) y) _ _ _ _
     (run_splits is_ascii_digit x more)
 
 -- ---- what begins with a digit
@@ -169,7 +172,7 @@ move_short : (x : List ℕ) → length (run_from is_move_byte token.move x).rest
 move_short x = behind_short is_move_byte x
 
 number_short : (x : List ℕ) → length (number_from x).rest ≤ length x
-number_short x = omega (arith, behind_short is_dot (behind is_ascii_digit x), behind_short is_ascii_digit x)
+number_short x = omega (arith, behind_short (λ byte. byte == 46) (behind is_ascii_digit x), behind_short is_ascii_digit x)
 
 drop_short : (n : ℕ) (x : List ℕ) → length (drop n x) ≤ length x
 drop_short n x = omega (arith, length-drop n x)
@@ -224,7 +227,7 @@ unfolding lexed
 token_goes b x more =
     both more (b == 91) _ _ _ _ (tag_goes x more)
     (both more (b == 123) _ _ _ _ (brace_goes x more)
-    (both more (b == 59) _ _ _ _ (run_goes (λ byte. not (byte == 10)) (λ f. comment_of (without_return f)) x more)
+    (both more (b == 59) _ _ _ _ (run_goes (λ byte. not (byte == 10)) (λ f. comment_of (strip_carriage_return f)) x more)
     (both more (b == 36) _ _ _ _ (run_goes is_ascii_digit (λ f. unwrap_or (option_map token.nag (decimal_read 255 f)) token.bad) x more)
     (both more (b == 40) _ _ _ _ (inl refl)
     (both more (b == 41) _ _ _ _ (inl refl)
@@ -246,10 +249,10 @@ digit_moves true digit b is = refl
 digit_moves false digit b is = rw is refl
 
 number_shorter : (b : ℕ) (x : List ℕ) → is_ascii_digit b ≡ true → length (number_from (b ∷ x)).rest ≤ length x
-number_shorter b x digit = omega (arith, behind_short is_dot (behind is_ascii_digit (b ∷ x)), run_shorter is_ascii_digit b x digit)
+number_shorter b x digit = omega (arith, behind_short (λ byte. byte == 46) (behind is_ascii_digit (b ∷ x)), run_shorter is_ascii_digit b x digit)
 
 dots_shorter : (b : ℕ) (x : List ℕ) → (b == 46) ≡ true → length (number_from (b ∷ x)).rest ≤ length x
-dots_shorter b x dot = subst (λ n. length (number_from (n ∷ x)).rest ≤ length x) (sym (eqb-true b 46 dot)) (behind_short is_dot x)
+dots_shorter b x dot = subst (λ n. length (number_from (n ∷ x)).rest ≤ length x) (sym (eqb-true b 46 dot)) (behind_short (λ byte. byte == 46) x)
 
 drop_shorter : (n b : ℕ) (x : List ℕ) → 1 ≤ n → length (drop n (b ∷ x)) ≤ length x
 drop_shorter n b x some = omega (arith, length-drop n (b ∷ x), some)

@@ -1,5 +1,6 @@
 -- A good item's game is what the movetext of its tokens means.
 use Rattle.std.proofs.Common.{◌≡◌, ◌&&◌, ◌||◌, nat_le, nat_lt, ℕ, zero, suc, Bool, true, false, not, cond, codes, List, [], ◌∷◌, ◌++◌, length, Some, None, Result, Ok, Err, refl, sym, ap, ◌∙◌, subst, arith, append_assoc}
+use Rattle.pgn_read.specs.Lexing.{lexed, size}
 use Rattle.std.proofs.lemmas.Bool.{and_parts, ltb-false}
 use Rattle.cell_core.specs.declared.step.Move.{Move}
 use Rattle.chess_laws.specs.declared.setup.Setup.{Setup}
@@ -17,12 +18,13 @@ use Rattle.game_tree.specs.Movetext.{Movetext, end, move, nag, comment, variatio
 use Rattle.game_tree.specs.TagList.{is_named}
 use Rattle.game_tree.specs.TagName.{is_among, roster_names}
 use Rattle.game_tree.proofs.MovetextLemmas.{built-items_of}
+use Rattle.pgn_read.specs.declared.item.GameWhat.TheVariants as what
 use Rattle.pgn_read.specs.declared.item.Item.TheVariants.{Good}
 use Rattle.pgn_read.specs.declared.turn.Turn.{Turn}
-use Rattle.pgn_read.specs.Items.{all_spots, by_effect, effect_of, ended, first_token, item_from, next, next_item}
+use Rattle.pgn_read.specs.Items.{all_spots, by_effect, effect_at, ended, first_token, item_from, next, next_item}
 use Rattle.pgn_read.specs.Meant.{IsMeant, all_said, move_said, said, said_at, said_before}
-use Rattle.pgn_read.specs.Reading.{Effect, Reading, at_tag, closed_to, effect, ends_before, ends_behind, fen_effect, game_of, goes_on, has_move, has_tag, is_faulty, is_game, is_inside, is_next_game, move_effect, tag_effect, turn_at, unread}
-use Rattle.pgn_read.specs.Text.{At, Spot}
+use Rattle.pgn_read.specs.Reading.{Effect, Reading, at_tag, closed_to, effect, ends_before, ends_behind, game_of, goes_on, has_move, has_tag, is_faulty, is_inside, is_next_game, tag_effect, turn_at, unread, by_answer, played, with_tag, starting}
+use Rattle.pgn_read.specs.Text.{At}
 use Rattle.pgn_read.specs.Token.{Token}
 use Rattle.pgn_read.specs.Token as token
 
@@ -114,7 +116,7 @@ starting_outer : (p : Setup) (r : Reading) (given : Bool) → (cond given r (rec
 starting_outer p r true = refl
 starting_outer p r false = refl
 
-fen_does : (name value : List ℕ) (r : Reading) (answer : Result Setup FenFault) → Does (token.tag name value) r (fen_effect value r answer)
+fen_does : (name value : List ℕ) (r : Reading) (answer : Result Setup FenFault) → Does (token.tag name value) r (by_answer (λ p. with_tag (codes "FEN") value (starting p r)) what.Fen answer)
 fen_does name value r (Ok p) =
     silent (token.tag name value) r _ refl (starting_moves p r (has_tag (codes "FEN") r.tags)) (starting_outer p r (has_tag (codes "FEN") r.tags))
 fen_does name value r (Err fault) = tt
@@ -130,7 +132,7 @@ tag_does name value r =
 at_tag_does : (t : Token) (r : Reading) (e : Effect) → Does t r e → Does t r (at_tag r e)
 at_tag_does t r e is = does_if t r (is_inside r) _ _ (λ _. tt) (λ out. does_if t r r.in_moves _ _ (λ _. outside (length r.outer) out) (λ _. is))
 
-move_does : (text : List ℕ) (r : Reading) (answer : Result Move SanFault) → answer ≡ san_answer r.turn.now_at text → Does (token.move text) r (move_effect r answer)
+move_does : (text : List ℕ) (r : Reading) (answer : Result Move SanFault) → answer ≡ san_answer r.turn.now_at text → Does (token.move text) r (by_answer (λ m. played m r) what.San answer)
 move_does text r (Ok m) same = record {
   moves = ap (λ (l : List Item). built l r.moves) (ap move_said same);
   brackets = λ items closes. subst (λ (l : List Item). Closes (l ++ items) (length r.outer)) (ap move_said same) closes;
@@ -166,11 +168,11 @@ inside_not : (b : Bool) → not b ≡ true → b ≡ false
 inside_not true e = cc
 inside_not false e = refl
 
-spot_does : (r : Reading) (spot : Spot) → Does spot.token r (effect_of r spot)
+spot_does : (r : Reading) (spot : At) → Does (lexed spot.bytes).token r (effect_at r spot)
 spot_does r spot =
-    does_if spot.token r (is_next_game r spot.at.bytes) _ _
+    does_if (lexed spot.bytes).token r (is_next_game r spot.bytes) _ _
     (λ next. outside (length r.outer) (inside_not (is_inside r) (and_parts (not (is_inside r)) _ (and_parts r.in_moves _ next).1).0))
-    (λ _. does_if spot.token r (nat_lt spot.at.room spot.size) _ _ (λ _. tt) (λ _. token_does spot.token r))
+    (λ _. does_if (lexed spot.bytes).token r (nat_lt spot.room (size spot.bytes)) _ _ (λ _. tt) (λ _. token_does (lexed spot.bytes).token r))
 
 -- ---- the tokens of an item
 
@@ -189,25 +191,25 @@ before_ends : (r : Reading) (a : At) (some : Bool) (head : Head) (game : GameTre
 before_ends r a true head game out good = ends_here r game out (cc)
 before_ends r a false head game out good = absurd (cc)
 
-by_does : (r : Reading) (spot : Spot) (more : List Spot) (e : Effect) (head : Head) (game : GameTree) → Does spot.token r e
+by_does : (r : Reading) (spot : At) (more : List At) (e : Effect) (head : Head) (game : GameTree) → Does (lexed spot.bytes).token r e
     → ((s : Reading) → (item_from s more).item ≡ Some (Good head game) → Read s (all_said s more) game)
-    → (by_effect r spot.at (λ s. item_from s more) e).item ≡ Some (Good head game) → Read r (said_before spot.token r (λ s. all_said s more) e) game
+    → (by_effect r spot (λ s. item_from s more) e).item ≡ Some (Good head game) → Read r (said_before (lexed spot.bytes).token r (λ s. all_said s more) e) game
 by_does r spot more (goes_on s) head game does later good =
     let read = later s good in
     record {
       last = read.last;
       is = read.is;
-      moves = read.moves ∙ (ap (λ (b : Building). built (all_said s more) b) does.moves ∙ sym (built-append (said spot.token r) (all_said s more) r.moves));
+      moves = read.moves ∙ (ap (λ (b : Building). built (all_said s more) b) does.moves ∙ sym (built-append (said (lexed spot.bytes).token r) (all_said s more) r.moves));
       brackets = does.brackets (all_said s more) read.brackets;
     }
 by_does r spot more (ends_behind outcome) head game does later good = ends_here r game does (cc)
-by_does r spot more ends_before head game does later good = before_ends r spot.at (is_game r) head game does good
+by_does r spot more ends_before head game does later good = before_ends r spot (r.in_moves || nat_lt 0 (length r.tags)) head game does good
 by_does r spot more (is_faulty what) head game does later good = absurd (cc)
 
-all_read : (spots : List Spot) (r : Reading) (head : Head) (game : GameTree) → (item_from r spots).item ≡ Some (Good head game) → Read r (all_said r spots) game
+all_read : (spots : List At) (r : Reading) (head : Head) (game : GameTree) → (item_from r spots).item ≡ Some (Good head game) → Read r (all_said r spots) game
 unfolding item_from all_said
 all_read [] r head game good = absurd (cc)
-all_read (spot ∷ more) r head game good = by_does r spot more (effect_of r spot) head game (spot_does r spot) (λ s h. all_read more s head game h) good
+all_read (spot ∷ more) r head game good = by_does r spot more (effect_at r spot) head game (spot_does r spot) (λ s h. all_read more s head game h) good
 
 -- A good item's game.
 pub game_meant : (a : At) (head : Head) (game : GameTree) → (next_item a).item ≡ Some (Good head game) → IsMeant (said_at a) game

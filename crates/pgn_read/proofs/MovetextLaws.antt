@@ -17,13 +17,14 @@ use Rattle.game_tree.specs.Tree.{Played, Variation}
 use Rattle.pgn_write.specs.Token.{Token as Written, token_text, without_brace}
 use Rattle.pgn_write.specs.Token as written
 use Rattle.pgn_write.specs.Tokens.{Turn as WrittenTurn, turn_behind, number_due, tokens_from}
+use Rattle.pgn_read.specs.declared.item.GameWhat.TheVariants as what
 use Rattle.pgn_read.specs.declared.turn.Turn.{Turn}
 use Rattle.pgn_read.specs.Bytes.{is_white, has_zero}
 use Rattle.chess_text.specs.SanAnswer.{san_answer}
 use Rattle.pgn_read.specs.Token.{Token}
 use Rattle.pgn_read.specs.Token as token
-use Rattle.pgn_read.specs.Text.{At, skipped, behind_token, next_at}
-use Rattle.pgn_read.specs.Reading.{Reading, Effect, goes_on, effect, turn_at, moving, played, opened, closed_to, move_effect, has_move, is_inside}
+use Rattle.pgn_read.specs.Text.{At, skipped, behind_token}
+use Rattle.pgn_read.specs.Reading.{Reading, Effect, goes_on, effect, turn_at, moving, played, opened, closed_to, has_move, is_inside, by_answer}
 use Rattle.pgn_read.specs.Items.{by_effect, item_at}
 use Rattle.pgn_read.proofs.SpelledLaws.{are_white, IsLed, Spells, spelled_long}
 use Rattle.pgn_read.proofs.PassingLaws.{Meets, token_met}
@@ -51,7 +52,7 @@ no_next a b c is = rw is rw (and_right b false refl) (and_right a false refl)
 -- The next token has this effect, and the others stand behind it.
 pub record HasEffect (r : Reading) (e : Effect) (ts : List Written) (others : List ℕ) (a : At) : Type 0 where
   pub at : At
-  pub same : item_at r (skipped a) ≡ by_effect r at (λ s. item_at s (next_at at)) e
+  pub same : item_at r (skipped a) ≡ by_effect r at (λ s. item_at s (skipped (behind_token at))) e
   pub stands : Stands ts others (behind_token at)
 
 pub token_effect : (r : Reading) (e : Effect) (w : Written) (t : Token) (ts : List Written) (others : List ℕ) (a : At)
@@ -159,7 +160,7 @@ number_effect r = refl
 
 pub moved_effect : (r : Reading) (m : Move) (text : List ℕ) → san_answer r.turn.now_at text ≡ Ok m → effect (token.move text) r ≡ goes_on (played m r)
 unfolding effect
-moved_effect r m text is = ap (move_effect r) is
+moved_effect r m text is = ap (by_answer (λ m. played m r) what.San) is
 
 pub nag_effect_is : (r : Reading) (n : ℕ) → has_move r ≡ true → effect (token.nag n) r ≡ goes_on (record (moving r) { moves = added (item.nag n) r.moves })
 unfolding effect

@@ -1,5 +1,5 @@
 -- What was written is read again: game by game.
-use Rattle.std.proofs.Common.{◌≡◌, ◌≤◌, ◌+◌, ◌-◌, ◌==◌, ◌&&◌, nat_lt, ℕ, true, false, cond, List, [], ◌∷◌, ◌++◌, map, length, drop, Some, None, is_some, All, refl, sym, ap, ◌∙◌, subst, arith, append_assoc, length-append}
+use Rattle.std.proofs.Common.{◌≡◌, ◌≤◌, ◌+◌, ◌-◌, ◌==◌, ◌&&◌, nat_lt, ℕ, true, false, cond, List, [], ◌∷◌, ◌++◌, map, length, drop, Some, None, is_some, All, refl, sym, ap, ◌∙◌, subst, arith, append_assoc, length-append, flat_map, fold}
 use Rattle.std.proofs.lemmas.Bool.{and_parts, and_right}
 use Rattle.std.specs.List.{AllByRecursion}
 use Rattle.std.proofs.lemmas.List.Elements.{recursion_from_All}
@@ -14,18 +14,18 @@ use Rattle.game_tree.specs.Movetext.{Movetext, items_of}
 use Rattle.game_tree.specs.Written.{movetext_of_game}
 use Rattle.pgn_write.specs.Layout.{layout}
 use Rattle.pgn_write.specs.Pgn.{pgn_of}
-use Rattle.pgn_write.specs.TagPairs.{tags_text, tags_of}
+use Rattle.pgn_write.specs.TagPairs.{tags_of, tag_text}
 use Rattle.pgn_write.specs.Token.{without_brace}
 use Rattle.pgn_write.specs.Token as written
 use Rattle.pgn_write.specs.Tokens.{Turn as WrittenTurn, first_turn, tokens_of}
 use Rattle.pgn_read.specs.declared.item.Item.TheVariants.{Good}
 use Rattle.pgn_read.specs.declared.place.Place.{Place}
 use Rattle.pgn_read.specs.declared.turn.Turn.{Turn}
-use Rattle.pgn_read.specs.Place.{next_place, place_behind}
+use Rattle.pgn_read.specs.Place.{next_place}
 use Rattle.pgn_read.specs.Bytes.{is_white, begins}
 use Rattle.pgn_read.specs.Token as token
 use Rattle.pgn_read.specs.Lexing.{lexed}
-use Rattle.pgn_read.specs.Text.{At, here, longest, behind_gap, skipped, behind_token, byte_order_mark, passed, behind_mark, spots}
+use Rattle.pgn_read.specs.Text.{At, here, longest, behind_gap, skipped, behind_token, passed, behind_mark, spots}
 use Rattle.pgn_read.specs.Heads.{head_from}
 use Rattle.pgn_read.specs.Reading.{Reading, goes_on, ends_behind, effect, moving, unread, game_of}
 use Rattle.pgn_read.specs.Items.{Next, next, item_from, item_at, next_item, AreItems, text_start, PgnReads}
@@ -44,10 +44,10 @@ use Rattle.pgn_read.proofs.TakenLaws.{read_all_tags}
 -- ---- where an item begins
 
 start_at : (a : At) (gap : List ℕ) (byte : ℕ) (text : List ℕ) → a.bytes ≡ gap ++ byte ∷ text → are_white gap ≡ true → begins_token byte ≡ true
-    → whole_room (skipped a) ≡ skipped (here (place_behind a.place gap) longest (byte ∷ text))
+    → whole_room (skipped a) ≡ skipped (here (fold next_place a.place gap) longest (byte ∷ text))
 start_at a gap byte text bytes white begins =
     ap whole_room (ap (λ w. behind_gap false a.place a.room w) bytes ∙ gap_passed gap a.place a.room byte text white begins)
-    ∙ sym (gap_passed [] (place_behind a.place gap) longest byte text refl begins)
+    ∙ sym (gap_passed [] (fold next_place a.place gap) longest byte text refl begins)
 
 gap_end : (gap : List ℕ) (place : Place) (room : ℕ) → are_white gap ≡ true
     → (behind_gap false place room (gap ++ [])).bytes ≡ []
@@ -55,6 +55,9 @@ gap_end [] place room white = refl
 gap_end (w ∷ gap) place room white =
     let b = and_parts (is_white w) (are_white gap) white in
     rw (apart is_white w 37 b.0 refl) rw (and_right (place.column == 1) false refl) rw b.0 (gap_end gap (next_place place w) (room - 1) b.1)
+
+abbrev byte_order_mark : List ℕ
+byte_order_mark = 239 ∷ 187 ∷ 191 ∷ []
 
 unmarked : (a : At) → begins byte_order_mark a.bytes ≡ false → behind_mark a ≡ a
 unmarked a none = ap (λ b. cond b (passed 3 a) a) (ap (λ b. ((a.place.line == 1) && (a.place.column == 1)) && b) none ∙ and_right ((a.place.line == 1) && (a.place.column == 1)) false refl)
@@ -116,14 +119,14 @@ record IsRead (g : Headed) (others : List ℕ) (a : At) : Type 0 where
 movetext_text : Headed → List ℕ → List ℕ
 movetext_text g others = 10 ∷ (layout (tokens_of g.game g.head.result) ++ others)
 
-text_split : (g : Headed) (others : List ℕ) → text_of g ++ others ≡ tags_text (tags_of g.head g.game) ++ movetext_text g (10 ∷ 10 ∷ others)
+text_split : (g : Headed) (others : List ℕ) → text_of g ++ others ≡ flat_map tag_text (tags_of g.head g.game) ++ movetext_text g (10 ∷ 10 ∷ others)
 unfolding pgn_of movetext_text
 text_split g others =
     let lines : List ℕ = layout (tokens_of g.game g.head.result) in
-    append_assoc (tags_text (tags_of g.head g.game)) (10 ∷ (lines ++ 10 ∷ 10 ∷ [])) others
-    ∙ ap (λ l. tags_text (tags_of g.head g.game) ++ 10 ∷ l) (append_assoc lines (10 ∷ 10 ∷ []) others)
+    append_assoc (flat_map tag_text (tags_of g.head g.game)) (10 ∷ (lines ++ 10 ∷ 10 ∷ [])) others
+    ∙ ap (λ l. flat_map tag_text (tags_of g.head g.game) ++ 10 ∷ l) (append_assoc lines (10 ∷ 10 ∷ []) others)
 
-first_byte : (head : Head) (game : GameTree) (tail : List ℕ) → tags_text (tags_of head game) ++ tail ≡ 91 ∷ drop 1 (tags_text (tags_of head game) ++ tail)
+first_byte : (head : Head) (game : GameTree) (tail : List ℕ) → flat_map tag_text (tags_of head game) ++ tail ≡ 91 ∷ drop 1 (flat_map tag_text (tags_of head game) ++ tail)
 first_byte head game tail = refl
 
 tags_stand : (g : Headed) (others : List ℕ) (a : At) → stops others ≡ true → Has (movetext_text g others) others a → Stands (tokens_of g.game g.head.result) others a
@@ -140,11 +143,11 @@ tags_stand g others a stop has =
     }
 
 -- The first tag begins an item.
-item_begins : (g : Headed) (tail : List ℕ) (a : At) (gap : List ℕ) → behind_mark a ≡ a → a.bytes ≡ gap ++ (tags_text (tags_of g.head g.game) ++ tail)
-    → are_white gap ≡ true → next_item a ≡ item_at unread (skipped (here (place_behind a.place gap) longest (tags_text (tags_of g.head g.game) ++ tail)))
+item_begins : (g : Headed) (tail : List ℕ) (a : At) (gap : List ℕ) → behind_mark a ≡ a → a.bytes ≡ gap ++ (flat_map tag_text (tags_of g.head g.game) ++ tail)
+    → are_white gap ≡ true → next_item a ≡ item_at unread (skipped (here (fold next_place a.place gap) longest (flat_map tag_text (tags_of g.head g.game) ++ tail)))
 unfolding next_item
 item_begins g tail a gap mark bytes white =
-    let rest : List ℕ = drop 1 (tags_text (tags_of g.head g.game) ++ tail) in
+    let rest : List ℕ = drop 1 (flat_map tag_text (tags_of g.head g.game) ++ tail) in
     ap (λ c. item_at unread (whole_room (skipped c))) mark
     ∙ ap (item_at unread) (start_at a gap 91 rest (bytes ∙ ap (λ l. gap ++ l) (first_byte g.head g.game tail)) white refl)
 
@@ -167,8 +170,8 @@ unfolding movetext_text
 game_is_read g others a gap is mark bytes white =
     let last : List ℕ = 10 ∷ 10 ∷ others in
     let tail : List ℕ = movetext_text g last in
-    let text : List ℕ = tags_text (tags_of g.head g.game) ++ tail in
-    let b : At = here (place_behind a.place gap) longest text in
+    let text : List ℕ = flat_map tag_text (tags_of g.head g.game) ++ tail in
+    let b : At = here (fold next_place a.place gap) longest text in
     let begins : next_item a ≡ item_at unread (skipped b) = item_begins g tail a gap mark (bytes ∙ ap (λ l. gap ++ l) (text_split g others)) white in
     let size : length text ≤ longest + length last =
     omega (arith, is.short, ap length (text_split g others), length-append (text_of g) others) in

@@ -1,8 +1,9 @@
 -- What every token keeps: the bytes of a tag's name are those of such names, and no text has a zero byte.
-use Rattle.std.proofs.Common.{◌≡◌, ◌≢◌, ◌≤◌, ◌==◌, ◌||◌, ℕ, Bool, true, false, not, cond, IsTrue, List, [], ◌∷◌, ◌++◌, length, drop, option_map, codes, All, Option, Some, None, inl, inr, refl, arith}
+use Rattle.std.proofs.Common.{◌≡◌, ◌≢◌, ◌≤◌, ◌==◌, ◌||◌, ℕ, Bool, true, false, not, cond, IsTrue, List, [], ◌∷◌, ◌++◌, length, drop, option_map, codes, All, Option, Some, None, inl, inr, refl, arith, take}
+use Rattle.std.specs.Str.Lines.{strip_carriage_return}
 use Rattle.std.proofs.lemmas.Bool.{cases_Bool, eqb-false}
 use Rattle.std.proofs.lemmas.List.Elements.{All-from_recursion}
-use Rattle.std.specs.List.{AllByRecursion}
+use Rattle.std.specs.List.{AllByRecursion, position_from}
 use Rattle.std.specs.Str.{bytes_eq}
 use Rattle.std.specs.Option.{unwrap_or}
 use Rattle.std.specs.Char.{is_ascii_digit}
@@ -11,8 +12,8 @@ use Rattle.game_tree.specs.TagName.{is_tag_byte, IsTagByte}
 use Rattle.pgn_read.specs.Bytes.{is_white, is_move_byte, is_glyph, has_zero, front, behind, begins}
 use Rattle.pgn_read.specs.Token.{Token, Lexed}
 use Rattle.pgn_read.specs.Token as token
-use Rattle.pgn_read.specs.TagText.{escapes, meant_by, unescaped_from, raw_value, behind_value, closing, quoting, naming, tag_from}
-use Rattle.pgn_read.specs.Lexing.{comment_of, braced, without_return, suffix_of, digit_from, by_kind, lexed}
+use Rattle.pgn_read.specs.TagText.{escapes, meant_by, unescaped_from, closing, quoting, naming, tag_from, value_len}
+use Rattle.pgn_read.specs.Lexing.{comment_of, braced, suffix_of, digit_from, by_kind, lexed, suffixes}
 use Rattle.pgn_read.specs.Said.{IsSound}
 
 sound_if : (c : Bool) (x y : Lexed) → IsSound x.token → IsSound y.token → IsSound (cond c x y).token
@@ -87,7 +88,7 @@ closing_sound name raw (b ∷ x) some each = sound_if (b == 93) _ _ (pair_sound 
 
 quoting_sound : (name x : List ℕ) → 1 ≤ length name → All IsTagByte name → IsSound (quoting name x).token
 quoting_sound name [] some each = tt
-quoting_sound name (b ∷ x) some each = sound_if (b == 34) _ _ (closing_sound name (raw_value false x) (behind is_white (drop 1 (behind_value false x))) some each) tt
+quoting_sound name (b ∷ x) some each = sound_if (b == 34) _ _ (closing_sound name (take (value_len false x) x) (behind is_white (drop 1 (drop (value_len false x) x))) some each) tt
 
 naming_sound : (name x : List ℕ) → All IsTagByte name → IsSound (naming name x).token
 naming_sound [] x each = tt
@@ -110,13 +111,7 @@ nag_sound (Some n) = tt
 
 suffix_sound : (glyphs : List ℕ) → IsSound (suffix_of glyphs)
 unfolding suffix_of
-suffix_sound glyphs =
-    token_if (bytes_eq glyphs (codes "!")) _ _ tt
-    (token_if (bytes_eq glyphs (codes "?")) _ _ tt
-    (token_if (bytes_eq glyphs (codes "!!")) _ _ tt
-    (token_if (bytes_eq glyphs (codes "??")) _ _ tt
-    (token_if (bytes_eq glyphs (codes "!?")) _ _ tt
-    (token_if (bytes_eq glyphs (codes "?!")) _ _ tt tt)))))
+suffix_sound glyphs = nag_sound (position_from (bytes_eq glyphs) 1 suffixes)
 
 digit_sound : (x : List ℕ) → IsSound (digit_from x).token
 unfolding digit_from
@@ -138,7 +133,7 @@ token_sound [] = tt
 token_sound (b ∷ x) =
     sound_if (b == 91) _ _ (tag_sound x)
     (sound_if (b == 123) _ _ (brace_sound (front (λ byte. not (byte == 125)) x) (behind (λ byte. not (byte == 125)) x))
-    (sound_if (b == 59) _ _ (comment_sound (without_return (front (λ byte. not (byte == 10)) x)))
+    (sound_if (b == 59) _ _ (comment_sound (strip_carriage_return (front (λ byte. not (byte == 10)) x)))
     (sound_if (b == 36) _ _ (nag_sound (decimal_read 255 (front is_ascii_digit x)))
     (sound_if (b == 40) _ _ tt
     (sound_if (b == 41) _ _ tt

@@ -1,10 +1,10 @@
 -- The layout of tokens on lines spells them one by one, each led by a space, a line feed or nothing.
-use Rattle.std.proofs.Common.{◌≡◌, ◌≤◌, ◌+◌, ◌==◌, ◌||◌, ◌&&◌, ℕ, Bool, true, false, cond, List, [], ◌∷◌, ◌++◌, length, map, refl, sym, ap, ◌∙◌, append_assoc, append-nil, arith, length-append}
+use Rattle.std.proofs.Common.{◌≡◌, ◌≤◌, ◌+◌, ◌==◌, ◌||◌, ◌&&◌, ℕ, Bool, true, false, cond, List, [], ◌∷◌, ◌++◌, length, map, refl, sym, ap, ◌∙◌, append_assoc, append-nil, arith, length-append, flat_map}
 use Rattle.std.proofs.lemmas.Bool.{true≢false}
 use Rattle.pgn_read.specs.Bytes.{is_white}
 use Rattle.pgn_write.specs.Token.{Token, token_text, closes}
 use Rattle.pgn_write.specs.Token as token
-use Rattle.pgn_write.specs.Layout.{holds_next, is_closing, begins_closing, joined, units, unit_text, has_room, column_after, laid_behind, laid, layout}
+use Rattle.pgn_write.specs.Layout.{holds_next, begins_closing, joined, units, has_room, column_after, laid_behind, laid, layout}
 
 -- White bytes alone.
 abbrev pub are_white : List ℕ → Bool
@@ -34,31 +34,30 @@ Spells tail (t ∷ ts) text = IsLed t (Spells tail ts) text
 abbrev AreLaid : List ℕ → List (List Token) → List ℕ → Type 0
 AreLaid tail [] text = text ≡ tail
 AreLaid tail (unit ∷ units) text =
-    (sep : ℕ) × (more : List ℕ) × (is_white sep ≡ true) × (stops (sep ∷ []) ≡ true) × (text ≡ sep ∷ (unit_text unit ++ more)) × AreLaid tail units more
+    (sep : ℕ) × (more : List ℕ) × (is_white sep ≡ true) × (stops (sep ∷ []) ≡ true) × (text ≡ sep ∷ (flat_map token_text unit ++ more)) × AreLaid tail units more
 
 abbrev Begins : List ℕ → List (List Token) → List ℕ → Type 0
 Begins tail [] text = text ≡ tail
-Begins tail (unit ∷ units) text = (more : List ℕ) × (text ≡ unit_text unit ++ more) × AreLaid tail units more
+Begins tail (unit ∷ units) text = (more : List ℕ) × (text ≡ flat_map token_text unit ++ more) × AreLaid tail units more
 
 -- ---- the layout lays units
 
-chosen_space : (c : Bool) (a b : List ℕ) (tail : List ℕ) (us : List (List Token)) (u : List Token)
-    → AreLaid tail us (a ++ tail) → AreLaid tail us (b ++ tail)
-    → AreLaid tail (u ∷ us) (cond c (32 ∷ unit_text u ++ a) (10 ∷ unit_text u ++ b) ++ tail)
-chosen_space true a b tail us u p q = (32, a ++ tail, refl, refl, ap (λ t. 32 ∷ t) (append_assoc (unit_text u) a tail), p)
-chosen_space false a b tail us u p q = (10, b ++ tail, refl, refl, ap (λ t. 10 ∷ t) (append_assoc (unit_text u) b tail), q)
+chosen_space : (c : Bool) (a : List ℕ) (tail : List ℕ) (us : List (List Token)) (u : List Token)
+    → AreLaid tail us (a ++ tail) → AreLaid tail (u ∷ us) ((cond c 32 10 ∷ flat_map token_text u ++ a) ++ tail)
+chosen_space true a tail us u p = (32, a ++ tail, refl, refl, ap (λ t. 32 ∷ t) (append_assoc (flat_map token_text u) a tail), p)
+chosen_space false a tail us u p = (10, a ++ tail, refl, refl, ap (λ t. 10 ∷ t) (append_assoc (flat_map token_text u) a tail), p)
 
-behind_laid : (column : ℕ) (us : List (List Token)) (tail : List ℕ) → AreLaid tail us (laid_behind column (map unit_text us) ++ tail)
+behind_laid : (column : ℕ) (us : List (List Token)) (tail : List ℕ) → AreLaid tail us (laid_behind column (map (flat_map token_text) us) ++ tail)
 behind_laid column [] tail = refl
 behind_laid column (u ∷ us) tail =
-    chosen_space (has_room column (unit_text u)) _ _ tail us u
-    (behind_laid (column_after (column + 1) (unit_text u)) us tail) (behind_laid (column_after 0 (unit_text u)) us tail)
+    chosen_space (has_room column (flat_map token_text u)) _ tail us u
+    (behind_laid (column_after column (cond (has_room column (flat_map token_text u)) 32 10 ∷ flat_map token_text u)) us tail)
 
-laid_begins : (us : List (List Token)) (tail : List ℕ) → Begins tail us (laid (map unit_text us) ++ tail)
+laid_begins : (us : List (List Token)) (tail : List ℕ) → Begins tail us (laid (map (flat_map token_text) us) ++ tail)
 laid_begins [] tail = refl
 laid_begins (u ∷ us) tail =
-    let column = column_after 0 (unit_text u) in
-    (laid_behind column (map unit_text us) ++ tail, append_assoc (unit_text u) (laid_behind column (map unit_text us)) tail, behind_laid column us tail)
+    let column = column_after 0 (flat_map token_text u) in
+    (laid_behind column (map (flat_map token_text) us) ++ tail, append_assoc (flat_map token_text u) (laid_behind column (map (flat_map token_text) us)) tail, behind_laid column us tail)
 
 -- ---- laid units spell the tokens
 
@@ -76,7 +75,7 @@ first_led : (tail : List ℕ) (t : Token) (ts : List Token) (us : List (List Tok
     → ((x : List ℕ) → Begins tail us x → Spells tail (t ∷ ts) x) → AreLaid tail us more → Spells tail (t ∷ ts) more
 first_led tail t ts [] more so is = so more is
 first_led tail t ts (u ∷ us) more so (sep, rest, white, stop, is, laid) =
-    add_gap t (Spells tail ts) sep (unit_text u ++ rest) more white is (so (unit_text u ++ rest) (rest, refl, laid))
+    add_gap t (Spells tail ts) sep (flat_map token_text u ++ rest) more white is (so (flat_map token_text u ++ rest) (rest, refl, laid))
 
 after_unit : (tail : List ℕ) (ts : List Token) (more : List ℕ)
     → ((x : List ℕ) → Begins tail (units ts) x → Spells tail ts x) → AreLaid tail (units ts) more → Spells tail ts more
@@ -89,31 +88,31 @@ laid_stops tail (u ∷ us) more stop (sep, rest, white, ends, is, laid) = ap sto
 
 -- A unit that begins with a closing bracket begins with a byte that lengthens no token.
 closing_joined : (c : Bool) (us rest : List (List Token)) (u : List Token) (more : List ℕ)
-    → cond c (joined token.closes us) ((token.closes ∷ []) ∷ us) ≡ u ∷ rest → stops (unit_text u ++ more) ≡ true
+    → cond c (joined token.closes us) ((token.closes ∷ []) ∷ us) ≡ u ∷ rest → stops (flat_map token_text u ++ more) ≡ true
 closing_joined true [] rest u more is =
     let e : token.closes ∷ [] ≡ u = cc in
-    ap (λ v. stops (unit_text v ++ more)) (sym e)
+    ap (λ v. stops (flat_map token_text v ++ more)) (sym e)
 closing_joined true (v ∷ us) rest u more is =
     let e : token.closes ∷ v ≡ u = cc in
-    ap (λ w. stops (unit_text w ++ more)) (sym e)
+    ap (λ w. stops (flat_map token_text w ++ more)) (sym e)
 closing_joined false us rest u more is =
     let e : token.closes ∷ [] ≡ u = cc in
-    ap (λ v. stops (unit_text v ++ more)) (sym e)
+    ap (λ v. stops (flat_map token_text v ++ more)) (sym e)
 
-closing_is : (t : Token) → is_closing t ≡ true → t ≡ token.closes
-closing_is (token.number n side) is = absurd (cc)
-closing_is (token.move text) is = absurd (cc)
-closing_is (token.nag n) is = absurd (cc)
-closing_is (token.comment text) is = absurd (cc)
-closing_is token.opens is = absurd (cc)
-closing_is token.closes is = refl
-closing_is (token.ending outcome) is = absurd (cc)
+closing_is : (t : Token) (ts : List Token) → begins_closing (t ∷ ts) ≡ true → t ≡ token.closes
+closing_is (token.number n side) ts is = absurd (cc)
+closing_is (token.move text) ts is = absurd (cc)
+closing_is (token.nag n) ts is = absurd (cc)
+closing_is (token.comment text) ts is = absurd (cc)
+closing_is token.opens ts is = absurd (cc)
+closing_is token.closes ts is = refl
+closing_is (token.ending outcome) ts is = absurd (cc)
 
 closing_first : (ts : List Token) (u : List Token) (us : List (List Token)) (more : List ℕ) → begins_closing ts ≡ true → units ts ≡ u ∷ us
-    → stops (unit_text u ++ more) ≡ true
+    → stops (flat_map token_text u ++ more) ≡ true
 closing_first [] u us more begins is = absurd (cc)
 closing_first (t ∷ ts) u us more begins is =
-    closing_joined (begins_closing ts) (units ts) us u more (ap (λ k. units (k ∷ ts)) (sym (closing_is t begins)) ∙ is)
+    closing_joined (begins_closing ts) (units ts) us u more (ap (λ k. units (k ∷ ts)) (sym (closing_is t ts begins)) ∙ is)
 
 alone : (tail : List ℕ) (t : Token) (ts : List Token) (us : List (List Token)) (text : List ℕ) → stops tail ≡ true
     → ((x : List ℕ) → AreLaid tail us x → Spells tail ts x) → Begins tail ((t ∷ []) ∷ us) text → Spells tail (t ∷ ts) text
@@ -127,15 +126,15 @@ alone tail t ts us text stop after (more, is, laid) = record {
 }
 
 held : (tail : List ℕ) (t : Token) (ts : List Token) (us : List (List Token)) (u : List Token) (text : List ℕ)
-    → (holds_next t ≡ false → (more : List ℕ) → stops (unit_text u ++ more) ≡ true)
+    → (holds_next t ≡ false → (more : List ℕ) → stops (flat_map token_text u ++ more) ≡ true)
     → ((x : List ℕ) → Begins tail (u ∷ us) x → Spells tail ts x) → Begins tail ((t ∷ u) ∷ us) text → Spells tail (t ∷ ts) text
 held tail t ts us u text closing so (more, is, laid) = record {
   gap = [];
-  more = unit_text u ++ more;
-  is = is ∙ append_assoc (token_text t) (unit_text u) more;
+  more = flat_map token_text u ++ more;
+  is = is ∙ append_assoc (token_text t) (flat_map token_text u) more;
   white = refl;
   stop = λ holds. closing holds more;
-  rest = so (unit_text u ++ more) (more, refl, laid);
+  rest = so (flat_map token_text u ++ more) (more, refl, laid);
 }
 
 unit_spells : (tail : List ℕ) (t : Token) (ts : List Token) (text : List ℕ) (c d : Bool) (us : List (List Token))
@@ -158,7 +157,7 @@ begun_spells tail (t ∷ ts) text stop is =
 
 pub layout_spells : (ts : List Token) (tail : List ℕ) → stops tail ≡ true → Spells tail ts (layout ts ++ tail)
 unfolding layout
-layout_spells ts tail stop = begun_spells tail ts (laid (map unit_text (units ts)) ++ tail) stop (laid_begins (units ts) tail)
+layout_spells ts tail stop = begun_spells tail ts (laid (map (flat_map token_text) (units ts)) ++ tail) stop (laid_begins (units ts) tail)
 
 -- What is spelled has at least the tail.
 pub spelled_long : (tail : List ℕ) (ts : List Token) (text : List ℕ) → Spells tail ts text → length tail ≤ length text

@@ -1,5 +1,6 @@
 -- A game whose tokens spell a movetext is read as what the movetext means.
 use Rattle.std.proofs.Common.{◌≡◌, ◌≤◌, ◌<◌, ◌==◌, nat_lt, ℕ, suc, Bool, true, false, not, cond, List, [], ◌∷◌, ◌++◌, length, Some, is_some, Ok, refl, sym, ap, ◌∙◌, subst, arith, append_assoc}
+use Rattle.pgn_read.specs.Lexing.{lexed, size}
 use Rattle.std.specs.Prelude.{slice_index_or}
 use Rattle.chess_laws.specs.declared.setup.Setup.{Setup}
 use Rattle.chess_laws.specs.Step.{stepped}
@@ -13,10 +14,10 @@ use Rattle.game_tree.proofs.MovetextLemmas.{Reads as Meant, built-items_of}
 use Rattle.pgn_read.specs.declared.item.Item.TheVariants.{Good}
 use Rattle.pgn_read.specs.declared.turn.Turn.{Turn}
 use Rattle.pgn_read.specs.Heads.{head_from}
-use Rattle.pgn_read.specs.Items.{Next, by_effect, effect_of, item_from}
+use Rattle.pgn_read.specs.Items.{Next, by_effect, effect_at, item_from}
 use Rattle.pgn_read.specs.MovetextSpelling.{Spelling, end, number, move, nag, comment, variation, tokens_by, movetext_by, IsSpelling, IsSpot, StandFirst, behind_tags, game_meant}
 use Rattle.pgn_read.specs.Reading.{Reading, Effect, goes_on, ends_behind, effect, is_inside, is_next_game, moving, played, opened, game_of}
-use Rattle.pgn_read.specs.Text.{Spot}
+use Rattle.pgn_read.specs.Text.{At}
 use Rattle.pgn_read.specs.Token.{Token}
 use Rattle.pgn_read.specs.Token as token
 use Rattle.pgn_read.proofs.MovetextLaws.{IsAt, built_append, no_next, number_effect, moved_effect, nag_effect_is, comment_effect, opens_effect_is, closing, closes_effect, nag_kept, comment_kept, around_kept, opened_at}
@@ -30,33 +31,33 @@ within : (size room : ℕ) → size ≤ room → nat_lt room size ≡ false
 within size room fits = search (arith, fits)
 
 -- What a token does where it stands.
-spot_effect : (r : Reading) (t : Token) (spot : Spot) → IsSpot t spot → effect_of r spot ≡ effect t r
+spot_effect : (r : Reading) (t : Token) (spot : At) → IsSpot t spot → effect_at r spot ≡ effect t r
 spot_effect r t spot is =
-    past (is_next_game r spot.at.bytes) (nat_lt spot.at.room spot.size) _ _ (effect spot.token r)
-    (no_next r.in_moves (not (is_inside r)) (slice_index_or spot.at.bytes 0 0 == 91) is.no_tag) (within spot.size spot.at.room is.fits)
+    past (is_next_game r spot.bytes) (nat_lt spot.room (size spot.bytes)) _ _ (effect (lexed spot.bytes).token r)
+    (no_next r.in_moves (not (is_inside r)) (slice_index_or spot.bytes 0 0 == 91) is.no_tag) (within (size spot.bytes) spot.room is.fits)
     ∙ ap (λ (t : Token). effect t r) is.token
 
 -- Reading goes on behind it.
-record Goes (r s : Reading) (ts : List Token) (spots : List Spot) : Type 0 where
-  left : List Spot
+record Goes (r s : Reading) (ts : List Token) (spots : List At) : Type 0 where
+  left : List At
   same : item_from r spots ≡ item_from s left
   stand : StandFirst ts left
 
-goes : (r s : Reading) (t : Token) (ts : List Token) (spots : List Spot) → effect t r ≡ goes_on s → StandFirst (t ∷ ts) spots → Goes r s ts spots
+goes : (r s : Reading) (t : Token) (ts : List Token) (spots : List At) → effect t r ≡ goes_on s → StandFirst (t ∷ ts) spots → Goes r s ts spots
 unfolding item_from
 goes r s t ts [] does stand = absurd stand
 goes r s t ts (spot ∷ spots) does stand = record {
   left = spots;
-  same = ap (by_effect r spot.at (λ (q : Reading). item_from q spots)) (spot_effect r t spot stand.0 ∙ does);
+  same = ap (by_effect r spot (λ (q : Reading). item_from q spots)) (spot_effect r t spot stand.0 ∙ does);
   stand = stand.1;
 }
 
 -- ---- a movetext
 
 -- What was read is the movetext behind what was read before.
-record Reads (s : Spelling) (r : Reading) (ts : List Token) (spots : List Spot) : Type 0 where
+record Reads (s : Spelling) (r : Reading) (ts : List Token) (spots : List At) : Type 0 where
   to : Reading
-  left : List Spot
+  left : List At
   same : item_from r spots ≡ item_from to left
   stand : StandFirst ts left
   tags : to.tags ≡ r.tags
@@ -65,7 +66,7 @@ record Reads (s : Spelling) (r : Reading) (ts : List Token) (spots : List Spot) 
   moves : to.moves ≡ built (items_of (movetext_by s)) r.moves
 
 -- A token that changes the moves alone, and a movetext behind it.
-behind_one : (whole s : Spelling) (r q : Reading) (ts us : List Token) (spots : List Spot) → (g : Goes r q us spots)
+behind_one : (whole s : Spelling) (r q : Reading) (ts us : List Token) (spots : List At) → (g : Goes r q us spots)
     → q.tags ≡ r.tags → q.start ≡ r.start → q.outer ≡ r.outer → built (items_of (movetext_by s)) q.moves ≡ built (items_of (movetext_by whole)) r.moves
     → Reads s q ts g.left → Reads whole r ts spots
 behind_one whole s r q ts us spots g tags start outer moves rest = record {
@@ -79,7 +80,7 @@ behind_one whole s r q ts us spots g tags start outer moves rest = record {
   moves = rest.moves ∙ moves;
 }
 
-reads : (s : Spelling) (level : ℕ) (before here : Setup) (moved : Bool) (r : Reading) (ts : List Token) (spots : List Spot)
+reads : (s : Spelling) (level : ℕ) (before here : Setup) (moved : Bool) (r : Reading) (ts : List Token) (spots : List At)
     → IsSpelling level before here moved s → IsAt level before here moved r → StandFirst (tokens_by s ++ ts) spots → Reads s r ts spots
 reads end level before here moved r ts spots is at stand =
     record { to = r; left = spots; same = refl; stand = stand; tags = refl; start = refl; outer = refl; moves = refl }
@@ -135,15 +136,15 @@ ending_outside : (r : Reading) (outcome : Outcome) → r.outer ≡ [] → effect
 unfolding effect
 ending_outside r outcome outside = rw outside refl
 
-ends : (r : Reading) (outcome : Outcome) (spots : List Spot) → r.outer ≡ [] → StandFirst (token.ending outcome ∷ []) spots
+ends : (r : Reading) (outcome : Outcome) (spots : List At) → r.outer ≡ [] → StandFirst (token.ending outcome ∷ []) spots
     → (item_from r spots).item ≡ Some (Good (head_from r.tags (Some outcome)) (game_of r))
 unfolding item_from
 ends r outcome [] outside stand = absurd stand
 ends r outcome (spot ∷ spots) outside stand =
-    ap (λ (e : Effect). (by_effect r spot.at (λ (q : Reading). item_from q spots) e).item)
+    ap (λ (e : Effect). (by_effect r spot (λ (q : Reading). item_from q spots) e).item)
     (spot_effect r (token.ending outcome) spot stand.0 ∙ ending_outside r outcome outside)
 
-pub movetext_meant : (tags : List Tag) (start : Setup) (s : Spelling) (outcome : Outcome) (spots : List Spot) → IsSpelling 0 start start false s
+pub movetext_meant : (tags : List Tag) (start : Setup) (s : Spelling) (outcome : Outcome) (spots : List At) → IsSpelling 0 start start false s
     → StandFirst (tokens_by s ++ (token.ending outcome ∷ [])) spots
     → (item_from (behind_tags tags start) spots).item ≡ Some (Good (head_from tags (Some outcome)) (game_meant start (movetext_by s)))
 movetext_meant tags start s outcome spots is stand =

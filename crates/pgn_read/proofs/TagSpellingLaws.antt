@@ -6,11 +6,11 @@ use Rattle.game_tree.specs.TagName.{is_tag_byte}
 use Rattle.pgn_read.specs.Bytes.{is_white, has_zero, front, behind}
 use Rattle.pgn_read.specs.Token.{lexed_as}
 use Rattle.pgn_read.specs.Token as token
-use Rattle.pgn_read.specs.TagText.{raw_value, behind_value, unescaped_from, closing, quoting, naming}
+use Rattle.pgn_read.specs.TagText.{unescaped_from, closing, quoting, naming}
 use Rattle.pgn_read.specs.TagSpelling.{Spelling, done, byte, escape, alone, spelled, said_by, is_escaped, IsSpelling, TagParts, AreParts, tag_before}
 use Rattle.pgn_read.specs.Lexing.{lexed}
 use Rattle.pgn_read.proofs.RunLaws.{ends_run, front_run, behind_run}
-use Rattle.pgn_read.proofs.TagTextLaws.{name_no_white, closed_so}
+use Rattle.pgn_read.proofs.TagTextLaws.{name_no_white, closed_so, raw_value, behind_value}
 
 -- ---- values
 

@@ -1,5 +1,5 @@
 -- The tags of a game are read one by one.
-use Rattle.std.proofs.Common.{◌≡◌, ◌≤◌, ◌+◌, ◌||◌, ◌&&◌, nat_le, nat_lt, ℕ, true, false, cond, List, [], ◌∷◌, ◌++◌, length, codes, Ok, refl, sym, ap, ◌∙◌, subst, arith, append_assoc, append-nil, length-append}
+use Rattle.std.proofs.Common.{◌≡◌, ◌≤◌, ◌+◌, ◌||◌, ◌&&◌, nat_le, nat_lt, ℕ, true, false, cond, List, [], ◌∷◌, ◌++◌, length, codes, Ok, refl, sym, ap, ◌∙◌, subst, arith, append_assoc, append-nil, length-append, flat_map}
 use Rattle.std.specs.List.{list_all, AllByRecursion}
 use Rattle.std.proofs.lemmas.Bool.{and_parts, leb-true, or_from}
 use Rattle.std.proofs.lemmas.List.Elements.{All-from_recursion}
@@ -10,15 +10,16 @@ use Rattle.game_tree.specs.Building.{opening}
 use Rattle.game_tree.specs.Head.{IsName}
 use Rattle.game_tree.specs.TagList.{is_named}
 use Rattle.game_tree.specs.TagName.{is_tag_byte, IsTagByte, IsTagName, is_tag_name, is_among, roster_names}
-use Rattle.pgn_write.specs.TagPairs.{escaped, tag_text, tags_text}
+use Rattle.pgn_write.specs.TagPairs.{escaped_byte, tag_text}
 use Rattle.chess_text.specs.FenAnswer.{fen_answer}
+use Rattle.pgn_read.specs.declared.item.GameWhat.TheVariants as what
 use Rattle.pgn_read.specs.declared.item.GameWhat.TheVariants.{TagTooLong}
 use Rattle.pgn_read.specs.declared.turn.Turn.{Turn}
 use Rattle.pgn_read.specs.Token.{lexed_as}
 use Rattle.pgn_read.specs.Token as token
 use Rattle.pgn_read.specs.Lexing.{lexed}
 use Rattle.pgn_read.specs.Text.{At, skipped, behind_token}
-use Rattle.pgn_read.specs.Reading.{Reading, Effect, goes_on, ends_before, is_faulty, effect, turn_at, with_tag, has_tag, starting, fen_effect, tag_effect, at_tag, is_inside, is_next_game}
+use Rattle.pgn_read.specs.Reading.{Reading, Effect, goes_on, ends_before, is_faulty, effect, turn_at, with_tag, has_tag, starting, tag_effect, at_tag, is_inside, is_next_game, by_answer}
 use Rattle.pgn_read.specs.Items.{item_at}
 use Rattle.pgn_read.proofs.SpelledLaws.{are_white}
 use Rattle.pgn_read.proofs.PassingLaws.{enough_room, Meets, token_met}
@@ -63,13 +64,13 @@ AreTaken given (tag ∷ tags) = IsTaken given tag × AreTaken (given ++ tag ∷ 
 -- ---- the bytes of a tag
 
 tag_front : Tag → List ℕ
-tag_front tag = tag.name ++ (32 ∷ 34 ∷ (escaped tag.value ++ (34 ∷ 93 ∷ [])))
+tag_front tag = tag.name ++ (32 ∷ 34 ∷ (flat_map escaped_byte tag.value ++ (34 ∷ 93 ∷ [])))
 
-tag_then : (tag : Tag) (last rest : List ℕ) → (91 ∷ (tag.name ++ (32 ∷ 34 ∷ (escaped tag.value ++ (34 ∷ 93 ∷ last))))) ++ rest
-    ≡ 91 ∷ (tag.name ++ (32 ∷ 34 ∷ (escaped tag.value ++ (34 ∷ 93 ∷ (last ++ rest)))))
+tag_then : (tag : Tag) (last rest : List ℕ) → (91 ∷ (tag.name ++ (32 ∷ 34 ∷ (flat_map escaped_byte tag.value ++ (34 ∷ 93 ∷ last))))) ++ rest
+    ≡ 91 ∷ (tag.name ++ (32 ∷ 34 ∷ (flat_map escaped_byte tag.value ++ (34 ∷ 93 ∷ (last ++ rest)))))
 tag_then tag last rest =
-    ap (λ l. 91 ∷ l) (append_assoc tag.name (32 ∷ 34 ∷ (escaped tag.value ++ (34 ∷ 93 ∷ last))) rest
-    ∙ ap (λ l. tag.name ++ (32 ∷ 34 ∷ l)) (append_assoc (escaped tag.value) (34 ∷ 93 ∷ last) rest))
+    ap (λ l. 91 ∷ l) (append_assoc tag.name (32 ∷ 34 ∷ (flat_map escaped_byte tag.value ++ (34 ∷ 93 ∷ last))) rest
+    ∙ ap (λ l. tag.name ++ (32 ∷ 34 ∷ l)) (append_assoc (flat_map escaped_byte tag.value) (34 ∷ 93 ∷ last) rest))
 
 tag_split : (tag : Tag) (tail : List ℕ) → tag_text tag ++ tail ≡ (91 ∷ tag_front tag) ++ (10 ∷ tail)
 unfolding tag_front
@@ -114,7 +115,7 @@ plain_effect p given tag r begun taken =
     begun_effect p given r (tag_effect tag.name tag.value r) begun
     ∙ past_two (is_among roster_names tag.name && has_tag tag.name r.tags) (nat_lt 240 (length tag.name) || nat_lt 255 (length tag.value)) _ _ _
     (ap (λ l. is_among roster_names tag.name && has_tag tag.name l) begun.tags ∙ taken.once) (within_bounds tag.name tag.value taken.name taken.value)
-    ∙ ap (λ b. cond b (fen_effect tag.value r (fen_answer tag.value)) (goes_on (with_tag tag.name tag.value r))) taken.no_start
+    ∙ ap (λ b. cond b (by_answer (λ p. with_tag (codes "FEN") tag.value (starting p r)) what.Fen (fen_answer tag.value)) (goes_on (with_tag tag.name tag.value r))) taken.no_start
 
 begun_with : (p : Setup) (given : List Tag) (tag : Tag) (r : Reading) → IsBegun p given r → IsBegun p (given ++ tag ∷ []) (with_tag tag.name tag.value r)
 begun_with p given tag r begun = record {
@@ -148,8 +149,8 @@ fen_effect_is : (p q : Setup) (given : List Tag) (value : List ℕ) (r : Reading
 unfolding effect
 fen_effect_is p q given value r begun name none answer =
     begun_effect p given r (tag_effect (codes "FEN") value r) begun
-    ∙ ap (λ b. cond b (is_faulty TagTooLong) (fen_effect value r (fen_answer value))) (enough_room 255 (length value) name.short)
-    ∙ ap (fen_effect value r) answer
+    ∙ ap (λ b. cond b (is_faulty TagTooLong) (by_answer (λ p. with_tag (codes "FEN") value (starting p r)) what.Fen (fen_answer value))) (enough_room 255 (length value) name.short)
+    ∙ ap (by_answer (λ p. with_tag (codes "FEN") value (starting p r)) what.Fen) answer
     ∙ ap (λ (s : Reading). goes_on (with_tag (codes "FEN") value s)) (started p q given r begun none)
 
 pub tag_name_is : (name : List ℕ) → is_tag_name name ≡ true → IsTagName name
@@ -182,8 +183,8 @@ read_fen_tag p q given value tail others r a begun name none answer has long =
 
 -- ---- many tags
 
-pub text_long : (tags : List Tag) (tail others : List ℕ) → length others ≤ length tail → length others ≤ length (tags_text tags ++ tail)
-text_long tags tail others long = omega (arith, long, length-append (tags_text tags) tail)
+pub text_long : (tags : List Tag) (tail others : List ℕ) → length others ≤ length tail → length others ≤ length (flat_map tag_text tags ++ tail)
+text_long tags tail others long = omega (arith, long, length-append (flat_map tag_text tags) tail)
 
 pub and_so : (p q : Setup) (given more : List Tag) (text last others : List ℕ) (r : Reading) (a : At) → ComesTo p given text others r a
     → ((s : Reading) (b : At) → IsBegun p given s → Has text others b → ComesTo q more last others s b) → ComesTo q more last others r a
@@ -203,30 +204,30 @@ comes_same p given other text others r a is comes =
     record { to = comes.to; at = comes.at; same = comes.same; begun = begun_same p given other comes.to is comes.begun; has = comes.has }
 
 pub read_tags : (tags : List Tag) (p : Setup) (given : List Tag) (tail others : List ℕ) (r : Reading) (a : At) → IsBegun p given r → AreTaken given tags
-    → Has (tags_text tags ++ tail) others a → length others ≤ length tail → ComesTo p (given ++ tags) tail others r a
+    → Has (flat_map tag_text tags ++ tail) others a → length others ≤ length tail → ComesTo p (given ++ tags) tail others r a
 read_tags [] p given tail others r a begun taken has long =
     record { to = r; at = a; same = refl; begun = begun_same p given (given ++ []) r (sym (append-nil given)) begun; has = has }
 read_tags (tag ∷ tags) p given tail others r a begun taken has long =
-    let one : ComesTo p (given ++ tag ∷ []) (tags_text tags ++ tail) others r a =
-    plain_tag p given tag (tags_text tags ++ tail) others r a begun taken.0
-    (has_same ((tag_text tag ++ tags_text tags) ++ tail) (tag_text tag ++ (tags_text tags ++ tail)) others a (append_assoc (tag_text tag) (tags_text tags) tail) has)
+    let one : ComesTo p (given ++ tag ∷ []) (flat_map tag_text tags ++ tail) others r a =
+    plain_tag p given tag (flat_map tag_text tags ++ tail) others r a begun taken.0
+    (has_same ((tag_text tag ++ flat_map tag_text tags) ++ tail) (tag_text tag ++ (flat_map tag_text tags ++ tail)) others a (append_assoc (tag_text tag) (flat_map tag_text tags) tail) has)
     (text_long tags tail others long) in
     comes_same p ((given ++ tag ∷ []) ++ tags) (given ++ tag ∷ tags) tail others r a (append_assoc given (tag ∷ []) tags)
-    (and_so p p (given ++ tag ∷ []) ((given ++ tag ∷ []) ++ tags) (tags_text tags ++ tail) tail others r a one
+    (and_so p p (given ++ tag ∷ []) ((given ++ tag ∷ []) ++ tags) (flat_map tag_text tags ++ tail) tail others r a one
     (λ s b begun_s has_b. read_tags tags p (given ++ tag ∷ []) tail others s b begun_s taken.1 has_b long))
 
-tags_text_then : (first second : List Tag) → tags_text (first ++ second) ≡ tags_text first ++ tags_text second
+tags_text_then : (first second : List Tag) → flat_map tag_text (first ++ second) ≡ flat_map tag_text first ++ flat_map tag_text second
 tags_text_then [] second = refl
 tags_text_then (tag ∷ first) second =
-    ap (λ l. tag_text tag ++ l) (tags_text_then first second) ∙ sym (append_assoc (tag_text tag) (tags_text first) (tags_text second))
+    ap (λ l. tag_text tag ++ l) (tags_text_then first second) ∙ sym (append_assoc (tag_text tag) (flat_map tag_text first) (flat_map tag_text second))
 
 -- The first of two parts.
 pub read_part : (first second : List Tag) (p : Setup) (given : List Tag) (tail others : List ℕ) (r : Reading) (a : At) → IsBegun p given r → AreTaken given first
-    → Has (tags_text (first ++ second) ++ tail) others a → length others ≤ length tail → ComesTo p (given ++ first) (tags_text second ++ tail) others r a
+    → Has (flat_map tag_text (first ++ second) ++ tail) others a → length others ≤ length tail → ComesTo p (given ++ first) (flat_map tag_text second ++ tail) others r a
 read_part first second p given tail others r a begun taken has long =
-    read_tags first p given (tags_text second ++ tail) others r a begun taken
-    (has_same (tags_text (first ++ second) ++ tail) (tags_text first ++ (tags_text second ++ tail)) others a
-    (ap (λ l. l ++ tail) (tags_text_then first second) ∙ append_assoc (tags_text first) (tags_text second) tail) has)
+    read_tags first p given (flat_map tag_text second ++ tail) others r a begun taken
+    (has_same (flat_map tag_text (first ++ second) ++ tail) (flat_map tag_text first ++ (flat_map tag_text second ++ tail)) others a
+    (ap (λ l. l ++ tail) (tags_text_then first second) ∙ append_assoc (flat_map tag_text first) (flat_map tag_text second) tail) has)
     (text_long second tail others long)
 
 -- None of these is the tag of a position.

@@ -1,5 +1,5 @@
 -- The tags of a game are read as they were written.
-use Rattle.std.proofs.Common.{◌≡◌, ◌≤◌, ◌+◌, ◌*◌, ◌/◌, ◌%◌, ◌==◌, ◌&&◌, nat_le, ℕ, zero, suc, Bool, true, false, not, cond, List, [], ◌∷◌, ◌++◌, length, take, drop, codes, Option, Some, None, Ok, refl, sym, ap, ◌∙◌, subst, arith, append_assoc, length-append}
+use Rattle.std.proofs.Common.{◌≡◌, ◌≤◌, ◌+◌, ◌*◌, ◌/◌, ◌%◌, ◌==◌, ◌&&◌, nat_le, ℕ, zero, suc, Bool, true, false, not, cond, List, [], ◌∷◌, ◌++◌, length, take, drop, codes, Option, Some, None, Ok, refl, sym, ap, ◌∙◌, subst, arith, append_assoc, length-append, flat_map}
 use Rattle.std.specs.List.{list_all, AllByRecursion}
 use Rattle.std.specs.Char.{is_ascii_digit}
 use Rattle.std.specs.Fmt.{decimal}
@@ -34,7 +34,7 @@ use Rattle.game_tree.specs.TagList.{is_named}
 use Rattle.game_tree.specs.TagName.{IsTagName, is_tag_name, is_among, roster_names, rating_tag}
 use Rattle.game_tree.proofs.DateLemmas.{date_text-IsName}
 use Rattle.game_tree.proofs.NameLemmas.{zero_free-from_test}
-use Rattle.pgn_write.specs.TagPairs.{pair, roster, rating_pairs, eco_pairs, event_date_pairs, letters_set, flags_text, flags_pairs, start_pairs, tag_text, tags_text, tags_of}
+use Rattle.pgn_write.specs.TagPairs.{pair, roster, rating_pairs, eco_pairs, event_date_pairs, letters_set, flags_text, flags_pairs, start_pairs, tag_text, tags_of}
 use Rattle.chess_text.specs.FenAnswer.{fen_answer}
 use Rattle.pgn_read.specs.Reading.{Reading, has_tag, unread}
 use Rattle.pgn_read.specs.Text.{At}
@@ -337,7 +337,7 @@ abbrev start_tags : Bool → Setup → List Tag
 start_tags own p = cond own (pair (codes "SetUp") (codes "1") ∷ pair (codes "FEN") (fen_text p) ∷ []) []
 
 start_come : (own : Bool) (p : Setup) (head : Head) (tail others : List ℕ) (r : Reading) (a : At) → not (is_start p) ≡ own → Sound p → IsBounded head
-    → IsBegun start_setup (front head) r → Has (tags_text (start_tags own p ++ head.tags) ++ tail) others a → length others ≤ length tail
+    → IsBegun start_setup (front head) r → Has (flat_map tag_text (start_tags own p ++ head.tags) ++ tail) others a → length others ≤ length tail
     → ComesTo p (front head ++ (start_tags own p ++ head.tags)) tail others r a
 start_come false p head tail others r a is sound bounded begun has long =
     let start : p ≡ start_setup = (is_start-Decides p).0 (not-false (is_start p) is) in
@@ -351,33 +351,33 @@ start_come true p head tail others r a is sound bounded begun has long =
     let taken : AreTaken (front head) (set_up ∷ []) = all_taken (set_up ∷ []) (front head) (named_plain (codes "SetUp") (codes "1") refl (tested (codes "1") refl) refl refl, tt) in
     comes_same p ((before ++ fen ∷ []) ++ head.tags) (front head ++ (set_up ∷ fen ∷ head.tags)) tail others r a
     (append_assoc before (fen ∷ []) head.tags ∙ append_assoc (front head) (set_up ∷ []) (fen ∷ head.tags))
-    (and_so start_setup p before ((before ++ fen ∷ []) ++ head.tags) (tags_text (fen ∷ head.tags) ++ tail) tail others r a
+    (and_so start_setup p before ((before ++ fen ∷ []) ++ head.tags) (flat_map tag_text (fen ∷ head.tags) ++ tail) tail others r a
     (read_part (set_up ∷ []) (fen ∷ head.tags) start_setup (front head) tail others r a begun taken has long)
     (λ s b begun_s has_b.
-    and_so p p (before ++ fen ∷ []) ((before ++ fen ∷ []) ++ head.tags) (tags_text head.tags ++ tail) tail others s b
-    (read_fen_tag start_setup p before (fen_text p) (tags_text head.tags ++ tail) others s b begun_s (fen_name p sound)
+    and_so p p (before ++ fen ∷ []) ((before ++ fen ∷ []) ++ head.tags) (flat_map tag_text head.tags ++ tail) tail others s b
+    (read_fen_tag start_setup p before (fen_text p) (flat_map tag_text head.tags ++ tail) others s b begun_s (fen_name p sound)
     (no_start_in (set_up ∷ []) (front head) taken (front_no_start head bounded)) (fen_again p sound)
-    (has_same ((tag_text fen ++ tags_text head.tags) ++ tail) (tag_text fen ++ (tags_text head.tags ++ tail)) others b (append_assoc (tag_text fen) (tags_text head.tags) tail) has_b)
+    (has_same ((tag_text fen ++ flat_map tag_text head.tags) ++ tail) (tag_text fen ++ (flat_map tag_text head.tags ++ tail)) others b (append_assoc (tag_text fen) (flat_map tag_text head.tags) tail) has_b)
     (text_long head.tags tail others long))
     (λ q c begun_q has_c. read_tags head.tags p (before ++ fen ∷ []) tail others q c begun_q
     (all_taken head.tags (before ++ fen ∷ []) (free_plain head.tags (recursion_from_All IsTag head.tags bounded.tags))) has_c long)))
 
 tags_come : (head : Head) (game : GameTree) (tail others : List ℕ) (a : At) → Sound game.start → IsBounded head
-    → Has (tags_text (roster head ++ (middle head ++ (start_pairs game ++ head.tags))) ++ tail) others a → length others ≤ length tail
+    → Has (flat_map tag_text (roster head ++ (middle head ++ (start_pairs game ++ head.tags))) ++ tail) others a → length others ≤ length tail
     → ComesTo game.start (front head ++ (start_pairs game ++ head.tags)) tail others unread a
 tags_come head game tail others a sound is has long =
     let rest : List Tag = start_pairs game ++ head.tags in
-    and_so start_setup game.start (roster head) (front head ++ rest) (tags_text (middle head ++ rest) ++ tail) tail others unread a
+    and_so start_setup game.start (roster head) (front head ++ rest) (flat_map tag_text (middle head ++ rest) ++ tail) tail others unread a
     (read_part (roster head) (middle head ++ rest) start_setup [] tail others unread a unread_begun (roster_taken head is) has long)
     (λ r b begun_r has_b.
-    and_so start_setup game.start (front head) (front head ++ rest) (tags_text rest ++ tail) tail others r b
+    and_so start_setup game.start (front head) (front head ++ rest) (flat_map tag_text rest ++ tail) tail others r b
     (read_part (middle head) rest start_setup (roster head) tail others r b begun_r (all_taken (middle head) (roster head) (middle_plain head is)) has_b long)
     (λ s c begun_s has_c. start_come (has_own_start game) game.start head tail others s c refl sound is begun_s has_c long))
 
 pub read_all_tags : (head : Head) (game : GameTree) (tail others : List ℕ) (a : At) → Sound game.start → IsBounded head
-    → Has (tags_text (tags_of head game) ++ tail) others a → length others ≤ length tail → ComesTo game.start (tags_of head game) tail others unread a
+    → Has (flat_map tag_text (tags_of head game) ++ tail) others a → length others ≤ length tail → ComesTo game.start (tags_of head game) tail others unread a
 read_all_tags head game tail others a sound is has long =
     comes_same game.start (front head ++ (start_pairs game ++ head.tags)) (tags_of head game) tail others unread a
     (append_assoc (roster head) (middle head) (start_pairs game ++ head.tags) ∙ sym (tags_split head game))
     (tags_come head game tail others a sound is
-    (subst (λ l. Has (tags_text l ++ tail) others a) (tags_split head game) has) long)
+    (subst (λ l. Has (flat_map tag_text l ++ tail) others a) (tags_split head game) has) long)

@@ -11,10 +11,10 @@ use Rattle.game_tree.specs.declared.head.Outcome.{Outcome}
 use Rattle.game_tree.specs.declared.head.Outcome.TheVariants as outcome
 use Rattle.game_tree.specs.Decimal.{decimal_read}
 use Rattle.game_tree.proofs.DecimalLemmas.{decimal_read-decimal}
-use Rattle.pgn_write.specs.Token.{Token as Written, token_text, number_text, without_brace}
+use Rattle.pgn_write.specs.Token.{Token as Written, token_text, without_brace}
 use Rattle.pgn_write.specs.Token as written
 use Rattle.pgn_write.specs.Layout.{holds_next}
-use Rattle.pgn_read.specs.Bytes.{is_move_byte, is_glyph, is_dot, has_zero, behind, begins}
+use Rattle.pgn_read.specs.Bytes.{is_move_byte, is_glyph, has_zero, behind, begins}
 use Rattle.pgn_read.specs.Token.{Token, Lexed, lexed_as}
 use Rattle.pgn_read.specs.Token as token
 use Rattle.pgn_read.specs.Lexing.{braced, run_from, number_from, digit_from, by_kind, lexed}
@@ -185,7 +185,7 @@ numbered d ds more digits =
     rw (no_mark 48 45 (codes "0") d ds more digits refl refl)
     refl
 
-dotted : (d : ℕ) (ds dots more : List ℕ) → is_ascii_digit d ≡ true → list_all is_ascii_digit ds ≡ true → list_all is_dot dots ≡ true
+dotted : (d : ℕ) (ds dots more : List ℕ) → is_ascii_digit d ≡ true → list_all is_ascii_digit ds ≡ true → list_all (λ byte. byte == 46) dots ≡ true
     → lexed (d ∷ (ds ++ 46 ∷ (dots ++ 32 ∷ more))) ≡ lexed_as token.number (32 ∷ more)
 dotted d ds dots more digit digits are =
     let text : List ℕ = ds ++ 46 ∷ (dots ++ 32 ∷ more) in
@@ -193,15 +193,15 @@ dotted d ds dots more digit digits are =
     move_byte_kind d text moves
     ∙ by_digit d (d ∷ text) text (no_glyph d moves) digit
     ∙ numbered d ds (dots ++ 32 ∷ more) digits
-    ∙ ap (λ l. lexed_as token.number (behind is_dot l))
+    ∙ ap (λ l. lexed_as token.number (behind (λ byte. byte == 46) l))
     (behind_run is_ascii_digit (d ∷ ds) (46 ∷ (dots ++ 32 ∷ more)) (and_from _ _ digit digits) refl)
-    ∙ ap (lexed_as token.number) (behind_run is_dot (46 ∷ dots) (32 ∷ more) are refl)
+    ∙ ap (lexed_as token.number) (behind_run (λ byte. byte == 46) (46 ∷ dots) (32 ∷ more) are refl)
 
 number_spelled : (n : ℕ) (d : ℕ) (ds dots : List ℕ) → decimal n ≡ d ∷ ds → decimal n ++ 46 ∷ (dots ++ 32 ∷ []) ≡ (d ∷ (ds ++ 46 ∷ dots)) ++ 32 ∷ []
 number_spelled n d ds dots is =
     ap (λ l. l ++ 46 ∷ (dots ++ 32 ∷ [])) is ∙ ap (λ l. d ∷ l) (sym (append_assoc ds (46 ∷ dots) (32 ∷ [])))
 
-number_by : (n : ℕ) (side : Colour) (dots : List ℕ) → number_text n side ≡ decimal n ++ 46 ∷ (dots ++ 32 ∷ []) → list_all is_dot dots ≡ true
+number_by : (n : ℕ) (side : Colour) (dots : List ℕ) → token_text (written.number n side) ≡ decimal n ++ 46 ∷ (dots ++ 32 ∷ []) → list_all (λ byte. byte == 46) dots ≡ true
     → IsReadAs (written.number n side) token.number
 number_by n side dots text are =
     let number = decimal_number n in

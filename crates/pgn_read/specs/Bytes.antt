@@ -20,9 +20,6 @@ is_move_byte byte =
 abbrev pub is_glyph : ℕ → Bool
 is_glyph byte = (byte == 33) || (byte == 63)
 
-abbrev pub is_dot : ℕ → Bool
-is_dot byte = byte == 46
-
 abbrev pub has_zero : List ℕ → Bool
 has_zero text = list_any (λ byte. byte == 0) text
 
@@ -46,7 +43,7 @@ abbrev pub is_of : Run → ℕ → Bool
 is_of run.White = is_white
 is_of run.TagName = is_tag_byte
 is_of run.Digits = is_ascii_digit
-is_of run.Dots = is_dot
+is_of run.Dots = λ byte. byte == 46
 is_of run.Glyphs = is_glyph
 is_of run.Move = is_move_byte
 is_of run.ToBrace = λ byte. not (byte == 125)

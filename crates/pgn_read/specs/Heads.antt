@@ -1,11 +1,10 @@
 -- The head of a game, from its tags in their order and the result of its end mark (PGN standard, 8.1 and 9).
-use Rattle.std.specs.Prelude.{ℕ, ◌+◌, ◌*◌, ◌==◌, Bool, if◌then◌else◌, List, [], ◌∷◌, ◌++◌, Option, Some, None, option_and_then, unwrap_or, codes}
+use Rattle.std.specs.Prelude.{ℕ, ◌+◌, ◌*◌, ◌==◌, Bool, if◌then◌else◌, List, [], ◌∷◌, Option, Some, None, option_and_then, unwrap_or, codes, flat_map}
 use Rattle.std.specs.List.{list_any}
 use Rattle.std.specs.Option.{option_or}
 use Rattle.cell_core.specs.declared.man.Colour.{Colour}
 use Rattle.cell_core.specs.declared.man.Colour.TheVariants.{White, Black}
 use Rattle.cell_core.specs.Man.{same_colour}
-use Rattle.game_tree.specs.declared.date.Date.{Date}
 use Rattle.game_tree.specs.declared.head.Head.{Head}
 use Rattle.game_tree.specs.declared.head.Outcome.{Outcome}
 use Rattle.game_tree.specs.declared.head.Outcome.TheVariants as outcome
@@ -39,49 +38,28 @@ value_of name tags = first_told (λ tag. if is_named name tag then Some tag.valu
 abbrev pub name_from : List ℕ → List Tag → List ℕ
 name_from name tags = unwrap_or (value_of name tags) (codes "?")
 
--- A date that is missing or does not read is unknown.
-abbrev pub date_from : List Tag → Date
-date_from tags = unwrap_or (option_and_then date_read (value_of (codes "Date") tags)) unknown_date
-
--- The result is that of the end mark; where there is none or it is `*`, that of the tag, if it reads.
-abbrev pub result_told : List Tag → Outcome
-result_told tags = unwrap_or (option_and_then outcome_read (value_of (codes "Result") tags)) outcome.Unknown
-
-abbrev pub result_from : Option Outcome → List Tag → Outcome
-result_from None tags = result_told tags
-result_from (Some outcome.Unknown) tags = result_told tags
-result_from (Some result) tags = result
+-- The result is that of the end mark; where it is `*`, that of the tag, if it reads.
+abbrev pub result_from : Outcome → List Tag → Outcome
+result_from outcome.Unknown tags = unwrap_or (option_and_then outcome_read (value_of (codes "Result") tags)) outcome.Unknown
+result_from result tags = result
 
 -- A rating from 1 to 4095 of the side, of the kind that the tag's name tells.
-abbrev pub rated : ℕ → Option ℕ → Option Rating
-rated kind None = None
-rated kind (Some value) = if value == 0 then None else Some (record { value = value; kind = kind })
+abbrev pub rated : ℕ → ℕ → Option Rating
+rated kind value = if value == 0 then None else Some (record { value = value; kind = kind })
 
-abbrev pub rating_as : Colour → List ℕ → Option (Colour × ℕ) → Option Rating
-rating_as side value None = None
-rating_as side value (Some told) = if same_colour told.0 side then rated told.1 (decimal_read 4095 value) else None
+abbrev pub rating_as : Colour → List ℕ → Colour × ℕ → Option Rating
+rating_as side value told = if same_colour told.0 side then option_and_then (rated told.1) (decimal_read 4095 value) else None
 
 unfoldable pub rating_told : Colour → Tag → Option Rating
-rating_told side tag = rating_as side tag.value (rating_of tag.name)
-
-abbrev pub no_rating : Rating
-no_rating = record { value = 0; kind = 0 }
+rating_told side tag = option_and_then (rating_as side tag.value) (rating_of tag.name)
 
 abbrev pub rating_from : Colour → List Tag → Rating
-rating_from side tags = unwrap_or (first_told (rating_told side) tags) no_rating
-
--- The first opening code that reads; 0 is none.
-abbrev pub eco_told : Tag → Option ℕ
-eco_told tag = if is_named (codes "ECO") tag then eco_read tag.value else None
-
-abbrev pub eco_from : List Tag → ℕ
-eco_from tags = unwrap_or (first_told eco_told tags) 0
+rating_from side tags = unwrap_or (first_told (rating_told side) tags) (record { value = 0; kind = 0 })
 
 -- The letters of all tags ScidFlags, and the marks that they set: the twelve user marks and the six custom marks from the lowest
 -- bit on, and D the mark of a deleted game (after Scid). Other letters set none.
 abbrev pub flags_of : List Tag → List ℕ
-flags_of [] = []
-flags_of (tag ∷ tags) = (if is_named (codes "ScidFlags") tag then tag.value else []) ++ flags_of tags
+flags_of tags = flat_map (λ tag. if is_named (codes "ScidFlags") tag then tag.value else []) tags
 
 abbrev pub has_letter : List ℕ → ℕ → Bool
 has_letter flags letter = list_any (λ flag. flag == letter) flags
@@ -95,25 +73,22 @@ abbrev pub all_marks : List ℕ → ℕ
 all_marks [] = 0
 all_marks (letter ∷ letters) = 1 + 2 * all_marks letters
 
--- The head before it is settled: the event date stands in its tag.
-abbrev pub head_told : List Tag → Option Outcome → Head
-head_told tags mark = record {
+-- The head, which is settled, so that an event date stands in its field and not in its tag. Where there is no end mark, it is `*`. A date
+-- that is missing or does not read is unknown, and the opening code is that of the first tag of which it reads, or 0.
+unfoldable pub head_from : List Tag → Option Outcome → Head
+head_from tags mark = settled (record {
   white = name_from (codes "White") tags;
   black = name_from (codes "Black") tags;
   event = name_from (codes "Event") tags;
   site = name_from (codes "Site") tags;
   round = name_from (codes "Round") tags;
-  date = date_from tags;
+  date = unwrap_or (option_and_then date_read (value_of (codes "Date") tags)) unknown_date;
   event_date = unknown_date;
-  result = result_from mark tags;
+  result = result_from (unwrap_or mark outcome.Unknown) tags;
   white_rating = rating_from White tags;
   black_rating = rating_from Black tags;
-  eco = eco_from tags;
+  eco = unwrap_or (first_told (λ tag. if is_named (codes "ECO") tag then eco_read tag.value else None) tags) 0;
   marks = marks_of (flags_of tags) mark_letters;
   deleted = has_letter (flags_of tags) 68;
   tags = free_of tags;
-}
-
--- The head.
-unfoldable pub head_from : List Tag → Option Outcome → Head
-head_from tags mark = settled (head_told tags mark)
+})

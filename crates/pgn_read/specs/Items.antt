@@ -1,6 +1,8 @@
 -- The items of a text: its games, and the first fault of each that is none (PGN standard, 8; the faults and where reading goes on
 -- are this project's own).
-use Rattle.std.specs.Prelude.{◌≡◌, ℕ, zero, suc, ◌-◌, ◌==◌, nat_lt, Bool, not, ◌&&◌, if◌then◌else◌, List, [], ◌∷◌, length, Option, Some, None, codes}
+use Rattle.std.specs.Prelude.{◌≡◌, ℕ, zero, suc, ◌-◌, ◌==◌, nat_lt, Bool, not, ◌&&◌, if◌then◌else◌, List, [], ◌∷◌, length, Option, Some, None, codes, ◌||◌}
+use Rattle.std.specs.Option.{option_map_or}
+use Rattle.pgn_read.specs.Lexing.{lexed, size}
 use Rattle.game_tree.specs.declared.head.Outcome.{Outcome}
 use Rattle.pgn_read.specs.declared.place.Place.{Place}
 use Rattle.pgn_read.specs.declared.item.GameWhat.{GameWhat}
@@ -9,9 +11,9 @@ use Rattle.pgn_read.specs.declared.item.Item.{Item}
 use Rattle.pgn_read.specs.declared.item.Item.TheVariants.{Good, Bad}
 use Rattle.pgn_read.specs.Place.{next_place, first_place}
 use Rattle.pgn_read.specs.Bytes.{begins}
-use Rattle.pgn_read.specs.Text.{At, here, longest, Spot, spot_at, behind_mark, behind_token, skipped, spots}
+use Rattle.pgn_read.specs.Text.{At, here, longest, behind_mark, behind_token, skipped, spots}
 use Rattle.pgn_read.specs.Heads.{head_from}
-use Rattle.pgn_read.specs.Reading.{Reading, Effect, goes_on, ends_behind, ends_before, is_faulty, unread, effect, is_next_game, is_game, game_of}
+use Rattle.pgn_read.specs.Reading.{Reading, Effect, goes_on, ends_behind, ends_before, is_faulty, unread, effect, is_next_game, game_of}
 
 -- An item, if there is one, and where reading goes on behind it.
 pub record Next : Type 0 where
@@ -45,31 +47,28 @@ abbrev pub ended : Reading → Option Outcome → At → Next
 ended r mark a = next (Some (Good (head_from r.tags mark) (game_of r))) a
 
 abbrev pub ended_before : Reading → At → Next
-ended_before r a = if is_game r then ended r None a else next None a
+ended_before r a = if r.in_moves || nat_lt 0 (length r.tags) then ended r None a else next None a
 
 -- A token that ends further than the limit from the item's first byte is too long, whatever else it is.
-abbrev pub effect_of : Reading → Spot → Effect
-effect_of r spot =
-    if is_next_game r spot.at.bytes then ends_before
-    else if nat_lt spot.at.room spot.size then is_faulty TooLong
-    else effect spot.token r
-
 abbrev pub effect_at : Reading → At → Effect
-effect_at r a = effect_of r (spot_at a)
+effect_at r a =
+    if is_next_game r a.bytes then ends_before
+    else if nat_lt a.room (size a.bytes) then is_faulty TooLong
+    else effect (lexed a.bytes).token r
 
--- The item that these tokens are, behind what was read.
+-- The item that the tokens at these places are, behind what was read.
 abbrev pub by_effect : Reading → At → (Reading → Next) → Effect → Next
 by_effect r a later (goes_on s) = later s
 by_effect r a later (ends_behind outcome) = ended r (Some outcome) (behind_token a)
 by_effect r a later ends_before = ended_before r a
 by_effect r a later (is_faulty what) = faulty what a
 
-unfoldable pub item_from : Reading → List Spot → Next
+unfoldable pub item_from : Reading → List At → Next
 item_from r [] = next None (here first_place 0 [])
-item_from r (spot ∷ more) = by_effect r spot.at (λ s. item_from s more) (effect_of r spot)
+item_from r (a ∷ more) = by_effect r a (λ s. item_from s more) (effect_at r a)
 
--- The tokens of a text from here on.
-abbrev pub all_spots : At → List Spot
+-- Where the tokens of a text stand from here on.
+abbrev pub all_spots : At → List At
 all_spots a = spots (suc (length a.bytes)) a
 
 -- ---- items
@@ -94,10 +93,7 @@ AreItems a (item ∷ items) = ((next_item a).item ≡ Some item) × AreItems (ne
 -- The items from here on, where there are at most so many.
 abbrev pub items_at : ℕ → At → List Item
 items_at zero a = []
-items_at (suc most) a = elim (next_item a).item [
-  | Some item ↦ item ∷ items_at most (next_item a).at
-  | None ↦ []
-]
+items_at (suc most) a = option_map_or (λ item. item ∷ items_at most (next_item a).at) (next_item a).item []
 
 -- The beginning of a text.
 abbrev pub text_start : List ℕ → At

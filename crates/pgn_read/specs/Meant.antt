@@ -1,5 +1,6 @@
 -- What the tokens of an item say of moves, and which game that is (PGN standard, 8.2).
 use Rattle.std.specs.Prelude.{◌≡◌, ℕ, List, [], ◌∷◌, ◌++◌, Option, Some, None, Result, Ok, Err}
+use Rattle.pgn_read.specs.Lexing.{lexed}
 use Rattle.cell_core.specs.declared.step.Move.{Move}
 use Rattle.chess_text.specs.declared.fault.SanFault.{SanFault}
 use Rattle.chess_text.specs.SanAnswer.{san_answer}
@@ -7,9 +8,9 @@ use Rattle.game_tree.specs.Game.{GameTree}
 use Rattle.game_tree.specs.Item.{Item}
 use Rattle.game_tree.specs.Item as item
 use Rattle.game_tree.specs.Movetext.{Movetext, items_of, meaning}
-use Rattle.pgn_read.specs.Items.{all_spots, effect_of, first_token}
+use Rattle.pgn_read.specs.Items.{all_spots, effect_at, first_token}
 use Rattle.pgn_read.specs.Reading.{Effect, Reading, ends_before, ends_behind, goes_on, is_faulty, unread}
-use Rattle.pgn_read.specs.Text.{At, Spot}
+use Rattle.pgn_read.specs.Text.{At}
 use Rattle.pgn_read.specs.Token.{Token}
 use Rattle.pgn_read.specs.Token as token
 
@@ -35,9 +36,9 @@ said_before t r later (ends_behind outcome) = []
 said_before t r later ends_before = []
 said_before t r later (is_faulty what) = []
 
-unfoldable pub all_said : Reading → List Spot → List Item
+unfoldable pub all_said : Reading → List At → List Item
 all_said r [] = []
-all_said r (spot ∷ more) = said_before spot.token r (λ s. all_said s more) (effect_of r spot)
+all_said r (spot ∷ more) = said_before (lexed spot.bytes).token r (λ s. all_said s more) (effect_at r spot)
 
 -- What the tokens of the item from here on say.
 abbrev pub said_at : At → List Item

@@ -1,6 +1,7 @@
 -- How a movetext is spelled by tokens (PGN standard, 8.2): moves by texts that are read as them, NAGs, comments, variations between
 -- their brackets, and numbers wherever they stand.
 use Rattle.std.specs.Prelude.{◌≡◌, ◌≤◌, ◌<◌, ◌==◌, ⊤, ℕ, suc, Bool, true, false, List, [], ◌∷◌, ◌++◌, slice_index_or, Ok}
+use Rattle.pgn_read.specs.Lexing.{lexed, size}
 use Rattle.cell_core.specs.declared.step.Move.{Move}
 use Rattle.chess_laws.specs.declared.setup.Setup.{Setup}
 use Rattle.chess_laws.specs.Step.{stepped}
@@ -11,7 +12,7 @@ use Rattle.game_tree.specs.Legal.{deepest}
 use Rattle.game_tree.specs.Movetext.{Movetext, meaning}
 use Rattle.game_tree.specs.Movetext as movetext
 use Rattle.pgn_read.specs.Reading.{Reading, turn_at, unread}
-use Rattle.pgn_read.specs.Text.{Spot}
+use Rattle.pgn_read.specs.Text.{At}
 use Rattle.pgn_read.specs.Token.{Token}
 use Rattle.pgn_read.specs.Token as token
 
@@ -53,13 +54,13 @@ IsSpelling level before here moved (variation inner s) =
     ((moved ≡ true) × (level < deepest)) × (IsSpelling (suc level) before before false inner × IsSpelling level before here moved s)
 
 -- A token where it stands, which ends within the greatest length of its game's text and begins no tag.
-pub record IsSpot (t : Token) (spot : Spot) : Type 0 where
-  pub token : spot.token ≡ t
-  pub fits : spot.size ≤ spot.at.room
-  pub no_tag : (slice_index_or spot.at.bytes 0 0 == 91) ≡ false
+pub record IsSpot (t : Token) (spot : At) : Type 0 where
+  pub token : (lexed spot.bytes).token ≡ t
+  pub fits : size spot.bytes ≤ spot.room
+  pub no_tag : (slice_index_or spot.bytes 0 0 == 91) ≡ false
 
 -- These tokens stand first.
-abbrev pub StandFirst : List Token → List Spot → Type 0
+abbrev pub StandFirst : List Token → List At → Type 0
 StandFirst [] spots = ⊤
 StandFirst (t ∷ ts) [] = ⊥
 StandFirst (t ∷ ts) (spot ∷ spots) = IsSpot t spot × StandFirst ts spots

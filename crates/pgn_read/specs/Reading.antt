@@ -5,8 +5,6 @@ use Rattle.cell_core.specs.declared.step.Move.{Move}
 use Rattle.chess_laws.specs.declared.setup.Setup.{Setup}
 use Rattle.chess_laws.specs.Position.{start_setup}
 use Rattle.chess_laws.specs.Step.{stepped}
-use Rattle.chess_text.specs.declared.fault.FenFault.{FenFault}
-use Rattle.chess_text.specs.declared.fault.SanFault.{SanFault}
 use Rattle.game_tree.specs.declared.head.Outcome.{Outcome}
 use Rattle.game_tree.specs.declared.head.Tag.{Tag}
 use Rattle.game_tree.specs.Item as item
@@ -47,6 +45,11 @@ pub data Effect : Type 0 where
   ends_before : Effect
   is_faulty : GameWhat → Effect
 
+-- Reading goes on with what was read, or that is the fault.
+abbrev pub by_answer : {A E : Type 0} → (A → Reading) → (E → GameWhat) → Result A E → Effect
+by_answer behind what (Ok value) = goes_on (behind value)
+by_answer behind what (Err fault) = is_faulty (what fault)
+
 -- Whether a variation is open, and whether the innermost line has a move.
 abbrev pub is_inside : Reading → Bool
 is_inside r = nat_lt 0 (length r.outer)
@@ -66,15 +69,12 @@ with_tag name value r = record r { tags = r.tags ++ record { name = name; value 
 abbrev pub starting : Setup → Reading → Reading
 starting p r = if has_tag (codes "FEN") r.tags then r else record r { start = p; turn = turn_at p }
 
-abbrev pub fen_effect : List ℕ → Reading → Result Setup FenFault → Effect
-fen_effect value r (Ok p) = goes_on (with_tag (codes "FEN") value (starting p r))
-fen_effect value r (Err fault) = is_faulty (what.Fen fault)
-
 abbrev pub tag_effect : List ℕ → List ℕ → Reading → Effect
 tag_effect name value r =
     if is_among roster_names name && has_tag name r.tags then is_faulty what.Tag
     else if nat_lt 240 (length name) || nat_lt 255 (length value) then is_faulty what.TagTooLong
-    else if is_named (codes "FEN") (record { name = name; value = value }) then fen_effect value r (fen_answer value)
+    else if is_named (codes "FEN") (record { name = name; value = value })
+    then by_answer (λ p. with_tag (codes "FEN") value (starting p r)) what.Fen (fen_answer value)
     else goes_on (with_tag name value r)
 
 -- A tag inside a variation is a fault, and one behind moves begins the next game (PGN standard, 8.1).
@@ -89,10 +89,6 @@ moving r = record r { in_moves = true }
 abbrev pub played : Move → Reading → Reading
 played m r =
     record (moving r) { moves = added (item.move m) r.moves; turn = record { before = r.turn.now_at; now_at = stepped r.turn.now_at m } }
-
-abbrev pub move_effect : Reading → Result Move SanFault → Effect
-move_effect r (Ok m) = goes_on (played m r)
-move_effect r (Err fault) = is_faulty (what.San fault)
 
 -- A variation begins at the position before the last move, and ends at that of the line round it.
 abbrev pub opened : Reading → Reading
@@ -117,7 +113,7 @@ effect token.opens r =
 effect token.closes r = closed_to r r.outer
 effect (token.ending outcome) r = if is_inside r then goes_on (moving r) else ends_behind outcome
 effect token.number r = goes_on (moving r)
-effect (token.move text) r = move_effect r (san_answer r.turn.now_at text)
+effect (token.move text) r = by_answer (λ m. played m r) what.San (san_answer r.turn.now_at text)
 effect token.bad r = is_faulty what.Token
 effect token.the_end r = if is_inside r then is_faulty what.Paren else ends_before
 
@@ -126,10 +122,6 @@ abbrev pub is_next_game : Reading → List ℕ → Bool
 is_next_game r bytes = r.in_moves && (not (is_inside r) && (slice_index_or bytes 0 0 == 91))
 
 -- ---- the end
-
--- Whether anything but comments was read.
-abbrev pub is_game : Reading → Bool
-is_game r = r.in_moves || nat_lt 0 (length r.tags)
 
 -- The game that was read.
 abbrev pub game_of : Reading → GameTree

@@ -1,25 +1,18 @@
 -- Tags: `[`, a name, a value in quotation marks, and `]`, with white space between or without (PGN standard, 8.1). A tag that
 -- is malformed ends before the first byte that does not fit.
-use Rattle.std.specs.Prelude.{ℕ, ◌==◌, Bool, true, false, not, ◌&&◌, ◌||◌, if◌then◌else◌, List, [], ◌∷◌, ◌++◌, drop}
+use Rattle.std.specs.Prelude.{ℕ, ◌==◌, Bool, true, false, not, ◌&&◌, ◌||◌, if◌then◌else◌, List, [], ◌∷◌, ◌++◌, drop, suc, take}
 use Rattle.game_tree.specs.TagName.{is_tag_byte}
 use Rattle.pgn_read.specs.Bytes.{is_white, has_zero, front, behind}
 use Rattle.pgn_read.specs.Token.{tag, bad_tag, Lexed, lexed_as}
 
--- A backslash escapes the byte behind it, unless it is itself escaped. The first quotation mark that none escapes ends a value.
+-- A backslash escapes the byte behind it, unless it is itself escaped.
 abbrev pub escapes : Bool → ℕ → Bool
 escapes escaped byte = not escaped && (byte == 92)
 
-abbrev pub ends_value : Bool → ℕ → Bool
-ends_value escaped byte = not escaped && (byte == 34)
-
--- The bytes of a value as they stand, and those from its closing quotation mark on; none where there is no such mark.
-abbrev pub raw_value : Bool → List ℕ → List ℕ
-raw_value escaped [] = []
-raw_value escaped (byte ∷ text) = if ends_value escaped byte then [] else byte ∷ raw_value (escapes escaped byte) text
-
-abbrev pub behind_value : Bool → List ℕ → List ℕ
-behind_value escaped [] = []
-behind_value escaped (byte ∷ text) = if ends_value escaped byte then byte ∷ text else behind_value (escapes escaped byte) text
+-- How many bytes a value has as it stands: it ends before the first quotation mark that none escapes, or at the end of the text.
+abbrev pub value_len : Bool → List ℕ → ℕ
+value_len escaped [] = 0
+value_len escaped (byte ∷ text) = if not escaped && (byte == 34) then 0 else suc (value_len (escapes escaped byte) text)
 
 -- The value that these bytes are: `\"` and `\\` stand for `"` and `\`, and another backslash for itself.
 abbrev pub meant_by : Bool → ℕ → List ℕ
@@ -41,7 +34,7 @@ closing name raw (byte ∷ text) =
 abbrev pub quoting : List ℕ → List ℕ → Lexed
 quoting name [] = lexed_as bad_tag []
 quoting name (byte ∷ text) =
-    if byte == 34 then closing name (raw_value false text) (behind is_white (drop 1 (behind_value false text)))
+    if byte == 34 then closing name (take (value_len false text) text) (behind is_white (drop 1 (drop (value_len false text) text)))
     else lexed_as bad_tag (byte ∷ text)
 
 -- From behind the name, which has at least one byte.

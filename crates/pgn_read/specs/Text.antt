@@ -1,10 +1,9 @@
 -- A text as a list of tokens, each where it stands (PGN standard, 7).
-use Rattle.std.specs.Prelude.{ℕ, zero, suc, ◌+◌, ◌-◌, ◌*◌, ◌==◌, nat_lt, Bool, false, not, ◌&&◌, ◌||◌, if◌then◌else◌, List, [], ◌∷◌, length, take, drop}
+use Rattle.std.specs.Prelude.{ℕ, zero, suc, ◌+◌, ◌-◌, ◌*◌, ◌==◌, nat_lt, Bool, false, not, ◌&&◌, ◌||◌, if◌then◌else◌, List, [], ◌∷◌, length, take, drop, fold}
 use Rattle.pgn_read.specs.declared.place.Place.{Place}
-use Rattle.pgn_read.specs.Place.{next_place, place_behind}
+use Rattle.pgn_read.specs.Place.{next_place}
 use Rattle.pgn_read.specs.Bytes.{is_white, begins}
-use Rattle.pgn_read.specs.Token.{Token}
-use Rattle.pgn_read.specs.Lexing.{lexed, size}
+use Rattle.pgn_read.specs.Lexing.{size}
 
 -- Where reading stands: the place, how many bytes of the greatest length of a game's text are left, and the bytes from here on.
 pub record At : Type 0 where
@@ -25,7 +24,7 @@ most_ahead = 2 * longest + 20494
 
 -- So many bytes further.
 abbrev pub passed : ℕ → At → At
-passed n a = here (place_behind a.place (take n a.bytes)) (a.room - n) (drop n a.bytes)
+passed n a = here (fold next_place a.place (take n a.bytes)) (a.room - n) (drop n a.bytes)
 
 -- Whether a byte is on a line that is skipped: one whose first byte is `%` (PGN standard, 6).
 abbrev pub on_remark : Bool → Place → ℕ → Bool
@@ -40,33 +39,18 @@ behind_gap inside place room (byte ∷ bytes) =
     else here place room (byte ∷ bytes)
 
 -- Three bytes at the beginning of a text are skipped: the mark of the order of bytes (Unicode, 23.8).
-abbrev pub byte_order_mark : List ℕ
-byte_order_mark = 239 ∷ 187 ∷ 191 ∷ []
-
 abbrev pub behind_mark : At → At
-behind_mark a = if ((a.place.line == 1) && (a.place.column == 1)) && begins byte_order_mark a.bytes then passed 3 a else a
+behind_mark a = if ((a.place.line == 1) && (a.place.column == 1)) && begins (239 ∷ 187 ∷ 191 ∷ []) a.bytes then passed 3 a else a
 
 -- From here on, behind white space and skipped lines.
 abbrev pub skipped : At → At
 skipped a = behind_gap false a.place a.room a.bytes
 
--- A token with its number of bytes, where it stands.
-pub record Spot : Type 0 where
-  pub at : At
-  pub token : Token
-  pub size : ℕ
-
-abbrev pub spot_at : At → Spot
-spot_at a = record { at = a; token = (lexed a.bytes).token; size = size a.bytes }
-
--- Behind the token that stands here, and where the next one stands.
+-- Behind the token that stands here.
 abbrev pub behind_token : At → At
 behind_token a = passed (size a.bytes) a
 
-abbrev pub next_at : At → At
-next_at a = skipped (behind_token a)
-
--- At most so many tokens, the first of them here. The last one is the end of the text.
-unfoldable pub spots : ℕ → At → List Spot
+-- Where at most so many tokens stand, the first of them here. The last one is the end of the text.
+unfoldable pub spots : ℕ → At → List At
 spots zero a = []
-spots (suc n) a = spot_at a ∷ (if nat_lt 0 (length a.bytes) then spots n (next_at a) else [])
+spots (suc n) a = a ∷ (if nat_lt 0 (length a.bytes) then spots n (skipped (behind_token a)) else [])

@@ -1,12 +1,12 @@
 -- Steps over the bytes of a source that were read and not yet taken. No public contract cites these words.
-use Rattle.std.specs.Prelude.{◌≡◌, ◌≤◌, ◌<◌, ◌⊎◌, ⊤, ℕ, ◌+◌, ◌-◌, if◌then◌else◌, Bool, true, false, length, take, drop, Option, Some, option_map, IsTrue}
+use Rattle.std.specs.Prelude.{◌≡◌, ◌≤◌, ◌<◌, ◌⊎◌, ⊤, ℕ, ◌+◌, ◌-◌, if◌then◌else◌, Bool, true, false, length, take, drop, Option, Some, option_map, IsTrue, fold}
 use Rattle.pgn_read.specs.declared.step.End.{End}
 use Rattle.pgn_read.specs.declared.step.End.TheVariants as end
 use Rattle.pgn_read.specs.declared.step.Step.{Step}
 use Rattle.pgn_read.specs.declared.step.Step.TheVariants as step
 use Rattle.pgn_read.specs.declared.step.Untaken.{Untaken}
 use Rattle.pgn_read.specs.declared.step.Untaken.TheVariants as untaken
-use Rattle.pgn_read.specs.Place.{place_behind}
+use Rattle.pgn_read.specs.Place.{next_place}
 use Rattle.pgn_read.specs.Lexing.{lexed, size}
 use Rattle.pgn_read.specs.Text.{At, here, behind_gap, behind_token, longest}
 use Rattle.pgn_read.specs.Reading.{Reading}
@@ -39,7 +39,7 @@ front w = here w.place w.room w.unread
 pub record FrontPassed (old new : Window) : Type 0 where
   pub fits : size old.unread ≤ old.room
   pub unread : new.unread ≡ drop (size old.unread) old.unread
-  pub place : new.place ≡ place_behind old.place (take (size old.unread) old.unread)
+  pub place : new.place ≡ fold next_place old.place (take (size old.unread) old.unread)
   pub room : new.room ≡ old.room - size old.unread
   pub ended : new.ended ≡ old.ended
 

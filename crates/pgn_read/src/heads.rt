@@ -1,13 +1,16 @@
 //! The head of a game, from its tags.
-ghost use Rattle.std.specs.Prelude.{◌≡◌, ◌++◌, ◌≤◌, ◌<◌, ◌^◌, All, IfOk, IfSome, OnOk, None, Some, codes, length};
+ghost use Rattle.std.specs.Prelude.{◌≡◌, ◌++◌, ◌≤◌, ◌<◌, ◌^◌, All, IfOk, IfSome, OnOk, None, Some, codes, length, option_and_then, unwrap_or, if◌then◌else◌};
+ghost use Rattle.game_tree.specs.TagList.{is_named};
+ghost use Rattle.game_tree.specs.Eco.{eco_read};
 ghost use Rattle.cell_core.specs.Text.{IsZeroFree};
-ghost use Rattle.game_tree.specs.Date.{IsDate};
+ghost use Rattle.game_tree.specs.Date.{IsDate, date_read, unknown_date};
+ghost use Rattle.game_tree.specs.declared.head.Outcome.TheVariants as outcome;
 ghost use Rattle.game_tree.specs.Head.{IsName, IsRating, IsTag, IsBounded};
 ghost use Rattle.game_tree.specs.Marks.{mark_letters};
-ghost use Rattle.game_tree.specs.Settle.{IsSettled};
+ghost use Rattle.game_tree.specs.Settle.{IsSettled, settled};
 ghost use Rattle.game_tree.specs.TagName.{free_of};
 ghost use Rattle.pgn_read.specs.Field.{name_text};
-ghost use Rattle.pgn_read.specs.Heads.{value_of, name_from, date_from, result_told, result_from, rated, rating_as, rating_told, rating_from, eco_told, eco_from, flags_of, has_letter, marks_of, all_marks, head_told, head_from, IsReadTag};
+ghost use Rattle.pgn_read.specs.Heads.{first_told, value_of, name_from, result_from, rating_told, rating_from, flags_of, has_letter, marks_of, all_marks, head_from, IsReadTag};
 
 use crate::field::Name;
 use crate::read_tag::ReadTag;
@@ -21,7 +24,6 @@ use std::alloc::{AllocError, Global};
 const GREATEST_RATING: u64 = 4_095;
 
 /// The head of a game with these tags and this end mark.
-#[tactic(auto, unfolding(crate::specs::Heads::head_from))]
 pub(crate) fn head_from(
     alloc: Global,
     tags: Vec<ReadTag>,
@@ -38,9 +40,10 @@ pub(crate) fn head_from(
 }
 
 // The head before it is settled.
+#[tactic(auto, unfolding(crate::specs::Heads::head_from))]
 fn head_told(alloc: Global, tags: Vec<ReadTag>, mark: Option<Outcome>) -> Result<Head, AllocError>
     requires read { All IsReadTag tags.items }
-    ensures head { IfOk result (λ head. head ≡ head_told tags.items mark) }
+    ensures head { IfOk result (λ head. settled head ≡ head_from tags.items mark) }
     ensures bounded { IfOk result (λ head. IsBounded head) }
 {
     let flags = flags_of(alloc, tags.as_slice())?;
@@ -112,7 +115,7 @@ pub(crate) fn text_of(alloc: Global, bytes: &[u8]) -> Result<Text, AllocError>
 // The date of the game.
 fn date_from(tags: &[ReadTag]) -> Date
     requires read { All IsReadTag tags.now }
-    ensures date { result ≡ date_from tags.now }
+    ensures date { result ≡ unwrap_or (option_and_then date_read (value_of (codes "Date") tags.now)) unknown_date }
     ensures bounded { IsDate result }
 {
     match value_of(Name::Date, tags) {
@@ -124,7 +127,7 @@ fn date_from(tags: &[ReadTag]) -> Date
 // The result of the game.
 fn result_from(mark: Option<Outcome>, tags: &[ReadTag]) -> Outcome
     requires read { All IsReadTag tags.now }
-    ensures outcome { result ≡ result_from mark tags.now }
+    ensures outcome { result ≡ result_from (unwrap_or mark outcome.Unknown) tags.now }
 {
     match mark {
         None => result_told(tags),
@@ -136,7 +139,7 @@ fn result_from(mark: Option<Outcome>, tags: &[ReadTag]) -> Outcome
 // The result that the tag tells.
 fn result_told(tags: &[ReadTag]) -> Outcome
     requires read { All IsReadTag tags.now }
-    ensures outcome { result ≡ result_told tags.now }
+    ensures outcome { result ≡ result_from outcome.Unknown tags.now }
 {
     match value_of(Name::Result, tags) {
         Some(value) => Outcome::read(value).unwrap_or(Outcome::Unknown),
@@ -179,7 +182,7 @@ fn rating_told(side: Colour, tag: &ReadTag) -> Option<Rating>
 
 // The opening code.
 fn eco_from(tags: &[ReadTag]) -> u16
-    ensures eco { result ≡ eco_from tags.now }
+    ensures eco { result ≡ unwrap_or (first_told (λ tag. if is_named (codes "ECO") tag then eco_read tag.value else None) tags.now) 0 }
     ensures bounded { result ≤ 65500 }
 {
     for tag in tags {
@@ -192,7 +195,7 @@ fn eco_from(tags: &[ReadTag]) -> u16
 
 // The opening code that a tag tells.
 fn eco_told(tag: &ReadTag) -> Option<u16>
-    ensures eco { result ≡ eco_told tag.now }
+    ensures eco { result ≡ (if is_named (codes "ECO") tag.now then eco_read tag.now.value else None) }
     ensures bounded { IfSome result (λ eco. eco ≤ 65500) }
 {
     if !tag.is(Name::Eco) {

@@ -1,5 +1,6 @@
 //! The token at the beginning of a text.
 ghost use Rattle.std.specs.Prelude.{◌≡◌, ◌≤◌, ◌==◌, not, length, drop, option_map, IfSome};
+ghost use Rattle.std.specs.Str.Lines.{strip_carriage_return};
 ghost use Rattle.std.specs.Char.{is_ascii_digit};
 ghost use Rattle.std.specs.Option.{unwrap_or};
 ghost use Rattle.game_tree.specs.Decimal.{decimal_read};
@@ -7,7 +8,7 @@ ghost use Rattle.pgn_read.specs.Bytes.{behind, has_zero, is_glyph, is_move_byte}
 ghost use Rattle.pgn_read.specs.Clear.{IsClear};
 ghost use Rattle.pgn_read.specs.Said.{said};
 ghost use Rattle.pgn_read.specs.Token as token;
-ghost use Rattle.pgn_read.specs.Lexing.{lexed, by_kind, comment_of, brace_from, without_return, suffix_of, run_from, number_from, digit_from};
+ghost use Rattle.pgn_read.specs.Lexing.{lexed, by_kind, comment_of, brace_from, suffix_of, run_from, number_from, digit_from};
 
 use crate::clear::Clear;
 use crate::run::{
@@ -111,7 +112,7 @@ fn brace_from(text: &[u8], clear: Clear) -> Lexed<'_>
 
 // A comment to the end of its line, from behind the semicolon on.
 fn line_from(text: &[u8]) -> Lexed<'_>
-    ensures token { said result.token ≡ (run_from (λ byte. not (byte == 10)) (λ line. comment_of (without_return line)) text.now).token }
+    ensures token { said result.token ≡ (run_from (λ byte. not (byte == 10)) (λ line. comment_of (strip_carriage_return line)) text.now).token }
     ensures rest { result.rest.now ≡ behind (λ byte. not (byte == 10)) text.now }
 {
     let (text, rest) = split_run(Run::ToFeed, text);
@@ -122,9 +123,8 @@ fn line_from(text: &[u8]) -> Lexed<'_>
 }
 
 // The text without a last carriage return.
-#[tactic(auto, unfolding(crate::specs::Lexing::without_return))]
 fn without_return(text: &[u8]) -> &[u8]
-    ensures { result.now ≡ without_return text.now }
+    ensures { result.now ≡ strip_carriage_return text.now }
 {
     match text {
         [rest @ .., b'\r'] => rest,

@@ -1,6 +1,6 @@
 //! Places in a text.
-ghost use Rattle.std.specs.Prelude.{◌≡◌};
-ghost use Rattle.pgn_read.specs.Place.{next_number, next_place, place_behind, first_place};
+ghost use Rattle.std.specs.Prelude.{◌≡◌, fold};
+ghost use Rattle.pgn_read.specs.Place.{next_number, next_place, first_place};
 
 /// A place in a text: its line and its column, both counted from 1. They stand still at 4,294,967,295.
 #[derive(Clone, Copy, Debug, PartialEq, Eq)]
@@ -36,7 +36,7 @@ impl Place {
 
     /// The place behind these bytes.
     pub(crate) fn behind(self, bytes: &[u8]) -> Place
-        ensures behind { result ≡ place_behind self bytes.now }
+        ensures behind { result ≡ fold next_place self bytes.now }
     {
         let mut place = self;
         for byte in bytes {

@@ -1,5 +1,5 @@
 //! A game while its tokens are read.
-ghost use Rattle.std.specs.Prelude.{◌≡◌, ◌==◌, ◌++◌, ◌∷◌, false, [], All, IfOk, OnOk, OnErr, IsTrue, slice_index_or, codes};
+ghost use Rattle.std.specs.Prelude.{◌≡◌, ◌==◌, ◌++◌, ◌∷◌, false, [], All, IfOk, OnOk, OnErr, IsTrue, slice_index_or, codes, ◌||◌, nat_lt, length};
 ghost use Rattle.cell_core.specs.Text.{IsZeroFree};
 ghost use Rattle.pgn_read.specs.Legality.{IsLegal};
 ghost use Rattle.pgn_read.specs.Fit.{IsFit};
@@ -11,7 +11,7 @@ ghost use Rattle.chess_text.specs.SanAnswer.{san_answer};
 ghost use Rattle.chess_text.specs.FenAnswer.{fen_answer};
 ghost use Rattle.pgn_read.specs.declared.item.GameWhat.TheVariants as what;
 ghost use Rattle.pgn_read.specs.Heads.{head_from, IsReadTag};
-ghost use Rattle.pgn_read.specs.Reading.{unread, is_inside, has_move, with_tag, starting, fen_effect, tag_effect, at_tag, is_faulty, opened, closed_to, move_effect, effect, is_next_game, is_game, game_of};
+ghost use Rattle.pgn_read.specs.Reading.{unread, is_inside, has_move, with_tag, starting, tag_effect, at_tag, is_faulty, opened, closed_to, effect, is_next_game, game_of, by_answer, played};
 
 use crate::field::Name;
 use crate::heads::{head_from, text_of};
@@ -90,7 +90,7 @@ impl Reading {
 
     /// Whether anything but comments was read.
     pub(crate) fn is_game(&self) -> bool
-        ensures game { result ≡ is_game self.now }
+        ensures game { result ≡ self.now.in_moves || nat_lt 0 (length self.now.tags) }
     {
         self.in_moves || !self.tags.is_empty()
     }
@@ -190,7 +190,7 @@ impl Reading {
         requires fen { tag.name ≡ codes "FEN" }
         requires read { IsReadTag tag }
         requires balanced { IsBalanced self.old }
-        ensures effect { IfOk result (λ step. said_step step self.new ≡ fen_effect tag.value self.old (fen_answer tag.value)) }
+        ensures effect { IfOk result (λ step. said_step step self.new ≡ by_answer (λ p. with_tag (codes "FEN") tag.value (starting p self.old)) what.Fen (fen_answer tag.value)) }
         ensures well { IfOk result (λ step. StepsWell step self.old self.new) }
         ensures balanced { OnOk result (IsBalanced self.new) }
     {
@@ -321,7 +321,7 @@ impl Reading {
     // The text of a move.
     fn take_move(&mut self, alloc: Global, text: &[u8]) -> Result<Step, AllocError>
         requires balanced { IsBalanced self.old }
-        ensures effect { IfOk result (λ step. said_step step self.new ≡ move_effect self.old (san_answer self.old.turn.now_at text.now)) }
+        ensures effect { IfOk result (λ step. said_step step self.new ≡ by_answer (λ m. played m self.old) what.San (san_answer self.old.turn.now_at text.now)) }
         ensures well { IfOk result (λ step. StepsWell step self.old self.new) }
         ensures balanced { OnOk result (IsBalanced self.new) }
     {

@@ -1,9 +1,9 @@
 //! Tags as they are read.
-ghost use Rattle.std.specs.Prelude.{◌≡◌, ◌==◌, ◌++◌, drop, false, IfOk, OnOk};
+ghost use Rattle.std.specs.Prelude.{◌≡◌, ◌==◌, ◌++◌, drop, false, IfOk, OnOk, ◌&&◌, not, take};
 ghost use Rattle.std.specs.List.{list_any};
 ghost use Rattle.pgn_read.specs.Bytes.{behind, is_white};
 ghost use Rattle.pgn_read.specs.Said.{said};
-ghost use Rattle.pgn_read.specs.TagText.{raw_value, behind_value, ends_value, escapes, meant_by, unescaped_from, closing, quoting, naming, tag_from};
+ghost use Rattle.pgn_read.specs.TagText.{escapes, meant_by, unescaped_from, closing, quoting, naming, tag_from, value_len};
 
 use crate::run::{Run, has_zero, split_run};
 use crate::token::{Lexed, Token};
@@ -91,8 +91,8 @@ fn bad(text: &[u8]) -> Lexed<'_>
 
 // The bytes of a value, and those from its closing quotation mark on.
 fn split_value(text: &[u8]) -> (&[u8], &[u8])
-    ensures raw { result.0.now ≡ raw_value false text.now }
-    ensures behind { result.1.now ≡ behind_value false text.now }
+    ensures raw { result.0.now ≡ take (value_len false text.now) text.now }
+    ensures behind { result.1.now ≡ drop (value_len false text.now) text.now }
 {
     let mut escaped = false;
     for (i, byte) in text.iter().enumerate() {
@@ -106,7 +106,7 @@ fn split_value(text: &[u8]) -> (&[u8], &[u8])
 
 // Whether a byte is the closing quotation mark.
 fn ends_value(escaped: bool, byte: u8) -> bool
-    ensures { result ≡ ends_value escaped byte }
+    ensures { result ≡ not escaped && (byte == 34) }
 {
     !escaped && byte == b'"'
 }

@@ -1,13 +1,13 @@
 //! The bytes of a source that were read and not yet taken.
-ghost use Rattle.std.specs.Prelude.{◌≡◌, ◌≤◌, ◌<◌, ◌+◌, ◌-◌, ◌==◌, ◌∷◌, ◌⊎◌, ℕ, List, None, IfSome, OnSome, ◌&&◌, slice_index_or, [], length, take, drop, option_map, true, false, IfErr, OnOk, IsTrue, MatchOption};
+ghost use Rattle.std.specs.Prelude.{◌≡◌, ◌≤◌, ◌<◌, ◌+◌, ◌-◌, ◌==◌, ◌∷◌, ◌⊎◌, ℕ, List, None, IfSome, OnSome, ◌&&◌, slice_index_or, [], length, take, drop, option_map, true, false, IfErr, OnOk, IsTrue, MatchOption, fold};
 ghost use Rattle.base_files.specs.Told.{before, Tells};
 ghost use Rattle.std.specs.Bool.{OnTrue, OnFalse};
 ghost use Rattle.pgn_read.specs.Bytes.{begins};
 ghost use Rattle.pgn_read.specs.Causes.{HasCause};
 ghost use Rattle.pgn_read.specs.Items.{begins_game};
 ghost use Rattle.pgn_read.specs.Lexing.{lexed};
-ghost use Rattle.pgn_read.specs.Place.{next_place, place_behind, first_place};
-ghost use Rattle.pgn_read.specs.Text.{longest, most_ahead, skipped, byte_order_mark, behind_mark, on_remark};
+ghost use Rattle.pgn_read.specs.Place.{next_place, first_place};
+ghost use Rattle.pgn_read.specs.Text.{longest, most_ahead, skipped, behind_mark, on_remark};
 ghost use Rattle.pgn_read.specs.Clear.{IsClear};
 ghost use Rattle.pgn_read.specs.Readers.{with_more, ahead};
 ghost use Rattle.pgn_read.specs.Window.{gap_behind, resumed_at, waiting, Decides};
@@ -147,7 +147,7 @@ impl Window {
     // The place behind so many unread bytes.
     fn place_behind(&self, count: usize) -> Place
         requires there { count ≤ length self.now.unread }
-        ensures place { result ≡ place_behind self.now.place (take count self.now.unread) }
+        ensures place { result ≡ fold next_place self.now.place (take count self.now.unread) }
     {
         self.place.behind(self.unread().split_at(count).0)
     }
@@ -156,7 +156,7 @@ impl Window {
     pub(crate) fn pass(&mut self, count: usize)
         requires there { count ≤ length self.old.unread }
         ensures unread { self.new.unread ≡ drop count self.old.unread }
-        ensures place { self.new.place ≡ place_behind self.old.place (take count self.old.unread) }
+        ensures place { self.new.place ≡ fold next_place self.old.place (take count self.old.unread) }
         ensures room { self.new.room ≡ self.old.room - count }
         ensures ended { self.new.ended ≡ self.old.ended }
     {
@@ -300,7 +300,7 @@ impl Window {
 
     // Whether this is the beginning of a text, and has a byte order mark.
     fn has_mark(&self) -> bool
-        ensures mark { result ≡ ((self.now.place.line == 1) && (self.now.place.column == 1)) && begins byte_order_mark self.now.unread }
+        ensures mark { result ≡ ((self.now.place.line == 1) && (self.now.place.column == 1)) && begins (239 ∷ 187 ∷ 191 ∷ []) self.now.unread }
     {
         self.place.line == 1 && self.place.column == 1 && begins(b"\xef\xbb\xbf", self.unread())
     }

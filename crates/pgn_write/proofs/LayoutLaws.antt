@@ -1,12 +1,13 @@
 -- What the tokens write one by one is their layout.
-use Rattle.std.proofs.Common.{◌≡◌, ℕ, ◌+◌, ◌≤◌, List, [], ◌∷◌, ◌++◌, Option, Some, None, Bool, true, false, length, refl, sym, ap, subst, ◌∙◌, append_assoc, append-nil, arith}
+use Rattle.std.proofs.Common.{◌≡◌, ℕ, ◌+◌, ◌≤◌, List, [], ◌∷◌, ◌++◌, Option, Some, None, Bool, true, false, length, refl, sym, ap, subst, ◌∙◌, append_assoc, append-nil, arith, flat_map}
 use Rattle.std.specs.Prelude.{◌||◌, if◌then◌else◌, map}
 use Rattle.cell_core.specs.declared.man.Colour.{Colour}
 use Rattle.cell_core.specs.declared.man.Colour.TheVariants.{White, Black}
 use Rattle.pgn_write.specs.Token.{Token, token_text}
+use Rattle.pgn_write.specs.Token as token
 unfoldable use Rattle.pgn_write.specs.Layout.{layout}
-use Rattle.pgn_write.specs.Layout.{holds_next, is_closing, joined, units, unit_text, column_after, has_room, laid_behind, laid}
-use Rattle.pgn_write.specs.Writing.{Writing, begun, lead_in, begins_at, flushed, grown, put, put_all, size, IsLow}
+use Rattle.pgn_write.specs.Layout.{holds_next, begins_closing, joined, units, column_after, has_room, laid_behind, laid}
+use Rattle.pgn_write.specs.Writing.{Writing, begun, lead_in, begins_at, flushed, grown, put, put_all, is_closing, size, IsLow}
 use Rattle.pgn_write.proofs.WritingLaws.{put_all-append}
 
 -- The texts of units with a text before the first of them.
@@ -15,7 +16,7 @@ prefixed text [] = text ∷ []
 prefixed text (unit ∷ units) = (text ++ unit) ∷ units
 
 abbrev texts : List Token → List (List ℕ)
-texts tokens = map unit_text (units tokens)
+texts tokens = map (flat_map token_text) (units tokens)
 
 -- The units of a text that is kept back and of tokens behind it, which go on with it or not.
 abbrev pending : List ℕ → Bool → List Token → List (List ℕ)
@@ -23,26 +24,35 @@ pending text holds [] = text ∷ []
 pending text holds (token ∷ tokens) =
     if holds || is_closing token then prefixed text (texts (token ∷ tokens)) else text ∷ texts (token ∷ tokens)
 
-alone : (token : Token) → unit_text (token ∷ []) ≡ token_text token
+alone : (token : Token) → flat_map token_text (token ∷ []) ≡ token_text token
 alone token = append-nil (token_text token)
 
-texts-joined : (token : Token) (us : List (List Token)) → map unit_text (joined token us) ≡ prefixed (token_text token) (map unit_text us)
+texts-joined : (token : Token) (us : List (List Token)) → map (flat_map token_text) (joined token us) ≡ prefixed (token_text token) (map (flat_map token_text) us)
 texts-joined token [] = ap (λ (text : List ℕ). text ∷ []) (alone token)
 texts-joined token (unit ∷ us) = refl
 
 texts-choice : (b : Bool) (token : Token) (us : List (List Token))
-    → map unit_text (if b then joined token us else (token ∷ []) ∷ us)
-    ≡ (if b then prefixed (token_text token) (map unit_text us) else token_text token ∷ map unit_text us)
+    → map (flat_map token_text) (if b then joined token us else (token ∷ []) ∷ us)
+    ≡ (if b then prefixed (token_text token) (map (flat_map token_text) us) else token_text token ∷ map (flat_map token_text) us)
 texts-choice true token us = texts-joined token us
-texts-choice false token us = ap (λ (text : List ℕ). text ∷ map unit_text us) (alone token)
+texts-choice false token us = ap (λ (text : List ℕ). text ∷ map (flat_map token_text) us) (alone token)
 
-last-choice : (b : Bool) (token : Token) → map unit_text (if b then joined token [] else (token ∷ []) ∷ []) ≡ token_text token ∷ []
+last-choice : (b : Bool) (token : Token) → map (flat_map token_text) (if b then joined token [] else (token ∷ []) ∷ []) ≡ token_text token ∷ []
 last-choice true token = ap (λ (text : List ℕ). text ∷ []) (alone token)
 last-choice false token = ap (λ (text : List ℕ). text ∷ []) (alone token)
 
+closing-next : (next : Token) (tokens : List Token) → begins_closing (next ∷ tokens) ≡ is_closing next
+closing-next (token.number n side) tokens = refl
+closing-next (token.move text) tokens = refl
+closing-next (token.nag n) tokens = refl
+closing-next (token.comment text) tokens = refl
+closing-next token.opens tokens = refl
+closing-next token.closes tokens = refl
+closing-next (token.ending outcome) tokens = refl
+
 texts-pending : (token : Token) (tokens : List Token) → texts (token ∷ tokens) ≡ pending (token_text token) (holds_next token) tokens
 texts-pending token [] = last-choice (holds_next token || false) token
-texts-pending token (next ∷ tokens) = texts-choice (holds_next token || is_closing next) token (units (next ∷ tokens))
+texts-pending token (next ∷ tokens) = rw (closing-next next tokens) (texts-choice (holds_next token || is_closing next) token (units (next ∷ tokens)))
 
 prefixed-twice : (first second : List ℕ) (us : List (List ℕ)) → prefixed first (prefixed second us) ≡ prefixed (first ++ second) us
 prefixed-twice first second [] = refl
@@ -63,7 +73,7 @@ behind None us = laid us
 behind (Some column) us = laid_behind column us
 
 room-choice : (b : Bool) (column : ℕ) (unit : List ℕ) (us : List (List ℕ))
-    → (if b then 32 ∷ unit ++ laid_behind (column_after (column + 1) unit) us else 10 ∷ unit ++ laid_behind (column_after 0 unit) us)
+    → (if b then 32 else 10) ∷ unit ++ laid_behind (column_after column ((if b then 32 else 10) ∷ unit)) us
     ≡ (if b then 32 else 10) ∷ unit ++ laid_behind (column_after (if b then column + 1 else 0) unit) us
 room-choice true column unit us = refl
 room-choice false column unit us = refl

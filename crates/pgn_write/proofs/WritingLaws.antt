@@ -17,9 +17,9 @@ use Rattle.game_tree.specs.Tree.{Line, ends, goes, Branches, none, more, Played,
 use Rattle.game_tree.specs.Written.{nags_before, comment_before, movetext_of, variations_before}
 use Rattle.pgn_write.specs.Token.{Token, number, token_text}
 use Rattle.pgn_write.specs.Token as token
-use Rattle.pgn_write.specs.Layout.{holds_next, is_closing}
+use Rattle.pgn_write.specs.Layout.{holds_next}
 use Rattle.pgn_write.specs.Tokens.{Turn, tokens_from, turn_behind, number_due, number_behind}
-use Rattle.pgn_write.specs.Writing.{Writing, lead_in, flushed, ready, grown, put, put_all, size, IsLow, turn, move_tokens, nag_tokens, comment_tokens, branch_tokens, own_tokens, node_tokens, has_variations, is_resumed}
+use Rattle.pgn_write.specs.Writing.{Writing, lead_in, flushed, ready, grown, put, put_all, is_closing, size, IsLow, turn, move_tokens, nag_tokens, comment_tokens, branch_tokens, own_tokens, node_tokens, has_variations, is_resumed}
 
 -- Tokens one behind the other.
 pub put_all-append : (first second : List Token) (w : Writing) → put_all (first ++ second) w ≡ put_all second (put_all first w)

@@ -1,5 +1,5 @@
 -- The tag pairs of a game in the order in which they are written, one a line (PGN standard, 8.1).
-use Rattle.std.specs.Prelude.{ℕ, ◌/◌, ◌%◌, ◌==◌, ◌||◌, Bool, if◌then◌else◌, List, [], ◌∷◌, ◌++◌, codes}
+use Rattle.std.specs.Prelude.{ℕ, ◌/◌, ◌%◌, ◌==◌, ◌||◌, Bool, if◌then◌else◌, List, [], ◌∷◌, ◌++◌, flat_map, codes}
 use Rattle.std.specs.Fmt.{decimal}
 use Rattle.cell_core.specs.declared.man.Colour.{Colour}
 use Rattle.cell_core.specs.declared.man.Colour.TheVariants.{White, Black}
@@ -15,21 +15,13 @@ use Rattle.game_tree.specs.Marks.{mark_letters}
 use Rattle.game_tree.specs.Outcome.{outcome_text}
 use Rattle.game_tree.specs.TagName.{rating_tag}
 
--- A value with a backslash before each quotation mark and each backslash (PGN standard, 7).
+-- A byte of a value, with a backslash before it where it is a quotation mark or a backslash (PGN standard, 7).
 abbrev pub escaped_byte : ℕ → List ℕ
 escaped_byte byte = if (byte == 34) || (byte == 92) then 92 ∷ byte ∷ [] else byte ∷ []
 
-abbrev pub escaped : List ℕ → List ℕ
-escaped [] = []
-escaped (byte ∷ text) = escaped_byte byte ++ escaped text
-
 -- One pair on its line, as `[Event "Vienna"]` (PGN standard, 8.1).
 abbrev pub tag_text : Tag → List ℕ
-tag_text tag = 91 ∷ tag.name ++ (32 ∷ 34 ∷ escaped tag.value ++ (34 ∷ 93 ∷ 10 ∷ []))
-
-abbrev pub tags_text : List Tag → List ℕ
-tags_text [] = []
-tags_text (tag ∷ tags) = tag_text tag ++ tags_text tags
+tag_text tag = 91 ∷ tag.name ++ (32 ∷ 34 ∷ flat_map escaped_byte tag.value ++ (34 ∷ 93 ∷ 10 ∷ []))
 
 abbrev pub pair : List ℕ → List ℕ → Tag
 pair said text = record { name = said; value = text }

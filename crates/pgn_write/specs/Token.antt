@@ -17,25 +17,18 @@ pub data Token : Type 0 where
   closes : Token
   ending : Outcome → Token
 
--- The number before a move of White and before one of Black, with the space behind it (PGN standard, 8.2.2).
-abbrev pub number_text : ℕ → Colour → List ℕ
-number_text n White = decimal n ++ codes ". "
-number_text n Black = decimal n ++ codes "... "
-
 -- A closing brace would end a comment, so it is written as a closing bracket (PGN standard, 5; the bracket is this project's
 -- own).
 abbrev pub without_brace : ℕ → ℕ
 without_brace byte = if byte == 125 then 41 else byte
 
-abbrev pub comment_text : List ℕ → List ℕ
-comment_text text = 123 ∷ map without_brace text ++ 125 ∷ []
-
--- The text of a token (PGN standard, 8.2.2 to 8.2.6).
+-- The text of a token (PGN standard, 8.2.2 to 8.2.6): a number has the space behind it, and a comment stands in braces.
 abbrev pub token_text : Token → List ℕ
-token_text (number n side) = number_text n side
+token_text (number n White) = decimal n ++ codes ". "
+token_text (number n Black) = decimal n ++ codes "... "
 token_text (move text) = text
 token_text (nag n) = 36 ∷ decimal n
-token_text (comment text) = comment_text text
+token_text (comment text) = 123 ∷ map without_brace text ++ 125 ∷ []
 token_text opens = codes "("
 token_text closes = codes ")"
 token_text (ending outcome) = outcome_text outcome

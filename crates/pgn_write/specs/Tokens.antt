@@ -1,7 +1,8 @@
 -- The tokens of a game in their order, with the positions played along (PGN standard, 8.2).
-use Rattle.std.specs.Prelude.{ℕ, ◌+◌, Bool, true, false, if◌then◌else◌, List, [], ◌∷◌, ◌++◌}
+use Rattle.std.specs.Prelude.{ℕ, ◌+◌, Bool, true, false, if◌then◌else◌, List, [], ◌∷◌, ◌++◌, ◌||◌}
 use Rattle.cell_core.specs.declared.man.Colour.{Colour}
 use Rattle.cell_core.specs.declared.man.Colour.TheVariants.{White, Black}
+use Rattle.cell_core.specs.Man.{same_colour}
 use Rattle.cell_core.specs.declared.step.Move.{Move}
 use Rattle.chess_laws.specs.declared.setup.Setup.{Setup}
 use Rattle.chess_laws.specs.Step.{stepped}
@@ -29,8 +30,7 @@ turn_behind t m = record { position = stepped t.position m; number = number_behi
 -- The number before a move, where it is due: before each of White, and before one of Black that is resumed, which means that
 -- it is the first of its line or stands behind a comment or a variation (PGN standard, 8.2.2.2).
 abbrev pub number_due : Colour → ℕ → Bool → List Token
-number_due White n resumed = token.number n White ∷ []
-number_due Black n resumed = if resumed then token.number n Black ∷ [] else []
+number_due side n resumed = if same_colour side White || resumed then token.number n side ∷ [] else []
 
 -- The tokens of a movetext by the place before its last move and the place that it has come to. A variation begins at the
 -- place before the move that it hangs on.

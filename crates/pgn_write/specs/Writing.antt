@@ -11,7 +11,7 @@ use Rattle.game_tree.specs.Tree.{Branches, none, more, Played}
 use Rattle.game_tree.specs.Written.{comment_before, movetext_of}
 use Rattle.pgn_write.specs.Token.{Token, token_text}
 use Rattle.pgn_write.specs.Token as token
-use Rattle.pgn_write.specs.Layout.{holds_next, is_closing, column_after, has_room}
+use Rattle.pgn_write.specs.Layout.{holds_next, column_after, has_room}
 use Rattle.pgn_write.specs.Tokens.{Turn, number_due, tokens_from}
 
 -- What is written, the unit behind it, the length of the line before that unit (none for the first unit), and whether the next
@@ -44,6 +44,11 @@ flushed w =
       column = Some (column_after (begins_at w.column w.unit) w.unit);
       holds = true;
     }
+
+-- Whether a token goes on with the unit before it.
+abbrev pub is_closing : Token → Bool
+is_closing token.closes = true
+is_closing _ = false
 
 -- There is a unit for a token.
 abbrev pub ready : Bool → Writing → Writing

@@ -1,8 +1,8 @@
 //! The tag pairs of a game.
-ghost use Rattle.std.specs.Prelude.{◌≡◌, ◌<◌, ◌≤◌, ◌+◌, [], ◌++◌, length, OnOk};
+ghost use Rattle.std.specs.Prelude.{◌≡◌, ◌<◌, ◌≤◌, ◌+◌, [], ◌++◌, flat_map, length, OnOk};
 ghost use Rattle.chess_text.specs.Written.{letter_where};
 ghost use Rattle.game_tree.specs.Head.{head_of, IsRating, IsBounded};
-ghost use Rattle.pgn_write.specs.TagPairs.{escaped, escaped_byte, pair, tag_text, tags_text, tags_of, roster, rating_pairs, eco_pairs, event_date_pairs, letters_set, flags_text, flags_pairs, start_pairs};
+ghost use Rattle.pgn_write.specs.TagPairs.{escaped_byte, pair, tag_text, tags_of, roster, rating_pairs, eco_pairs, event_date_pairs, letters_set, flags_text, flags_pairs, start_pairs};
 
 use arrayvec::ArrayVec;
 use cell_core::Colour;
@@ -20,7 +20,7 @@ pub(crate) fn put_tags(
     g: &Game,
 ) -> Result<(), AllocError>
     requires bounded { IsBounded (head_of head.now tags.now) }
-    ensures tags { OnOk result (out.new.items ≡ out.old.items ++ tags_text (tags_of (head_of head.now tags.now) g.now)) }
+    ensures tags { OnOk result (out.new.items ≡ out.old.items ++ flat_map tag_text (tags_of (head_of head.now tags.now) g.now)) }
 {
     put_roster(out, head)?;
     put_rating(out, Colour::White, head.white_rating)?;
@@ -36,7 +36,7 @@ pub(crate) fn put_tags(
 // Adds the seven tags that every game has.
 #[tactic(auto, using(crate::proofs::TagLaws::tag_rules))]
 fn put_roster(out: &mut Vec<u8>, head: &HeadRef<'_>) -> Result<(), AllocError>
-    ensures tags { OnOk result (out.new.items ≡ out.old.items ++ tags_text (roster (head_of head.now []))) }
+    ensures tags { OnOk result (out.new.items ≡ out.old.items ++ flat_map tag_text (roster (head_of head.now []))) }
 {
     put_tag(out, b"Event", head.event)?;
     put_tag(out, b"Site", head.site)?;
@@ -51,7 +51,7 @@ fn put_roster(out: &mut Vec<u8>, head: &HeadRef<'_>) -> Result<(), AllocError>
 // Adds a side's rating, where there is one.
 fn put_rating(out: &mut Vec<u8>, side: Colour, rating: Rating) -> Result<(), AllocError>
     requires bounded { IsRating rating }
-    ensures tags { OnOk result (out.new.items ≡ out.old.items ++ tags_text (rating_pairs side rating)) }
+    ensures tags { OnOk result (out.new.items ≡ out.old.items ++ flat_map tag_text (rating_pairs side rating)) }
 {
     if rating.value == 0 {
         return Ok(());
@@ -67,7 +67,7 @@ fn put_rating(out: &mut Vec<u8>, side: Colour, rating: Rating) -> Result<(), All
 // Adds the opening code, where there is one.
 fn put_eco(out: &mut Vec<u8>, eco: u16) -> Result<(), AllocError>
     requires bounded { eco ≤ 65500 }
-    ensures tags { OnOk result (out.new.items ≡ out.old.items ++ tags_text (eco_pairs eco)) }
+    ensures tags { OnOk result (out.new.items ≡ out.old.items ++ flat_map tag_text (eco_pairs eco)) }
 {
     if eco == 0 {
         return Ok(());
@@ -77,7 +77,7 @@ fn put_eco(out: &mut Vec<u8>, eco: u16) -> Result<(), AllocError>
 
 // Adds the event date, where there is one.
 fn put_event_date(out: &mut Vec<u8>, date: Date) -> Result<(), AllocError>
-    ensures tags { OnOk result (out.new.items ≡ out.old.items ++ tags_text (event_date_pairs date)) }
+    ensures tags { OnOk result (out.new.items ≡ out.old.items ++ flat_map tag_text (event_date_pairs date)) }
 {
     if date.is_unknown() {
         return Ok(());
@@ -87,14 +87,14 @@ fn put_event_date(out: &mut Vec<u8>, date: Date) -> Result<(), AllocError>
 
 // Adds the letters of the marks, where there are any.
 fn put_flags(out: &mut Vec<u8>, deleted: bool, marks: u32) -> Result<(), AllocError>
-    ensures tags { OnOk result (out.new.items ≡ out.old.items ++ tags_text (flags_pairs (flags_text deleted marks))) }
+    ensures tags { OnOk result (out.new.items ≡ out.old.items ++ flat_map tag_text (flags_pairs (flags_text deleted marks))) }
 {
     put_letters(out, flags_text(deleted, marks).as_slice())
 }
 
 // Adds these letters of marks, where there are any.
 fn put_letters(out: &mut Vec<u8>, letters: &[u8]) -> Result<(), AllocError>
-    ensures tags { OnOk result (out.new.items ≡ out.old.items ++ tags_text (flags_pairs letters.now)) }
+    ensures tags { OnOk result (out.new.items ≡ out.old.items ++ flat_map tag_text (flags_pairs letters.now)) }
 {
     match letters {
         [] => Ok(()),
@@ -142,7 +142,7 @@ fn push_where(into: &mut ArrayVec<u8, 19>, set: bool, letter: u8)
 // Adds the start as a position, where it is not the initial one.
 #[tactic(auto, using(crate::proofs::TagLaws::tag_rules))]
 fn put_start(alloc: Global, out: &mut Vec<u8>, g: &Game) -> Result<(), AllocError>
-    ensures tags { OnOk result (out.new.items ≡ out.old.items ++ tags_text (start_pairs g.now)) }
+    ensures tags { OnOk result (out.new.items ≡ out.old.items ++ flat_map tag_text (start_pairs g.now)) }
 {
     if !g.has_own_start() {
         return Ok(());
@@ -155,7 +155,7 @@ fn put_start(alloc: Global, out: &mut Vec<u8>, g: &Game) -> Result<(), AllocErro
 
 // Adds the other tags.
 fn put_others(out: &mut Vec<u8>, tags: &[Tag]) -> Result<(), AllocError>
-    ensures tags { OnOk result (out.new.items ≡ out.old.items ++ tags_text tags.now) }
+    ensures tags { OnOk result (out.new.items ≡ out.old.items ++ flat_map tag_text tags.now) }
 {
     for tag in tags {
         put_tag(out, tag.name.as_bytes(), tag.value.as_bytes())?;
@@ -177,7 +177,7 @@ fn put_tag(out: &mut Vec<u8>, name: &[u8], value: &[u8]) -> Result<(), AllocErro
 
 // Adds a value with a backslash before each quotation mark and each backslash.
 fn put_escaped(out: &mut Vec<u8>, value: &[u8]) -> Result<(), AllocError>
-    ensures value { OnOk result (out.new.items ≡ out.old.items ++ escaped value.now) }
+    ensures value { OnOk result (out.new.items ≡ out.old.items ++ flat_map escaped_byte value.now) }
 {
     for byte in value {
         put_escaped_byte(out, *byte)?;

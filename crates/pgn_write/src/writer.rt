@@ -1,9 +1,10 @@
 //! The writer of a movetext, token by token.
-ghost use Rattle.std.specs.Prelude.{◌≡◌, ◌<◌, ◌≤◌, ◌+◌, ◌^◌, ◌++◌, OnOk, false};
+ghost use Rattle.std.specs.Prelude.{◌≡◌, ◌<◌, ◌≤◌, ◌+◌, ◌^◌, ◌==◌, ◌++◌, ◌∷◌, [], if◌then◌else◌, not, map, OnOk, false};
 ghost use Rattle.std.specs.Fmt.{decimal};
+ghost use Rattle.std.specs.List.{prefix_len};
 ghost use Rattle.pgn_write.specs.Token as token;
-ghost use Rattle.pgn_write.specs.Token.{comment_text, without_brace};
-ghost use Rattle.pgn_write.specs.Layout.{width, next_column, column_after, has_room};
+ghost use Rattle.pgn_write.specs.Token.{without_brace};
+ghost use Rattle.pgn_write.specs.Layout.{column_after, has_room};
 ghost use Rattle.pgn_write.specs.Writing.{begun, flushed, ready, grown, put, size};
 
 use cell_core::Colour;
@@ -190,7 +191,7 @@ impl Writer {
 
 // Adds a comment in its braces. A closing brace inside it is written as a closing bracket.
 fn push_comment(unit: &mut Vec<u8>, text: &[u8]) -> Result<(), AllocError>
-    ensures pushed { OnOk result (unit.new.items ≡ unit.old.items ++ comment_text text.now) }
+    ensures pushed { OnOk result (unit.new.items ≡ unit.old.items ++ 123 ∷ map without_brace text.now ++ 125 ∷ []) }
 {
     unit.push(b'{')?;
     for byte in text {
@@ -217,7 +218,7 @@ fn has_room(column: usize, unit: &[u8]) -> bool
 
 // The bytes of a text up to its first line feed.
 fn width(text: &[u8]) -> usize
-    ensures width { result ≡ width text.now }
+    ensures width { result ≡ prefix_len (λ byte. not (byte == 10)) text.now }
 {
     let mut at = 0;
     for byte in text {
@@ -244,7 +245,7 @@ fn column_after(column: usize, text: &[u8]) -> usize
 // The length of the line after one more byte.
 fn next_column(column: usize, byte: u8) -> usize
     requires small { column + 1 < 2 ^ 64 }
-    ensures column { result ≡ next_column column byte }
+    ensures column { result ≡ (if byte == 10 then 0 else column + 1) }
     ensures bound { result ≤ column + 1 }
 {
     if byte == b'\n' { 0 } else { column + 1 }

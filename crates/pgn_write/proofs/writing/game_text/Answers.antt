@@ -1,7 +1,7 @@
-use Rattle.std.proofs.Common.{ℕ, List, ◌++◌, ap, ◌∙◌}
+use Rattle.std.proofs.Common.{ℕ, List, ◌++◌, ap, ◌∙◌, flat_map}
 use Rattle.game_tree.specs.declared.head.Head.{Head}
 use Rattle.game_tree.specs.Head.{head_of}
-use Rattle.pgn_write.specs.TagPairs.{tags_of, tags_text}
+use Rattle.pgn_write.specs.TagPairs.{tags_of, tag_text}
 use Rattle.pgn_write.proofs.TagLaws.{tags-some}
 use Rattle.pgn_write.proofs.PgnLaws.{pgn-parts}
 use Rattle.pgn_write.proofs.writing.game_text.Goals as goal
@@ -10,7 +10,7 @@ pub with_movetext-requires-clause-some : goal.with_movetext-requires-clause-some
 with_movetext-requires-clause-some c =
     let head : Head = head_of c.args.head.now c.args.tags.now in
     tags-some head c.args.g.now c.put_tags.new.out.items c.push.new.self.items
-    (c.in_ok-put_tags.ensures.tags ∙ ap (λ (text : List ℕ). text ++ tags_text (tags_of head c.args.g.now)) c.in_ok-out.ensures.items)
+    (c.in_ok-put_tags.ensures.tags ∙ ap (λ (text : List ℕ). text ++ flat_map tag_text (tags_of head c.args.g.now)) c.in_ok-out.ensures.items)
     c.in_ok-push.ensures.items
 
 pub returns : goal.returns

@@ -1,7 +1,7 @@
-use Rattle.std.proofs.Common.{◌≡◌, drop}
-use Rattle.pgn_read.specs.Place.{place_behind}
+use Rattle.std.proofs.Common.{◌≡◌, drop, fold}
+use Rattle.pgn_read.specs.Place.{next_place}
 use Rattle.pgn_read.proofs.place.Place.behind.Given as goal
 
 -- What is left leads to the same place.
 abbrev pub invariant-loop-byte : goal.invariant-loop-byte
-invariant-loop-byte l = place_behind l.place (drop l.byte-index l.bytes) ≡ place_behind l.fn.self l.bytes
+invariant-loop-byte l = fold next_place l.place (drop l.byte-index l.bytes) ≡ fold next_place l.fn.self l.bytes
