@@ -4,7 +4,8 @@ use Rattle.std.specs.List.{AllByRecursion, IsDistinct, cons_option, filter_map, 
 use Rattle.std.specs.Str.{bytes_eq}
 use Rattle.cross_table.specs.declared.played.Played.{Played}
 use Rattle.cross_table.specs.declared.played.Met.{Met}
-use Rattle.cross_table.specs.Crosstable.{Pairing, Meeting, meeting, meetings, white_score, black_score, half_points, half_points_of, games_known, is_known, sign}
+use Rattle.cross_table.specs.declared.score.Score.TheVariants.{Won, Lost}
+use Rattle.cross_table.specs.Crosstable.{Pairing, Meeting, meeting, meetings, half_points, half_points_of, games_known, is_known, sign, score_by}
 use Rattle.cross_table.specs.Keeping.{Entered, Standing, mets, signs_with, standing_of}
 use Rattle.cross_table.proofs.NameLaws.{same_places}
 use Rattle.cross_table.proofs.Numbering.{IsNumbered, IsWithin, named}
@@ -14,10 +15,10 @@ abbrev pub met_named : List (List ℕ) → Met → Meeting
 met_named names met = record { other = get_or names met.other []; score = met.score }
 
 abbrev as_white : Played → Met
-as_white game = record { other = game.black; score = white_score game.result }
+as_white game = record { other = game.black; score = score_by Won Lost game.result }
 
 abbrev as_black : Played → Met
-as_black game = record { other = game.white; score = black_score game.result }
+as_black game = record { other = game.white; score = score_by Lost Won game.result }
 
 met_step : (names : List (List ℕ)) (b c : Bool) (x y : Met) (rest : List Met)
     → cons_option (cond b (Some (met_named names x)) (cond c (Some (met_named names y)) None)) (map (met_named names) rest)

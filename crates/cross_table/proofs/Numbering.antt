@@ -6,8 +6,8 @@ use Rattle.std.proofs.lemmas.List.{append-nil, append_assoc, map-append}
 use Rattle.std.proofs.lemmas.List.Sums.{fold_push}
 use Rattle.game_tree.specs.declared.head.Head.{Head}
 use Rattle.cross_table.specs.declared.played.Played.{Played}
-use Rattle.cross_table.specs.Crosstable.{Pairing, pairing_of, is_of, event_games, names_of, with_name}
-use Rattle.cross_table.specs.Keeping.{Entered, no_entrants, entered, entrants, place_of, with_head}
+use Rattle.cross_table.specs.Crosstable.{Pairing, is_of, event_games, names_of, with_name}
+use Rattle.cross_table.specs.Keeping.{Entered, entered, entrants, no_entrants, pairing_of, place_of, with_head}
 use Rattle.cross_table.proofs.NameLaws.{name_added}
 
 -- A game by names, and that its places are some.

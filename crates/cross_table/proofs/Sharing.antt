@@ -10,8 +10,9 @@ use Rattle.game_tree.specs.declared.head.Head.{Head}
 use Rattle.game_tree.specs.declared.head.Outcome.{Outcome}
 use Rattle.game_tree.specs.declared.head.Outcome.TheVariants.{Unknown, White, Black, Draw}
 use Rattle.cross_table.specs.declared.played.Played.{Played}
-use Rattle.cross_table.specs.Crosstable.{CrossLine, Meeting, Pairing, black_score, crosstable, event_games, half_points, half_points_of, has_result, is_of, line_of, meeting, meetings, names_of, pairing_of, ranked, stands_before, white_score, with_ranked}
-use Rattle.cross_table.specs.Keeping.{Entered, entrants}
+use Rattle.cross_table.specs.declared.score.Score.TheVariants.{Won, Lost}
+use Rattle.cross_table.specs.Crosstable.{CrossLine, Meeting, Pairing, crosstable, event_games, half_points, half_points_of, has_result, is_of, line_of, meeting, meetings, names_of, ranked, stands_before, with_ranked, score_by}
+use Rattle.cross_table.specs.Keeping.{Entered, entrants, pairing_of}
 use Rattle.cross_table.proofs.NameLaws.{bytes_equiv}
 use Rattle.cross_table.proofs.Numbering.{IsNumbered, IsWithin, named, numbered}
 use Rattle.cross_table.proofs.Sums.{exchanged, sum_by-both, sum_by-map, turned}
@@ -46,11 +47,11 @@ gain_by false true x y apart = sym (zero-add (half_points_of y.score))
 gain_by false false x y apart = refl
 
 gain_is : (game : Pairing) → bytes_eq game.white game.black ≡ false → (name : List ℕ)
-    → gain name game ≡ cond (bytes_eq name game.white) (half_points_of (white_score game.result)) 0
-    + cond (bytes_eq name game.black) (half_points_of (black_score game.result)) 0
+    → gain name game ≡ cond (bytes_eq name game.white) (half_points_of (score_by Won Lost game.result)) 0
+    + cond (bytes_eq name game.black) (half_points_of (score_by Lost Won game.result)) 0
 gain_is game apart name =
     gain_by (bytes_eq name game.white) (bytes_eq name game.black)
-    (record { other = game.black; score = white_score game.result }) (record { other = game.white; score = black_score game.result })
+    (record { other = game.black; score = score_by Won Lost game.result }) (record { other = game.white; score = score_by Lost Won game.result })
     (λ same. bytes_equiv.congr name game.white game.black same ∙ apart)
 
 none_others : (name : List ℕ) (points : ℕ) (names : List (List ℕ)) → AllByRecursion (λ (y : List ℕ). bytes_eq name y ≡ false) names
@@ -74,7 +75,7 @@ gets_once (name ∷ names) once (suc k) below points =
     ∙ (λ j. cond (apart j) points 0 + gets_once names (IsDistinct-tail bytes_eq name names once) k (omega (arith, below)) points j)
     ∙ zero-add points
 
-both : (r : Outcome) → half_points_of (white_score r) + half_points_of (black_score r) ≡ 2 * cond (has_result r) 1 0
+both : (r : Outcome) → half_points_of (score_by Won Lost r) + half_points_of (score_by Lost Won r) ≡ 2 * cond (has_result r) 1 0
 both Unknown = refl
 both White = refl
 both Black = refl
@@ -85,10 +86,10 @@ one_game : (names : List (List ℕ)) → IsDistinct bytes_eq names → (game : P
     → sum_by (λ (n : List ℕ). gain n (named names game)) names ≡ 2 * cond (has_result game.result) 1 0
 one_game names once game within apart =
     (λ j. sum_by (λ (n : List ℕ). gain_is (named names game) apart n j) names)
-    ∙ sum_by-both (λ (n : List ℕ). cond (bytes_eq n (get_or names game.white [])) (half_points_of (white_score game.result)) 0)
-    (λ (n : List ℕ). cond (bytes_eq n (get_or names game.black [])) (half_points_of (black_score game.result)) 0) names
-    ∙ (λ j. gets_once names once game.white within.0 (half_points_of (white_score game.result)) j
-    + gets_once names once game.black within.1 (half_points_of (black_score game.result)) j)
+    ∙ sum_by-both (λ (n : List ℕ). cond (bytes_eq n (get_or names game.white [])) (half_points_of (score_by Won Lost game.result)) 0)
+    (λ (n : List ℕ). cond (bytes_eq n (get_or names game.black [])) (half_points_of (score_by Lost Won game.result)) 0) names
+    ∙ (λ j. gets_once names once game.white within.0 (half_points_of (score_by Won Lost game.result)) j
+    + gets_once names once game.black within.1 (half_points_of (score_by Lost Won game.result)) j)
     ∙ both game.result
 
 abbrev AreApart : Pairing → Type 0

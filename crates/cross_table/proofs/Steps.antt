@@ -12,8 +12,8 @@ use Rattle.game_tree.specs.declared.head.Outcome.{Outcome}
 use Rattle.sig_index.specs.Games.{head_in, no_head}
 use Rattle.cross_table.specs.declared.played.Played.{Played}
 use Rattle.cross_table.specs.declared.played.Met.{Met}
-use Rattle.cross_table.specs.Crosstable.{half_points_of, is_of, last_text, line_text, lines_text, or_dot, pairing_of, sign, table_text, with_name}
-use Rattle.cross_table.specs.Keeping.{Entered, Standing, entered, entrants, met_known, met_points, mets, no_entrants, place_of, has_met, row_cell, row_cells, row_line, rows_below, signs_with, standing_of, table_in, with_head, with_row}
+use Rattle.cross_table.specs.Crosstable.{half_points_of, is_of, line_text, lines_text, or_dot, sign, table_text, with_name}
+use Rattle.cross_table.specs.Keeping.{Entered, Standing, entered, entrants, has_met, last_text, met_known, met_points, mets, no_entrants, pairing_of, place_of, row_cell, row_cells, row_line, rows_below, signs_with, standing_of, table_in, with_head, with_row}
 use Rattle.cross_table.proofs.NameLaws.{absent}
 
 -- ---- a name that is looked up among keys, and one that is put behind them

@@ -1,17 +1,21 @@
 -- The table of the rows is the event's crosstable.
 use Rattle.std.proofs.Common.{◌≡◌, ◌==◌, ℕ, cond, List, [], ◌∷◌, ◌++◌, length, map, filter, refl, sym, ap, ◌∙◌, arith}
-use Rattle.std.specs.Prelude.{codes}
+use Rattle.std.specs.Prelude.{codes, if◌then◌else◌}
 use Rattle.std.specs.List.{AllByRecursion, IsDistinct, fold}
 use Rattle.std.specs.Str.{bytes_eq}
 use Rattle.std.proofs.lemmas.List.{length-map, take_all}
 use Rattle.game_tree.specs.declared.head.Head.{Head}
-use Rattle.cross_table.specs.Crosstable.{Meeting, Pairing, cell, cells, crosstable, event_games, line_of, or_dot, ranked, sign, signs, with_ranked}
+use Rattle.cross_table.specs.Crosstable.{Meeting, Pairing, cells, crosstable, event_games, line_of, or_dot, ranked, sign, signs, with_ranked}
 use Rattle.cross_table.specs.Causes.{players}
 use Rattle.cross_table.specs.Keeping.{Entered, Standing, entrants, row_cell, row_cells, row_line, rows_below, signs_with, table_in}
 use Rattle.cross_table.proofs.NameLaws.{same_places}
 use Rattle.cross_table.proofs.Numbering.{IsNumbered, named, numbered}
 use Rattle.cross_table.proofs.Meetings.{IsRow, signs_named}
 use Rattle.cross_table.proofs.Ranking.{names_in, ranked_rows}
+
+-- The cell of two names.
+abbrev pub cell : List Pairing → List ℕ → List ℕ → List ℕ
+cell games row column = if bytes_eq row column then codes "x" else or_dot (signs games row column)
 
 module _ (names : List (List ℕ)) (games : List Pairing) (once : IsDistinct bytes_eq names) where
   cell_is : (row column : Standing) → IsRow names games row → IsRow names games column → row_cell row column ≡ cell games row.name column.name

@@ -19,16 +19,14 @@ pub record Pairing : Type 0 where
   pub black : List ℕ
   pub result : Outcome
 
-abbrev pub pairing_of : Head → Pairing
-pairing_of head = record { white = head.white; black = head.black; result = head.result }
-
 -- A game is one of the event's: it is not deleted, its event name is the given text, and its two names differ.
 abbrev pub is_of : List ℕ → Head → Bool
 is_of event head = not head.deleted && (bytes_eq head.event event && not (bytes_eq head.white head.black))
 
 -- The event's games, in order.
 unfoldable pub event_games : List ℕ → List Head → List Pairing
-event_games event heads = map pairing_of (filter (is_of event) heads)
+event_games event heads =
+    map (λ (head : Head). record { white = head.white; black = head.black; result = head.result }) (filter (is_of event) heads)
 
 -- Whether a result is known.
 abbrev pub has_result : Outcome → Bool
@@ -39,18 +37,13 @@ has_result Draw = true
 
 -- ---- a game from the side of one of its names
 
--- How a game with this result ended for White, and for Black. It is open where the result is unknown.
-abbrev pub white_score : Outcome → Score
-white_score Unknown = Open
-white_score White = Won
-white_score Black = Lost
-white_score Draw = Drawn
-
-abbrev pub black_score : Outcome → Score
-black_score Unknown = Open
-black_score White = Lost
-black_score Black = Won
-black_score Draw = Drawn
+-- How a game with this result ended for a name, where it ends with these scores if White won, and if Black did. It is open where the
+-- result is unknown.
+abbrev pub score_by : Score → Score → Outcome → Score
+score_by white black White = white
+score_by white black Black = black
+score_by white black Draw = Drawn
+score_by white black Unknown = Open
 
 -- The other name of a game, and how it ended for this one.
 pub record Meeting : Type 0 where
@@ -60,8 +53,8 @@ pub record Meeting : Type 0 where
 -- What a game is from the side of a name, if it is one of its two.
 abbrev pub meeting : List ℕ → Pairing → Option Meeting
 meeting name game =
-    if bytes_eq name game.white then Some (record { other = game.black; score = white_score game.result })
-    else if bytes_eq name game.black then Some (record { other = game.white; score = black_score game.result })
+    if bytes_eq name game.white then Some (record { other = game.black; score = score_by Won Lost game.result })
+    else if bytes_eq name game.black then Some (record { other = game.white; score = score_by Lost Won game.result })
     else None
 
 -- The games of a name, from its side and in order.
@@ -132,13 +125,10 @@ abbrev pub or_dot : List ℕ → List ℕ
 or_dot [] = codes "."
 or_dot (first ∷ more) = first ∷ more
 
--- The cell of two names: a cross on the diagonal.
-abbrev pub cell : List Pairing → List ℕ → List ℕ → List ℕ
-cell games row column = if bytes_eq row column then codes "x" else or_dot (signs games row column)
-
--- The cells of a name, each with a space before it.
+-- The cells of a name, each with a space before it: a cross on the diagonal.
 abbrev pub cells : List Pairing → List (List ℕ) → List ℕ → List ℕ
-cells games columns row = flat_map (λ (column : List ℕ). 32 ∷ cell games row column) columns
+cells games columns row =
+    flat_map (λ (column : List ℕ). 32 ∷ (if bytes_eq row column then codes "x" else or_dot (signs games row column))) columns
 
 -- ---- the table
 
@@ -171,21 +161,17 @@ crosstable event heads = table_of (event_games event heads)
 abbrev pub points_text : ℕ → List ℕ
 points_text half = decimal (half / 2) ++ (if half % 2 == 0 then codes ".0" else codes ".5")
 
--- The rank, the name, its points and its games.
-unfoldable pub front_text : ℕ → List ℕ → ℕ → ℕ → List ℕ
-front_text rank name half games = decimal rank ++ (32 ∷ name ++ (32 ∷ points_text half ++ 47 ∷ decimal games))
-
--- These and the cells.
+-- The rank, the name, its points and its games, and the cells.
 unfoldable pub line_text : ℕ → CrossLine → List ℕ
-line_text rank line = front_text rank line.name line.half_points line.games ++ (line.cells ++ 10 ∷ [])
+line_text rank line =
+    (decimal rank ++ (32 ∷ line.name ++ (32 ∷ points_text line.half_points ++ 47 ∷ decimal line.games))) ++ (line.cells ++ 10 ∷ [])
 
 abbrev pub lines_text : ℕ → List CrossLine → List ℕ
 lines_text rank [] = []
 lines_text rank (line ∷ lines) = line_text rank line ++ lines_text (rank + 1) lines
 
--- How many names there are, and how many games.
-unfoldable pub last_text : ℕ → ℕ → List ℕ
-last_text players games = codes "cross " ++ (decimal players ++ (codes " players " ++ (decimal games ++ codes " games\n")))
-
+-- A line for each name, and one that tells how many names there are, and how many games.
 unfoldable pub table_text : Crosstable → List ℕ
-table_text table = lines_text 1 table.lines ++ last_text (length table.lines) table.games
+table_text table =
+    lines_text 1 table.lines
+    ++ (codes "cross " ++ (decimal (length table.lines) ++ (codes " players " ++ (decimal table.games ++ codes " games\n"))))

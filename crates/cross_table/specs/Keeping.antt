@@ -1,5 +1,6 @@
 -- What the functions of this crate keep on their way: names by their places.
 use Rattle.std.specs.Prelude.{ℕ, zero, suc, ◌+◌, ◌==◌, nat_lt, Bool, ◌&&◌, ◌||◌, if◌then◌else◌, List, [], ◌∷◌, ◌++◌, Option, None, Some, map, filter, count_by, codes, slice_index_or}
+use Rattle.std.specs.Fmt.{decimal}
 use Rattle.std.specs.List.{filter_map, flat_map, fold, list_any, position_or_len, sum_by}
 use Rattle.std.specs.Ordering.{nat_cmp, is_lt}
 use Rattle.std.specs.Cmp.Lexicographic.{slice_cmp}
@@ -7,7 +8,20 @@ use Rattle.std.specs.Str.{bytes_eq}
 use Rattle.game_tree.specs.declared.head.Head.{Head}
 use Rattle.cross_table.specs.declared.played.Played.{Played}
 use Rattle.cross_table.specs.declared.played.Met.{Met}
-use Rattle.cross_table.specs.Crosstable.{Pairing, pairing_of, is_of, white_score, black_score, half_points_of, is_known, with_name, sign, or_dot, CrossLine, Crosstable}
+use Rattle.cross_table.specs.declared.score.Score.TheVariants.{Won, Lost}
+use Rattle.cross_table.specs.Crosstable.{Pairing, is_of, score_by, half_points_of, is_known, with_name, points_text, sign, or_dot, CrossLine, Crosstable}
+
+-- What is read of a game.
+abbrev pub pairing_of : Head → Pairing
+pairing_of head = record { white = head.white; black = head.black; result = head.result }
+
+-- The front of a line: the rank, the name, its points and its games.
+abbrev pub front_text : ℕ → List ℕ → ℕ → ℕ → List ℕ
+front_text rank name half games = decimal rank ++ (32 ∷ name ++ (32 ∷ points_text half ++ 47 ∷ decimal games))
+
+-- The last line: how many names there are, and how many games.
+abbrev pub last_text : ℕ → ℕ → List ℕ
+last_text players games = codes "cross " ++ (decimal players ++ (codes " players " ++ (decimal games ++ codes " games\n")))
 
 -- The place of a name among others: the number of them where it is new.
 abbrev pub place_of : List (List ℕ) → List ℕ → ℕ
@@ -41,8 +55,8 @@ entrants event heads = fold (with_head event) no_entrants heads
 -- What a game is from the side of the name at a place.
 abbrev pub met_in : ℕ → Played → Option Met
 met_in id game =
-    if id == game.white then Some (record { other = game.black; score = white_score game.result })
-    else if id == game.black then Some (record { other = game.white; score = black_score game.result })
+    if id == game.white then Some (record { other = game.black; score = score_by Won Lost game.result })
+    else if id == game.black then Some (record { other = game.white; score = score_by Lost Won game.result })
     else None
 
 abbrev pub mets : ℕ → List Played → List Met

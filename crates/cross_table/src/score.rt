@@ -1,6 +1,6 @@
 //! How games end for their names.
 ghost use Rattle.std.specs.Prelude.{◌≡◌, ◌≤◌};
-ghost use Rattle.cross_table.specs.Crosstable.{black_score, half_points_of, is_known, sign, white_score};
+ghost use Rattle.cross_table.specs.Crosstable.{half_points_of, is_known, score_by, sign};
 
 use game_tree::Outcome;
 
@@ -16,7 +16,7 @@ pub(crate) enum Score {
 impl Score {
     /// How a game ended for White.
     pub(crate) fn of_white(outcome: Outcome) -> Score
-        ensures { result ≡ white_score outcome }
+        ensures { result ≡ score_by Score.Won Score.Lost outcome }
     {
         match outcome {
             Outcome::Unknown => Score::Open,
@@ -28,7 +28,7 @@ impl Score {
 
     /// How a game ended for Black.
     pub(crate) fn of_black(outcome: Outcome) -> Score
-        ensures { result ≡ black_score outcome }
+        ensures { result ≡ score_by Score.Lost Score.Won outcome }
     {
         match outcome {
             Outcome::Unknown => Score::Open,

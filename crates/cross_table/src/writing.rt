@@ -1,8 +1,8 @@
 //! The text of a crosstable.
 ghost use Rattle.std.specs.Prelude.{◌≡◌, [], ◌∷◌, ◌++◌, map, OnOk};
 ghost use Rattle.std.specs.Fmt.{decimal};
-ghost use Rattle.cross_table.specs.Crosstable.{front_text, last_text, line_text, lines_text, or_dot, points_text, table_text};
-ghost use Rattle.cross_table.specs.Keeping.{has_met, row_cell, row_cells, row_line, signs_with, table_in};
+ghost use Rattle.cross_table.specs.Crosstable.{line_text, lines_text, or_dot, points_text, table_text};
+ghost use Rattle.cross_table.specs.Keeping.{front_text, has_met, last_text, row_cell, row_cells, row_line, signs_with, table_in};
 
 use crate::played::Met;
 use crate::row::Row;
@@ -43,7 +43,7 @@ fn push_row(into: &mut Vec<u8>, rank: usize, row: &Row, rows: &[Row]) -> Result<
 }
 
 // Adds the rank, the name, its points and its games.
-#[tactic(auto, using(std::proofs::Common::append_assoc), unfolding(crate::specs::Crosstable::front_text))]
+#[tactic(auto, using(std::proofs::Common::append_assoc))]
 fn push_front(
     into: &mut Vec<u8>,
     rank: usize,
@@ -63,7 +63,7 @@ fn push_front(
 }
 
 // Adds how many names and how many games there are.
-#[tactic(auto, using(std::proofs::Common::append_assoc), unfolding(crate::specs::Crosstable::last_text))]
+#[tactic(auto, using(std::proofs::Common::append_assoc))]
 fn push_last(into: &mut Vec<u8>, players: usize, games: usize) -> Result<(), AllocError>
     ensures { OnOk result (into.new.items ≡ into.old.items ++ last_text players games) }
 {

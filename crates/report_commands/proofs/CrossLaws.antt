@@ -5,7 +5,8 @@ use Rattle.base_core.proofs.GamesLaws.{heads-are}
 use Rattle.base_core.specs.Base.{Held}
 use Rattle.base_core.specs.Represents.{heads_of}
 use Rattle.base_files.specs.Seen.{Seen}
-use Rattle.cross_table.specs.Crosstable.{Pairing, event_games, is_of, pairing_of, crosstable}
+use Rattle.cross_table.specs.Crosstable.{Pairing, event_games, is_of, crosstable}
+use Rattle.cross_table.specs.Keeping.{pairing_of}
 use Rattle.game_tree.specs.Head.{without_tags}
 use Rattle.game_tree.specs.declared.head.Head.{Head}
 use Rattle.report_commands.specs.Crosstables.{cross_of, cross_work}
