@@ -11,8 +11,8 @@ use Rattle.eco_class.specs.Reading.{table_of}
 use Rattle.eco_class.specs.Table.{Opening}
 use Rattle.eco_class.specs.declared.fault.EcoFault.{EcoFault}
 use Rattle.edit_commands.specs.Compacting.{compacted_state, is_within}
-use Rattle.edit_commands.proofs.TagLaws.{unless_refused}
-use Rattle.edit_commands.specs.Editing.{edited_there, tagged_there}
+use Rattle.edit_commands.proofs.TagLaws.{tagged_there, unless_refused}
+use Rattle.edit_commands.proofs.EditLaws.{edited_there}
 use Rattle.filter_seat.specs.Seats.{Seat, first_seat}
 use Rattle.game_tree.specs.Game.{GameTree}
 use Rattle.game_tree.specs.TagEdit.{edited}

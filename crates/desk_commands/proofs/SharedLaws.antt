@@ -5,8 +5,8 @@ use Rattle.base_core.specs.Edits.{added}
 use Rattle.command_runs.specs.Plain.{after_all}
 use Rattle.demo_games.specs.Demo.{Made, demo_game}
 use Rattle.edit_commands.specs.Compacting.{is_within, compacted_state}
-use Rattle.edit_commands.proofs.TagLaws.{unless_refused}
-use Rattle.edit_commands.specs.Editing.{edited_there, tagged_there}
+use Rattle.edit_commands.proofs.TagLaws.{tagged_there, unless_refused}
+use Rattle.edit_commands.proofs.EditLaws.{edited_there}
 use Rattle.base_core.specs.Edits.{deleted, undeleted, marked, tagged}
 use Rattle.eco_class.specs.Reading.{table_of}
 use Rattle.eco_class.specs.Table.{Opening}
@@ -18,8 +18,9 @@ use Rattle.game_tree.specs.TagEdit.{edited}
 use Rattle.game_tree.specs.declared.head.Head.{Head}
 use Rattle.game_tree.specs.declared.tag_edit.TagEdit.{TagEdit}
 use Rattle.intake_commands.proofs.DemoLaws.{unless_shown}
-use Rattle.intake_commands.specs.Demo.{Adding, adding, one_more, unless_refusal, unless_ended}
-use Rattle.intake_commands.specs.Importing.{Intake, intake, item_after, none_taken, unless_not_added, new_game, state_with, the_new}
+use Rattle.intake_commands.specs.Demo.{Adding, adding, one_more}
+use Rattle.intake_commands.specs.Importing.{Intake, intake, item_after, none_taken, state_with, the_new}
+use Rattle.intake_commands.proofs.ByCase.{new_game, unless_ended, unless_not_added, unless_refusal}
 use Rattle.pgn_read.specs.Items.{items_of}
 use Rattle.pgn_read.specs.declared.item.Item.{Item}
 use Rattle.pgn_read.specs.declared.item.Item.TheVariants.{Good, Bad}

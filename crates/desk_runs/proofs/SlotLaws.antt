@@ -11,8 +11,8 @@ use Rattle.eco_class.specs.Reading.{table_of}
 use Rattle.eco_class.specs.Table.{Opening}
 use Rattle.eco_class.specs.declared.fault.EcoFault.{EcoFault}
 use Rattle.edit_commands.specs.Compacting.{is_within, compacted_state}
-use Rattle.edit_commands.proofs.TagLaws.{unless_refused}
-use Rattle.edit_commands.specs.Editing.{edited_there, tagged_there, tag_line_there}
+use Rattle.edit_commands.proofs.TagLaws.{tag_line_there, tagged_there, unless_refused}
+use Rattle.edit_commands.proofs.EditLaws.{edited_there}
 use Rattle.filter_seat.specs.Seats.{Seat}
 use Rattle.game_tree.specs.Game.{GameTree}
 use Rattle.game_tree.specs.TagEdit.{edited}
@@ -20,8 +20,9 @@ use Rattle.game_tree.specs.declared.head.Head.{Head}
 use Rattle.game_tree.specs.declared.tag_edit.TagEdit.{TagEdit}
 use Rattle.index_commands.specs.Indexing.{is_too_big}
 use Rattle.intake_commands.proofs.DemoLaws.{unless_said, unless_shown}
-use Rattle.intake_commands.specs.Demo.{Adding, adding, one_more, unless_refusal, unless_ended}
-use Rattle.intake_commands.specs.Importing.{Intake, added_line, imported_line, intake, item_after, item_text, line_with, new_game, none_taken, state_with, taken_in, the_new, unless_not_added}
+use Rattle.intake_commands.specs.Demo.{Adding, adding, one_more}
+use Rattle.intake_commands.specs.Importing.{Intake, imported_line, intake, item_after, item_text, line_with, none_taken, state_with, taken_in, the_new}
+use Rattle.intake_commands.proofs.ByCase.{added_line, new_game, unless_ended, unless_not_added, unless_refusal}
 use Rattle.pgn_read.specs.Items.{items_of}
 use Rattle.pgn_read.specs.declared.item.Item.{Item}
 use Rattle.pgn_read.specs.declared.item.Item.TheVariants.{Good, Bad}

@@ -1,7 +1,7 @@
 -- Laws of the commands that mark games.
 use Rattle.std.proofs.Common.{◌≡◌, ◌<◌, ℕ, List, length, Option, Some, sym, ap, ◌∙◌, subst, arith, ◌≤◌, None, refl, Bool, true, false}
 use Rattle.std.proofs.lemmas.Option.{slice_get_past}
-use Rattle.std.specs.Prelude.{slice_get}
+use Rattle.std.specs.Prelude.{if◌then◌else◌, is_some, slice_get}
 use Rattle.base_core.proofs.Lists.{get_some}
 use Rattle.base_core.specs.Base.{Base, Held}
 use Rattle.base_core.specs.Edited.{ChangedHeads, Does}
@@ -9,7 +9,6 @@ use Rattle.base_core.specs.Represents.{IsSound, Kept}
 use Rattle.base_core.specs.Edits.{deleted, marked, undeleted, with_mark}
 use Rattle.base_files.specs.Seen.{Seen}
 use Rattle.sig_index.specs.declared.pos_query.PosQuery.{PosQuery}
-use Rattle.edit_commands.specs.Editing.{edited_there, line_there}
 use Rattle.filter_seat.specs.declared.saved.SavedFilter.{SavedFilter}
 use Rattle.shell_state.proofs.IndexLaws.{index_stays}
 use Rattle.shell_state.proofs.CarryLaws.{beside_edited}
@@ -18,8 +17,15 @@ use Rattle.shell_state.proofs.Quietly.{held_by}
 use Rattle.shell_state.proofs.TableLaws.{hits_changed_at, hits_on, tables_are}
 use Rattle.shell_state.specs.Lines.{game_line, no_game_line}
 use Rattle.shell_state.specs.Stands.{Fits, Quiet, Stands, Holding, Tables}
-use Rattle.shell_state.specs.State.{State}
+use Rattle.shell_state.specs.State.{State, with_base}
 use Rattle.shell_state.specs.Work.{Work}
+
+-- An edit of a game, where it is there, and its line.
+abbrev pub edited_there : (Base → Base) → State → Option Held → State
+edited_there edit s held = if is_some held then with_base s (edit s.shared.base) else s
+
+abbrev pub line_there : List ℕ → ℕ → Option Held → List ℕ
+line_there words game held = if is_some held then game_line words game else no_game_line game
 
 -- A mark of a game is nothing that trees count.
 pub hits_deleted : (i : ℕ) (base : Base) (query : PosQuery) → hits_on query (deleted i base).games ≡ hits_on query base.games

@@ -1,7 +1,8 @@
 -- Laws of `tag`.
 use Rattle.std.proofs.Common.{◌≡◌, ℕ, List, Option, Some, IfSome, subst, sym, ap, ◌∙◌, ◌<◌, true, ◌++◌, length, None, arith, Ok, Err, inl, inr, refl, ◌≤◌, map, option_map, Bool, ap₂, Result, [], ◌∷◌}
 use Rattle.std.proofs.lemmas.Option.{slice_get_past}
-use Rattle.std.specs.Prelude.{cond, is_some, slice_get, unwrap_or, codes}
+use Rattle.std.specs.Option.{option_map_or}
+use Rattle.std.specs.Prelude.{cond, if◌then◌else◌, is_some, slice_get, unwrap_or, codes}
 use Rattle.base_core.proofs.Lists.{get_some}
 use Rattle.base_core.specs.Base.{Base, Held}
 use Rattle.base_core.specs.Edits.{tagged, tagged_at, held_of, game_replaced}
@@ -21,7 +22,7 @@ use Rattle.game_tree.specs.TagEdit.{edited}
 use Rattle.game_tree.specs.declared.head.Head.{Head}
 use Rattle.game_tree.specs.declared.tag_edit.TagEdit.{TagEdit}
 use Rattle.pos_index.specs.Hits.{Index, rows_told}
-use Rattle.edit_commands.specs.Editing.{DidTag, tag_after, tagged_there, tag_line_there, tag_text}
+use Rattle.edit_commands.specs.Editing.{DidTag, tag_after, tag_text}
 use Rattle.filter_seat.specs.declared.saved.SavedFilter.{SavedFilter}
 use Rattle.edit_commands.proofs.RetagLaws.{slots_tagged}
 use Rattle.edit_commands.specs.Retagging.{AreAgain}
@@ -44,6 +45,16 @@ use Rattle.sig_index.specs.Games.{head_in}
 use Rattle.tree_live.specs.Slots.{in_slot}
 use Rattle.tree_live.specs.Watching.{Watched, with_game}
 use Rattle.tree_rows.specs.declared.hit.GameHit.{GameHit}
+
+-- What `tag` does, by the game that is there.
+abbrev pub untagged_there : ℕ → TagEdit → State → Option Held → Option (List ℕ)
+untagged_there game edit s held = option_map_or (λ held. refusal_of s.shared.base (edited held.head edit) held.game) held (Some (no_game_line game))
+
+abbrev pub tagged_there : ℕ → TagEdit → State → Option Held → State
+tagged_there game edit s held = if is_some (untagged_there game edit s held) then s else with_base s (tagged game edit s.shared.base)
+
+abbrev pub tag_line_there : ℕ → TagEdit → State → Option Held → List ℕ
+tag_line_there game edit s held = unwrap_or (untagged_there game edit s held) (game_line (codes "tagged ") game)
 
 -- The state with this base, unless there is an error line.
 abbrev pub unless_refused : Option (List ℕ) → State → Base → State

@@ -1,6 +1,7 @@
 -- The commands that edit a game of the base. Filters stay as they are. This project's own.
-use Rattle.std.specs.Prelude.{◌≡◌, Option, Some, None, is_some, if◌then◌else◌, ℕ, List, slice_get, Bool, unwrap_or, codes}
-use Rattle.base_core.specs.Base.{Base, Held}
+use Rattle.std.specs.Option.{option_map_or}
+use Rattle.std.specs.Prelude.{◌≡◌, Option, Some, is_some, if◌then◌else◌, ℕ, List, slice_get, Bool, unwrap_or, codes}
+use Rattle.base_core.specs.Base.{Base}
 use Rattle.base_core.specs.Edits.{deleted, undeleted, marked, tagged}
 use Rattle.base_core.specs.Represents.{Kept}
 use Rattle.base_core.specs.Tagged.{IsTagged}
@@ -15,15 +16,10 @@ use Rattle.shell_state.specs.Work.{Work, writing, quiet}
 use Rattle.shell_state.specs.Work.Price.{by_looks}
 
 -- An edit of a game, where it is there, its line, and the command.
-abbrev pub edited_there : (Base → Base) → State → Option Held → State
-edited_there edit s held = if is_some held then with_base s (edit s.shared.base) else s
-
-abbrev pub line_there : List ℕ → ℕ → Option Held → List ℕ
-line_there words game held = if is_some held then game_line words game else no_game_line game
-
 abbrev pub edit_work : (Base → Base) → List ℕ → ℕ → Work
 edit_work edit words game =
-    quiet (λ s. edited_there edit s (slice_get s.shared.base.games game)) (λ s. line_there words game (slice_get s.shared.base.games game))
+    quiet (λ s. if is_some (slice_get s.shared.base.games game) then with_base s (edit s.shared.base) else s)
+    (λ s. if is_some (slice_get s.shared.base.games game) then game_line words game else no_game_line game)
 
 -- delete G, undelete G, mark G LETTER on, mark G LETTER off
 abbrev pub delete_work : ℕ → Work
@@ -35,21 +31,17 @@ undelete_work game = edit_work (undeleted game) (codes "undeleted ") game
 abbrev pub mark_work : ℕ → ℕ → Bool → Work
 mark_work game bit on = edit_work (marked game bit on) (codes "marked ") game
 
--- tag G NAME VALUE, unless the base has no room for the record.
-abbrev pub tagged_there : ℕ → TagEdit → State → Option Held → State
-tagged_there game edit s (Some held) =
-    if is_some (refusal_of s.shared.base (edited held.head edit) held.game) then s else with_base s (tagged game edit s.shared.base)
-tagged_there game edit s None = s
-
-abbrev pub tag_line_there : ℕ → TagEdit → State → Option Held → List ℕ
-tag_line_there game edit s (Some held) = unwrap_or (refusal_of s.shared.base (edited held.head edit) held.game) (game_line (codes "tagged ") game)
-tag_line_there game edit s None = no_game_line game
+-- tag G NAME VALUE, unless the game is not there, or the base has no room for the record.
+abbrev pub untagged : State → ℕ → TagEdit → Option (List ℕ)
+untagged s game edit =
+    option_map_or (λ held. refusal_of s.shared.base (edited held.head edit) held.game) (slice_get s.shared.base.games game)
+    (Some (no_game_line game))
 
 abbrev pub tag_after : State → ℕ → TagEdit → State
-tag_after s game edit = tagged_there game edit s (slice_get s.shared.base.games game)
+tag_after s game edit = if is_some (untagged s game edit) then s else with_base s (tagged game edit s.shared.base)
 
 abbrev pub tag_text : State → ℕ → TagEdit → List ℕ
-tag_text s game edit = tag_line_there game edit s (slice_get s.shared.base.games game)
+tag_text s game edit = unwrap_or (untagged s game edit) (game_line (codes "tagged ") game)
 
 -- What `tag` did, whatever the files tell: where its line says so, the tag was set in a game that was read, a record of one with the kept
 -- signature; where it says another thing, what is kept is as it was.

@@ -17,8 +17,9 @@ use Rattle.pgn_read.specs.declared.item.Item.TheVariants.{Good}
 use Rattle.filter_seat.proofs.SavedLaws.{all_to_start, length_to_start}
 use Rattle.filter_seat.specs.SavedFilters.{kept_to_start, to_start}
 use Rattle.filter_seat.specs.declared.saved.SavedFilter.{SavedFilter}
-use Rattle.intake_commands.specs.Importing.{Intake, item_after, unless_not_added, added_line, item_text, next_number, not_added_line, the_one, unless_line, state_with, line_with}
-use Rattle.intake_commands.specs.Intakes.{Counted}
+use Rattle.intake_commands.specs.Importing.{Intake, item_after, item_text, next_number, the_one, unless_line, state_with, line_with}
+use Rattle.intake_commands.proofs.ByCase.{unless_not_added, added_line}
+use Rattle.intake_commands.specs.Intakes.{Counted, not_added_line}
 use Rattle.std.proofs.lemmas.Bool.{lt-ltb}
 use Rattle.std.proofs.lemmas.List.{length-map, length-set, map-set}
 use Rattle.shell_state.specs.Indexing.{index_with_at}

@@ -7,7 +7,8 @@ use Rattle.command_runs.proofs.Joining.{halted_all, halted_more, halted_unsure}
 use Rattle.command_runs.specs.Endings.{Done, Halted, Cut}
 use Rattle.command_runs.specs.Plain.{after_all, run}
 use Rattle.pgn_read.specs.Items.{items_of}
-use Rattle.intake_commands.specs.Importing.{Intake, imported_line, intake, none_taken, taken_in, import_after, import_text, import_work}
+use Rattle.intake_commands.specs.Importing.{Intake, imported_line, intake, none_taken, taken_in, import_text, import_work}
+use Rattle.intake_commands.proofs.ByCase.{import_after}
 use Rattle.intake_commands.specs.Intakes.{IsIntake}
 use Rattle.intake_commands.specs.LastLine.{DoneBut, ServesBut}
 use Rattle.shell_state.proofs.Served.{broken_by_body}

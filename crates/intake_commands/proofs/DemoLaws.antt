@@ -12,7 +12,8 @@ use Rattle.demo_games.specs.Demo.{Made, demo_game}
 use Rattle.game_filter.specs.declared.op.Op.TheVariants.{And, Ignore}
 use Rattle.game_tree.specs.Replay.{plies_of}
 use Rattle.sig_index.specs.declared.pos_query.PosQuery.{PosQuery}
-use Rattle.intake_commands.specs.Demo.{adding, one_more, Adding, unless_ended, unless_refusal, at_start, shown_after, shown_text, demo_line, demo_text, demo_after, demo_work, shown_price, demo_price}
+use Rattle.intake_commands.specs.Demo.{adding, one_more, Adding, at_start, shown_after, shown_text, demo_line, demo_text, demo_after, demo_work, shown_price, demo_price}
+use Rattle.intake_commands.proofs.ByCase.{unless_ended, unless_refusal}
 use Rattle.intake_commands.specs.Demoing.{IsAdding, IsRefused, Wrote}
 use Rattle.search_commands.specs.Searching.{search_position_text, search_position_after, search_position_work, position_len}
 use Rattle.search_commands.specs.Trees.{tree_said, tree_work}

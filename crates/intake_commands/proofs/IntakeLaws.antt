@@ -18,7 +18,8 @@ use Rattle.pgn_read.specs.Text.{At}
 use Rattle.pgn_read.specs.declared.item.Item.{Item}
 use Rattle.pgn_read.specs.declared.item.Item.TheVariants.{Bad, Good}
 use mir.Val.{bool_byte}
-use Rattle.intake_commands.specs.Importing.{intake, next_number, none_taken, Intake, item_after, item_text, one_refused, unless_not_added}
+use Rattle.intake_commands.specs.Importing.{intake, next_number, none_taken, Intake, item_after, item_text, one_refused}
+use Rattle.intake_commands.proofs.ByCase.{unless_not_added}
 use Rattle.intake_commands.specs.Intakes.{AreBehind, TookIn, Counted, IsIntake, TookNext, TakesIn}
 use Rattle.shell_state.proofs.Causing.{fault_of_output}
 use Rattle.shell_state.specs.Ends.{IsFault, IsBodyFault, IsDevice, IsOutput}

@@ -1,3 +1,4 @@
+pub mod ByCase
 pub mod AddLaws
 pub mod BodyLaws
 pub mod DemoLaws

@@ -19,7 +19,8 @@ use Rattle.pgn_read.specs.declared.item.GameFault.{GameFault}
 use Rattle.pgn_read.specs.declared.item.Item.{Item}
 use Rattle.pgn_read.specs.declared.item.Item.TheVariants.{Good, Bad}
 use Rattle.intake_commands.proofs.IntakeLaws.{follows_at, no_item_at, are_more, rest_at}
-use Rattle.intake_commands.specs.Importing.{first_faulty, one_game_line, the_one, new_game, the_new, unless_line, faulty_line, line_with, state_with, replace_text, replace_after}
+use Rattle.intake_commands.specs.Importing.{first_faulty, the_one, the_new, unless_line, faulty_line, line_with, state_with}
+use Rattle.intake_commands.proofs.ByCase.{one_game_line, new_game, replace_text, replace_after}
 use Rattle.intake_commands.specs.Intakes.{IsBegun, IsLeft, ReadOn, IsRest, IsOnly}
 use Rattle.intake_commands.specs.declared.replacing.Only.{Only}
 use Rattle.intake_commands.specs.declared.replacing.Only.TheVariants as only

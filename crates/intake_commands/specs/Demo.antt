@@ -1,6 +1,6 @@
 -- The command that adds games which are made of draws, and shows them. This project's own.
 use Rattle.std.specs.Fmt.{decimal}
-use Rattle.std.specs.Prelude.{ℕ, List, Option, None, ◌+◌, Some, is_some, option_map, unwrap_or, if◌then◌else◌, zero, suc, ◌∷◌, ◌++◌, [], codes}
+use Rattle.std.specs.Prelude.{ℕ, List, Option, None, ◌+◌, is_some, option_map, unwrap_or, if◌then◌else◌, zero, suc, ◌∷◌, ◌++◌, [], codes}
 use Rattle.cell_core.specs.declared.man.Colour.TheVariants.{White}
 use Rattle.chess_laws.specs.Position.{start_men}
 use Rattle.demo_games.specs.Demo.{Made, demo_game}
@@ -26,25 +26,19 @@ pub record Adding : Type 0 where
   pub plies : ℕ
   pub refused : Option Refusal
 
-abbrev pub none_added : State → ℕ → Adding
-none_added s seed = record { state = s; number = seed; plies = 0; refused = None }
-
 -- A game is added, unless something is against it.
-abbrev pub unless_refusal : Option Refusal → Adding → Made → Adding
-unless_refusal (Some why) a made = record a { refused = Some why }
-unless_refusal None a made = record { state = with_game a.state made.head made.game; number = made.left; plies = a.plies + plies_of made.game; refused = None }
+abbrev pub with_made : Adding → Made → Adding
+with_made a made =
+    if is_some (not_added a.state.shared made.head made.game) then record a { refused = not_added a.state.shared made.head made.game }
+    else record { state = with_game a.state made.head made.game; number = made.left; plies = a.plies + plies_of made.game; refused = None }
 
 -- One more game is made and added, unless one was refused.
-abbrev pub unless_ended : Option Refusal → Adding → Made → Adding
-unless_ended (Some why) a made = a
-unless_ended None a made = unless_refusal (not_added a.state.shared made.head made.game) a made
-
 abbrev pub one_more : Adding → ℕ → Adding
-one_more a i = unless_ended a.refused a (demo_game a.number i)
+one_more a i = if is_some a.refused then a else with_made a (demo_game a.number i)
 
 -- So many games, one after the other.
 abbrev pub adding : State → ℕ → ℕ → Adding
-adding s seed zero = none_added s seed
+adding s seed zero = record { state = s; number = seed; plies = 0; refused = None }
 adding s seed (suc games) = one_more (adding s seed games) games
 
 -- ---- demo SEED GAMES

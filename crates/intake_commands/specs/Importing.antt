@@ -1,7 +1,8 @@
 -- The commands that take games in: `import` and `replace`. This project's own.
 use Rattle.std.specs.Fmt.{decimal}
-use Rattle.std.specs.Prelude.{ℕ, ◌+◌, List, [], ◌∷◌, ◌++◌, codes, Option, Some, length, None, Result, Err, Ok, slice_get, true}
-use Rattle.base_core.specs.Base.{Base, Held}
+use Rattle.std.specs.Option.{option_map_or}
+use Rattle.std.specs.Prelude.{ℕ, ◌+◌, if◌then◌else◌, List, [], ◌∷◌, ◌++◌, codes, Option, Some, is_none, is_some, length, None, Result, Err, Ok, slice_get, true}
+use Rattle.base_core.specs.Base.{Base}
 use Rattle.base_core.specs.Edits.{game_replaced}
 use Rattle.command_runs.specs.Plain.{Plain, after_all, run}
 use Rattle.game_tree.specs.Game.{GameTree}
@@ -18,7 +19,6 @@ use Rattle.shell_state.specs.Refusing.{not_added, refusal_of, refusal_words}
 use Rattle.shell_state.specs.State.{State, with_base, with_game, with_seat}
 use Rattle.shell_state.specs.Work.{writing, Work}
 use Rattle.shell_state.specs.Work.Price.{by_looks}
-use Rattle.shell_state.specs.declared.refusing.Refusal.{Refusal}
 
 -- ---- the lines of items
 
@@ -45,10 +45,6 @@ fault_words fault = codes " line " ++ decimal fault.line ++ codes " column " ++ 
 abbrev pub faulty_line : ℕ → GameFault → List ℕ
 faulty_line number fault = item_line number (fault_words fault)
 
--- `error: game K: WHY`: a game that is not added.
-abbrev pub not_added_line : ℕ → Refusal → List ℕ
-not_added_line number why = item_line number (codes ": " ++ refusal_words why)
-
 -- ---- import <<WORD
 
 -- The state, and how many games were added and how many items refused.
@@ -67,20 +63,17 @@ next_number i = i.added + i.refused + 1
 abbrev pub one_refused : Intake → Intake
 one_refused i = record i { refused = i.refused + 1 }
 
-abbrev pub unless_not_added : Option Refusal → Intake → Head → GameTree → Intake
-unless_not_added (Some why) i head game = one_refused i
-unless_not_added None i head game = record i { state = with_game i.state head game; added = i.added + 1 }
-
-abbrev pub added_line : Option Refusal → Intake → List ℕ
-added_line (Some why) i = not_added_line (next_number i) why
-added_line None i = game_line (codes "added ") (length i.state.shared.base.games)
-
 abbrev pub item_after : Intake → Item → Intake
-item_after i (Good head game) = unless_not_added (not_added i.state.shared head game) i head game
+item_after i (Good head game) =
+    if is_some (not_added i.state.shared head game) then one_refused i
+    else record i { state = with_game i.state head game; added = i.added + 1 }
 item_after i (Bad fault) = one_refused i
 
+-- `error: game K: WHY` for a game that is not added.
 abbrev pub item_text : Intake → Item → List ℕ
-item_text i (Good head game) = added_line (not_added i.state.shared head game) i
+item_text i (Good head game) =
+    option_map_or (λ why. item_line (next_number i) (codes ": " ++ refusal_words why)) (not_added i.state.shared head game)
+    (game_line (codes "added ") (length i.state.shared.base.games))
 item_text i (Bad fault) = faulty_line (next_number i) fault
 
 -- The command is a run of the items of its body.
@@ -94,16 +87,10 @@ taken_in s body = after_all intake (none_taken s) (items_of body)
 abbrev pub imported_line : ℕ → ℕ → List ℕ
 imported_line added refused = codes "imported " ++ decimal added ++ codes " refused " ++ decimal refused ++ 10 ∷ []
 
-abbrev pub import_after : State → List ℕ → State
-import_after s body = (taken_in s body).state
-
 abbrev pub import_text : State → List ℕ → List ℕ
 import_text s body = run intake (none_taken s) (items_of body) ++ imported_line (taken_in s body).added (taken_in s body).refused
 
 -- ---- replace G <<WORD
-
-abbrev pub one_game_line : List ℕ
-one_game_line = line_of (codes "error: one game expected")
 
 -- The line of the first faulty item, the first item having this number.
 abbrev pub first_faulty : ℕ → List Item → Option (List ℕ)
@@ -118,14 +105,12 @@ unless_line None game = game
 
 abbrev pub the_one : Base → List Item → Result (Head × GameTree) (List ℕ)
 the_one base (Good head game ∷ []) = unless_line (refusal_of base head game) (Ok (head, game))
-the_one base _ = Err one_game_line
-
-abbrev pub new_game : State → ℕ → Option Held → List Item → Result (Head × GameTree) (List ℕ)
-new_game s game None items = Err (no_game_line game)
-new_game s game (Some held) items = unless_line (first_faulty 1 items) (the_one s.shared.base items)
+the_one base _ = Err (line_of (codes "error: one game expected"))
 
 abbrev pub the_new : State → ℕ → List ℕ → Result (Head × GameTree) (List ℕ)
-the_new s game body = new_game s game (slice_get s.shared.base.games game) (items_of body)
+the_new s game body =
+    if is_none (slice_get s.shared.base.games game) then Err (no_game_line game)
+    else unless_line (first_faulty 1 (items_of body)) (the_one s.shared.base (items_of body))
 
 abbrev pub state_with : State → ℕ → Result (Head × GameTree) (List ℕ) → State
 state_with s game (Ok new) = with_seat (with_base s (game_replaced game new.0 new.1 s.shared.base)) (seat_to_start game s.seat)
@@ -135,15 +120,12 @@ abbrev pub line_with : ℕ → Result (Head × GameTree) (List ℕ) → List ℕ
 line_with game (Ok new) = game_line (codes "replaced ") game
 line_with game (Err line) = line
 
-abbrev pub replace_after : State → ℕ → List ℕ → State
-replace_after s game body = state_with s game (the_new s game body)
-
-abbrev pub replace_text : State → ℕ → List ℕ → List ℕ
-replace_text s game body = line_with game (the_new s game body)
-
 -- What the two do with a body.
 abbrev pub import_work : List ℕ → Work
-import_work body = record (writing (λ s. import_after s body) (λ s. import_text s body) (by_looks (λ looks plies. 0))) { body = true }
+import_work body = record (writing (λ s. (taken_in s body).state) (λ s. import_text s body) (by_looks (λ looks plies. 0))) { body = true }
 
 abbrev pub replace_work : ℕ → List ℕ → Work
-replace_work game body = record (writing (λ s. replace_after s game body) (λ s. replace_text s game body) (by_looks (λ looks plies. 0))) { body = true }
+replace_work game body =
+    record (writing (λ s. state_with s game (the_new s game body)) (λ s. line_with game (the_new s game body)) (by_looks (λ looks plies. 0))) {
+      body = true;
+    }

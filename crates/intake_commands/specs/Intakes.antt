@@ -1,5 +1,5 @@
 -- How far a body was taken in. Only private functions cite this.
-use Rattle.std.specs.Prelude.{◌≡◌, ◌+◌, Bool, if◌then◌else◌, ℕ, List, [], Option, Result, Ok, Err, ◌++◌, Some, ◌∷◌, None, ⊤}
+use Rattle.std.specs.Prelude.{◌≡◌, ◌+◌, Bool, if◌then◌else◌, ℕ, List, [], Option, Result, Ok, Err, ◌++◌, Some, ◌∷◌, None, codes, ⊤}
 use Rattle.base_files.specs.Seen.{Seen}
 use Rattle.base_files.specs.Told.{adds}
 use Rattle.command_runs.specs.Endings.{Done, Halted}
@@ -9,13 +9,19 @@ use Rattle.pgn_read.specs.Items.{AreItems, items_of}
 use Rattle.pgn_read.specs.Text.{At}
 use Rattle.pgn_read.specs.declared.item.Item.{Item}
 use Rattle.pgn_read.specs.declared.item.Item.TheVariants.{Good}
-use Rattle.intake_commands.specs.Importing.{Intake, intake, none_taken, first_faulty, faulty_line}
+use Rattle.intake_commands.specs.Importing.{Intake, intake, item_line, none_taken, first_faulty, faulty_line}
 use Rattle.intake_commands.specs.declared.replacing.Only.{Only}
 use Rattle.intake_commands.specs.declared.replacing.Only.TheVariants as only
 use Rattle.shell_state.specs.Ends.{IsBodyFault}
+use Rattle.shell_state.specs.Refusing.{refusal_words}
 use Rattle.shell_state.specs.Stands.{Holding, Stands}
 use Rattle.shell_state.specs.State.{State}
 use Rattle.shell_state.specs.declared.halt.Halt.{Halt}
+use Rattle.shell_state.specs.declared.refusing.Refusal.{Refusal}
+
+-- `error: game K: WHY`: a game that is not added.
+abbrev pub not_added_line : ℕ → Refusal → List ℕ
+not_added_line number why = item_line number (codes ": " ++ refusal_words why)
 
 -- One more item was taken in: its game was added, or it was refused.
 pub record Counted (was_added : Bool) (before after : Intake) : Type 0 where

@@ -1,6 +1,7 @@
 //! The lines of the items of a body.
 ghost use Rattle.std.specs.Prelude.{◌≡◌, string_bytes, IfOk};
-ghost use Rattle.intake_commands.specs.Importing.{fault_words, faulty_line, imported_line, item_line, not_added_line, what_words};
+ghost use Rattle.intake_commands.specs.Importing.{fault_words, faulty_line, imported_line, item_line, what_words};
+ghost use Rattle.intake_commands.specs.Intakes.{not_added_line};
 ghost use Rattle.shell_state.specs.Lines.{san_words};
 
 use pgn_read::{GameFault, GameWhat};

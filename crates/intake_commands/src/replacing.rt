@@ -7,7 +7,7 @@ ghost use Rattle.pgn_read.specs.Readers.{told};
 ghost use Rattle.pgn_read.specs.Text.{At};
 ghost use Rattle.pgn_read.specs.declared.item.Item.{Item as PlainItem};
 ghost use Rattle.pgn_read.specs.declared.item.Item.TheVariants as item;
-ghost use Rattle.intake_commands.specs.Importing.{line_with, replace_after, replace_text, state_with, the_one};
+ghost use Rattle.intake_commands.specs.Importing.{line_with, state_with, the_new, the_one};
 ghost use Rattle.intake_commands.specs.Intakes.{IsFitOnly, IsOnly, IsRest};
 ghost use Rattle.shell_state.specs.Carrying.{StillCarry};
 ghost use Rattle.shell_state.specs.Ends.{IsDevice, IsBodyFault};
@@ -44,8 +44,8 @@ pub fn replace_line<F: Files, B: Source>(
     number: u64,
 ) -> Result<Vec<u8>, Halt>
     requires sound { Sound machine.old (F.seen files.old) }
-    ensures line { (s : State) (text : List ℕ) → Stands machine.old (F.seen files.old) s → B.left body.old ≡ Some text → IfOk result (λ line. line.items ≡ replace_text s number text) }
-    ensures stands { (s : State) (text : List ℕ) → Stands machine.old (F.seen files.old) s → B.left body.old ≡ Some text → OnOk result (Stands machine.new (F.seen files.new) (replace_after s number text)) }
+    ensures line { (s : State) (text : List ℕ) → Stands machine.old (F.seen files.old) s → B.left body.old ≡ Some text → IfOk result (λ line. line.items ≡ line_with number (the_new s number text)) }
+    ensures stands { (s : State) (text : List ℕ) → Stands machine.old (F.seen files.old) s → B.left body.old ≡ Some text → OnOk result (Stands machine.new (F.seen files.new) (state_with s number (the_new s number text))) }
     ensures devices { IfErr result IsBodyFault }
     ensures sound { OnOk result (Sound machine.new (F.seen files.new)) }
     ensures carries { (s : State) → Stands machine.old (F.seen files.old) s → StillCarry (F.seen files.new) s None }
@@ -70,8 +70,8 @@ fn replace_there<F: Files, B: Source>(
 ) -> Result<Vec<u8>, Halt>
     requires there { i < length machine.old.kept.entries }
     requires sound { Sound machine.old (F.seen files.old) }
-    ensures line { (s : State) (text : List ℕ) → Stands machine.old (F.seen files.old) s → B.left body.old ≡ Some text → IfOk result (λ line. line.items ≡ replace_text s i text) }
-    ensures stands { (s : State) (text : List ℕ) → Stands machine.old (F.seen files.old) s → B.left body.old ≡ Some text → OnOk result (Stands machine.new (F.seen files.new) (replace_after s i text)) }
+    ensures line { (s : State) (text : List ℕ) → Stands machine.old (F.seen files.old) s → B.left body.old ≡ Some text → IfOk result (λ line. line.items ≡ line_with i (the_new s i text)) }
+    ensures stands { (s : State) (text : List ℕ) → Stands machine.old (F.seen files.old) s → B.left body.old ≡ Some text → OnOk result (Stands machine.new (F.seen files.new) (state_with s i (the_new s i text))) }
     ensures devices { IfErr result IsBodyFault }
     ensures sound { OnOk result (Sound machine.new (F.seen files.new)) }
     ensures carries { (s : State) → Stands machine.old (F.seen files.old) s → StillCarry (F.seen files.new) s None }

@@ -18,8 +18,8 @@ use Rattle.name_base.specs.NameLists.{NameLists}
 use Rattle.sig_index.specs.Games.{extent_in}
 use Rattle.sig_index.specs.declared.pos_query.PosQuery.{PosQuery}
 use Rattle.filter_seat.specs.declared.saved.SavedFilter.{SavedFilter}
-use Rattle.report_commands.specs.Classifying.{with_code, classified_by, codes_of}
-use Rattle.report_commands.specs.Ends.{coded, AreCoded, IsCoded}
+use Rattle.report_commands.specs.Classifying.{classified_by, codes_of}
+use Rattle.report_commands.specs.Ends.{AreCoded, IsCoded, coded, with_code}
 use Rattle.shell_state.proofs.EditedLaws.{same_count, fits_count}
 use Rattle.shell_state.proofs.Quietly.{held_by}
 use Rattle.shell_state.proofs.TableLaws.{hits_on, tables_are}

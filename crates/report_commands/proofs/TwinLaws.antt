@@ -4,6 +4,7 @@ use Rattle.std.proofs.lemmas.Bool.{cases_Bool}
 use Rattle.std.proofs.lemmas.List.{length-map}
 use Rattle.std.proofs.lemmas.List.Sums.{sum_by-cons}
 use Rattle.std.specs.List.{range_with_len}
+use Rattle.std.specs.Prelude.{Bool, ◌&&◌, nat_le, not}
 use Rattle.base_core.proofs.GamesLaws.{heads-are}
 use Rattle.base_core.specs.Base.{Base, Held}
 use Rattle.base_core.specs.Edited.{ChangedHeads, Does}
@@ -20,15 +21,15 @@ use Rattle.pos_index.specs.Hits.{rows_told}
 use Rattle.sig_index.specs.Games.{extent_in, head_in, Holds}
 use Rattle.sig_index.specs.declared.pos_query.PosQuery.{PosQuery}
 use Rattle.sig_index.specs.declared.signature.Sig.{Sig}
-use Rattle.twin_games.specs.Asking.{is_shared, price}
+use Rattle.twin_games.specs.Asking.{agreeing, is_shared, price}
 use Rattle.twin_games.specs.Causes.{HasTwinCause}
 use Rattle.twin_games.specs.Twins.{twins_of}
 use Rattle.twin_games.specs.declared.fault.TwinError.{TwinError}
 use Rattle.twin_games.specs.declared.fault.TwinError.TheVariants as twins
 use Rattle.filter_seat.specs.declared.saved.SavedFilter.{SavedFilter}
 use Rattle.report_commands.proofs.UntaggedLaws.{twins_untagged}
-use Rattle.report_commands.specs.Ends.{Marked, halt_of_twins}
-use Rattle.report_commands.specs.Twins.{all_deleted, with_deleted, is_read, shared_len, found_twins, twins_price}
+use Rattle.report_commands.specs.Ends.{Marked, all_deleted, halt_of_twins}
+use Rattle.report_commands.specs.Twins.{with_deleted, found_twins, twins_price}
 use Rattle.shell_state.proofs.IndexLaws.{index_stays}
 use Rattle.shell_state.proofs.CarryLaws.{beside_edited}
 use Rattle.shell_state.proofs.EditedLaws.{fits_count, same_count, tables_fit_count}
@@ -37,6 +38,7 @@ use Rattle.shell_state.proofs.PriceLaws.{by_entries}
 use Rattle.shell_state.proofs.Quietly.{held_by}
 use Rattle.shell_state.proofs.TableLaws.{hits_changed_at, hits_on, tables_are}
 use Rattle.shell_state.specs.Ends.{IsDevice}
+use Rattle.shell_state.specs.Passing.{len_if}
 use Rattle.shell_state.specs.Stands.{Stands, Fits, WhyHalt, looks_in, Holding, Tables, TablesFit}
 use Rattle.shell_state.specs.State.{State, games_of}
 use Rattle.shell_state.specs.Work.{Look}
@@ -105,6 +107,16 @@ marked_end (game ∷ games) old new marked = marked.1.end
 
 -- ---- what is read.
 
+-- An undeleted game is read where another undeleted one has the same names, date and result.
+abbrev pub is_read : List Head → Head → Bool
+is_read all head = not head.deleted && nat_le 2 (agreeing head all)
+
+-- The lengths of the records that are read, all told, of the games with these heads.
+abbrev pub shared_len : List Head → List Head → List ℕ → ℕ
+shared_len all [] lens = 0
+shared_len all (head ∷ heads) [] = 0
+shared_len all (head ∷ heads) (len ∷ lens) = len_if (is_read all head) len + shared_len all heads lens
+
 -- Of games whose heads and extents are those of the base from a number on.
 price_from : (heads : List Head) (extents : List Extent) (first : ℕ) (later : List Head) (rest : List Extent) → length later ≡ length rest
     → ((i j : ℕ) → j ≡ first + i → head_in heads j ≡ head_in later i) → ((i j : ℕ) → j ≡ first + i → extent_in extents j ≡ extent_in rest i)
@@ -137,6 +149,12 @@ twins-price kept =
     (λ i j is. ap (head_in (heads_of kept)) (let same : j ≡ i = omega (arith, is) in same)) (λ i j is. ap (extent_in (extents_of kept)) (let same : j ≡ i = omega (arith, is) in same))
     ∙ ap (shared_len (heads_of kept) (heads_of kept)) (lens_of kept.entries)
 
+-- The same over what the state tells of the games.
+shared-looks : (all : List Head) (looks : List Look) → shared_len all (map (λ (x : Look). x.head) looks) (map (λ (x : Look). x.len) looks) ≡ sum_by (λ (x : Look). len_if (is_read all x.head) x.len) looks
+shared-looks all [] = refl
+shared-looks all (look ∷ looks) =
+    ap (λ (n : ℕ). len_if (is_read all look.head) look.len + n) (shared-looks all looks) ∙ sym (sum_by-cons (λ (x : Look). len_if (is_read all x.head) x.len) look looks)
+
 -- The search for twins asks what the command costs.
 pub price_is : (holding : Holding) (plies : List (Option ℕ)) → price (heads_of holding.kept) (extents_of holding.kept) ≡ twins_price (looks_in holding) plies
 price_is holding plies =
@@ -146,6 +164,7 @@ price_is holding plies =
     ∙ ap₂ (λ (heads : List Head) (lens : List ℕ). shared_len heads heads lens)
     (sym (by_entries (λ (x : Look). x.head) kept.names (λ places e. refl) rows kept.entries))
     (sym (by_entries (λ (x : Look). x.len) kept.names (λ places e. refl) rows kept.entries))
+    ∙ shared-looks (map (λ (x : Look). x.head) (looks_in holding)) (looks_in holding)
 
 -- ---- why it ends.
 

@@ -1,7 +1,7 @@
 -- The command that gives games their opening codes by a table. This project's own.
 use Rattle.std.specs.Fmt.{decimal}
 use Rattle.std.specs.List.{list_any}
-use Rattle.std.specs.Prelude.{ℕ, List, map, Option, Some, None, ◌||◌, is_some, [], ◌∷◌, ◌++◌, codes, length, count_by, Result, Ok, Err, true, sum_by}
+use Rattle.std.specs.Prelude.{ℕ, List, map, Option, ◌||◌, is_some, [], ◌∷◌, ◌++◌, codes, length, count_by, Result, Ok, Err, true, sum_by, unwrap_or}
 use Rattle.base_core.specs.Base.{Held, Base}
 use Rattle.eco_class.specs.Reading.{table_of}
 use Rattle.eco_class.specs.Table.{Opening, eco_of}
@@ -16,23 +16,16 @@ use Rattle.shell_state.specs.Work.{reading, Work}
 abbrev pub codes_of : List Opening → State → List (Option ℕ)
 codes_of table s = map (eco_of table) (games_of s)
 
--- A game with a code; where there is none it keeps its own.
-abbrev pub with_code : Option ℕ → Held → Held
-with_code None held = held
-with_code (Some code) held = record held { head = record held.head { eco = code } }
-
--- The state in which each game has the code that a table gives it; it is unsaved where a game got one.
+-- The state in which each game has the code that a table gives it, or its own where it gives none; it is unsaved where a game got one.
 abbrev pub classified_by : State → List Opening → State
 classified_by s table =
-    let base : Base = record s.shared.base { games = map (λ held. with_code (eco_of table held.game) held) s.shared.base.games } in
+    let coded : Held → Held = λ held. record held { head = record held.head { eco = unwrap_or (eco_of table held.game) held.head.eco } } in
+    let base : Base = record s.shared.base { games = map coded s.shared.base.games } in
     record s { shared = record s.shared { base = base; unsaved = list_any is_some (codes_of table s) || s.shared.unsaved } }
 
 -- `classified C of N`: how many games got a code, and how many there are.
-abbrev pub of_games : ℕ → List ℕ
-of_games games = codes " of " ++ decimal games ++ 10 ∷ []
-
 abbrev pub classified_line : ℕ → ℕ → List ℕ
-classified_line count games = codes "classified " ++ decimal count ++ of_games games
+classified_line count games = codes "classified " ++ decimal count ++ codes " of " ++ decimal games ++ 10 ∷ []
 
 abbrev pub classified_text : State → List Opening → List ℕ
 classified_text s table = classified_line (count_by is_some (codes_of table s)) (length s.shared.base.games)
@@ -45,11 +38,8 @@ eco_words (what.San fault) = san_words fault
 eco_words (what.Twice earlier) = codes "repeated position"
 
 -- `error: eco line L: WHAT`
-abbrev pub fault_words : EcoFault → List ℕ
-fault_words fault = codes "error: eco line " ++ decimal fault.line ++ codes ": " ++ eco_words fault.what
-
 abbrev pub no_table_line : EcoFault → List ℕ
-no_table_line fault = line_of (fault_words fault)
+no_table_line fault = line_of (codes "error: eco line " ++ decimal fault.line ++ codes ": " ++ eco_words fault.what)
 
 -- eco <<WORD: a body that is no table changes nothing.
 abbrev pub state_by : State → Result (List Opening) EcoFault → State
@@ -60,12 +50,9 @@ abbrev pub text_by : State → Result (List Opening) EcoFault → List ℕ
 text_by s (Ok table) = classified_text s table
 text_by s (Err fault) = no_table_line fault
 
-abbrev pub eco_after : State → List ℕ → State
-eco_after s body = state_by s (table_of body)
-
-abbrev pub eco_text : State → List ℕ → List ℕ
-eco_text s body = text_by s (table_of body)
-
 -- The records of all games are read, where the body is a table.
 abbrev pub eco_work : List ℕ → Work
-eco_work body = record (reading (λ s. eco_after s body) (λ s. eco_text s body) (λ looks plies. sum_by (λ look. look.len) looks)) { body = true }
+eco_work body =
+    record (reading (λ s. state_by s (table_of body)) (λ s. text_by s (table_of body)) (λ looks plies. sum_by (λ look. look.len) looks)) {
+      body = true;
+    }

@@ -6,7 +6,7 @@ ghost use Rattle.eco_class.specs.Reading.{table_of};
 ghost use Rattle.eco_class.specs.Table.{eco_of};
 ghost use Rattle.game_tree.specs.Game.{GameTree};
 ghost use Rattle.sig_index.specs.Games.{AreWithin, Holds, extent_in};
-ghost use Rattle.report_commands.specs.Classifying.{classified_by, classified_text, eco_after, eco_text, eco_work};
+ghost use Rattle.report_commands.specs.Classifying.{classified_by, classified_text, eco_work, state_by, text_by};
 ghost use Rattle.report_commands.specs.Ends.{AreCoded, IsCode, IsCoded};
 ghost use Rattle.shell_state.specs.Ends.{IsDevice, IsBodyFault};
 ghost use Rattle.shell_state.specs.Stands.{Stands, Sound, WhyHalt, Asks, Broken};
@@ -53,8 +53,8 @@ fn classify<F: Files, B: Source>(
     body: &mut B,
 ) -> Result<Vec<u8>, Halt>
     requires sound { Sound machine.old (F.seen files.old) }
-    ensures line { (s : State) (text : List ℕ) → Stands machine.old (F.seen files.old) s → B.left body.old ≡ Some text → IfOk result (λ line. line.items ≡ eco_text s text) }
-    ensures stands { (s : State) (text : List ℕ) → Stands machine.old (F.seen files.old) s → B.left body.old ≡ Some text → OnOk result (Stands machine.new (F.seen files.new) (eco_after s text)) }
+    ensures line { (s : State) (text : List ℕ) → Stands machine.old (F.seen files.old) s → B.left body.old ≡ Some text → IfOk result (λ line. line.items ≡ text_by s (table_of text)) }
+    ensures stands { (s : State) (text : List ℕ) → Stands machine.old (F.seen files.old) s → B.left body.old ≡ Some text → OnOk result (Stands machine.new (F.seen files.new) (state_by s (table_of text))) }
     ensures devices { (s : State) → Stands machine.old (F.seen files.old) s → IfErr result IsBodyFault }
     ensures sound { OnOk result (Sound machine.new (F.seen files.new)) }
     ensures unchanged { F.seen files.new ≡ F.seen files.old }

@@ -1,6 +1,7 @@
 //! The lines of the command that gives games their opening codes.
-ghost use Rattle.std.specs.Prelude.{◌≡◌, string_bytes, IfOk};
-ghost use Rattle.report_commands.specs.Classifying.{classified_line, eco_words, fault_words, no_table_line, of_games};
+ghost use Rattle.std.specs.Fmt.{decimal};
+ghost use Rattle.std.specs.Prelude.{◌≡◌, [], ◌∷◌, ◌++◌, codes, string_bytes, IfOk};
+ghost use Rattle.report_commands.specs.Classifying.{classified_line, eco_words, no_table_line};
 
 use eco_class::{EcoFault, EcoWhat};
 use shell_state::san_words;
@@ -19,7 +20,7 @@ pub(crate) fn classified_line(alloc: Global, count: u64, games: u64) -> Result<V
 
 // The end of that line.
 fn of_games(alloc: Global, games: u64) -> Result<Vec<u8>, AllocError>
-    ensures words { IfOk result (λ words. words.items ≡ of_games games) }
+    ensures words { IfOk result (λ words. words.items ≡ codes " of " ++ decimal games ++ 10 ∷ []) }
 {
     let words = format!(in alloc; " of {games}\n")?;
     Ok(words.into_bytes())
@@ -37,7 +38,7 @@ pub(crate) fn no_table_line(alloc: Global, fault: EcoFault) -> Result<Vec<u8>, A
 
 // Which line has a fault, and which.
 fn fault_words(alloc: Global, fault: EcoFault) -> Result<String, AllocError>
-    ensures words { IfOk result (λ words. string_bytes words ≡ fault_words fault) }
+    ensures words { IfOk result (λ words. string_bytes words ≡ codes "error: eco line " ++ decimal fault.line ++ codes ": " ++ eco_words fault.what) }
 {
     let line = fault.line;
     let mut words = format!(in alloc; "error: eco line {line}: ")?;

@@ -6,8 +6,8 @@ ghost use Rattle.game_tree.specs.Game.{GameTree};
 ghost use Rattle.sig_index.specs.Games.{AreWithin, Holds};
 ghost use Rattle.twin_games.specs.Asking.{price};
 ghost use Rattle.twin_games.specs.Twins.{twins_of};
-ghost use Rattle.report_commands.specs.Ends.{Marked, halt_of_twins};
-ghost use Rattle.report_commands.specs.Twins.{twins_after, twins_line, twins_text, twins_work};
+ghost use Rattle.report_commands.specs.Ends.{Marked, halt_of_twins, twins_line};
+ghost use Rattle.report_commands.specs.Twins.{found_twins, twins_work, with_deleted};
 ghost use Rattle.shell_state.specs.Ends.{IsDevice};
 ghost use Rattle.shell_state.specs.Stands.{Stands, Sound, Broken, WhyHalt, Asks};
 ghost use Rattle.shell_state.specs.State.{State};
@@ -50,8 +50,8 @@ fn mark_twins<F: Files>(
     depth: u32,
 ) -> Result<Vec<u8>, Halt>
     requires sound { Sound machine.old (F.seen files.old) }
-    ensures line { (s : State) → Stands machine.old (F.seen files.old) s → IfOk result (λ line. line.items ≡ twins_text s depth) }
-    ensures stands { (s : State) → Stands machine.old (F.seen files.old) s → OnOk result (Stands machine.new (F.seen files.new) (twins_after s depth)) }
+    ensures line { (s : State) → Stands machine.old (F.seen files.old) s → IfOk result (λ line. line.items ≡ twins_line (length (found_twins s depth))) }
+    ensures stands { (s : State) → Stands machine.old (F.seen files.old) s → OnOk result (Stands machine.new (F.seen files.new) (with_deleted s (found_twins s depth))) }
     ensures devices { (s : State) → Stands machine.old (F.seen files.old) s → IfErr result IsDevice }
     ensures sound { OnOk result (Sound machine.new (F.seen files.new)) }
     ensures unchanged { F.seen files.new ≡ F.seen files.old }

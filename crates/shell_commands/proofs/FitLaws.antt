@@ -14,8 +14,8 @@ use Rattle.eco_class.specs.Table.{Opening}
 use Rattle.eco_class.specs.declared.fault.EcoFault.{EcoFault}
 use Rattle.edit_commands.proofs.CompactLaws.{length_moved}
 use Rattle.edit_commands.specs.Compacting.{compacted_state, is_within, numbers_of}
-use Rattle.edit_commands.proofs.TagLaws.{unless_refused}
-use Rattle.edit_commands.specs.Editing.{edited_there, tagged_there}
+use Rattle.edit_commands.proofs.TagLaws.{tagged_there, unless_refused}
+use Rattle.edit_commands.proofs.EditLaws.{edited_there}
 use Rattle.filter_commands.proofs.FilterLaws.{length_restricted}
 use Rattle.filter_seat.proofs.SavedLaws.{length_joined, length_to_start}
 use Rattle.filter_seat.proofs.SeatLaws.{AreKept, all_left_out, all_put_at_start, all_renumbered, joined_long, one_dropped, one_kept}
@@ -29,13 +29,15 @@ use Rattle.game_tree.specs.TagEdit.{edited}
 use Rattle.game_tree.specs.declared.head.Head.{Head}
 use Rattle.game_tree.specs.declared.tag_edit.TagEdit.{TagEdit}
 use Rattle.intake_commands.proofs.DemoLaws.{unless_shown}
-use Rattle.intake_commands.specs.Demo.{Adding, adding, unless_ended, unless_refusal}
-use Rattle.intake_commands.specs.Importing.{Intake, intake, item_after, none_taken, state_with, the_new, unless_not_added}
+use Rattle.intake_commands.specs.Demo.{Adding, adding}
+use Rattle.intake_commands.specs.Importing.{Intake, intake, item_after, none_taken, state_with, the_new}
+use Rattle.intake_commands.proofs.ByCase.{unless_ended, unless_not_added, unless_refusal}
 use Rattle.pgn_read.specs.Items.{items_of}
 use Rattle.pgn_read.specs.declared.item.Item.{Item}
 use Rattle.pgn_read.specs.declared.item.Item.TheVariants.{Bad, Good}
 use Rattle.report_commands.specs.Classifying.{state_by}
-use Rattle.report_commands.specs.Twins.{all_deleted, found_twins, with_deleted}
+use Rattle.report_commands.specs.Twins.{found_twins, with_deleted}
+use Rattle.report_commands.specs.Ends.{all_deleted}
 use Rattle.script_text.specs.Tasks.{Order, Task}
 use Rattle.script_text.specs.declared.command.Command.{Command}
 use Rattle.script_text.specs.declared.command.Command.TheVariants.{Nothing, Find, SearchPosition, SearchMaterial, SearchHeader, Reset, Clear, Negate, Restrict, Keep, Take, And, Or, Drop, Hits, List as Listing, Show, Export, Import, Replace, Eco, Tag, Delete, Undelete, Mark, Tree, Watch, View, Unwatch, Cross, Twins, Index, Save, Info, Demo, Quit, Compact}

@@ -23,12 +23,13 @@ use Rattle.script_text.specs.Tasks.{Order, Task}
 use Rattle.script_text.specs.declared.command.Command.{Command}
 use Rattle.script_text.specs.declared.command.Command.TheVariants.{Nothing, Find, SearchPosition, SearchMaterial, SearchHeader, Reset, Clear, Negate, Restrict, Keep, Take, And, Or, Drop, Hits, List as Listing, Show, Export, Import, Replace, Eco, Tag, Delete, Undelete, Mark, Tree, Watch, View, Unwatch, Cross, Twins, Index, Save, Info, Demo, Quit, Compact}
 use Rattle.edit_commands.specs.Compacting.{compacted_line, compacted_state, is_within}
-use Rattle.edit_commands.proofs.TagLaws.{unless_refused}
-use Rattle.edit_commands.specs.Editing.{edited_there, line_there, tag_line_there, tagged_there}
+use Rattle.edit_commands.proofs.TagLaws.{tag_line_there, tagged_there, unless_refused}
+use Rattle.edit_commands.proofs.EditLaws.{edited_there, line_there}
 use Rattle.filter_seat.specs.SavedFilters.{dropped_at, dropped_in, has_room, is_kept, joined_with, kept_at, place_of, plies_at, saved_as, taken}
 use Rattle.intake_commands.proofs.DemoLaws.{unless_said, unless_shown}
-use Rattle.intake_commands.specs.Demo.{Adding, adding, one_more, unless_ended, unless_refusal}
-use Rattle.intake_commands.specs.Importing.{Intake, intake, item_after, line_with, none_taken, state_with, the_new, unless_not_added}
+use Rattle.intake_commands.specs.Demo.{Adding, adding, one_more}
+use Rattle.intake_commands.specs.Importing.{Intake, intake, item_after, line_with, none_taken, state_with, the_new}
+use Rattle.intake_commands.proofs.ByCase.{unless_ended, unless_not_added, unless_refusal}
 use Rattle.report_commands.specs.Classifying.{state_by, text_by}
 use Rattle.shell_commands.specs.Refused.{IsError}
 use Rattle.shell_commands.specs.Tasks.{command_work, order_work, tasks}

@@ -13,16 +13,17 @@ use Rattle.eco_class.specs.Reading.{table_of}
 use Rattle.eco_class.specs.Table.{Opening}
 use Rattle.eco_class.specs.declared.fault.EcoFault.{EcoFault}
 use Rattle.edit_commands.specs.Compacting.{compacted_state, is_within}
-use Rattle.edit_commands.proofs.TagLaws.{unless_refused}
-use Rattle.edit_commands.specs.Editing.{edited_there, tagged_there}
+use Rattle.edit_commands.proofs.TagLaws.{tagged_there, unless_refused}
+use Rattle.edit_commands.proofs.EditLaws.{edited_there}
 use Rattle.game_tree.specs.Game.{GameTree}
 use Rattle.game_tree.specs.TagEdit.{edited}
 use Rattle.game_tree.specs.declared.head.Head.{Head}
 use Rattle.game_tree.specs.declared.tag_edit.TagEdit.{TagEdit}
 use Rattle.index_commands.specs.Indexing.{is_too_big}
 use Rattle.intake_commands.proofs.DemoLaws.{unless_shown}
-use Rattle.intake_commands.specs.Demo.{Adding, adding, unless_ended, unless_refusal}
-use Rattle.intake_commands.specs.Importing.{Intake, intake, item_after, none_taken, state_with, the_new, unless_not_added}
+use Rattle.intake_commands.specs.Demo.{Adding, adding}
+use Rattle.intake_commands.specs.Importing.{Intake, intake, item_after, none_taken, state_with, the_new}
+use Rattle.intake_commands.proofs.ByCase.{unless_ended, unless_not_added, unless_refusal}
 use Rattle.pgn_read.specs.Items.{items_of}
 use Rattle.pgn_read.specs.declared.item.Item.{Item}
 use Rattle.pgn_read.specs.declared.item.Item.TheVariants.{Bad, Good}

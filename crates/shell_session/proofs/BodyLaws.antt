@@ -47,7 +47,8 @@ use Rattle.script_text.specs.declared.command.Command.TheVariants.{Import, Repla
 use Rattle.report_commands.specs.Classifying.{state_by}
 use Rattle.shell_commands.proofs.SlotLaws.{task_stays}
 use Rattle.shell_commands.specs.Tasks.{order_left, tasks}
-use Rattle.intake_commands.specs.Importing.{Intake, intake, item_after, none_taken, state_with, the_new, unless_not_added}
+use Rattle.intake_commands.specs.Importing.{Intake, intake, item_after, none_taken, state_with, the_new}
+use Rattle.intake_commands.proofs.ByCase.{unless_not_added}
 use Rattle.shell_state.specs.Carrying.{Settled}
 use Rattle.shell_state.specs.Slots.{Slot, slot_at}
 use Rattle.shell_state.specs.Stands.{WhyHalt}

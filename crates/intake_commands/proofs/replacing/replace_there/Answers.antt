@@ -2,7 +2,8 @@ use Rattle.std.proofs.Common.{None, ap, ◌∙◌}
 use Rattle.intake_commands.proofs.IntakeLaws.{body_device}
 use Rattle.intake_commands.proofs.OneGameLaws.{faulty_new, game_new, other_new, refused_new, says_new, stands_new}
 use Rattle.intake_commands.proofs.replacing.replace_there.Goals as goal
-use Rattle.intake_commands.specs.Importing.{faulty_line, line_with, one_game_line}
+use Rattle.intake_commands.specs.Importing.{faulty_line, line_with}
+use Rattle.intake_commands.proofs.ByCase.{one_game_line}
 use Rattle.shell_state.proofs.CarryLaws.{carry_of}
 use Rattle.shell_state.proofs.Quietly.{if_err_so}
 use Rattle.shell_state.specs.Ends.{IsDevice, IsBodyFault}

@@ -6,8 +6,8 @@ use Rattle.base_files.specs.Seen.{Seen}
 use Rattle.block_store.specs.Placing.{IsEnd}
 use Rattle.report_commands.proofs.TwinLaws.{deleted_stands, found_are, marked_end, marked_fits, price_is, marked_tables_fit}
 use Rattle.report_commands.proofs.twin_marks.mark_twins.Goals as goal
-use Rattle.report_commands.specs.Ends.{Marked}
-use Rattle.report_commands.specs.Twins.{found_twins, twins_line, with_deleted, twins_work}
+use Rattle.report_commands.specs.Ends.{Marked, twins_line}
+use Rattle.report_commands.specs.Twins.{found_twins, with_deleted, twins_work}
 use Rattle.shell_state.proofs.Quietly.{held_by, tables_with}
 use Rattle.shell_state.specs.Stands.{Holding, Sound, Stands, Asks}
 use Rattle.shell_state.specs.State.{games_of}
