@@ -5,7 +5,7 @@ use Rattle.std.proofs.lemmas.List.{length-map}
 use Rattle.std.specs.Prelude.{nat_lt}
 use Rattle.base_files.specs.Seen.{Seen}
 use Rattle.filter_seat.specs.Seats.{Seat, first_seat}
-use Rattle.script_text.specs.Tasks.{Order, Task}
+use Rattle.script_text.specs.Tasks.{Order, Task, task}
 use Rattle.script_text.specs.declared.command.Command.TheVariants.{Watch}
 use Rattle.shell_commands.proofs.SlotLaws.{task_others, task_stays}
 use Rattle.shell_commands.specs.Tasks.{tasks}
@@ -20,10 +20,11 @@ use Rattle.tree_live.specs.Slots.{in_slot}
 use Rattle.tree_rows.specs.declared.row.Row.{Row}
 use Rattle.view_commands.specs.Views.{AreLeft, AreRight, AreToldAtMost, IsRight, IsToldAtMost, changes_of, is_own, is_shown, slot_hits}
 use Rattle.view_commands.specs.declared.window.Window.{Window}
+use Rattle.desk_commands.proofs.LendLaws.{brought_by_kind, brought_is}
 use Rattle.desk_commands.proofs.OwnLaws.{both, either, far_own, is_one_of, not_own, number_of, one_of, own_is, owner_has}
 use Rattle.desk_commands.proofs.SharedLaws.{private-keeps}
 use Rattle.desk_commands.proofs.ShowLaws.{Alike, right_like, right_unshown, told_behind, told_same}
-use Rattle.desk_commands.specs.Desk.{Desk, brought, desk_by, each_seat, own_tasks, seat_at, seen_by, window_of}
+use Rattle.desk_commands.specs.Desk.{Desk, brought, desk_by, each_seat, own_tasks, seen_by, window_of}
 use Rattle.desk_commands.specs.Doing.{most_told_by}
 use Rattle.desk_commands.specs.Kinds.{is_private, order_kind}
 use Rattle.desk_commands.specs.Showing.{AreRightTo, AreShownTo, IsLater, but_one}
@@ -73,24 +74,28 @@ each_split (seat ∷ first) own old bring second = ap (λ (l : List Seat). bring
 pub seen_own : (d : Desk) (c : ℕ) (t : Task) → c < length d.seats → seen_by (desk_by d c t) c ≡ (own_tasks d c).after (seen_by d c) t
 seen_own d c t less =
     let s : State = (own_tasks d c).after (seen_by d c) t in
-    let bring : Seat → Seat = brought (order_kind t.order) t d.shared s.shared in
+    let bring : Seat → Seat = brought t.order t.body d.shared s.shared in
     let there = got_there d.seats c less in
     ap (λ (o : Option Seat). record { shared = s.shared; seat = unwrap_or o (first_seat 0); slots = s.slots })
     (own_seat c s.seat bring d.seats ∙ ap (λ (o : Option Seat). option_map (λ (seat : Seat). s.seat) o) there.1)
 
-brings_none : (kind : Kind) (t : Task) (before after : Shared) (o : Option Seat) → is_private kind ≡ true → option_map (brought kind t before after) o ≡ o
-brings_none Private t before after None is = refl
-brings_none Private t before after (Some seat) is = refl
-brings_none _ t before after o is = absurd cc
+private_none : (kind : Kind) (t : Task) (before after : Shared) (seat : Seat) → is_private kind ≡ true → brought_by_kind kind t before after seat ≡ seat
+private_none Private t before after seat is = refl
+private_none _ t before after seat is = absurd cc
+
+brings_none : (order : Order) (body : List ℕ) (before after : Shared) (o : Option Seat) → is_private (order_kind order) ≡ true → option_map (brought order body before after) o ≡ o
+brings_none order body before after None is = refl
+brings_none order body before after (Some seat) is =
+    ap (λ (x : Seat). Some x) (brought_is order body before after seat ∙ private_none (order_kind order) (task order body) before after seat is)
 
 -- Of a private command another client sees nothing.
 pub seen_private : (d : Desk) (c : ℕ) (t : Task) (other : ℕ) → (c ≡ other → ⊥) → is_private (order_kind t.order) ≡ true → Alike (seen_by d other) (seen_by (desk_by d c t) other)
 seen_private d c t other differ is =
     let s : State = (own_tasks d c).after (seen_by d c) t in
-    let bring : Seat → Seat = brought (order_kind t.order) t d.shared s.shared in
+    let bring : Seat → Seat = brought t.order t.body d.shared s.shared in
     record {
-      shared = sym (private-keeps (window_of d.clients c) t.order t.body d.shared (record { seat = seat_at d c; slots = d.slots }) is);
-      filter = ap (λ (o : Option Seat). (unwrap_or o (first_seat 0)).filter) (sym (other_seat other c s.seat bring d.seats differ ∙ brings_none (order_kind t.order) t d.shared s.shared (slice_get d.seats other) is));
+      shared = sym (private-keeps (window_of d.clients c) t.order t.body d.shared (record { seat = (seen_by d c).seat; slots = d.slots }) is);
+      filter = ap (λ (o : Option Seat). (unwrap_or o (first_seat 0)).filter) (sym (other_seat other c s.seat bring d.seats differ ∙ brings_none t.order t.body d.shared s.shared (slice_get d.seats other) is));
     }
 
 -- ---- slots

@@ -6,8 +6,8 @@ use Rattle.std.proofs.lemmas.List.Elements.{All-cons, All-head, All-nil, All-tai
 use Rattle.std.specs.Prelude.{nat_le}
 use Rattle.filter_seat.specs.Seats.{FitsGames, Seat}
 use Rattle.filter_seat.specs.declared.saved.SavedFilter.{SavedFilter}
-use Rattle.desk_commands.specs.Desk.{kept_without, out_of, seat_without}
-use Rattle.desk_commands.specs.Lending.{fitted, fitted_kept, fitted_seat}
+use Rattle.desk_commands.proofs.LendLaws.{kept_without}
+use Rattle.desk_commands.specs.Lending.{fitted, fitted_kept, fitted_seat, out_of, seat_without}
 
 -- A filter fits then.
 fitted_by : (games : ℕ) (plies : List (Option ℕ)) (b : Bool) → nat_le (length plies) games ≡ b → length (cond b (out_of (games - length plies) plies) (out_of games [])) ≡ games

@@ -12,16 +12,16 @@ use Rattle.game_tree.specs.declared.head.Head.{Head}
 use Rattle.intake_commands.specs.Importing.{line_with, state_with, the_new}
 use Rattle.pgn_read.specs.Items.{items_of}
 use Rattle.script_text.specs.Tasks.{Order, Task, task}
-use Rattle.script_text.specs.declared.command.Command.TheVariants.{Compact, Replace}
+use Rattle.script_text.specs.declared.command.Command.TheVariants.{Compact, Demo, Import, Replace}
 use Rattle.shell_commands.proofs.SlotLaws.{task_stays}
 use Rattle.shell_commands.specs.Tasks.{tasks}
 use Rattle.shell_state.specs.State.{Shared, State}
 use Rattle.view_commands.specs.Views.{all_slots}
 use Rattle.view_commands.specs.declared.window.Window.{Window}
 use Rattle.desk_commands.proofs.SharedLaws.{Own, same-new, same-shared, state_of}
-use Rattle.desk_commands.specs.Desk.{brought, kept_without, seat_without}
+use Rattle.desk_commands.specs.Desk.{brought}
 use Rattle.desk_commands.specs.Kinds.{order_kind}
-use Rattle.desk_commands.specs.Lending.{emptied, emptied_filter, gathered, left_of, lent_by, lent_of, nameless}
+use Rattle.desk_commands.specs.Lending.{emptied, emptied_filter, gathered, left_of, lent_by, lent_of, nameless, out_of, seat_without}
 use Rattle.desk_commands.specs.declared.kinds.Kind.{Kind}
 use Rattle.desk_commands.specs.declared.kinds.Kind.TheVariants.{Private, Public, Adds, Moves}
 
@@ -129,16 +129,29 @@ own_with own seat = record { seat = seat; slots = own.slots }
 abbrev pub gathered_own : Kind → Own → List Seat → List Seat → Own
 gathered_own kind own first second = own_with own (gathered kind own.seat first second)
 
-map_all : (f g : Seat → Seat) → ((seat : Seat) → f seat ≡ g seat) → (seats : List Seat) → map f seats ≡ map g seats
+pub map_all : (f g : Seat → Seat) → ((seat : Seat) → f seat ≡ g seat) → (seats : List Seat) → map f seats ≡ map g seats
 map_all f g same [] = refl
 map_all f g same (seat ∷ seats) = ap₂ (λ (s : Seat) (l : List Seat). s ∷ l) (same seat) (map_all f g same seats)
 
 abbrev after : Window → Shared → Own → Task → State
 after w h own t = (tasks w).after (state_of h own) t
 
--- What it moves of another seat, as that client would.
+-- What a command of a kind brings to another seat: what it moves, as that client would.
+abbrev pub brought_by_kind : Kind → Task → Shared → Shared → Seat → Seat
+brought_by_kind Private t before now seat = seat
+brought_by_kind Public t before now seat = seat
+brought_by_kind Adds t before now seat = seat_without (length now.base.games - length before.base.games) seat
+brought_by_kind Moves t before now seat = ((tasks all_slots).after (record { shared = before; seat = seat; slots = [] }) t).seat
+
+pub brought_is : (order : Order) (body : List ℕ) (before now : Shared) (seat : Seat) → brought order body before now seat ≡ brought_by_kind (order_kind order) (task order body) before now seat
+brought_is (Ok (Import word)) body before now seat = refl
+brought_is (Ok (Demo seed games)) body before now seat = refl
+brought_is (Ok (Replace game word)) body before now seat = refl
+brought_is (Ok Compact) body before now seat = refl
+brought_is _ body before now seat = refl
+
 abbrev pub moving : Task → Shared → Seat → Seat
-moving t h seat = brought Moves t h h seat
+moving t h seat = brought_by_kind Moves t h h seat
 
 moves_gathered : (w : Window) (order : Order) (body : List ℕ) (h : Shared) (own : Own) (first second : List Seat) → order_kind order ≡ Moves
     → (after w h (gathered_own Moves own first second) (task order body)).seat
@@ -246,6 +259,9 @@ left_same t h order body Moves same is seats =
     let m = moved_by order body h is in
     subst (λ (x : Task). map emptied seats ≡ map emptied (map (moving x h) seats)) (sym same)
     (sym (ap (λ (l : List Seat). map emptied l) (map_all (moving (task order body) h) (seat_by m.0) (λ seat. m.1 all_slots (record { seat = seat; slots = [] })) seats) ∙ all_emptied m.0 seats))
+
+abbrev pub kept_without : ℕ → SavedFilter → SavedFilter
+kept_without games kept = record kept { plies = out_of games kept.plies }
 
 without_none : (saved : List SavedFilter) → map (kept_without 0) saved ≡ saved
 without_none [] = refl

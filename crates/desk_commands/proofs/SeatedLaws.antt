@@ -25,12 +25,12 @@ use Rattle.view_commands.specs.Views.{AreRight, IsRight, IsToldAtMost, changes_o
 use Rattle.view_commands.specs.declared.window.Window.{Window}
 use Rattle.desk_commands.proofs.DeskLaws.{each_split}
 use Rattle.desk_commands.proofs.KindLaws.{more_games, same_games}
-use Rattle.desk_commands.proofs.LendLaws.{Fitting, gathered_fit, gathered_fitted, gathered_own, gathers, left_same, moved_of, moving, same_filter, seats_none, seats_same}
+use Rattle.desk_commands.proofs.LendLaws.{Fitting, brought_by_kind, brought_is, gathered_fit, gathered_fitted, gathered_own, gathers, left_same, map_all, moved_of, moving, same_filter, seats_none, seats_same}
 use Rattle.desk_commands.proofs.SharedLaws.{Own, state_of}
 use Rattle.desk_commands.proofs.ShowLaws.{Alike, changes_like, hits_like, right_like}
-use Rattle.desk_commands.specs.Desk.{Desk, brought, desk_by, each_seat, seat_at, seat_without, seen_by, window_of}
+use Rattle.desk_commands.specs.Desk.{Desk, brought, desk_by, each_seat, seen_by, window_of}
 use Rattle.desk_commands.specs.Kinds.{order_kind}
-use Rattle.desk_commands.specs.Lending.{gathered, left_of}
+use Rattle.desk_commands.specs.Lending.{gathered, left_of, seat_without}
 use Rattle.desk_commands.specs.Standing.{DeskHolding, DeskSound, DeskStands, seat_of, seats_of, with_seat}
 use Rattle.desk_commands.specs.declared.kinds.Kind.{Kind}
 use Rattle.desk_commands.specs.declared.kinds.Kind.TheVariants.{Private, Public, Adds, Moves}
@@ -52,7 +52,7 @@ own_at d own = record { seat = own; slots = d.slots }
 abbrev pub lent_at : Kind → Desk → Seat → List Seat → List Seat → State
 lent_at kind d own first second = state_of d.shared (gathered_own kind (own_at d own) first second)
 
-seat_is : (d : Desk) (c : ℕ) (first : List Seat) (own : Seat) (second : List Seat) → IsSplit d c first own second → seat_at d c ≡ own
+seat_is : (d : Desk) (c : ℕ) (first : List Seat) (own : Seat) (second : List Seat) → IsSplit d c first own second → (seen_by d c).seat ≡ own
 seat_is d c first own second split =
     ap (λ (o : Option Seat). unwrap_or o (first_seat 0))
     (ap (λ (l : List Seat). slice_get l c) split.seats ∙ (ap (λ (n : ℕ). slice_get (first ++ own ∷ second) n) split.place ∙ got_split first own second))
@@ -164,7 +164,7 @@ none_more n m seats same =
 
 brought_by : (w : Window) (order : Order) (body : List ℕ) (h : Shared) (own : Own) (kind : Kind) (seats : List Seat) → order_kind order ≡ kind
     → map (seat_without (length ((tasks w).after (state_of h own) (task order body)).shared.base.games - known kind (length h.base.games) (length ((tasks w).after (state_of h own) (task order body)).shared.base.games))) (moved_of kind (moving (task order body) h) seats)
-    ≡ map (brought kind (task order body) h ((tasks w).after (state_of h own) (task order body)).shared) seats
+    ≡ map (brought_by_kind kind (task order body) h ((tasks w).after (state_of h own) (task order body)).shared) seats
 brought_by w order body h own Private seats is = none_more _ _ seats (same_games w order body h own (inl is)) ∙ sym (seats_same seats)
 brought_by w order body h own Public seats is = none_more _ _ seats (same_games w order body h own (inr is)) ∙ sym (seats_same seats)
 brought_by w order body h own Adds seats is = refl
@@ -194,8 +194,8 @@ Brings kind m m' before behind before' behind' =
 -- The seats of the desk behind it.
 pub record Brought (w : Window) (d : Desk) (c : ℕ) (t : Task) (kind : Kind) (m' : Holding) (first second before' behind' : List Seat) : Type 0 where
   pub own : m'.seat ≡ ((tasks w).after (seen_by d c) t).seat
-  pub before : before' ≡ map (brought kind t d.shared ((tasks w).after (seen_by d c) t).shared) first
-  pub behind : behind' ≡ map (brought kind t d.shared ((tasks w).after (seen_by d c) t).shared) second
+  pub before : before' ≡ map (brought_by_kind kind t d.shared ((tasks w).after (seen_by d c) t).shared) first
+  pub behind : behind' ≡ map (brought_by_kind kind t d.shared ((tasks w).after (seen_by d c) t).shared) second
 
 pub brings : (w : Window) (d : Desk) (c : ℕ) (order : Order) (body : List ℕ) (kind : Kind) (own : Seat) (first second : List Seat) (m m' : Holding) (seen : Seen) (before behind before' behind' : List Seat)
     → IsSplit d c first own second → order_kind order ≡ kind → Stands m seen ((tasks w).after (lent_at kind d own first second) (task order body)) → Fits m
@@ -220,9 +220,9 @@ brings w d c order body kind own first second m m' seen before behind_ before' b
     let few : known kind old new ≤ length m.kept.entries = subst (λ (n : ℕ). known kind old new ≤ n) (sym entries) (known_few w order body h mine kind is) in
     let all = gives own' first' second' (known kind old new) sits (left_first ∙ left_same t h order body kind refl is first) (left_second ∙ left_same t h order body kind refl is second) knows.0 knows.1 few in
     let after_is : ((tasks w).after (state_of h mine) t).shared ≡ ((tasks w).after (seen_by d c) t).shared = ap (λ (s : State). ((tasks w).after s t).shared) (sym seen_is) in
-    let so : (seats : List Seat) → map (seat_without (length m.kept.entries - known kind old new)) (moved_of kind (moving t h) seats) ≡ map (brought kind t h ((tasks w).after (seen_by d c) t).shared) seats =
+    let so : (seats : List Seat) → map (seat_without (length m.kept.entries - known kind old new)) (moved_of kind (moving t h) seats) ≡ map (brought_by_kind kind t h ((tasks w).after (seen_by d c) t).shared) seats =
     λ seats. ap (λ (n : ℕ). map (seat_without (n - known kind old new)) (moved_of kind (moving t h) seats)) entries
-    ∙ (brought_by w order body h mine kind seats is ∙ ap (λ (x : Shared). map (brought kind t h x) seats) after_is) in
+    ∙ (brought_by w order body h mine kind seats is ∙ ap (λ (x : Shared). map (brought_by_kind kind t h x) seats) after_is) in
     record { own = all.0; before = all.1.0 ∙ so first; behind = all.1.1 ∙ so second }
 
 -- The machine of the desk stands for the desk behind it.
@@ -234,7 +234,7 @@ pub stands_behind : (w : Window) (d : Desk) (c : ℕ) (order : Order) (body : Li
     → Brought w d c (task order body) kind m' first second before' behind' → held.holding.kept ≡ m.kept → held.holding.tables ≡ m.tables → held.seats ≡ before' ++ m'.seat ∷ behind' → held.clients ≡ d.clients
     → DeskStands held seen (desk_by d c (task order body))
 stands_behind w d c order body kind own first second m m' seen held before' behind' same split is st to kept tables seats clients =
-    subst (λ (x : Window). DeskStands held seen (record d { shared = ((tasks x).after (seen_by d c) t).shared; seats = each_seat c ((tasks x).after (seen_by d c) t).seat (brought (order_kind order) t d.shared ((tasks x).after (seen_by d c) t).shared) d.seats; slots = ((tasks x).after (seen_by d c) t).slots })) same
+    subst (λ (x : Window). DeskStands held seen (record d { shared = ((tasks x).after (seen_by d c) t).shared; seats = each_seat c ((tasks x).after (seen_by d c) t).seat (brought order body d.shared ((tasks x).after (seen_by d c) t).shared) d.seats; slots = ((tasks x).after (seen_by d c) t).slots })) same
     (record {
       seats = seats ∙ all_seats;
       clients = clients;
@@ -256,10 +256,12 @@ stands_behind w d c order body kind own first second m m' seen held before' behi
     b = behind w d c order body kind own first second split is
 
     bring : Seat → Seat
-    bring = brought (order_kind order) t d.shared mine.shared
+    bring = brought order body d.shared mine.shared
 
-    by_kind : (seats : List Seat) → map (brought kind t d.shared mine.shared) seats ≡ map bring seats
-    by_kind seats = ap (λ (k : Kind). map (brought k t d.shared mine.shared) seats) (sym is)
+    by_kind : (seats : List Seat) → map (brought_by_kind kind t d.shared mine.shared) seats ≡ map bring seats
+    by_kind seats =
+        map_all (brought_by_kind kind t d.shared mine.shared) bring
+        (λ seat. ap (λ (k : Kind). brought_by_kind k t d.shared mine.shared seat) (sym is) ∙ sym (brought_is order body d.shared mine.shared seat)) seats
 
     all_seats : before' ++ m'.seat ∷ behind' ≡ each_seat c mine.seat bring d.seats
     all_seats =

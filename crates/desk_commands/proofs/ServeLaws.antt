@@ -26,7 +26,8 @@ use Rattle.tagged_text.specs.Waiting.{Waiting}
 use Rattle.view_commands.specs.declared.window.Window.{Window}
 use Rattle.desk_commands.proofs.KindLaws.{carry_behind}
 use Rattle.desk_commands.proofs.TagLaws.{tag_causes, tag_unsaid}
-use Rattle.desk_commands.specs.Desk.{client_tag, lines_to}
+use Rattle.desk_commands.specs.Desk.{lines_to}
+use Rattle.desk_commands.specs.Lending.{client_tag}
 use Rattle.desk_commands.specs.Doing.{ended}
 use Rattle.tagged_text.specs.Tagged.{tagged}
 

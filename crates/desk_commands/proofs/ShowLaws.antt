@@ -17,7 +17,7 @@ use Rattle.tree_rows.specs.declared.row.Row.{Row}
 use Rattle.view_commands.specs.Views.{AreLeft, AreRight, AreToldAtMost, IsRight, IsToldAtMost, changes_of, is_own, is_shown, shown_hits, slot_hits}
 use Rattle.cell_core.specs.Packed.{Packed}
 use Rattle.desk_commands.proofs.OwnLaws.{is_one_of, not_own, number_of, one_of, own_is}
-use Rattle.desk_commands.specs.Desk.{Desk, seat_at, seen_by, window_of}
+use Rattle.desk_commands.specs.Desk.{Desk, seen_by, window_of}
 use Rattle.desk_commands.specs.Showing.{AreRightTo, AreShownTo, IsLater, ShownOne, but_one}
 use Rattle.desk_commands.specs.Standing.{seat_of, seats_of}
 use Rattle.desk_commands.specs.Views.{owner}
@@ -219,7 +219,7 @@ got_at [] client d less = absurd (omega (arith, less))
 got_at (seat ∷ seats) zero d less = refl
 got_at (seat ∷ seats) (suc client) d less = got_at seats client d (omega (arith, less))
 
-pub seat_there : (later : Desk) (seats : List SeatStruct) (client : ℕ) (d : SeatStruct) → client < length seats → seats_of seats ≡ later.seats → seat_at later client ≡ seat_of (get_or seats client d)
+pub seat_there : (later : Desk) (seats : List SeatStruct) (client : ℕ) (d : SeatStruct) → client < length seats → seats_of seats ≡ later.seats → (seen_by later client).seat ≡ seat_of (get_or seats client d)
 seat_there later seats client d less same =
     ap (λ (o : Option Seat). unwrap_or o (first_seat 0)) (ap (λ (l : List Seat). slice_get l client) (sym same) ∙ got_at seats client d less)
 

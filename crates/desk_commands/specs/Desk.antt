@@ -1,23 +1,23 @@
 -- Clients over the plain machine: each has a seat and slots of his own, and they share the base. This project's own.
 use Rattle.std.specs.Fmt.{decimal}
-use Rattle.std.specs.Prelude.{ℕ, zero, suc, ◌+◌, ◌-◌, if◌then◌else◌, Bool, List, [], ◌∷◌, ◌++◌, Option, Some, None, Ok, codes, length, map, replicate, slice_get, unwrap_or}
+use Rattle.std.specs.Option.{option_map_or}
+use Rattle.std.specs.Prelude.{ℕ, zero, suc, ◌+◌, ◌-◌, if◌then◌else◌, Bool, true, List, [], ◌∷◌, ◌++◌, Option, Some, None, Ok, codes, length, map, replicate, slice_get, unwrap_or}
 use Rattle.base_core.specs.Base.{Base}
 use Rattle.command_runs.specs.Plain.{Plain}
+use Rattle.edit_commands.specs.Compacting.{compact_work}
 use Rattle.filter_seat.specs.Seats.{Seat, first_seat}
 use Rattle.filter_seat.specs.declared.saved.SavedFilter.{SavedFilter}
+use Rattle.intake_commands.specs.Importing.{replace_work}
 use Rattle.script_lines.specs.Clients.{Clients, Tagged, has_ended, heard, new_clients, said}
 use Rattle.script_text.specs.Tasks.{Order, Task}
-use Rattle.script_text.specs.declared.command.Command.TheVariants.{Nothing}
+use Rattle.script_text.specs.declared.command.Command.TheVariants.{Nothing, Import, Replace, Demo, Compact}
 use Rattle.shell_commands.specs.Tasks.{tasks}
 use Rattle.shell_state.specs.Lines.{error_line}
 use Rattle.shell_state.specs.Slots.{Slot}
 use Rattle.shell_state.specs.State.{Shared, State, begin}
-use Rattle.tagged_text.specs.Tagged.{tagged}
+use Rattle.tagged_text.specs.Tagged.{tagged_lines}
 use Rattle.view_commands.specs.Views.{all_slots}
 use Rattle.view_commands.specs.declared.window.Window.{Window}
-use Rattle.desk_commands.specs.Kinds.{order_kind}
-use Rattle.desk_commands.specs.declared.kinds.Kind.{Kind}
-use Rattle.desk_commands.specs.declared.kinds.Kind.TheVariants.{Private, Public, Adds, Moves}
 
 -- What is shared, the seats of the clients, what the eight slots show, and who may speak: four clients with tags, or one without.
 pub record Desk : Type 0 where
@@ -42,11 +42,8 @@ abbrev pub window_of : Clients → ℕ → Window
 window_of clients client = if clients.tagged then record { first = client + client; count = 2 } else all_slots
 
 -- A client whom the desk gives no seat has an empty one.
-abbrev pub seat_at : Desk → ℕ → Seat
-seat_at desk client = unwrap_or (slice_get desk.seats client) (first_seat 0)
-
 abbrev pub seen_by : Desk → ℕ → State
-seen_by desk client = record { shared = desk.shared; seat = seat_at desk client; slots = desk.slots }
+seen_by desk client = record { shared = desk.shared; seat = unwrap_or (slice_get desk.seats client) (first_seat 0); slots = desk.slots }
 
 -- His task, by itself.
 abbrev pub own_tasks : Desk → ℕ → Plain State Task
@@ -54,23 +51,20 @@ own_tasks desk client = tasks (window_of desk.clients client)
 
 -- ---- what it brings to the others
 
--- So many games were added, which are out of every filter.
-abbrev pub out_of : ℕ → List (Option ℕ) → List (Option ℕ)
-out_of games plies = plies ++ replicate games None
+-- Each filter of a seat with these entries behind its own.
+abbrev pub extended : List (Option ℕ) → Seat → Seat
+extended more seat =
+    record { filter = seat.filter ++ more; saved = map (λ (kept : SavedFilter). record kept { plies = kept.plies ++ more }) seat.saved }
 
-abbrev pub kept_without : ℕ → SavedFilter → SavedFilter
-kept_without games kept = record kept { plies = out_of games kept.plies }
-
-abbrev pub seat_without : ℕ → Seat → Seat
-seat_without games seat = record { filter = out_of games seat.filter; saved = map (kept_without games) seat.saved }
-
--- What a command brings to the seat of another client, where these are what is shared before and after it: what it moves, it moves there as if
--- that client had said it.
-abbrev pub brought : Kind → Task → Shared → Shared → Seat → Seat
-brought Private task before after seat = seat
-brought Public task before after seat = seat
-brought Adds task before after seat = seat_without (length after.base.games - length before.base.games) seat
-brought Moves task before after seat = ((tasks all_slots).after (record { shared = before; seat = seat; slots = [] }) task).seat
+-- What a command brings to the seat of another client, where these are what is shared before and after it: the games that it adds are out
+-- of his filters, and what it moves, it moves there as if he had said it. Every other one leaves his seat as it is.
+abbrev pub brought : Order → List ℕ → Shared → Shared → Seat → Seat
+brought (Ok (Import word)) body before after seat = extended (replicate (length after.base.games - length before.base.games) None) seat
+brought (Ok (Demo seed games)) body before after seat = extended (replicate (length after.base.games - length before.base.games) None) seat
+brought (Ok (Replace game word)) body before after seat =
+    ((replace_work game body).after (record { shared = before; seat = seat; slots = [] })).seat
+brought (Ok Compact) body before after seat = (compact_work.after (record { shared = before; seat = seat; slots = [] })).seat
+brought _ body before after seat = seat
 
 -- The seats where that of one client has become this one, and those of the others follow.
 abbrev pub each_seat : ℕ → Seat → (Seat → Seat) → List Seat → List Seat
@@ -82,7 +76,7 @@ each_seat (suc client) own bring (seat ∷ seats) = bring seat ∷ each_seat cli
 abbrev pub desk_with : Desk → ℕ → Task → State → Desk
 desk_with desk client task s = record desk {
   shared = s.shared;
-  seats = each_seat client s.seat (brought (order_kind task.order) task desk.shared s.shared) desk.seats;
+  seats = each_seat client s.seat (brought task.order task.body desk.shared s.shared) desk.seats;
   slots = s.slots;
 }
 
@@ -111,18 +105,14 @@ abbrev pub desk_said : Desk → ℕ → Task → List ℕ
 desk_said desk client task =
     if has_ended desk.clients client then unless_nothing (codes "client ended") task.order else (own_tasks desk client).text (seen_by desk client) task
 
-abbrev pub client_tag : ℕ → List ℕ
-client_tag client = codes "@" ++ decimal client ++ codes " "
-
 -- A text as it goes out to a client: each line behind his tag, where there are tags.
 abbrev pub lines_to : Clients → ℕ → List ℕ → List ℕ
-lines_to clients client text = if clients.tagged then tagged (client_tag client) text else text
+lines_to clients client text = if clients.tagged then tagged_lines true (codes "@" ++ decimal client ++ codes " ") text else text
 
 abbrev pub desk_text : Desk → Tagged → List ℕ
-desk_text desk t = elim t.client [
-  | None ↦ unless_nothing (codes "no client") t.task.order
-  | Some client ↦ lines_to desk.clients client (desk_said desk client t.task)
-]
+desk_text desk t =
+    option_map_or (λ client. lines_to desk.clients client (desk_said desk client t.task)) t.client
+    (unless_nothing (codes "no client") t.task.order)
 
 -- The plain machine of a desk.
 abbrev pub desks : Plain Desk Tagged

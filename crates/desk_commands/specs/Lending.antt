@@ -1,9 +1,10 @@
 -- The seats of the other clients while a command of one is done. Only private functions cite this.
+use Rattle.std.specs.Fmt.{decimal}
 use Rattle.std.specs.List.{flat_map}
-use Rattle.std.specs.Prelude.{ℕ, ◌-◌, nat_le, if◌then◌else◌, List, [], ◌∷◌, ◌++◌, Option, length, map}
+use Rattle.std.specs.Prelude.{ℕ, ◌-◌, nat_le, if◌then◌else◌, List, [], ◌∷◌, ◌++◌, Option, None, codes, length, map, replicate}
 use Rattle.filter_seat.specs.Seats.{Seat}
 use Rattle.filter_seat.specs.declared.saved.SavedFilter.{SavedFilter}
-use Rattle.desk_commands.specs.Desk.{out_of}
+use Rattle.desk_commands.specs.Desk.{extended}
 use Rattle.desk_commands.specs.declared.kinds.Kind.{Kind}
 use Rattle.desk_commands.specs.declared.kinds.Kind.TheVariants.{Private, Public, Adds, Moves}
 
@@ -44,6 +45,18 @@ left_of Private seats = seats
 left_of Public seats = seats
 left_of Adds seats = seats
 left_of Moves seats = map emptied seats
+
+-- The tag of a client.
+abbrev pub client_tag : ℕ → List ℕ
+client_tag client = codes "@" ++ decimal client ++ codes " "
+
+-- So many games are out of every filter of a seat.
+abbrev pub seat_without : ℕ → Seat → Seat
+seat_without games seat = extended (replicate games None) seat
+
+-- And out of one.
+abbrev pub out_of : ℕ → List (Option ℕ) → List (Option ℕ)
+out_of games plies = plies ++ replicate games None
 
 -- A filter with an entry for each of so many games: those behind the games that it knows are out. Nothing stays of one that knows more.
 abbrev pub fitted : ℕ → List (Option ℕ) → List (Option ℕ)

@@ -1,5 +1,6 @@
 -- How the machine of a desk stands for it, beside the files of its base. This project's own.
-use Rattle.std.specs.Prelude.{◌≡◌, ℕ, List, map, Option, Some, None, Ok, All, IfSome, unwrap_or, if◌then◌else◌}
+use Rattle.std.specs.Option.{option_map_or}
+use Rattle.std.specs.Prelude.{◌≡◌, ℕ, List, [], map, Option, Ok, All, IfSome, unwrap_or, if◌then◌else◌}
 use Rattle.base_core.specs.Base.{Base}
 use Rattle.base_files.specs.Seen.{Seen}
 use Rattle.filter_seat.specs.Seats.{Seat}
@@ -8,9 +9,10 @@ use Rattle.script_text.specs.Tasks.{Order}
 use Rattle.script_lines.specs.Clients.{Clients, Tagged, has_ended, said}
 use Rattle.script_lines.specs.declared.line.Line.{Line}
 use Rattle.script_text.specs.declared.command.Command.TheVariants.{Nothing}
-use Rattle.shell_commands.specs.Tasks.{order_left, order_price, order_work}
+use Rattle.shell_commands.specs.Tasks.{order_work}
 use Rattle.shell_state.specs.Carrying.{Settled}
 use Rattle.shell_state.specs.Stands.{Broken, Holding, Sound, Stands}
+use Rattle.shell_state.specs.Work.{price}
 use Rattle.shell_state.specs.declared.halt.Halt.{Halt}
 use Rattle.view_commands.specs.Views.{all_slots}
 use Rattle.desk_commands.specs.Desk.{Desk, desk_after, seen_by}
@@ -46,16 +48,16 @@ DeskSound held seen = All (λ seat. Sound (with_seat held.holding seat) seen) he
 
 -- The order of a line that takes effect: none of one that no client says, or one who has ended.
 abbrev pub effective : Clients → Option ℕ → Order → Order
-effective clients None order = Ok Nothing
-effective clients (Some client) order = if has_ended clients client then Ok Nothing else order
+effective clients client order = option_map_or (λ client. if has_ended clients client then Ok Nothing else order) client (Ok Nothing)
 
 -- What it asks at most of the games file: nothing, where no client says it.
 abbrev pub line_price : Desk → Line → ℕ
-line_price desk line = order_price (seen_by desk (unwrap_or line.client 0)) (effective desk.clients line.client line.order)
+line_price desk line =
+    price (seen_by desk (unwrap_or line.client 0)) (order_work all_slots (effective desk.clients line.client line.order) [])
 
 -- The base that it leaves in the place of the files, if it does.
 abbrev pub line_left : Desk → Line → Option (Base → Base)
-line_left desk line = order_left (effective desk.clients line.client line.order)
+line_left desk line = (order_work all_slots (effective desk.clients line.client line.order) []).left
 
 -- What is known of a line that was broken off.
 abbrev pub BrokenLine : Desk → Tagged → Halt → Type 0

@@ -2,8 +2,7 @@
 ghost use Rattle.std.specs.Prelude.{◌≡◌, ◌≤◌, ◌<◌, ◌++◌, ◌+◌, ◌-◌, ◌∷◌, [], ℕ, List, Option, All, drop, length, map, take, OnOk};
 ghost use Rattle.filter_seat.specs.Seats.{FitsGames, Seat as PlainSeat};
 ghost use Rattle.filter_seat.specs.declared.saved.SavedFilter.{SavedFilter};
-ghost use Rattle.desk_commands.specs.Desk.{out_of, seat_without};
-ghost use Rattle.desk_commands.specs.Lending.{emptied, emptied_filter, fitted, fitted_kept, fitted_seat, gathered, left_of, lent_by, lent_of, lent_saved, nameless};
+ghost use Rattle.desk_commands.specs.Lending.{emptied, emptied_filter, fitted, fitted_kept, fitted_seat, gathered, left_of, lent_by, lent_of, lent_saved, nameless, out_of, seat_without};
 ghost use Rattle.desk_commands.specs.Standing.{seat_of, seats_of, with_seat};
 
 use crate::kinds::Kind;

@@ -7,7 +7,7 @@ ghost use Rattle.shell_state.specs.Stands.{Stands, TablesFit};
 ghost use Rattle.shell_state.specs.State.{State};
 ghost use Rattle.tree_live.specs.Slots.{in_slot};
 ghost use Rattle.view_commands.specs.Views.{AreLeft, AreRight, AreToldAtMost, changes_of, is_own, is_shown};
-ghost use Rattle.desk_commands.specs.Desk.{Desk as PlainDesk, seat_at, seen_by, window_of};
+ghost use Rattle.desk_commands.specs.Desk.{Desk as PlainDesk, seen_by, window_of};
 ghost use Rattle.desk_commands.specs.Showing.{AreRightTo, AreShownTo, IsLater, ShownOne, but_one};
 ghost use Rattle.desk_commands.specs.Standing.{seat_of, seats_of, with_seat};
 
@@ -48,8 +48,8 @@ pub(crate) fn show_others(
     requires number { length seats.old ≡ (if clients.now.tagged then 4 else 1) }
     ensures machine { OnOk result (machine.new ≡ machine.old) }
     ensures seats { OnOk result (seats_of seats.new ≡ seats_of seats.old) }
-    ensures shown { (seen : Seen) (d later : PlainDesk) → ((client : ℕ) → Stands (with_seat machine.old (seat_at later client)) seen (seen_by later client)) → seats_of seats.old ≡ later.seats → clients.now ≡ d.clients → IsLater d later → AreRightTo (λ b. rows b) (but_one by (length seats.old)) d views.old → OnOk result (AreShownTo (λ b. rows b) (λ b. told b) (but_one by (length seats.old)) d later views.old views.new) }
-    ensures left { (seen : Seen) (d later : PlainDesk) → ((client : ℕ) → Stands (with_seat machine.old (seat_at later client)) seen (seen_by later client)) → seats_of seats.old ≡ later.seats → clients.now ≡ d.clients → IsLater d later → AreLeft (λ i. is_shown (slot_at d.slots i)) views.old views.new }
+    ensures shown { (seen : Seen) (d later : PlainDesk) → ((client : ℕ) → Stands (with_seat machine.old (seen_by later client).seat) seen (seen_by later client)) → seats_of seats.old ≡ later.seats → clients.now ≡ d.clients → IsLater d later → AreRightTo (λ b. rows b) (but_one by (length seats.old)) d views.old → OnOk result (AreShownTo (λ b. rows b) (λ b. told b) (but_one by (length seats.old)) d later views.old views.new) }
+    ensures left { (seen : Seen) (d later : PlainDesk) → ((client : ℕ) → Stands (with_seat machine.old (seen_by later client).seat) seen (seen_by later client)) → seats_of seats.old ≡ later.seats → clients.now ≡ d.clients → IsLater d later → AreLeft (λ i. is_shown (slot_at d.slots i)) views.old views.new }
     ensures number { length views.new ≡ length views.old }
     ensures same { length seats.new ≡ length seats.old }
 {
@@ -77,8 +77,8 @@ fn show_next(
     ensures machine { OnOk result (machine.new ≡ machine.old) }
     ensures seats { OnOk result (seats_of seats.new ≡ seats_of seats.old) }
     ensures passed { client ≡ by → views.new ≡ views.old }
-    ensures shown { (seen : Seen) (d later : PlainDesk) → (client ≡ by → ⊥) → Stands (with_seat machine.old (seat_at later client)) seen (seen_by later client) → seats_of seats.old ≡ later.seats → clients.now ≡ d.clients → IsLater d later → AreRight (λ b. rows b) (window_of d.clients client) (seen_by d client) views.old → OnOk result (ShownOne (λ b. rows b) (λ b. told b) client d later views.old views.new) }
-    ensures left { (seen : Seen) (later : PlainDesk) → Stands (with_seat machine.old (seat_at later client)) seen (seen_by later client) → seats_of seats.old ≡ later.seats → AreLeft (λ i. is_shown (slot_at later.slots i)) views.old views.new }
+    ensures shown { (seen : Seen) (d later : PlainDesk) → (client ≡ by → ⊥) → Stands (with_seat machine.old (seen_by later client).seat) seen (seen_by later client) → seats_of seats.old ≡ later.seats → clients.now ≡ d.clients → IsLater d later → AreRight (λ b. rows b) (window_of d.clients client) (seen_by d client) views.old → OnOk result (ShownOne (λ b. rows b) (λ b. told b) client d later views.old views.new) }
+    ensures left { (seen : Seen) (later : PlainDesk) → Stands (with_seat machine.old (seen_by later client).seat) seen (seen_by later client) → seats_of seats.old ≡ later.seats → AreLeft (λ i. is_shown (slot_at later.slots i)) views.old views.new }
     ensures number { length views.new ≡ length views.old }
     ensures same { length seats.new ≡ length seats.old }
 {

@@ -14,7 +14,7 @@ ghost use Rattle.shell_state.specs.State.{State};
 ghost use Rattle.tagged_text.specs.Rendered.{Rendered, no_text, opening, said};
 ghost use Rattle.tagged_text.specs.Tagged.{tagged};
 ghost use Rattle.view_commands.specs.Views.{AreLeft, AreRight, is_own};
-ghost use Rattle.desk_commands.specs.Desk.{Desk as PlainDesk, client_tag, desk_by, lines_to, own_tasks, seen_by, window_of};
+ghost use Rattle.desk_commands.specs.Desk.{Desk as PlainDesk, desk_by, lines_to, own_tasks, seen_by, window_of};
 ghost use Rattle.desk_commands.specs.Doing.{ended};
 ghost use Rattle.desk_commands.specs.Standing.{DeskSound, DeskStands};
 ghost use Rattle.desk_commands.specs.Views.{AllRight};

@@ -5,18 +5,20 @@ use Rattle.filter_seat.specs.Seats.{Seat, first_seat}
 use Rattle.script_lines.proofs.ClientLaws.{none_ends}
 use Rattle.script_lines.specs.Clients.{Clients, Tagged, has_ended, heard, is_quit, said as said_by}
 use Rattle.script_lines.specs.declared.line.Line.{Line}
-use Rattle.script_text.specs.Tasks.{Order, Task}
+use Rattle.script_text.specs.Tasks.{Order, Task, task}
 use Rattle.script_text.specs.declared.command.Command.TheVariants.{Nothing, Find, SearchPosition, SearchMaterial, SearchHeader, Reset, Clear, Negate, Restrict, Keep, Take, And, Or, Drop, Hits, List as Listing, Show, Export, Import, Replace, Eco, Tag, Delete, Undelete, Mark, Tree, Watch, View, Unwatch, Cross, Twins, Index, Save, Info, Demo, Quit, Compact}
 use Rattle.shell_commands.specs.Tasks.{task_work, tasks}
 use Rattle.shell_state.specs.State.{Shared, State}
 use Rattle.tagged_text.specs.Tagged.{tagged}
 use Rattle.view_commands.specs.Views.{all_slots, is_own}
 use Rattle.view_commands.specs.declared.window.Window.{Window}
+use Rattle.desk_commands.proofs.LendLaws.{brought_by_kind, brought_is}
 use Rattle.desk_commands.proofs.SharedLaws.{Own, private-keeps, same-shared, state_of}
-use Rattle.desk_commands.specs.Desk.{Desk, brought, client_tag, desk_after, desk_by, desk_done, desk_said, desk_text, each_seat, own_tasks, seat_at, seen_by, unless_nothing, window_of}
+use Rattle.desk_commands.specs.Desk.{Desk, brought, desk_after, desk_by, desk_done, desk_said, desk_text, each_seat, own_tasks, seen_by, unless_nothing, window_of}
+use Rattle.desk_commands.specs.Lending.{client_tag}
 use Rattle.desk_commands.specs.Kinds.{is_private, order_kind}
 use Rattle.desk_commands.specs.declared.kinds.Kind.{Kind}
-use Rattle.desk_commands.specs.declared.kinds.Kind.TheVariants.{Private, Public, Adds, Moves}
+use Rattle.desk_commands.specs.declared.kinds.Kind.TheVariants.{Private}
 use Rattle.desk_runs.specs.Isolation.{Said, desk_run, is_by, said_to, without_private}
 use Rattle.desk_runs.proofs.SlotLaws.{OwnAlone, SameOwn, both-given, own-alone}
 
@@ -78,7 +80,7 @@ record Alike (c : ℕ) (d e : Desk) : Type 0 where
   tagged : d.clients.tagged ≡ true
 
 abbrev own_of : Desk → ℕ → Own
-own_of d c = record { seat = seat_at d c; slots = d.slots }
+own_of d c = record { seat = (seen_by d c).seat; slots = d.slots }
 
 alike-cond : (c : ℕ) (b late : Bool) (d e d1 e1 : Desk) → b ≡ late → Alike c d e → Alike c d1 e1 → Alike c (cond b d d1) (cond late e e1)
 alike-cond c true late d e d1 e1 same ended not_ended = subst (λ (x : Bool). Alike c d (cond x e e1)) same ended
@@ -131,7 +133,7 @@ alike-own c task d e alike = record {
     same = same-made c task d e alike
 
     bring : Desk → Seat → Seat
-    bring x = brought (order_kind task.order) task x.shared (made_by x c task).shared
+    bring x = brought task.order task.body x.shared (made_by x c task).shared
 
 alike-done : (c : ℕ) (task : Task) (d e : Desk) → Alike c d e → Alike c (desk_done d (Some c) task) (desk_done e (Some c) task)
 alike-done c task d e alike =
@@ -175,17 +177,14 @@ alike-other c by task d e differ alike = record {
         ∙ ap (λ (h : Shared). ((tasks (window_of d.clients by)).after (state_of h (own_of e by)) task).shared) alike.shared
         ∙ ap (λ (clients : Clients). ((tasks (window_of clients by)).after (seen_by e by) task).shared) alike.clients
 
-    kind : Kind
-    kind = order_kind task.order
-
     bring : Desk → Seat → Seat
-    bring x = brought kind task x.shared (made_by x by task).shared
+    bring x = brought task.order task.body x.shared (made_by x by task).shared
 
     seats : slice_get (each_seat by (made_by d by task).seat (bring d) d.seats) c ≡ slice_get (each_seat by (made_by e by task).seat (bring e) e.seats) c
     seats =
         other-seat c by (made_by d by task).seat (bring d) d.seats differ
-        ∙ ap (λ (h : Shared). option_map (brought kind task h (made_by d by task).shared) (slice_get d.seats c)) alike.shared
-        ∙ ap (λ (h : Shared). option_map (brought kind task e.shared h) (slice_get d.seats c)) shared
+        ∙ ap (λ (h : Shared). option_map (brought task.order task.body h (made_by d by task).shared) (slice_get d.seats c)) alike.shared
+        ∙ ap (λ (h : Shared). option_map (brought task.order task.body e.shared h) (slice_get d.seats c)) shared
         ∙ ap (λ (o : Option Seat). option_map (bring e) o) alike.seat
         ∙ sym (other-seat c by (made_by e by task).seat (bring e) e.seats differ)
 
@@ -195,19 +194,21 @@ alike-said c by task d e differ alike =
     (alike-other c by task d e differ alike)
 
 -- A private line of another client.
-brings-nothing : (kind : Kind) (task : Task) (before after : Shared) (o : Option Seat) → is_private kind ≡ true → option_map (brought kind task before after) o ≡ o
-brings-nothing Private task before after None e = refl
-brings-nothing Private task before after (Some seat) e = refl
-brings-nothing Public task before after o e = absurd cc
-brings-nothing Adds task before after o e = absurd cc
-brings-nothing Moves task before after o e = absurd cc
+brings-private : (kind : Kind) (task : Task) (before after : Shared) (seat : Seat) → is_private kind ≡ true → brought_by_kind kind task before after seat ≡ seat
+brings-private Private task before after seat e = refl
+brings-private _ task before after seat e = absurd cc
+
+brings-nothing : (order : Order) (body : List ℕ) (before after : Shared) (o : Option Seat) → is_private (order_kind order) ≡ true → option_map (brought order body before after) o ≡ o
+brings-nothing order body before after None e = refl
+brings-nothing order body before after (Some seat) e =
+    ap (λ (x : Seat). Some x) (brought_is order body before after seat ∙ brings-private (order_kind order) (task order body) before after seat e)
 
 alike-private : (c by : ℕ) (task : Task) (d e : Desk) → (by ≡ c → ⊥) → is_private (order_kind task.order) ≡ true → Alike c d e → Alike c (desk_by d by task) e
 alike-private c by task d e differ is alike = record {
   shared = private-keeps (window_of d.clients by) task.order task.body d.shared (own_of d by) is ∙ alike.shared;
   seat =
-      other-seat c by (made_by d by task).seat (brought (order_kind task.order) task d.shared (made_by d by task).shared) d.seats differ
-      ∙ brings-nothing (order_kind task.order) task d.shared (made_by d by task).shared (slice_get d.seats c) is ∙ alike.seat;
+      other-seat c by (made_by d by task).seat (brought task.order task.body d.shared (made_by d by task).shared) d.seats differ
+      ∙ brings-nothing task.order task.body d.shared (made_by d by task).shared (slice_get d.seats c) is ∙ alike.seat;
   slots = λ i own. slots-stay c by i task d differ alike.tagged own ∙ alike.slots i own;
   clients = alike.clients;
   tagged = alike.tagged;

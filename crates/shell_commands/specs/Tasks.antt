@@ -80,7 +80,7 @@ task_work w t = order_work w t.order t.body
 
 -- The plain machine.
 abbrev pub tasks : Window → Plain State Task
-tasks w = record { after = λ s t. (task_work w t).after s; text = λ s t. (task_work w t).text s }
+tasks w = record { after = λ s t. (order_work w t.order t.body).after s; text = λ s t. (order_work w t.order t.body).text s }
 
 -- What is known of a task that was broken off.
 abbrev pub BrokenTask : Window → State → Task → Halt → Type 0

@@ -4,7 +4,7 @@ use Rattle.std.specs.Prelude.{if◌then◌else◌, IfSome}
 use Rattle.base_core.specs.Base.{Base}
 use Rattle.base_files.specs.Seen.{Seen}
 use Rattle.command_runs.specs.Plain.{after_all}
-use Rattle.desk_commands.specs.Desk.{Desk, desk_by, desk_done, desks, seat_at, seen_by}
+use Rattle.desk_commands.specs.Desk.{Desk, desk_by, desk_done, desks, seen_by}
 use Rattle.desk_commands.specs.Standing.{DeskHolding, DeskStands, SettledLine, effective, line_left, with_seat}
 use Rattle.script_lines.specs.Clients.{Clients, Tagged, has_ended}
 use Rattle.script_text.specs.Tasks.{Order, Task, body_word}
@@ -54,15 +54,15 @@ alone_line d t none =
 
 -- The machine of a desk stands for what its first client sees.
 pub desk_carries : (held : DeskHolding) (seen : Seen) (d : Desk) (left : Option (Base → Base)) → DeskStands held seen d → StillCarry seen (seen_by d 0) left
-desk_carries held seen d left st = carry_of (with_seat held.holding (seat_at d 0)) seen (seen_by d 0) left (st.stands (seat_at d 0))
+desk_carries held seen d left st = carry_of (with_seat held.holding (seen_by d 0).seat) seen (seen_by d 0) left (st.stands (seen_by d 0).seat)
 
 pub left_desk : (held : DeskHolding) (seen : Seen) (d : Desk) → DeskStands held seen d → AreLeft seen d.shared.carried d.shared.unsaved
-left_desk held seen d st = left_of (with_seat held.holding (seat_at d 0)) seen (seen_by d 0) (st.stands (seat_at d 0))
+left_desk held seen d st = left_of (with_seat held.holding (seen_by d 0).seat) seen (seen_by d 0) (st.stands (seen_by d 0).seat)
 
 -- Behind a line that leaves what they carry.
 pub carries_later : (held : DeskHolding) (seen : Seen) (d later : Desk) (left : Option (Base → Base)) → later.shared.carried ≡ d.shared.carried → DeskStands held seen later → StillCarry seen (seen_by d 0) left
 carries_later held seen d later left same st =
-    carry_later (with_seat held.holding (seat_at later 0)) seen (seen_by d 0) (seen_by later 0) left same (st.stands (seat_at later 0))
+    carry_later (with_seat held.holding (seen_by later 0).seat) seen (seen_by d 0) (seen_by later 0) left same (st.stands (seen_by later 0).seat)
 
 -- Nothing was written of a line.
 settled_so : (left : Option (Base → Base)) (P : Type 0) → P → IfSome left (λ _. P)

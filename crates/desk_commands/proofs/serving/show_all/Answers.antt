@@ -6,7 +6,7 @@ use Rattle.script_lines.specs.Clients.{Clients}
 use Rattle.shell_state.specs.Stands.{Holding}
 use Rattle.desk_commands.proofs.OwnLaws.{number_of}
 use Rattle.desk_commands.proofs.serving.show_all.Goals as goal
-use Rattle.desk_commands.specs.Desk.{seat_at}
+use Rattle.desk_commands.specs.Desk.{seen_by}
 use Rattle.desk_commands.specs.Showing.{AreRightTo, AreShownTo, but_one}
 use Rattle.desk_commands.specs.Standing.{DeskHolding, DeskStands, seats_of}
 
@@ -25,7 +25,7 @@ returns-clause-same g c =
 pub returns-clause-shown : goal.returns-clause-shown
 returns-clause-shown g c = λ seen d later st is_later right.
     let here = subst (λ (h : DeskHolding). DeskStands h seen later) (sym c.desk.view_is) st in
-    let stands = λ (n : ℕ). here.stands (seat_at later n) in
+    let stands = λ (n : ℕ). here.stands (seen_by later n).seat in
     let same = ap (λ (l : List SeatStruct). seats_of l) c.as_mut_slice-seats.ensures.value ∙ here.seats in
     let clients = here.clients ∙ is_later.clients in
     let n : length c.as_mut_slice-seats.result.now ≡ number_of d.clients.tagged = ap (λ (l : List SeatStruct). length l) c.as_mut_slice-seats.ensures.value ∙ (c.desk.invariant.0 ∙ ap (λ (cl : Clients). number_of cl.tagged) clients) in
@@ -35,7 +35,7 @@ returns-clause-shown g c = λ seen d later st is_later right.
 pub returns-clause-left : goal.returns-clause-left
 returns-clause-left g c = λ seen d later st is_later.
     let here = subst (λ (h : DeskHolding). DeskStands h seen later) (sym c.desk.view_is) st in
-    let stands = λ (n : ℕ). here.stands (seat_at later n) in
+    let stands = λ (n : ℕ). here.stands (seen_by later n).seat in
     let same = ap (λ (l : List SeatStruct). seats_of l) c.as_mut_slice-seats.ensures.value ∙ here.seats in
     let clients = here.clients ∙ is_later.clients in
     c.show_others.ensures.left seen d later stands same clients is_later
@@ -43,7 +43,7 @@ returns-clause-left g c = λ seen d later st is_later.
 pub returns-in_err-show_others-clause-left : goal.returns-in_err-show_others-clause-left
 returns-in_err-show_others-clause-left g c = λ seen d later st is_later.
     let here = subst (λ (h : DeskHolding). DeskStands h seen later) (sym c.desk.view_is) st in
-    let stands = λ (n : ℕ). here.stands (seat_at later n) in
+    let stands = λ (n : ℕ). here.stands (seen_by later n).seat in
     let same = ap (λ (l : List SeatStruct). seats_of l) c.as_mut_slice-seats.ensures.value ∙ here.seats in
     let clients = here.clients ∙ is_later.clients in
     c.show_others.ensures.left seen d later stands same clients is_later

@@ -6,7 +6,7 @@ use Rattle.view_commands.specs.Views.{is_shown}
 use Rattle.desk_commands.proofs.OwnLaws.{number_of}
 use Rattle.desk_commands.proofs.ShowLaws.{shown_none, shown_step}
 use Rattle.desk_commands.proofs.showing.show_others.Goals as goal
-use Rattle.desk_commands.specs.Desk.{seat_at, seen_by}
+use Rattle.desk_commands.specs.Desk.{seen_by}
 use Rattle.desk_commands.specs.Showing.{AreShownTo, but_one}
 use Rattle.desk_commands.specs.Standing.{with_seat}
 
@@ -31,12 +31,12 @@ loop-client-preserved g c =
       machine = c.in_ok-show_next.ensures.machine ∙ inv.machine;
       seats = c.in_ok-show_next.ensures.seats ∙ inv.seats;
       shown = λ seen d later stands same clients is_later right.
-          let here = subst (λ (h : Holding). Stands (with_seat h (seat_at later step)) seen (seen_by later step)) (sym inv.machine) (stands step) in
+          let here = subst (λ (h : Holding). Stands (with_seat h (seen_by later step).seat) seen (seen_by later step)) (sym inv.machine) (stands step) in
           let room : step < number_of d.clients.tagged = subst (λ (cl : Clients). step < number_of cl.tagged) clients (omega (arith, few, c.requires.number)) in
           shown_step (λ b. (goal.TreeView-dyn g (b.vtable, b.value)).rows b.value) (λ b. (goal.TreeView-dyn g (b.vtable, b.value)).told b.value) c.args.by step (length c.args.seats.now) d later c.args.views.now c.loop-client.views c.show_next.new.views is_later room few right (inv.shown seen d later stands same clients is_later right)
           c.show_next.ensures.passed (λ differ still. c.in_ok-show_next.ensures.shown seen d later differ here (inv.seats ∙ same) clients is_later still);
       left = λ seen d later stands same clients is_later i none.
-          let here = subst (λ (h : Holding). Stands (with_seat h (seat_at later step)) seen (seen_by later step)) (sym inv.machine) (stands step) in
+          let here = subst (λ (h : Holding). Stands (with_seat h (seen_by later step).seat) seen (seen_by later step)) (sym inv.machine) (stands step) in
           c.show_next.ensures.left seen later here (inv.seats ∙ same) i (ap (λ (slots : List Slot). is_shown (slot_at slots i)) is_later.slots ∙ none) ∙ inv.left seen d later stands same clients is_later i none;
       number = c.show_next.ensures.number ∙ inv.number;
       same = c.show_next.ensures.same ∙ inv.same;
@@ -46,7 +46,7 @@ pub returns-in_err-show_next-clause-left : goal.returns-in_err-show_next-clause-
 returns-in_err-show_next-clause-left g c = λ seen d later stands same clients is_later i none.
     let inv = c.loop-client.invariant in
     let step = c.loop-client.client in
-    let here = subst (λ (h : Holding). Stands (with_seat h (seat_at later step)) seen (seen_by later step)) (sym inv.machine) (stands step) in
+    let here = subst (λ (h : Holding). Stands (with_seat h (seen_by later step).seat) seen (seen_by later step)) (sym inv.machine) (stands step) in
     c.show_next.ensures.left seen later here (inv.seats ∙ same) i (ap (λ (slots : List Slot). is_shown (slot_at slots i)) is_later.slots ∙ none) ∙ inv.left seen d later stands same clients is_later i none
 
 pub returns-clause-shown : goal.returns-clause-shown
