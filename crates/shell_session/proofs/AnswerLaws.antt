@@ -1,5 +1,6 @@
 -- What the parts of a session say, put together: its answer to what it was given.
 use Rattle.std.proofs.Common.{◌≡◌, ◌≤◌, ◌<◌, ◌+◌, ◌⊎◌, inl, inr, ℕ, Bool, List, [], ◌∷◌, ◌++◌, length, Option, Some, None, IfSome, refl, ap, ◌∙◌, subst, sym, arith}
+use Rattle.std.specs.Prelude.{IsSomeAnd}
 use Rattle.base_files.specs.Chosen.{Choice, choice}
 use Rattle.base_files.specs.Counters.{Rose}
 use Rattle.base_files.proofs.Rising.{Rose-after}
@@ -10,16 +11,16 @@ use Rattle.base_files.specs.Seen.{SameContents, Seen}
 use Rattle.base_files.specs.Told.{Grew, adds}
 use Rattle.base_files.specs.declared.faults.Stop.{Stop}
 use Rattle.base_files.specs.declared.faults.Stop.TheVariants as stop
-use Rattle.base_core.specs.Opening.{IfTold, is_created}
+use Rattle.base_core.specs.Opening.{IfTold, Refuses, is_created}
 use Rattle.command_runs.specs.Counts.{Why, counts}
 use Rattle.command_runs.specs.Endings.{Halted, NoneLost}
 use Rattle.desk_commands.specs.Desk.{Desk, desk_begin}
 use Rattle.desk_commands.specs.Standing.{DeskHolding}
 use Rattle.filter_seat.specs.Seats.{first_seat}
-use Rattle.shell_session.proofs.ViewLaws.{lives_first, show_none}
-use Rattle.shell_session.specs.Around.{Around, Lives, Views, around, none_told, slots_by}
+use Rattle.shell_session.proofs.ViewLaws.{lives_first, none_told, show_none}
+use Rattle.shell_session.specs.Around.{Around, Lives, Views, around, slots_by}
 use Rattle.shell_session.specs.Running.{Interrupts, Opening, OpeningRefused}
-use Rattle.shell_session.specs.Session.{Answers, AreGiven, Chooses, ChoosesBase, Reads, Silent, WhyStatus, Due, Given, Inlet, Opened, RanAll, RanPart, begun, given, opening_line, opening_text}
+use Rattle.shell_session.specs.Session.{Answers, Chooses, ChoosesBase, Reads, StaysIfRefused, WhyStatus, Due, Given, Inlet, Opened, RanAll, RanPart, Unbegun, begun, given, opening_text}
 use Rattle.shell_session.specs.Stops.{status_of}
 use Rattle.shell_session.specs.Words.{Wanted, words_read}
 use Rattle.shell_session.specs.declared.status.Status.{Status}
@@ -34,19 +35,20 @@ told seen F index names games known i n g =
     subst G g (subst N n (subst I i known))
 
 -- The contents are those that were given.
-pub as_given : (words : List (List ℕ)) (index names games script : List ℕ) (views : Views) (seen seen' : Seen) → SameContents seen seen' → seen.index ≡ Some index → seen.names ≡ Some names → seen.games ≡ Some games
-    → AreGiven (given words index names games script views) seen'
-as_given words index names games script views seen seen' same i n g = record { index = same.index ∙ i; names = same.names ∙ n; games = same.games ∙ g }
+pub as_given : (words : List (List ℕ)) (index names games script : List ℕ) (views : Views) (seen seen' : Seen) (input : Inlet) → SameContents seen seen' → seen.index ≡ Some index → seen.names ≡ Some names → seen.games ≡ Some games
+    → Unbegun (given words index names games script views) input input (around seen' views none_told views)
+as_given words index names games script views seen seen' input same i n g = record { unread = refl; index = same.index ∙ i; names = same.names ∙ n; games = same.games ∙ g; views = refl }
 
 -- The opening refused.
-pub opening_answers : (words : List (List ℕ)) (index names games script : List ℕ) (views : Views) (seen seen' : Seen) (t : Option (List ℕ)) (input : Inlet) (wanted : Wanted) (status : Status)
+pub opening_answers : (words : List (List ℕ)) (index names games script : List ℕ) (views : Views) (seen seen' : Seen) (t : Option (List ℕ)) (input : Inlet) (wanted : Wanted (List ℕ)) (status : Status)
     → words_read words ≡ Some wanted → OpeningRefused wanted.create wanted.strict seen status → SameContents seen seen'
     → seen.index ≡ Some index → seen.names ≡ Some names → seen.games ≡ Some games
     → Answers (given words index names games script views) t t input input (around seen' views none_told views) status
 opening_answers words index names games script views seen seen' t input wanted (BadBase fault) said refused same i n g =
-    (record { wanted = wanted; words = said; first = told seen _ index names games refused i n g }, record { unwritten = refl; unread = refl; files = as_given words index names games script views seen seen' same i n g; views = refl })
-opening_answers words index names games script views seen seen' t input wanted FilesFault said refused same i n g = inl (record { unwritten = refl; unread = refl; files = as_given words index names games script views seen seen' same i n g; views = refl })
-opening_answers words index names games script views seen seen' t input wanted Memory said refused same i n g = inl (record { unwritten = refl; unread = refl; files = as_given words index names games script views seen seen' same i n g; views = refl })
+    let P : Option (Wanted (List ℕ)) → Type 0 = λ o. IsSomeAnd o (λ w. Refuses w.create w.strict index names games fault) in
+    (subst P (sym said) (told seen (λ index names games. Refuses wanted.create wanted.strict index names games fault) index names games refused i n g), refl, as_given words index names games script views seen seen' input same i n g)
+opening_answers words index names games script views seen seen' t input wanted FilesFault said refused same i n g = inl (refl, as_given words index names games script views seen seen' input same i n g)
+opening_answers words index names games script views seen seen' t input wanted Memory said refused same i n g = inl (refl, as_given words index names games script views seen seen' input same i n g)
 opening_answers words index names games script views seen seen' t input wanted Done said refused same i n g = absurd refused
 opening_answers words index names games script views seen seen' t input wanted Usage said refused same i n g = absurd refused
 opening_answers words index names games script views seen seen' t input wanted ReadFault said refused same i n g = absurd refused
@@ -55,7 +57,7 @@ opening_answers words index names games script views seen seen' t input wanted I
 opening_answers words index names games script views seen seen' t input wanted (Changed game kept found) said refused same i n g = absurd refused
 
 -- The base was opened.
-abbrev pub opened : (words : List (List ℕ)) (index names games script : List ℕ) (views : Views) (seen : Seen) (wanted : Wanted) (held : DeskHolding) (mended : ℕ)
+abbrev pub opened : (words : List (List ℕ)) (index names games script : List ℕ) (views : Views) (seen : Seen) (wanted : Wanted (List ℕ)) (held : DeskHolding) (mended : ℕ)
     → words_read words ≡ Some wanted → (o : Opening wanted.create wanted.strict wanted.desk index names games held seen mended)
     → Opened (given words index names games script views)
 opened words index names games script views seen wanted held mended said o =
@@ -67,37 +69,35 @@ none_rose (inr last) = absurd (omega (arith, last))
 
 -- The opening line was broken off.
 pub line_answers : (g : Given) (t t' : Option (List ℕ)) (input : Inlet) (around' : Around) (s : Stop) (k k' : ℕ)
-    → (o : Opened g) → Halted [] (opening_line o.base o.mended) t t' → AreGiven g around'.seen → around'.now ≡ around'.first → Why s (counts 0 0 k) (counts 0 0 k')
+    → (o : Opened g) → Halted [] (opening_text (length o.base.games) o.mended) t t' → Unbegun g input input around' → Why s (counts 0 0 k) (counts 0 0 k')
     → Answers g t t' input input around' (status_of s)
-line_answers g t t' input around' stop.Read k k' base_open wrote files views why = absurd (none_rose why)
-line_answers g t t' input around' stop.Files k k' base_open wrote files views why = absurd (none_rose why)
-line_answers g t t' input around' stop.Write k k' base_open wrote files views why = inl (record { opened = base_open; wrote = wrote; unread = refl; files = files; views = views })
-line_answers g t t' input around' stop.Memory k k' base_open wrote files views why = inr (inl (record { opened = base_open; wrote = wrote; unread = refl; files = files; views = views }))
+line_answers g t t' input around' stop.Read k k' base_open wrote unbegun why = absurd (none_rose why)
+line_answers g t t' input around' stop.Files k k' base_open wrote unbegun why = absurd (none_rose why)
+line_answers g t t' input around' stop.Write k k' base_open wrote unbegun why = inl (record { opened = base_open; wrote = wrote; unbegun = unbegun })
+line_answers g t t' input around' stop.Memory k k' base_open wrote unbegun why = inr (inl (record { opened = base_open; wrote = wrote; unbegun = unbegun }))
 
 -- The run of the script stopped.
 pub part_answers : (g : Given) (t t' : Option (List ℕ)) (input input' : Inlet) (around' : Around) (status : Status)
-    → (o : Opened g) → RanPart status (begun g o) g.script (adds t (opening_line o.base o.mended)) t' input'.left around'
+    → (o : Opened g) → RanPart status (begun g o) g.script (adds t (opening_text (length o.base.games) o.mended)) t' input'.left around' → Interrupts status
     → Answers g t t' input input' around' status
-part_answers g t t' input input' around' ReadFault base_open ran = record { opened = base_open; ran = ran }
-part_answers g t t' input input' around' WriteFault base_open ran = inr (record { opened = base_open; ran = ran })
-part_answers g t t' input input' around' FilesFault base_open ran = inr (record { opened = base_open; ran = ran })
-part_answers g t t' input input' around' InputTooLong base_open ran = record { opened = base_open; ran = ran }
-part_answers g t t' input input' around' Memory base_open ran = inr (inr (record { opened = base_open; ran = ran }))
-part_answers g t t' input input' around' Done base_open ran = absurd ran.broken.broken
-part_answers g t t' input input' around' Usage base_open ran = absurd ran.broken.broken
-part_answers g t t' input input' around' (BadBase fault) base_open ran = absurd ran.broken.broken
-part_answers g t t' input input' around' (Changed game kept found) base_open ran = absurd ran.broken.broken
+part_answers g t t' input input' around' WriteFault base_open ran stops = inr (record { opened = base_open; ran = ran })
+part_answers g t t' input input' around' FilesFault base_open ran stops = inr (record { opened = base_open; ran = ran })
+part_answers g t t' input input' around' Memory base_open ran stops = inr (inr (record { opened = base_open; ran = ran }))
+part_answers g t t' input input' around' Done base_open ran stops = absurd stops
+part_answers g t t' input input' around' Usage base_open ran stops = absurd stops
+part_answers g t t' input input' around' (BadBase fault) base_open ran stops = absurd stops
+part_answers g t t' input input' around' status base_open ran stops = record { opened = base_open; ran = ran }
 
 -- Where no device has a fault, the status is due, or memory ran out.
 pub due_of : (g : Given) (t t' : Option (List ℕ)) (input input' : Inlet) (around' : Around) (status : Status) (f f' i i' k k' : ℕ) → Answers g t t' input input' around' status
     → WhyStatus status (counts f i k) (counts f' i' k') → (Rose f f' → ⊥) → (Rose i i' → ⊥) → (Rose k k' → ⊥) → (status ≡ Memory) ⊎ Due g status
-due_of g t t' input input' around' Done f f' i i' k k' answer why no_files no_input no_output = inr (answer.opened, answer.ran.within)
+due_of g t t' input input' around' Done f f' i i' k k' answer why no_files no_input no_output = inr (answer.0, answer.1.within)
 due_of g t t' input input' around' Usage f f' i i' k k' answer why no_files no_input no_output = inr answer.0
 due_of g t t' input input' around' (BadBase fault) f f' i i' k k' answer why no_files no_input no_output = inr answer.0
 due_of g t t' input input' around' ReadFault f f' i i' k k' answer why no_files no_input no_output = absurd (no_input why)
 due_of g t t' input input' around' WriteFault f f' i i' k k' answer why no_files no_input no_output = absurd (no_output why)
 due_of g t t' input input' around' FilesFault f f' i i' k k' answer why no_files no_input no_output = absurd (no_files why)
-due_of g t t' input input' around' (Changed game kept found) f f' i i' k k' answer why no_files no_input no_output = absurd answer
+due_of g t t' input input' around' (Changed game kept found) f f' i i' k k' answer why no_files no_input no_output = absurd answer.ran.broken.broken
 due_of g t t' input input' around' InputTooLong f f' i i' k k' answer why no_files no_input no_output = inr (answer.opened, answer.ran.lines.0)
 due_of g t t' input input' around' Memory f f' i i' k k' answer why no_files no_input no_output = inl refl
 
@@ -137,10 +137,12 @@ not_memory_files : FilesFault ≡ Memory → ⊥
 not_memory_files is = cc
 
 -- The base of the words was chosen.
-pub chosen : (words : List (List ℕ)) (wanted : Wanted) (old new : List Choice) → words_read words ≡ Some wanted → new ≡ old ++ choice wanted.name wanted.create ∷ [] → ChoosesBase words old new
-chosen words wanted old new said chose = record { wanted = wanted; said = said; chose = chose }
+pub chosen : (words : List (List ℕ)) (wanted : Wanted (List ℕ)) (old new : List Choice) → words_read words ≡ Some wanted → new ≡ old ++ choice wanted.name wanted.create ∷ [] → ChoosesBase words old new
+chosen words wanted old new said chose =
+    let P : Option (Wanted (List ℕ)) → Type 0 = λ o. IsSomeAnd o (λ w. new ≡ old ++ choice w.name w.create ∷ []) in
+    subst P (sym said) chose
 
-pub chooses_opening : (create strict : Bool) (seen : Seen) (status : Status) (words : List (List ℕ)) (wanted : Wanted) (old new : List Choice)
+pub chooses_opening : (create strict : Bool) (seen : Seen) (status : Status) (words : List (List ℕ)) (wanted : Wanted (List ℕ)) (old new : List Choice)
     → OpeningRefused create strict seen status → words_read words ≡ Some wanted
     → ((status ≡ Memory) × (new ≡ old)) ⊎ (new ≡ old ++ choice wanted.name wanted.create ∷ []) → Chooses status words old new
 chooses_opening create strict seen (BadBase fault) words wanted old new refused said (inl none) = absurd (not_memory_bad fault none.0)
@@ -174,62 +176,38 @@ stop_interrupts stop.Write = tt
 stop_interrupts stop.Files = tt
 stop_interrupts stop.Memory = tt
 
+-- What stays as it is: nothing where a run stopped, and what is said of it.
+pub stays_running : {A : Type 0} (status : Status) (old new : A) → Interrupts status → StaysIfRefused status old new
+stays_running Usage old new stops = absurd stops
+stays_running (BadBase fault) old new stops = absurd stops
+stays_running _ old new stops = tt
+
+pub stays_same : {A : Type 0} (status : Status) (old : A) → StaysIfRefused status old old
+stays_same Usage old = refl
+stays_same (BadBase fault) old = refl
+stays_same _ old = tt
+
+pub stays_line : {A : Type 0} (s : Stop) (old new : A) → StaysIfRefused (status_of s) old new
+stays_line s old new = stays_running (status_of s) old new (stop_interrupts s)
+
 pub reads_running : (status : Status) (old new : Inlet) → Interrupts status → (status ≡ InputTooLong → new.budget + longest_script < old.budget) → Reads status old new
-reads_running InputTooLong old new stops long = long refl
-reads_running ReadFault old new stops long = tt
-reads_running WriteFault old new stops long = tt
-reads_running FilesFault old new stops long = tt
-reads_running (Changed game kept found) old new stops long = tt
-reads_running Memory old new stops long = tt
-reads_running Usage old new stops long = absurd stops
-reads_running Done old new stops long = absurd stops
-reads_running (BadBase fault) old new stops long = absurd stops
+reads_running status old new stops long = (stays_running status old new stops, long)
+
+never_long : (create strict : Bool) (seen : Seen) (status : Status) → OpeningRefused create strict seen status → status ≡ InputTooLong → ⊥
+never_long create strict seen InputTooLong refused is = absurd refused
+never_long create strict seen _ refused is = cc
 
 pub reads_opening : (create strict : Bool) (seen : Seen) (status : Status) (input : Inlet) → OpeningRefused create strict seen status → Reads status input input
-reads_opening create strict seen (BadBase fault) input refused = refl
-reads_opening create strict seen FilesFault input refused = tt
-reads_opening create strict seen Memory input refused = tt
-reads_opening create strict seen Usage input refused = absurd refused
-reads_opening create strict seen Done input refused = absurd refused
-reads_opening create strict seen ReadFault input refused = absurd refused
-reads_opening create strict seen WriteFault input refused = absurd refused
-reads_opening create strict seen (Changed game kept found) input refused = absurd refused
-reads_opening create strict seen InputTooLong input refused = absurd refused
+reads_opening create strict seen status input refused = (stays_same status input, λ is. absurd (never_long create strict seen status refused is))
+
+line_long : (s : Stop) → status_of s ≡ InputTooLong → ⊥
+line_long stop.Read is = cc
+line_long stop.Write is = cc
+line_long stop.Files is = cc
+line_long stop.Memory is = cc
 
 pub reads_line : (s : Stop) (input : Inlet) → Reads (status_of s) input input
-reads_line stop.Read input = tt
-reads_line stop.Write input = tt
-reads_line stop.Files input = tt
-reads_line stop.Memory input = tt
-
--- What is written then: nothing, or whatever it is.
-pub silent_running : (status : Status) (old new : Option (List ℕ)) → Interrupts status → Silent status old new
-silent_running InputTooLong old new stops = tt
-silent_running ReadFault old new stops = tt
-silent_running WriteFault old new stops = tt
-silent_running FilesFault old new stops = tt
-silent_running (Changed game kept found) old new stops = tt
-silent_running Memory old new stops = tt
-silent_running Usage old new stops = absurd stops
-silent_running Done old new stops = absurd stops
-silent_running (BadBase fault) old new stops = absurd stops
-
-pub silent_opening : (status : Status) (told : Option (List ℕ)) → Silent status told told
-silent_opening Usage told = refl
-silent_opening (BadBase fault) told = refl
-silent_opening InputTooLong told = tt
-silent_opening ReadFault told = tt
-silent_opening WriteFault told = tt
-silent_opening FilesFault told = tt
-silent_opening (Changed game kept found) told = tt
-silent_opening Memory told = tt
-silent_opening Done told = tt
-
-pub silent_line : (s : Stop) (old new : Option (List ℕ)) → Silent (status_of s) old new
-silent_line stop.Read old new = tt
-silent_line stop.Write old new = tt
-silent_line stop.Files old new = tt
-silent_line stop.Memory old new = tt
+reads_line s input = (stays_same (status_of s) input, λ is. absurd (line_long s is))
 
 -- The cause where the opening refused: the files', if it is one of a device.
 pub why_opening : (create strict : Bool) (seen : Seen) (status : Status) (f f' i k : ℕ) → OpeningRefused create strict seen status → (status ≡ FilesFault → Rose f f') → WhyStatus status (counts f i k) (counts f' i k)
@@ -265,8 +243,8 @@ why_running (BadBase fault) f f' f'' i i' k k' k'' files out why = tt
 -- ---- the ways in which a session returns
 
 -- The words say nothing.
-pub usage_answers : (g : Given) (t : Option (List ℕ)) (input : Inlet) (around' : Around) → words_read g.words ≡ None → AreGiven g around'.seen → around'.now ≡ around'.first → Answers g t t input input around' Usage
-usage_answers g t input around' none files views = (none, record { unwritten = refl; unread = refl; files = files; views = views })
+pub usage_answers : (g : Given) (t : Option (List ℕ)) (input : Inlet) (around' : Around) → words_read g.words ≡ None → Unbegun g input input around' → Answers g t t input input around' Usage
+usage_answers g t input around' none unbegun = (none, refl, unbegun)
 
 pub usage_due : (g : Given) → words_read g.words ≡ None → Due g Usage
 usage_due g none = none
@@ -274,29 +252,35 @@ usage_due g none = none
 pub usage_chooses : (words : List (List ℕ)) (old : List Choice) → Chooses Usage words old old
 usage_chooses words old = refl
 
+usage_long : Usage ≡ InputTooLong → ⊥
+usage_long is = cc
+
 pub usage_reads : (input : Inlet) → Reads Usage input input
-usage_reads input = refl
+usage_reads input = (refl, λ is. absurd (usage_long is))
 
 -- The script was run to its end.
 pub whole_answers : (g : Given) (t t' : Option (List ℕ)) (input input' : Inlet) (around' : Around)
-    → (o : Opened g) → RanAll (begun g o) g.script (adds t (opening_line o.base o.mended)) t' input'.left around' → Answers g t t' input input' around' Done
-whole_answers g t t' input input' around' base_open ran = record { opened = base_open; ran = ran }
+    → (o : Opened g) → RanAll (begun g o) g.script (adds t (opening_text (length o.base.games) o.mended)) t' input'.left around' → Answers g t t' input input' around' Done
+whole_answers g t t' input input' around' base_open ran = (base_open, ran)
 
 pub done_chooses : (words : List (List ℕ)) (old new : List Choice) → ChoosesBase words old new → Chooses Done words old new
 done_chooses words old new chose = chose
 
+done_long : Done ≡ InputTooLong → ⊥
+done_long is = cc
+
 pub done_reads : (old new : Inlet) → Reads Done old new
-done_reads old new = tt
+done_reads old new = (tt, λ is. absurd (done_long is))
 
 -- ---- the session from its parts
 
 -- The opening line of the base that was opened.
 count_of : (create strict desk : Bool) (index names games : List ℕ) (held : DeskHolding) (seen : Seen) (mended count : ℕ) → (o : Opening create strict desk index names games held seen mended)
-    → count ≡ length held.holding.kept.entries → opening_text count mended ≡ opening_line o.base mended
+    → count ≡ length held.holding.kept.entries → opening_text count mended ≡ opening_text (length o.base.games) mended
 count_of create strict desk index names games held seen mended count o same = ap (λ n. opening_text n mended) (same ∙ ((o.stands (slots_by []) (show_none [])).stands (first_seat 0)).base.count)
 
 -- The opening line was broken off.
-pub line_session : (words : List (List ℕ)) (index names games script : List ℕ) (views : Views) (seen seen' : Seen) (wanted : Wanted) (held : DeskHolding) (mended count : ℕ) (t t' : Option (List ℕ)) (input : Inlet) (s : Stop) (k k' : ℕ)
+pub line_session : (words : List (List ℕ)) (index names games script : List ℕ) (views : Views) (seen seen' : Seen) (wanted : Wanted (List ℕ)) (held : DeskHolding) (mended count : ℕ) (t t' : Option (List ℕ)) (input : Inlet) (s : Stop) (k k' : ℕ)
     → words_read words ≡ Some wanted
     → IfTold seen (λ index names games. Opening wanted.create wanted.strict wanted.desk index names games held seen' mended)
     → count ≡ length held.holding.kept.entries → Halted [] (opening_text count mended) t t' → SameContents seen seen' → Why s (counts 0 0 k) (counts 0 0 k')
@@ -307,10 +291,10 @@ line_session words index names games script views seen seen' wanted held mended 
     told seen (λ index names games. Opening wanted.create wanted.strict wanted.desk index names games held seen' mended) index names games opens i n g in
     let P : List ℕ → Type 0 = λ text. Halted [] text t t' in
     line_answers (given words index names games script views) t t' input (around seen' views none_told views) s k k' (opened words index names games script views seen' wanted held mended said o)
-    (subst P (count_of wanted.create wanted.strict wanted.desk index names games held seen' mended count o same) wrote) (as_given words index names games script views seen seen' files i n g) refl why
+    (subst P (count_of wanted.create wanted.strict wanted.desk index names games held seen' mended count o same) wrote) (as_given words index names games script views seen seen' input files i n g) why
 
 -- The script was run to its end.
-pub whole_session : (words : List (List ℕ)) (index names games script : List ℕ) (views : Views) (seen seen' seen'' : Seen) (views'' : Views) (wanted : Wanted) (held : DeskHolding) (mended count : ℕ) (t t' t'' : Option (List ℕ)) (input input' : Inlet)
+pub whole_session : (words : List (List ℕ)) (index names games script : List ℕ) (views : Views) (seen seen' seen'' : Seen) (views'' : Views) (wanted : Wanted (List ℕ)) (held : DeskHolding) (mended count : ℕ) (t t' t'' : Option (List ℕ)) (input input' : Inlet)
     → words_read words ≡ Some wanted
     → IfTold seen (λ index names games. Opening wanted.create wanted.strict wanted.desk index names games held seen' mended)
     → length views ≤ 8 → (now later : Views) → now ≡ views → later ≡ views'' → count ≡ length held.holding.kept.entries → t' ≡ adds t (opening_text count mended)
@@ -325,19 +309,19 @@ whole_session words index names games script views seen seen' seen'' views'' wan
     (subst P (wrote ∙ ap (adds t) (count_of wanted.create wanted.strict wanted.desk index names games held seen' mended count o same)) (subst (λ (v : Views). RanAll (desk_begin wanted.desk (is_created wanted.create index names games) (slots_by views) o.base) script t' t'' input'.left (around seen'' views none_told v)) left_there (ran (desk_begin wanted.desk (is_created wanted.create index names games) (slots_by views) o.base) views none_told script (subst (λ (v : Views). Lives held (around seen' views none_told v) (desk_begin wanted.desk (is_created wanted.create index names games) (slots_by views) o.base)) (sym lent) (lives_first held seen' views wanted.desk (is_created wanted.create index names games) o.base few (o.stands (slots_by views) (show_none views)))) left)))
 
 -- The run of the script stopped.
-pub part_session : (words : List (List ℕ)) (index names games script : List ℕ) (views : Views) (seen seen' seen'' : Seen) (views'' : Views) (wanted : Wanted) (held : DeskHolding) (mended count : ℕ) (t t' t'' : Option (List ℕ)) (input input' : Inlet) (status : Status)
+pub part_session : (words : List (List ℕ)) (index names games script : List ℕ) (views : Views) (seen seen' seen'' : Seen) (views'' : Views) (wanted : Wanted (List ℕ)) (held : DeskHolding) (mended count : ℕ) (t t' t'' : Option (List ℕ)) (input input' : Inlet) (status : Status)
     → words_read words ≡ Some wanted
     → IfTold seen (λ index names games. Opening wanted.create wanted.strict wanted.desk index names games held seen' mended)
     → length views ≤ 8 → (now later : Views) → now ≡ views → later ≡ views'' → count ≡ length held.holding.kept.entries → t' ≡ adds t (opening_text count mended)
-    → ((d : Desk) (first : Views) (most : ℕ → ℕ) (script : List ℕ) → Lives held (around seen' first most now) d → input.left ≡ Some script → RanPart status d script t' t'' input'.left (around seen'' first most later))
+    → ((d : Desk) (first : Views) (most : ℕ → ℕ) (script : List ℕ) → Lives held (around seen' first most now) d → input.left ≡ Some script → RanPart status d script t' t'' input'.left (around seen'' first most later)) → Interrupts status
     → seen.index ≡ Some index → seen.names ≡ Some names → seen.games ≡ Some games → input.left ≡ Some script
     → Answers (given words index names games script views) t t'' input input' (around seen'' views none_told views'') status
-part_session words index names games script views seen seen' seen'' views'' wanted held mended count t t' t'' input input' status said opens few now later lent left_there same wrote ran i n g left =
+part_session words index names games script views seen seen' seen'' views'' wanted held mended count t t' t'' input input' status said opens few now later lent left_there same wrote ran stops i n g left =
     let o : Opening wanted.create wanted.strict wanted.desk index names games held seen' mended =
     told seen (λ index names games. Opening wanted.create wanted.strict wanted.desk index names games held seen' mended) index names games opens i n g in
     let P : Option (List ℕ) → Type 0 = λ x. RanPart status (desk_begin wanted.desk (is_created wanted.create index names games) (slots_by views) o.base) script x t'' input'.left (around seen'' views none_told views'') in
     part_answers (given words index names games script views) t t'' input input' (around seen'' views none_told views'') status (opened words index names games script views seen' wanted held mended said o)
-    (subst P (wrote ∙ ap (adds t) (count_of wanted.create wanted.strict wanted.desk index names games held seen' mended count o same)) (subst (λ (v : Views). RanPart status (desk_begin wanted.desk (is_created wanted.create index names games) (slots_by views) o.base) script t' t'' input'.left (around seen'' views none_told v)) left_there (ran (desk_begin wanted.desk (is_created wanted.create index names games) (slots_by views) o.base) views none_told script (subst (λ (v : Views). Lives held (around seen' views none_told v) (desk_begin wanted.desk (is_created wanted.create index names games) (slots_by views) o.base)) (sym lent) (lives_first held seen' views wanted.desk (is_created wanted.create index names games) o.base few (o.stands (slots_by views) (show_none views)))) left)))
+    (subst P (wrote ∙ ap (adds t) (count_of wanted.create wanted.strict wanted.desk index names games held seen' mended count o same)) (subst (λ (v : Views). RanPart status (desk_begin wanted.desk (is_created wanted.create index names games) (slots_by views) o.base) script t' t'' input'.left (around seen'' views none_told v)) left_there (ran (desk_begin wanted.desk (is_created wanted.create index names games) (slots_by views) o.base) views none_told script (subst (λ (v : Views). Lives held (around seen' views none_told v) (desk_begin wanted.desk (is_created wanted.create index names games) (slots_by views) o.base)) (sym lent) (lives_first held seen' views wanted.desk (is_created wanted.create index names games) o.base few (o.stands (slots_by views) (show_none views)))) left))) stops
 
 -- The opening line stands in what was written where nothing that was written is lost.
 pub opened_by : (t t' t'' : Option (List ℕ)) (games mended : ℕ) → t' ≡ adds t (opening_text games mended) → NoneLost t' t'' → (n m : ℕ) × Grew (adds t (opening_text n m)) t''

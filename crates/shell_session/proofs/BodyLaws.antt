@@ -59,14 +59,14 @@ use Rattle.shell_state.specs.declared.halt.Halt.{Halt}
 use Rattle.shell_state.specs.declared.halt.Halt.TheVariants as halt
 use Rattle.view_commands.specs.declared.window.Window.{Window}
 use Rattle.shell_session.specs.Running.{BehindDone, BodyDone, Finished, GoneOn, Halts, Interrupted, Interrupts, Kept, LastDid, LastDone, LastHalts, Stops, WentOn, WentOut, added, behind_at, last_tasks, said_on, whole_on}
-use Rattle.shell_session.specs.Around.{Around, Lives, Remains, none_told, told_all, told_more}
-use Rattle.shell_session.specs.Session.{Breaks, WhyStatus, price_all}
+use Rattle.shell_session.specs.Around.{Around, Lives, price_all, told_all, told_more}
+use Rattle.shell_session.specs.Session.{Breaks, WhyStatus}
 use Rattle.shell_session.specs.Stops.{status_in_body, status_of_reading}
 use Rattle.shell_session.specs.declared.status.Status.{Status}
 use Rattle.shell_session.specs.declared.status.Status.TheVariants.{FilesFault, InputTooLong, Memory, ReadFault, WriteFault}
-use Rattle.shell_session.proofs.DeskLaws.{carries_later, done_so, effect_so}
+use Rattle.shell_session.proofs.DeskLaws.{Remains, breaks_by, carries_later, done_so, effect_so}
 use Rattle.shell_session.proofs.PriceLaws.{price_both, price_front}
-use Rattle.shell_session.proofs.ViewLaws.{lives_more, lives_since}
+use Rattle.shell_session.proofs.ViewLaws.{lives_more, lives_since, none_told}
 use Rattle.shell_session.proofs.RunningLaws.{at_front, at_other, end_did, end_stops, front_stops, line_behind, line_last, remains_of}
 
 -- ---- the lines that have bodies
@@ -473,7 +473,7 @@ halts_stuck : (e : ReadError) (line : Line) (word ahead : List ℕ) (reader : Re
     → p.stuck ≡ Some e → InBody line word ahead reader l b f p l' b' f' → Halted [] (desks.text d (tagged_task line (body_of word true ahead).bytes)) t t' → Remains around' d line → a' ≤ a + line_price d line
     → Halts (status_of_reading e) around' line d ahead reader.used l' t t' a a'
 halts_stuck error.Failed line word ahead reader l b f p l' b' f' d around' t t' a a' is at wrote remains asked =
-    let q = body_cut line word ahead d around' t t' ReadFault at.has (record { wrote = wrote; broken = record { broken = tt; remains = remains; settled = body_settled around'.seen d line (body_of word true ahead).bytes word t t' at.has } }) in
+    let q = body_cut line word ahead d around' t t' ReadFault at.has (record { wrote = wrote; broken = breaks_by _ _ _ _ _ _ tt remains (body_settled around'.seen d line (body_of word true ahead).bytes word t t' at.has) }) in
     let front : List ℕ = take (p.reader.used - reader.used + length p.reader.unread) ahead in
     record {
       stopped = q.0;
@@ -481,7 +481,7 @@ halts_stuck error.Failed line word ahead reader l b f p l' b' f' d around' t t' 
       asks = body_paid line word ahead d a a' at.has asked;
     }
 halts_stuck error.TooLong line word ahead reader l b f p l' b' f' d around' t t' a a' is at wrote remains asked =
-    let q = body_cut line word ahead d around' t t' InputTooLong at.has (record { wrote = wrote; broken = record { broken = tt; remains = remains; settled = body_settled around'.seen d line (body_of word true ahead).bytes word t t' at.has } }) in
+    let q = body_cut line word ahead d around' t t' InputTooLong at.has (record { wrote = wrote; broken = breaks_by _ _ _ _ _ _ tt remains (body_settled around'.seen d line (body_of word true ahead).bytes word t t' at.has) }) in
     let n : ℕ = p.reader.used - reader.used in
     let fits : n ≤ length ahead = count_fits line word ahead reader l b f p l' b' f' at in
     let begins : reader.used ≤ p.reader.used = at.stands.begins in
@@ -516,17 +516,17 @@ body_halts (halt.Device stop.Read) (Some e) line word ahead reader l b f p l' b'
 body_halts (halt.Device stop.Read) None line word ahead reader l b f p l' b' f' d around' t t' a a' x x' r k k' is at wrote broken remains why asked =
     absurd (must_stick word reader l b f p l' b' f' r at.stands is why)
 body_halts (halt.Device stop.Files) stuck line word ahead reader l b f p l' b' f' d around' t t' a a' x x' r k k' is at wrote broken remains why asked = record {
-  stopped = (body_cut line word ahead d around' t t' FilesFault at.has (record { wrote = wrote; broken = record { broken = broken; remains = remains; settled = body_settled around'.seen d line (body_of word true ahead).bytes word t t' at.has } })).0;
+  stopped = (body_cut line word ahead d around' t t' FilesFault at.has (record { wrote = wrote; broken = breaks_by _ _ _ _ _ _ broken remains (body_settled around'.seen d line (body_of word true ahead).bytes word t t' at.has) })).0;
   lines = tt;
   asks = body_paid line word ahead d a a' at.has asked;
 }
 body_halts (halt.Device stop.Write) stuck line word ahead reader l b f p l' b' f' d around' t t' a a' x x' r k k' is at wrote broken remains why asked = record {
-  stopped = (body_cut line word ahead d around' t t' WriteFault at.has (record { wrote = wrote; broken = record { broken = tt; remains = remains; settled = body_settled around'.seen d line (body_of word true ahead).bytes word t t' at.has } })).0;
+  stopped = (body_cut line word ahead d around' t t' WriteFault at.has (record { wrote = wrote; broken = breaks_by _ _ _ _ _ _ tt remains (body_settled around'.seen d line (body_of word true ahead).bytes word t t' at.has) })).0;
   lines = tt;
   asks = body_paid line word ahead d a a' at.has asked;
 }
 body_halts (halt.Device stop.Memory) stuck line word ahead reader l b f p l' b' f' d around' t t' a a' x x' r k k' is at wrote broken remains why asked = record {
-  stopped = (body_cut line word ahead d around' t t' Memory at.has (record { wrote = wrote; broken = record { broken = tt; remains = remains; settled = body_settled around'.seen d line (body_of word true ahead).bytes word t t' at.has } })).0;
+  stopped = (body_cut line word ahead d around' t t' Memory at.has (record { wrote = wrote; broken = breaks_by _ _ _ _ _ _ tt remains (body_settled around'.seen d line (body_of word true ahead).bytes word t t' at.has) })).0;
   lines = tt;
   asks = body_paid line word ahead d a a' at.has asked;
 }
@@ -538,7 +538,7 @@ pub body_short : (line : Line) (word ahead : List ℕ) (held : DeskHolding) (aro
 body_short line word ahead held around d used l t a is stands = record {
   stopped =
       (body_cut line word ahead d around t t Memory is
-      (record { wrote = halted_none (desks.text d (tagged_task line (body_of word true ahead).bytes)) t; broken = record { broken = tt; remains = remains_of held around none_told d line (lives_since held around none_told d stands); settled = body_settled around.seen d line (body_of word true ahead).bytes word t t is } })).0;
+      (record { wrote = halted_none (desks.text d (tagged_task line (body_of word true ahead).bytes)) t; broken = breaks_by _ _ _ _ _ _ tt (remains_of held around none_told d line (lives_since held around none_told d stands)) (body_settled around.seen d line (body_of word true ahead).bytes word t t is) })).0;
   lines = tt;
   asks = omega arith;
 }

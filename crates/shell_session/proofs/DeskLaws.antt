@@ -6,7 +6,8 @@ use Rattle.base_files.specs.Seen.{Seen}
 use Rattle.command_runs.specs.Plain.{after_all}
 use Rattle.desk_commands.specs.Desk.{Desk, desk_by, desk_done, desks, seen_by}
 use Rattle.desk_commands.specs.Standing.{DeskHolding, DeskStands, SettledLine, effective, line_left, with_seat}
-use Rattle.script_lines.specs.Clients.{Clients, Tagged, has_ended}
+use Rattle.script_lines.specs.Clients.{Clients, Tagged, has_ended, said}
+use Rattle.script_lines.specs.declared.line.Line.{Line}
 use Rattle.script_text.specs.Tasks.{Order, Task, body_word}
 use Rattle.script_text.specs.declared.command.Command.TheVariants.{Nothing}
 use Rattle.shell_commands.proofs.TaskLaws.{alone}
@@ -14,7 +15,22 @@ use Rattle.shell_commands.specs.Tasks.{order_work}
 use Rattle.shell_state.proofs.CarryLaws.{carry_later, carry_of, left_of}
 use Rattle.shell_state.specs.Carrying.{AreLeft, Settled, StillCarry}
 use Rattle.view_commands.specs.Views.{all_slots}
-use Rattle.shell_session.specs.Around.{its_line}
+use Rattle.shell_session.specs.Around.{AreLeftBy, Around}
+use Rattle.shell_session.specs.Session.{Breaks, BrokenBy}
+use Rattle.shell_session.specs.declared.status.Status.{Status}
+
+-- The line of a task.
+abbrev pub its_line : Tagged → Line
+its_line t = said t.client t.task.order
+
+-- What remains behind a line that was broken off: the files carry what they carried, or what the line leaves, and the views of idle slots.
+pub record Remains (around : Around) (d : Desk) (line : Line) : Type 0 where
+  pub carries : StillCarry around.seen (seen_by d 0) (line_left d line)
+  pub views : AreLeftBy around d line
+
+abbrev pub breaks_by : (status : Status) (around' : Around) (t' : Option (List ℕ)) (d : Desk) (next : Tagged) (t : Option (List ℕ)) → BrokenBy status d next → Remains around' d (its_line next) → SettledLine around'.seen d next t t'
+    → Breaks status around' t' d next t
+breaks_by status around' t' d next t broken remains settled = record { broken = broken; carries = remains.carries; settled = settled; views = remains.views }
 
 -- A line leaves the kind of the lines.
 pub same_kind : (d : Desk) (done : List Tagged) → (after_all desks d done).clients.tagged ≡ d.clients.tagged

@@ -20,7 +20,7 @@ use Rattle.shell_state.specs.Slots.Slot.{empty, idle, shows}
 use Rattle.shell_state.specs.State.{State}
 use Rattle.view_commands.specs.Views.{left, own_slot, showing}
 use Rattle.view_commands.specs.declared.window.Window.{Window}
-use Rattle.shell_session.specs.Around.{its_line}
+use Rattle.shell_session.proofs.DeskLaws.{its_line}
 
 -- ---- a slot that is set
 

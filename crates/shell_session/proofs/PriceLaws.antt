@@ -8,12 +8,13 @@ use Rattle.desk_commands.specs.Standing.{DeskHolding, line_price}
 use Rattle.script_lines.specs.Clients.{Tagged, tagged_task}
 use Rattle.script_lines.specs.Script.{script_of}
 use Rattle.script_lines.specs.declared.line.Line.{Line}
-use Rattle.shell_session.specs.Around.{Lives, Views, around, its_line, none_told, slots_by}
+use Rattle.shell_session.specs.Around.{Lives, Views, around, price_all, slots_by}
 use Rattle.shell_session.specs.Running.{Opening}
-use Rattle.shell_session.specs.Session.{Asks, Given, given, price_all}
+use Rattle.shell_session.specs.Session.{Asks, Given, given}
 use Rattle.shell_session.specs.Words.{Wanted, words_read}
 use Rattle.shell_session.proofs.AnswerLaws.{opened, told}
-use Rattle.shell_session.proofs.ViewLaws.{lives_first, show_none}
+use Rattle.shell_session.proofs.DeskLaws.{its_line}
+use Rattle.shell_session.proofs.ViewLaws.{lives_first, none_told, show_none}
 
 -- Some tasks, and then others.
 pub price_all-append : (d : Desk) (xs ys : List Tagged) → price_all d (xs ++ ys) ≡ price_all d xs + price_all (after_all desks d xs) ys
@@ -59,7 +60,7 @@ price_both d all more last a a' a'' is first second =
 pub asks_opening : (g : Given) (a a' : ℕ) (o : Option (List ℕ)) → o ≡ Some g.index → IfSome o (λ index. a' ≤ a + open_cost index) → Asks g a a'
 asks_opening g a a' o is known = let P : Option (List ℕ) → Type 0 = λ x. IfSome x (λ index. a' ≤ a + open_cost index) in inl (subst P is known)
 
-pub asks_script : (words : List (List ℕ)) (index names games script : List ℕ) (views : Views) (seen seen' : Seen) (wanted : Wanted) (held : DeskHolding) (mended : ℕ) (left : Option (List ℕ)) (a a' a'' : ℕ)
+pub asks_script : (words : List (List ℕ)) (index names games script : List ℕ) (views : Views) (seen seen' : Seen) (wanted : Wanted (List ℕ)) (held : DeskHolding) (mended : ℕ) (left : Option (List ℕ)) (a a' a'' : ℕ)
     → words_read words ≡ Some wanted
     → IfTold seen (λ index names games. Opening wanted.create wanted.strict wanted.desk index names games held seen' mended)
     → length views ≤ 8 → (now : Views) → now ≡ views → IfSome seen.index (λ index. a' ≤ a + open_cost index)

@@ -34,18 +34,18 @@ use Rattle.shell_state.specs.declared.halt.Halt.{Halt}
 use Rattle.shell_state.specs.declared.halt.Halt.TheVariants as halt
 use Rattle.shell_session.specs.Running.{BehindDone, Finished, Halts, InLine, Interrupted, Interrupts, LastDid, LastDone, LastHalts, Ran, Stops, WentOn, added, joined, last_tasks, said_on}
 use Rattle.desk_commands.specs.Views.{line_told}
-use Rattle.shell_session.specs.Around.{Around, Lives, Remains, its_line, told_all, told_more}
-use Rattle.shell_session.specs.Session.{Breaks, LinesDone, RanAll, RanPart, WhyStatus, price_all}
+use Rattle.shell_session.specs.Around.{Around, Lives, price_all, told_all, told_more}
+use Rattle.shell_session.specs.Session.{Breaks, LinesDone, RanAll, RanPart, WhyStatus}
 use Rattle.shell_session.specs.Stops.{status_of_halt, status_of_reading}
 use Rattle.shell_session.specs.declared.status.Status.{Status}
 use Rattle.shell_session.specs.declared.status.Status.TheVariants.{InputTooLong, Memory, ReadFault}
-use Rattle.shell_session.proofs.DeskLaws.{alone_line, desk_carries, left_desk, same_kind, unsettled_line}
+use Rattle.shell_session.proofs.DeskLaws.{Remains, alone_line, breaks_by, desk_carries, its_line, left_desk, same_kind, unsettled_line}
 use Rattle.shell_session.proofs.PriceLaws.{paid_all, paid_one}
 use Rattle.shell_session.proofs.ViewLaws.{lives_more, lives_since, lives_twice, told_all-append, told_one}
 
 -- What remains does not ask how many changes were told.
 abbrev pub breaks_so : (status : Status) (around : Around) (more : ℕ → ℕ) (t t' : Option (List ℕ)) (d : Desk) (next : Tagged) → Breaks status (told_more around more) t' d next t → Breaks status around t' d next t
-breaks_so status around more t t' d next breaks = record { broken = breaks.broken; remains = record { carries = breaks.remains.carries; views = breaks.remains.views }; settled = breaks.settled }
+breaks_so status around more t t' d next breaks = record { broken = breaks.broken; carries = breaks.carries; settled = breaks.settled; views = breaks.views }
 
 abbrev pub stopped_so : (status : Status) (around : Around) (more : ℕ → ℕ) (d : Desk) (left : List Tagged) (t t' : Option (List ℕ)) → Stopped desks (Breaks status (told_more around more) t') d left t t'
     → Stopped desks (Breaks status around t') d left t t'
@@ -492,7 +492,7 @@ ran_failed d bytes t₀ held around reader reader' l l' t a₀ a ran took none =
       left = some.1;
       all = ap (λ (x : Script). x.tasks) says ∙ ap (λ ts. ran.done ++ ts) some.2;
       wrote = unwritten d ran.done some.0 t₀ t ran.written;
-      broken = record { broken = tt; remains = remains_of held around _ (after_all desks d ran.done) (its_line some.0) ran.stands; settled = unsettled around.seen d ran.done some.0 t₀ t ran.written };
+      broken = breaks_by _ _ _ _ _ _ tt (remains_of held around _ (after_all desks d ran.done) (its_line some.0) ran.stands) (unsettled around.seen d ran.done some.0 t₀ t ran.written);
       lines = (
         ran.front ++ took.front,
         read ∙ ap (λ u. before (ran.front ++ took.front) (before u l')) none ∙ ap (before (ran.front ++ took.front)) (before-nil l'),
@@ -528,7 +528,7 @@ ran_too_long d bytes t₀ held around reader reader' l l' t a₀ a ran took full
       left = some.1;
       all = ap (λ (x : Script). x.tasks) says ∙ ap (λ ts. ran.done ++ ts) some.2;
       wrote = unwritten d ran.done some.0 t₀ t ran.written;
-      broken = record { broken = tt; remains = remains_of held around _ (after_all desks d ran.done) (its_line some.0) ran.stands; settled = unsettled around.seen d ran.done some.0 t₀ t ran.written };
+      broken = breaks_by _ _ _ _ _ _ tt (remains_of held around _ (after_all desks d ran.done) (its_line some.0) ran.stands) (unsettled around.seen d ran.done some.0 t₀ t ran.written);
       lines = (
         omega (arith, size, bigger, n, exact),
         sym (lines_taken d.clients.tagged (after_all desks d ran.done).clients ran.done ran.front took.front reader'.line ran.says took.feeds) ∙ ap (whole_lines d.clients.tagged) (sym within),
@@ -551,7 +551,7 @@ ran_short d bytes t₀ held around reader l l' t a₀ a ran =
       left = some.1;
       all = ap (λ (x : Script). x.tasks) says ∙ ap (λ ts. ran.done ++ ts) some.2;
       wrote = unwritten d ran.done some.0 t₀ t ran.written;
-      broken = record { broken = tt; remains = remains_of held around _ (after_all desks d ran.done) (its_line some.0) ran.stands; settled = unsettled around.seen d ran.done some.0 t₀ t ran.written };
+      broken = breaks_by _ _ _ _ _ _ tt (remains_of held around _ (after_all desks d ran.done) (its_line some.0) ran.stands) (unsettled around.seen d ran.done some.0 t₀ t ran.written);
       lines = tt;
     }
 
@@ -578,9 +578,9 @@ paid_done d bytes t₀ held around reader l t a₀ a ran =
 -- A line without a body that was broken off.
 pub interrupted : (halt : Halt) (around' : Around) (d : Desk) (next : Tagged) (t t' : Option (List ℕ)) → body_word next.task.order ≡ None → Cut (BrokenLine d next halt) (desks.text d next) t t' → Remains around' d (its_line next)
     → SettledLine around'.seen d next t t' → Interrupted (status_of_halt halt) around' d next t t'
-interrupted (halt.Device stop.Files) around' d next t t' none broken_off remains settled = record { cut = record { wrote = broken_off.wrote; broken = record { broken = broken_off.broken; remains = remains; settled = settled } }; in_line = tt }
-interrupted (halt.Device stop.Write) around' d next t t' none broken_off remains settled = record { cut = record { wrote = broken_off.wrote; broken = record { broken = tt; remains = remains; settled = settled } }; in_line = tt }
-interrupted (halt.Device stop.Memory) around' d next t t' none broken_off remains settled = record { cut = record { wrote = broken_off.wrote; broken = record { broken = tt; remains = remains; settled = settled } }; in_line = tt }
+interrupted (halt.Device stop.Files) around' d next t t' none broken_off remains settled = record { cut = record { wrote = broken_off.wrote; broken = breaks_by _ _ _ _ _ _ broken_off.broken remains settled }; in_line = tt }
+interrupted (halt.Device stop.Write) around' d next t t' none broken_off remains settled = record { cut = record { wrote = broken_off.wrote; broken = breaks_by _ _ _ _ _ _ tt remains settled }; in_line = tt }
+interrupted (halt.Device stop.Memory) around' d next t t' none broken_off remains settled = record { cut = record { wrote = broken_off.wrote; broken = breaks_by _ _ _ _ _ _ tt remains settled }; in_line = tt }
 interrupted (halt.Device stop.Read) around' d next t t' none broken_off remains settled =
     let e : false ≡ true = sym (alone_line d next none) ∙ broken_off.broken in cc
 interrupted (halt.Changed game kept found) around' d next t t' none broken_off remains settled = absurd broken_off.broken

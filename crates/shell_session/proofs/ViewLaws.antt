@@ -2,7 +2,7 @@
 use Rattle.std.proofs.Common.{◌≡◌, ◌≤◌, ◌+◌, ℕ, zero, suc, Bool, false, List, Option, Some, None, Result, Ok, Err, [], ◌∷◌, ◌++◌, length, map, option_map, replicate, arith, ap₂, refl, sym, subst, ap, ◌∙◌}
 use Rattle.std.proofs.lemmas.List.{get_or_past, length-map}
 use Rattle.std.specs.List.{range_with_len}
-use Rattle.std.specs.Prelude.{IfErr, OnOk}
+use Rattle.std.specs.Prelude.{IfErr, OnOk, if◌then◌else◌, is_some}
 use Rattle.base_core.specs.Base.{Base, Held}
 use Rattle.base_files.specs.Seen.{Seen}
 use Rattle.command_runs.specs.Endings.{Done, Serves}
@@ -20,8 +20,9 @@ use Rattle.shell_state.specs.declared.halt.Halt.{Halt}
 use Rattle.tree_live.specs.Slots.{in_slot}
 use Rattle.tree_rows.specs.declared.row.Row.{Row}
 use Rattle.view_commands.specs.Views.{AreLeft, IsRight, IsToldAtMost}
+use Rattle.shell_session.proofs.DeskLaws.{its_line}
 use Rattle.shell_session.proofs.IdleLaws.{idle_before}
-use Rattle.shell_session.specs.Around.{AreLeftBy, Around, Lives, Meaning, Views, around, its_line, meanings, none_told, slot_by, slots_by, told_all, told_by, told_more}
+use Rattle.shell_session.specs.Around.{AreLeftBy, Around, Lives, Meaning, Views, around, meanings, slots_by, told_all, told_by, told_more}
 
 -- ---- views and what they mean
 
@@ -140,6 +141,13 @@ pub told_one : (d : Desk) (done : List Tagged) (next : Tagged) (k : ℕ) → tol
 told_one d done next k = omega (arith, told_all-append d done (next ∷ []) k)
 
 -- ---- the beginning
+
+-- No change was told yet.
+abbrev pub none_told : ℕ → ℕ
+none_told k = 0
+
+abbrev slot_by : Option Meaning → Slot
+slot_by view = if is_some view then idle else empty
 
 -- No slot shows a tree then.
 slot_none : (games : List Held) (view : Option Meaning) → table_of games (slot_by view) ≡ None

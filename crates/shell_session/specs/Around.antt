@@ -1,14 +1,14 @@
 -- What stands around the desk of a session: what the files tell, and the views of the slots, at its beginning and now, with how many changes
 -- each was told since then at most. This project's own.
-use Rattle.std.specs.Prelude.{◌≡◌, ◌≤◌, ◌+◌, ℕ, false, List, [], ◌∷◌, Option, Some, None, map, option_map}
+use Rattle.std.specs.Prelude.{◌≡◌, ◌≤◌, ◌+◌, ℕ, false, if◌then◌else◌, List, [], ◌∷◌, Option, is_some, map, option_map}
 use Rattle.std.specs.List.{range_with_len}
+use Rattle.std.specs.Option.{option_map_or}
 use Rattle.base_files.specs.Seen.{Seen}
-use Rattle.desk_commands.specs.Desk.{Desk, desks, seen_by}
-use Rattle.desk_commands.specs.Standing.{DeskHolding, DeskStands, line_left}
+use Rattle.desk_commands.specs.Desk.{Desk, desks}
+use Rattle.desk_commands.specs.Standing.{DeskHolding, DeskStands, line_price}
 use Rattle.desk_commands.specs.Views.{AllRight, line_told, line_watches}
 use Rattle.script_lines.specs.Clients.{Tagged, said}
 use Rattle.script_lines.specs.declared.line.Line.{Line}
-use Rattle.shell_state.specs.Carrying.{StillCarry}
 use Rattle.shell_state.specs.Slots.{Slot, slot_at}
 use Rattle.shell_state.specs.Slots.Slot.{empty, idle}
 use Rattle.tree_live.specs.Slots.{in_slot}
@@ -26,12 +26,8 @@ abbrev pub meanings : {B : Type 0} → (B → List Row) → (B → ℕ) → List
 meanings rows told views = map (option_map (λ view. record { rows = rows view; told = told view })) views
 
 -- The slots over some views: one is idle where a view stands, and empty else.
-abbrev pub slot_by : Option Meaning → Slot
-slot_by None = empty
-slot_by (Some view) = idle
-
 abbrev pub slots_by : Views → List Slot
-slots_by views = map (λ k. slot_by (in_slot views k)) (range_with_len 0 8)
+slots_by views = map (λ k. if is_some (in_slot views k) then idle else empty) (range_with_len 0 8)
 
 pub record Around : Type 0 where
   pub seen : Seen
@@ -39,25 +35,14 @@ pub record Around : Type 0 where
   pub most : ℕ → ℕ
   pub now : Views
 
-abbrev pub around : Seen → Views → (ℕ → ℕ) → Views → Around
-around seen first most now = record { seen = seen; first = first; most = most; now = now }
-
--- No change was told yet; and so many more.
-abbrev pub none_told : ℕ → ℕ
-none_told k = 0
-
-abbrev pub told_more : Around → (ℕ → ℕ) → Around
-told_more around more = record around { most = λ k. around.most k + more k }
-
 -- How many changes a view was told that stands in a slot.
 abbrev pub told_by : Option Meaning → ℕ
-told_by None = 0
-told_by (Some view) = view.told
+told_by view = option_map_or (λ (view : Meaning). view.told) view 0
 
--- How many changes some tasks tell the view of a slot at most, one after the other.
-abbrev pub told_all : Desk → List Tagged → ℕ → ℕ
-told_all d [] k = 0
-told_all d (next ∷ later) k = line_told d next k + told_all (desks.after d next) later k
+-- What some tasks come to at a desk, one after the other, by what each of them comes to.
+abbrev pub summed : (Desk → Tagged → ℕ) → Desk → List Tagged → ℕ
+summed of_one d [] = 0
+summed of_one d (next ∷ later) = of_one d next + summed of_one (desks.after d next) later
 
 -- The views beside a desk: each is right, one whose slot is idle is as it was at the beginning, and each was told no more changes.
 pub record AreBeside (around : Around) (d : Desk) : Type 0 where
@@ -65,20 +50,27 @@ pub record AreBeside (around : Around) (d : Desk) : Type 0 where
   pub idle : (k : ℕ) → slot_at d.slots k ≡ idle → in_slot around.now k ≡ in_slot around.first k
   pub told : (k : ℕ) → told_by (in_slot around.now k) ≤ told_by (in_slot around.first k) + around.most k
 
+-- ---- what only private functions cite
+
 -- The machine stands for a desk, with such views.
 pub record Lives (held : DeskHolding) (around : Around) (d : Desk) : Type 0 where
   pub stands : DeskStands held around.seen d
   pub views : AreBeside around d
 
+abbrev pub around : Seen → Views → (ℕ → ℕ) → Views → Around
+around seen first most now = record { seen = seen; first = first; most = most; now = now }
+
+-- So many changes more were told.
+abbrev pub told_more : Around → (ℕ → ℕ) → Around
+told_more around more = record around { most = λ k. around.most k + more k }
+
+-- How many changes some tasks tell the view of a slot at most, and what their lines ask at most.
+abbrev pub told_all : Desk → List Tagged → ℕ → ℕ
+told_all d tasks k = summed (λ d next. line_told d next k) d tasks
+
+abbrev pub price_all : Desk → List Tagged → ℕ
+price_all d tasks = summed (λ d next. line_price d (said next.client next.task.order)) d tasks
+
 -- Behind a line that was broken off, the views of idle slots that it does not watch are as they were at the beginning.
 abbrev pub AreLeftBy : Around → Desk → Line → Type 0
 AreLeftBy around d line = (k : ℕ) → slot_at d.slots k ≡ idle → line_watches d line k ≡ false → in_slot around.now k ≡ in_slot around.first k
-
--- What remains then: the files carry what they carried, or what the line leaves, and such views.
-pub record Remains (around : Around) (d : Desk) (line : Line) : Type 0 where
-  pub carries : StillCarry around.seen (seen_by d 0) (line_left d line)
-  pub views : AreLeftBy around d line
-
--- The line of a task.
-abbrev pub its_line : Tagged → Line
-its_line t = said t.client t.task.order

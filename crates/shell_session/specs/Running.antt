@@ -23,8 +23,8 @@ use Rattle.script_lines.specs.declared.place.At.TheVariants.{Behind}
 use Rattle.script_text.specs.declared.command.Command.TheVariants.{Quit}
 use Rattle.shell_state.specs.Slots.{Slot}
 use Rattle.shell_state.specs.Stands.{ShowNone}
-use Rattle.shell_session.specs.Around.{Around, Lives, told_all, told_more}
-use Rattle.shell_session.specs.Session.{Breaks, WhyStatus, price_all}
+use Rattle.shell_session.specs.Around.{Around, Lives, price_all, told_all, told_more}
+use Rattle.shell_session.specs.Session.{Breaks, WhyStatus}
 use Rattle.shell_session.specs.declared.status.Status.{Status}
 use Rattle.shell_session.specs.declared.status.Status.TheVariants.{BadBase, ReadFault, WriteFault, FilesFault, Changed, InputTooLong, Memory}
 

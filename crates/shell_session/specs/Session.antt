@@ -1,8 +1,7 @@
 -- What a session answers, of what it was given, in terms of plain values. This project's own.
-use Rattle.std.specs.Prelude.{◌≡◌, ◌≤◌, ◌<◌, ℕ, ◌+◌, ◌⊎◌, ⊤, Bool, IsTrue, List, [], ◌∷◌, ◌++◌, length, take, Option, Some, None, codes}
+use Rattle.std.specs.Prelude.{◌≡◌, ◌≤◌, ◌<◌, ℕ, ◌+◌, ◌⊎◌, ⊤, Bool, IfSome, IsSomeAnd, IsTrue, List, [], ◌∷◌, ◌++◌, length, take, Option, Some, None, codes, false}
 use Rattle.std.specs.Fmt.{decimal}
 use Rattle.base_files.specs.Chosen.{Choice, choice}
-use Rattle.base_files.specs.Seen.{Seen}
 use Rattle.base_files.specs.Counters.{Rose}
 use Rattle.base_files.specs.Told.{adds, before}
 use Rattle.base_core.specs.Base.{Base}
@@ -12,14 +11,18 @@ use Rattle.base_core.specs.declared.fault.BaseFault.{BaseFault}
 use Rattle.command_runs.specs.Counts.{Counts}
 use Rattle.command_runs.specs.Endings.{Halted}
 use Rattle.command_runs.specs.Plain.{after_all, run}
-use Rattle.desk_commands.specs.Desk.{Desk, desk_begin, desks}
-use Rattle.desk_commands.specs.Standing.{SettledLine, effective, line_price}
-use Rattle.script_lines.specs.Clients.{Tagged}
+use Rattle.desk_commands.specs.Desk.{Desk, desk_begin, desks, seen_by}
+use Rattle.desk_commands.specs.Standing.{effective, line_left, line_price}
+use Rattle.desk_commands.specs.Views.{line_told, line_watches}
+use Rattle.script_lines.specs.Clients.{Tagged, said}
 use Rattle.script_lines.specs.Script.{longest_script, script_len, script_of, whole_lines}
 use Rattle.shell_commands.specs.Tasks.{order_work}
-use Rattle.shell_state.specs.Carrying.{AreLeft}
+use Rattle.shell_state.specs.Carrying.{AreLeft, Settled, StillCarry}
+use Rattle.shell_state.specs.Slots.{slot_at}
+use Rattle.shell_state.specs.Slots.Slot.{idle}
+use Rattle.tree_live.specs.Slots.{in_slot}
 use Rattle.view_commands.specs.Views.{all_slots}
-use Rattle.shell_session.specs.Around.{Around, AreBeside, Remains, Views, its_line, slots_by, told_all, told_more}
+use Rattle.shell_session.specs.Around.{Around, AreBeside, Views, slots_by, summed}
 use Rattle.shell_session.specs.Words.{Wanted, words_read}
 use Rattle.shell_session.specs.declared.status.Status.{Status}
 use Rattle.shell_session.specs.declared.status.Status.TheVariants.{Done, Usage, BadBase, ReadFault, WriteFault, FilesFault, Changed, InputTooLong, Memory}
@@ -36,20 +39,11 @@ pub record Given : Type 0 where
 abbrev pub given : List (List ℕ) → List ℕ → List ℕ → List ℕ → List ℕ → Views → Given
 given words index names games script views = record { words = words; index = index; names = names; games = games; script = script; views = views }
 
--- The contents of the files are those that were given.
-pub record AreGiven (given : Given) (seen : Seen) : Type 0 where
-  pub index : seen.index ≡ Some given.index
-  pub names : seen.names ≡ Some given.names
-  pub games : seen.games ≡ Some given.games
-
 -- What an input shows: the bytes left where it tells them, its budget, and its faults.
 pub record Inlet : Type 0 where
   pub left : Option (List ℕ)
   pub budget : ℕ
   pub faults : ℕ
-
-abbrev pub inlet : Option (List ℕ) → ℕ → ℕ → Inlet
-inlet left budget faults = record { left = left; budget = budget; faults = faults }
 
 -- ---- opening
 
@@ -57,7 +51,7 @@ inlet left budget faults = record { left = left; budget = budget; faults = fault
 pub record Opened (given : Given) : Type 0 where
   pub base : Base
   pub mended : ℕ
-  pub wanted : Wanted
+  pub wanted : Wanted (List ℕ)
   pub words : words_read given.words ≡ Some wanted
   pub means : OpensAs wanted.create given.index given.names given.games base
   pub mends : Mended given.index base.games mended
@@ -68,20 +62,13 @@ abbrev pub begun : (given : Given) → Opened given → Desk
 begun given opened = desk_begin opened.wanted.desk (is_created opened.wanted.create given.index given.names given.games) (slots_by given.views) opened.base
 
 -- The words name a base whose files have this first fault.
-pub record Faulty (given : Given) (fault : BaseFault) : Type 0 where
-  pub wanted : Wanted
-  pub words : words_read given.words ≡ Some wanted
-  pub first : Refuses wanted.create wanted.strict given.index given.names given.games fault
+abbrev pub Faulty : Given → BaseFault → Type 0
+Faulty given fault =
+    IsSomeAnd (words_read given.words) (λ wanted. Refuses wanted.create wanted.strict given.index given.names given.games fault)
 
 -- `base G games M mended`
-abbrev pub opening_words : ℕ → ℕ → List ℕ
-opening_words games mended = codes "base " ++ decimal games ++ codes " games " ++ decimal mended
-
 abbrev pub opening_text : ℕ → ℕ → List ℕ
-opening_text games mended = opening_words games mended ++ codes " mended\n"
-
-abbrev pub opening_line : Base → ℕ → List ℕ
-opening_line base mended = opening_text (length base.games) mended
+opening_text games mended = codes "base " ++ decimal games ++ codes " games " ++ decimal mended ++ codes " mended\n"
 
 -- ---- the run of the script
 
@@ -97,23 +84,26 @@ pub record RanAll (d : Desk) (script : List ℕ) (told : Option (List ℕ)) (tol
   pub enough : script_len d.clients.tagged script ≤ length front
   pub no_further : length front ≤ script_len d.clients.tagged script + 32768
   pub files : AreLeft around'.seen (after_all desks d (script_of d.clients.tagged script)).shared.carried (after_all desks d (script_of d.clients.tagged script)).shared.unsaved
-  pub views : AreBeside (told_more around' (told_all d (script_of d.clients.tagged script))) (after_all desks d (script_of d.clients.tagged script))
+  pub views :
+      AreBeside (record around' { most = λ k. around'.most k + summed (λ d next. line_told d next k) d (script_of d.clients.tagged script) })
+      (after_all desks d (script_of d.clients.tagged script))
 
--- What is known of the line that a status breaks off: the files fail only at one that uses them, and told files never change.
+-- What is known of the line that a status breaks off: the files fail only at one that uses them, and no told record was changed.
 abbrev pub BrokenBy : Status → Desk → Tagged → Type 0
-BrokenBy ReadFault d next = ⊤
-BrokenBy WriteFault d next = ⊤
 BrokenBy FilesFault d next = IsTrue (order_work all_slots (effective d.clients next.client next.task.order) next.task.body).files
-BrokenBy InputTooLong d next = ⊤
-BrokenBy Memory d next = ⊤
-BrokenBy _ d next = ⊥
+BrokenBy (Changed game kept found) d next = ⊥
+BrokenBy _ d next = ⊤
 
--- The same, with what remains then of the files and the views. Of a line that leaves a base in the place of the files nothing was written
--- behind what was told, or they carry what the desk behind it says.
+-- The same, with what remains then. The files carry what they carried, or what the line leaves in their place; of one that leaves a base
+-- there nothing was written behind what was told, or they carry what the desk behind it says. The views of idle slots that the line does
+-- not watch are as they were at the beginning.
 pub record Breaks (status : Status) (around' : Around) (told' : Option (List ℕ)) (d : Desk) (next : Tagged) (told : Option (List ℕ)) : Type 0 where
   pub broken : BrokenBy status d next
-  pub remains : Remains around' d (its_line next)
-  pub settled : SettledLine around'.seen d next told told'
+  pub carries : StillCarry around'.seen (seen_by d 0) (line_left d (said next.client next.task.order))
+  pub settled :
+      IfSome (line_left d (said next.client next.task.order)) (λ left. Settled around'.seen (seen_by (desks.after d next) 0) told told')
+  pub views : (k : ℕ) → slot_at d.slots k ≡ idle → line_watches d (said next.client next.task.order) k ≡ false
+      → in_slot around'.now k ≡ in_slot around'.first k
 
 -- The lines that are done at a fault of the input are those that were read with their line feed; at a script that is too long those that end
 -- within the limit. Their clients are four at a desk.
@@ -134,42 +124,41 @@ pub record RanPart (status : Status) (d : Desk) (script : List ℕ) (told : Opti
 
 -- ---- the answers
 
--- Nothing was written, nothing was asked of the input, and no file and no view was changed.
-pub record Unbegun (given : Given) (told : Option (List ℕ)) (told' : Option (List ℕ)) (input : Inlet) (input' : Inlet) (around' : Around) : Type 0 where
-  pub unwritten : told' ≡ told
+-- Nothing was asked of the input, the files are those that were given, and no view was changed.
+pub record Unbegun (given : Given) (input : Inlet) (input' : Inlet) (around' : Around) : Type 0 where
   pub unread : input' ≡ input
-  pub files : AreGiven given around'.seen
+  pub index : around'.seen.index ≡ Some given.index
+  pub names : around'.seen.names ≡ Some given.names
+  pub games : around'.seen.games ≡ Some given.games
   pub views : around'.now ≡ around'.first
 
--- The session ended in its opening line, before anything was asked of the input.
+-- The session ended in its opening line.
 pub record OpeningCut (given : Given) (told : Option (List ℕ)) (told' : Option (List ℕ)) (input : Inlet) (input' : Inlet) (around' : Around) : Type 0 where
   pub opened : Opened given
-  pub wrote : Halted [] (opening_line opened.base opened.mended) told told'
-  pub unread : input' ≡ input
-  pub files : AreGiven given around'.seen
-  pub views : around'.now ≡ around'.first
+  pub wrote : Halted [] (opening_text (length opened.base.games) opened.mended) told told'
+  pub unbegun : Unbegun given input input' around'
 
 -- The opening line was written, and the run of the script stopped.
 pub record ScriptCut (status : Status) (given : Given) (told : Option (List ℕ)) (told' : Option (List ℕ)) (later : Option (List ℕ)) (around' : Around) : Type 0 where
   pub opened : Opened given
-  pub ran : RanPart status (begun given opened) given.script (adds told (opening_line opened.base opened.mended)) told' later around'
+  pub ran :
+      RanPart status (begun given opened) given.script (adds told (opening_text (length opened.base.games) opened.mended)) told' later around'
 
--- The whole text was written: the opening line, and then what the plain machine of the desk makes of the script.
-pub record Whole (given : Given) (told : Option (List ℕ)) (told' : Option (List ℕ)) (later : Option (List ℕ)) (around' : Around) : Type 0 where
-  pub opened : Opened given
-  pub ran : RanAll (begun given opened) given.script (adds told (opening_line opened.base opened.mended)) told' later around'
-
--- What each status says of what was given, of what was written, of what was read, of what the files carry, and of the views. Told records never change.
+-- What each status says of what was given, of what was written, of what was read, of what the files carry, and of the views. At the end the
+-- whole text was written: the opening line, and then what the plain machine of the desk makes of the script. Told records never change.
 abbrev pub Answers : Given → Option (List ℕ) → Option (List ℕ) → Inlet → Inlet → Around → Status → Type 0
-Answers given told told' input input' around' Done = Whole given told told' input'.left around'
-Answers given told told' input input' around' Usage = (words_read given.words ≡ None) × Unbegun given told told' input input' around'
-Answers given told told' input input' around' (BadBase fault) = Faulty given fault × Unbegun given told told' input input' around'
-Answers given told told' input input' around' ReadFault = ScriptCut ReadFault given told told' input'.left around'
+Answers given told told' input input' around' Done =
+    (opened : Opened given)
+    × RanAll (begun given opened) given.script (adds told (opening_text (length opened.base.games) opened.mended)) told' input'.left around'
+Answers given told told' input input' around' Usage = (words_read given.words ≡ None) × (told' ≡ told) × Unbegun given input input' around'
+Answers given told told' input input' around' (BadBase fault) = Faulty given fault × (told' ≡ told) × Unbegun given input input' around'
 Answers given told told' input input' around' WriteFault = OpeningCut given told told' input input' around' ⊎ ScriptCut WriteFault given told told' input'.left around'
-Answers given told told' input input' around' FilesFault = Unbegun given told told' input input' around' ⊎ ScriptCut FilesFault given told told' input'.left around'
-Answers given told told' input input' around' (Changed game kept found) = ⊥
-Answers given told told' input input' around' InputTooLong = ScriptCut InputTooLong given told told' input'.left around'
-Answers given told told' input input' around' Memory = Unbegun given told told' input input' around' ⊎ (OpeningCut given told told' input input' around' ⊎ ScriptCut Memory given told told' input'.left around')
+Answers given told told' input input' around' FilesFault =
+    ((told' ≡ told) × Unbegun given input input' around') ⊎ ScriptCut FilesFault given told told' input'.left around'
+Answers given told told' input input' around' Memory =
+    ((told' ≡ told) × Unbegun given input input' around')
+    ⊎ (OpeningCut given told told' input input' around' ⊎ ScriptCut Memory given told told' input'.left around')
+Answers given told told' input input' around' status = ScriptCut status given told told' input'.left around'
 
 -- The status where no device has a fault and memory does not run out.
 abbrev pub Due : Given → Status → Type 0
@@ -181,16 +170,13 @@ Due given _ = ⊥
 
 -- ---- bytes asked of the games file
 
--- What some lines ask at most, one after the other.
-abbrev pub price_all : Desk → List Tagged → ℕ
-price_all d [] = 0
-price_all d (next ∷ later) = line_price d (its_line next) + price_all (desks.after d next) later
-
 -- A session asks at most the records of all games, to open the base, and where it is open what the lines of its script ask.
 abbrev pub Asks : Given → ℕ → ℕ → Type 0
 Asks given old new =
     (new ≤ old + open_cost given.index)
-    ⊎ ((opened : Opened given) × (new ≤ old + (open_cost given.index + price_all (begun given opened) (script_of opened.wanted.desk given.script))))
+    ⊎ ((opened : Opened given) × (new ≤ old + (open_cost given.index
+    + summed (λ d next. line_price d (said next.client next.task.order)) (begun given opened)
+    (script_of opened.wanted.desk given.script))))
 
 -- ---- causes, for every files, input and output
 
@@ -203,10 +189,8 @@ WhyStatus (Changed game kept found) old new = found ≡ Some kept → ⊥
 WhyStatus _ old new = ⊤
 
 -- The base of the words was chosen once, as they say.
-pub record ChoosesBase (words : List (List ℕ)) (old : List Choice) (new : List Choice) : Type 0 where
-  pub wanted : Wanted
-  pub said : words_read words ≡ Some wanted
-  pub chose : new ≡ old ++ choice wanted.name wanted.create ∷ []
+abbrev pub ChoosesBase : List (List ℕ) → List Choice → List Choice → Type 0
+ChoosesBase words old new = IsSomeAnd (words_read words) (λ wanted. new ≡ old ++ choice wanted.name wanted.create ∷ [])
 
 -- Which bases were chosen: none where the words name none, and none or the one where memory ran out.
 abbrev pub Chooses : Status → List (List ℕ) → List Choice → List Choice → Type 0
@@ -214,15 +198,12 @@ Chooses Usage words old new = new ≡ old
 Chooses Memory words old new = (new ≡ old) ⊎ ChoosesBase words old new
 Chooses _ words old new = ChoosesBase words old new
 
--- Nothing was asked of the input where the words or the files refuse; where the script is too long, more than the limit was read.
-abbrev pub Reads : Status → Inlet → Inlet → Type 0
-Reads Usage old new = new ≡ old
-Reads (BadBase fault) old new = new ≡ old
-Reads InputTooLong old new = new.budget + longest_script < old.budget
-Reads _ old new = ⊤
+-- What stays as it is where the words or the files refuse: what was written, and what the input shows.
+abbrev pub StaysIfRefused : {A : Type 0} → Status → A → A → Type 0
+StaysIfRefused Usage old new = new ≡ old
+StaysIfRefused (BadBase fault) old new = new ≡ old
+StaysIfRefused _ old new = ⊤
 
--- Nothing is written where the words or the files refuse.
-abbrev pub Silent : Status → Option (List ℕ) → Option (List ℕ) → Type 0
-Silent Usage old new = new ≡ old
-Silent (BadBase fault) old new = new ≡ old
-Silent _ old new = ⊤
+-- Nothing was asked of the input then; where the script is too long, more than the limit was read.
+abbrev pub Reads : Status → Inlet → Inlet → Type 0
+Reads status old new = StaysIfRefused status old new × (status ≡ InputTooLong → new.budget + longest_script < old.budget)

@@ -1,5 +1,6 @@
 //! The opening of a session: the base that the words name, and the line that tells it.
-ghost use Rattle.std.specs.Prelude.{◌≡◌, ◌≤◌, ◌+◌, ◌⊎◌, [], ◌∷◌, ◌++◌, length, string_bytes, IfOk, IfErr, IfSome, OnOk};
+ghost use Rattle.std.specs.Prelude.{◌≡◌, ◌≤◌, ◌+◌, ◌⊎◌, [], ◌∷◌, ◌++◌, codes, length, string_bytes, IfOk, IfErr, IfSome, OnOk};
+ghost use Rattle.std.specs.Fmt.{decimal};
 ghost use Rattle.base_files.specs.Chosen.{choice};
 ghost use Rattle.base_files.specs.Counters.{Rose};
 ghost use Rattle.base_files.specs.Seen.{SameContents};
@@ -10,7 +11,7 @@ ghost use Rattle.command_runs.specs.Endings.{Halted};
 ghost use Rattle.desk_commands.specs.Standing.{DeskSound};
 ghost use Rattle.script_lines.specs.Clients.{new_clients};
 ghost use Rattle.shell_session.specs.Running.{Opening, OpeningRefused};
-ghost use Rattle.shell_session.specs.Session.{opening_text, opening_words};
+ghost use Rattle.shell_session.specs.Session.{opening_text};
 
 use crate::status::Status;
 use crate::words::Wanted;
@@ -82,6 +83,7 @@ pub(crate) fn write_opening<K: Sink>(
 }
 
 // The line that tells the base.
+#[tactic(auto, using(std::proofs::Common::append_assoc))]
 fn opening_line(alloc: Global, games: u32, mended: u32) -> Result<Vec<u8>, AllocError>
     ensures line { IfOk result (λ line. line.items ≡ opening_text games mended) }
 {
@@ -92,7 +94,7 @@ fn opening_line(alloc: Global, games: u32, mended: u32) -> Result<Vec<u8>, Alloc
 
 // Its words with numbers.
 fn opening_words(alloc: Global, games: u32, mended: u32) -> Result<String, AllocError>
-    ensures words { IfOk result (λ line. string_bytes line ≡ opening_words games mended) }
+    ensures words { IfOk result (λ line. string_bytes line ≡ codes "base " ++ decimal games ++ codes " games " ++ decimal mended) }
 {
     let line = format!(in alloc; "base {games} games {mended}")?;
     Ok(line)

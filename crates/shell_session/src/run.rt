@@ -4,8 +4,8 @@ ghost use Rattle.base_files.specs.Seen.{SameContents, Seen};
 ghost use Rattle.base_files.specs.Counters.{Rose};
 ghost use Rattle.base_files.specs.Told.{Grew, adds};
 ghost use Rattle.command_runs.specs.Counts.{NoneFell, counts};
-ghost use Rattle.shell_session.specs.Around.{around, meanings, none_told};
-ghost use Rattle.shell_session.specs.Session.{Answers, Asks, Chooses, Due, Reads, Silent, WhyStatus, given, inlet, opening_text};
+ghost use Rattle.shell_session.specs.Around.{meanings};
+ghost use Rattle.shell_session.specs.Session.{Answers, Asks, Chooses, Due, Reads, StaysIfRefused, WhyStatus, given, opening_text};
 ghost use Rattle.shell_session.specs.Words.{words_read};
 
 use crate::opening::{open, write_opening};
@@ -37,7 +37,8 @@ pub fn session<F: Files, S: Source, K: Sink>(
     // the views show.
     ensures answers { (index names games script : List ℕ) → (F.seen files.old).index ≡ Some index → (F.seen files.old).names ≡ Some names → (F.seen files.old).games ≡ Some games → S.left input.old ≡ Some script →
         Answers (given (map string_bytes words.now) index names games script (meanings (λ b. rows b) (λ b. told b) views.old.items)) (K.taken out.old) (K.taken out.new)
-        (inlet (S.left input.old) (S.budget input.old) (S.faults input.old)) (inlet (S.left input.new) (S.budget input.new) (S.faults input.new)) (around (F.seen files.new) (meanings (λ b. rows b) (λ b. told b) views.old.items) none_told (meanings (λ b. rows b) (λ b. told b) views.new.items)) result }
+        (record { left = S.left input.old; budget = S.budget input.old; faults = S.faults input.old }) (record { left = S.left input.new; budget = S.budget input.new; faults = S.faults input.new })
+        (record { seen = F.seen files.new; first = meanings (λ b. rows b) (λ b. told b) views.old.items; most = λ _. 0; now = meanings (λ b. rows b) (λ b. told b) views.new.items }) result }
 
     // Where no count of faults rises, the status is the one that is due, or memory ran out.
     ensures due { (index names games script : List ℕ) → (F.seen files.old).index ≡ Some index → (F.seen files.old).names ≡ Some names → (F.seen files.old).games ≡ Some games → S.left input.old ≡ Some script →
@@ -56,7 +57,7 @@ pub fn session<F: Files, S: Source, K: Sink>(
         Asks (given (map string_bytes words.now) index names games script (meanings (λ b. rows b) (λ b. told b) views.old.items)) (F.asked files.old) (F.asked files.new) }
 
     // Whatever the files tell, nothing is written where the words or the files refuse.
-    ensures silent { Silent result (K.taken out.old) (K.taken out.new) }
+    ensures silent { StaysIfRefused result (K.taken out.old) (K.taken out.new) }
 
     // Where anything was taken of the input, the opening line stands in what was written.
     ensures opened { (S.budget input.new ≡ S.budget input.old → ⊥) → (games mended : ℕ) × Grew (adds (K.taken out.old) (opening_text games mended)) (K.taken out.new) }
@@ -65,7 +66,7 @@ pub fn session<F: Files, S: Source, K: Sink>(
     ensures number { length views.new.items ≡ length views.old.items }
 
     // What is read of any input.
-    ensures reads { Reads result (inlet (S.left input.old) (S.budget input.old) (S.faults input.old)) (inlet (S.left input.new) (S.budget input.new) (S.faults input.new)) }
+    ensures reads { Reads result (record { left = S.left input.old; budget = S.budget input.old; faults = S.faults input.old }) (record { left = S.left input.new; budget = S.budget input.new; faults = S.faults input.new }) }
 
     // The base of the words is chosen once, as they say, and where nothing of the input was taken no file is changed.
     ensures choices { Chooses result (map string_bytes words.now) (F.seen files.old).choices (F.seen files.new).choices }

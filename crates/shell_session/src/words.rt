@@ -1,6 +1,6 @@
 //! The words that the program is run with.
 ghost use Rattle.std.specs.Prelude.{◌≡◌, map, string_bytes, option_map};
-ghost use Rattle.shell_session.specs.Words.{Said as PlainSaid, is_base_name, wanted, with_word, with_words, words_read};
+ghost use Rattle.shell_session.specs.Words.{is_base_name, with_word, words_read};
 
 /// What the words ask for.
 #[derive(Clone, Copy)]
@@ -48,7 +48,7 @@ pub(crate) fn words_read(words: &[String]) -> Option<Wanted<'_>>
 
 // What was said with one word more.
 fn with_word<'a>(said: Said<'a>, word: &'a str) -> Option<Said<'a>>
-    ensures said { option_map (λ s. record { base = option_map (λ name. name.now) s.base; create = s.create; strict = s.strict; desk = s.desk }) result ≡ with_word (record { base = option_map (λ name. name.now) said.entry.base; create = said.entry.create; strict = said.entry.strict; desk = said.entry.desk }) word.now }
+    ensures said { option_map (λ s. record { name = option_map (λ name. name.now) s.base; create = s.create; strict = s.strict; desk = s.desk }) result ≡ with_word (record { name = option_map (λ name. name.now) said.entry.base; create = said.entry.create; strict = said.entry.strict; desk = said.entry.desk }) word.now }
 {
     if word == "--create" {
         return (!said.create).then_some(Said {
