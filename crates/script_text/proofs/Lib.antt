@@ -1,4 +1,5 @@
 pub mod WordLaws
+pub mod TableLaws
 pub mod GrammarLaws
 pub mod NumberLaws
 pub mod ItemLaws

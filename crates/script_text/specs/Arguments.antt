@@ -22,18 +22,18 @@ argument n form words = ok_or (option_and_then form (text_at words n)) (Argument
 abbrev pub no_more : ℕ → List Word → Result (Unit {0}) ScriptFault
 no_more n words = if nat_le (length words) (n + 1) then Ok tt else Err Extra
 
--- One argument, two or three, and no more.
-unfoldable pub one : {A : Type 0} → (List ℕ → Option A) → List Word → Result A ScriptFault
-one first words = do
-  x ← argument 1 first words
-  done ← no_more 1 words
+-- Argument n, and no more.
+unfoldable pub last_argument : {A : Type 0} → ℕ → (List ℕ → Option A) → List Word → Result A ScriptFault
+last_argument n form words = do
+  x ← argument n form words
+  done ← no_more n words
   Ok x
 
+-- Two arguments or three, and no more.
 unfoldable pub two : {A B : Type 0} → (List ℕ → Option A) → (List ℕ → Option B) → List Word → Result (A × B) ScriptFault
 two first second words = do
   x ← argument 1 first words
-  y ← argument 2 second words
-  done ← no_more 2 words
+  y ← last_argument 2 second words
   Ok (x, y)
 
 unfoldable pub three : {A B C : Type 0} → (List ℕ → Option A) → (List ℕ → Option B) → (List ℕ → Option C) → List Word
@@ -41,6 +41,5 @@ unfoldable pub three : {A B C : Type 0} → (List ℕ → Option A) → (List �
 three first second third words = do
   x ← argument 1 first words
   y ← argument 2 second words
-  z ← argument 3 third words
-  done ← no_more 3 words
+  z ← last_argument 3 third words
   Ok (x, y, z)

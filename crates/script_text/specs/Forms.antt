@@ -51,23 +51,19 @@ abbrev pub mark_bit : List ℕ → Option ℕ
 mark_bit (byte ∷ []) = position_from (λ letter. letter == byte) 0 mark_letters
 mark_bit _ = None
 
--- NAME of a filter: 1 to 32 letters, digits and underscores.
-abbrev pub is_name_byte : ℕ → Bool
-is_name_byte byte = is_ascii_alphanumeric byte || byte == 95
+-- A word of 1 to 32 such bytes.
+abbrev pub short_word : (ℕ → Bool) → List ℕ → Option (List ℕ)
+short_word test word = if nat_le 1 (length word) && nat_le (length word) 32 && list_all test word then Some word else None
 
+-- NAME of a filter: letters, digits and underscores.
 unfoldable pub filter_name : List ℕ → Option (List ℕ)
-filter_name word =
-    if nat_le 1 (length word) && nat_le (length word) 32 && list_all is_name_byte word then Some word else None
+filter_name word = short_word (λ byte. is_ascii_alphanumeric byte || byte == 95) word
 
 -- A name of the base, or the beginning of one: any bytes but zero.
 abbrev pub name_text : List ℕ → Option (List ℕ)
 name_text word = if list_all (λ byte. not (byte == 0)) word then Some word else None
 
--- <<WORD, where WORD has 1 to 32 letters and digits: the word that ends a body.
-abbrev pub end_word : List ℕ → Option (List ℕ)
-end_word word =
-    if nat_le 1 (length word) && nat_le (length word) 32 && list_all is_ascii_alphanumeric word then Some word else None
-
+-- <<WORD, where WORD has letters and digits: the word that ends a body.
 unfoldable pub body_end : List ℕ → Option (List ℕ)
-body_end (first ∷ second ∷ word) = if first == 60 && second == 60 then end_word word else None
+body_end (first ∷ second ∷ word) = if first == 60 && second == 60 then short_word is_ascii_alphanumeric word else None
 body_end _ = None

@@ -1,15 +1,11 @@
 -- The items of a search of heads (this project's own).
 use Rattle.std.specs.Prelude.{ℕ, if◌then◌else◌, List, Option, Some, None, option_map, codes}
 use Rattle.std.specs.Str.{bytes_eq}
+use Rattle.game_tree.specs.Eco.{eco_read}
 use Rattle.game_tree.specs.Outcome.{outcome_read}
-use Rattle.sig_index.specs.declared.span.Span.{Span}
 use Rattle.sig_index.specs.declared.head_query.HeadQuery.{HeadQuery}
 use Rattle.script_text.specs.Forms.{answer, mark_bit, name_text}
-use Rattle.script_text.specs.Numbers.{span_within, eco_span}
-
--- A span of numbers below 2^64.
-abbrev pub number_span : List ℕ → Option Span
-number_span value = span_within 18446744073709551615 value
+use Rattle.script_text.specs.Numbers.{number, span}
 
 -- The query with the value of an item, by the key of the item.
 unfoldable pub name_item : HeadQuery → List ℕ → List ℕ → Option HeadQuery
@@ -24,11 +20,11 @@ name_item query key value =
 
 unfoldable pub span_item : HeadQuery → List ℕ → List ℕ → Option HeadQuery
 span_item query key value =
-    if bytes_eq key (codes "year") then option_map (λ span. record query { year = Some span }) (number_span value)
-    else if bytes_eq key (codes "welo") then option_map (λ span. record query { welo = Some span }) (number_span value)
-    else if bytes_eq key (codes "belo") then option_map (λ span. record query { belo = Some span }) (number_span value)
-    else if bytes_eq key (codes "plies") then option_map (λ span. record query { plies = Some span }) (number_span value)
-    else if bytes_eq key (codes "eco") then option_map (λ span. record query { eco = Some span }) (eco_span value)
+    if bytes_eq key (codes "year") then option_map (λ span. record query { year = Some span }) (span number value)
+    else if bytes_eq key (codes "welo") then option_map (λ span. record query { welo = Some span }) (span number value)
+    else if bytes_eq key (codes "belo") then option_map (λ span. record query { belo = Some span }) (span number value)
+    else if bytes_eq key (codes "plies") then option_map (λ span. record query { plies = Some span }) (span number value)
+    else if bytes_eq key (codes "eco") then option_map (λ span. record query { eco = Some span }) (span eco_read value)
     else name_item query key value
 
 unfoldable pub head_item : HeadQuery → List ℕ → List ℕ → Option HeadQuery

@@ -1,6 +1,7 @@
 -- Items KEY=VALUE, each key at most once and one item at least (this project's own).
 use Rattle.std.specs.Prelude.{ℕ, ◌+◌, nat_le, Bool, false, if◌then◌else◌, List, [], ◌∷◌, ◌++◌, length, drop, Option, Some, None, option_and_then, ok_or, Result, Ok, Err}
 use Rattle.std.specs.List.{list_any}
+use Rattle.std.specs.Option.{option_map_or}
 use Rattle.std.specs.Str.{bytes_eq}
 use Rattle.script_text.specs.declared.fault.ScriptFault.{ScriptFault}
 use Rattle.script_text.specs.declared.fault.ScriptFault.TheVariants.{Argument}
@@ -12,14 +13,9 @@ use Rattle.script_text.specs.Arguments.{◌>>=◌}
 abbrev pub key_and_value : Word → Option (List ℕ × List ℕ)
 key_and_value word = option_and_then (split_once 61) word
 
--- Whether a word is an item of this key.
-abbrev pub is_keyed : List ℕ → Option (List ℕ × List ℕ) → Bool
-is_keyed key None = false
-is_keyed key (Some parts) = bytes_eq parts.0 key
-
 -- Whether one of these words is an item of this key.
 abbrev pub has_key : List Word → List ℕ → Bool
-has_key words key = list_any (λ word. is_keyed key (key_and_value word)) words
+has_key words key = list_any (λ word. option_map_or (λ parts. bytes_eq parts.0 key) (key_and_value word) false) words
 
 -- Key and value of the next item, where no item before it has its key.
 abbrev pub new_item : List Word → Word → Option (List ℕ × List ℕ)

@@ -10,6 +10,7 @@ pub mod HeadItems
 pub mod MatItems
 pub mod Tagging
 pub mod Reading
+pub mod Parts
 pub mod Spelling
 pub mod Sound
 pub mod Tasks

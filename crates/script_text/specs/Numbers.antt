@@ -1,21 +1,12 @@
 -- Numbers and spans of numbers (this project's own).
-use Rattle.std.specs.Prelude.{ℕ, ◌==◌, nat_le, if◌then◌else◌, List, [], ◌∷◌, Option, Some, None, option_map, option_and_then, codes}
+use Rattle.std.specs.Prelude.{ℕ, ◌==◌, nat_le, if◌then◌else◌, List, [], ◌∷◌, drop, slice_index_or, Option, Some, None, option_map, option_and_then, codes}
 use Rattle.std.specs.Str.{bytes_eq}
 use Rattle.game_tree.specs.Decimal.{decimal_read}
-use Rattle.game_tree.specs.Eco.{eco_read}
 use Rattle.sig_index.specs.declared.span.Span.{Span}
 
 -- A number: decimal digits, below 2^64.
 abbrev pub number : List ℕ → Option ℕ
 number word = decimal_read 18446744073709551615 word
-
--- GAMES of demo: a number of at most 100,000.
-abbrev pub demo_games : List ℕ → Option ℕ
-demo_games word = decimal_read 100000 word
-
--- D of twins: how many plies are compared, at most 131,071.
-abbrev pub twin_depth : List ℕ → Option ℕ
-twin_depth word = decimal_read 131071 word
 
 -- D of index: how many plies it holds of each game, at most 40, or off.
 abbrev pub index_depth : List ℕ → Option (Option ℕ)
@@ -27,12 +18,8 @@ split_once at [] = None
 split_once at (byte ∷ text) = if byte == at then Some ([], text) else option_map (λ parts. (byte ∷ parts.0, parts.1)) (split_once at text)
 
 -- The two ends of LO..HI: the first dot has another right behind it.
-abbrev pub behind_dot : List ℕ → List ℕ → Option (List ℕ × List ℕ)
-behind_dot lo [] = None
-behind_dot lo (byte ∷ hi) = if byte == 46 then Some (lo, hi) else None
-
 unfoldable pub ends : List ℕ → Option (List ℕ × List ℕ)
-ends text = option_and_then (λ parts. behind_dot parts.0 parts.1) (split_once 46 text)
+ends text = option_and_then (λ both. if slice_index_or both.1 0 0 == 46 then Some (both.0, drop 1 both.1) else None) (split_once 46 text)
 
 -- The span between two ends that read as numbers, where the lower one is not above the upper one.
 abbrev pub between : Option ℕ → Option ℕ → Option Span
@@ -40,13 +27,5 @@ between (Some lo) (Some hi) = if nat_le lo hi then Some (record { lo = lo; hi = 
 between _ _ = None
 
 -- LO..HI with ends that are read so.
-abbrev pub span : (List ℕ → Option ℕ) → List ℕ → Option Span
+unfoldable pub span : (List ℕ → Option ℕ) → List ℕ → Option Span
 span end text = option_and_then (λ parts. between (end parts.0) (end parts.1)) (ends text)
-
--- LO..HI with numbers of at most so much.
-unfoldable pub span_within : ℕ → List ℕ → Option Span
-span_within limit text = span (decimal_read limit) text
-
--- LO..HI with opening codes.
-unfoldable pub eco_span : List ℕ → Option Span
-eco_span text = span eco_read text

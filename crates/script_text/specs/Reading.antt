@@ -1,9 +1,8 @@
--- The one reading of a line: the command that it is, or its first fault (this project's own). The rows of the table are
--- `searching` to `ending`: the word of each command and the forms of its arguments in their order.
-use Rattle.std.specs.Prelude.{ℕ, ◌-◌, ◌==◌, nat_le, nat_lt, Bool, false, if◌then◌else◌, List, [], ◌∷◌, length, take, slice_index_or, Some, None, Result, Ok, Err, codes}
-use Rattle.std.specs.Str.{bytes_eq}
+-- The one reading of a line: the command that it is, or its first fault (this project's own).
+use Rattle.std.specs.Prelude.{ℕ, ◌-◌, ◌==◌, nat_le, nat_lt, Bool, false, if◌then◌else◌, List, [], ◌∷◌, ◌++◌, length, map, take, slice_index_or, Some, None, unwrap_or, Result, Ok, Err, codes}
 use Rattle.chess_text.specs.Filling.{board_named}
 use Rattle.game_filter.specs.declared.op.Op.{Op}
+use Rattle.game_tree.specs.Decimal.{decimal_read}
 use Rattle.sig_index.specs.Queries.{any_head, any_material}
 use Rattle.script_text.specs.declared.command.Command.{Command}
 use Rattle.script_text.specs.declared.command.Command.TheVariants.{Nothing, Find, SearchPosition, SearchMaterial, SearchHeader, Reset, Clear, Negate, Restrict, Keep, Take, And, Or, Drop, Hits, List as Listing, Show, Export, Import, Replace, Eco, Tag, Delete, Undelete, Mark, Tree, Watch, View, Unwatch, Cross, Twins, Index, Save, Compact, Info, Demo, Quit}
@@ -12,9 +11,9 @@ use Rattle.script_text.specs.declared.fault.ScriptFault.TheVariants.{TooLong, Un
 use Rattle.script_text.specs.declared.forms.SearchKind.{SearchKind}
 use Rattle.script_text.specs.declared.forms.SearchKind.TheVariants as kind
 use Rattle.script_text.specs.Words.{Word, words_of}
-use Rattle.script_text.specs.Forms.{side, op, search_kind, mode, switch, vars, mark_bit, filter_name, name_text, body_end}
-use Rattle.script_text.specs.Numbers.{number, demo_games, twin_depth, index_depth}
-use Rattle.script_text.specs.Arguments.{◌>>=◌, text_at, argument, no_more, one, two, three}
+use Rattle.script_text.specs.Forms.{by_word, side, op, search_kind, mode, switch, vars, mark_bit, filter_name, name_text, body_end}
+use Rattle.script_text.specs.Numbers.{number, index_depth}
+use Rattle.script_text.specs.Arguments.{◌>>=◌, text_at, argument, no_more, last_argument, two, three}
 use Rattle.script_text.specs.Items.{items}
 use Rattle.script_text.specs.HeadItems.{head_item}
 use Rattle.script_text.specs.Tagging.{tag_edit}
@@ -26,15 +25,8 @@ made make (Ok given) = Ok (make given)
 made make (Err fault) = Err fault
 
 -- The last word of a search of positions, vars, which may be left out.
-unfoldable pub aside_word : List Word → Result Bool ScriptFault
-aside_word words = do
-  aside ← argument 6 vars words
-  done ← no_more 6 words
-  Ok aside
-
 abbrev pub looks_aside : List Word → Result Bool ScriptFault
-looks_aside words =
-    if nat_le (length words) 6 then Ok false else aside_word words
+looks_aside words = if nat_le (length words) 6 then Ok false else last_argument 6 vars words
 
 -- search OP position MODE BOARD SIDE, and the same with vars
 unfoldable pub search_position : Op → List Word → Result Command ScriptFault
@@ -69,63 +61,38 @@ tag words = do
 
 -- ---- the table of commands
 
-unfoldable pub ending : List ℕ → List Word → Result Command ScriptFault
-ending name words =
-    if bytes_eq name (codes "twins") then made Twins (one twin_depth words)
-    else if bytes_eq name (codes "index") then made Index (one index_depth words)
-    else if bytes_eq name (codes "save") then made (λ _. Save) (no_more 0 words)
-    else if bytes_eq name (codes "compact") then made (λ _. Compact) (no_more 0 words)
-    else if bytes_eq name (codes "demo") then made (λ given. Demo given.0 given.1) (two number demo_games words)
-    else if bytes_eq name (codes "quit") then made (λ _. Quit) (no_more 0 words)
-    else Err Unknown
+-- The rows of commands with the same arguments: the word of each, and what it makes of them.
+abbrev pub rows_of : {A : Type 0} → Result A ScriptFault → List (List ℕ × (A → Command)) → List (List ℕ × Result Command ScriptFault)
+rows_of given rows = map (λ row. (row.0, made row.1 given)) rows
 
-unfoldable pub editing : List ℕ → List Word → Result Command ScriptFault
-editing name words =
-    if bytes_eq name (codes "import") then made Import (one body_end words)
-    else if bytes_eq name (codes "replace") then made (λ given. Replace given.0 given.1) (two number body_end words)
-    else if bytes_eq name (codes "eco") then made Eco (one body_end words)
-    else if bytes_eq name (codes "tag") then tag words
-    else if bytes_eq name (codes "delete") then made Delete (one number words)
-    else if bytes_eq name (codes "undelete") then made Undelete (one number words)
-    else if bytes_eq name (codes "mark") then made (λ given. Mark given.0 given.1 given.2) (three number mark_bit switch words)
-    else ending name words
+-- The word of each command, by the forms of its arguments in their order.
+unfoldable pub table : List Word → List (List ℕ × Result Command ScriptFault)
+table words =
+    rows_of (no_more 0 words)
+    ((codes "reset", λ _. Reset) ∷ (codes "clear", λ _. Clear) ∷ (codes "negate", λ _. Negate) ∷ (codes "hits", λ _. Hits)
+    ∷ (codes "list", λ _. Listing) ∷ (codes "export", λ _. Export) ∷ (codes "info", λ _. Info) ∷ (codes "save", λ _. Save)
+    ∷ (codes "compact", λ _. Compact) ∷ (codes "quit", λ _. Quit) ∷ [])
+    ++ rows_of (last_argument 1 number words)
+    ((codes "view", View) ∷ (codes "unwatch", Unwatch) ∷ (codes "show", Show) ∷ (codes "delete", Delete)
+    ∷ (codes "undelete", Undelete) ∷ [])
+    ++ rows_of (last_argument 1 filter_name words)
+    ((codes "keep", Keep) ∷ (codes "use", Take) ∷ (codes "and", And) ∷ (codes "or", Or) ∷ (codes "drop", Drop) ∷ [])
+    ++ rows_of (last_argument 1 body_end words) ((codes "import", Import) ∷ (codes "eco", Eco) ∷ [])
+    ++ rows_of (last_argument 1 name_text words) ((codes "cross", Cross) ∷ [])
+    ++ rows_of (last_argument 1 (decimal_read 131071) words) ((codes "twins", Twins) ∷ [])
+    ++ rows_of (last_argument 1 index_depth words) ((codes "index", Index) ∷ [])
+    ++ rows_of (two board_named side words)
+    ((codes "find", λ given. Find given.0 given.1) ∷ (codes "tree", λ given. Tree given.0 given.1) ∷ [])
+    ++ rows_of (two number number words) ((codes "restrict", λ given. Restrict given.0 given.1) ∷ [])
+    ++ rows_of (two number body_end words) ((codes "replace", λ given. Replace given.0 given.1) ∷ [])
+    ++ rows_of (two number (decimal_read 100000) words) ((codes "demo", λ given. Demo given.0 given.1) ∷ [])
+    ++ rows_of (three number board_named side words) ((codes "watch", λ given. Watch given.0 given.1 given.2) ∷ [])
+    ++ rows_of (three number mark_bit switch words) ((codes "mark", λ given. Mark given.0 given.1 given.2) ∷ [])
+    ++ (codes "search", search words) ∷ (codes "tag", tag words) ∷ []
 
-unfoldable pub showing : List ℕ → List Word → Result Command ScriptFault
-showing name words =
-    if bytes_eq name (codes "hits") then made (λ _. Hits) (no_more 0 words)
-    else if bytes_eq name (codes "list") then made (λ _. Listing) (no_more 0 words)
-    else if bytes_eq name (codes "show") then made Show (one number words)
-    else if bytes_eq name (codes "export") then made (λ _. Export) (no_more 0 words)
-    else if bytes_eq name (codes "cross") then made Cross (one name_text words)
-    else if bytes_eq name (codes "info") then made (λ _. Info) (no_more 0 words)
-    else editing name words
-
-unfoldable pub saving_filters : List ℕ → List Word → Result Command ScriptFault
-saving_filters name words =
-    if bytes_eq name (codes "keep") then made Keep (one filter_name words)
-    else if bytes_eq name (codes "use") then made Take (one filter_name words)
-    else if bytes_eq name (codes "and") then made And (one filter_name words)
-    else if bytes_eq name (codes "or") then made Or (one filter_name words)
-    else if bytes_eq name (codes "drop") then made Drop (one filter_name words)
-    else showing name words
-
-unfoldable pub filtering : List ℕ → List Word → Result Command ScriptFault
-filtering name words =
-    if bytes_eq name (codes "reset") then made (λ _. Reset) (no_more 0 words)
-    else if bytes_eq name (codes "clear") then made (λ _. Clear) (no_more 0 words)
-    else if bytes_eq name (codes "negate") then made (λ _. Negate) (no_more 0 words)
-    else if bytes_eq name (codes "restrict") then made (λ given. Restrict given.0 given.1) (two number number words)
-    else saving_filters name words
-
-unfoldable pub searching : List ℕ → List Word → Result Command ScriptFault
-searching name words =
-    if bytes_eq name (codes "find") then made (λ given. Find given.0 given.1) (two board_named side words)
-    else if bytes_eq name (codes "search") then search words
-    else if bytes_eq name (codes "tree") then made (λ given. Tree given.0 given.1) (two board_named side words)
-    else if bytes_eq name (codes "watch") then made (λ given. Watch given.0 given.1 given.2) (three number board_named side words)
-    else if bytes_eq name (codes "view") then made View (one number words)
-    else if bytes_eq name (codes "unwatch") then made Unwatch (one number words)
-    else filtering name words
+-- The command of this name.
+unfoldable pub command_named : List ℕ → List Word → Result Command ScriptFault
+command_named name words = unwrap_or (by_word (table words) name) (Err Unknown)
 
 -- ---- lines
 
@@ -133,7 +100,7 @@ searching name words =
 abbrev pub command_of : List Word → Result Command ScriptFault
 command_of [] = Ok Nothing
 command_of (None ∷ words) = Err Unknown
-command_of (Some name ∷ words) = searching name (Some name ∷ words)
+command_of (Some name ∷ words) = command_named name (Some name ∷ words)
 
 -- A line without its last carriage return.
 unfoldable pub shorn : List ℕ → List ℕ

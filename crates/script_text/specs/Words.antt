@@ -1,5 +1,5 @@
 -- How a line is cut into words (this project's own).
-use Rattle.std.specs.Prelude.{ℕ, ◌==◌, Bool, ◌||◌, if◌then◌else◌, List, [], ◌∷◌, ◌++◌, Option, Some, None}
+use Rattle.std.specs.Prelude.{ℕ, ◌==◌, Bool, ◌||◌, if◌then◌else◌, List, [], ◌∷◌, ◌++◌, Option, Some, None, option_map}
 use Rattle.script_text.specs.declared.words.Place.{Place}
 use Rattle.script_text.specs.declared.words.Place.TheVariants.{Between, Inside, Quoted, Escaped}
 
@@ -18,8 +18,7 @@ is_escaped byte = (byte == 34) || (byte == 92)
 -- Bytes before the first word's own; a word that is not closed has no text.
 abbrev pub front : List ℕ → List Word → List Word
 front bytes [] = []
-front bytes (None ∷ words) = None ∷ words
-front bytes (Some text ∷ words) = Some (bytes ++ text) ∷ words
+front bytes (word ∷ words) = option_map (λ text. bytes ++ text) word ∷ words
 
 -- The words of the rest of a line, the first of them being the one that the place is in. Blanks separate words. In a
 -- word, a quote begins a quoted part and the next quote ends it; there blanks stand for themselves, a backslash before a

@@ -3,10 +3,11 @@ ghost use Rattle.std.specs.Prelude.{◌≡◌, ◌≤◌, ◌<◌, length, None,
 ghost use Rattle.std.specs.Option.{option_map};
 ghost use Rattle.cell_core.specs.Text.{IsZeroFree};
 ghost use Rattle.chess_text.specs.Filling.{board_named};
+ghost use Rattle.game_tree.specs.Decimal.{decimal_read};
 ghost use Rattle.script_text.specs.Forms.{side, switch, mark_bit, filter_name, name_text, body_end};
-ghost use Rattle.script_text.specs.Numbers.{number, demo_games, twin_depth, index_depth};
+ghost use Rattle.script_text.specs.Numbers.{number, index_depth};
 ghost use Rattle.script_text.specs.Sound.{IsDepth};
-ghost use Rattle.script_text.specs.Arguments.{text_at, no_more, one, two, three};
+ghost use Rattle.script_text.specs.Arguments.{text_at, no_more, last_argument, two, three};
 ghost use Rattle.script_text.specs.declared.fault.ScriptFault.TheVariants.{Argument};
 
 use crate::fault::ScriptFault;
@@ -44,7 +45,7 @@ pub(crate) fn none(words: &[Word]) -> Result<(), ScriptFault>
 }
 
 /// BOARD SIDE
-#[tactic(auto, unfolding(crate::specs::Arguments::two))]
+#[tactic(auto, unfolding(crate::specs::Arguments::two, crate::specs::Arguments::last_argument))]
 pub(crate) fn board_and_side(words: &[Word]) -> Result<(Board, Colour), ScriptFault>
     ensures { result ≡ two board_named side words.now }
 {
@@ -55,7 +56,7 @@ pub(crate) fn board_and_side(words: &[Word]) -> Result<(Board, Colour), ScriptFa
 }
 
 /// K BOARD SIDE
-#[tactic(auto, unfolding(crate::specs::Arguments::three))]
+#[tactic(auto, unfolding(crate::specs::Arguments::three, crate::specs::Arguments::last_argument))]
 pub(crate) fn slot_board_and_side(words: &[Word]) -> Result<(u64, Board, Colour), ScriptFault>
     ensures { result ≡ three number board_named side words.now }
 {
@@ -67,9 +68,9 @@ pub(crate) fn slot_board_and_side(words: &[Word]) -> Result<(u64, Board, Colour)
 }
 
 /// One number.
-#[tactic(auto, unfolding(crate::specs::Arguments::one))]
+#[tactic(auto, unfolding(crate::specs::Arguments::last_argument))]
 pub(crate) fn one_number(words: &[Word]) -> Result<u64, ScriptFault>
-    ensures { result ≡ one number words.now }
+    ensures { result ≡ last_argument 1 number words.now }
 {
     let number = number(text_at(words, 1)?).ok_or(ScriptFault::Argument(1))?;
     no_more(words, 1)?;
@@ -77,7 +78,7 @@ pub(crate) fn one_number(words: &[Word]) -> Result<u64, ScriptFault>
 }
 
 /// Two numbers.
-#[tactic(auto, unfolding(crate::specs::Arguments::two))]
+#[tactic(auto, unfolding(crate::specs::Arguments::two, crate::specs::Arguments::last_argument))]
 pub(crate) fn two_numbers(words: &[Word]) -> Result<(u64, u64), ScriptFault>
     ensures { result ≡ two number number words.now }
 {
@@ -88,9 +89,9 @@ pub(crate) fn two_numbers(words: &[Word]) -> Result<(u64, u64), ScriptFault>
 }
 
 /// NAME of a filter.
-#[tactic(auto, unfolding(crate::specs::Arguments::one))]
+#[tactic(auto, unfolding(crate::specs::Arguments::last_argument))]
 pub(crate) fn one_name(words: &[Word]) -> Result<&[u8], ScriptFault>
-    ensures named { MatchResult result (λ name. one filter_name words.now ≡ Ok name.now) (λ fault. one filter_name words.now ≡ Err fault) }
+    ensures named { MatchResult result (λ name. last_argument 1 filter_name words.now ≡ Ok name.now) (λ fault. last_argument 1 filter_name words.now ≡ Err fault) }
     ensures free { IfOk result (λ name. IsZeroFree name.now) }
     ensures short { IfOk result (λ name. length name.now ≤ 32) }
 {
@@ -100,9 +101,9 @@ pub(crate) fn one_name(words: &[Word]) -> Result<&[u8], ScriptFault>
 }
 
 /// A name of the base.
-#[tactic(auto, unfolding(crate::specs::Arguments::one))]
+#[tactic(auto, unfolding(crate::specs::Arguments::last_argument))]
 pub(crate) fn one_text(words: &[Word]) -> Result<&[u8], ScriptFault>
-    ensures named { MatchResult result (λ name. one name_text words.now ≡ Ok name.now) (λ fault. one name_text words.now ≡ Err fault) }
+    ensures named { MatchResult result (λ name. last_argument 1 name_text words.now ≡ Ok name.now) (λ fault. last_argument 1 name_text words.now ≡ Err fault) }
     ensures free { IfOk result (λ name. IsZeroFree name.now) }
 {
     let name = name_text(text_at(words, 1)?).ok_or(ScriptFault::Argument(1))?;
@@ -111,9 +112,9 @@ pub(crate) fn one_text(words: &[Word]) -> Result<&[u8], ScriptFault>
 }
 
 /// How many plies are compared.
-#[tactic(auto, unfolding(crate::specs::Arguments::one))]
+#[tactic(auto, unfolding(crate::specs::Arguments::last_argument))]
 pub(crate) fn one_depth(words: &[Word]) -> Result<u32, ScriptFault>
-    ensures { result ≡ one twin_depth words.now }
+    ensures { result ≡ last_argument 1 (decimal_read 131071) words.now }
 {
     let depth = twin_depth(text_at(words, 1)?).ok_or(ScriptFault::Argument(1))?;
     no_more(words, 1)?;
@@ -121,9 +122,9 @@ pub(crate) fn one_depth(words: &[Word]) -> Result<u32, ScriptFault>
 }
 
 /// D of an index, or `off`.
-#[tactic(auto, unfolding(crate::specs::Arguments::one))]
+#[tactic(auto, unfolding(crate::specs::Arguments::last_argument))]
 pub(crate) fn one_index(words: &[Word]) -> Result<Option<u8>, ScriptFault>
-    ensures exact { result ≡ one index_depth words.now }
+    ensures exact { result ≡ last_argument 1 index_depth words.now }
     ensures bounds { IfOk result IsDepth }
 {
     let depth = index_depth(text_at(words, 1)?).ok_or(ScriptFault::Argument(1))?;
@@ -132,9 +133,9 @@ pub(crate) fn one_index(words: &[Word]) -> Result<Option<u8>, ScriptFault>
 }
 
 /// `<<WORD`
-#[tactic(auto, unfolding(crate::specs::Arguments::one))]
+#[tactic(auto, unfolding(crate::specs::Arguments::last_argument))]
 pub(crate) fn one_body(words: &[Word]) -> Result<&[u8], ScriptFault>
-    ensures ends { MatchResult result (λ end. one body_end words.now ≡ Ok end.now) (λ fault. one body_end words.now ≡ Err fault) }
+    ensures ends { MatchResult result (λ end. last_argument 1 body_end words.now ≡ Ok end.now) (λ fault. last_argument 1 body_end words.now ≡ Err fault) }
     ensures free { IfOk result (λ end. IsZeroFree end.now) }
     ensures short { IfOk result (λ end. length end.now ≤ 32) }
 {
@@ -144,7 +145,7 @@ pub(crate) fn one_body(words: &[Word]) -> Result<&[u8], ScriptFault>
 }
 
 /// G `<<WORD`
-#[tactic(auto, unfolding(crate::specs::Arguments::two))]
+#[tactic(auto, unfolding(crate::specs::Arguments::two, crate::specs::Arguments::last_argument))]
 pub(crate) fn number_and_body(words: &[Word]) -> Result<(u64, &[u8]), ScriptFault>
     ensures ends { MatchResult result (λ given. two number body_end words.now ≡ Ok (given.0, given.1.now)) (λ fault. two number body_end words.now ≡ Err fault) }
     ensures free { IfOk result (λ given. IsZeroFree given.1.now) }
@@ -157,7 +158,7 @@ pub(crate) fn number_and_body(words: &[Word]) -> Result<(u64, &[u8]), ScriptFaul
 }
 
 /// G LETTER `on` or `off`
-#[tactic(auto, unfolding(crate::specs::Arguments::three))]
+#[tactic(auto, unfolding(crate::specs::Arguments::three, crate::specs::Arguments::last_argument))]
 pub(crate) fn mark_arguments(words: &[Word]) -> Result<(u64, u8, bool), ScriptFault>
     ensures exact { result ≡ three number mark_bit switch words.now }
     ensures bounds { IfOk result (λ given. given.1 < 18) }
@@ -170,9 +171,9 @@ pub(crate) fn mark_arguments(words: &[Word]) -> Result<(u64, u8, bool), ScriptFa
 }
 
 /// SEED GAMES
-#[tactic(auto, unfolding(crate::specs::Arguments::two))]
+#[tactic(auto, unfolding(crate::specs::Arguments::two, crate::specs::Arguments::last_argument))]
 pub(crate) fn demo_arguments(words: &[Word]) -> Result<(u64, u32), ScriptFault>
-    ensures { result ≡ two number demo_games words.now }
+    ensures { result ≡ two number (decimal_read 100000) words.now }
 {
     let seed = number(text_at(words, 1)?).ok_or(ScriptFault::Argument(1))?;
     let games = demo_games(text_at(words, 2)?).ok_or(ScriptFault::Argument(2))?;

@@ -1,12 +1,12 @@
 //! The forms of arguments: what a word stands for.
-ghost use Rattle.std.specs.Prelude.{◌≡◌, ◌≤◌, ◌<◌, IfSome, ◌==◌, length, not};
+ghost use Rattle.std.specs.Prelude.{◌≡◌, ◌≤◌, ◌<◌, IfSome, ◌==◌, ◌||◌, length, not};
 ghost use Rattle.std.specs.List.{list_all, position_from};
 ghost use Rattle.std.specs.Option.{option_map};
 ghost use Rattle.std.specs.Bool.{OnTrue};
 ghost use Rattle.std.specs.Char.{is_ascii_alphanumeric};
 ghost use Rattle.chess_text.specs.Filling.{board_named};
 ghost use Rattle.cell_core.specs.Text.{IsZeroFree};
-ghost use Rattle.script_text.specs.Forms.{side, op, search_kind, mode, switch, vars, answer, mark_bit, is_name_byte, filter_name, name_text, end_word, body_end};
+ghost use Rattle.script_text.specs.Forms.{side, op, search_kind, mode, switch, vars, answer, mark_bit, short_word, filter_name, name_text, body_end};
 
 use cell_core::{Board, Colour};
 use chess_text::read_board;
@@ -177,7 +177,7 @@ pub(crate) fn filter_name(word: &[u8]) -> Option<&[u8]>
 }
 
 fn has_name_bytes_alone(word: &[u8]) -> bool
-    ensures same { result ≡ list_all is_name_byte word.now }
+    ensures same { result ≡ list_all (λ byte. is_ascii_alphanumeric byte || byte == 95) word.now }
     ensures free { OnTrue result (IsZeroFree word.now) }
 {
     word.iter()
@@ -214,7 +214,7 @@ pub(crate) fn body_end(word: &[u8]) -> Option<&[u8]>
 }
 
 fn end_word(word: &[u8]) -> Option<&[u8]>
-    ensures ends { option_map (λ name. name.now) result ≡ end_word word.now }
+    ensures ends { option_map (λ name. name.now) result ≡ short_word is_ascii_alphanumeric word.now }
     ensures free { IfSome result (λ name. IsZeroFree name.now) }
     ensures short { IfSome result (λ name. length name.now ≤ 32) }
 {

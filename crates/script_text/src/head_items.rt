@@ -1,7 +1,8 @@
 //! The items of a search of heads.
 ghost use Rattle.std.specs.Prelude.{◌≡◌, IfOk, IfErr, IfSome};
 ghost use Rattle.script_text.specs.Forms.{name_text};
-ghost use Rattle.script_text.specs.HeadItems.{number_span, name_item, span_item, head_item};
+ghost use Rattle.script_text.specs.Numbers.{number, span};
+ghost use Rattle.script_text.specs.HeadItems.{name_item, span_item, head_item};
 ghost use Rattle.script_text.specs.Sound.{IsHeadQuery};
 ghost use Rattle.script_text.specs.declared.fault.CommandError.TheVariants.{Memory};
 
@@ -154,7 +155,7 @@ fn name_prefix(alloc: Global, value: &[u8]) -> Result<Option<Text>, CommandError
 
 // A span of numbers below 2^64.
 fn number_span(value: &[u8]) -> Option<Span>
-    ensures { result ≡ number_span value.now }
+    ensures { result ≡ span number value.now }
 {
     span_within(u64::MAX, value)
 }

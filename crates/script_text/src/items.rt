@@ -1,8 +1,9 @@
 //! Items KEY=VALUE of a search, each key at most once and one item at least.
-ghost use Rattle.std.specs.Prelude.{◌≡◌, [], ◌<◌, length, IfOk, IfErr, IfSome};
-ghost use Rattle.std.specs.Option.{option_map};
+ghost use Rattle.std.specs.Prelude.{◌≡◌, false, [], ◌<◌, length, IfOk, IfErr, IfSome};
+ghost use Rattle.std.specs.Option.{option_map, option_map_or};
+ghost use Rattle.std.specs.Str.{bytes_eq};
 ghost use Rattle.sig_index.specs.Queries.{any_head, any_material};
-ghost use Rattle.script_text.specs.Items.{key_and_value, is_keyed, has_key, new_item, with_item, with_items, items};
+ghost use Rattle.script_text.specs.Items.{key_and_value, has_key, new_item, with_item, with_items, items};
 ghost use Rattle.script_text.specs.HeadItems.{head_item};
 ghost use Rattle.script_text.specs.MatItems.{mat_item};
 ghost use Rattle.script_text.specs.Sound.{IsHeadQuery, IsMatQuery};
@@ -26,7 +27,7 @@ fn key_and_value(word: &Word) -> Option<(&[u8], &[u8])>
 
 // Whether the word is an item of this key.
 fn is_keyed(key: &[u8], word: &Word) -> bool
-    ensures { result ≡ is_keyed key.now (key_and_value word.now) }
+    ensures { result ≡ option_map_or (λ parts. bytes_eq parts.0 key.now) (key_and_value word.now) false }
 {
     match key_and_value(word) {
         Some((other, _)) => other == key,

@@ -1,7 +1,9 @@
 //! Numbers and spans of numbers.
 ghost use Rattle.std.specs.Prelude.{◌≡◌, ◌≤◌, Some, IfSome, option_map};
+ghost use Rattle.game_tree.specs.Decimal.{decimal_read};
+ghost use Rattle.game_tree.specs.Eco.{eco_read};
 ghost use Rattle.script_text.specs.Sound.{IsDepth};
-ghost use Rattle.script_text.specs.Numbers.{number, demo_games, twin_depth, index_depth, split_once, ends, span_within, eco_span, between};
+ghost use Rattle.script_text.specs.Numbers.{number, index_depth, split_once, ends, span, between};
 
 use game_tree::{read_decimal, read_eco};
 use sig_index::Span;
@@ -15,7 +17,7 @@ pub(crate) fn number(word: &[u8]) -> Option<u64>
 
 /// The number of games of `demo`, at most 100,000.
 pub(crate) fn demo_games(word: &[u8]) -> Option<u32>
-    ensures { result ≡ demo_games word.now }
+    ensures { result ≡ decimal_read 100000 word.now }
 {
     let games = read_decimal(word, 100_000)?;
     Some(games as u32)
@@ -23,7 +25,7 @@ pub(crate) fn demo_games(word: &[u8]) -> Option<u32>
 
 /// How many plies of two games `twins` compares, at most 131,071.
 pub(crate) fn twin_depth(word: &[u8]) -> Option<u32>
-    ensures { result ≡ twin_depth word.now }
+    ensures { result ≡ decimal_read 131071 word.now }
 {
     let depth = read_decimal(word, 131_071)?;
     Some(depth as u32)
@@ -55,9 +57,9 @@ pub(crate) fn split_once(at: u8, text: &[u8]) -> Option<(&[u8], &[u8])>
 }
 
 /// The span `LO..HI`, whose numbers are at most `limit`, and LO at most HI.
-#[tactic(auto, unfolding(crate::specs::Numbers::span_within))]
+#[tactic(auto, unfolding(crate::specs::Numbers::span))]
 pub(crate) fn span_within(limit: u64, text: &[u8]) -> Option<Span>
-    ensures span { result ≡ span_within limit text.now }
+    ensures span { result ≡ span (decimal_read limit) text.now }
     ensures bounds { IfSome result (λ span. span.hi ≤ limit) }
     ensures order { IfSome result (λ span. span.lo ≤ span.hi) }
 {
@@ -68,9 +70,9 @@ pub(crate) fn span_within(limit: u64, text: &[u8]) -> Option<Span>
 }
 
 /// The span `LO..HI` of opening codes, LO at most HI.
-#[tactic(auto, unfolding(crate::specs::Numbers::eco_span))]
+#[tactic(auto, unfolding(crate::specs::Numbers::span))]
 pub(crate) fn eco_span(text: &[u8]) -> Option<Span>
-    ensures { result ≡ eco_span text.now }
+    ensures { result ≡ span eco_read text.now }
 {
     let (lo, hi) = ends(text)?;
     let lo = read_eco(lo)?;

@@ -2,8 +2,11 @@
 ghost use Rattle.std.specs.Prelude.{◌≡◌, ◌≤◌, ◌<◌, length, IfOk, IfErr, Ok};
 ghost use Rattle.cell_core.specs.Text.{IsZeroFree};
 ghost use Rattle.script_text.specs.Words.{Word, words_of};
+ghost use Rattle.script_text.specs.Arguments.{last_argument};
+ghost use Rattle.script_text.specs.Forms.{vars};
 ghost use Rattle.script_text.specs.Answer.{Answers};
-ghost use Rattle.script_text.specs.Reading.{aside_word, looks_aside, search, search_position, searching, filtering, saving_filters, showing, editing, ending, command_of, shorn, is_remark, reading};
+ghost use Rattle.script_text.specs.Reading.{looks_aside, search, search_position, command_of, shorn, is_remark, reading};
+ghost use Rattle.script_text.specs.Parts.{searching, filtering, saving_filters, showing, editing, ending};
 ghost use Rattle.script_text.specs.Sound.{IsSound};
 ghost use Rattle.script_text.specs.declared.fault.CommandError.TheVariants.{Memory};
 
@@ -64,9 +67,9 @@ fn looks_aside(words: &[Word]) -> Result<bool, ScriptFault>
 }
 
 // That word.
-#[tactic(auto, unfolding(crate::specs::Reading::aside_word))]
+#[tactic(auto, unfolding(crate::specs::Arguments::last_argument))]
 fn aside_word(words: &[Word]) -> Result<bool, ScriptFault>
-    ensures exact { result ≡ aside_word words.now }
+    ensures exact { result ≡ last_argument 6 vars words.now }
 {
     let aside = vars(text_at(words, 6)?).ok_or(ScriptFault::Argument(6))?;
     no_more(words, 6)?;
@@ -90,7 +93,7 @@ fn search(alloc: Global, words: &[Word]) -> Result<Command, CommandError>
 }
 
 // Commands that look for positions, and those of watched trees.
-#[tactic(auto, unfolding(crate::specs::Reading::searching))]
+#[tactic(auto, unfolding(crate::specs::Parts::searching))]
 fn searching(alloc: Global, name: &[u8], words: &[Word]) -> Result<Command, CommandError>
     requires { length words.now < 4294967290 }
     ensures exact { Answers result (searching name.now words.now) }
@@ -121,7 +124,7 @@ fn searching(alloc: Global, name: &[u8], words: &[Word]) -> Result<Command, Comm
 }
 
 // Commands that change the filter by itself.
-#[tactic(auto, unfolding(crate::specs::Reading::filtering))]
+#[tactic(auto, unfolding(crate::specs::Parts::filtering))]
 fn filtering(alloc: Global, name: &[u8], words: &[Word]) -> Result<Command, CommandError>
     ensures exact { Answers result (filtering name.now words.now) }
     ensures bounds { IfOk result IsSound }
@@ -146,7 +149,7 @@ fn filtering(alloc: Global, name: &[u8], words: &[Word]) -> Result<Command, Comm
 }
 
 // Commands on saved filters.
-#[tactic(auto, unfolding(crate::specs::Reading::saving_filters))]
+#[tactic(auto, unfolding(crate::specs::Parts::saving_filters))]
 fn saving_filters(alloc: Global, name: &[u8], words: &[Word]) -> Result<Command, CommandError>
     ensures exact { Answers result (saving_filters name.now words.now) }
     ensures bounds { IfOk result IsSound }
@@ -170,7 +173,7 @@ fn saving_filters(alloc: Global, name: &[u8], words: &[Word]) -> Result<Command,
 }
 
 // Commands that show games and change nothing.
-#[tactic(auto, unfolding(crate::specs::Reading::showing))]
+#[tactic(auto, unfolding(crate::specs::Parts::showing))]
 fn showing(alloc: Global, name: &[u8], words: &[Word]) -> Result<Command, CommandError>
     ensures exact { Answers result (showing name.now words.now) }
     ensures bounds { IfOk result IsSound }
@@ -201,7 +204,7 @@ fn showing(alloc: Global, name: &[u8], words: &[Word]) -> Result<Command, Comman
 }
 
 // Commands that change games.
-#[tactic(auto, unfolding(crate::specs::Reading::editing))]
+#[tactic(auto, unfolding(crate::specs::Parts::editing))]
 fn editing(alloc: Global, name: &[u8], words: &[Word]) -> Result<Command, CommandError>
     ensures exact { Answers result (editing name.now words.now) }
     ensures bounds { IfOk result IsSound }
@@ -233,7 +236,7 @@ fn editing(alloc: Global, name: &[u8], words: &[Word]) -> Result<Command, Comman
 }
 
 // Commands for the base as a whole, and the end.
-#[tactic(auto, unfolding(crate::specs::Reading::ending))]
+#[tactic(auto, unfolding(crate::specs::Parts::ending))]
 fn ending(name: &[u8], words: &[Word]) -> Result<Command, ScriptFault>
     ensures exact { result ≡ ending name.now words.now }
     ensures bounds { IfOk result IsSound }
@@ -264,6 +267,7 @@ fn ending(name: &[u8], words: &[Word]) -> Result<Command, ScriptFault>
 }
 
 // The command of the words of a line.
+#[tactic(auto, using(crate::proofs::TableLaws::named_by_parts))]
 fn command_of(alloc: Global, words: &[Word]) -> Result<Command, CommandError>
     requires { length words.now < 4294967290 }
     ensures exact { Answers result (command_of words.now) }
