@@ -1,11 +1,12 @@
 -- What a seat keeps as it changes.
+use Rattle.std.specs.Option.{option_map_or}
 use Rattle.std.proofs.Common.{◌≡◌, ℕ, zero, suc, ◌+◌, ◌-◌, ◌<◌, ◌≤◌, ◌==◌, ◌&&◌, Bool, true, false, cond, List, [], ◌∷◌, ◌++◌, Option, Some, None, nat_lt, length, map, get_or, slice_get, set, take, drop, All, IfSome, Result, Ok, Err, OnOk, OnErr, option_map, length-append, refl, sym, ap, subst, ◌∙◌, arith}
 use Rattle.std.proofs.lemmas.Bool.{eqb-true, eqb-false, ltb-true, ltb-false}
 use Rattle.std.proofs.lemmas.List.{length-set, length-drop, length-take, length-map, get_or_past, get_or-set_same, get_or-set_other}
 use Rattle.std.proofs.lemmas.List.Elements.{All-map}
 use Rattle.game_filter.specs.Renumbering.{Numbering, renumbered}
 use Rattle.filter_seat.specs.declared.saved.SavedFilter.{SavedFilter}
-use Rattle.filter_seat.specs.SavedFilters.{most_saved, place_of, kept_at, kept_in, saved_as, dropped_at, dropped_in, to_start, kept_to_start, kept_renumbered, without_last}
+use Rattle.filter_seat.specs.SavedFilters.{most_saved, place_of, kept_at, kept_in, dropped_in, to_start, kept_to_start, kept_renumbered, without_last}
 use Rattle.filter_seat.proofs.SavedLaws.{length_to_start}
 use Rattle.tree_rows.specs.declared.hit.GameHit.{GameHit}
 use Rattle.tree_live.specs.declared.entry.Entry.{Entry}
@@ -101,7 +102,7 @@ seat-kept : (filter : List (Option ℕ)) (saved after : List SavedFilter) (slots
     → IsSeat (record { filter = filter; saved = after; slots = slots })
 seat-kept filter saved after slots name seat is same = record {
   few = seat.few;
-  kept = subst (λ (l : List SavedFilter). length l ≤ most_saved) (sym is) (length-kept_at saved (saved_as name filter) (place_of saved name) seat.kept);
+  kept = subst (λ (l : List SavedFilter). length l ≤ most_saved) (sym is) (length-kept_at saved (record { name = name; plies = filter }) (place_of saved name) seat.kept);
   saved = same seat.saved;
   watches = seat.watches;
   within = seat.within;
@@ -115,7 +116,7 @@ seat-kept-or (Ok x) filter saved after slots name seat is same stays = seat-kept
 seat-kept-or (Err e) filter saved after slots name seat is same stays =
     subst (λ (l : List SavedFilter). IsSeat (record { filter = filter; saved = l; slots = slots })) (sym stays) seat
 
-length-dropped_at : (saved : List SavedFilter) (place : Option ℕ) → length (dropped_at saved place) ≤ length saved
+length-dropped_at : (saved : List SavedFilter) (place : Option ℕ) → length (option_map_or (λ p. take p saved ++ drop (p + 1) saved) place saved) ≤ length saved
 length-dropped_at saved (Some place) =
     omega (arith, length-append (take place saved) (drop (place + 1) saved), length-take place saved, length-drop (place + 1) saved)
 length-dropped_at saved None = omega arith

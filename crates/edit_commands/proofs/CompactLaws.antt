@@ -28,7 +28,7 @@ use Rattle.edit_commands.proofs.SaveLaws.{contents_of, known_told}
 use Rattle.edit_commands.specs.Compacting.{DidCompact, numbers_of, is_within, compacted_state, compact_after, compact_text, compacted_line}
 use Rattle.edit_commands.specs.Ends.{uncompacted}
 use Rattle.filter_seat.specs.SavedFilters.{kept_renumbered}
-use Rattle.filter_seat.specs.Seats.{seat_renumbered}
+use Rattle.filter_seat.specs.Seats.{each_filter}
 use Rattle.filter_seat.specs.declared.saved.SavedFilter.{SavedFilter}
 use Rattle.edit_commands.specs.Indexed.{renumbered_index}
 use Rattle.shell_state.proofs.CarryLaws.{beside_meant, carry_of}
@@ -276,7 +276,7 @@ done_stands old new index watches watches' filter saved seen seen' s st is means
       games = fresh;
       told = told;
       base = known_games old new seen.games seen'.games st.games fresh s.shared.base compacts st.told told st.base;
-      seat = ap (seat_renumbered (numbering old.entries).to) st.seat ∙ ap (λ (t : List (Option ℕ)). seat_renumbered t s.seat) to;
+      seat = ap (each_filter (renumbered (numbering old.entries).to)) st.seat ∙ ap (λ (t : List (Option ℕ)). each_filter (renumbered t) s.seat) to;
       unsaved = clean;
       carried = done_beside (held_by old (tables_with index watches) filter saved) new seen seen' s st is means compacts;
       tables = ap₂ (λ (x : Option Index) (hits : List (Option HitTable)). record { index = x; hits = hits })

@@ -1,4 +1,5 @@
 -- Compacting the base. This project's own.
+use Rattle.game_filter.specs.Renumbering.{renumbered}
 use Rattle.std.specs.Fmt.{decimal}
 use Rattle.std.specs.Prelude.{filter, ℕ, List, map, Option, nat_le, Bool, Some, if◌then◌else◌, ◌++◌, codes, length, sum_by, not, ◌≡◌, ◌⊎◌}
 use Rattle.base_core.specs.Base.{Base}
@@ -8,7 +9,7 @@ use Rattle.base_core.specs.declared.fault.What.TheVariants.{File}
 use Rattle.base_files.specs.Seen.{Seen}
 use Rattle.block_store.specs.Placing.{longest_file}
 use Rattle.compact_base.specs.Compacting.{CopiesRecords, numbers_from}
-use Rattle.filter_seat.specs.Seats.{seat_renumbered}
+use Rattle.filter_seat.specs.Seats.{each_filter}
 use Rattle.shell_state.specs.Refusing.{refusal_line}
 use Rattle.shell_state.specs.State.{State, saved_whole}
 use Rattle.shell_state.specs.Work.{Work, writing}
@@ -25,7 +26,8 @@ is_within base = nat_le (compacted base).end longest_file
 
 -- compact: the undeleted games stay, the filters and the index move with them, and the files carry the base that is left.
 abbrev pub compacted_state : State → State
-compacted_state s = record s { shared = saved_whole s.shared (compacted s.shared.base); seat = seat_renumbered (numbers_of s.shared.base) s.seat }
+compacted_state s =
+    record s { shared = saved_whole s.shared (compacted s.shared.base); seat = each_filter (renumbered (numbers_of s.shared.base)) s.seat }
 
 abbrev pub compact_after : State → State
 compact_after s = if is_within s.shared.base then compacted_state s else s

@@ -1,37 +1,23 @@
 -- The commands on filters, which change the seat alone. This project's own; the operations are those of Scid's filters.
-use Rattle.std.specs.Prelude.{length, ℕ, List, if◌then◌else◌, codes, Option}
-use Rattle.game_filter.specs.Filter.{all_in, all_out, negated, restricted, intersection, union}
-use Rattle.filter_seat.specs.SavedFilters.{kept_in, can_keep, saved_named, joined_with, is_kept, dropped_in, taken}
+use Rattle.std.specs.Prelude.{ℕ, List, if◌then◌else◌, codes, Option}
+use Rattle.filter_seat.specs.SavedFilters.{kept_in, can_keep, saved_named, joined_with, is_kept, dropped_in}
 use Rattle.filter_seat.specs.Seats.{Seat}
 use Rattle.filter_seat.specs.declared.saved.SavedFilter.{SavedFilter}
-use Rattle.shell_state.specs.Lines.{name_line, full_filters_line, filter_line, no_filter_line}
+use Rattle.shell_state.specs.Lines.{name_line, line_of, filter_line, no_filter_line}
 use Rattle.shell_state.specs.Work.{Work, seated}
 
--- A command that changes the filter, and tells how many games are in.
+-- A command that changes the filter, and tells how many games are in: reset, clear, negate, restrict A B.
 abbrev pub filtering : (List (Option ℕ) → List (Option ℕ)) → Work
 filtering change = seated (λ seat. record seat { filter = change seat.filter }) (λ seat. filter_line (change seat.filter))
 
--- reset, clear, negate, restrict A B
-abbrev pub reset_work : Work
-reset_work = filtering (λ plies. all_in (length plies))
-
-abbrev pub clear_work : Work
-clear_work = filtering (λ plies. all_out (length plies))
-
-abbrev pub negate_work : Work
-negate_work = filtering negated
-
-abbrev pub restrict_work : ℕ → ℕ → Work
-restrict_work first last = filtering (restricted first last)
-
 -- keep NAME, where a filter of this name is kept or fewer than eight are kept.
 abbrev pub keep_line : List SavedFilter → List ℕ → List ℕ
-keep_line saved name = if can_keep saved name then name_line (codes "kept ") name else full_filters_line
+keep_line saved name = if can_keep saved name then name_line (codes "kept ") name else line_of (codes "error: full filters")
 
 abbrev pub keep_work : List ℕ → Work
 keep_work name = seated (λ seat. record seat { saved = kept_in seat.saved name seat.filter }) (λ seat. keep_line seat.saved name)
 
--- use NAME, and NAME, or NAME: the filter joined with the one of this name, where there is one.
+-- use NAME, and NAME, or NAME: the filter joined with the one of this name, where there is one; `use` takes that one in its place.
 abbrev pub joined_in : (List (Option ℕ) → List (Option ℕ) → List (Option ℕ)) → List ℕ → Seat → List (Option ℕ)
 joined_in join name seat = joined_with join seat.filter (saved_named seat.saved name)
 
@@ -40,15 +26,6 @@ join_line saved name plies = if is_kept saved name then filter_line plies else n
 
 abbrev pub join_work : (List (Option ℕ) → List (Option ℕ) → List (Option ℕ)) → List ℕ → Work
 join_work join name = seated (λ seat. record seat { filter = joined_in join name seat }) (λ seat. join_line seat.saved name (joined_in join name seat))
-
-abbrev pub use_work : List ℕ → Work
-use_work name = join_work taken name
-
-abbrev pub and_work : List ℕ → Work
-and_work name = join_work intersection name
-
-abbrev pub or_work : List ℕ → Work
-or_work name = join_work union name
 
 -- drop NAME
 abbrev pub drop_line : List SavedFilter → List ℕ → List ℕ

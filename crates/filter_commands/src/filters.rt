@@ -1,7 +1,7 @@
 //! The commands on filters. Each answers the line that it writes, and `keep` alone takes memory.
 ghost use Rattle.std.specs.Prelude.{◌≡◌, ◌≤◌, ℕ, All, IfOk, length};
-ghost use Rattle.game_filter.specs.Filter.{restricted};
-ghost use Rattle.filter_commands.specs.Filters.{drop_line, restrict_work, use_work, keep_work, or_work, drop_work, reset_work, negate_work, clear_work, and_work};
+ghost use Rattle.game_filter.specs.Filter.{all_in, all_out, intersection, negated, restricted, union};
+ghost use Rattle.filter_commands.specs.Filters.{drop_line, drop_work, filtering, join_work, keep_work};
 ghost use Rattle.filter_seat.specs.SavedFilters.{dropped_in};
 ghost use Rattle.shell_state.specs.Stands.{Fits, Quiet};
 
@@ -14,7 +14,7 @@ use std::alloc::{AllocError, Global};
 /// reset
 pub fn reset(machine: &mut Machine) -> Line
     requires fits { Fits machine.old }
-    ensures quiet { Quiet machine.old reset_work machine.new result.items }
+    ensures quiet { Quiet machine.old (filtering (λ plies. all_in (length plies))) machine.new result.items }
 {
     machine.seat.filter.reset();
     filter_line(&machine.seat.filter)
@@ -23,7 +23,7 @@ pub fn reset(machine: &mut Machine) -> Line
 /// clear
 pub fn clear(machine: &mut Machine) -> Line
     requires fits { Fits machine.old }
-    ensures quiet { Quiet machine.old clear_work machine.new result.items }
+    ensures quiet { Quiet machine.old (filtering (λ plies. all_out (length plies))) machine.new result.items }
 {
     machine.seat.filter.clear();
     filter_line(&machine.seat.filter)
@@ -32,7 +32,7 @@ pub fn clear(machine: &mut Machine) -> Line
 /// negate
 pub fn negate(machine: &mut Machine) -> Line
     requires fits { Fits machine.old }
-    ensures quiet { Quiet machine.old negate_work machine.new result.items }
+    ensures quiet { Quiet machine.old (filtering negated) machine.new result.items }
 {
     machine.seat.filter.negate();
     filter_line(&machine.seat.filter)
@@ -41,7 +41,7 @@ pub fn negate(machine: &mut Machine) -> Line
 /// restrict A B
 pub fn restrict(machine: &mut Machine, first: u64, last: u64) -> Line
     requires fits { Fits machine.old }
-    ensures quiet { Quiet machine.old (restrict_work first last) machine.new result.items }
+    ensures quiet { Quiet machine.old (filtering (restricted first last)) machine.new result.items }
 {
     restrict_to(&mut machine.seat.filter, first, last);
     filter_line(&machine.seat.filter)
@@ -74,7 +74,7 @@ pub fn keep_filter(alloc: Global, machine: &mut Machine, name: &Text) -> Result<
 pub fn take(machine: &mut Machine, name: &Text) -> Line
     requires fits { Fits machine.old }
     requires short { length name.now ≤ 32 }
-    ensures quiet { Quiet machine.old (use_work name.now) machine.new result.items }
+    ensures quiet { Quiet machine.old (join_work (λ own other. other) name.now) machine.new result.items }
 {
     if !take_from(
         &mut machine.seat.filter,
@@ -90,7 +90,7 @@ pub fn take(machine: &mut Machine, name: &Text) -> Line
 pub fn and(machine: &mut Machine, name: &Text) -> Line
     requires fits { Fits machine.old }
     requires short { length name.now ≤ 32 }
-    ensures quiet { Quiet machine.old (and_work name.now) machine.new result.items }
+    ensures quiet { Quiet machine.old (join_work intersection name.now) machine.new result.items }
 {
     if !meet(
         &mut machine.seat.filter,
@@ -106,7 +106,7 @@ pub fn and(machine: &mut Machine, name: &Text) -> Line
 pub fn or(machine: &mut Machine, name: &Text) -> Line
     requires fits { Fits machine.old }
     requires short { length name.now ≤ 32 }
-    ensures quiet { Quiet machine.old (or_work name.now) machine.new result.items }
+    ensures quiet { Quiet machine.old (join_work union name.now) machine.new result.items }
 {
     if !unite(
         &mut machine.seat.filter,

@@ -1,4 +1,5 @@
 -- Laws of kept filters: each goes on to have an entry for each game, and at most eight are kept.
+use Rattle.std.specs.Option.{option_map_or}
 use Rattle.std.proofs.Common.{◌≡◌, ◌≤◌, ℕ, zero, suc, ◌+◌, Bool, true, false, cond, nat_lt, [], ◌∷◌, ◌++◌, List, All, Option, Some, None, length, map, take, drop, get_or, refl, subst, arith}
 use Rattle.std.proofs.lemmas.Bool.{ltb-true}
 use Rattle.std.proofs.lemmas.List.{length-append, length-drop, length-map, length-set, length-take}
@@ -6,7 +7,7 @@ use Rattle.std.proofs.lemmas.List.Elements.{All-append, All-cons, All-drop, All-
 use Rattle.std.specs.Prelude.{option_and_then, option_map, slice_get}
 use Rattle.game_filter.specs.Renumbering.{renumbered}
 use Rattle.filter_seat.proofs.SavedLaws.{all_to_start, all_with_game}
-use Rattle.filter_seat.specs.SavedFilters.{dropped_at, dropped_in, joined_with, kept_at, kept_in, kept_renumbered, kept_to_start, most_saved, place_of, plies_at, saved_as, saved_named, without_last}
+use Rattle.filter_seat.specs.SavedFilters.{dropped_in, joined_with, kept_at, kept_in, kept_renumbered, kept_to_start, most_saved, place_of, saved_named, without_last}
 use Rattle.filter_seat.specs.declared.saved.SavedFilter.{SavedFilter}
 
 -- They have entries for so many games, and are at most eight.
@@ -28,9 +29,9 @@ kept_full saved new games (Some place) long kept =
 kept_full saved new games None long kept = kept_by (nat_lt (length saved) most_saved) saved new games refl long kept
 
 pub one_kept : (saved : List SavedFilter) (name : List ℕ) (plies : List (Option ℕ)) (games : ℕ) → length plies ≡ games → AreKept games saved → AreKept games (kept_in saved name plies)
-one_kept saved name plies games long kept = kept_full saved (saved_as name plies) games (place_of saved name) long kept
+one_kept saved name plies games long kept = kept_full saved (record { name = name; plies = plies }) games (place_of saved name) long kept
 
-dropped_full : (saved : List SavedFilter) (games : ℕ) (place : Option ℕ) → AreKept games saved → AreKept games (dropped_at saved place)
+dropped_full : (saved : List SavedFilter) (games : ℕ) (place : Option ℕ) → AreKept games saved → AreKept games (option_map_or (λ p. take p saved ++ drop (p + 1) saved) place saved)
 dropped_full saved games (Some place) kept =
     let P : SavedFilter → Type 0 = λ f. length f.plies ≡ games in
     let all = length-append (take place saved) (drop (place + 1) saved) in (
@@ -56,7 +57,7 @@ plies_long (Some f) games own join fits joins long = joins f.plies (fits f refl)
 plies_long None games own join fits joins long = long
 
 placed_long : (saved : List SavedFilter) (place : Option ℕ) (games : ℕ) (own : List (Option ℕ)) (join : List (Option ℕ) → List (Option ℕ) → List (Option ℕ)) → All (λ (f : SavedFilter). length f.plies ≡ games) saved
-    → ((other : List (Option ℕ)) → length other ≡ games → length (join own other) ≡ games) → length own ≡ games → length (joined_with join own (option_and_then (plies_at saved) place)) ≡ games
+    → ((other : List (Option ℕ)) → length other ≡ games → length (join own other) ≡ games) → length own ≡ games → length (joined_with join own (option_and_then (λ p. option_map (λ (f : SavedFilter). f.plies) (slice_get saved p)) place)) ≡ games
 placed_long saved (Some place) games own join all joins long =
     plies_long (slice_get saved place) games own join (λ f is. at_place (λ (f : SavedFilter). length f.plies ≡ games) saved place f all is) joins long
 placed_long saved None games own join all joins long = long

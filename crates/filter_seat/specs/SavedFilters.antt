@@ -1,17 +1,22 @@
 -- Filters that are kept by name, at most eight, in the order in which their names were first kept. This project's own.
+use Rattle.std.specs.Option.{option_map_or}
 use Rattle.std.specs.List.{position}
-use Rattle.std.specs.Prelude.{ℕ, List, Option, ◌+◌, [], ◌∷◌, ◌++◌, None, zero, suc, option_map, slice_get, option_and_then, Bool, is_some, nat_lt, true, length, Some, if◌then◌else◌, slice_set, take, drop}
+use Rattle.std.specs.Prelude.{ℕ, List, Option, ◌+◌, [], ◌∷◌, ◌++◌, None, zero, suc, option_map, slice_get, option_and_then, Bool, ◌||◌, is_some, nat_lt, length, Some, if◌then◌else◌, slice_set, take, drop}
 use Rattle.std.specs.Str.{bytes_eq}
 use Rattle.game_filter.specs.Renumbering.{renumbered}
 use Rattle.filter_seat.specs.declared.saved.SavedFilter.{SavedFilter}
 
--- A filter that is kept, with the entries of the games that stay.
-abbrev pub kept_renumbered : List (Option ℕ) → SavedFilter → SavedFilter
-kept_renumbered to kept = record kept { plies = renumbered to kept.plies }
+-- A filter that is kept, with its entries changed.
+abbrev pub kept_with : (List (Option ℕ) → List (Option ℕ)) → SavedFilter → SavedFilter
+kept_with change kept = record kept { plies = change kept.plies }
 
--- A filter that is kept is the same without the added game.
+-- With the entries of the games that stay.
+abbrev pub kept_renumbered : List (Option ℕ) → SavedFilter → SavedFilter
+kept_renumbered to = kept_with (renumbered to)
+
+-- Without the added game.
 abbrev pub without_last : SavedFilter → SavedFilter
-without_last kept = record kept { plies = kept.plies ++ None ∷ [] }
+without_last = kept_with (λ plies. plies ++ None ∷ [])
 
 -- A game that is in is in at ply 0.
 abbrev pub to_start : ℕ → List (Option ℕ) → List (Option ℕ)
@@ -20,7 +25,7 @@ to_start zero (ply ∷ plies) = option_map (λ _. 0) ply ∷ plies
 to_start (suc game) (ply ∷ plies) = ply ∷ to_start game plies
 
 abbrev pub kept_to_start : ℕ → SavedFilter → SavedFilter
-kept_to_start game kept = record kept { plies = to_start game kept.plies }
+kept_to_start game = kept_with (to_start game)
 
 -- How many filters are kept at most.
 abbrev pub most_saved : ℕ
@@ -30,29 +35,17 @@ most_saved = 8
 abbrev pub place_of : List SavedFilter → List ℕ → Option ℕ
 place_of saved name = position (λ kept. bytes_eq kept.name name) saved
 
--- The filter at a place.
-abbrev pub plies_at : List SavedFilter → ℕ → Option (List (Option ℕ))
-plies_at saved place = option_map (λ kept. kept.plies) (slice_get saved place)
-
 -- The filter of a name.
 abbrev pub saved_named : List SavedFilter → List ℕ → Option (List (Option ℕ))
-saved_named saved name = option_and_then (plies_at saved) (place_of saved name)
+saved_named saved name = option_and_then (λ place. option_map (λ kept. kept.plies) (slice_get saved place)) (place_of saved name)
 
 -- Whether a filter of this name is kept.
 abbrev pub is_kept : List SavedFilter → List ℕ → Bool
 is_kept saved name = is_some (place_of saved name)
 
--- A filter of this name.
-abbrev pub saved_as : List ℕ → List (Option ℕ) → SavedFilter
-saved_as name plies = record { name = name; plies = plies }
-
 -- Whether a filter can be kept under this name: in the place of one that has it, or as one more.
-abbrev pub has_room : List SavedFilter → Option ℕ → Bool
-has_room saved (Some place) = true
-has_room saved None = nat_lt (length saved) most_saved
-
 abbrev pub can_keep : List SavedFilter → List ℕ → Bool
-can_keep saved name = has_room saved (place_of saved name)
+can_keep saved name = is_kept saved name || nat_lt (length saved) most_saved
 
 -- The filters after one was kept under this name, where there was room for it.
 abbrev pub kept_at : List SavedFilter → SavedFilter → Option ℕ → List SavedFilter
@@ -60,21 +53,12 @@ kept_at saved new (Some place) = slice_set saved place new
 kept_at saved new None = if nat_lt (length saved) most_saved then saved ++ new ∷ [] else saved
 
 abbrev pub kept_in : List SavedFilter → List ℕ → List (Option ℕ) → List SavedFilter
-kept_in saved name plies = kept_at saved (saved_as name plies) (place_of saved name)
+kept_in saved name plies = kept_at saved (record { name = name; plies = plies }) (place_of saved name)
 
 -- The filters without the one of this name.
-abbrev pub dropped_at : List SavedFilter → Option ℕ → List SavedFilter
-dropped_at saved (Some place) = take place saved ++ drop (place + 1) saved
-dropped_at saved None = saved
-
 unfoldable pub dropped_in : List SavedFilter → List ℕ → List SavedFilter
-dropped_in saved name = dropped_at saved (place_of saved name)
+dropped_in saved name = option_map_or (λ place. take place saved ++ drop (place + 1) saved) (place_of saved name) saved
 
 -- A filter joined with the one of a name, where there is one.
 abbrev pub joined_with : (List (Option ℕ) → List (Option ℕ) → List (Option ℕ)) → List (Option ℕ) → Option (List (Option ℕ)) → List (Option ℕ)
-joined_with join own None = own
-joined_with join own (Some other) = join own other
-
--- The other filter takes the place of the own one.
-abbrev pub taken : List (Option ℕ) → List (Option ℕ) → List (Option ℕ)
-taken own other = other
+joined_with join own other = option_map_or (join own) other own

@@ -1,8 +1,7 @@
 -- What one user of an open base has of his own. This project's own.
-use Rattle.std.specs.Prelude.{◌≡◌, ℕ, List, [], ◌∷◌, ◌++◌, Option, Some, All, length, map}
+use Rattle.std.specs.Prelude.{◌≡◌, ℕ, List, [], ◌∷◌, ◌++◌, Option, None, Some, All, length, map}
 use Rattle.game_filter.specs.Filter.{all_in}
-use Rattle.game_filter.specs.Renumbering.{renumbered}
-use Rattle.filter_seat.specs.SavedFilters.{kept_renumbered, kept_to_start, to_start, without_last}
+use Rattle.filter_seat.specs.SavedFilters.{kept_with}
 use Rattle.filter_seat.specs.declared.saved.SavedFilter.{SavedFilter}
 
 -- A filter with an entry for each game, and the filters that are kept by name.
@@ -21,12 +20,9 @@ first_seat games = record { filter = all_in games; saved = [] }
 
 -- With an added game, which is in at ply 0, and in no filter that is kept.
 abbrev pub seat_with_one : Seat → Seat
-seat_with_one seat = record { filter = seat.filter ++ Some 0 ∷ []; saved = map without_last seat.saved }
+seat_with_one seat = record { filter = seat.filter ++ Some 0 ∷ []; saved = map (kept_with (λ plies. plies ++ None ∷ [])) seat.saved }
 
--- With a game that was replaced: it is in at ply 0 in each filter that has it.
-abbrev pub seat_to_start : ℕ → Seat → Seat
-seat_to_start game seat = record { filter = to_start game seat.filter; saved = map (kept_to_start game) seat.saved }
-
--- With new numbers of the games: the entries move with them.
-abbrev pub seat_renumbered : List (Option ℕ) → Seat → Seat
-seat_renumbered to seat = record { filter = renumbered to seat.filter; saved = map (kept_renumbered to) seat.saved }
+-- With each of its filters changed: where a game was replaced, it is in at ply 0 in each that has it; where games have new numbers, the
+-- entries move with them.
+abbrev pub each_filter : (List (Option ℕ) → List (Option ℕ)) → Seat → Seat
+each_filter change seat = record { filter = change seat.filter; saved = map (kept_with change) seat.saved }

@@ -2,7 +2,7 @@
 ghost use Rattle.std.specs.Prelude.{◌≡◌, ◌<◌, ℕ, All, length, map, IfSome, IfOk, OnOk, OnErr, option_copied};
 ghost use Rattle.game_filter.specs.Filter.{intersection, union};
 ghost use Rattle.game_filter.specs.Renumbering.{Rises, renumbered};
-ghost use Rattle.filter_seat.specs.SavedFilters.{kept_renumbered, kept_to_start, to_start, without_last, place_of, is_kept, kept_in, can_keep, dropped_in, joined_with, saved_named, taken};
+ghost use Rattle.filter_seat.specs.SavedFilters.{kept_renumbered, kept_to_start, to_start, without_last, place_of, is_kept, kept_in, can_keep, dropped_in, joined_with, saved_named};
 
 use cell_core::Text;
 use game_filter::{Filter, Renumbering};
@@ -159,7 +159,7 @@ pub fn forget(saved: &mut Vec<SavedFilter>, name: &[u8]) -> bool
 #[tactic(auto, using(crate::proofs::SavedLaws::length_joined))]
 pub fn take_from(filter: &mut Filter, saved: &[SavedFilter], name: &[u8]) -> bool
     requires same_games { All (λ kept. length kept.plies ≡ length filter.old) saved.now }
-    ensures joined { filter.new ≡ joined_with taken filter.old (saved_named saved.now name.now) }
+    ensures joined { filter.new ≡ joined_with (λ own other. other) filter.old (saved_named saved.now name.now) }
     ensures games { length filter.new ≡ length filter.old }
     ensures kept { result ≡ is_kept saved.now name.now }
 {

@@ -13,7 +13,8 @@ use Rattle.pgn_read.specs.declared.item.GameWhat.{GameWhat}
 use Rattle.pgn_read.specs.declared.item.GameWhat.TheVariants as what
 use Rattle.pgn_read.specs.declared.item.Item.{Item}
 use Rattle.pgn_read.specs.declared.item.Item.TheVariants.{Good, Bad}
-use Rattle.filter_seat.specs.Seats.{seat_to_start}
+use Rattle.filter_seat.specs.SavedFilters.{to_start}
+use Rattle.filter_seat.specs.Seats.{each_filter}
 use Rattle.shell_state.specs.Lines.{san_words, game_line, line_of, no_game_line}
 use Rattle.shell_state.specs.Refusing.{not_added, refusal_of, refusal_words}
 use Rattle.shell_state.specs.State.{State, with_base, with_game, with_seat}
@@ -113,7 +114,7 @@ the_new s game body =
     else unless_line (first_faulty 1 (items_of body)) (the_one s.shared.base (items_of body))
 
 abbrev pub state_with : State → ℕ → Result (Head × GameTree) (List ℕ) → State
-state_with s game (Ok new) = with_seat (with_base s (game_replaced game new.0 new.1 s.shared.base)) (seat_to_start game s.seat)
+state_with s game (Ok new) = with_seat (with_base s (game_replaced game new.0 new.1 s.shared.base)) (each_filter (to_start game) s.seat)
 state_with s game (Err line) = s
 
 abbrev pub line_with : ℕ → Result (Head × GameTree) (List ℕ) → List ℕ

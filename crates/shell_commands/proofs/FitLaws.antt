@@ -19,7 +19,7 @@ use Rattle.edit_commands.proofs.EditLaws.{edited_there}
 use Rattle.filter_commands.proofs.FilterLaws.{length_restricted}
 use Rattle.filter_seat.proofs.SavedLaws.{length_joined, length_to_start}
 use Rattle.filter_seat.proofs.SeatLaws.{AreKept, all_left_out, all_put_at_start, all_renumbered, joined_long, one_dropped, one_kept}
-use Rattle.filter_seat.specs.SavedFilters.{kept_to_start, taken, without_last}
+use Rattle.filter_seat.specs.SavedFilters.{kept_to_start, without_last}
 use Rattle.filter_seat.specs.declared.saved.SavedFilter.{SavedFilter}
 use Rattle.game_filter.proofs.Searches.{length-searched}
 use Rattle.game_filter.specs.Filter.{in_both, in_either, intersection, turned, union}
@@ -225,7 +225,7 @@ command_has w s Negate body has = refiltered s _ (length-map s.seat.filter turne
 command_has w s (Restrict first last) body has = refiltered s _ (length_restricted first last s.seat.filter) has
 command_has w s (Keep name) body has = resaved s _ (one_kept s.seat.saved name s.seat.filter (length s.shared.base.games) has.fit.filter (kept_of s has)) has
 command_has w s (Take name) body has =
-    refiltered s _ (joined_long s.seat.saved name (length s.shared.base.games) s.seat.filter taken has.fit.saved (λ other long. long) has.fit.filter ∙ sym has.fit.filter) has
+    refiltered s _ (joined_long s.seat.saved name (length s.shared.base.games) s.seat.filter (λ own other. other) has.fit.saved (λ other long. long) has.fit.filter ∙ sym has.fit.filter) has
 command_has w s (And name) body has =
     refiltered s _ (joined_long s.seat.saved name (length s.shared.base.games) s.seat.filter intersection has.fit.saved (λ other long. length_joined in_both s.seat.filter other (has.fit.filter ∙ sym long) ∙ has.fit.filter) has.fit.filter ∙ sym has.fit.filter) has
 command_has w s (Or name) body has =

@@ -1,6 +1,8 @@
 -- Laws of refused tasks: a text that begins with `error: ` leaves the state as it was.
+use Rattle.filter_seat.specs.declared.saved.SavedFilter.{SavedFilter}
+use Rattle.std.specs.Option.{option_map_or}
 use Rattle.std.proofs.Common.{◌≡◌, ◌<◌, ◌+◌, ◌%◌, ◌^◌, true≢false, ℕ, zero, suc, Bool, true, false, List, [], ◌∷◌, ◌++◌, length, Option, Some, None, Result, Ok, Err, refl, sym, ap, ◌∙◌, subst, arith, append_assoc, append-nil}
-use Rattle.std.specs.Prelude.{codes, unwrap_or, if◌then◌else◌, is_some, nat_eq, nat_lt, option_and_then, slice_get, slice_set}
+use Rattle.std.specs.Prelude.{codes, unwrap_or, if◌then◌else◌, is_some, nat_eq, nat_lt, option_and_then, slice_get, slice_set, ◌||◌, take, drop, option_map}
 use Rattle.std.specs.Fmt.{decimal}
 use Rattle.std.proofs.lemmas.Fmt.{decimal_by_steps}
 use Rattle.std.proofs.lemmas.List.{set-get_or}
@@ -25,7 +27,7 @@ use Rattle.script_text.specs.declared.command.Command.TheVariants.{Nothing, Find
 use Rattle.edit_commands.specs.Compacting.{compacted_line, compacted_state, is_within}
 use Rattle.edit_commands.proofs.TagLaws.{tag_line_there, tagged_there, unless_refused}
 use Rattle.edit_commands.proofs.EditLaws.{edited_there, line_there}
-use Rattle.filter_seat.specs.SavedFilters.{dropped_at, dropped_in, has_room, is_kept, joined_with, kept_at, place_of, plies_at, saved_as, taken}
+use Rattle.filter_seat.specs.SavedFilters.{dropped_in, is_kept, joined_with, kept_at, place_of}
 use Rattle.intake_commands.proofs.DemoLaws.{unless_said, unless_shown}
 use Rattle.intake_commands.specs.Demo.{Adding, adding, one_more}
 use Rattle.intake_commands.specs.Importing.{Intake, intake, item_after, line_with, none_taken, state_with, the_new}
@@ -40,7 +42,7 @@ use Rattle.search_commands.specs.Searching.{find_after}
 use Rattle.index_commands.specs.Indexing.{index_line, is_too_big, too_big_line}
 use Rattle.pos_index.specs.Hits.{entries_of}
 use Rattle.shell_state.specs.Stands.{index_of}
-use Rattle.shell_state.specs.Lines.{game_line, filter_line, full_filters_line, hit_lines, hits_text, name_line, no_filter_line}
+use Rattle.shell_state.specs.Lines.{game_line, filter_line, hit_lines, hits_text, name_line, no_filter_line, line_of}
 use Rattle.shell_state.specs.Refusing.{not_added, refusal_line, refusal_of}
 use Rattle.shell_state.specs.Slots.{Slot, slot_at}
 use Rattle.shell_state.specs.Slots.Slot.{empty, idle, shows}
@@ -99,23 +101,23 @@ found_so s plies few is = no_hits 0 plies plies (omega (arith, few)) is
 
 -- ---- each command
 
-kept_none : (room : Bool) (s : State) (name : List ℕ) → IsError (if room then name_line (codes "kept ") name else full_filters_line)
-    → with_seat s (record s.seat { saved = if room then s.seat.saved ++ saved_as name s.seat.filter ∷ [] else s.seat.saved }) ≡ s
+kept_none : (room : Bool) (s : State) (name : List ℕ) → IsError (if room then name_line (codes "kept ") name else line_of (codes "error: full filters"))
+    → with_seat s (record s.seat { saved = if room then s.seat.saved ++ (record { name = name; plies = s.seat.filter }) ∷ [] else s.seat.saved }) ≡ s
 kept_none true s name is = absurd (not_error 107 _ refl is)
 kept_none false s name is = refl
 
-kept_so : (place : Option ℕ) (s : State) (name : List ℕ) → IsError (if has_room s.seat.saved place then name_line (codes "kept ") name else full_filters_line)
-    → with_seat s (record s.seat { saved = kept_at s.seat.saved (saved_as name s.seat.filter) place }) ≡ s
+kept_so : (place : Option ℕ) (s : State) (name : List ℕ) → IsError (if is_some place || nat_lt (length s.seat.saved) 8 then name_line (codes "kept ") name else line_of (codes "error: full filters"))
+    → with_seat s (record s.seat { saved = kept_at s.seat.saved (record { name = name; plies = s.seat.filter }) place }) ≡ s
 kept_so (Some place) s name is = absurd (not_error 107 _ refl is)
 kept_so None s name is = kept_none (nat_lt (length s.seat.saved) 8) s name is
 
 joined_so : (place : Option ℕ) (join : List (Option ℕ) → List (Option ℕ) → List (Option ℕ)) (s : State) (name : List ℕ)
-    → IsError (if is_some place then filter_line (joined_with join s.seat.filter (option_and_then (plies_at s.seat.saved) place)) else no_filter_line name)
-    → with_filter s (joined_with join s.seat.filter (option_and_then (plies_at s.seat.saved) place)) ≡ s
+    → IsError (if is_some place then filter_line (joined_with join s.seat.filter (option_and_then (λ p. option_map (λ (f : SavedFilter). f.plies) (slice_get s.seat.saved p)) place)) else no_filter_line name)
+    → with_filter s (joined_with join s.seat.filter (option_and_then (λ p. option_map (λ (f : SavedFilter). f.plies) (slice_get s.seat.saved p)) place)) ≡ s
 joined_so (Some place) join s name is = absurd (not_error 102 _ refl is)
 joined_so None join s name is = refl
 
-dropped_so : (place : Option ℕ) (s : State) (name : List ℕ) → IsError (if is_some place then name_line (codes "dropped ") name else no_filter_line name) → with_seat s (record s.seat { saved = dropped_at s.seat.saved place }) ≡ s
+dropped_so : (place : Option ℕ) (s : State) (name : List ℕ) → IsError (if is_some place then name_line (codes "dropped ") name else no_filter_line name) → with_seat s (record s.seat { saved = option_map_or (λ p. take p s.seat.saved ++ drop (p + 1) s.seat.saved) place s.seat.saved }) ≡ s
 dropped_so (Some place) s name is = absurd (not_error 100 _ refl is)
 dropped_so None s name is = refl
 
@@ -185,7 +187,7 @@ command_refused w s Clear body few is imports makes = absurd (not_error 102 _ re
 command_refused w s Negate body few is imports makes = absurd (not_error 102 _ refl is)
 command_refused w s (Restrict first last) body few is imports makes = absurd (not_error 102 _ refl is)
 command_refused w s (Keep name) body few is imports makes = kept_so (place_of s.seat.saved name) s name is
-command_refused w s (Take name) body few is imports makes = joined_so (place_of s.seat.saved name) taken s name is
+command_refused w s (Take name) body few is imports makes = joined_so (place_of s.seat.saved name) (λ own other. other) s name is
 command_refused w s (And name) body few is imports makes = joined_so (place_of s.seat.saved name) intersection s name is
 command_refused w s (Or name) body few is imports makes = joined_so (place_of s.seat.saved name) union s name is
 command_refused w s (Drop name) body few is imports makes = dropped-so s name is

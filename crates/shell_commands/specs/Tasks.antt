@@ -1,5 +1,5 @@
 -- The plain machine over the tasks of a script, its lines with their bodies: what each command does. This project's own.
-use Rattle.std.specs.Prelude.{ℕ, Bool, List, [], Option, IfSome, Ok, Err}
+use Rattle.std.specs.Prelude.{ℕ, Bool, List, [], Option, IfSome, Ok, Err, length}
 use Rattle.base_files.specs.Seen.{Seen}
 use Rattle.base_core.specs.Base.{Base}
 use Rattle.command_runs.specs.Plain.{Plain}
@@ -9,7 +9,8 @@ use Rattle.script_text.specs.declared.command.Command.TheVariants.{Nothing, Find
 use Rattle.edit_commands.specs.Compacting.{compact_work}
 use Rattle.edit_commands.specs.Editing.{delete_work, mark_work, tag_work, undelete_work}
 use Rattle.edit_commands.specs.Saving.{save_work}
-use Rattle.filter_commands.specs.Filters.{and_work, clear_work, drop_work, keep_work, negate_work, or_work, reset_work, restrict_work, use_work}
+use Rattle.filter_commands.specs.Filters.{drop_work, filtering, join_work, keep_work}
+use Rattle.game_filter.specs.Filter.{all_in, all_out, intersection, negated, restricted, union}
 use Rattle.index_commands.specs.Indexing.{index_work}
 use Rattle.intake_commands.specs.Demo.{demo_work}
 use Rattle.intake_commands.specs.Importing.{import_work, replace_work}
@@ -37,14 +38,14 @@ command_work w (Find board side) body = find_work board side
 command_work w (SearchPosition op query) body = search_position_work op query
 command_work w (SearchMaterial op query) body = search_material_work op query
 command_work w (SearchHeader op query) body = search_header_work op query
-command_work w Reset body = reset_work
-command_work w Clear body = clear_work
-command_work w Negate body = negate_work
-command_work w (Restrict first last) body = restrict_work first last
+command_work w Reset body = filtering (λ plies. all_in (length plies))
+command_work w Clear body = filtering (λ plies. all_out (length plies))
+command_work w Negate body = filtering negated
+command_work w (Restrict first last) body = filtering (restricted first last)
 command_work w (Keep name) body = keep_work name
-command_work w (Take name) body = use_work name
-command_work w (And name) body = and_work name
-command_work w (Or name) body = or_work name
+command_work w (Take name) body = join_work (λ own other. other) name
+command_work w (And name) body = join_work intersection name
+command_work w (Or name) body = join_work union name
 command_work w (Drop name) body = drop_work name
 command_work w Hits body = hits_work
 command_work w Listing body = list_work

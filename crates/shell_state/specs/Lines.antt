@@ -60,20 +60,13 @@ texts_from text game (ply ∷ plies) (item ∷ items) = text game ply item ++ te
 abbrev pub name_line : List ℕ → List ℕ → List ℕ
 name_line words name = words ++ name ++ 10 ∷ []
 
--- The error lines of these commands: no filter of a name is kept, and no filter can be kept under one more name.
+-- The error line of these commands: no filter of a name is kept.
 abbrev pub no_filter_line : List ℕ → List ℕ
 no_filter_line name = name_line (codes "error: no filter ") name
-
-abbrev pub full_filters_line : List ℕ
-full_filters_line = line_of (codes "error: full filters")
-
--- The error line of a word that is not of its form.
-abbrev pub argument_line : ℕ → List ℕ
-argument_line n = codes "error: argument " ++ decimal n ++ 10 ∷ []
 
 -- The error line of a line that is no command.
 abbrev pub fault_line : ScriptFault → List ℕ
 fault_line TooLong = line_of (codes "error: line too long")
 fault_line Unknown = line_of (codes "error: unknown command")
-fault_line (Argument n) = argument_line n
+fault_line (Argument n) = game_line (codes "error: argument ") n
 fault_line Extra = line_of (codes "error: extra argument")

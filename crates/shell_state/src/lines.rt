@@ -1,6 +1,6 @@
 //! The lines that commands write.
-ghost use Rattle.std.specs.Prelude.{◌≡◌, IfOk};
-ghost use Rattle.shell_state.specs.Lines.{error_line, game_line, no_game_line, line_of, fault_line, argument_line, san_words};
+ghost use Rattle.std.specs.Prelude.{◌≡◌, IfOk, codes};
+ghost use Rattle.shell_state.specs.Lines.{error_line, game_line, no_game_line, line_of, fault_line, san_words};
 
 use chess_text::SanFault;
 use script_text::ScriptFault;
@@ -39,7 +39,7 @@ pub fn fault_line(alloc: Global, fault: ScriptFault) -> Result<Vec<u8>, AllocErr
 
 // The error line of a word that is not of its form.
 fn argument_line(alloc: Global, n: u32) -> Result<Vec<u8>, AllocError>
-    ensures { IfOk result (λ line. line.items ≡ argument_line n) }
+    ensures { IfOk result (λ line. line.items ≡ game_line (codes "error: argument ") n) }
 {
     let line = format!(in alloc; "error: argument {n}\n")?;
     Ok(line.into_bytes())
