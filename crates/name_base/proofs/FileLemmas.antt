@@ -15,7 +15,7 @@ use Rattle.name_base.specs.declared.fault.NameFault.{NameFault}
 use Rattle.name_base.specs.declared.fault.NamesError.{NamesError}
 use Rattle.name_base.specs.NameLists.{NameLists, limit_of}
 use Rattle.name_base.specs.NamesFile.{magic, four_bytes, header_bytes, kind_bytes, AreCounts, AreSmall, player_shape, event_shape, site_shape, round_shape, NameFile}
-use Rattle.name_base.specs.Reading.{◌>>=◌, Answers, blamed, number_at, skip_at, magic_at, count_at, counts_at, greatest_at, header_at, kind_at, names_at}
+use Rattle.name_base.specs.Reading.{◌>>=◌, Answers, blamed, number_at, skip_at, magic_at, count_at, per_kind_at, header_at, kind_at, names_at}
 use Rattle.name_base.proofs.FieldLemmas.{IsBytes, IsBytes-drop, Takes, width_3, bind_ok, guard_ok, ok_is, number_takes, number_again, skip_takes, skip_again}
 use Rattle.name_base.proofs.KindLemmas.{blamed_ok, kind_takes, kind_again}
 
@@ -73,8 +73,8 @@ unfolding four_bytes
 four_parts bytes t1 t2 t3 rest n a b c d =
     a ∙ ap (λ t. big_bytes 3 n.players ++ t) (b ∙ ap (λ t. big_bytes 3 n.events ++ t) (c ∙ ap (λ t. big_bytes 3 n.sites ++ t) d))
 
-counts_take : (bytes : List ℕ) (x : PerKind × List ℕ) → IsBytes bytes → counts_at bytes ≡ Ok x → FourTake AreCounts bytes x
-unfolding counts_at
+counts_take : (bytes : List ℕ) (x : PerKind × List ℕ) → IsBytes bytes → per_kind_at count_at bytes ≡ Ok x → FourTake AreCounts bytes x
+unfolding per_kind_at
 counts_take bytes x fits e =
     let a = bind_ok (count_at Player bytes) (λ players. count_at Event players.1 >>= λ events. count_at Site events.1 >>= λ sites. count_at Round sites.1 >>= λ rounds. Ok (record { players = players.0; events = events.0; sites = sites.0; rounds = rounds.0 }, rounds.1)) x e in
     let b = bind_ok (count_at Event a.0.1) (λ events. count_at Site events.1 >>= λ sites. count_at Round sites.1 >>= λ rounds. Ok (record { players = a.0.0; events = events.0; sites = sites.0; rounds = rounds.0 }, rounds.1)) x a.2 in
@@ -92,8 +92,8 @@ counts_take bytes x fits e =
     } in
     subst (FourTake AreCounts bytes) (ok_is (n, d.0.1) x d.2) whole
 
-counts_again : (n : PerKind) (rest : List ℕ) → AreCounts n → counts_at (four_bytes n rest) ≡ Ok (n, rest)
-unfolding counts_at four_bytes
+counts_again : (n : PerKind) (rest : List ℕ) → AreCounts n → per_kind_at count_at (four_bytes n rest) ≡ Ok (n, rest)
+unfolding per_kind_at four_bytes
 counts_again n rest are =
     rw (
       count_again Player n.players (big_bytes 3 n.events ++ (big_bytes 3 n.sites ++ (big_bytes 3 n.rounds ++ rest))) are.players,
@@ -102,8 +102,8 @@ counts_again n rest are =
       count_again Round n.rounds rest are.rounds,
     ) refl
 
-greatest_take : (bytes : List ℕ) (x : PerKind × List ℕ) → IsBytes bytes → greatest_at bytes ≡ Ok x → FourTake AreSmall bytes x
-unfolding greatest_at
+greatest_take : (bytes : List ℕ) (x : PerKind × List ℕ) → IsBytes bytes → per_kind_at (λ _. number_at 3) bytes ≡ Ok x → FourTake AreSmall bytes x
+unfolding per_kind_at
 greatest_take bytes x fits e =
     let a = bind_ok (number_at 3 bytes) (λ players. number_at 3 players.1 >>= λ events. number_at 3 events.1 >>= λ sites. number_at 3 sites.1 >>= λ rounds. Ok (record { players = players.0; events = events.0; sites = sites.0; rounds = rounds.0 }, rounds.1)) x e in
     let b = bind_ok (number_at 3 a.0.1) (λ events. number_at 3 events.1 >>= λ sites. number_at 3 sites.1 >>= λ rounds. Ok (record { players = a.0.0; events = events.0; sites = sites.0; rounds = rounds.0 }, rounds.1)) x a.2 in
@@ -121,8 +121,8 @@ greatest_take bytes x fits e =
     } in
     subst (FourTake AreSmall bytes) (ok_is (n, d.0.1) x d.2) whole
 
-greatest_again : (n : PerKind) (rest : List ℕ) → AreSmall n → greatest_at (four_bytes n rest) ≡ Ok (n, rest)
-unfolding greatest_at four_bytes
+greatest_again : (n : PerKind) (rest : List ℕ) → AreSmall n → per_kind_at (λ _. number_at 3) (four_bytes n rest) ≡ Ok (n, rest)
+unfolding per_kind_at four_bytes
 greatest_again n rest are =
     rw (
       number_again 3 n.players (big_bytes 3 n.events ++ (big_bytes 3 n.sites ++ (big_bytes 3 n.rounds ++ rest))) are.players,
@@ -143,10 +143,10 @@ record HeaderTakes (bytes : List ℕ) (x : Header × List ℕ) : Type 0 where
 header_takes : (bytes : List ℕ) (x : Header × List ℕ) → IsBytes bytes → header_at bytes ≡ Ok x → HeaderTakes bytes x
 unfolding header_at header_bytes
 header_takes bytes x fits e =
-    let m = bind_ok (magic_at bytes) (λ stamp. skip_at 4 stamp >>= λ rest. counts_at rest >>= λ counts. greatest_at counts.1 >>= λ greatest. Ok (record { counts = counts.0; greatest = greatest.0 }, greatest.1)) x e in
-    let k = bind_ok (skip_at 4 m.0) (λ rest. counts_at rest >>= λ counts. greatest_at counts.1 >>= λ greatest. Ok (record { counts = counts.0; greatest = greatest.0 }, greatest.1)) x m.2 in
-    let a = bind_ok (counts_at k.0) (λ counts. greatest_at counts.1 >>= λ greatest. Ok (record { counts = counts.0; greatest = greatest.0 }, greatest.1)) x k.2 in
-    let b = bind_ok (greatest_at a.0.1) (λ greatest. Ok (record { counts = a.0.0; greatest = greatest.0 }, greatest.1)) x a.2 in
+    let m = bind_ok (magic_at bytes) (λ stamp. skip_at 4 stamp >>= λ rest. per_kind_at count_at rest >>= λ counts. per_kind_at (λ _. number_at 3) counts.1 >>= λ greatest. Ok (record { counts = counts.0; greatest = greatest.0 }, greatest.1)) x e in
+    let k = bind_ok (skip_at 4 m.0) (λ rest. per_kind_at count_at rest >>= λ counts. per_kind_at (λ _. number_at 3) counts.1 >>= λ greatest. Ok (record { counts = counts.0; greatest = greatest.0 }, greatest.1)) x m.2 in
+    let a = bind_ok (per_kind_at count_at k.0) (λ counts. per_kind_at (λ _. number_at 3) counts.1 >>= λ greatest. Ok (record { counts = counts.0; greatest = greatest.0 }, greatest.1)) x k.2 in
+    let b = bind_ok (per_kind_at (λ _. number_at 3) a.0.1) (λ greatest. Ok (record { counts = a.0.0; greatest = greatest.0 }, greatest.1)) x a.2 in
     let tm = magic_takes bytes m.0 fits m.1 in
     let tk = skip_takes 4 m.0 k.0 tm.fits k.1 in
     let ta = counts_take k.0 a.0 tk.0.fits a.1 in

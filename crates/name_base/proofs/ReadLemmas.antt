@@ -13,7 +13,7 @@ use Rattle.name_base.specs.declared.kind.NameKind.TheVariants.{Player, Event, Si
 use Rattle.name_base.specs.declared.fault.NameWhat.TheVariants.{Count, IdRange, IdTwice, Repeated}
 use Rattle.name_base.specs.NameLists.{is_in, limit_of}
 use Rattle.name_base.specs.NamesFile.{Entry, AreCounts, id_width, frequency_width}
-use Rattle.name_base.specs.Reading.{◌>>=◌, Piece, blamed, number_at, skip_at, byte_at, shared_at, own_at, id_at, piece_at, entry_at, entries_at, has_id, names_of, last_name, name_of_piece, count_at, counts_at, greatest_at, magic_at, header_at}
+use Rattle.name_base.specs.Reading.{◌>>=◌, Piece, blamed, number_at, skip_at, byte_at, shared_at, own_at, id_at, piece_at, entry_at, entries_at, has_id, names_of, last_name, name_of_piece, count_at, per_kind_at, magic_at, header_at}
 use Rattle.name_base.proofs.NameLemmas.{list_any-map, AllByRecursion-push}
 use Rattle.name_base.proofs.FieldLemmas.{bind_ok, guard_ok, ok_is}
 use Rattle.name_base.proofs.ByIdLemmas.{ids_of}
@@ -86,8 +86,8 @@ count_few kind bytes x e =
     let g = guard_ok (ltb (limit_of kind) a.0.0) Count (Ok a.0) x a.2 in
     subst (λ (y : ℕ × List ℕ). y.0 ≤ limit_of kind) (ok_is a.0 x g.1) (ltb-false _ _ g.0)
 
-counts_few : (bytes : List ℕ) (x : PerKind × List ℕ) → counts_at bytes ≡ Ok x → AreCounts x.0
-unfolding counts_at
+counts_few : (bytes : List ℕ) (x : PerKind × List ℕ) → per_kind_at count_at bytes ≡ Ok x → AreCounts x.0
+unfolding per_kind_at
 counts_few bytes x e =
     let a = bind_ok (count_at Player bytes) (λ players. count_at Event players.1 >>= λ events. count_at Site events.1 >>= λ sites. count_at Round sites.1 >>= λ rounds. Ok (record { players = players.0; events = events.0; sites = sites.0; rounds = rounds.0 }, rounds.1)) x e in
     let b = bind_ok (count_at Event a.0.1) (λ events. count_at Site events.1 >>= λ sites. count_at Round sites.1 >>= λ rounds. Ok (record { players = a.0.0; events = events.0; sites = sites.0; rounds = rounds.0 }, rounds.1)) x a.2 in
@@ -100,9 +100,9 @@ counts_few bytes x e =
 pub header_few : (bytes : List ℕ) (x : Header × List ℕ) → header_at bytes ≡ Ok x → AreCounts x.0.counts
 unfolding header_at
 header_few bytes x e =
-    let m = bind_ok (magic_at bytes) (λ stamp. skip_at 4 stamp >>= λ rest. counts_at rest >>= λ counts. greatest_at counts.1 >>= λ greatest. Ok (record { counts = counts.0; greatest = greatest.0 }, greatest.1)) x e in
-    let k = bind_ok (skip_at 4 m.0) (λ rest. counts_at rest >>= λ counts. greatest_at counts.1 >>= λ greatest. Ok (record { counts = counts.0; greatest = greatest.0 }, greatest.1)) x m.2 in
-    let a = bind_ok (counts_at k.0) (λ counts. greatest_at counts.1 >>= λ greatest. Ok (record { counts = counts.0; greatest = greatest.0 }, greatest.1)) x k.2 in
-    let b = bind_ok (greatest_at a.0.1) (λ greatest. Ok (record { counts = a.0.0; greatest = greatest.0 }, greatest.1)) x a.2 in
+    let m = bind_ok (magic_at bytes) (λ stamp. skip_at 4 stamp >>= λ rest. per_kind_at count_at rest >>= λ counts. per_kind_at (λ _. number_at 3) counts.1 >>= λ greatest. Ok (record { counts = counts.0; greatest = greatest.0 }, greatest.1)) x e in
+    let k = bind_ok (skip_at 4 m.0) (λ rest. per_kind_at count_at rest >>= λ counts. per_kind_at (λ _. number_at 3) counts.1 >>= λ greatest. Ok (record { counts = counts.0; greatest = greatest.0 }, greatest.1)) x m.2 in
+    let a = bind_ok (per_kind_at count_at k.0) (λ counts. per_kind_at (λ _. number_at 3) counts.1 >>= λ greatest. Ok (record { counts = counts.0; greatest = greatest.0 }, greatest.1)) x k.2 in
+    let b = bind_ok (per_kind_at (λ _. number_at 3) a.0.1) (λ greatest. Ok (record { counts = a.0.0; greatest = greatest.0 }, greatest.1)) x a.2 in
     let made : Header × List ℕ = (record { counts = a.0.0; greatest = b.0.0 }, b.0.1) in
     subst (λ (y : Header × List ℕ). AreCounts y.0.counts) (ok_is made x b.2) (counts_few k.0 a.0 a.1)

@@ -62,31 +62,22 @@ count_at kind bytes = do
   count ← number_at 3 bytes
   if nat_lt (limit_of kind) count.0 then Err Count else Ok count
 
--- The number of names of each kind.
-unfoldable pub counts_at : List ℕ → Result (PerKind × List ℕ) NameWhat
-counts_at bytes = do
-  players ← count_at Player bytes
-  events ← count_at Event players.1
-  sites ← count_at Site events.1
-  rounds ← count_at Round sites.1
+-- A number of each kind, one after the other.
+unfoldable pub per_kind_at : (NameKind → List ℕ → Result (ℕ × List ℕ) NameWhat) → List ℕ → Result (PerKind × List ℕ) NameWhat
+per_kind_at one bytes = do
+  players ← one Player bytes
+  events ← one Event players.1
+  sites ← one Site events.1
+  rounds ← one Round sites.1
   Ok (record { players = players.0; events = events.0; sites = sites.0; rounds = rounds.0 }, rounds.1)
 
--- The greatest frequency of each kind.
-unfoldable pub greatest_at : List ℕ → Result (PerKind × List ℕ) NameWhat
-greatest_at bytes = do
-  players ← number_at 3 bytes
-  events ← number_at 3 players.1
-  sites ← number_at 3 events.1
-  rounds ← number_at 3 sites.1
-  Ok (record { players = players.0; events = events.0; sites = sites.0; rounds = rounds.0 }, rounds.1)
-
--- The header, and the bytes after it.
+-- The header, with the numbers of names and the greatest frequencies, and the bytes after it.
 unfoldable pub header_at : List ℕ → Result (Header × List ℕ) NameWhat
 header_at bytes = do
   stamp ← magic_at bytes
   rest ← skip_at 4 stamp
-  counts ← counts_at rest
-  greatest ← greatest_at counts.1
+  counts ← per_kind_at count_at rest
+  greatest ← per_kind_at (λ _. number_at 3) counts.1
   Ok (record { counts = counts.0; greatest = greatest.0 }, greatest.1)
 
 -- ---- one name, after those of its kind that were met before it.

@@ -2,7 +2,7 @@
 ghost use Rattle.std.specs.Prelude.{◌≡◌, ◌≤◌, IfOk};
 ghost use Rattle.name_base.specs.NameLists.{limit_of};
 ghost use Rattle.name_base.specs.NamesFile.{AreCounts, AreSmall, player_shape, event_shape, site_shape, round_shape};
-ghost use Rattle.name_base.specs.Reading.{Gives, magic_at, count_at, counts_at, greatest_at, header_at};
+ghost use Rattle.name_base.specs.Reading.{Gives, magic_at, number_at, count_at, per_kind_at, header_at};
 
 use crate::field::{number_at, skip_at};
 use crate::{NameKind, NameWhat};
@@ -99,9 +99,9 @@ fn count_at(kind: NameKind, bytes: &[u8]) -> Result<(u32, &[u8]), NameWhat>
 }
 
 /// The number of names of each kind.
-#[tactic(auto, unfolding(crate::specs::Reading::counts_at))]
+#[tactic(auto, unfolding(crate::specs::Reading::per_kind_at))]
 fn counts_at(bytes: &[u8]) -> Result<(PerKind, &[u8]), NameWhat>
-    ensures gives { Gives (λ x. (x.0, x.1.now)) result (counts_at bytes.now) }
+    ensures gives { Gives (λ x. (x.0, x.1.now)) result (per_kind_at count_at bytes.now) }
     ensures within { IfOk result (λ x. AreCounts x.0) }
 {
     let (players, rest) = count_at(NameKind::Player, bytes)?;
@@ -118,9 +118,9 @@ fn counts_at(bytes: &[u8]) -> Result<(PerKind, &[u8]), NameWhat>
 }
 
 /// The greatest frequency of each kind.
-#[tactic(auto, unfolding(crate::specs::Reading::greatest_at))]
+#[tactic(auto, unfolding(crate::specs::Reading::per_kind_at))]
 fn greatest_at(bytes: &[u8]) -> Result<(PerKind, &[u8]), NameWhat>
-    ensures gives { Gives (λ x. (x.0, x.1.now)) result (greatest_at bytes.now) }
+    ensures gives { Gives (λ x. (x.0, x.1.now)) result (per_kind_at (λ _. number_at 3) bytes.now) }
     ensures small { IfOk result (λ x. AreSmall x.0) }
 {
     let (players, rest) = number_at(3, bytes)?;
