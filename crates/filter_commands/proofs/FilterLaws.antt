@@ -3,7 +3,8 @@ use Rattle.std.proofs.Common.{◌≡◌, ℕ, suc, ◌+◌, [], ◌∷◌, lengt
 use Rattle.std.proofs.lemmas.Bool.Decides.{nat_tests}
 use Rattle.std.specs.Prelude.{nat_le, min, codes}
 use Rattle.base_core.specs.Represents.{Kept}
-use Rattle.game_filter.specs.Filter.{restricted_from, restricted, entry_within}
+use Rattle.game_filter.specs.Filter.{restricted, entry_within}
+use Rattle.game_filter.proofs.Passes.{restricted_from}
 use Rattle.filter_commands.specs.Filters.{drop_line, drop_work, keep_line, keep_work}
 use Rattle.filter_seat.specs.SavedFilters.{can_keep, dropped_in, kept_in}
 use Rattle.filter_seat.specs.declared.saved.SavedFilter.{SavedFilter}

@@ -191,7 +191,8 @@ entries-both at words others new (ply ∷ plies) (ply' ∷ plies') same bits =
     one : (b d : Bool) (ply ply' : ℕ) → entry (b && d) ply ≡ in_both (entry b ply) (entry d ply')
     one true true ply ply' = refl
     one true false ply ply' = refl
-    one false d ply ply' = refl
+    one false true ply ply' = refl
+    one false false ply ply' = refl
 
 common-bit : (words others new : List ℕ) (j : ℕ) → get_or new (j / 64) 0 ≡ bit_and (get_or words (j / 64) 0) (get_or others (j / 64) 0)
     → has_bit new j ≡ (has_bit words j && has_bit others j)

@@ -1,7 +1,8 @@
 -- A pass over a filter that has come to game n: the games below n are changed, the others are not yet.
-use Rattle.std.proofs.Common.{◌≡◌, ℕ, ◌+◌, ◌<◌, suc, zero, List, [], ◌∷◌, Option, Some, None, length, get_or, set, slice_get, refl, ap, arith, add-one}
+use Rattle.std.proofs.Common.{◌≡◌, ℕ, ◌+◌, ◌<◌, suc, zero, List, [], ◌∷◌, Option, Some, None, length, get_or, map, set, slice_get, refl, ap, arith, add-one}
+use Rattle.std.specs.List.{enumerate_from}
 use Rattle.std.proofs.lemmas.Option.{get_or_from_slice_get}
-use Rattle.game_filter.specs.Filter.{joined, entry_within, restricted_from}
+use Rattle.game_filter.specs.Filter.{joined, entry_within}
 
 abbrev pub joined_below : (Option ℕ → Option ℕ → Option ℕ) → ℕ → List (Option ℕ) → List (Option ℕ) → List (Option ℕ)
 joined_below join zero owns others = owns
@@ -63,6 +64,10 @@ restricted_below_more zero i k first last (ply ∷ plies) d within at =
     let here : k ≡ i = omega arith in ap (λ j. entry_within first last j ply ∷ plies) here
 restricted_below_more (suc n) i k first last (ply ∷ plies) d within at =
     ap (λ rest. entry_within first last i ply ∷ rest) (restricted_below_more n (i + 1) k first last plies d (omega arith) (omega arith))
+
+-- The entries of the games from number i on, restricted.
+abbrev pub restricted_from : ℕ → ℕ → ℕ → List (Option ℕ) → List (Option ℕ)
+restricted_from i first last plies = map (λ (game : ℕ × Option ℕ). entry_within first last game.0 game.1) (enumerate_from i plies)
 
 -- Every game.
 pub restricted_below_all : (i first last : ℕ) (plies : List (Option ℕ))

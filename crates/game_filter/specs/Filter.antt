@@ -1,7 +1,9 @@
 -- A filter is a list of optional plies, one per game: the ply at which the game is in, or none where
 -- it is out. Each operation on filters is a function of such lists. This project's own; the
 -- operations are those of Scid's filters.
-use Rattle.std.specs.Prelude.{ℕ, ◌+◌, nat_le, ◌&&◌, if◌then◌else◌, List, [], ◌∷◌, Option, Some, None, map, replicate, count_by, is_some}
+use Rattle.std.specs.Prelude.{ℕ, nat_le, ◌&&◌, if◌then◌else◌, List, Option, Some, None, map, replicate, count_by, is_some}
+use Rattle.std.specs.List.{enumerate_from, zip}
+use Rattle.std.specs.Option.{option_and, option_or}
 
 -- The number of games that are in.
 abbrev pub count_in : List (Option ℕ) → ℕ
@@ -26,38 +28,24 @@ negated plies = map turned plies
 
 -- A game that is in both filters keeps the own ply, and every other is out.
 abbrev pub in_both : Option ℕ → Option ℕ → Option ℕ
-in_both (Some own) (Some _) = Some own
-in_both (Some _) None = None
-in_both None _ = None
-
--- A game keeps the own ply where there is one, else it has the other filter's.
-abbrev pub in_either : Option ℕ → Option ℕ → Option ℕ
-in_either (Some own) _ = Some own
-in_either None other = other
+in_both own other = option_and other own
 
 -- Two filters of equally many games joined game by game.
 abbrev pub joined : (Option ℕ → Option ℕ → Option ℕ) → List (Option ℕ) → List (Option ℕ) → List (Option ℕ)
-joined join [] _ = []
-joined join (_ ∷ _) [] = []
-joined join (own ∷ owns) (other ∷ others) = join own other ∷ joined join owns others
+joined join owns others = map (λ (both : Option ℕ × Option ℕ). join both.0 both.1) (zip owns others)
 
 -- The games that are in both filters, at the own plies.
 abbrev pub intersection : List (Option ℕ) → List (Option ℕ) → List (Option ℕ)
 intersection owns others = joined in_both owns others
 
--- The games that are in either filter, at the own plies where there are any.
+-- The games that are in either filter, at the own plies where there are any, else at the other's.
 abbrev pub union : List (Option ℕ) → List (Option ℕ) → List (Option ℕ)
-union owns others = joined in_either owns others
+union owns others = joined option_or owns others
 
 -- The entry of game i, if i is from first to last, else none.
 abbrev pub entry_within : ℕ → ℕ → ℕ → Option ℕ → Option ℕ
 entry_within first last i ply = if nat_le first i && nat_le i last then ply else None
 
--- The entries of the games from number i on, with every game below first or above last out.
-abbrev pub restricted_from : ℕ → ℕ → ℕ → List (Option ℕ) → List (Option ℕ)
-restricted_from i first last [] = []
-restricted_from i first last (ply ∷ plies) = entry_within first last i ply ∷ restricted_from (i + 1) first last plies
-
 -- The filter with every game below first or above last out.
 abbrev pub restricted : ℕ → ℕ → List (Option ℕ) → List (Option ℕ)
-restricted first last plies = restricted_from 0 first last plies
+restricted first last plies = map (λ (game : ℕ × Option ℕ). entry_within first last game.0 game.1) (enumerate_from 0 plies)

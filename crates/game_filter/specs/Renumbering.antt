@@ -1,5 +1,6 @@
 -- How the games of a base are numbered anew where some of them go (this project's own).
-use Rattle.std.specs.Prelude.{◌≡◌, ℕ, ◌+◌, List, [], ◌∷◌, Option, Some, None}
+use Rattle.std.specs.Prelude.{◌≡◌, ℕ, ◌+◌, List, [], ◌∷◌, Option, Some, None, filter, is_some, map}
+use Rattle.std.specs.List.{zip}
 
 -- For each game its new number, or none where it goes; and how many games stay.
 pub record Numbering : Type 0 where
@@ -14,7 +15,4 @@ Rises next (Some number ∷ to) kept = (number ≡ next) × Rises (next + 1) to 
 
 -- What is listed for each game, of the games that stay, in their order.
 abbrev pub renumbered : {T : Type 0} → List (Option ℕ) → List T → List T
-renumbered [] xs = []
-renumbered (number ∷ to) [] = []
-renumbered (None ∷ to) (x ∷ xs) = renumbered to xs
-renumbered (Some number ∷ to) (x ∷ xs) = x ∷ renumbered to xs
+renumbered {T} to xs = map (λ (game : Option ℕ × T). game.1) (filter (λ (game : Option ℕ × T). is_some game.0) (zip to xs))

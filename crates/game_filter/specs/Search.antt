@@ -1,5 +1,7 @@
 -- What a search leaves in a filter. This project's own; the three ways are those of Scid's searches.
-use Rattle.std.specs.Prelude.{ℕ, List, [], ◌∷◌, Option, Some, None, Bool, true, is_some, is_none}
+use Rattle.std.specs.Prelude.{ℕ, List, ◌++◌, drop, length, map, Option, Bool, true, is_some, is_none}
+use Rattle.std.specs.List.{zip}
+use Rattle.std.specs.Option.{option_and, option_or}
 use Rattle.game_filter.specs.declared.op.Op.{Op}
 use Rattle.game_filter.specs.declared.op.Op.TheVariants.{Ignore, And, Or}
 
@@ -8,17 +10,13 @@ use Rattle.game_filter.specs.declared.op.Op.TheVariants.{Ignore, And, Or}
 -- out; Or keeps the ply of a game that was in, and takes the match for the others.
 abbrev pub entry_after : Op → Option ℕ → Option ℕ → Option ℕ
 entry_after Ignore _ first = first
-entry_after And (Some _) first = first
-entry_after And None _ = None
-entry_after Or (Some old) _ = Some old
-entry_after Or None first = first
+entry_after And old first = option_and old first
+entry_after Or old first = option_or old first
 
 -- A filter after a search, from the first matching plies of the games, one each, that were searched. The games behind them have their
 -- old entries.
 abbrev pub searched : Op → List (Option ℕ) → List (Option ℕ) → List (Option ℕ)
-searched op [] plies = plies
-searched op (first ∷ firsts) [] = []
-searched op (first ∷ firsts) (old ∷ plies) = entry_after op old first ∷ searched op firsts plies
+searched op firsts plies = map (λ (game : Option ℕ × Option ℕ). entry_after op game.1 game.0) (zip firsts plies) ++ drop (length firsts) plies
 
 -- Whether the search looks at a game with this entry: at all games, at those in, at those out.
 abbrev pub looks_at : Op → Option ℕ → Bool

@@ -1,13 +1,14 @@
 //! The passes over the entries of a filter. Each tells how many games are in afterwards.
 ghost use Rattle.std.specs.Prelude.{◌≡◌, ◌^◌, ◌<◌, ℕ, Some, length, slice_get, take};
-ghost use Rattle.game_filter.specs.Filter.{in_either, intersection, union, count_in, entry_within, restricted};
+ghost use Rattle.std.specs.Option.{option_or};
+ghost use Rattle.game_filter.specs.Filter.{intersection, union, count_in, entry_within, restricted};
 ghost use Rattle.game_filter.specs.Renumbering.{Rises, renumbered};
 
 use crate::entries::Entries;
 use crate::renumbering::Renumbering;
 
 fn either(own: Option<u32>, other: Option<u32>) -> Option<u32>
-    ensures either { result ≡ in_either own other }
+    ensures either { result ≡ option_or own other }
 {
     if own.is_some() { own } else { other }
 }

@@ -3,6 +3,7 @@ use Rattle.std.proofs.Common.{◌≡◌, ℕ, zero, suc, ◌+◌, Bool, true, fa
 use Rattle.std.proofs.lemmas.List.{length-append, length-map, length-replicate}
 use Rattle.std.proofs.lemmas.List.Elements.{All-nil}
 use Rattle.std.specs.Prelude.{nat_lt, slice_get, slice_set, if◌then◌else◌}
+use Rattle.std.specs.Option.{option_or}
 use Rattle.base_core.proofs.MarkLaws.{changed-length}
 use Rattle.base_core.specs.Base.{Base, Held}
 use Rattle.base_core.specs.Compacted.{compacted}
@@ -22,7 +23,7 @@ use Rattle.filter_seat.proofs.SeatLaws.{AreKept, all_left_out, all_put_at_start,
 use Rattle.filter_seat.specs.SavedFilters.{kept_to_start, without_last}
 use Rattle.filter_seat.specs.declared.saved.SavedFilter.{SavedFilter}
 use Rattle.game_filter.proofs.Searches.{length-searched}
-use Rattle.game_filter.specs.Filter.{in_both, in_either, intersection, turned, union}
+use Rattle.game_filter.specs.Filter.{in_both, intersection, turned, union}
 use Rattle.game_filter.specs.declared.op.Op.TheVariants.{Ignore}
 use Rattle.game_tree.specs.Game.{GameTree}
 use Rattle.game_tree.specs.TagEdit.{edited}
@@ -229,7 +230,7 @@ command_has w s (Take name) body has =
 command_has w s (And name) body has =
     refiltered s _ (joined_long s.seat.saved name (length s.shared.base.games) s.seat.filter intersection has.fit.saved (λ other long. length_joined in_both s.seat.filter other (has.fit.filter ∙ sym long) ∙ has.fit.filter) has.fit.filter ∙ sym has.fit.filter) has
 command_has w s (Or name) body has =
-    refiltered s _ (joined_long s.seat.saved name (length s.shared.base.games) s.seat.filter union has.fit.saved (λ other long. length_joined in_either s.seat.filter other (has.fit.filter ∙ sym long) ∙ has.fit.filter) has.fit.filter ∙ sym has.fit.filter) has
+    refiltered s _ (joined_long s.seat.saved name (length s.shared.base.games) s.seat.filter union has.fit.saved (λ other long. length_joined option_or s.seat.filter other (has.fit.filter ∙ sym long) ∙ has.fit.filter) has.fit.filter ∙ sym has.fit.filter) has
 command_has w s (Drop name) body has = resaved s _ (one_dropped s.seat.saved name (length s.shared.base.games) (kept_of s has)) has
 command_has w s Hits body has = has
 command_has w s Listing body has = has

@@ -1,12 +1,13 @@
 use Rattle.std.proofs.Common.{◌≡◌, length, take}
-use Rattle.game_filter.specs.Filter.{in_either, count_in}
+use Rattle.std.specs.Option.{option_or}
+use Rattle.game_filter.specs.Filter.{count_in}
 use Rattle.game_filter.proofs.Passes.{joined_below}
 use Rattle.game_filter.proofs.plies.unite.Given as goal
 
 -- The games below i are joined, and those of them that are in are counted.
 abbrev pub invariant-loop-i : goal.invariant-loop-i
 invariant-loop-i l = record {
-  changed : l.entries ≡ joined_below in_either l.i l.fn.entries l.others;
+  changed : l.entries ≡ joined_below option_or l.i l.fn.entries l.others;
   counted : l.count ≡ count_in (take l.i l.entries);
   len : length l.entries ≡ length l.fn.entries;
 }
