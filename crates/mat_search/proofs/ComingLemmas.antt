@@ -1,6 +1,7 @@
 -- Counts in a range, each by itself; and those of a later ply, which can come.
-use Rattle.std.proofs.Common.{◌≡◌, ℕ, ◌<◌, ◌≤◌, zero, suc, Bool, true, ◌&&◌, leb, List, arith}
+use Rattle.std.proofs.Common.{◌≡◌, ℕ, ◌<◌, ◌≤◌, Bool, false, true, ◌&&◌, leb, List, [], ◌∷◌, ◌++◌, drop, length, take, refl, arith}
 use Rattle.std.specs.Prelude.{slice_index}
+use Rattle.std.specs.List.{list_all, range_with_len}
 use Rattle.std.proofs.lemmas.Bool.{and_parts, leb-true}
 use Rattle.chess_laws.specs.Position.{Sound}
 use Rattle.game_tree.specs.Game.{GameTree}
@@ -8,56 +9,48 @@ use Rattle.game_tree.specs.Legal.{IsLegalGame}
 use Rattle.sig_index.specs.declared.mat_query.MatRange.{MatRange}
 use Rattle.sig_index.specs.Coming.{can_come}
 use Rattle.sig_index.proofs.ComingLemmas as coming
+use Rattle.sig_index.proofs.Ranges.{all_each}
 use Rattle.mat_search.specs.Matching.{count_in, counts_at, in_range}
 
 -- ---- the ten tests
 
--- Each of ten tests holds where all do.
-record Ten (a b c d e f g h i j : Bool) : Type 0 where
-  t0 : a ≡ true
-  t1 : b ≡ true
-  t2 : c ≡ true
-  t3 : d ≡ true
-  t4 : e ≡ true
-  t5 : f ≡ true
-  t6 : g ≡ true
-  t7 : h ≡ true
-  t8 : i ≡ true
-  t9 : j ≡ true
-
-ten : (a b c d e f g h i j : Bool) → (a && b && c && d && e && f && g && h && i && j) ≡ true → Ten a b c d e f g h i j
-ten a b c d e f g h i j all =
-    let p9 = and_parts (a && b && c && d && e && f && g && h && i) j all in
-    let p8 = and_parts (a && b && c && d && e && f && g && h) i p9.0 in
-    let p7 = and_parts (a && b && c && d && e && f && g) h p8.0 in
-    let p6 = and_parts (a && b && c && d && e && f) g p7.0 in
-    let p5 = and_parts (a && b && c && d && e) f p6.0 in
-    let p4 = and_parts (a && b && c && d) e p5.0 in
-    let p3 = and_parts (a && b && c) d p4.0 in
-    let p2 = and_parts (a && b) c p3.0 in
-    let p1 = and_parts a b p2.0 in
-    record { t0 = p1.0; t1 = p1.1; t2 = p2.1; t3 = p3.1; t4 = p4.1; t5 = p5.1; t6 = p6.1; t7 = p7.1; t8 = p8.1; t9 = p9.1 }
-
-counts_ten : (range : MatRange) (counts : List ℕ) → in_range range counts ≡ true
-    → Ten (count_in range counts 0) (count_in range counts 1) (count_in range counts 2) (count_in range counts 3) (count_in range counts 4)
-    (count_in range counts 5) (count_in range counts 6) (count_in range counts 7) (count_in range counts 8) (count_in range counts 9)
-unfolding in_range
-counts_ten range counts all =
-    ten (count_in range counts 0) (count_in range counts 1) (count_in range counts 2) (count_in range counts 3) (count_in range counts 4)
-    (count_in range counts 5) (count_in range counts 6) (count_in range counts 7) (count_in range counts 8) (count_in range counts 9) all
-
 pub each_in : (range : MatRange) (counts : List ℕ) → in_range range counts ≡ true → (place : ℕ) → place < 10 → count_in range counts place ≡ true
-each_in range counts all zero less = (counts_ten range counts all).t0
-each_in range counts all (suc zero) less = (counts_ten range counts all).t1
-each_in range counts all (suc (suc zero)) less = (counts_ten range counts all).t2
-each_in range counts all (suc (suc (suc zero))) less = (counts_ten range counts all).t3
-each_in range counts all (suc (suc (suc (suc zero)))) less = (counts_ten range counts all).t4
-each_in range counts all (suc (suc (suc (suc (suc zero))))) less = (counts_ten range counts all).t5
-each_in range counts all (suc (suc (suc (suc (suc (suc zero)))))) less = (counts_ten range counts all).t6
-each_in range counts all (suc (suc (suc (suc (suc (suc (suc zero))))))) less = (counts_ten range counts all).t7
-each_in range counts all (suc (suc (suc (suc (suc (suc (suc (suc zero)))))))) less = (counts_ten range counts all).t8
-each_in range counts all (suc (suc (suc (suc (suc (suc (suc (suc (suc zero))))))))) less = (counts_ten range counts all).t9
-each_in range counts all (suc (suc (suc (suc (suc (suc (suc (suc (suc (suc place)))))))))) less = absurd (omega (arith, less))
+unfolding in_range
+each_in range counts all place less = all_each (count_in range counts) 0 10 place all (omega arith) less
+
+-- The test of each of the ten places, as a program makes it.
+pub ten_tests : (t : ℕ → Bool) → (t 0 && t 1 && t 2 && t 3 && t 4 && t 5 && t 6 && t 7 && t 8 && t 9) ≡ list_all t (range_with_len 0 10)
+ten_tests t = and_ten (t 0) (t 1) (t 2) (t 3) (t 4) (t 5) (t 6) (t 7) (t 8) (t 9)
+  where
+    and_ten : (a b c d e f g h i j : Bool) → (a && b && c && d && e && f && g && h && i && j) ≡ (a && (b && (c && (d && (e && (f && (g && (h && (i && (j && true))))))))))
+    and_ten false b c d e f g h i j = refl
+    and_ten true false c d e f g h i j = refl
+    and_ten true true false d e f g h i j = refl
+    and_ten true true true false e f g h i j = refl
+    and_ten true true true true false f g h i j = refl
+    and_ten true true true true true false g h i j = refl
+    and_ten true true true true true true false h i j = refl
+    and_ten true true true true true true true false i j = refl
+    and_ten true true true true true true true true false j = refl
+    and_ten true true true true true true true true true false = refl
+    and_ten true true true true true true true true true true = refl
+
+-- The bounds of the one side and then those of the other, where there are ten.
+pub ten_exchanged : (bounds : List ℕ) → length bounds ≡ 10
+    → (slice_index bounds 5 ∷ slice_index bounds 6 ∷ slice_index bounds 7 ∷ slice_index bounds 8 ∷ slice_index bounds 9
+    ∷ slice_index bounds 0 ∷ slice_index bounds 1 ∷ slice_index bounds 2 ∷ slice_index bounds 3 ∷ slice_index bounds 4 ∷ []) ≡ drop 5 bounds ++ take 5 bounds
+ten_exchanged (a ∷ b ∷ c ∷ d ∷ e ∷ f ∷ g ∷ h ∷ i ∷ j ∷ []) ten = refl
+ten_exchanged (a ∷ b ∷ c ∷ d ∷ e ∷ f ∷ g ∷ h ∷ i ∷ j ∷ k ∷ more) ten = absurd (omega (arith, ten))
+ten_exchanged [] ten = absurd (omega (arith, ten))
+ten_exchanged (a ∷ []) ten = absurd (omega (arith, ten))
+ten_exchanged (a ∷ b ∷ []) ten = absurd (omega (arith, ten))
+ten_exchanged (a ∷ b ∷ c ∷ []) ten = absurd (omega (arith, ten))
+ten_exchanged (a ∷ b ∷ c ∷ d ∷ []) ten = absurd (omega (arith, ten))
+ten_exchanged (a ∷ b ∷ c ∷ d ∷ e ∷ []) ten = absurd (omega (arith, ten))
+ten_exchanged (a ∷ b ∷ c ∷ d ∷ e ∷ f ∷ []) ten = absurd (omega (arith, ten))
+ten_exchanged (a ∷ b ∷ c ∷ d ∷ e ∷ f ∷ g ∷ []) ten = absurd (omega (arith, ten))
+ten_exchanged (a ∷ b ∷ c ∷ d ∷ e ∷ f ∷ g ∷ h ∷ []) ten = absurd (omega (arith, ten))
+ten_exchanged (a ∷ b ∷ c ∷ d ∷ e ∷ f ∷ g ∷ h ∷ i ∷ []) ten = absurd (omega (arith, ten))
 
 pub at_least : (range : MatRange) (counts : List ℕ) → in_range range counts ≡ true → (place : ℕ) → place < 10 → slice_index range.lo place ≤ slice_index counts place
 at_least range counts all place less =

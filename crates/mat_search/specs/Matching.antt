@@ -1,5 +1,5 @@
 -- At which plies a game matches a search of counts of men (this project's own).
-use Rattle.std.specs.Prelude.{◌≡◌, ◌≤◌, ◌<◌, ℕ, ◌+◌, ◌-◌, ◌&&◌, ◌||◌, nat_le, Bool, true, false, List, [], ◌∷◌, Option, Some, None, map, slice_index}
+use Rattle.std.specs.Prelude.{◌≡◌, ◌≤◌, ◌<◌, ℕ, ◌+◌, ◌-◌, ◌&&◌, ◌||◌, nat_le, Bool, true, false, List, ◌++◌, drop, take, Option, Some, None, map, slice_index}
 use Rattle.std.specs.List.{find, list_all, range_with_len}
 use Rattle.chess_laws.specs.Counts.{counts_of}
 use Rattle.game_tree.specs.Game.{GameTree}
@@ -14,16 +14,11 @@ count_in range counts place =
 
 -- The ten counts are in the range: each of them is.
 unfoldable pub in_range : MatRange → List ℕ → Bool
-in_range range counts =
-    count_in range counts 0 && count_in range counts 1 && count_in range counts 2 && count_in range counts 3 && count_in range counts 4
-    && count_in range counts 5 && count_in range counts 6 && count_in range counts 7 && count_in range counts 8 && count_in range counts 9
+in_range range counts = list_all (count_in range counts) (range_with_len 0 10)
 
--- Ten bounds, and a range, with the colours exchanged.
+-- Ten bounds, five of each side, and a range, with the colours exchanged.
 abbrev pub other_bounds : List ℕ → List ℕ
-other_bounds bounds =
-    slice_index bounds 5 ∷ slice_index bounds 6 ∷ slice_index bounds 7 ∷ slice_index bounds 8 ∷ slice_index bounds 9
-    ∷ slice_index bounds 0 ∷ slice_index bounds 1 ∷ slice_index bounds 2 ∷ slice_index bounds 3 ∷ slice_index bounds 4
-    ∷ []
+other_bounds bounds = drop 5 bounds ++ take 5 bounds
 
 abbrev pub exchanged : MatRange → MatRange
 exchanged range = record { lo = other_bounds range.lo; hi = other_bounds range.hi }

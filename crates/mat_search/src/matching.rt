@@ -55,6 +55,7 @@ pub(crate) fn exchanged(range: &MatRange) -> MatRange
 }
 
 // The bounds with the colours exchanged.
+#[tactic(auto, using(crate::proofs::ComingLemmas::ten_exchanged))]
 fn other_bounds(bounds: &[u8; 10]) -> [u8; 10]
     ensures { result ≡ other_bounds bounds.now }
 {
@@ -65,7 +66,7 @@ fn other_bounds(bounds: &[u8; 10]) -> [u8; 10]
 }
 
 // Whether the ten counts are in the range.
-#[tactic(auto, unfolding(crate::specs::Matching::in_range))]
+#[tactic(auto, using(crate::proofs::ComingLemmas::ten_tests), unfolding(crate::specs::Matching::in_range))]
 pub(crate) fn in_range(range: &MatRange, counts: &[u8; 10]) -> bool
     ensures { result ≡ in_range range.now counts.now }
 {
