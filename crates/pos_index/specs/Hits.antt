@@ -1,5 +1,5 @@
 -- Where games stand on a board, up to a depth (this project's own).
-use Rattle.std.specs.Prelude.{◌≡◌, ℕ, ◌+◌, ◌*◌, ◌≤◌, ◌&&◌, if◌then◌else◌, nat_eq, All, Bool, List, [], ◌∷◌, ◌++◌, Option, Some, None, length, map, min, option_map, slice_index_or, sum_by, IfSome}
+use Rattle.std.specs.Prelude.{◌≡◌, ℕ, ◌+◌, ◌*◌, ◌≤◌, ◌&&◌, if◌then◌else◌, nat_eq, All, Bool, List, [], ◌∷◌, ◌++◌, Option, Some, None, length, map, min, option_map, slice_index_or, sum_by, unwrap_or, IfSome}
 use Rattle.std.specs.Cmp.Lexicographic.{pointwise}
 use Rattle.std.specs.List.{find, range_with_len}
 use Rattle.cell_core.specs.declared.step.Move.{Move}
@@ -43,8 +43,7 @@ places_of depth game = map (place_at game) (range_with_len 0 (min depth (plies_o
 
 -- The same of the game that has a number, and no place where none has it.
 abbrev pub row_of : ℕ → Option GameTree → List Place
-row_of depth None = []
-row_of depth (Some game) = places_of depth game
+row_of depth game = unwrap_or (option_map (places_of depth) game) []
 
 -- Two packed boards are the same: the same men on the same squares, and the same side to move.
 abbrev pub same_packed : Packed → Packed → Bool

@@ -14,7 +14,8 @@ use Rattle.game_tree.specs.Replay.{next_at, plies_of}
 use Rattle.game_tree.specs.Tree.{Line, ends, goes, Branches, more, moves_of}
 use Rattle.game_tree.specs.Tree.{none as bare}
 use Rattle.sig_index.specs.declared.pos_query.PosQuery.{PosQuery}
-use Rattle.pos_search.specs.Matching.{first_of, IsLegalFrom, first_aside, first_if_aside, first_on_main, hit_aside, hit_of, hit_on_main, is_sought, matches, matches_at}
+use Rattle.pos_search.specs.Matching.{first_of, IsLegalFrom, first_if_aside, first_on_main, hit_of, hit_on_main, is_sought, matches, matches_at}
+use Rattle.pos_search.proofs.Words.{first_aside, hit_aside}
 use Rattle.pos_search.specs.Sought.{found_aside}
 use Rattle.pos_search.proofs.FirstLemmas.{found_main}
 use Rattle.pos_search.proofs.WalkLemmas.{none_of}

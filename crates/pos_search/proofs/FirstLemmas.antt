@@ -14,7 +14,8 @@ use Rattle.sig_index.specs.declared.pos_query.Mode.{Mode}
 use Rattle.sig_index.specs.declared.pos_query.Mode.TheVariants.{Exact}
 use Rattle.sig_index.specs.declared.pos_query.PosQuery.{PosQuery}
 use Rattle.sig_index.proofs.Ranges.{found_first, found_none}
-use Rattle.pos_search.specs.Matching.{FirstPly, NoneOnMain, alike, first_aside, first_if_aside, first_of, first_on_main, is_sought, matches, matches_at}
+use Rattle.pos_search.specs.Matching.{FirstPly, NoneOnMain, alike, first_if_aside, first_of, first_on_main, is_sought, matches, matches_at}
+use Rattle.pos_search.proofs.Words.{first_aside}
 use Rattle.pos_search.proofs.MatchLemmas.{matched}
 
 -- The first of a list that passes a test, and none where none does.

@@ -30,7 +30,8 @@ use Rattle.sig_index.proofs.PrefixLemmas.{home_sound, stood_before}
 use Rattle.sig_index.proofs.Ranges.{all_from, find_none}
 use Rattle.sig_index.proofs.SigOf.{parts}
 use Rattle.sig_index.proofs.SkippingLemmas.{skipping_sound}
-use Rattle.pos_search.specs.Matching.{first_aside, first_if_aside, first_of, first_on_main, is_sought, matches_at}
+use Rattle.pos_search.specs.Matching.{first_if_aside, first_of, first_on_main, is_sought, matches_at}
+use Rattle.pos_search.proofs.Words.{first_aside}
 use Rattle.pos_search.specs.Passing.{fixes_pawns, just, passes, passes_main}
 use Rattle.pos_search.specs.Sought.{can_follow, has_homes}
 use Rattle.pos_search.proofs.MatchLemmas.{matched}

@@ -1,3 +1,4 @@
+pub mod Words
 pub mod BoardLemmas
 pub mod MatchLemmas
 pub mod PawnLemmas

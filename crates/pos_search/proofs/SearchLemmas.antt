@@ -10,7 +10,8 @@ use Rattle.sig_index.specs.Games.{Holds}
 use Rattle.sig_index.specs.declared.pos_query.PosQuery.{PosQuery}
 use Rattle.sig_index.specs.declared.signature.Sig.{Sig}
 use Rattle.sig_index.proofs.RecordLemmas.{game_legal, game_sound}
-use Rattle.pos_search.specs.Matching.{first_if_aside, first_of, first_on_main, hit_aside, hit_of}
+use Rattle.pos_search.specs.Matching.{first_if_aside, first_of, first_on_main, hit_of}
+use Rattle.pos_search.proofs.Words.{hit_aside}
 use Rattle.pos_search.specs.Passing.{passes}
 use Rattle.pos_search.specs.Searching.{ply_of}
 use Rattle.pos_search.proofs.FollowLemmas.{refused_aside, refused_main}

@@ -74,11 +74,8 @@ first_on_main query game = find (matches_at query game) (range_with_len 0 (plies
 abbrev pub is_sought : PosQuery → Setup × ℕ → Bool
 is_sought query place = matches query place.0
 
-abbrev pub first_aside : PosQuery → GameTree → Option ℕ
-first_aside query game = option_map (λ (place : Setup × ℕ). place.1) (find (is_sought query) (places game))
-
 abbrev pub first_if_aside : PosQuery → GameTree → Option ℕ
-first_if_aside query game = if query.vars then first_aside query game else None
+first_if_aside query game = if query.vars then option_map (λ (place : Setup × ℕ). place.1) (find (is_sought query) (places game)) else None
 
 -- The first ply of the main line, and where there is none that of the variations.
 abbrev pub first_of : PosQuery → GameTree → Option ℕ
@@ -114,11 +111,8 @@ FirstPly query game None = NoneOnMain query game × (IsTrue query.vars → NoneA
 abbrev pub hit_on_main : PosQuery → GameTree → Option (ℕ × Option Move)
 hit_on_main query game = option_map (λ ply. (ply, next_at game ply)) (first_on_main query game)
 
-abbrev pub hit_aside : ℕ → ℕ × Option Move
-hit_aside ply = (ply, None)
-
 abbrev pub hit_of : PosQuery → GameTree → Option (ℕ × Option Move)
-hit_of query game = option_or (hit_on_main query game) (option_map hit_aside (first_if_aside query game))
+hit_of query game = option_or (hit_on_main query game) (option_map (λ ply. (ply, None)) (first_if_aside query game))
 
 -- The first matching plies of all games.
 abbrev pub firsts_of : PosQuery → List GameTree → List (Option ℕ)

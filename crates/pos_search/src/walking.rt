@@ -3,7 +3,7 @@ ghost use Rattle.std.specs.Prelude.{◌≡◌, ◌^◌, ◌<◌, ◌&&◌, List,
 ghost use Rattle.game_codec.specs.Record.{IsRecord, IsSomeRecord};
 ghost use Rattle.game_tree.specs.Game.{GameTree};
 ghost use Rattle.game_tree.specs.declared.head.Tag.{Tag};
-ghost use Rattle.pos_search.specs.Matching.{IsLegalFrom, first_of, first_on_main, hit_aside, hit_of, hit_on_main, matches};
+ghost use Rattle.pos_search.specs.Matching.{IsLegalFrom, first_of, first_on_main, hit_of, hit_on_main, matches};
 ghost use Rattle.pos_search.specs.Searching.{ply_of};
 ghost use Rattle.pos_search.specs.Sought.{Met, found_aside};
 
@@ -92,7 +92,7 @@ fn found_aside(found: Option<u32>, walk: &AllWalk<'_>, q: &Sought<'_>) -> Option
 
 // The hit at such a place, which has no next move.
 fn hit_aside(found: Option<u32>) -> Option<(u32, Option<Move>)>
-    ensures { result ≡ option_map hit_aside found }
+    ensures { result ≡ option_map (λ ply. (ply, None)) found }
 {
     match found {
         Some(ply) => Some((ply, None)),

@@ -16,7 +16,8 @@ use Rattle.game_tree.specs.Game.{GameTree}
 use Rattle.game_tree.specs.Legal.{IsLegalGame}
 use Rattle.game_tree.specs.Replay.{main_moves, next_at, plies_of, position_at}
 use Rattle.game_tree.proofs.LegalLemmas.{IsLegalGame-next}
-use Rattle.pos_search.specs.Matching.{first_if_aside, first_on_main, hit_aside, hit_of, matches_at}
+use Rattle.pos_search.specs.Matching.{first_if_aside, first_on_main, hit_of, matches_at}
+use Rattle.pos_search.proofs.Words.{hit_aside}
 use Rattle.pos_search.proofs.MatchLemmas.{matched}
 use Rattle.search_commands.specs.Trees.{hit_if_in, listed_hit, tree_hits}
 use Rattle.shell_state.specs.Slots.{hit_of_game}
