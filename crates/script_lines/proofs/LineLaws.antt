@@ -3,11 +3,11 @@ use Rattle.std.proofs.Common.{if◌then◌else◌, ◌&&◌, ◌⊎◌, inl, inr
 use Rattle.std.proofs.lemmas.Bool.{eqb-true}
 use Rattle.std.proofs.lemmas.List.{length-append}
 use Rattle.script_text.specs.Tasks.{body_word, task}
-use Rattle.script_lines.specs.Bodies.{Body, body, body_of, is_word, led}
+use Rattle.script_lines.specs.Bodies.{Body, body, body_of, is_word, led, says_word}
 use Rattle.script_lines.specs.Bytewise.{script_from, with_body, with_byte, with_word}
 use Rattle.script_lines.specs.Reading.{grown, led_on}
 use Rattle.script_lines.specs.Clients.{Clients, Tagged, heard, is_end, line_of, tagged_task}
-use Rattle.script_lines.specs.Script.{Between, Inside, Place, Script, begun, end_task, led_by, lines_from, on_line, says_word, script, script_at, script_by, with_bytes, with_line}
+use Rattle.script_lines.specs.Script.{Script, begun, led_by, lines_from, on_line, script, script_at, script_by, with_bytes, with_line}
 use Rattle.script_lines.specs.declared.line.Line.{Line}
 use Rattle.script_lines.proofs.BodyLaws.{body_none, front_ends, front_open, line_whole, open_line}
 use Rattle.script_lines.proofs.ScriptLaws.{feed_at_position, feed_read, first_feed, grown_byte, grown_none, no_feed, part_read}
@@ -116,22 +116,22 @@ ahead_of last clients (byte ∷ front) more (suc n) m is =
 -- ---- both ways of reading say the same
 
 -- What these bytes say, from between tasks and from inside a body.
-abbrev at_bytes : (Tagged → List Tagged) → Clients → Place → List ℕ → Script
+abbrev at_bytes : (Tagged → List Tagged) → Clients → Option (Tagged × List ℕ) → List ℕ → Script
 at_bytes last clients place bytes = script_at last (lines_from [] bytes).1 clients place (lines_from [] bytes).0
 
 record Meets (last : Tagged → List Tagged) (clients : Clients) (bytes : List ℕ) : Type 0 where
   between : script_by last clients bytes ≡ script_from last clients 0 [] bytes
-  inside : (t : Tagged) (word : List ℕ) → at_bytes last clients (Inside t word) bytes ≡ inside_from last clients t (body_of word true bytes) bytes
+  inside : (t : Tagged) (word : List ℕ) → at_bytes last clients (Some (t, word)) bytes ≡ inside_from last clients t (body_of word true bytes) bytes
 
 open_between : (last : Tagged → List Tagged) (clients : Clients) (bytes : List ℕ) → first_feed bytes ≡ None → script_by last clients bytes ≡ script_from last clients 0 [] bytes
 unfolding script_from script_at
 open_between last clients bytes none =
-    ap (λ (x : List (List ℕ) × List ℕ). script_at last x.1 clients Between x.0) (lines_open [] bytes none)
+    ap (λ (x : List (List ℕ) × List ℕ). script_at last x.1 clients None x.0) (lines_open [] bytes none)
     ∙ ap (script (last (tagged_task (line_of clients.tagged bytes) []))) (omega arith) ∙ sym (part_read last clients [] bytes [] none)
     ∙ ap (script_from last clients 0 []) (append-nil bytes)
 
 open_inside_by : (last : Tagged → List Tagged) (clients : Clients) (bytes : List ℕ) (t : Tagged) (word : List ℕ) (test : Bool) → says_word word bytes ≡ test → first_feed bytes ≡ None
-    → script (last (end_task clients (Inside t word) bytes)) (length bytes) ≡ inside_from last clients t (body_of word true bytes) bytes
+    → script (last (if says_word word bytes then t else with_bytes t bytes)) (length bytes) ≡ inside_from last clients t (body_of word true bytes) bytes
 open_inside_by last clients bytes t word true meets none =
     let b : body_of word true bytes ≡ body [] None = body_meets word bytes None none (ap (says_word word) (line_whole bytes none) ∙ meets) in
     rw meets (ap (λ x. script (last x) (length bytes)) (sym (no_bytes t)) ∙ ap (λ (x : Body). inside_from last clients t x bytes) (sym b))
@@ -140,10 +140,10 @@ open_inside_by last clients bytes t word false misses none =
     rw misses (ap (λ (x : Body). inside_from last clients t x bytes) (sym b))
 
 open_inside : (last : Tagged → List Tagged) (clients : Clients) (bytes : List ℕ) (t : Tagged) (word : List ℕ) → first_feed bytes ≡ None
-    → at_bytes last clients (Inside t word) bytes ≡ inside_from last clients t (body_of word true bytes) bytes
+    → at_bytes last clients (Some (t, word)) bytes ≡ inside_from last clients t (body_of word true bytes) bytes
 unfolding script_at
 open_inside last clients bytes t word none =
-    ap (λ (x : List (List ℕ) × List ℕ). script_at last x.1 clients (Inside t word) x.0) (lines_open [] bytes none)
+    ap (λ (x : List (List ℕ) × List ℕ). script_at last x.1 clients (Some (t, word)) x.0) (lines_open [] bytes none)
     ∙ open_inside_by last clients bytes t word (says_word word bytes) refl none
 
 -- A line that a line feed ends, between tasks.
@@ -165,7 +165,7 @@ led_between : (last : Tagged → List Tagged) (clients : Clients) (front more : 
     → script_by last clients (front ++ 10 ∷ more) ≡ script_from last clients 0 [] (front ++ 10 ∷ more)
 unfolding script_at
 led_between last clients front more none m =
-    ap (λ (x : List (List ℕ) × List ℕ). script_at last x.1 clients Between x.0) (lines_led [] front more none)
+    ap (λ (x : List (List ℕ) × List ℕ). script_at last x.1 clients None x.0) (lines_led [] front more none)
     ∙ ap (with_line front) (line_by last clients (line_of clients.tagged front) more (is_end clients (line_of clients.tagged front)) refl m)
     ∙ grown_line front (led_on last clients (line_of clients.tagged front) more)
     ∙ ap (grown (length front)) (sym (feed_read last clients front 10 more refl))
@@ -199,7 +199,7 @@ end_by last clients front more t b (Some count) =
 
 led_inside_by : (last : Tagged → List Tagged) (clients : Clients) (front more : List ℕ) (t : Tagged) (word : List ℕ) (test : Bool) → says_word word front ≡ test → first_feed front ≡ None
     → Meets last clients more
-    → with_line front (if says_word word front then led_by t (script_by last clients more) else at_bytes last clients (Inside (with_bytes t (front ++ 10 ∷ [])) word) more)
+    → with_line front (if says_word word front then led_by t (script_by last clients more) else at_bytes last clients (Some (with_bytes t (front ++ 10 ∷ []), word)) more)
     ≡ inside_from last clients t (body_of word true (front ++ 10 ∷ more)) (front ++ 10 ∷ more)
 led_inside_by last clients front more t word true meets none m =
     let b : body_of word true (front ++ 10 ∷ more) ≡ body [] (Some (suc (length front))) =
@@ -218,10 +218,10 @@ led_inside_by last clients front more t word false misses none m =
     ∙ ap (λ (x : Body). inside_from last clients t x (front ++ 10 ∷ more)) (sym b))
 
 led_inside : (last : Tagged → List Tagged) (clients : Clients) (front more : List ℕ) (t : Tagged) (word : List ℕ) → first_feed front ≡ None → Meets last clients more
-    → at_bytes last clients (Inside t word) (front ++ 10 ∷ more) ≡ inside_from last clients t (body_of word true (front ++ 10 ∷ more)) (front ++ 10 ∷ more)
+    → at_bytes last clients (Some (t, word)) (front ++ 10 ∷ more) ≡ inside_from last clients t (body_of word true (front ++ 10 ∷ more)) (front ++ 10 ∷ more)
 unfolding script_at
 led_inside last clients front more t word none m =
-    ap (λ (x : List (List ℕ) × List ℕ). script_at last x.1 clients (Inside t word) x.0) (lines_led [] front more none)
+    ap (λ (x : List (List ℕ) × List ℕ). script_at last x.1 clients (Some (t, word)) x.0) (lines_led [] front more none)
     ∙ led_inside_by last clients front more t word (says_word word front) refl none m
 
 meets_by : (last : Tagged → List Tagged) (clients : Clients) (n : ℕ) (bytes : List ℕ) → length bytes ≤ n → (first_feed bytes ≡ None) ⊎ Feed bytes → Meets last clients bytes

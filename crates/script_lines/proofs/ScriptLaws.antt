@@ -9,7 +9,7 @@ use Rattle.script_text.specs.declared.fault.ScriptFault.TheVariants.{TooLong, Un
 use Rattle.script_text.specs.Reading.{reading, shorn, is_remark}
 use Rattle.script_lines.specs.Bytewise.{script_from, with_byte}
 use Rattle.script_text.specs.Tasks.{Order}
-use Rattle.script_lines.specs.Clients.{Clients, Tagged, desk_line, is_idle, line_of, named, said, tagged_task}
+use Rattle.script_lines.specs.Clients.{Clients, Tagged, desk_line, line_of, named, said, tagged_task}
 use Rattle.script_lines.specs.Script.{Script, script}
 use Rattle.script_lines.specs.Bodies.{feed_at}
 use Rattle.script_lines.specs.Reading.{grown, led_on, most_kept}
@@ -68,6 +68,9 @@ empty_kept : (line : List ℕ) → (length (shorn (take most_kept line)) == 0) �
 empty_kept [] = refl
 empty_kept (byte ∷ []) = refl
 empty_kept (byte ∷ next ∷ line) = not_empty (take most_kept (byte ∷ next ∷ line)) (omega arith) ∙ sym (not_empty (byte ∷ next ∷ line) (omega arith))
+
+abbrev is_idle : List ℕ → Bool
+is_idle line = is_remark line || (length (shorn line) == 0)
 
 idle_kept : (line : List ℕ) → is_idle (take most_kept line) ≡ is_idle line
 idle_kept line =

@@ -1,7 +1,8 @@
 -- The body of a command: the bytes of the lines behind its own, up to one that is the word. Only the reader's contracts cite it.
 use Rattle.std.specs.Prelude.{ℕ, suc, ◌==◌, Bool, ◌&&◌, if◌then◌else◌, List, [], ◌∷◌, Option, None, option_map}
 use Rattle.std.specs.List.{position}
-use Rattle.script_lines.specs.Script.{says_word}
+use Rattle.std.specs.Str.{bytes_eq}
+use Rattle.script_text.specs.Reading.{shorn}
 
 -- The place of the first line feed.
 abbrev pub feed_at : List ℕ → Option ℕ
@@ -12,7 +13,11 @@ abbrev pub first_line : List ℕ → List ℕ
 first_line [] = []
 first_line (byte ∷ bytes) = if byte == 10 then [] else byte ∷ first_line bytes
 
--- Whether the first line is the word.
+-- Whether a line is the word.
+abbrev pub says_word : List ℕ → List ℕ → Bool
+says_word word line = bytes_eq (shorn line) word
+
+-- Whether the first line is.
 abbrev pub is_word : List ℕ → List ℕ → Bool
 is_word word bytes = says_word word (first_line bytes)
 

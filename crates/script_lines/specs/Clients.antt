@@ -19,27 +19,15 @@ is_quit _ = false
 abbrev pub said : Option ℕ → Order → Line
 said client order = record { client = client; order = order }
 
--- The client whose digit this byte is.
-abbrev pub client_of : ℕ → Option ℕ
-client_of byte = if nat_le 48 byte && nat_lt byte 52 then Some (byte - 48) else None
-
--- The client that the first three bytes of a line name: `@`, his digit and a space.
+-- The client that the first three bytes of a line name: `@`, his digit, which is one from 0 to 3, and a space.
 unfoldable pub named : List ℕ → Option ℕ
-named (sign ∷ digit ∷ blank ∷ line) = if (sign == 64) && (blank == 32) then client_of digit else None
+named (sign ∷ digit ∷ blank ∷ line) = if (sign == 64) && (blank == 32) && nat_le 48 digit && nat_lt digit 52 then Some (digit - 48) else None
 named _ = None
 
--- Whether a line that names no client does nothing: it is empty or a remark.
-abbrev pub is_idle : List ℕ → Bool
-is_idle line = is_remark line || (length (shorn line) == 0)
-
--- What a line says that names no client.
-abbrev pub without_client : List ℕ → Order
-without_client line = if is_idle line then Ok Nothing else Err Unknown
-
--- A line at a desk. The bytes that name its client are not counted.
+-- A line at a desk. The bytes that name its client are not counted. One that names none does nothing where it is empty or a remark.
 abbrev pub desk_line : Option ℕ → List ℕ → Line
 desk_line (Some client) line = said (Some client) (reading (drop 3 line))
-desk_line None line = said None (without_client line)
+desk_line None line = said None (if is_remark line || (length (shorn line) == 0) then Ok Nothing else Err Unknown)
 
 -- What a line says: at a desk, or of the one client.
 unfoldable pub line_of : Bool → List ℕ → Line

@@ -17,21 +17,12 @@ script tasks size = record { tasks = tasks; size = size }
 
 -- A task, and what comes behind it.
 abbrev pub led_by : Tagged → Script → Script
-led_by first behind = script (first ∷ behind.tasks) behind.size
+led_by first behind = record behind { tasks = first ∷ behind.tasks }
 
 -- The lines of bytes behind a line so far, without their line feeds: those that one ends, and the last one, which none ends; it may be empty.
 unfoldable pub lines_from : List ℕ → List ℕ → List (List ℕ) × List ℕ
 lines_from line [] = ([], line)
 lines_from line (byte ∷ bytes) = if byte == 10 then (line ∷ (lines_from [] bytes).0, (lines_from [] bytes).1) else lines_from (line ++ byte ∷ []) bytes
-
--- Where a line stands: between tasks, or in the body of one, of which there is so much yet, up to a line that is the word.
-pub data Place : Type 0 where
-  Between : Place
-  Inside : Tagged → List ℕ → Place
-
--- Whether a line is the word. Its last carriage return is dropped for that alone.
-abbrev pub says_word : List ℕ → List ℕ → Bool
-says_word word line = bytes_eq (shorn line) word
 
 -- More bytes of a body.
 abbrev pub with_bytes : Tagged → List ℕ → Tagged
@@ -39,34 +30,32 @@ with_bytes t bytes = record { client = t.client; task = task t.task.order (t.tas
 
 -- A line in front of others.
 abbrev pub with_line : List ℕ → Script → Script
-with_line line s = script s.tasks (suc (length line) + s.size)
+with_line line s = record s { size = suc (length line) + s.size }
 
--- A task begins: where it has a body, the lines behind it are its own up to the word.
-abbrev pub begun : Tagged → Option (List ℕ) → (Place → Script) → Script
-begun t None later = led_by t (later Between)
-begun t (Some word) later = later (Inside t word)
+-- A task begins, and what comes behind it is said at a place: in a body, by its task with so much of it yet and the word up to which the lines
+-- are its own, or between tasks.
+abbrev pub begun : Tagged → Option (List ℕ) → (Option (Tagged × List ℕ) → Script) → Script
+begun t None later = led_by t (later None)
+begun t (Some word) later = later (Some (t, word))
 
 -- A line between tasks, and what stands behind it, where the clients have heard it: nothing comes behind the line that ends the script.
-abbrev pub on_line : Clients → Line → (Clients → Place → Script) → Script
+abbrev pub on_line : Clients → Line → (Clients → Option (Tagged × List ℕ) → Script) → Script
 on_line clients line later =
-    if is_end clients line then script (tagged_task line [] ∷ []) 0 else begun (tagged_task line []) (body_word line.order) (later (heard clients line))
+    if is_end clients line then record { tasks = tagged_task line [] ∷ []; size = 0 } else begun (tagged_task line []) (body_word line.order) (later (heard clients line))
 
--- The task that the end of the bytes ends.
-abbrev pub end_task : Clients → Place → List ℕ → Tagged
-end_task clients Between line = tagged_task (line_of clients.tagged line) []
-end_task clients (Inside t word) line = if says_word word line then t else with_bytes t line
-
--- What lines say to these clients from a place on, with the tasks that the last one gives.
-unfoldable pub script_at : (Tagged → List Tagged) → List ℕ → Clients → Place → List (List ℕ) → Script
-script_at last end clients place [] = script (last (end_task clients place end)) (length end)
-script_at last end clients Between (line ∷ lines) =
+-- What lines say to these clients from a place on, and an end that no line feed ends, with the tasks that the last one gives. A line that is
+-- the word ends a body; its last carriage return is dropped for that alone.
+unfoldable pub script_at : (Tagged → List Tagged) → List ℕ → Clients → Option (Tagged × List ℕ) → List (List ℕ) → Script
+script_at last end clients None [] = record { tasks = last (tagged_task (line_of clients.tagged end) []); size = length end }
+script_at last end clients (Some (t, word)) [] = record { tasks = last (if bytes_eq (shorn end) word then t else with_bytes t end); size = length end }
+script_at last end clients None (line ∷ lines) =
     with_line line (on_line clients (line_of clients.tagged line) (λ later place. script_at last end later place lines))
-script_at last end clients (Inside t word) (line ∷ lines) =
+script_at last end clients (Some (t, word)) (line ∷ lines) =
     with_line line
-    (if says_word word line then led_by t (script_at last end clients Between lines) else script_at last end clients (Inside (with_bytes t (line ++ 10 ∷ [])) word) lines)
+    (if bytes_eq (shorn line) word then led_by t (script_at last end clients None lines) else script_at last end clients (Some (with_bytes t (line ++ 10 ∷ []), word)) lines)
 
 abbrev pub script_by : (Tagged → List Tagged) → Clients → List ℕ → Script
-script_by last clients bytes = script_at last (lines_from [] bytes).1 clients Between (lines_from [] bytes).0
+script_by last clients bytes = script_at last (lines_from [] bytes).1 clients None (lines_from [] bytes).0
 
 -- The end of the input ends the last task, and stands for `quit` of the one client where that is not; at a desk it ends the last task alone.
 abbrev pub at_end : Bool → Tagged → List Tagged

@@ -1,9 +1,9 @@
 //! What a line of a script says, and who says it.
-ghost use Rattle.std.specs.Prelude.{◌≡◌, ◌≤◌, ◌<◌, length, IfOk, IfErr, IfSome, IsSome, option_map};
-ghost use Rattle.script_text.specs.Reading.{reading};
+ghost use Rattle.std.specs.Prelude.{◌≡◌, ◌≤◌, ◌<◌, ◌-◌, ◌==◌, nat_le, nat_lt, ◌&&◌, ◌||◌, if◌then◌else◌, length, Some, None, IfOk, IfErr, IfSome, IsSome, option_map};
+ghost use Rattle.script_text.specs.Reading.{is_remark, reading, shorn};
 ghost use Rattle.script_text.specs.Sound.{IsSoundLine};
 ghost use Rattle.script_text.specs.Tasks.{body_word};
-ghost use Rattle.script_lines.specs.Clients.{client_of, is_idle, is_quit, line_of, named, without_client};
+ghost use Rattle.script_lines.specs.Clients.{desk_line, is_quit, line_of, named};
 
 use crate::reader::ReadError;
 use cell_core::Text;
@@ -62,7 +62,7 @@ fn read_order(alloc: Global, line: &[u8]) -> Result<Order, ReadError>
 
 // What a line says that names no client.
 fn without_client(line: &[u8]) -> Order
-    ensures order { result ≡ without_client line.now }
+    ensures order { result ≡ (desk_line None line.now).order }
 {
     if is_idle(line) {
         Ok(Command::Nothing)
@@ -73,7 +73,7 @@ fn without_client(line: &[u8]) -> Order
 
 // Whether such a line does nothing: it is empty or a remark.
 fn is_idle(line: &[u8]) -> bool
-    ensures idle { result ≡ is_idle line.now }
+    ensures idle { result ≡ (is_remark line.now || (length (shorn line.now) == 0)) }
 {
     match line {
         [b'#', ..] => true,
@@ -96,7 +96,7 @@ fn named(line: &[u8]) -> Option<u8>
 
 // The client whose digit this byte is.
 fn client_of(digit: u8) -> Option<u8>
-    ensures client { result ≡ client_of digit }
+    ensures client { result ≡ (if nat_le 48 digit && nat_lt digit 52 then Some (digit - 48) else None) }
     ensures few { IfSome result (λ client. client < 4) }
 {
     if digit < b'0' || digit > b'3' {
