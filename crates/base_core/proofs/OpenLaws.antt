@@ -1,8 +1,11 @@
 -- What opening answers, of what was read.
-use Rattle.std.proofs.Common.{◌≡◌, ◌<◌, ℕ, Bool, true, false, List, [], length, slice_get, Option, Some, None, Result, Ok, Err, IfOk, IfSome, ◌&&◌, MatchBool, refl, sym, ap, ◌∙◌, subst, inl, inr, arith, true≢false}
+use Rattle.std.proofs.Common.{◌≡◌, ◌<◌, ◌+◌, ℕ, suc, Bool, cond, true, false, List, [], length, ◌∷◌, slice_get, count_by, Option, Some, None, is_some, Result, Ok, Err, IfOk, IfSome, ◌&&◌, MatchBool, refl, sym, ap, ap₂, ◌∙◌, subst, inl, inr, arith, true≢false}
+use Rattle.std.specs.List.{enumerate_from}
+use Rattle.std.proofs.lemmas.List.Sums.{sum_by-cons}
 use Rattle.std.proofs.lemmas.Option.{none-some, slice_get_within}
 use Rattle.base_files.specs.Seen.{Seen}
 use Rattle.base_files.specs.Told.{Tells, TellsLength}
+use Rattle.index_entry.specs.Entry.{entry_in}
 use Rattle.index_entry.specs.Index.{index_read, entry_bytes}
 use Rattle.index_entry.specs.declared.entry.Entry.{Entry}
 use Rattle.index_entry.specs.declared.index.IndexHead.{IndexHead}
@@ -19,13 +22,15 @@ use Rattle.base_core.specs.declared.fault.OpenError.{OpenError}
 use Rattle.base_core.specs.declared.fault.OpenError.TheVariants as opening
 use Rattle.base_core.specs.Base.{Base, Held, empty_base, empty_header}
 use Rattle.base_core.specs.Means.{AreGames, Means}
-use Rattle.base_core.specs.FirstFault.{Whole, whole_read, EntryFails, FirstFault}
-use Rattle.base_core.specs.Represents.{IsSound, Kept, Represents, AreDifferences, extents_of}
+use Rattle.base_core.specs.FirstFault.{Whole, whole_read, derived_fault, EntryFails, FirstFault}
+use Rattle.base_core.specs.Represents.{IsSound, Kept, Represents, Mended, extents_of}
 use Rattle.base_core.specs.Opening.{IfBad, IfTold, Opens, Refuses, are_empty, is_created}
 use Rattle.base_core.specs.Reading.{AreRead, IsRead}
 use Rattle.base_core.proofs.CheckLaws.{checked, read_is}
 use Rattle.base_core.proofs.Lists.{get_some}
 use Rattle.sig_index.specs.Games.{AreWithin}
+use Rattle.sig_index.specs.Signature.{sig_of}
+use Rattle.sig_index.specs.declared.signature.Sig.{Sig}
 use Rattle.base_core.proofs.GamesLaws.{are-within}
 use Rattle.base_core.proofs.ReadLaws.{passes_of}
 use Rattle.base_core.proofs.OneFault.{none_fails}
@@ -67,15 +72,29 @@ games_of strict index names games entries mended count r long = record {
       record { fields = read.fields; read = c.read; named = c.named; says = read.says };
 }
 
-differences_of : (strict : Bool) (index : List ℕ) (names : NameLists) (games : List ℕ) (entries : List Entry) (mended : ℕ) (r : AreRead strict index names games entries mended) → AreDifferences index r.all r.fields
-differences_of strict index names games entries mended r = record {
-  count = r.compared ∙ sym r.held;
-  each = λ i held field at_held at_field.
-      let e = get_some entries i (subst (λ n. i < n) r.held (slice_get_within r.all i held at_held)) in
-      let read = r.each i e.0 held field e.1 at_held at_field in
-      let c = checked names (length games) i (entry_bytes index i) read.fields read.checked in
-      (read.sig, read.signed, rw (read_is (entry_bytes index i) read.fields c.read) read.differs);
-}
+-- What is counted of each is counted of all.
+counts : {X F : Type 0} (p : ℕ × X → Bool) (n : ℕ) (all : List X) (fields : List (Option F)) → length fields ≡ length all →
+    ((i : ℕ) (x : X) (field : Option F) → slice_get all i ≡ Some x → slice_get fields i ≡ Some field → is_some field ≡ p (n + i, x)) → count_by is_some fields ≡ count_by p (enumerate_from n all)
+counts p n [] [] long each = refl
+counts p n [] (field ∷ fields) long each = absurd (omega (arith, long))
+counts p n (x ∷ all) [] long each = absurd (omega (arith, long))
+counts p n (x ∷ all) (field ∷ fields) long each =
+    let one : is_some field ≡ p (n, x) = each 0 x field refl refl in
+    let next = counts p (n + 1) all fields (omega (arith, long)) (λ i y f at_y at_f. let same : n + suc i ≡ n + 1 + i = omega arith in each (suc i) y f at_y at_f ∙ ap (λ (k : ℕ). p (k, y)) same) in
+    sum_by-cons (λ f. cond (is_some f) 1 0) field fields
+    ∙ (ap₂ (λ b k. cond b 1 0 + k) one next ∙ sym (sum_by-cons (λ q. cond (p q) 1 0) (n, x) (enumerate_from (n + 1) all)))
+
+mended_of : (strict : Bool) (index : List ℕ) (names : NameLists) (games : List ℕ) (entries : List Entry) (mended : ℕ) (r : AreRead strict index names games entries mended) → Mended index r.all mended
+mended_of strict index names games entries mended r =
+    let differs : ℕ × Held → Bool = λ game. is_some (derived_fault (entry_in (entry_bytes index game.0)) (sig_of game.1.game)) in
+    r.mends ∙ counts differs 0 r.all r.fields (r.compared ∙ sym r.held) (λ i held field at_held at_field.
+    let e = get_some entries i (subst (λ n. i < n) r.held (slice_get_within r.all i held at_held)) in
+    let read = r.each i e.0 held field e.1 at_held at_field in
+    let c = checked names (length games) i (entry_bytes index i) read.fields read.checked in
+    let at : i ≡ 0 + i = omega arith in
+    let fields : derived_fault (entry_in (entry_bytes index i)) read.sig ≡ field = rw (read_is (entry_bytes index i) read.fields c.read) read.differs in
+    let D : Sig → Type 0 = λ s. derived_fault (entry_in (entry_bytes index i)) s ≡ field in
+    ap is_some (sym (subst D read.signed fields)) ∙ ap (λ (k : ℕ). differs (k, held)) at)
 
 -- What was read of three files opens them.
 pub opens : (strict : Bool) (index names games : List ℕ) (header : IndexHead) (lists : NameLists) (entries : List Entry) (mended end : ℕ) → index_read index ≡ Ok header → names_at names ≡ Ok lists → end ≡ length games →
@@ -103,7 +122,7 @@ opens strict index names games header lists entries mended end one two long coun
             let f = get_some r.fields i (subst (λ n. i < n) (sym r.compared) (slice_get_within entries i e at_e)) in
             (r.each i e held f.0 at_e at_held f.1).keeps;
       };
-      mends = (r.fields, differences_of strict index lists games entries mended r, r.mends);
+      mends = mended_of strict index lists games entries mended r;
       strictly = r.strictly;
       sound = λ fault refuses.
           none_fails strict index names games whole fault (whole_is index names header lists one two)

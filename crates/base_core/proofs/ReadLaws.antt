@@ -18,9 +18,9 @@ use Rattle.base_core.specs.declared.fault.BaseFault.{BaseFault}
 use Rattle.base_core.specs.declared.fault.DerivedField.{DerivedField}
 use Rattle.base_core.specs.Base.{Held}
 use Rattle.base_core.specs.Entries.{Says, head_of, extent_of}
-use Rattle.base_core.specs.FirstFault.{Passes, EntryFails, Fails, IsNotTaken, entry_checked, derived_fault}
+use Rattle.base_core.specs.FirstFault.{Passes, EntryFails, Fails, entry_checked, derived_fault}
 use Rattle.base_core.specs.Represents.{IsKept, Keeps}
-use Rattle.base_core.specs.Reading.{AreRead, IsRead, IsReadSo, IsSigned, IsTaken, kept_entry}
+use Rattle.base_core.specs.Reading.{AreRead, IsNotTaken, IsRead, IsReadSo, IsSigned, IsTaken, kept_entry}
 use Rattle.game_codec.specs.Fault.{IfBad as IfBadRecord}
 use Rattle.game_codec.specs.declared.fault.DecodeError.{DecodeError}
 use Rattle.game_codec.specs.declared.fault.DecodeError.TheVariants as decode
@@ -37,7 +37,7 @@ use Rattle.base_core.specs.declared.reading.GameRead.{GameRead}
 use Rattle.base_core.proofs.CheckLaws.{checked, ends_within, has_names}
 use Rattle.base_core.proofs.KeptLaws.{is-kept, settled_kept}
 use Rattle.base_core.proofs.Lists.{get_some, get_push_old, get_push_new, count_push}
-use Rattle.base_core.proofs.OneFault.{passes_fails}
+use Rattle.base_core.proofs.OneFault.{checked-fails, not_taken-fails, passes_fails}
 
 -- Nothing is there where the test says so.
 none_by : {X : Type 0} (o : Option X) → is_some o ≡ false → o ≡ None
@@ -49,9 +49,9 @@ keeps : (names : NameLists) (games : List ℕ) (e : Entry) (s : Sig) (date : Dat
 unfolding kept_entry
 keeps names games e s date within rule signed =
     let held : Held = record { head = settled (head_of names e signed.tags); game = signed.tree; len = e.len } in
-    let says : Says names games e held = record { tags = signed.tags; within = within; read = signed.read; head = refl; len = refl } in
+    let says : Says names games e held = record { tags = signed.tags; within = within; read = signed.read.answer; head = refl; len = refl } in
     let kept : Says names games (kept_entry e s date) held =
-    record { tags = signed.tags; within = within; read = signed.read; head = sym (settled_kept names e s date signed.tags rule (signed.dated names)); len = refl } in
+    record { tags = signed.tags; within = within; read = signed.read.answer; head = sym (settled_kept names e s date signed.tags rule (signed.dated names)); len = refl } in
     (held, (says, (signed.signed, record { says = kept; event_date = signed.dated names; signed = signed.signed })))
 
 -- A game that was taken, by the bytes of its record.
@@ -97,14 +97,14 @@ not_taken_told None strict names end game bytes read e fault long tells checked 
 not_taken_told (Some games) strict names end game bytes read e fault long tells checked not =
     let C : ℕ → Type 0 = λ n. entry_checked names n game bytes ≡ Ok e in
     let T : List ℕ → Type 0 = λ b. IsNotTaken strict game b e fault in
-    inr (e, (subst C long checked, subst T tells not))
+    not_taken-fails strict names games game bytes e fault (subst C long checked) (subst T tells not)
 
 -- An entry that fails before its record is read.
 pub checked_told : (told : Option (List ℕ)) (strict : Bool) (names : NameLists) (end game : ℕ) (bytes : List ℕ) (fault : BaseFault) →
     TellsLength told end → entry_checked names end game bytes ≡ Err fault → IfSome told (λ games. Fails strict names games game bytes fault)
 checked_told None strict names end game bytes fault long fails = tt
 checked_told (Some games) strict names end game bytes fault long fails =
-    let C : ℕ → Type 0 = λ n. entry_checked names n game bytes ≡ Err fault in inl (subst C long fails)
+    let C : ℕ → Type 0 = λ n. entry_checked names n game bytes ≡ Err fault in checked-fails strict names games game bytes fault (subst C long fails)
 
 -- ---- all games so far.
 

@@ -30,7 +30,7 @@ use Rattle.base_core.specs.Reading.{IsDecided, IsGameDecided}
 use Rattle.base_core.proofs.CheckLaws.{checked, ends_within}
 use Rattle.base_core.proofs.Lists.{get_push_new, get_push_old}
 use Rattle.base_core.proofs.Results.{same_ok}
-use Rattle.base_core.proofs.OneFault.{passes_fails}
+use Rattle.base_core.proofs.OneFault.{checked-fails, derived-fails, packed-fails, passes_fails}
 use Rattle.base_core.proofs.OpenLaws.{whole_is, index_fails, names_fail}
 
 -- Bytes are decided by what their reading answers.
@@ -60,18 +60,18 @@ PassesOrFails strict names index games game =
 by_derived : (strict : Bool) (names : NameLists) (games : List ℕ) (game : ℕ) (bytes : List ℕ) (e : Entry) (s : Sig) (d : Option DerivedField) → entry_checked names (length games) game bytes ≡ Ok e →
     Signs (record_in games (extent_of e)) s → derived_fault e s ≡ d → Passes strict names games game bytes ⊎ ((fault : BaseFault) × Fails strict names games game bytes fault)
 by_derived strict names games game bytes e s None passed signs same = inl (record { fields = e; checked = passed; sig = s; signs = signs; derived = λ is. same })
-by_derived true names games game bytes e s (Some field) passed signs same = inr (Derived game field, inr (e, (passed, inr (refl, (s, (signs, (field, (same, refl))))))))
+by_derived true names games game bytes e s (Some field) passed signs same = inr (Derived game field, derived-fails names games game bytes e s field passed signs same)
 by_derived false names games game bytes e s (Some field) passed signs same =
     inl (record { fields = e; checked = passed; sig = s; signs = signs; derived = λ is. absurd (true≢false (sym is)) })
 
 by_record : (strict : Bool) (names : NameLists) (games : List ℕ) (game : ℕ) (bytes : List ℕ) (e : Entry) → entry_checked names (length games) game bytes ≡ Ok e → IsDecided (record_in games (extent_of e)) →
     Passes strict names games game bytes ⊎ ((fault : BaseFault) × Fails strict names games game bytes fault)
 by_record strict names games game bytes e passed (inl d) = by_derived strict names games game bytes e d.0 (derived_fault e d.0) passed d.1 refl
-by_record strict names games game bytes e passed (inr d) = inr (Packed game d.0, inr (e, (passed, inl (d.0, (d.1, refl)))))
+by_record strict names games game bytes e passed (inr d) = inr (Packed game d.0, packed-fails strict names games game bytes e d.0 passed d.1)
 
 by_checks : (strict : Bool) (names : NameLists) (index games : List ℕ) (game : ℕ) (r : Result Entry BaseFault) → entry_checked names (length games) game (entry_bytes index game) ≡ r →
     IsGameDecided index games game → PassesOrFails strict names index games game
-by_checks strict names index games game (Err fault) same decided = inr (fault, inl same)
+by_checks strict names index games game (Err fault) same decided = inr (fault, checked-fails strict names games game (entry_bytes index game) fault same)
 by_checks strict names index games game (Ok e) same decided =
     let c = checked names (length games) game (entry_bytes index game) e same in
     by_record strict names games game (entry_bytes index game) e same (decided e c.read (ends_within (length games) e c.placed))
@@ -112,7 +112,7 @@ game_of strict names games game bytes p =
         fields = e;
         read = c.read;
         named = c.named;
-        says = record { tags = p.signs.tags; within = ends_within (length games) e c.placed; read = p.signs.read; head = refl; len = refl };
+        says = record { tags = p.signs.tags; within = ends_within (length games) e c.placed; read = p.signs.read.answer; head = refl; len = refl };
       },
     )
 

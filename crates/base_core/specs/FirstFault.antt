@@ -5,15 +5,14 @@ use Rattle.base_files.specs.Extents.{block_len, record_in}
 use Rattle.game_tree.specs.Game.{GameTree}
 use Rattle.game_tree.specs.declared.head.Tag.{Tag}
 use Rattle.game_codec.specs.Record.{IsRecord}
-use Rattle.game_codec.specs.Fault.{IsRecordFault}
-use Rattle.game_codec.specs.declared.fault.RecordFault.{RecordFault}
+use Rattle.game_codec.specs.RecordAnswer.{record_answer}
 use Rattle.index_entry.specs.Entry.{entry_read}
 use Rattle.index_entry.specs.Index.{index_read, entry_bytes}
 use Rattle.index_entry.specs.declared.entry.Entry.{Entry}
 use Rattle.index_entry.specs.declared.index.IndexHead.{IndexHead}
 use Rattle.name_base.specs.NameLists.{NameLists}
 use Rattle.name_base.specs.Reading.{◌>>=◌, names_at}
-use Rattle.sig_index.specs.Signature.{IsSig}
+use Rattle.sig_index.specs.Signature.{IsSig, sig_of}
 use Rattle.sig_index.specs.declared.signature.Sig.{Sig}
 use Rattle.base_core.specs.Entries.{extent_of}
 use Rattle.base_core.specs.declared.fault.BaseFault.{BaseFault}
@@ -103,17 +102,16 @@ pub record Passes (strict : Bool) (names : NameLists) (games : List ℕ) (game :
 abbrev pub AllPass : Bool → List ℕ → NameLists → List ℕ → ℕ → Type 0
 AllPass strict index names games count = (i : ℕ) → i < count → Passes strict names games i (entry_bytes index i)
 
--- The record of an entry is none, with this first fault, or the opening is strict, and a derived field differs from the record's signature.
-abbrev pub IsNotTaken : Bool → ℕ → List ℕ → Entry → BaseFault → Type 0
-IsNotTaken strict game bytes e fault =
-    ((what : RecordFault) × (IsRecordFault bytes what × (fault ≡ Packed game what)))
-    ⊎ (IsTrue strict × ((s : Sig) × (Signs bytes s × ((field : DerivedField) × ((derived_fault e s ≡ Some field) × (fault ≡ Derived game field))))))
+-- What the entry of a game says, or its first fault: of the entry itself, of its record, of its derived fields where the opening is strict.
+unfoldable pub entry_answer : Bool → NameLists → List ℕ → ℕ → List ℕ → Result Entry BaseFault
+entry_answer strict names games game bytes = do
+  e ← entry_checked names (length games) game bytes
+  read ← blamed (λ what. Packed game what) (record_answer (record_in games (extent_of e)))
+  unless (λ field. Derived game field) (if strict then derived_fault e (sig_of read.1) else None) (Ok e)
 
--- The first fault of the entry of a game: of the entry itself, of its record, of its derived fields.
+-- The entry of a game has this first fault.
 abbrev pub Fails : Bool → NameLists → List ℕ → ℕ → List ℕ → BaseFault → Type 0
-Fails strict names games game bytes fault =
-    (entry_checked names (length games) game bytes ≡ Err fault)
-    ⊎ ((e : Entry) × ((entry_checked names (length games) game bytes ≡ Ok e) × IsNotTaken strict game (record_in games (extent_of e)) e fault))
+Fails strict names games game bytes fault = entry_answer strict names games game bytes ≡ Err fault
 
 -- One of so many entries has this fault, and none before it has one.
 pub record EntryFails (strict : Bool) (index : List ℕ) (names : NameLists) (games : List ℕ) (count : ℕ) (fault : BaseFault) : Type 0 where

@@ -14,6 +14,8 @@ use Rattle.index_entry.specs.declared.entry.Entry.{Entry}
 use Rattle.name_base.specs.NameLists.{NameLists}
 use Rattle.sig_index.specs.Signature.{IsSig}
 use Rattle.sig_index.specs.declared.signature.Sig.{Sig}
+use Rattle.base_core.specs.declared.fault.BaseFault.{BaseFault}
+use Rattle.base_core.specs.declared.fault.BaseFault.TheVariants.{Packed, Derived}
 use Rattle.base_core.specs.declared.fault.DerivedField.{DerivedField}
 use Rattle.base_core.specs.Base.{Held}
 use Rattle.base_core.specs.Entries.{Says, extent_of, head_of}
@@ -52,6 +54,12 @@ pub record IsTaken (strict : Bool) (bytes : List ℕ) (e kept : Entry) (mended :
   pub keeps : kept ≡ kept_entry e sig date
   pub mends : mended ≡ is_some (derived_fault e sig)
   pub strictly : IsTrue strict → mended ≡ false
+
+-- The record of an entry is none, with this first fault, or the opening is strict, and a derived field differs from the record's signature.
+abbrev pub IsNotTaken : Bool → ℕ → List ℕ → Entry → BaseFault → Type 0
+IsNotTaken strict game bytes e fault =
+    ((what : RecordFault) × (IsRecordFault bytes what × (fault ≡ Packed game what)))
+    ⊎ (IsTrue strict × ((s : Sig) × (Signs bytes s × ((field : DerivedField) × ((derived_fault e s ≡ Some field) × (fault ≡ Derived game field))))))
 
 -- The entry with what the bytes of its record say.
 abbrev pub IsMended : List ℕ → Entry → Entry → Type 0

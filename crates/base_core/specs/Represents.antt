@@ -1,5 +1,6 @@
 -- A base that is open: what it keeps beside its games file, and which base that is (this project's own).
-use Rattle.std.specs.Prelude.{◌≡◌, ◌≤◌, ℕ, Bool, List, [], All, length, map, slice_get, Option, Some, None, is_some, count_by}
+use Rattle.std.specs.Prelude.{◌≡◌, ◌≤◌, ℕ, Bool, List, [], All, length, map, slice_get, Some, None, is_some, count_by}
+use Rattle.std.specs.List.{enumerate_from}
 use Rattle.base_files.specs.declared.extent.Extent.{Extent}
 use Rattle.game_tree.specs.declared.head.Head.{Head}
 use Rattle.index_entry.specs.declared.entry.Entry.{Entry}
@@ -7,9 +8,8 @@ use Rattle.index_entry.specs.declared.index.IndexHead.{IndexHead}
 use Rattle.index_entry.specs.Entry.{IsEntry, entry_in}
 use Rattle.index_entry.specs.Index.{IsIndexHead, entry_bytes}
 use Rattle.name_base.specs.NameLists.{NameLists, AreSound}
-use Rattle.sig_index.specs.Signature.{IsSig}
+use Rattle.sig_index.specs.Signature.{IsSig, sig_of}
 use Rattle.sig_index.specs.declared.signature.Sig.{Sig}
-use Rattle.base_core.specs.declared.fault.DerivedField.{DerivedField}
 use Rattle.base_core.specs.Base.{Base, Held}
 use Rattle.base_core.specs.Entries.{HasNames, Says, extent_of, head_of, sig_in}
 use Rattle.base_core.specs.FirstFault.{derived_fault, place_fault}
@@ -62,12 +62,7 @@ sigs_of kept = map sig_in kept.entries
 abbrev pub extents_of : Kept → List Extent
 extents_of kept = map extent_of kept.entries
 
--- For each entry of the index the first derived field that differs from those of its game, if there is one.
-pub record AreDifferences (index : List ℕ) (all : List Held) (fields : List (Option DerivedField)) : Type 0 where
-  pub count : length fields ≡ length all
-  pub each : (i : ℕ) (held : Held) (field : Option DerivedField) → slice_get all i ≡ Some held → slice_get fields i ≡ Some field →
-      (s : Sig) × IsSig held.game s × (derived_fault (entry_in (entry_bytes index i)) s ≡ field)
-
--- How many entries of the index have a derived field that differs from the game's.
+-- So many of these games have an entry in the index of which a derived field differs from the game's.
 abbrev pub Mended : List ℕ → List Held → ℕ → Type 0
-Mended index all mended = (fields : List (Option DerivedField)) × AreDifferences index all fields × (mended ≡ count_by is_some fields)
+Mended index all mended =
+    mended ≡ count_by (λ game. is_some (derived_fault (entry_in (entry_bytes index game.0)) (sig_of game.1.game))) (enumerate_from 0 all)

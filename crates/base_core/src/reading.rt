@@ -12,9 +12,9 @@ ghost use Rattle.index_entry.specs.Entry.{IsEntry, entry_in};
 ghost use Rattle.name_base.specs.NameLists.{NameLists};
 ghost use Rattle.sig_index.specs.Signature.{IsSigBounded};
 ghost use Rattle.base_core.specs.Entries.{head_of};
-ghost use Rattle.base_core.specs.FirstFault.{EntryFails, Fails, IsNotTaken};
+ghost use Rattle.base_core.specs.FirstFault.{EntryFails, Fails};
 ghost use Rattle.base_core.specs.Opening.{IfBad, records_len};
-ghost use Rattle.base_core.specs.Reading.{AreRead, IsMended, IsReadSo, IsSigned, IsTaken};
+ghost use Rattle.base_core.specs.Reading.{AreRead, IsMended, IsNotTaken, IsReadSo, IsSigned, IsTaken};
 ghost use Rattle.base_core.specs.Represents.{IsKept};
 
 use crate::checking::{Opening, checked_entry, differing, kept_entry};

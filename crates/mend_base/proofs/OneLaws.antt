@@ -1,34 +1,23 @@
 -- A game has one place.
-use Rattle.std.proofs.Common.{◌≡◌, ◌≤◌, ◌<◌, ◌+◌, ◌*◌, ℕ, false, List, Option, Ok, Err, sym, ap, ◌∙◌, subst, inl, inr, arith, true≢false}
-use Rattle.base_files.specs.Extents.{record_in}
-use Rattle.game_codec.proofs.RecordAnswerLaws.{record-unbroken}
+use Rattle.std.proofs.Common.{◌≡◌, ◌≤◌, ◌<◌, ◌+◌, ◌*◌, ℕ, false, List, Option, Ok, Err, sym, ap, ◌∙◌, subst, inl, inr, arith}
 use Rattle.index_entry.specs.Index.{entry_bytes}
 use Rattle.index_entry.specs.declared.entry.Entry.{Entry}
-use Rattle.name_base.specs.NameLists.{NameLists}
 use Rattle.name_base.specs.PartNames.{PartLists, filled_names}
 use Rattle.base_core.specs.Base.{Held}
-use Rattle.base_core.specs.Entries.{Says, extent_of}
-use Rattle.base_core.specs.FirstFault.{Fails, IsNotTaken}
+use Rattle.base_core.specs.Entries.{Says}
+use Rattle.base_core.specs.FirstFault.{Fails}
 use Rattle.base_core.specs.declared.fault.BaseFault.{BaseFault}
 use Rattle.base_core.specs.declared.fault.IdField.{IdField}
 use Rattle.base_core.proofs.Lists.{same_lists}
 use Rattle.base_core.proofs.OneBase.{says-one}
-use Rattle.base_core.proofs.OneFault.{fails-one}
-use Rattle.base_core.proofs.Results.{ok_err, same_ok}
+use Rattle.base_core.proofs.OneFault.{read-answers}
+use Rattle.base_core.proofs.Results.{ok_err, same_err, same_ok}
 use Rattle.mend_base.specs.Places.{ArePlaces, Found, IsPlace, IsWhole, Place, missing_in}
-
--- A record that an entry says has no fault.
-says-taken : (names : NameLists) (games : List ℕ) (game : ℕ) (e : Entry) (held : Held) (fault : BaseFault) → Says names games e held → IsNotTaken false game (record_in games (extent_of e)) e fault → ⊥
-says-taken names games game e held fault says (inl f) = record-unbroken (record_in games (extent_of e)) says.tags held.game f.0 says.read f.1.0
-says-taken names games game e held fault says (inr f) = true≢false (sym f.0)
 
 -- A game that is whole has none.
 whole-unbroken : (names : PartLists) (games : List ℕ) (game : ℕ) (bytes : List ℕ) (found : Found) (fault : BaseFault) → IsWhole names games game bytes found → Fails false (filled_names names) games game bytes fault → ⊥
-whole-unbroken names games game bytes found fault is (inl f) = ok_err _ is.fields fault is.checked f
-whole-unbroken names games game bytes found fault is (inr f) =
-    let fields : f.0 ≡ is.fields = same_ok _ f.0 is.fields f.1.0 is.checked in
-    let N : Entry → Type 0 = λ e. IsNotTaken false game (record_in games (extent_of e)) e fault in
-    says-taken (filled_names names) games game is.fields found.held fault is.says (subst N fields f.1.1)
+whole-unbroken names games game bytes found fault is fails =
+    ok_err _ is.fields fault (read-answers (filled_names names) games game bytes is.fields is.says.tags found.held.game is.checked is.says.read) fails
 
 whole-one : (names : PartLists) (games : List ℕ) (game : ℕ) (bytes : List ℕ) (found other : Found) → IsWhole names games game bytes found → IsWhole names games game bytes other → found ≡ other
 whole-one names games game bytes found other x y =
@@ -48,7 +37,7 @@ place-one index names games game (Err fault) (Ok other) (inr x) y = absurd (whol
 place-one index names games game (Err fault) (Err other) (inl cut) (inl short) = ap Err (cut.is ∙ sym short.is)
 place-one index names games game (Err fault) (Err other) (inl cut) (inr y) = absurd (omega (arith, y.0, cut.short))
 place-one index names games game (Err fault) (Err other) (inr x) (inl short) = absurd (omega (arith, x.0, short.short))
-place-one index names games game (Err fault) (Err other) (inr x) (inr y) = ap Err (fails-one false (filled_names names) games game (entry_bytes index game) fault other x.1 y.1)
+place-one index names games game (Err fault) (Err other) (inr x) (inr y) = ap Err (same_err _ fault other x.1 y.1)
 
 pub places-one : (index : List ℕ) (names : PartLists) (games : List ℕ) (count : ℕ) (places others : List Place) → ArePlaces index names games count places → ArePlaces index names games count others → places ≡ others
 places-one index names games count places others x y =
