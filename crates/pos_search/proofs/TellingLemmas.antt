@@ -26,11 +26,12 @@ use Rattle.base_files.specs.declared.extent.Extent.{Extent}
 use Rattle.sig_index.proofs.PrefixLemmas.{moves_at}
 use Rattle.sig_index.proofs.Ranges.{find_first, found_first}
 use Rattle.sig_index.proofs.RecordLemmas.{game_legal, game_sound}
-use Rattle.pos_search.specs.Matching.{IsLegalFrom, first_if_aside, first_on_main, hit_aside, hit_of, hit_on_main, matches, matches_at}
+use Rattle.pos_search.specs.Matching.{IsLegalFrom, first_if_aside, first_on_main, hit_of, hit_on_main, matches, matches_at}
 use Rattle.pos_search.specs.Searching.{are_read, hit_told, is_exact, is_read, is_told}
 use Rattle.pos_search.specs.Telling.{TellsHit, hits_told}
 use Rattle.pos_search.proofs.FirstLemmas.{matches_from}
 use Rattle.pos_search.proofs.MatchLemmas.{matched}
+use Rattle.pos_search.proofs.Words.{hit_aside}
 
 -- ---- one place
 
