@@ -11,13 +11,16 @@ use Rattle.cell_core.specs.Man.{same_colour}
 use Rattle.cell_core.proofs.Same.{same_colour-Decides, same_men-Decides}
 use Rattle.chess_laws.specs.Position.{start_setup}
 use Rattle.chess_laws.specs.declared.setup.Setup.{Setup}
+use Rattle.chess_text.specs.FieldReading.{◌>>=◌}
 use Rattle.chess_text.specs.declared.fault.SanFault.{SanFault}
+use Rattle.game_codec.specs.Steps.{blamed}
 use Rattle.game_tree.specs.Eco.{eco_read}
 use Rattle.eco_class.specs.Cutting.{lines_of, words_of}
 use Rattle.eco_class.specs.Table.{EndApart, Opening, ends_at, line_at}
-use Rattle.eco_class.specs.Reading.{and_then, fault_in, joined, opening, played, table_of, with_code, with_line, with_lines, with_place, with_words}
+use Rattle.eco_class.specs.Reading.{joined, played, table_of, with_code, with_line, with_lines, with_words}
+use Rattle.eco_class.specs.Kept.{opening}
 use Rattle.eco_class.specs.declared.fault.EcoFault.{EcoFault}
-use Rattle.eco_class.specs.declared.fault.EcoWhat.TheVariants.{Lines}
+use Rattle.eco_class.specs.declared.fault.EcoWhat.TheVariants.{Lines, San}
 
 -- A line that is not found ends elsewhere.
 not_here : (board : Men) (side : Colour) (line : Opening) → ends_at board side line ≡ false → line.board ≡ board → line.side ≡ side → ⊥
@@ -45,7 +48,8 @@ apart_joined table next new None none apart is =
 apart_joined table next new (Some earlier) some apart is = absurd (cc)
 
 apart_place : (table next : List Opening) (number code : ℕ) (place : Result Setup SanFault) → AllPairs EndApart table
-    → with_place table number code place ≡ Ok next → AllPairs EndApart next
+    → (blamed (λ fault. record { line = number; what = San fault }) place >>= λ p. joined table (opening number code p) (line_at table p.board p.side)) ≡ Ok next
+    → AllPairs EndApart next
 apart_place table next number code (Err fault) apart is = absurd (cc)
 apart_place table next number code (Ok p) apart is =
     apart_joined table next (opening number code p) (line_at table p.board p.side) refl apart is
@@ -55,7 +59,9 @@ apart_code : (table next : List Opening) (number : ℕ) (moves : List (List ℕ)
 apart_code table next number moves None apart is = absurd (cc)
 apart_code table next number moves (Some code) apart is = by (nat_le 65536 (length table)) is
   where
-    by : (t : Bool) → cond t (fault_in number Lines) (with_place table number code (played start_setup moves)) ≡ Ok next → AllPairs EndApart next
+    by : (t : Bool) → cond t (Err (record { line = number; what = Lines }))
+        (blamed (λ fault. record { line = number; what = San fault }) (played start_setup moves) >>= λ p. joined table (opening number code p) (line_at table p.board p.side))
+        ≡ Ok next → AllPairs EndApart next
     by true bad = absurd (cc)
     by false good = apart_place table next number code (played start_setup moves) apart good
 
@@ -80,7 +86,7 @@ apart_lines [] table whole number apart is = subst (AllPairs EndApart) (let same
 apart_lines (line ∷ lines) table whole number apart is = by (λ next. apart_lines lines next whole (number + 1)) (with_line table number line) refl is
   where
     by : ((next : List Opening) → AllPairs EndApart next → with_lines next (number + 1) lines ≡ Ok whole → AllPairs EndApart whole) → (answer : Result (List Opening) EcoFault) → with_line table number line ≡ answer
-        → and_then answer (λ next. with_lines next (number + 1) lines) ≡ Ok whole → AllPairs EndApart whole
+        → (answer >>= λ next. with_lines next (number + 1) lines) ≡ Ok whole → AllPairs EndApart whole
     by later (Err fault) at bad = absurd (cc)
     by later (Ok next) at rest = later next (apart_line table next number line apart at) rest
 

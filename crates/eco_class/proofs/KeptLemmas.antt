@@ -21,8 +21,8 @@ use Rattle.chess_laws.specs.declared.setup.Setup.{Setup}
 use Rattle.sig_index.proofs.LeavingLemmas.{same_tests}
 use Rattle.eco_class.specs.declared.table.Named.{Named}
 use Rattle.eco_class.specs.Table.{Opening, ends_at, line_at}
-use Rattle.eco_class.specs.Reading.{joined, opening}
-use Rattle.eco_class.specs.Kept.{GivesBack, IsEntry, IsKept, men_in, opening_of, openings_of}
+use Rattle.eco_class.specs.Reading.{joined}
+use Rattle.eco_class.specs.Kept.{GivesBack, IsEntry, IsKept, men_in, opening_of, openings_of, opening}
 
 same_packed : (a b : Packed) → a.cells ≡ b.cells → a.side ≡ b.side → a ≡ b
 same_packed a b cells side = λ i. record { cells = cells i; side = side i }

@@ -5,17 +5,18 @@ use Rattle.cell_core.specs.declared.step.Move.{Move}
 use Rattle.chess_laws.specs.Step.{Step, stepped}
 use Rattle.chess_laws.specs.declared.setup.Setup.{Setup}
 use Rattle.chess_laws.proofs.Stepping.{Step-stepped}
+use Rattle.chess_text.specs.FieldReading.{◌>>=◌}
 use Rattle.chess_text.specs.SanAnswer.{san_answer}
 use Rattle.chess_text.specs.declared.fault.SanFault.{SanFault}
 use Rattle.eco_class.specs.Cutting.{lines_of, words_of}
 use Rattle.eco_class.specs.Table.{Opening}
-use Rattle.eco_class.specs.Reading.{and_then, played, with_line, with_lines}
+use Rattle.eco_class.specs.Reading.{played, with_line, with_lines}
 use Rattle.eco_class.specs.declared.fault.EcoFault.{EcoFault}
 
 -- ---- words
 
 word_read : (p : Setup) (word : List ℕ) (words : List (List ℕ)) (answer : Result Move SanFault) → answer ≡ san_answer p word
-    → played p (word ∷ words) ≡ and_then answer (λ m. played (stepped p m) words)
+    → played p (word ∷ words) ≡ (answer >>= λ m. played (stepped p m) words)
 unfolding played
 word_read p word words answer is = rw (← is) refl
 
@@ -37,7 +38,7 @@ played_end p line whole none is = rw none at is
 -- ---- lines
 
 line_read : (table : List Opening) (number : ℕ) (line : List ℕ) (lines : List (List ℕ)) (answer : Result (List Opening) EcoFault)
-    → with_line table number line ≡ answer → with_lines table number (line ∷ lines) ≡ and_then answer (λ next. with_lines next (number + 1) lines)
+    → with_line table number line ≡ answer → with_lines table number (line ∷ lines) ≡ (answer >>= λ next. with_lines next (number + 1) lines)
 unfolding with_lines
 line_read table number line lines answer is = rw is refl
 

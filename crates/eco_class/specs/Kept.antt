@@ -3,8 +3,13 @@ use Rattle.std.specs.Prelude.{◌≡◌, ◌≤◌, ℕ, List, All, length, map,
 use Rattle.cell_core.specs.Board.{Men}
 use Rattle.cell_core.specs.Packed.{Packed, cells_of, men_of}
 use Rattle.chess_laws.specs.Counts.{counts_of}
+use Rattle.chess_laws.specs.declared.setup.Setup.{Setup}
 use Rattle.eco_class.specs.declared.table.Named.{Named}
 use Rattle.eco_class.specs.Table.{Opening}
+
+-- The line with this number and code that ends at a position.
+abbrev pub opening : ℕ → ℕ → Setup → Opening
+opening number code p = record { line = number; code = code; board = p.board; side = p.side }
 
 -- The line that an entry stands for, and the lines of all entries.
 abbrev pub opening_of : Packed × Named → Opening

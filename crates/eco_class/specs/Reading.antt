@@ -5,46 +5,33 @@ use Rattle.std.specs.Str.Lines.{strip_carriage_return}
 use Rattle.chess_laws.specs.Position.{start_setup}
 use Rattle.chess_laws.specs.Step.{stepped}
 use Rattle.chess_laws.specs.declared.setup.Setup.{Setup}
+use Rattle.chess_text.specs.FieldReading.{◌>>=◌}
 use Rattle.chess_text.specs.SanAnswer.{san_answer}
 use Rattle.chess_text.specs.declared.fault.SanFault.{SanFault}
+use Rattle.game_codec.specs.Steps.{blamed}
 use Rattle.game_tree.specs.Eco.{eco_read}
 use Rattle.eco_class.specs.Cutting.{lines_of, words_of}
 use Rattle.eco_class.specs.Table.{Opening, line_at}
 use Rattle.eco_class.specs.declared.fault.EcoFault.{EcoFault}
-use Rattle.eco_class.specs.declared.fault.EcoWhat.{EcoWhat}
 use Rattle.eco_class.specs.declared.fault.EcoWhat.TheVariants.{Code, Lines, San, Twice}
-
--- What follows an answer, where it is no fault.
-abbrev pub and_then : {A B E : Type 0} → Result A E → (A → Result B E) → Result B E
-and_then (Ok value) next = next value
-and_then (Err fault) next = Err fault
 
 -- The position after the moves that these words are in Standard Algebraic Notation, or the fault of the first word that is none.
 unfoldable pub played : Setup → List (List ℕ) → Result Setup SanFault
 played p [] = Ok p
-played p (word ∷ words) = and_then (san_answer p word) (λ m. played (stepped p m) words)
-
--- The fault of a line, and the line that ends at a position.
-abbrev pub fault_in : ℕ → EcoWhat → Result (List Opening) EcoFault
-fault_in number what = Err (record { line = number; what = what })
-
-abbrev pub opening : ℕ → ℕ → Setup → Opening
-opening number code p = record { line = number; code = code; board = p.board; side = p.side }
+played p (word ∷ words) = san_answer p word >>= λ m. played (stepped p m) words
 
 -- The table with one more line, unless an earlier one, with this number, ends on the same board with the same side to move.
 abbrev pub joined : List Opening → Opening → Option ℕ → Result (List Opening) EcoFault
-joined table opening earlier = option_map_or (λ line. fault_in opening.line (Twice line)) earlier (Ok (table ++ opening ∷ []))
-
-abbrev pub with_place : List Opening → ℕ → ℕ → Result Setup SanFault → Result (List Opening) EcoFault
-with_place table number code (Err fault) = fault_in number (San fault)
-with_place table number code (Ok p) = joined table (opening number code p) (line_at table p.board p.side)
+joined table opening earlier =
+    option_map_or (λ line. Err (record { line = opening.line; what = Twice line })) earlier (Ok (table ++ opening ∷ []))
 
 -- The table with the line of this number, which is this code, if it is one, and then the words of these moves. A table has at most 65,536
 -- lines with a code.
 abbrev pub with_code : List Opening → ℕ → List (List ℕ) → Option ℕ → Result (List Opening) EcoFault
-with_code table number moves None = fault_in number Code
-with_code table number moves (Some code) =
-    if nat_le 65536 (length table) then fault_in number Lines else with_place table number code (played start_setup moves)
+with_code table number moves None = Err (record { line = number; what = Code })
+with_code table number moves (Some code) = if nat_le 65536 (length table) then Err (record { line = number; what = Lines }) else do
+  p ← blamed (λ fault. record { line = number; what = San fault }) (played start_setup moves)
+  joined table (record { line = number; code = code; board = p.board; side = p.side }) (line_at table p.board p.side)
 
 abbrev pub with_words : List Opening → ℕ → List (List ℕ) → Result (List Opening) EcoFault
 with_words table number [] = Ok table
@@ -58,7 +45,7 @@ with_line table number line = if slice_index line 0 == 35 then Ok table else wit
 -- The table with these lines, the first of which has this number.
 unfoldable pub with_lines : List Opening → ℕ → List (List ℕ) → Result (List Opening) EcoFault
 with_lines table number [] = Ok table
-with_lines table number (line ∷ lines) = and_then (with_line table number line) (λ next. with_lines next (number + 1) lines)
+with_lines table number (line ∷ lines) = with_line table number line >>= λ next. with_lines next (number + 1) lines
 
 -- The table of a text. Lines count from 1, all lines included.
 abbrev pub table_of : List ℕ → Result (List Opening) EcoFault

@@ -58,9 +58,9 @@ impl EcoTable {
     ghost use Rattle.game_tree.specs.declared.head.Tag.{Tag};
     ghost use Rattle.eco_class.specs.declared.fault.EcoFault.{EcoFault as Fault};
     ghost use Rattle.eco_class.specs.Table.{code_at, code_of, eco_of, line_at};
-    ghost use Rattle.eco_class.specs.Reading.{joined, opening, table_of, with_code, with_line};
+    ghost use Rattle.eco_class.specs.Reading.{joined, table_of, with_code, with_line};
     ghost use Rattle.eco_class.specs.Cutting.{words_of};
-    ghost use Rattle.eco_class.specs.Kept.{GivesBack};
+    ghost use Rattle.eco_class.specs.Kept.{GivesBack, opening};
 
     /// Reads a table from its text, which has fewer than 2^32 bytes. Each line that has a word and does not begin with `#` is an opening
     /// code and then any number of moves in Standard Algebraic Notation, without move numbers, from the initial position on. Spaces and
