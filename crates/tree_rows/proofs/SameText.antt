@@ -12,7 +12,7 @@ use Rattle.tree_rows.specs.declared.hit.GameHit.{GameHit}
 use Rattle.tree_rows.specs.declared.row.Row.{Row}
 use Rattle.tree_rows.specs.Keys.{key_cmp, same_key}
 use Rattle.tree_rows.specs.Rows.{KeysDiffer, row_at, rows_of}
-use Rattle.tree_rows.specs.TreeText.{in_order, line_of, row_before, row_line, total_of, tree_text, with_row}
+use Rattle.tree_rows.specs.TreeText.{in_order, line_of, row_before, row_line, tree_text, with_row}
 use Rattle.tree_rows.proofs.KeyLaws.{is-less, key_total, one-key, told-apart}
 use Rattle.tree_rows.proofs.OneRow.{keys-differ}
 
@@ -117,22 +117,6 @@ sum-shuffled number (row ∷ rows) other (front, (back, (is, (none, rest)))) =
       sum_by-cons number row back,
       sum_by-append number front back,
     )
-
-total-shuffled : (rows other : List Row) → Shuffled rows other → total_of rows ≡ total_of other
-unfolding total_of
-total-shuffled rows other is = λ i. record {
-  games = sum-shuffled (λ row. row.games) rows other is i;
-  white = sum-shuffled (λ row. row.white) rows other is i;
-  draws = sum-shuffled (λ row. row.draws) rows other is i;
-  black = sum-shuffled (λ row. row.black) rows other is i;
-  unfinished = sum-shuffled (λ row. row.unfinished) rows other is i;
-  mover_sum = sum-shuffled (λ row. row.mover_sum) rows other is i;
-  mover_rated = sum-shuffled (λ row. row.mover_rated) rows other is i;
-  other_sum = sum-shuffled (λ row. row.other_sum) rows other is i;
-  other_rated = sum-shuffled (λ row. row.other_rated) rows other is i;
-  year_sum = sum-shuffled (λ row. row.year_sum) rows other is i;
-  dated = sum-shuffled (λ row. row.dated) rows other is i;
-}
 
 -- ---- the order
 
@@ -286,4 +270,4 @@ pub same-text : (men : Men) (side : Colour) (rows : List Row) (hits : List GameH
 unfolding tree_text in_order
 same-text men side rows hits differ same =
     let is = shuffled rows (rows_of hits) differ (keys-differ hits) same in
-    λ i. flat_map (row_line men side) (order-shuffled rows (rows_of hits) [] is i) ++ line_of (codes "total") (total-shuffled rows (rows_of hits) is i)
+    λ i. flat_map (row_line men side) (order-shuffled rows (rows_of hits) [] is i) ++ line_of (codes "total") (λ (field : Row → ℕ). sum-shuffled field rows (rows_of hits) is i)

@@ -1,7 +1,6 @@
 //! The numbers of a row, and their sums over all rows.
 ghost use Rattle.std.specs.Prelude.{◌≡◌, ◌+◌, ◌-◌, ◌<◌, ◌≤◌, ◌^◌, ℕ};
-ghost use Rattle.tree_rows.specs.TreeText.{numbers_of, total_of};
-ghost use Rattle.tree_rows.specs.Keeping.{AreFew, AreSmall, AreWithin, plus};
+ghost use Rattle.tree_rows.specs.Keeping.{AreFew, AreSmall, AreWithin, numbers_of, plus, total_of};
 
 use crate::row::Row;
 

@@ -3,7 +3,7 @@ ghost use Rattle.std.specs.Prelude.{◌≡◌, ◌++◌, All, OnOk, OnErr, flat_
 ghost use Rattle.std.specs.Fmt.{decimal};
 ghost use Rattle.tree_rows.specs.MoveText.{IsKey};
 ghost use Rattle.tree_rows.specs.TreeText.{averages_text, counts_text, line_of, quotient, right_in, row_line, tree_text};
-ghost use Rattle.tree_rows.specs.Keeping.{AreSmall};
+ghost use Rattle.tree_rows.specs.Keeping.{AreSmall, given_by};
 
 use crate::move_text::move_text;
 use crate::numbers::Numbers;
@@ -54,6 +54,7 @@ fn push_rows(
 }
 
 // Adds the line of a row.
+#[tactic(auto, using(crate::proofs::TextLaws::line_of_row))]
 fn push_row(into: &mut Vec<u8>, row: &Row, board: &Board, side: Colour) -> Result<(), AllocError>
     requires key { IsKey board.now side row.now.key }
     ensures line { OnOk result (into.new.items ≡ into.old.items ++ row_line board.now side row.now) }
@@ -69,7 +70,7 @@ fn push_row(into: &mut Vec<u8>, row: &Row, board: &Board, side: Colour) -> Resul
 #[tactic(auto, using(std::proofs::Common::append_assoc))]
 fn push_line(into: &mut Vec<u8>, name: &[u8], numbers: &Numbers) -> Result<(), AllocError>
     requires small { AreSmall numbers.now }
-    ensures line { OnOk result (into.new.items ≡ into.old.items ++ line_of name.now numbers.now) }
+    ensures line { OnOk result (into.new.items ≡ into.old.items ++ line_of name.now (given_by numbers.now)) }
 {
     into.extend_from_slice(name)?;
     push_blanks(into, 8_usize.saturating_sub(name.len()))?;
@@ -82,7 +83,7 @@ fn push_line(into: &mut Vec<u8>, name: &[u8], numbers: &Numbers) -> Result<(), A
 // Adds how many games there are, and how many with each result.
 #[tactic(auto, using(crate::proofs::TextLaws::text_rules), unfolding(crate::specs::TreeText::counts_text))]
 fn push_counts(into: &mut Vec<u8>, numbers: &Numbers) -> Result<(), AllocError>
-    ensures counts { OnOk result (into.new.items ≡ into.old.items ++ counts_text numbers.now) }
+    ensures counts { OnOk result (into.new.items ≡ into.old.items ++ counts_text (given_by numbers.now)) }
 {
     push_number(into, numbers.games)?;
     push_number(into, numbers.white)?;
@@ -95,7 +96,7 @@ fn push_counts(into: &mut Vec<u8>, numbers: &Numbers) -> Result<(), AllocError>
 #[tactic(auto, using(std::proofs::Common::append_assoc), unfolding(crate::specs::TreeText::averages_text))]
 fn push_averages(into: &mut Vec<u8>, numbers: &Numbers) -> Result<(), AllocError>
     requires small { AreSmall numbers.now }
-    ensures averages { OnOk result (into.new.items ≡ into.old.items ++ averages_text numbers.now) }
+    ensures averages { OnOk result (into.new.items ≡ into.old.items ++ averages_text (given_by numbers.now)) }
 {
     let points = 1000 * (2 * numbers.white + numbers.draws);
     let most = 2 * (numbers.white + numbers.draws + numbers.black);
