@@ -12,7 +12,8 @@ use Rattle.name_base.specs.NameLists.{NameLists}
 use Rattle.shell_state.proofs.IndexLaws.{depth_is}
 use Rattle.shell_state.specs.Stands.{Holding, Stands, Fits, Quiet, depth_of}
 use Rattle.shell_state.specs.State.{State}
-use Rattle.text_commands.specs.Showing.{info_line, deleted_in, info_work}
+use Rattle.text_commands.specs.Showing.{info_work}
+use Rattle.text_commands.specs.Telling.{info_line}
 
 -- Heads without their tags have the same marks.
 deleted_of : (held : List Held) → count_by (λ (h : Head). h.deleted) (map (λ (g : Held). without_tags g.head) held) ≡ count_by (λ (g : Held). g.head.deleted) held
@@ -32,7 +33,7 @@ quiet_info old line games deleted players events sites rounds unsaved index fits
   text = λ (seen : Seen) (s : State) (st : Stands old seen s).
       let names : NameLists → ℕ = λ n. length n.players in
       let games' : games ≡ length s.shared.base.games = g ∙ st.base.count in
-      let deleted' : deleted ≡ deleted_in s =
+      let deleted' : deleted ≡ count_by (λ (g : Held). g.head.deleted) s.shared.base.games =
       d ∙ ap (λ (hs : List Head). count_by (λ (h : Head). h.deleted) hs) (heads-are old.kept st.games s.shared.base st.base) ∙ deleted_of s.shared.base.games in
       let players' : players ≡ length s.shared.base.names.players = p ∙ ap (λ (n : NameLists). length n.players) st.base.names in
       let events' : events ≡ length s.shared.base.names.events = e ∙ ap (λ (n : NameLists). length n.events) st.base.names in

@@ -1,7 +1,8 @@
 //! The commands that show what is there. Each answers the line that it writes.
 ghost use Rattle.std.specs.Prelude.{◌≡◌, ◌++◌, IfOk, Ok, OnOk, count_by, string_bytes};
 ghost use Rattle.shell_state.specs.Stands.{Fits, Quiet, depth_of};
-ghost use Rattle.text_commands.specs.Showing.{info_line, numbers_line, counts_line, unsaved_words, index_words, info_work, quit_work};
+ghost use Rattle.text_commands.specs.Showing.{info_work, quit_work};
+ghost use Rattle.text_commands.specs.Telling.{info_line, numbers_line, counts_line, unsaved_words, index_words};
 
 use name_base::NameKind;
 use pos_index::PosIndex;
