@@ -79,7 +79,8 @@ counts p n [] [] long each = refl
 counts p n [] (field ∷ fields) long each = absurd (omega (arith, long))
 counts p n (x ∷ all) [] long each = absurd (omega (arith, long))
 counts p n (x ∷ all) (field ∷ fields) long each =
-    let one : is_some field ≡ p (n, x) = each 0 x field refl refl in
+    let none : n + 0 ≡ n = omega arith in
+    let one : is_some field ≡ p (n, x) = each 0 x field refl refl ∙ ap (λ (k : ℕ). p (k, x)) none in
     let next = counts p (n + 1) all fields (omega (arith, long)) (λ i y f at_y at_f. let same : n + suc i ≡ n + 1 + i = omega arith in each (suc i) y f at_y at_f ∙ ap (λ (k : ℕ). p (k, y)) same) in
     sum_by-cons (λ f. cond (is_some f) 1 0) field fields
     ∙ (ap₂ (λ b k. cond b 1 0 + k) one next ∙ sym (sum_by-cons (λ q. cond (p q) 1 0) (n, x) (enumerate_from (n + 1) all)))
@@ -139,7 +140,7 @@ opens_empty create strict index names games created =
       base = empty_base;
       means = subst B (sym created) refl;
       represents = record { header = refl; names = refl; end = refl; count = refl; each = λ i e held at_e at_held. absurd (none-some e at_e) };
-      mends = ([], record { count = refl; each = λ i held field at_held at_field. absurd (none-some held at_held) }, refl);
+      mends = refl;
       strictly = λ is. refl;
       sound = λ fault refuses. true≢false (sym created ∙ refuses.there);
       saved = refl;

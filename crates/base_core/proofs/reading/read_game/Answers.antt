@@ -1,10 +1,10 @@
-use Rattle.std.proofs.Common.{◌≡◌, ◌≤◌, ◌+◌, ℕ, take, sym, subst, arith}
+use Rattle.std.proofs.Common.{◌≡◌, ◌≤◌, ◌+◌, ℕ, take, sym, ◌∙◌, subst, arith}
 use Rattle.std.proofs.lemmas.List.{length-take-le}
 use Rattle.base_files.specs.Told.{Tells, part_told}
 use Rattle.index_entry.specs.Entry.{entry_in}
 use Rattle.index_entry.specs.declared.entry.Entry.{Entry}
 use Rattle.base_core.proofs.CheckLaws.{checked, ends_within, read_is}
-use Rattle.base_core.proofs.ReadLaws.{asked-le, fails_so, kept_so, reads_so}
+use Rattle.base_core.proofs.ReadLaws.{asked-le, checked_told, fails_so, kept_so, reads_so}
 use Rattle.base_core.proofs.Results.{from_ok}
 use Rattle.base_core.proofs.reading.read_game.Goals as goal
 
@@ -56,3 +56,8 @@ returns-clause-asks g c =
     let k = checked c.args.o.now.names.now c.args.o.now.end c.args.game c.args.packed.now c.in-Ok.entry (sym c.in-Ok.ensures.exact) in
     let same : entry_in c.args.packed.now ≡ c.in-Ok.entry = read_is c.args.packed.now c.in-Ok.entry k.read in
     subst (λ (e : Entry). g.F.Files.asked c.read_games.new.self ≤ g.F.Files.asked c.args.files.now + e.len) (sym same) (asked-le _ _ _ c.read_games.ensures.asks)
+
+pub returns-in-Err-clause-fault : goal.returns-in-Err-clause-fault
+returns-in-Err-clause-fault g c =
+    checked_told (g.F.Files.seen c.args.files.now).games c.args.o.now.strict c.args.o.now.names.now c.args.o.now.end c.args.game c.args.packed.now
+    c.in-Err.fault c.requires.told (sym c.checked_entry.ensures.exact ∙ c.in-Err.is)
