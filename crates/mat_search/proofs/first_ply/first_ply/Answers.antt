@@ -1,5 +1,5 @@
 use Rattle.std.proofs.Common.{◌≡◌, ℕ, ◌+◌, ◌-◌, List, Some, sym, ap, subst, ◌∙◌, arith}
-use Rattle.game_codec.specs.Record.{IsRecord}
+use Rattle.game_codec.specs.Record.{IsRecord, IsSomeRecord}
 use Rattle.sig_index.proofs.RecordLemmas.{game_legal, game_sound, no_next}
 use Rattle.mat_search.specs.Streaks.{streak_after}
 use Rattle.mat_search.proofs.StreakLemmas.{step_short}
@@ -71,3 +71,7 @@ loop-walk-preserved c =
           let next : c.step.new.self.ply ≡ ply + 1 = played.1.0 ∙ ap (λ (n : ℕ). n + 1) (sym c.ply-ply.ensures.ply) in
           subst (λ (n : ℕ). IsAt q game n own other) (sym next) seen.at;
     }
+
+pub returns-in-Err-clause-fault : goal.returns-in-Err-clause-fault
+returns-in-Err-clause-fault c =
+    λ some. c.in-Err.ensures.fault (subst (λ (b : List ℕ). IsSomeRecord b) (sym c.loop-walk.invariant.bytes) some)
