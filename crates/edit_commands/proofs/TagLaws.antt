@@ -78,10 +78,10 @@ refusal-read kept games base held tag head game answer is same refused =
 -- The tag was set.
 base_tagged : (old new : Kept) (i : ℕ) (tag : TagEdit) (told now : Option (List ℕ)) (games after : List ℕ) (base : Base) → Tags i tag old new told now → told ≡ Some games → now ≡ Some after → Represents old games base
     → Represents new after (tagged i tag base)
-base_tagged old new i tag told now games after base tags is then there =
+base_tagged old new i tag told now games after base tags is later there =
     let P : Option (List ℕ) → Type 0 = λ t. IfSome t (λ games. IfSome now (λ after. (base : Base) → Represents old games base → Represents new after (tagged i tag base))) in
     let Q : Option (List ℕ) → Type 0 = λ n. IfSome n (λ after. (base : Base) → Represents old games base → Represents new after (tagged i tag base)) in
-    (subst Q then (subst P is tags)) base there
+    (subst Q later (subst P is tags)) base there
 
 -- An edit of tags leaves the games.
 tagged_games : (i : ℕ) (tag : TagEdit) (base : Base) (held : Held) → slice_get base.games i ≡ Some held
