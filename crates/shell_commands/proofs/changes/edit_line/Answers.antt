@@ -16,3 +16,18 @@ returns-in-Tag-clause-broken g c = λ w s text st.
 pub returns-in-Compact-clause-broken : goal.returns-in-Compact-clause-broken
 returns-in-Compact-clause-broken g c = λ w s text st.
     rw c.in-Compact.is (edit_broken c.compact_line.result s compact_work refl (c.compact_line.ensures.devices s st))
+
+pub returns-in-Replace-clause-line : goal.returns-in-Replace-clause-line
+returns-in-Replace-clause-line g c = λ w s text st left. rw c.in-Replace.is (c.replace_line.ensures.line s text st left)
+
+pub returns-in-Replace-clause-stands : goal.returns-in-Replace-clause-stands
+returns-in-Replace-clause-stands g c = λ w s text st left. rw c.in-Replace.is (c.replace_line.ensures.stands s text st left)
+
+pub returns-in-Tag-clause-line : goal.returns-in-Tag-clause-line
+returns-in-Tag-clause-line g c = λ w s text st left. rw c.in-Tag.is (c.tag_line.ensures.line s st)
+
+pub returns-in-Tag-clause-stands : goal.returns-in-Tag-clause-stands
+returns-in-Tag-clause-stands g c = λ w s text st left. rw c.in-Tag.is (c.tag_line.ensures.stands s st)
+
+pub returns-in-Compact-clause-stands : goal.returns-in-Compact-clause-stands
+returns-in-Compact-clause-stands g c = λ w s text st left. rw c.in-Compact.is (c.compact_line.ensures.stands s st)
