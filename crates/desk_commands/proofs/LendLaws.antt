@@ -1,5 +1,5 @@
 -- What a command that moves games makes of filters that are lent to it: it moves them as if their clients had said it.
-use Rattle.std.proofs.Common.{◌≡◌, ℕ, Bool, true, false, cond, List, [], ◌∷◌, ◌++◌, Option, Result, Ok, Err, All, map, slice_get, refl, sym, ap, ap₂, subst, ◌∙◌, length, ◌⊎◌, inl, inr}
+use Rattle.std.proofs.Common.{◌-◌, ◌≡◌, ℕ, Bool, true, false, cond, List, [], ◌∷◌, ◌++◌, Option, Result, Ok, Err, All, map, slice_get, refl, sym, ap, ap₂, subst, ◌∙◌, length, ◌⊎◌, inl, inr}
 use Rattle.std.proofs.lemmas.List.{append-nil, map-append}
 use Rattle.std.proofs.lemmas.List.Elements.{All-append, All-cons, All-head, All-map, All-nil, All-tail}
 use Rattle.edit_commands.specs.Compacting.{compacted_state, is_within, numbers_of}
